@@ -1,0 +1,30 @@
+-- The node map of a JSON value.
+use Rattle.std.specs.Prelude.{ℕ, zero, suc, [], ◌∷◌, Option, Some, None, option_and_then, option_map}
+use Rattle.serde_json.specs.Data.{Data, null, boolean, number, string, array, object, Items, no_items, item}
+use Rattle.serde_json.specs.Find.{get, at}
+use Rattle.jsonptr_spec.specs.Node.{Step, key, place, Path, Label, an_object, an_array, a_leaf, of_json, NodeMap}
+
+abbrev pub items_len : Items → ℕ
+items_len no_items = 0
+items_len (item d ds) = suc (items_len ds)
+
+abbrev pub label_of : Data → Label
+label_of null = a_leaf (of_json null)
+label_of (boolean b) = a_leaf (of_json (boolean b))
+label_of (number n) = a_leaf (of_json (number n))
+label_of (string s) = a_leaf (of_json (string s))
+label_of (array ds) = an_array (items_len ds)
+label_of (object ms) = an_object
+
+-- the member under a key, or the element at a place
+abbrev pub child : Step → Data → Option Data
+child (key k) d = get k d
+child (place i) d = at i d
+
+-- the value at a path
+abbrev pub value_at : Path → Data → Option Data
+value_at [] d = Some d
+value_at (s ∷ w) d = option_and_then (value_at w) (child s d)
+
+abbrev pub nodes : Data → NodeMap
+nodes d = λ w. option_map label_of (value_at w d)
