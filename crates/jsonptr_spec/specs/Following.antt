@@ -1,7 +1,7 @@
 -- Following a list of tokens into a document (RFC 6901, sections 4 and 7).
-use Rattle.std.specs.Prelude.{◌≡◌, ℕ, ◌≤◌, List, ◌∷◌, ◌++◌, length, Some}
+use Rattle.std.specs.Prelude.{◌≡◌, ℕ, ◌≤◌, List, [], ◌∷◌, ◌++◌, length, Some, IsSome}
 use Rattle.jsonptr_spec.specs.Text.{Text, text}
-use Rattle.jsonptr_spec.specs.Node.{NodeMap, Label, Path, Names, sub}
+use Rattle.jsonptr_spec.specs.Node.{NodeMap, Label, Step, Path, NamesStep, Names, sub}
 
 -- the tokens name a path of n, and m is the map below it
 pub record Finds (n : NodeMap) (tokens : List Text) (m : NodeMap) : Type 0 where
@@ -14,6 +14,10 @@ pub record StopsAt (n : NodeMap) (tokens front : List Text) (path : Path) (rest 
   pub split : tokens ≡ front ++ rest
   pub named : Names n front path
   pub longest : (longer after : List Text) (w : Path) → tokens ≡ longer ++ after → Names n longer w → length longer ≤ length front
+
+-- no child of the node at w is the one that the token x names
+abbrev pub LacksStep : NodeMap → Path → Text → Type 0
+LacksStep n w x = (s : Step) → NamesStep (n w) x s → IsSome (n (w ++ s ∷ [])) → ⊥
 
 -- following stops before the token x: a front of `position` tokens, whose text has `offset` bytes, names a
 -- path with this label, and no longer front names one

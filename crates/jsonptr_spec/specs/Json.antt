@@ -1,8 +1,9 @@
 -- The node map of a JSON value.
-use Rattle.std.specs.Prelude.{ℕ, zero, suc, [], ◌∷◌, Option, Some, None, option_and_then, option_map}
+use Rattle.std.specs.Prelude.{◌≡◌, ℕ, suc, List, [], ◌∷◌, Option, Some, option_and_then, option_map}
 use Rattle.serde_json.specs.Data.{Data, null, boolean, number, string, array, object, Items, no_items, item}
 use Rattle.serde_json.specs.Find.{get, at}
-use Rattle.jsonptr_spec.specs.Node.{Step, key, place, Path, Label, an_object, an_array, a_leaf, of_json, NodeMap}
+use Rattle.jsonptr_spec.specs.Text.{Text}
+use Rattle.jsonptr_spec.specs.Node.{Step, key, place, Path, Label, an_object, an_array, a_leaf, of_json, NodeMap, Names}
 
 abbrev pub items_len : Items → ℕ
 items_len no_items = 0
@@ -28,3 +29,9 @@ value_at (s ∷ w) d = option_and_then (value_at w) (child s d)
 
 abbrev pub nodes : Data → NodeMap
 nodes d = λ w. option_map label_of (value_at w d)
+
+-- the tokens name a path of d, and e is the value there
+pub record FindsValue (d : Data) (tokens : List Text) (e : Data) : Type 0 where
+  pub path : Path
+  pub named : Names (nodes d) tokens path
+  pub there : value_at path d ≡ Some e

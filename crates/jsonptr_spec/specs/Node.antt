@@ -1,5 +1,5 @@
 -- A document as the map from its paths to what stands there (RFC 6901, section 4).
-use Rattle.std.specs.Prelude.{◌≡◌, ℕ, ◌<◌, List, [], ◌∷◌, ◌++◌, Option, Some, None, IsSome, ⊤}
+use Rattle.std.specs.Prelude.{◌≡◌, ℕ, ◌<◌, List, [], ◌∷◌, ◌++◌, length, Option, Some, None, IsSome, ⊤}
 use Rattle.serde_json.specs.Data.{Data}
 use Rattle.jsonptr_spec.specs.Text.{Text, dec}
 
@@ -45,6 +45,13 @@ Names n [] [] = IsSome (n [])
 Names n [] (s ∷ w) = ⊥
 Names n (x ∷ xs) [] = ⊥
 Names n (x ∷ xs) (s ∷ w) = NamesStep (n []) x s × Names (sub n (s ∷ [])) xs w
+
+-- the same in words of the whole lists: each token takes the step at its place, from the node that the
+-- steps before it lead to
+pub record IsNaming (n : NodeMap) (xs : List Text) (w : Path) : Type 0 where
+  pub as_many : length xs ≡ length w
+  pub is_there : IsSome (n w)
+  pub each : (ys : List Text) (x : Text) (zs : List Text) (u : Path) (s : Step) (v : Path) → xs ≡ ys ++ x ∷ zs → w ≡ u ++ s ∷ v → length ys ≡ length u → NamesStep (n u) x s
 
 -- a node with this label may have a child at this step
 abbrev pub MayHave : Option Label → Step → Type 0

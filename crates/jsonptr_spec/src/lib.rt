@@ -2,4 +2,8 @@
 //! RFC 6901, where a text first leaves it, and documents as maps from paths to nodes.
 #![tactic(auto)]
 
-pub fn nothing() {}
+pub mod fault;
+pub mod following;
+pub mod grammar;
+pub mod json;
+pub mod text;

@@ -1,0 +1,16 @@
+-- What a call answers that can refuse and can also run out of memory.
+use Rattle.std.specs.Prelude.{Result, Ok, Err, ⊤}
+use Rattle.jsonptr_base.specs.declared.fault.Fault.{Fault}
+use Rattle.jsonptr_base.specs.declared.fault.Fault.TheVariants.{Refused, Memory}
+
+-- P holds of the refusal, if the call was refused; nothing is said of success or of memory
+abbrev pub IfRefused : {T E : Type 0} → Result T (Fault E) → (E → Type 0) → Type 0
+IfRefused (Ok v) P = ⊤
+IfRefused (Err (Refused e)) P = P e
+IfRefused (Err (Memory e)) P = ⊤
+
+-- no request for memory was refused
+abbrev pub HasMemory : {T E : Type 0} → Result T (Fault E) → Type 0
+HasMemory (Ok v) = ⊤
+HasMemory (Err (Refused e)) = ⊤
+HasMemory (Err (Memory e)) = ⊥

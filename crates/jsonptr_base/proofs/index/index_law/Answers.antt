@@ -1,0 +1,5 @@
+use Rattle.jsonptr_base.proofs.IndexLemmas.{Reads_one, Reads_some, Reads-esc_iff}
+use Rattle.jsonptr_base.proofs.index.index_law.Goals as goal
+
+pub returns : goal.returns
+returns c = record { one = Reads_one; some = Reads_some; escape = Reads-esc_iff }

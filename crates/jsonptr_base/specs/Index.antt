@@ -1,0 +1,33 @@
+-- Array indices (RFC 6901, section 4).
+use Rattle.std.specs.Prelude.{◌≡◌, ◌≢◌, ℕ, ◌<◌, ◌≤◌, ◌^◌, not, [], ◌∷◌, length, slice_index, position, chars, Option, Some, Result, Ok, Err}
+use Rattle.std.specs.Char.{is_ascii_digit}
+use Rattle.jsonptr_spec.specs.Text.{Text, dec}
+use Rattle.jsonptr_base.specs.declared.index.Index.{Index}
+use Rattle.jsonptr_base.specs.declared.index.Index.TheVariants.{Num, Next}
+use Rattle.jsonptr_base.specs.declared.index.ParseIndexError.{ParseIndexError}
+use Rattle.jsonptr_base.specs.declared.index.ParseIndexError.TheVariants.{InvalidInteger, LeadingZeros, InvalidCharacter}
+use Rattle.jsonptr_base.specs.declared.index.IntegerCause.TheVariants.{Empty, Overflow}
+use Rattle.jsonptr_base.specs.declared.index.OutOfBoundsError.{OutOfBoundsError}
+
+-- the place, in characters, of the first character that is no ASCII digit
+abbrev pub first_nondigit : Text → Option ℕ
+first_nondigit s = position (λ c. not (is_ascii_digit c)) (chars s)
+
+-- the text reads so as an array index: as the number whose decimal text it is, as `-`, or as no index
+abbrev pub Reads : Text → Result Index ParseIndexError → Type 0
+Reads s (Ok (Num i)) = (s ≡ dec i) × (i < 2 ^ 64)
+Reads s (Ok Next) = s ≡ 45 ∷ []
+Reads s (Err (InvalidInteger Empty)) = s ≡ []
+Reads s (Err (InvalidInteger Overflow)) = (i : ℕ) × (s ≡ dec i) × (2 ^ 64 ≤ i)
+Reads s (Err LeadingZeros) = (slice_index s 0 ≡ 48) × (1 < length s)
+Reads s (Err (InvalidCharacter offset)) = (slice_index s 0 ≢ 48) × (s ≢ 45 ∷ []) × (first_nondigit s ≡ Some offset)
+
+-- the index is refused for the length, and the error tells both
+abbrev pub IsBeyond : Index → ℕ → OutOfBoundsError → Type 0
+IsBeyond (Num i) len e = (len ≤ i) × (e.length ≡ len) × (e.index ≡ i)
+IsBeyond Next len e = (e.length ≡ len) × (e.index ≡ len)
+
+-- what an index is within an array of this length: the place below the length that it names, or refused
+abbrev pub IsWithin : Index → ℕ → Result ℕ OutOfBoundsError → Type 0
+IsWithin index len (Ok place) = (index ≡ Num place) × (place < len)
+IsWithin index len (Err e) = IsBeyond index len e

@@ -1,0 +1,22 @@
+//! What a call answers that can refuse and can also run out of memory.
+ghost use Rattle.std.specs.Prelude.{◌≡◌};
+ghost use Rattle.jsonptr_base.specs.declared.fault.Fault.TheVariants.{Memory};
+
+use std::alloc::AllocError;
+
+/// Why a call that takes memory did not succeed.
+#[derive(Debug, Drop)]
+pub enum Fault<E> {
+    /// The call was refused; nothing that was lent to it has changed.
+    Refused(E),
+    /// A request for memory was refused; nothing that was lent to the call has changed.
+    Memory(AllocError),
+}
+
+impl<E> From<AllocError> for Fault<E> {
+    ghost from_gives = { λ e fault. fault ≡ Memory e };
+
+    fn from(error: AllocError) -> Fault<E> {
+        Fault::Memory(error)
+    }
+}

@@ -1,0 +1,161 @@
+//! Array indices as reference tokens write them (RFC 6901, section 4): a number without leading zeros,
+//! or `-`, the place after the last element.
+ghost use Rattle.std.specs.Prelude.{◌≡◌, ◌≢◌, ◌≤◌, ◌↔◌, [], ◌∷◌, length, slice_index, IsUtf8, Result};
+ghost use Rattle.jsonptr_spec.specs.Text.{Text, esc};
+ghost use Rattle.jsonptr_base.specs.declared.index.Index.{Index};
+ghost use Rattle.jsonptr_base.specs.declared.index.ParseIndexError.{ParseIndexError};
+ghost use Rattle.jsonptr_base.specs.Index.{IsWithin, Reads, first_nondigit};
+
+use crate::token::Token;
+use std::marker::Model;
+use std::str::FromStr;
+
+/// An index into an array of some length.
+#[derive(Clone, Copy, Debug, PartialEq, Eq, PartialOrd, Ord, Hash)]
+pub enum Index {
+    /// The place with this number, from 0.
+    Num(usize),
+    /// The place after the last element, which a pointer writes `-`.
+    Next,
+}
+
+impl Index {
+    /// The place of an existing element of an array of `length` elements. `Next` names none.
+    ///
+    /// # Errors
+    ///
+    /// [`OutOfBoundsError`] where the index is not below the length; `Next` counts as the length.
+    pub fn for_len(&self, length: usize) -> Result<usize, OutOfBoundsError>
+        ensures { IsWithin self.now length result }
+    {
+        match *self {
+            Index::Num(index) if index < length => Ok(index),
+            Index::Num(index) => Err(OutOfBoundsError { length, index }),
+            Index::Next => Err(OutOfBoundsError {
+                length,
+                index: length,
+            }),
+        }
+    }
+}
+
+impl FromStr for Index {
+    type Err = ParseIndexError;
+
+    ghost from_str_gives = { Reads };
+
+    fn from_str(s: &str) -> Result<Index, ParseIndexError> {
+        match s.as_bytes() {
+            [b'-'] => Ok(Index::Next),
+            [b'0', _, ..] => Err(ParseIndexError::LeadingZeros),
+            _ => read_number(s),
+        }
+    }
+}
+
+/// Reads a text that is not `-` and has no leading zeros.
+fn read_number(s: &str) -> Result<Index, ParseIndexError>
+    requires not_next { s.now ≢ 45 ∷ [] }
+    requires no_leading_zeros { slice_index s.now 0 ≡ 48 → length s.now ≤ 1 }
+    ensures { Reads s.now result }
+{
+    if let Some(offset) = first_nondigit(s) {
+        return Err(ParseIndexError::InvalidCharacter(InvalidCharacterError { offset }));
+    }
+    if s.is_empty() {
+        return Err(ParseIndexError::InvalidInteger(IntegerCause::Empty));
+    }
+    match s.parse::<usize>() {
+        Ok(number) => Ok(Index::Num(number)),
+        Err(_) => Err(ParseIndexError::InvalidInteger(IntegerCause::Overflow)),
+    }
+}
+
+/// The place, in characters, of the first character that is no ASCII digit.
+fn first_nondigit(s: &str) -> Option<usize>
+    ensures { result ≡ first_nondigit s.now }
+{
+    s.chars().position(|c| !c.is_ascii_digit())
+}
+
+impl<'a> Token<'a> {
+    /// The array index that the token's text writes (RFC 6901, section 4).
+    ///
+    /// # Errors
+    ///
+    /// [`ParseIndexError`] where the text is neither `-` nor a number without leading zeros that fits
+    /// `usize`.
+    pub fn to_index(&self) -> Result<Index, ParseIndexError>
+        ensures encoded { Reads (esc self.now) result }
+        ensures decoded { Reads self.now result }
+    {
+        self.encoded().parse()
+    }
+}
+
+/// The reading of array indices (RFC 6901, section 4): a text reads as one index or as one refusal, and
+/// never as two, and the escaped text of a token reads as its decoded text does.
+pub fn index_law()
+    ensures one { (s : Text) (r q : Result Index ParseIndexError) → Reads s r → Reads s q → r ≡ q }
+    ensures some { (s : Text) → IsUtf8 s → (r : Result Index ParseIndexError) × Reads s r }
+    ensures escape { (s : Text) → IsUtf8 s → (r : Result Index ParseIndexError) → Reads s r ↔ Reads (esc s) r }
+{}
+
+/// An index that is not within the bounds of an array.
+#[derive(Clone, Debug, PartialEq, Eq, Drop)]
+pub struct OutOfBoundsError {
+    /// The length of the array.
+    pub length: usize,
+    /// The index as a number; `Next` counts as the length.
+    pub index: usize,
+}
+
+/// Why a text is no array index.
+#[derive(Clone, Debug, PartialEq, Eq, Drop)]
+pub enum ParseIndexError {
+    /// The text is empty, or a number that does not fit `usize`.
+    InvalidInteger(IntegerCause),
+    /// The text begins with `0` and goes on.
+    LeadingZeros,
+    /// The text has a character that is no ASCII digit.
+    InvalidCharacter(InvalidCharacterError),
+}
+
+/// Why a text of digits is no number.
+#[derive(Clone, Copy, Debug, PartialEq, Eq)]
+pub enum IntegerCause {
+    /// There is no digit.
+    Empty,
+    /// The number is greater than `usize::MAX`.
+    Overflow,
+}
+
+/// A character that no array index has.
+///
+/// Contracts see it as its offset.
+#[derive(Clone, Debug, PartialEq, Eq, Drop)]
+pub struct InvalidCharacterError {
+    offset: usize,
+}
+
+impl Model for InvalidCharacterError {
+    ghost use Rattle.std.specs.Prelude.{ℕ};
+
+    ghost Value = { ℕ };
+
+    ghost view = { λ e. e.offset };
+
+    ghost inverse = { λ n. record { offset = n } };
+}
+
+impl InvalidCharacterError {
+    /// The place of the first character that is no ASCII digit, in characters and not in bytes.
+    pub fn offset(&self) -> usize
+        ensures { result ≡ self.now }
+    {
+        self.offset
+    }
+}
+
+#[cfg(test)]
+mod tests;

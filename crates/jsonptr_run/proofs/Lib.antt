@@ -1,0 +1,4 @@
+pub mod CommandLemmas
+pub mod JsonLemmas
+pub mod AnswerLemmas
+pub mod RunLaw
