@@ -1,5 +1,5 @@
 -- The passes over a pointer's text.
-use Rattle.std.proofs.Common.{◌≡◌, ◌≢◌, ℕ, ◌+◌, ◌-◌, ◌<◌, ◌⊎◌, Bool, Option, Some, None, [], ◌∷◌, length, get_or, take, drop, refl, sym, ap, ◌∙◌, subst, ⊎_elim, inl, inr, arith, append-nil, take-append-drop, add-zero}
+use Rattle.std.proofs.Common.{◌≡◌, ◌≢◌, ℕ, ◌+◌, ◌-◌, ◌<◌, ◌⊎◌, Option, Some, None, [], ◌∷◌, length, get_or, take, drop, refl, sym, ap, ◌∙◌, subst, ⊎_elim, inl, inr, arith, append-nil, take-append-drop, add-zero}
 use Rattle.std.specs.Prelude.{IsSome}
 use Rattle.std.proofs.lemmas.List.{get_or-take, length-take-le}
 use Rattle.std.proofs.lemmas.Bool.{cases_lt, cases_eq, eqb-true, eq-eqb}
@@ -14,16 +14,11 @@ use Rattle.jsonptr_spec.specs.Fault.{IsFirst, IsLooseTilde, IsLastSlash, IsTilde
 use Rattle.jsonptr_spec.proofs.EscapeLemmas.{unesc-esc}
 use Rattle.jsonptr_spec.proofs.PointerLemmas.{IsPointer-cut, IsPointer-from_tokens, text-tokens_of, tokens_of-segment, BeginsSegment-IsPointer}
 use Rattle.jsonptr_spec.proofs.FaultLemmas.{no_lack-IsPointer, no_tilde_fault-IsPointer}
-use Rattle.jsonptr_spec.proofs.ScanLemmas.{TellsTilde, past_end}
+use Rattle.jsonptr_spec.proofs.ScanLemmas.{past_end}
 use Rattle.jsonptr.specs.Cut.{IsCut}
 use Rattle.jsonptr.specs.ParseError.{IsFirstFault}
 use Rattle.jsonptr.specs.declared.pointer.ParseError.{ParseError}
 use Rattle.jsonptr.specs.declared.pointer.ParseError.TheVariants.{NoLeadingSlash, InvalidEncoding}
-
--- no loose tilde stands where the byte behind it lies before i, and the flag tells of the byte just before i
-pub record Passed (s : Text) (i : ℕ) (escaped : Bool) : Type 0 where
-  pub none : (k : ℕ) → k + 1 < i → IsLooseTilde s k → ⊥
-  pub flag : TellsTilde s i escaped
 
 -- ---- the last slash before a loose tilde
 
@@ -64,7 +59,8 @@ module _ (s : Text) (i : ℕ) (slash : get_or s 0 0 ≡ 47) (tilde : IsFirst (Is
 pub boundary_after : (s : Text) → IsUtf8 s → get_or s 0 0 ≡ 47 → 0 < length s → IsCharBoundary s 1
 boundary_after s u slash some = IsCharBoundary-after_ascii s 0 u some (omega (arith, slash))
 
-split_first : (s : Text) → get_or s 0 0 ≡ 47 → 0 < length s → s ≡ 47 ∷ drop 1 s
+-- a text that begins with a slash, that slash and the rest
+pub split_first : (s : Text) → get_or s 0 0 ≡ 47 → 0 < length s → s ≡ 47 ∷ drop 1 s
 split_first [] slash some = absurd (omega arith)
 split_first (b ∷ bs) slash some = ap (λ (x : ℕ). x ∷ bs) slash
 

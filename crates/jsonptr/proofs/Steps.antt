@@ -1,5 +1,5 @@
 -- Resolving one token, and what is known of the tokens so far.
-use Rattle.std.proofs.Common.{◌≡◌, ◌≢◌, ℕ, ◌+◌, ◌<◌, ◌≤◌, All, List, [], ◌∷◌, ◌++◌, length, Option, Some, None, Result, Ok, Err, IsErrAnd, IsSome, MatchOption, String, BTreeMap, Global, refl, sym, ap, ◌∙◌, subst, arith, append-nil, append_assoc, length-append}
+use Rattle.std.proofs.Common.{◌≡◌, ◌≢◌, ℕ, ◌+◌, ◌<◌, ◌≤◌, All, List, [], ◌∷◌, ◌++◌, length, Option, Some, None, Result, Ok, Err, IfOk, IsErrAnd, IsSome, MatchOption, Bor, option_copied, ok_or, String, BTreeMap, Global, refl, sym, ap, ◌∙◌, subst, arith, append-nil, append_assoc, length-append}
 use Rattle.std.specs.BTreeMap.{get_by_text}
 use Rattle.std.proofs.lemmas.List.{get_or_append_left, get_or-append-add}
 use Rattle.jsonptr_spec.specs.Text.{Text, esc, text, dec}
@@ -22,14 +22,17 @@ use Rattle.jsonptr.specs.Document.{FindsAt, FindsChild, RefusesChild}
 use Rattle.jsonptr.specs.Resolve.{Refuses}
 use Rattle.jsonptr.proofs.NoIndex.{no_index, no_dash}
 
--- the member of an object under the token's text
-pub finds_member : {D : Type 0} (n : NodeMap) (stands : Path → D → Type 0) (m : BTreeMap (String Global) D) (x : Text) (e : D)
-    → n [] ≡ Some an_object → ((k : Text) → MatchOption (get_by_text m k) (n (key k ∷ []) ≡ None) (stands (key k ∷ []))) → get_by_text m x ≡ Some e → FindsChild n stands x e
-finds_member n stands m x e is members found = record {
-  step = key x;
-  named = subst (λ (o : Option Label). NamesStep o x (key x)) (sym is) refl;
-  there = subst (λ o. MatchOption o (n (key x ∷ []) ≡ None) (stands (key x ∷ []))) found (members x);
-}
+-- the member of an object under the token's text, or the refusal of the token
+pub member_or : {D : Type 0} (n : NodeMap) (stands : Path → D → Type 0) (m : BTreeMap (String Global) D) (x : Text) (o : Option (Bor D)) (p q : ℕ) (r : Result (Bor D) (Fault Error))
+    → n [] ≡ Some an_object → ((k : Text) → MatchOption (get_by_text m k) (n (key k ∷ []) ≡ None) (stands (key k ∷ []))) → option_copied o ≡ get_by_text m x → r ≡ ok_or o (Refused (NotFound p q))
+    → IfOk r (λ e. FindsChild n stands x e.now) × IfRefused r (RefusesChild n x p q)
+member_or n stands m x None p q r is members read from =
+    let none : n (key x ∷ []) ≡ None = subst (λ v. MatchOption v (n (key x ∷ []) ≡ None) (stands (key x ∷ []))) (sym read) (members x) in
+    rw from (tt, (refl, refl, is, none))
+member_or n stands m x (Some e) p q r is members read from =
+    let there : stands (key x ∷ []) e.now = subst (λ v. MatchOption v (n (key x ∷ []) ≡ None) (stands (key x ∷ []))) (sym read) (members x) in
+    let named : NamesStep (n []) x (key x) = subst (λ (l : Option Label). NamesStep l x (key x)) (sym is) refl in
+    rw from (record { step = key x; named = named; there = there }, tt)
 
 -- the tokens before `left` name a path of the map n at which `here` holds; they are `position` tokens, whose
 -- text has `offset` bytes

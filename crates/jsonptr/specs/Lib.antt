@@ -4,3 +4,7 @@ pub mod Cut
 pub mod Fault
 pub mod Document
 pub mod Resolve
+pub mod Tokens
+pub mod Parts
+pub mod Slice
+pub mod Component

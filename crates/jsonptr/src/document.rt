@@ -94,34 +94,27 @@ fn child<'v, D: Document>(
         Look::Leaf => Err(Fault::Refused(Error::Unreachable { position, offset })),
         Look::Array(elements) => {
             let length = elements.len();
-            let index = match token.to_index() {
-                Ok(index) => index,
-                Err(source) => {
-                    return Err(Fault::Refused(Error::FailedToParseIndex {
-                        position,
-                        offset,
-                        source,
-                    }));
-                }
-            };
-            match index.for_len(length) {
-                Ok(place) => Ok(&elements[place]),
-                Err(source) => Err(Fault::Refused(Error::OutOfBounds {
+            let index = token.to_index().map_err(|source| {
+                Fault::Refused(Error::FailedToParseIndex {
                     position,
                     offset,
                     source,
-                })),
-            }
+                })
+            })?;
+            let place = index.for_len(length).map_err(|source| {
+                Fault::Refused(Error::OutOfBounds {
+                    position,
+                    offset,
+                    source,
+                })
+            })?;
+            Ok(&elements[place])
         }
         Look::Object(members) => {
-            let key = match token.decoded(alloc) {
-                Ok(key) => key,
-                Err(error) => return Err(Fault::Memory(error)),
-            };
-            match members.get(key.as_str()) {
-                Some(member) => Ok(member),
-                None => Err(Fault::Refused(Error::NotFound { position, offset })),
-            }
+            let key = token.decoded(alloc)?;
+            members
+                .get(key.as_str())
+                .ok_or(Fault::Refused(Error::NotFound { position, offset }))
         }
     }
 }

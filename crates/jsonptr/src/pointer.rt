@@ -1,16 +1,25 @@
 //! JSON Pointers as texts that are known to be in the grammar (RFC 6901, section 3).
-ghost use Rattle.std.specs.Prelude.{◌≡◌, ◌↔◌, [], ◌∷◌, Some, IsTrue, IsOk, IfOk, IfErr, MatchOption};
-ghost use Rattle.jsonptr_spec.specs.Text.{text, tokens_of};
+ghost use Rattle.std.specs.Prelude.{◌≡◌, ◌↔◌, ◌+◌, ◌<◌, ◌^◌, List, [], ◌∷◌, ◌++◌, length, Some, IsTrue, IsOk, IfOk, IfErr, MatchOption};
+ghost use Rattle.serde_json.specs.Data.{string};
+ghost use Rattle.serde_json.specs.View.{view};
+ghost use Rattle.jsonptr_spec.specs.Text.{Text, text, tokens_of};
 ghost use Rattle.jsonptr_spec.specs.Grammar.{IsPointer};
 
 use jsonptr_base::token::{EncodingError, Token};
+use serde_json::Value;
+use std::alloc::{AllocError, Global};
 use std::borrow::CowStr;
 use std::error::Error;
 use std::fmt;
+pub use tokens::Tokens;
 
+#[cfg(test)]
+mod borrowed_tests;
 mod scan;
+mod slice;
 #[cfg(test)]
 mod tests;
+mod tokens;
 
 /// A JSON Pointer: a borrowed text of zero or more tokens, each behind a `/`.
 ///
@@ -25,6 +34,7 @@ pub struct Pointer<'a> {
 impl<'a> Pointer<'a> {
     ghost use Rattle.jsonptr.specs.Pointer.{tokens, text_of};
     ghost use Rattle.jsonptr.specs.ParseError.{IsFirstFault};
+    ghost use Rattle.jsonptr.specs.Parts.{BeginsWith, EndsWith, IsSuffix, SplitsAt, IsLongestCommonFront};
 
     /// The pointer of no token, which names the whole document.
     pub fn root() -> Pointer<'static>
@@ -51,12 +61,44 @@ impl<'a> Pointer<'a> {
         }
     }
 
+    /// The pointer with this text, which is one of the grammar (RFC 6901, section 3).
+    pub fn from_static(s: &'static str) -> Pointer<'static>
+        requires { IsPointer s.now }
+        ensures text { text_of result ≡ s.now }
+        ensures tokens { text (tokens result) ≡ s.now }
+    {
+        Pointer::new_unchecked(s)
+    }
+
+    /// The pointer with this text, which is one of the grammar (RFC 6901, section 3). Nothing is tested.
+    pub fn new_unchecked(s: &'a str) -> Pointer<'a>
+        requires { IsPointer s.now }
+        ensures text { text_of result ≡ s.now }
+        ensures tokens { text (tokens result) ≡ s.now }
+    {
+        Pointer { inner: s }
+    }
+
     /// The pointer's text.
     pub fn as_str(&self) -> &'a str
         ensures text { result.now ≡ text_of self.now }
         ensures tokens { result.now ≡ text (tokens self.now) }
     {
         self.inner
+    }
+
+    /// The length of the pointer's text, in bytes.
+    pub fn len(&self) -> usize
+        ensures { result ≡ length (text_of self.now) }
+    {
+        self.inner.len()
+    }
+
+    /// Whether the pointer has no token; another name of [`Pointer::is_root`].
+    pub fn is_empty(&self) -> bool
+        ensures { IsTrue result ↔ (tokens self.now ≡ []) }
+    {
+        self.is_root()
     }
 
     /// Whether the pointer has no token.
@@ -74,6 +116,152 @@ impl<'a> Pointer<'a> {
         let token = Token::from_encoded(CowStr::Borrowed(first)).unwrap();
         Some((token, Pointer { inner: rest }))
     }
+
+    /// The pointer of the tokens before the last one and that token, or `None` at the root.
+    pub fn split_back(&self) -> Option<(Pointer<'a>, Token<'a>)>
+        ensures { MatchOption result (tokens self.now ≡ []) (λ r. tokens self.now ≡ tokens r.0 ++ r.1 ∷ []) }
+    {
+        let (front, last) = scan::cut_back(self.inner)?;
+        let token = Token::from_encoded(CowStr::Borrowed(last)).unwrap();
+        Some((Pointer { inner: front }, token))
+    }
+
+    /// The first token, or `None` at the root.
+    pub fn front(&self) -> Option<Token<'a>>
+        ensures { MatchOption result (tokens self.now ≡ []) (λ t. (rest : List Text) × (tokens self.now ≡ t ∷ rest)) }
+    {
+        let (first, _) = self.split_front()?;
+        Some(first)
+    }
+
+    /// The first token, or `None` at the root; another name of [`Pointer::front`].
+    pub fn first(&self) -> Option<Token<'a>>
+        ensures { MatchOption result (tokens self.now ≡ []) (λ t. (rest : List Text) × (tokens self.now ≡ t ∷ rest)) }
+    {
+        self.front()
+    }
+
+    /// The last token, or `None` at the root.
+    pub fn back(&self) -> Option<Token<'a>>
+        ensures { MatchOption result (tokens self.now ≡ []) (λ t. (front : List Text) × (tokens self.now ≡ front ++ t ∷ [])) }
+    {
+        let (_, last) = self.split_back()?;
+        Some(last)
+    }
+
+    /// The last token, or `None` at the root; another name of [`Pointer::back`].
+    pub fn last(&self) -> Option<Token<'a>>
+        ensures { MatchOption result (tokens self.now ≡ []) (λ t. (front : List Text) × (tokens self.now ≡ front ++ t ∷ [])) }
+    {
+        self.back()
+    }
+
+    /// The pointer of the tokens before the last one, or `None` at the root.
+    pub fn parent(&self) -> Option<Pointer<'a>>
+        ensures { MatchOption result (tokens self.now ≡ []) (λ p. (t : Text) × (tokens self.now ≡ tokens p ++ t ∷ [])) }
+    {
+        let (front, _) = scan::cut_back(self.inner)?;
+        Some(Pointer { inner: front })
+    }
+
+    /// The pointers of the tokens before a slash and from it on, where byte `offset` of the text is that
+    /// slash; elsewhere `None`.
+    pub fn split_at_offset(&self, offset: usize) -> Option<(Pointer<'a>, Pointer<'a>)>
+        ensures { MatchOption result
+            ((front rest : List Text) → SplitsAt (tokens self.now) offset front rest → ⊥)
+            (λ r. SplitsAt (tokens self.now) offset (tokens r.0) (tokens r.1)) }
+    {
+        let (front, rest) = scan::cut_at(self.inner, offset)?;
+        Some((Pointer { inner: front }, Pointer { inner: rest }))
+    }
+
+    /// The old name of [`Pointer::split_at_offset`].
+    pub fn split_at(&self, offset: usize) -> Option<(Pointer<'a>, Pointer<'a>)>
+        ensures { MatchOption result
+            ((front rest : List Text) → SplitsAt (tokens self.now) offset front rest → ⊥)
+            (λ r. SplitsAt (tokens self.now) offset (tokens r.0) (tokens r.1)) }
+    {
+        self.split_at_offset(offset)
+    }
+
+    /// Whether the pointer's tokens begin with those of another, as they always do with those of the root.
+    pub fn starts_with(&self, other: Pointer<'_>) -> bool
+        ensures { IsTrue result ↔ BeginsWith (tokens self.now) (tokens other.entry) }
+    {
+        self.strip_prefix(other).is_some()
+    }
+
+    /// The pointer of what follows the tokens of another, or `None` where the pointer's tokens do not begin
+    /// with those.
+    pub fn strip_prefix(&self, prefix: Pointer<'_>) -> Option<Pointer<'a>>
+        ensures { MatchOption result
+            (BeginsWith (tokens self.now) (tokens prefix.entry) → ⊥)
+            (λ r. tokens self.now ≡ tokens prefix.entry ++ tokens r) }
+    {
+        let rest = scan::after_front(self.inner, prefix.inner)?;
+        Some(Pointer { inner: rest })
+    }
+
+    /// Whether the pointer's tokens end with those of another. The root counts as an end of itself alone.
+    pub fn ends_with(&self, other: Pointer<'_>) -> bool
+        ensures { IsTrue result ↔ IsSuffix (tokens self.now) (tokens other.entry) }
+    {
+        if other.is_root() {
+            return self.is_root();
+        }
+        self.strip_suffix(other).is_some()
+    }
+
+    /// The pointer of what stands before the tokens of another, or `None` where the pointer's tokens do not
+    /// end with those. The root is stripped off each pointer, and leaves it as it is.
+    pub fn strip_suffix(&self, suffix: Pointer<'_>) -> Option<Pointer<'a>>
+        ensures { MatchOption result
+            (EndsWith (tokens self.now) (tokens suffix.entry) → ⊥)
+            (λ r. tokens self.now ≡ tokens r ++ tokens suffix.entry) }
+    {
+        let front = self.inner.strip_suffix(suffix.inner)?;
+        Some(Pointer { inner: front })
+    }
+
+    /// The pointer of the tokens that two pointers have in common at their front.
+    pub fn intersection(&self, other: Pointer<'_>) -> Pointer<'a>
+        ensures { IsLongestCommonFront (tokens self.now) (tokens other.entry) (tokens result) }
+    {
+        let seam = scan::common_seam(self.inner.as_bytes(), other.inner.as_bytes());
+        let (front, _) = self.inner.split_at(seam);
+        Pointer { inner: front }
+    }
+
+    /// The pointer's text as a JSON string; memory is taken for a copy of it.
+    ///
+    /// # Errors
+    ///
+    /// [`AllocError`] where there is no memory for the copy.
+    pub fn to_json_value(&self, alloc: Global) -> Result<Value, AllocError>
+        ensures { IfOk result (λ v. view v ≡ string (text_of self.now)) }
+    {
+        Ok(Value::String(String::from_str(alloc, self.inner)?))
+    }
+}
+
+impl Default for Pointer<'_> {
+    ghost use Rattle.jsonptr.specs.Pointer.{tokens};
+
+    ghost is_default = { λ p. tokens p ≡ [] };
+
+    fn default() -> Self {
+        Pointer::root()
+    }
+}
+
+impl fmt::Display for Pointer<'_> {
+    ghost use Rattle.jsonptr.specs.Pointer.{text_of};
+
+    ghost output = { λ p. Some (text_of p) };
+
+    fn fmt<W: fmt::Write>(&self, f: &mut fmt::Formatter<W>) -> fmt::Result {
+        fmt::Display::fmt(&self.inner, f)
+    }
 }
 
 /// Why a text is no JSON Pointer, and where.
@@ -88,6 +276,83 @@ pub enum ParseError {
         /// The fault of that token; its own offset is counted from the slash.
         source: EncodingError,
     },
+}
+
+impl ParseError {
+    ghost use Rattle.jsonptr.specs.ParseError.{pointer_offset_of, source_offset_of, encoding_len_of, IsInvalidEncoding};
+
+    /// The place of the slash before the token at fault, in bytes; 0 where no slash begins the text.
+    pub fn offset(&self) -> usize
+        ensures { result ≡ pointer_offset_of self.now }
+    {
+        match *self {
+            ParseError::NoLeadingSlash => 0,
+            ParseError::InvalidEncoding { offset, .. } => offset,
+        }
+    }
+
+    /// The same as [`ParseError::offset`].
+    pub fn pointer_offset(&self) -> usize
+        ensures { result ≡ pointer_offset_of self.now }
+    {
+        self.offset()
+    }
+
+    /// The place of the fault from that slash on, in bytes; 0 where no slash begins the text.
+    pub fn source_offset(&self) -> usize
+        ensures { result ≡ source_offset_of self.now }
+    {
+        match self {
+            ParseError::NoLeadingSlash => 0,
+            ParseError::InvalidEncoding { source, .. } => source.offset,
+        }
+    }
+
+    /// The place of the fault in the whole text, in bytes: of the `~` that escapes nothing, or 0 where no
+    /// slash begins the text. The two places of every error that parsing gives have a sum that fits.
+    pub fn complete_offset(&self) -> usize
+        requires { pointer_offset_of self.now + source_offset_of self.now < 2 ^ 64 }
+        ensures { result ≡ pointer_offset_of self.now + source_offset_of self.now }
+    {
+        self.pointer_offset() + self.source_offset()
+    }
+
+    /// How many bytes of the subject the fault takes up: 2 for a `~` and what follows it there, 1 for a `~`
+    /// at the subject's end or past it, and 0 where no slash begins the text.
+    pub fn invalid_encoding_len(&self, subject: &str) -> usize
+        ensures { result ≡ encoding_len_of self.now (length subject.now) }
+    {
+        match self {
+            ParseError::NoLeadingSlash => 0,
+            ParseError::InvalidEncoding { offset, source } => {
+                match offset.checked_add(source.offset) {
+                    Some(tilde) if tilde < subject.len() && subject.len() - tilde > 1 => 2,
+                    _ => 1,
+                }
+            }
+        }
+    }
+
+    /// Whether no slash begins the text.
+    pub fn is_no_leading_slash(&self) -> bool
+        ensures { IsTrue result ↔ (self.now ≡ ParseError.NoLeadingSlash) }
+    {
+        matches!(self, ParseError::NoLeadingSlash)
+    }
+
+    /// The old name of [`ParseError::is_no_leading_slash`].
+    pub fn is_no_leading_backslash(&self) -> bool
+        ensures { IsTrue result ↔ (self.now ≡ ParseError.NoLeadingSlash) }
+    {
+        self.is_no_leading_slash()
+    }
+
+    /// Whether a `~` escapes nothing.
+    pub fn is_invalid_encoding(&self) -> bool
+        ensures { IsTrue result ↔ IsInvalidEncoding self.now }
+    {
+        matches!(self, ParseError::InvalidEncoding { .. })
+    }
 }
 
 impl fmt::Display for ParseError {

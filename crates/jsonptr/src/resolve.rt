@@ -127,10 +127,10 @@ impl Error {
         ensures { result ≡ position_of self.now }
     {
         match self {
-            Error::FailedToParseIndex { position, .. } => *position,
-            Error::OutOfBounds { position, .. } => *position,
-            Error::NotFound { position, .. } => *position,
-            Error::Unreachable { position, .. } => *position,
+            Error::FailedToParseIndex { position, .. }
+            | Error::OutOfBounds { position, .. }
+            | Error::NotFound { position, .. }
+            | Error::Unreachable { position, .. } => *position,
         }
     }
 
@@ -139,10 +139,10 @@ impl Error {
         ensures { result ≡ offset_of self.now }
     {
         match self {
-            Error::FailedToParseIndex { offset, .. } => *offset,
-            Error::OutOfBounds { offset, .. } => *offset,
-            Error::NotFound { offset, .. } => *offset,
-            Error::Unreachable { offset, .. } => *offset,
+            Error::FailedToParseIndex { offset, .. }
+            | Error::OutOfBounds { offset, .. }
+            | Error::NotFound { offset, .. }
+            | Error::Unreachable { offset, .. } => *offset,
         }
     }
 

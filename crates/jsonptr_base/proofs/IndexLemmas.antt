@@ -15,7 +15,7 @@ use Rattle.std.proofs.lemmas.Str.Parse.{digit_at, numerals_by_value, tells_digit
 use Rattle.jsonptr_spec.specs.Text.{Text, dec, esc}
 use Rattle.jsonptr_spec.proofs.EscapeLemmas.{unesc-esc, IsUtf8-unesc, IsToken-esc, by_byte, length-le-esc, esc_one, chars-esc, esc-cons}
 use Rattle.jsonptr_spec.proofs.DecLemmas.{dec_from_digits_length, esc-dec, AllDigits-dec, range-dec, chars-dec, dec-not_nil, digits_value-dec, length-dec_zero}
-use Rattle.jsonptr_base.specs.Index.{Reads, first_nondigit}
+use Rattle.jsonptr_base.specs.Index.{Reads, first_nondigit, index_text}
 use Rattle.jsonptr_base.specs.declared.index.Index.{Index}
 use Rattle.jsonptr_base.specs.declared.index.Index.TheVariants.{Num, Next}
 use Rattle.jsonptr_base.specs.declared.index.ParseIndexError.{ParseIndexError}
@@ -265,3 +265,8 @@ Reads_some (b ∷ c ∷ bs) u =
 -- a text and its escape read alike
 pub Reads-esc_iff : (s : Text) → IsUtf8 s → (r : Result Index ParseIndexError) → Reads s r ↔ Reads (esc s) r
 Reads-esc_iff s u r = (Reads-esc s u r, Reads-unesc s u r)
+
+-- the text of an index is the text that reads as it
+pub index_text-Reads : (s : Text) (index : Index) → Reads s (Ok index) → index_text index ≡ s
+index_text-Reads s (Num i) h = sym h.0
+index_text-Reads s Next h = sym h

@@ -1,2 +1,4 @@
+pub mod CutLemmas
 pub mod IndexLemmas
+pub mod NumberLemmas
 pub mod TokenLemmas

@@ -1,81 +1,95 @@
 -- The scan of a token's text: what is known at a place before which no fault stands.
 use Rattle.std.specs.List.{All}
-use Rattle.std.proofs.Common.{◌≡◌, ◌≢◌, ℕ, ◌+◌, ◌-◌, ◌<◌, ◌≤◌, ◌⊎◌, Bool, true, false, nat_eq, length, get_or, refl, sym, ◌∙◌, ap, subst, inl, inr, ⊎_elim, arith, below_more, [], ◌++◌, drop, append-nil}
-use Rattle.std.proofs.lemmas.Bool.{cases_lt, eqb-true, false≢true}
+use Rattle.std.proofs.Common.{◌≡◌, ◌≢◌, ℕ, ◌+◌, ◌-◌, ◌<◌, ◌≤◌, ◌⊎◌, Bool, true, false, length, get_or, refl, sym, ◌∙◌, ap, subst, inl, inr, ⊎_elim, arith, below_more, [], ◌∷◌, ◌++◌, drop, append-nil, append_assoc, cond, count_by, length-append, drop-cons, add-one}
+use Rattle.std.proofs.lemmas.Bool.{cases_lt, eqb-true, ne_eqb}
+use Rattle.std.specs.Str.{bytes_eq}
 use Rattle.std.proofs.lemmas.List.{at_drop_all}
+use Rattle.std.proofs.lemmas.List.Sums.{sum_by-cons}
+use Rattle.std.proofs.lemmas.Slice.Eq.{bytes_eq-Decides}
 use Rattle.memchr.specs.Find.{Nowhere, Passes, is_byte, is_byte2}
-use Rattle.jsonptr_spec.specs.Text.{Text, esc, unesc, unesc_after}
-use Rattle.jsonptr_spec.proofs.EscapeLemmas.{IsToken-plain_at, unesc-plain_at, unesc-esc}
+use Rattle.jsonptr_spec.specs.Text.{Text, esc, escape_of, unesc, unesc_after}
+use Rattle.jsonptr_spec.proofs.EscapeLemmas.{IsToken-plain_at, esc-plain_at, unesc-plain_at, unesc-esc, esc_one, by_byte, esc-cons}
 use Rattle.jsonptr_spec.specs.Grammar.{IsToken}
 use Rattle.jsonptr_spec.specs.Fault.{IsSlashAt, EndsEscape}
 use Rattle.jsonptr_spec.proofs.FaultLemmas.{token_or_fault}
-use Rattle.jsonptr_spec.proofs.ScanLemmas.{TellsTilde, tells_next, past_end}
-use Rattle.jsonptr_base.specs.Token.{IsFirstFault, IsPlainBefore}
+use Rattle.jsonptr_spec.proofs.ScanLemmas.{past_end}
+use Rattle.jsonptr_base.specs.Token.{IsFirstFault, IsPlainBefore, is_escaped}
 use Rattle.jsonptr_base.specs.declared.token.InvalidEncoding.TheVariants.{Tilde, Slash}
 
 abbrev pub Spoils : Text → ℕ → Type 0
 Spoils s k = IsSlashAt s k ⊎ EndsEscape s k
 
--- no fault stands before i, and the flag tells whether a tilde stands just before i
-pub record Scanned (s : Text) (i : ℕ) (escaped : Bool) : Type 0 where
+-- no fault stands before i, and no tilde just before it
+pub record Scanned (s : Text) (i : ℕ) : Type 0 where
   pub none : (k : ℕ) → k < i → Spoils s k → ⊥
-  pub flag : TellsTilde s i escaped
+  pub no_tilde : 0 < i → get_or s (i - 1) 0 ≢ 126
 
-pub scanned_start : (s : Text) (i : ℕ) → IsPlainBefore s i → Scanned s i false
+pub scanned_start : (s : Text) (i : ℕ) → IsPlainBefore s i → Scanned s i
 scanned_start s i plain = record {
   none = λ k below f. ⊎_elim (λ slash. (plain k below).1 slash) (λ (e : EndsEscape s k). (plain (k - 1) (omega (arith, e.inside))).0 e.after_tilde) f;
-  flag = λ above. (plain (i - 1) (omega arith)).0;
+  no_tilde = λ above. (plain (i - 1) (omega arith)).0;
 }
 
--- a byte that is no slash, and that ends an escape if a tilde stands before it
-pub scanned_more : (s : Text) (i : ℕ) (escaped : Bool) → Scanned s i escaped → get_or s i 0 ≢ 47
-    → (escaped ≡ true → (get_or s i 0 ≡ 48) ⊎ (get_or s i 0 ≡ 49)) → Scanned s (i + 1) (nat_eq (get_or s i 0) 126)
-scanned_more s i true h slash ends = record {
-  none = below_more (λ k. Spoils s k → ⊥) i h.none (λ f. ⊎_elim slash (λ (e : EndsEscape s i). ⊎_elim e.no_zero e.no_one (ends refl)) f);
-  flag = tells_next s i _ refl;
-}
-scanned_more s i false h slash ends = record {
-  none = below_more (λ k. Spoils s k → ⊥) i h.none (λ f. ⊎_elim slash (λ (e : EndsEscape s i). h.flag e.inside e.after_tilde) f);
-  flag = tells_next s i _ refl;
-}
+-- the byte that stands before the next place
+at_last : (s : Text) (i : ℕ) → get_or s (i + 1 - 1) 0 ≡ get_or s i 0
+at_last s i = ap (λ (k : ℕ). get_or s k 0) (omega arith)
 
-pub scanned_slash : (s : Text) (i : ℕ) (escaped : Bool) → Scanned s i escaped → get_or s i 0 ≡ 47 → IsFirstFault s record { offset = i; source = Slash }
-scanned_slash s i escaped h slash = record { place = record { here = inl slash; before = h.none }; cause = slash }
+module _ (s : Text) (i : ℕ) (h : Scanned s i) where
+  -- a place with no slash spoils nothing
+  fine : get_or s i 0 ≢ 47 → Spoils s i → ⊥
+  fine slash f = ⊎_elim slash (λ (e : EndsEscape s i). h.no_tilde e.inside e.after_tilde) f
 
-pub scanned_tilde : (s : Text) (i : ℕ) (escaped : Bool) → Scanned s i escaped → escaped ≡ true → get_or s i 0 ≢ 48 → get_or s i 0 ≢ 49 → get_or s i 0 ≢ 47
-    → IsFirstFault s record { offset = i; source = Tilde }
-scanned_tilde s i true h is zero one slash =
-    let ends : EndsEscape s i = record { inside = h.flag.0; after_tilde = h.flag.1; no_zero = zero; no_one = one; no_slash = slash } in
-    record { place = record { here = inr ends; before = h.none }; cause = ends }
-scanned_tilde s i false h is zero one slash = absurd (false≢true is)
+  pub scanned_other : get_or s i 0 ≢ 47 → get_or s i 0 ≢ 126 → Scanned s (i + 1)
+  scanned_other slash tilde = record {
+    none = below_more (λ k. Spoils s k → ⊥) i h.none (fine slash);
+    no_tilde = λ above is. tilde (sym (at_last s i) ∙ is);
+  }
 
-pub scanned_end_tilde : (s : Text) (i : ℕ) (escaped : Bool) → Scanned s i escaped → i ≡ length s → escaped ≡ true → IsFirstFault s record { offset = length s; source = Tilde }
-scanned_end_tilde s i escaped h end is =
-    scanned_tilde s (length s) escaped (subst (λ (j : ℕ). Scanned s j escaped) end h) is
-    (λ at. let e = past_end s (length s) 48 (omega arith) at in omega (arith, e))
-    (λ at. let e = past_end s (length s) 49 (omega arith) at in omega (arith, e))
-    (λ at. let e = past_end s (length s) 47 (omega arith) at in omega (arith, e))
+  pub scanned_slash : get_or s i 0 ≡ 47 → IsFirstFault s record { offset = i; source = Slash }
+  scanned_slash slash = record { place = record { here = inl slash; before = h.none }; cause = slash }
 
-unspoiled : (s : Text) → Scanned s (length s) false → (k : ℕ) → Spoils s k → ⊥
-unspoiled s h k f =
-    ⊎_elim
-    (λ below. h.none k below f)
-    (λ beyond.
-    ⊎_elim
-    (λ slash. let e = past_end s k 47 beyond slash in omega (arith, e))
-    (λ (e : EndsEscape s k).
-    ⊎_elim
-    (λ more. let z = past_end s (k - 1) 126 (omega arith) e.after_tilde in omega (arith, z))
-    (λ less. let same : k ≡ length s = omega arith in h.flag (subst (λ (j : ℕ). 0 < j) same e.inside) (subst (λ (j : ℕ). get_or s (j - 1) 0 ≡ 126) same e.after_tilde))
-    (cases_lt (length s) k))
-    f)
-    (cases_lt k (length s))
+  module _ (tilde : get_or s i 0 ≡ 126) where
+    -- nor does a tilde
+    none_yet : (k : ℕ) → k < i + 1 → Spoils s k → ⊥
+    none_yet = below_more (λ k. Spoils s k → ⊥) i h.none (fine (λ is. omega (arith, tilde, is)))
 
-pub scanned_end : (s : Text) (i : ℕ) (escaped : Bool) → Scanned s i escaped → i ≡ length s → escaped ≡ false → IsToken s
-scanned_end s i true h end is = absurd (false≢true (sym is))
-scanned_end s i false h end is =
-    let done : Scanned s (length s) false = subst (λ (j : ℕ). Scanned s j false) end h in
-    ⊎_elim (λ token. token) (λ fault. absurd (unspoiled s done fault.0 fault.1.here)) (token_or_fault s)
+    pub scanned_escape : (get_or s (i + 1) 0 ≡ 48) ⊎ (get_or s (i + 1) 0 ≡ 49) → Scanned s (i + 2)
+    scanned_escape ends =
+        let digit : (get_or s (i + 1) 0 ≢ 47) × (get_or s (i + 1) 0 ≢ 126) =
+        ⊎_elim (λ zero. (λ is. omega (arith, zero, is), λ is. omega (arith, zero, is))) (λ one. (λ is. omega (arith, one, is), λ is. omega (arith, one, is))) ends
+        in
+        let next : Scanned s (i + 1 + 1) = record {
+          none = below_more (λ k. Spoils s k → ⊥) (i + 1) none_yet (λ f. ⊎_elim digit.0 (λ (e : EndsEscape s (i + 1)). ⊎_elim e.no_zero e.no_one ends) f);
+          no_tilde = λ above is. digit.1 (sym (at_last s (i + 1)) ∙ is);
+        } in
+        subst (λ (k : ℕ). Scanned s k) (omega arith) next
+
+    pub scanned_slash_next : get_or s (i + 1) 0 ≡ 47 → IsFirstFault s record { offset = i + 1; source = Slash }
+    scanned_slash_next slash = record { place = record { here = inl slash; before = none_yet }; cause = slash }
+
+    pub scanned_tilde : get_or s (i + 1) 0 ≢ 48 → get_or s (i + 1) 0 ≢ 49 → get_or s (i + 1) 0 ≢ 47 → IsFirstFault s record { offset = i + 1; source = Tilde }
+    scanned_tilde zero one slash =
+        let ends : EndsEscape s (i + 1) = record { inside = omega arith; after_tilde = at_last s i ∙ tilde; no_zero = zero; no_one = one; no_slash = slash } in
+        record { place = record { here = inr ends; before = none_yet }; cause = ends }
+
+  module _ (end : length s ≤ i) where
+    unspoiled : (k : ℕ) → Spoils s k → ⊥
+    unspoiled k f =
+        ⊎_elim
+        (λ below. h.none k below f)
+        (λ beyond.
+        ⊎_elim
+        (λ slash. let e = past_end s k 47 (omega (arith, end, beyond)) slash in omega (arith, e))
+        (λ (e : EndsEscape s k).
+        ⊎_elim
+        (λ more. let z = past_end s (k - 1) 126 (omega (arith, end, beyond, more)) e.after_tilde in omega (arith, z))
+        (λ less. let same : k ≡ i = omega (arith, beyond, less) in h.no_tilde (subst (λ (j : ℕ). 0 < j) same e.inside) (subst (λ (j : ℕ). get_or s (j - 1) 0 ≡ 126) same e.after_tilde))
+        (cases_lt i k))
+        f)
+        (cases_lt k i)
+
+    pub scanned_end : IsToken s
+    scanned_end = ⊎_elim (λ token. token) (λ fault. absurd (unspoiled fault.0 fault.1.here)) (token_or_fault s)
 
 -- ---- what the search for `~` and `/` tells
 
@@ -88,6 +102,12 @@ plain_before s i j none k low high = is_other (get_or s k 0) (none k low high)
 pub IsToken-nowhere : (s : Text) → Nowhere (Passes (is_byte2 126 47) s) 0 (length s) → IsToken s
 IsToken-nowhere s none =
     IsToken-plain_at s (λ k below. (plain_before s 0 (length s) none k (omega arith) below).0) (λ k below. (plain_before s 0 (length s) none k (omega arith) below).1)
+
+-- a text with neither is its own encoded text and its own decoded text
+pub plain_text : (s : Text) → Nowhere (Passes (is_byte2 126 47) s) 0 (length s) → (esc s ≡ s) × (unesc s ≡ s)
+plain_text s none =
+    let tilde = λ (k : ℕ) (below : k < length s). (plain_before s 0 (length s) none k (omega arith) below).0 in
+    (esc-plain_at s tilde (λ k below. (plain_before s 0 (length s) none k (omega arith) below).1), unesc-plain_at s tilde)
 
 -- where no `~` stands, a text is its own decoded text
 pub decoded_plain : (t : Text) → Nowhere (Passes (is_byte 126) (esc t)) 0 (length (esc t)) → esc t ≡ t
@@ -104,3 +124,58 @@ pub unescaped_whole : (items s : Text) (i : ℕ) (escaped : Bool) → length s �
 unescaped_whole items s i escaped over e =
     let nothing : unesc_after escaped (drop i s) ≡ [] = at_drop_all (unesc_after escaped) s i over in
     sym (append-nil items) ∙ ap (λ (l : Text). items ++ l) (sym nothing) ∙ e
+
+-- ---- what is escaped
+
+-- how long an encoded text is
+count-cons : (c : ℕ) (s : Text) (b : Bool) → is_escaped c ≡ b → count_by is_escaped (c ∷ s) ≡ cond b 1 0 + count_by is_escaped s
+count-cons c s b is = sum_by-cons (λ x. cond (is_escaped x) 1 0) c s ∙ ap (λ (x : Bool). cond x 1 0 + count_by is_escaped s) is
+
+pub esc_len : (s : Text) → length (esc s) ≡ length s + count_by is_escaped s
+esc_len [] = refl
+esc_len (b ∷ s) =
+    by_byte (λ c. length (esc (c ∷ s)) ≡ length (c ∷ s) + count_by is_escaped (c ∷ s)) b
+    (omega (arith, esc_len s, count-cons 126 s true refl)) (omega (arith, esc_len s, count-cons 47 s true refl))
+    (λ tilde slash.
+    let one = ap length (esc-cons b s tilde slash) in
+    let none = count-cons b s false (rw (ne_eqb b 126 tilde, ne_eqb b 47 slash) refl) in
+    omega (arith, esc_len s))
+
+-- what is left to escape of s begins with the escape of the next byte
+esc-drop : (s : Text) (i : ℕ) → i < length s → esc (drop i s) ≡ escape_of (get_or s i 0) ++ esc (drop (i + 1) s)
+esc-drop s i below = ap esc (drop-cons s i 0 below) ∙ ap (λ (k : ℕ). escape_of (get_or s i 0) ++ esc (drop k s)) (sym (add-one i))
+
+-- items are the escape of what stands before i in s, and there is room for the rest
+pub record Escaped (items : Text) (len cap : ℕ) (s : Text) (i : ℕ) : Type 0 where
+  pub so_far : items ++ esc (drop i s) ≡ esc s
+  pub room : len + length (esc (drop i s)) ≡ cap
+
+module _ (items : Text) (len cap : ℕ) (s : Text) (i : ℕ) (h : Escaped items len cap s i) (below : i < length s) where
+  rest : length (esc (drop i s)) ≡ length (escape_of (get_or s i 0)) + length (esc (drop (i + 1) s))
+  rest = ap length (esc-drop s i below) ∙ length-append (escape_of (get_or s i 0)) (esc (drop (i + 1) s))
+
+  -- there is room for the next byte's escape
+  pub escaped_room : len + length (escape_of (get_or s i 0)) ≤ cap
+  escaped_room = omega (arith, rest, h.room)
+
+  pub escaped_more : Escaped (items ++ escape_of (get_or s i 0)) (len + length (escape_of (get_or s i 0))) cap s (i + 1)
+  escaped_more = record {
+    so_far = append_assoc items (escape_of (get_or s i 0)) (esc (drop (i + 1) s)) ∙ ap (λ (x : Text). items ++ x) (sym (esc-drop s i below)) ∙ h.so_far;
+    room = omega (arith, rest, h.room);
+  }
+
+pub escaped_start : (len cap : ℕ) (s : Text) → len ≡ 0 → cap ≡ length (esc s) → Escaped [] len cap s 0
+escaped_start len cap s none room = record { so_far = refl; room = omega arith }
+
+pub escaped_whole : (items : Text) (len cap : ℕ) (s : Text) (i : ℕ) → Escaped items len cap s i → length s ≤ i → items ≡ esc s
+escaped_whole items len cap s i h over =
+    let nothing : esc (drop i s) ≡ [] = at_drop_all esc s i over in
+    sym (append-nil items) ∙ ap (λ (l : Text). items ++ l) (sym nothing) ∙ h.so_far
+
+-- ---- equal texts
+
+-- a test of two encoded texts tells whether the decoded texts are equal
+pub equal_esc : (s t : Text) (r : Bool) → r ≡ bytes_eq (esc s) (esc t) → (r ≡ true → s ≡ t) × (s ≡ t → r ≡ true)
+equal_esc s t r e =
+    let d = bytes_eq-Decides (esc s) (esc t) in
+    (λ yes. esc_one s t (d.0 (sym e ∙ yes)), λ same. e ∙ d.1 (ap esc same))

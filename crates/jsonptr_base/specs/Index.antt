@@ -31,3 +31,18 @@ IsBeyond Next len e = (e.length ≡ len) × (e.index ≡ len)
 abbrev pub IsWithin : Index → ℕ → Result ℕ OutOfBoundsError → Type 0
 IsWithin index len (Ok place) = (index ≡ Num place) × (place < len)
 IsWithin index len (Err e) = IsBeyond index len e
+
+-- the place that an index names in an array of this length: its number, or behind the last element
+abbrev pub place_in : ℕ → Index → ℕ
+place_in len (Num i) = i
+place_in len Next = len
+
+-- what an index is where that place may be used too: the place, which is at most the length, or refused
+abbrev pub IsWithinOrNext : Index → ℕ → Result ℕ OutOfBoundsError → Type 0
+IsWithinOrNext index len (Ok place) = (place ≡ place_in len index) × (place ≤ len)
+IsWithinOrNext index len (Err e) = (len < place_in len index) × (e.length ≡ len) × (e.index ≡ place_in len index)
+
+-- the text of an index
+abbrev pub index_text : Index → Text
+index_text (Num i) = dec i
+index_text Next = 45 ∷ []

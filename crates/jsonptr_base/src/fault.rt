@@ -20,3 +20,27 @@ impl<E> From<AllocError> for Fault<E> {
         Fault::Memory(error)
     }
 }
+
+#[cfg(test)]
+mod tests {
+    use super::Fault;
+    use std::alloc::AllocError;
+
+    /// Refuses a number above 9, and has no memory for 0.
+    fn refused_or_full(n: u8) -> Result<(), Fault<u8>> {
+        if n > 9 {
+            return Err(Fault::Refused(n));
+        }
+        if n == 0 {
+            Err(AllocError)?;
+        }
+        Ok(())
+    }
+
+    #[test]
+    fn both_faults(rt: HostRuntime) {
+        assert!(rt; matches!(refused_or_full(12), Err(Fault::Refused(12))));
+        assert!(rt; matches!(refused_or_full(0), Err(Fault::Memory(_))));
+        assert!(rt; refused_or_full(1).is_ok());
+    }
+}

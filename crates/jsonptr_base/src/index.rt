@@ -1,12 +1,16 @@
 //! Array indices as reference tokens write them (RFC 6901, section 4): a number without leading zeros,
 //! or `-`, the place after the last element.
-ghost use Rattle.std.specs.Prelude.{◌≡◌, ◌≢◌, ◌≤◌, ◌↔◌, [], ◌∷◌, length, slice_index, IsUtf8, Result};
+ghost use Rattle.std.specs.Prelude.{◌≡◌, ◌≢◌, ◌≤◌, ◌<◌, ◌^◌, ◌↔◌, ℕ, [], ◌∷◌, length, slice_index, string_bytes, IsUtf8, Result, Some};
+ghost use Rattle.std.specs.Ordering.{nat_cmp};
+ghost use Rattle.std.specs.declared.cmp.Ordering.TheVariants.{Less, Equal, Greater};
 ghost use Rattle.jsonptr_spec.specs.Text.{Text, esc};
 ghost use Rattle.jsonptr_base.specs.declared.index.Index.{Index};
 ghost use Rattle.jsonptr_base.specs.declared.index.ParseIndexError.{ParseIndexError};
-ghost use Rattle.jsonptr_base.specs.Index.{IsWithin, Reads, first_nondigit};
+ghost use Rattle.jsonptr_base.specs.declared.index.Index.TheVariants.{Num, Next};
+ghost use Rattle.jsonptr_base.specs.Index.{IsWithin, IsWithinOrNext, Reads, first_nondigit, index_text, place_in};
 
 use crate::token::Token;
+use std::fmt;
 use std::marker::Model;
 use std::str::FromStr;
 
@@ -37,6 +41,53 @@ impl Index {
             }),
         }
     }
+
+    /// The place of an element of an array of `length` elements, or the place behind the last one, where a
+    /// new element goes; `Next` names that.
+    ///
+    /// # Errors
+    ///
+    /// [`OutOfBoundsError`] where the index is above the length.
+    pub fn for_len_incl(&self, length: usize) -> Result<usize, OutOfBoundsError>
+        ensures { IsWithinOrNext self.now length result }
+    {
+        match *self {
+            Index::Num(index) if index <= length => Ok(index),
+            Index::Num(index) => Err(OutOfBoundsError { length, index }),
+            Index::Next => Ok(length),
+        }
+    }
+
+    /// The place that the index names where the array has `length` elements, whether it has that place or
+    /// not.
+    pub fn for_len_unchecked(&self, length: usize) -> usize
+        ensures { result ≡ place_in length self.now }
+    {
+        match *self {
+            Index::Num(index) => index,
+            Index::Next => length,
+        }
+    }
+}
+
+/// The text that reads as this index.
+impl fmt::Display for Index {
+    ghost output = { λ index. Some (index_text index) };
+
+    fn fmt<W: fmt::Write>(&self, f: &mut fmt::Formatter<W>) -> fmt::Result {
+        match *self {
+            Index::Num(index) => write!(f, "{index}"),
+            Index::Next => f.write_str("-"),
+        }
+    }
+}
+
+impl From<usize> for Index {
+    ghost from_gives = { λ n index. index ≡ Num n };
+
+    fn from(value: usize) -> Index {
+        Index::Num(value)
+    }
 }
 
 impl FromStr for Index {
@@ -50,6 +101,56 @@ impl FromStr for Index {
             [b'0', _, ..] => Err(ParseIndexError::LeadingZeros),
             _ => read_number(s),
         }
+    }
+}
+
+impl TryFrom<&str> for Index {
+    type Error = ParseIndexError;
+
+    ghost try_from_gives = { λ s r. Reads s.now r };
+
+    fn try_from(value: &str) -> Result<Index, ParseIndexError> {
+        value.parse()
+    }
+}
+
+impl TryFrom<String> for Index {
+    type Error = ParseIndexError;
+
+    ghost try_from_gives = { λ s r. Reads (string_bytes s) r };
+
+    fn try_from(value: String) -> Result<Index, ParseIndexError> {
+        value.as_str().parse()
+    }
+}
+
+impl TryFrom<&String> for Index {
+    type Error = ParseIndexError;
+
+    ghost try_from_gives = { λ s r. Reads (string_bytes s.now) r };
+
+    fn try_from(value: &String) -> Result<Index, ParseIndexError> {
+        value.as_str().parse()
+    }
+}
+
+impl TryFrom<Token<'_>> for Index {
+    type Error = ParseIndexError;
+
+    ghost try_from_gives = { λ t r. Reads t r };
+
+    fn try_from(value: Token<'_>) -> Result<Index, ParseIndexError> {
+        value.to_index()
+    }
+}
+
+impl TryFrom<&Token<'_>> for Index {
+    type Error = ParseIndexError;
+
+    ghost try_from_gives = { λ t r. Reads t.now r };
+
+    fn try_from(value: &Token<'_>) -> Result<Index, ParseIndexError> {
+        value.to_index()
     }
 }
 
@@ -94,11 +195,22 @@ impl<'a> Token<'a> {
 }
 
 /// The reading of array indices (RFC 6901, section 4): a text reads as one index or as one refusal, and
-/// never as two, and the escaped text of a token reads as its decoded text does.
+/// never as two, and the escaped text of a token reads as its decoded text does. The text of an index is
+/// the one that reads as it.
 pub fn index_law()
     ensures one { (s : Text) (r q : Result Index ParseIndexError) → Reads s r → Reads s q → r ≡ q }
     ensures some { (s : Text) → IsUtf8 s → (r : Result Index ParseIndexError) × Reads s r }
     ensures escape { (s : Text) → IsUtf8 s → (r : Result Index ParseIndexError) → Reads s r ↔ Reads (esc s) r }
+    ensures shown { (s : Text) (index : Index) → Reads s (Ok index) → index_text index ≡ s }
+    ensures read_number { (n : ℕ) → n < 2 ^ 64 → Reads (index_text (Num n)) (Ok (Num n)) }
+    ensures read_next { Reads (index_text Next) (Ok Next) }
+{}
+
+/// The order of indices: numbers by size, and every number before `Next`.
+pub fn index_order_law()
+    ensures numbers { (i j : ℕ) → ⟦<Index as Ord>⟧.cmp (Num i) (Num j) ≡ nat_cmp i j }
+    ensures next { (i : ℕ) → (⟦<Index as Ord>⟧.cmp (Num i) Next ≡ Less) × (⟦<Index as Ord>⟧.cmp Next (Num i) ≡ Greater) }
+    ensures equal { (i j : Index) → ⟦<Index as Ord>⟧.cmp i j ≡ Equal → i ≡ j }
 {}
 
 /// An index that is not within the bounds of an array.

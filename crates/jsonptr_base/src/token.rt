@@ -1,11 +1,23 @@
 //! One reference token of a JSON Pointer (RFC 6901, section 3).
-ghost use Rattle.std.specs.Prelude.{◌≡◌, ◌≢◌, ◌↔◌, All, IsOk, IfOk, IfErr};
+ghost use Rattle.std.specs.Prelude.{◌≡◌, ◌≢◌, ◌↔◌, refl, [], ◌∷◌, Some, All, IsTrue, IsOk, IfOk, IfErr};
+ghost use Rattle.std.proofs.Common.{rules};
 ghost use Rattle.std.specs.Cow.{cow_str_bytes};
-ghost use Rattle.jsonptr_spec.specs.Text.{esc};
+ghost use Rattle.std.specs.Hash as fed;
+ghost use Rattle.std.specs.Ordering.{nat_cmp};
+ghost use Rattle.std.specs.Str.{bytes_eq};
+ghost use Rattle.std.specs.Cmp;
+ghost use Rattle.std.specs.Cmp.{on_equiv, on_per, on_po, on_total};
+ghost use Rattle.std.specs.Cmp.Lexicographic.{slice_cmp, nat_list_eq_equiv, nat_list_cmp_total, texts_po, texts_ties};
+ghost use Rattle.std.specs.Cmp.Rules.{hashing};
+ghost use Rattle.std.specs.declared.cmp.Ordering.TheVariants.{Equal};
+ghost use Rattle.jsonptr_spec.specs.Text.{Text, esc};
 ghost use Rattle.jsonptr_spec.specs.Grammar.{IsToken};
 
 use std::alloc::{AllocError, Global};
 use std::borrow::CowStr;
+use std::cmp::Ordering;
+use std::fmt;
+use std::hash::{Hash, Hasher};
 use std::marker::Model;
 
 /// A segment of a JSON Pointer, which follows a `/`: a member's key, or an array index.
@@ -48,11 +60,78 @@ impl<'a> Token<'a> {
         }
     }
 
+    /// The token that stands for this text, which is escaped where it has a `~` or a `/`; any other text is
+    /// kept as it is.
+    ///
+    /// # Errors
+    ///
+    /// [`AllocError`] where the text has to be escaped and there is no memory for that.
+    pub fn new(alloc: Global, s: CowStr<'a>) -> Result<Token<'a>, AllocError>
+        ensures text { IfOk result (λ t. t ≡ cow_str_bytes s.entry) }
+        ensures no_memory { All (λ b. b ≢ 126) (cow_str_bytes s.entry) → All (λ b. b ≢ 47) (cow_str_bytes s.entry) → IsOk result }
+    {
+        match memchr::memchr2(b'~', b'/', s.as_str().as_bytes()) {
+            None => Ok(Token { inner: s }),
+            Some(_) => Ok(Token {
+                inner: CowStr::Owned(scan::escaped(alloc, s.as_str())?),
+            }),
+        }
+    }
+
+    /// The token of a number's decimal text, which needs no escape.
+    ///
+    /// # Errors
+    ///
+    /// [`AllocError`] where there is no memory for the text.
+    pub fn from_number<N: Number>(alloc: Global, n: N) -> Result<Token<'static>, AllocError>
+        ensures { IfOk result (λ t. t ≡ N.decimal_text n) }
+    {
+        Token::new(alloc, CowStr::Owned(n.to_decimal(alloc)?))
+    }
+
+    /// A copy of the token that borrows nothing; a text that the token owns is moved.
+    ///
+    /// # Errors
+    ///
+    /// [`AllocError`] where the token borrows its text and there is no memory for a copy.
+    pub fn into_owned(self, alloc: Global) -> Result<Token<'static>, AllocError>
+        ensures { IfOk result (λ t. t ≡ self.entry) }
+    {
+        Ok(Token {
+            inner: CowStr::Owned(self.inner.into_owned(alloc)?),
+        })
+    }
+
+    /// The same of a token that is lent; its text is copied.
+    ///
+    /// # Errors
+    ///
+    /// [`AllocError`] where there is no memory for the copy.
+    pub fn to_owned(&self, alloc: Global) -> Result<Token<'static>, AllocError>
+        ensures { IfOk result (λ t. t ≡ self.now) }
+    {
+        self.clone()?.into_owned(alloc)
+    }
+
     /// The token's text as it stands in a pointer, without the slash.
     pub fn encoded(&self) -> &str
         ensures { result.now ≡ esc self.now }
     {
         self.inner.as_str()
+    }
+
+    /// The same text, handed over as the token keeps it; no memory is taken.
+    pub fn into_encoded(self) -> CowStr<'a>
+        ensures { cow_str_bytes result ≡ esc self.entry }
+    {
+        self.inner
+    }
+
+    /// Whether the token is `-`, which names the place behind the last element of an array.
+    pub fn is_next(&self) -> bool
+        ensures { IsTrue result ↔ (self.now ≡ 45 ∷ []) }
+    {
+        self.encoded() == "-"
     }
 
     /// The text that the token stands for: `~1` read as `/` and `~0` as `~`, in one pass from the left
@@ -73,6 +152,94 @@ impl<'a> Token<'a> {
     }
 }
 
+impl<'a> Clone for Token<'a> {
+    ghost is_clone = { λ t copy. copy ≡ t };
+
+    fn clone(&self) -> Result<Token<'a>, AllocError> {
+        Ok(Token {
+            inner: self.inner.clone()?,
+        })
+    }
+}
+
+/// By the encoded texts; they are equal exactly where the decoded texts are.
+impl<'a> PartialEq for Token<'a> {
+    ghost eq = { λ s t. bytes_eq (esc s) (esc t) };
+
+    ghost laws = { on_per esc (Cmp.partial_equiv_from_equiv nat_list_eq_equiv) };
+
+    fn eq(&self, other: &Token<'a>) -> bool
+        ensures value { result ≡ bytes_eq (esc self.now) (esc other.now) }
+        ensures decoded { IsTrue result ↔ (self.now ≡ other.now) }
+    {
+        self.encoded() == other.encoded()
+    }
+}
+
+impl<'a> Eq for Token<'a> {
+    ghost laws = { on_equiv esc nat_list_eq_equiv };
+}
+
+impl<'a> PartialOrd for Token<'a> {
+    ghost partial_cmp = { λ s t. Some (slice_cmp nat_cmp (esc s) (esc t)) };
+
+    ghost laws = { on_po esc texts_po };
+
+    fn partial_cmp(&self, other: &Token<'a>) -> Option<Ordering> {
+        Some(self.cmp(other))
+    }
+}
+
+/// By the bytes of the encoded texts.
+impl<'a> Ord for Token<'a> {
+    ghost cmp = { λ s t. slice_cmp nat_cmp (esc s) (esc t) };
+
+    ghost total = { on_total esc nat_list_cmp_total };
+
+    ghost matches_partial_cmp = { λ s t. refl };
+
+    ghost matches_eq = { λ s t. texts_ties (esc s) (esc t) };
+
+    fn cmp(&self, other: &Token<'a>) -> Ordering {
+        self.encoded().cmp(other.encoded())
+    }
+}
+
+impl<'a> Hash for Token<'a> {
+    ghost hash_input = { λ t. fed.str (esc t) };
+
+    ghost respects_eq = { Prim.search (hashing, rules) };
+
+    fn hash<H: Hasher>(&self, state: &mut H) {
+        self.encoded().hash(state);
+    }
+}
+
+/// Tokens are compared by their encoded texts, and that tells any two decoded texts apart, and no text from
+/// itself.
+pub fn token_order_law()
+    ensures tie { (s t : Text) → (⟦<Token<'static> as Ord>⟧.cmp s t ≡ Equal) ↔ (s ≡ t) }
+    ensures equal { (s t : Text) → IsTrue (⟦<Token<'static> as PartialEq>⟧.eq s t) ↔ (s ≡ t) }
+{}
+
+/// The decoded text, exactly; no memory is taken.
+impl<'a> fmt::Display for Token<'a> {
+    ghost output = { λ t. Some t };
+
+    fn fmt<W: fmt::Write>(&self, f: &mut fmt::Formatter<W>) -> fmt::Result {
+        let mut rest = self.encoded();
+        while let Some((plain, stands_for, tail)) = scan::cut_escape(rest) {
+            f.write_str(plain)?;
+            f.write_str(stands_for)?;
+            rest = tail;
+        }
+        f.write_str(rest)
+    }
+}
+
+/// The name that the errors of [`Token::from_encoded`] had.
+pub type InvalidEncodingError = EncodingError;
+
 /// Why a text is no encoded token, and where.
 #[derive(Debug, PartialEq, Eq, Drop)]
 pub struct EncodingError {
@@ -92,6 +259,10 @@ pub enum InvalidEncoding {
     Slash,
 }
 
+mod number;
 mod scan;
+
+pub use number::Number;
+
 #[cfg(test)]
 mod tests;

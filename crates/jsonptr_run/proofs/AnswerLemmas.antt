@@ -47,7 +47,7 @@ module _ (words : List Text) (known : Option (List ℕ)) (request : Request) (as
   refused_so (NoValue e) h = (request, asks, h)
   refused_so InputNotJson h = (request, asks, h)
   refused_so (Memory e) h = (request, asks, tt)
-  refused_so Read h = (request, asks, tt)
+  refused_so Read h = (request, asks, h)
   refused_so Usage h = absurd h
   refused_so (BadPointer e) h = absurd h
   refused_so Write h = absurd h

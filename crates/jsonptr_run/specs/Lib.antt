@@ -2,3 +2,4 @@
 pub mod Streams
 pub mod Document
 pub mod Run
+pub mod Command

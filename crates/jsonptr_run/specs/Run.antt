@@ -1,7 +1,8 @@
 -- What the program answers to its words and its input, and which fault comes when.
-use Rattle.std.specs.Prelude.{◌≡◌, ℕ, List, [], ◌∷◌, Option, Some, None, Result, Ok, Err, codes, false, ⊤}
-use Rattle.serde_json.specs.Data.{Data}
-use Rattle.serde_json.specs.Written.{has_float}
+use Rattle.std.specs.Prelude.{◌≡◌, ◌⊎◌, ℕ, List, [], ◌∷◌, ◌++◌, map, Option, Some, None, Result, Ok, Err, codes, false, ⊤}
+use Rattle.serde_json.specs.Data.{Data, string, array}
+use Rattle.serde_json.specs.View.{items_of}
+use Rattle.serde_json.specs.Written.{has_float, compact_text}
 use Rattle.jsonptr_spec.specs.Text.{Text, text}
 use Rattle.jsonptr_spec.specs.Json.{nodes, FindsValue}
 use Rattle.jsonptr.specs.ParseError.{IsFirstFault}
@@ -21,31 +22,52 @@ status_of (Memory e) = 4
 status_of Read = 5
 status_of Write = 5
 
--- what the words can ask for: to find the value that these tokens name
+-- what the words can ask for: to find the value that these tokens name, or the tokens themselves
 pub data Request : Type 0 where
   resolve : List Text → Request
+  tokens : List Text → Request
+
+-- the words that ask for it: a command, and the text of the tokens
+abbrev pub words_of : Request → List Text
+words_of (resolve ts) = codes "resolve" ∷ text ts ∷ []
+words_of (tokens ts) = codes "tokens" ∷ text ts ∷ []
+
+-- whether a request needs the input
+abbrev pub NeedsInput : Request → Type 0
+NeedsInput (resolve ts) = ⊤
+NeedsInput (tokens ts) = ⊥
+
+-- the words are a command and this text, which is to be a pointer
+abbrev pub TakesPointer : List Text → Text → Type 0
+TakesPointer words pointer = (words ≡ codes "resolve" ∷ pointer ∷ []) ⊎ (words ≡ codes "tokens" ∷ pointer ∷ [])
 
 -- the words ask for this, or are refused so; the input has no part in it
 abbrev pub Asks : List Text → Result Request RunFault → Type 0
-Asks words (Ok (resolve tokens)) = words ≡ codes "resolve" ∷ text tokens ∷ []
-Asks words (Err Usage) = (pointer : Text) → words ≡ codes "resolve" ∷ pointer ∷ [] → ⊥
-Asks words (Err (BadPointer e)) = (pointer : Text) × (words ≡ codes "resolve" ∷ pointer ∷ []) × IsFirstFault pointer e
+Asks words (Ok request) = words ≡ words_of request
+Asks words (Err Usage) = (pointer : Text) → TakesPointer words pointer → ⊥
+Asks words (Err (BadPointer e)) = (pointer : Text) × TakesPointer words pointer × IsFirstFault pointer e
 Asks words (Err (NoValue e)) = ⊥
 Asks words (Err InputNotJson) = ⊥
 Asks words (Err (Memory e)) = ⊥
 Asks words (Err Read) = ⊥
 Asks words (Err Write) = ⊥
 
+-- the array of the tokens, as a JSON value
+abbrev pub tokens_value : List Text → Data
+tokens_value ts = array (items_of (map string ts))
+
 -- what a request gives on an input of these bytes: a line, or a refusal
 abbrev pub Gives : Request → List ℕ → Result Text RunFault → Type 0
-Gives (resolve tokens) bytes (Ok line) = (d e : Data) × (json_of bytes ≡ Some d) × FindsValue d tokens e × IsJsonLine e line
-Gives (resolve tokens) bytes (Err InputNotJson) = json_of bytes ≡ None
-Gives (resolve tokens) bytes (Err (NoValue e)) = (d : Data) × (json_of bytes ≡ Some d) × Refuses (nodes d) tokens e
-Gives (resolve tokens) bytes (Err Usage) = ⊥
-Gives (resolve tokens) bytes (Err (BadPointer e)) = ⊥
-Gives (resolve tokens) bytes (Err (Memory e)) = ⊥
-Gives (resolve tokens) bytes (Err Read) = ⊥
-Gives (resolve tokens) bytes (Err Write) = ⊥
+Gives (resolve ts) bytes (Ok line) = (d e : Data) × (json_of bytes ≡ Some d) × FindsValue d ts e × IsJsonLine e line
+Gives (resolve ts) bytes (Err InputNotJson) = json_of bytes ≡ None
+Gives (resolve ts) bytes (Err (NoValue e)) = (d : Data) × (json_of bytes ≡ Some d) × Refuses (nodes d) ts e
+Gives (resolve ts) bytes (Err Usage) = ⊥
+Gives (resolve ts) bytes (Err (BadPointer e)) = ⊥
+Gives (resolve ts) bytes (Err (Memory e)) = ⊥
+Gives (resolve ts) bytes (Err Read) = ⊥
+Gives (resolve ts) bytes (Err Write) = ⊥
+Gives (tokens ts) bytes (Ok line) = line ≡ compact_text (tokens_value ts) ++ 10 ∷ []
+Gives (tokens ts) bytes (Err e) = ⊥
 
 -- the words ask for something, and P holds of what they ask for
 abbrev pub ForRequest : List Text → (Request → Type 0) → Type 0
@@ -55,22 +77,23 @@ ForRequest words P = (request : Request) × Asks words (Ok request) × P request
 abbrev pub ForLine : List Text → Option (List ℕ) → (Text → Type 0) → Type 0
 ForLine words known P = ForRequest words (λ request. ForBytes known (λ bytes. (line : Text) × Gives request bytes (Ok line) × P line))
 
--- the words, or the request on the input, are refused so; memory and streams may fail any request
+-- the words, or the request on the input, are refused so; memory and the writer may fail any request, and the
+-- reader one that needs the input
 abbrev pub IsRefusedSo : List Text → Option (List ℕ) → RunFault → Type 0
 IsRefusedSo words known Usage = Asks words (Err Usage)
 IsRefusedSo words known (BadPointer e) = Asks words (Err (BadPointer e))
 IsRefusedSo words known InputNotJson = ForRequest words (λ request. ForBytes known (λ bytes. Gives request bytes (Err InputNotJson)))
 IsRefusedSo words known (NoValue e) = ForRequest words (λ request. ForBytes known (λ bytes. Gives request bytes (Err (NoValue e))))
 IsRefusedSo words known (Memory e) = ForRequest words (λ request. ⊤)
-IsRefusedSo words known Read = ForRequest words (λ request. ⊤)
+IsRefusedSo words known Read = ForRequest words NeedsInput
 IsRefusedSo words known Write = ForRequest words (λ request. ⊤)
 
--- the request is refused so on the input; memory and the reader may fail it
+-- the request is refused so on the input; memory may fail it, and the reader where it is needed
 abbrev pub IsAnswerFault : Request → Option (List ℕ) → RunFault → Type 0
 IsAnswerFault request known InputNotJson = ForBytes known (λ bytes. Gives request bytes (Err InputNotJson))
 IsAnswerFault request known (NoValue e) = ForBytes known (λ bytes. Gives request bytes (Err (NoValue e)))
 IsAnswerFault request known (Memory e) = ⊤
-IsAnswerFault request known Read = ⊤
+IsAnswerFault request known Read = NeedsInput request
 IsAnswerFault request known Usage = ⊥
 IsAnswerFault request known (BadPointer e) = ⊥
 IsAnswerFault request known Write = ⊥
@@ -85,15 +108,9 @@ LeavesWriter contents words known old new InputNotJson = new ≡ old
 LeavesWriter contents words known old new (Memory e) = new ≡ old
 LeavesWriter contents words known old new Read = new ≡ old
 
--- where the words are refused, the reader is as it was
-abbrev pub LeavesReader : {R : Type 0} → R → R → RunFault → Type 0
-LeavesReader old new Usage = new ≡ old
-LeavesReader old new (BadPointer e) = new ≡ old
-LeavesReader old new (NoValue e) = ⊤
-LeavesReader old new InputNotJson = ⊤
-LeavesReader old new (Memory e) = ⊤
-LeavesReader old new Read = ⊤
-LeavesReader old new Write = ⊤
+-- what the words ask for, if anything, needs no input
+abbrev pub NeedNoInput : List Text → Type 0
+NeedNoInput words = (request : Request) → Asks words (Ok request) → NeedsInput request → ⊥
 
 -- a fault of reading the input as a document: memory, a read, or that the bytes are no JSON
 abbrev pub IsReadFault : Option (List ℕ) → RunFault → Type 0
@@ -107,17 +124,18 @@ IsReadFault known Write = ⊥
 
 -- a fault of finding a value: memory, or that the tokens name none
 abbrev pub IsResolveFault : Data → List Text → RunFault → Type 0
-IsResolveFault d tokens (NoValue e) = Refuses (nodes d) tokens e
-IsResolveFault d tokens (Memory e) = ⊤
-IsResolveFault d tokens Usage = ⊥
-IsResolveFault d tokens (BadPointer e) = ⊥
-IsResolveFault d tokens InputNotJson = ⊥
-IsResolveFault d tokens Read = ⊥
-IsResolveFault d tokens Write = ⊥
+IsResolveFault d ts (NoValue e) = Refuses (nodes d) ts e
+IsResolveFault d ts (Memory e) = ⊤
+IsResolveFault d ts Usage = ⊥
+IsResolveFault d ts (BadPointer e) = ⊥
+IsResolveFault d ts InputNotJson = ⊥
+IsResolveFault d ts Read = ⊥
+IsResolveFault d ts Write = ⊥
 
--- two answers are the same fault, or lines of the same value, which are one where the value has no float
+-- two answers are the same fault, or the same line, or lines of the same value, which are one where the value
+-- has no float
 abbrev pub IsSameAnswer : Result Text RunFault → Result Text RunFault → Type 0
-IsSameAnswer (Ok l) (Ok m) = (value : Data) × IsJsonLine value l × IsJsonLine value m × (has_float value ≡ false → l ≡ m)
+IsSameAnswer (Ok l) (Ok m) = (l ≡ m) ⊎ ((value : Data) × IsJsonLine value l × IsJsonLine value m × (has_float value ≡ false → l ≡ m))
 IsSameAnswer (Ok l) (Err f) = ⊥
 IsSameAnswer (Err e) (Ok m) = ⊥
 IsSameAnswer (Err e) (Err f) = e ≡ f

@@ -1,9 +1,10 @@
-//! Passes over a pointer's text: its first fault, and the cut behind its first token.
-ghost use Rattle.std.specs.Prelude.{◌≡◌, ◌⊎◌, ◌<◌, [], slice_index, length, IsSome, MatchOption};
+//! Passes over a pointer's text: its first fault, and where it may be cut between tokens.
+ghost use Rattle.std.specs.Prelude.{◌≡◌, ◌≢◌, ◌⊎◌, ◌<◌, ◌≤◌, ◌++◌, [], ◌∷◌, slice_index, length, IsSome, IsTrue, ◌↔◌, MatchOption};
 ghost use Rattle.jsonptr_spec.specs.Grammar.{IsPointer};
 ghost use Rattle.jsonptr_spec.specs.Fault.{IsFirst, IsLooseTilde};
 ghost use Rattle.jsonptr.specs.ParseError.{IsFirstFault};
-ghost use Rattle.jsonptr.specs.Cut.{IsCut, NoTildeBefore, HasNoLooseTilde};
+ghost use Rattle.jsonptr_spec.specs.Text.{Text, text, tokens_of};
+ghost use Rattle.jsonptr.specs.Cut.{IsCut, IsEndOf, IsBackCut, IsSplit, IsSeam, AgreeUpTo, IsCommonSeam, NoTildeBefore, HasNoLooseTilde};
 
 use super::ParseError;
 use jsonptr_base::token::{EncodingError, InvalidEncoding};
@@ -49,16 +50,15 @@ fn loose_tilde_from(bytes: &[u8], at: usize) -> Option<usize>
     requires plain { NoTildeBefore bytes.now at }
     ensures { MatchOption result (HasNoLooseTilde bytes.now) (IsFirst (IsLooseTilde bytes.now)) }
 {
-    let mut escaped = false;
-    for i in at..bytes.len() {
-        let b = bytes[i];
-        if escaped && b != b'0' && b != b'1' {
-            return Some(i - 1);
+    let mut i = at;
+    while i < bytes.len() {
+        if bytes[i] != b'~' {
+            i += 1;
+        } else if let Some(b'0' | b'1') = bytes.get(i + 1) {
+            i += 2;
+        } else {
+            return Some(i);
         }
-        escaped = b == b'~';
-    }
-    if escaped {
-        return Some(bytes.len() - 1);
     }
     None
 }
@@ -76,4 +76,88 @@ pub(super) fn cut(text: &str) -> Option<(&str, &str)>
         None => Some((after, "")),
         Some(at) => Some(after.split_at(at)),
     }
+}
+
+/// What stands before the last token with its slash, and the text of that token, or `None` of the empty text.
+pub(super) fn cut_back(text: &str) -> Option<(&str, &str)>
+    requires { (slice_index text.now 0 ≡ 47) ⊎ (text.now ≡ []) }
+    ensures { MatchOption result (text.now ≡ []) (λ r. IsBackCut text.now r.0.now r.1.now) }
+{
+    let at = memrchr(b'/', text.as_bytes())?;
+    let (front, segment) = text.split_at(at);
+    let (_, last) = segment.split_at(1);
+    Some((front, last))
+}
+
+/// A text in two at a byte that is a slash.
+pub(super) fn cut_at(text: &str, at: usize) -> Option<(&str, &str)>
+    ensures { MatchOption result
+        (slice_index text.now at ≢ 47)
+        (λ r. IsSplit text.now r.0.now r.1.now × (length r.0.now ≡ at) × (slice_index r.1.now 0 ≡ 47)) }
+{
+    match text.as_bytes().get(at) {
+        Some(b'/') => Some(text.split_at(at)),
+        _ => None,
+    }
+}
+
+/// What follows `front` in a text, where that is empty or begins with a slash.
+pub(super) fn after_front<'a>(text: &'a str, front: &str) -> Option<&'a str>
+    ensures { MatchOption result ((rest : Text) → IsSplit text.now front.now rest → ⊥) (λ r. IsSplit text.now front.now r.now) }
+{
+    let rest = text.strip_prefix(front)?;
+    match rest.as_bytes() {
+        [] | [b'/', ..] => Some(rest),
+        _ => None,
+    }
+}
+
+/// How many bytes two texts have in common before the last place where both may be cut.
+pub(super) fn common_seam(bytes: &[u8], other: &[u8]) -> usize
+    requires begins { (slice_index bytes.now 0 ≡ 47) ⊎ (bytes.now ≡ []) }
+    requires other_begins { (slice_index other.now 0 ≡ 47) ⊎ (other.now ≡ []) }
+    ensures { IsCommonSeam bytes.now other.now result }
+{
+    let end = common_len(bytes, other);
+    if is_seam(bytes, end) && is_seam(other, end) {
+        return end;
+    }
+    match memrchr(b'/', &bytes[..end]) {
+        Some(slash) => slash,
+        None => 0,
+    }
+}
+
+/// How many bytes two texts have in common.
+fn common_len(bytes: &[u8], other: &[u8]) -> usize
+    ensures { AgreeUpTo bytes.now other.now result }
+{
+    let shorter = bytes.len().min(other.len());
+    for at in 0..shorter {
+        if bytes[at] != other[at] {
+            return at;
+        }
+    }
+    shorter
+}
+
+/// Whether a text ends at a place, or has a slash there.
+fn is_seam(bytes: &[u8], at: usize) -> bool
+    requires { at ≤ length bytes.now }
+    ensures { IsTrue result ↔ IsSeam bytes.now at }
+{
+    at == bytes.len() || bytes[at] == b'/'
+}
+
+/// The place where the first `count` tokens of a pointer's text end, or `None` where it has fewer.
+pub(super) fn end_of(whole: &str, count: usize) -> Option<usize>
+    requires { text (tokens_of whole.now) ≡ whole.now }
+    ensures { MatchOption result (length (tokens_of whole.now) < count) (IsEndOf whole.now count) }
+{
+    let mut rest = whole;
+    for _ in 0..count {
+        let (_, after) = cut(rest)?;
+        rest = after;
+    }
+    Some(whole.len() - rest.len())
 }

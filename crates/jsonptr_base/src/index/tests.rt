@@ -1,6 +1,7 @@
 //! Rows of index texts, and of indices within arrays.
 use super::{Index, IntegerCause, InvalidCharacterError, OutOfBoundsError, ParseIndexError};
 use crate::token::Token;
+use std::alloc::Global;
 use std::borrow::CowStr;
 use std::test::Fail;
 
@@ -85,4 +86,65 @@ fn bounds(rt: HostRuntime) {
     ] {
         assert_eq!(rt; index.for_len(length), want, "at {length}");
     }
+}
+
+#[test]
+fn bounds_with_the_next_place(rt: HostRuntime) {
+    for (index, length, want) in [
+        (Index::Num(1), 1, Ok(1)),
+        (Index::Next, 1, Ok(1)),
+        (
+            Index::Num(2),
+            1,
+            Err(OutOfBoundsError {
+                length: 1,
+                index: 2,
+            }),
+        ),
+    ] {
+        assert_eq!(rt; index.for_len_incl(length), want, "at {length}");
+    }
+    for (index, length, want) in [
+        (Index::Num(42), 30, 42),
+        (Index::Next, 30, 30),
+        (Index::Num(34), 40, 34),
+        (Index::Next, 34, 34),
+    ] {
+        assert_eq!(rt; index.for_len_unchecked(length), want, "at {length}");
+    }
+}
+
+/// Whether a text reads as this index, in each form that it can be handed over in.
+fn reads(alloc: Global, text: &str, index: Index) -> Result<bool, Fail> {
+    let string = String::from_str(alloc, text)?;
+    let lent = Index::try_from(&string)?;
+    let token = Token::from_encoded(CowStr::Borrowed(text))?;
+    let lent_token = Index::try_from(&token)?;
+    Ok(
+        Index::try_from(text)? == index
+            && lent == index
+            && Index::try_from(string)? == index
+            && lent_token == index
+            && Index::try_from(token)? == index,
+    )
+}
+
+#[test]
+fn texts_of_indices(rt: HostRuntime) -> Result<(), Fail> {
+    for (text, index) in [
+        ("0", Index::from(0)),
+        ("10", Index::from(10)),
+        ("18446744073709551615", Index::from(usize::MAX)),
+        ("-", Index::Next),
+    ] {
+        assert!(rt; reads(rt.alloc(), text, index)?, "at {text}");
+        assert_eq!(rt; index.to_string(rt.alloc())?.as_str(), text);
+    }
+    Ok(())
+}
+
+#[test]
+fn order(rt: HostRuntime) {
+    assert!(rt; Index::Num(2) < Index::Num(10));
+    assert!(rt; Index::Num(usize::MAX) < Index::Next);
 }

@@ -76,6 +76,21 @@ fn writes_the_value_that_the_pointer_names(rt: HostRuntime) -> Result<(), AllocE
 }
 
 #[test]
+fn lists_the_tokens_and_reads_nothing(rt: HostRuntime) -> Result<(), AllocError> {
+    for (pointer, line) in [
+        ("/a~1b/", "[\"a/b\",\"\"]\n"),
+        ("", "[]\n"),
+        ("/~01/\u{e9}\"", "[\"~1\",\"\u{e9}\\\"\"]\n"),
+    ] {
+        let ran = run_on(rt.alloc(), &["tokens", pointer], "{", &[Step::Fail], ALL)?;
+        assert_eq!(rt; ran.status, 0, "{pointer}");
+        assert!(rt; ran.written.as_slice() == line.as_bytes(), "{pointer}");
+        assert_eq!(rt; ran.left, 1, "{pointer}");
+    }
+    Ok(())
+}
+
+#[test]
 fn refuses_what_names_no_value(rt: HostRuntime) -> Result<(), AllocError> {
     for (pointer, input, status, told) in [
         (
@@ -121,13 +136,17 @@ fn refuses_words_before_it_reads(rt: HostRuntime) -> Result<(), AllocError> {
         "json pointer failed to parse; does not start with a slash ('/') and is not empty";
     let tilde =
         "json pointer failed to parse; the first token in the partial-pointer starting at offset 2 is malformed";
-    let lines: [(&[&str], u8, &str); 8] = [
+    let lines: [(&[&str], u8, &str); 12] = [
         (&[], 2, usage),
         (&["resolve"], 2, usage),
         (&["resolve", "/a", "/b"], 2, usage),
         (&["find", "/a"], 2, usage),
         (&["Resolve", "/a"], 2, usage),
         (&["resolve ", "/a"], 2, usage),
+        (&["tokens"], 2, usage),
+        (&["tokens", "/a", "1"], 2, usage),
+        (&["delete", "/a"], 2, usage),
+        (&["tokens", "a"], 1, no_slash),
         (&["resolve", "foo"], 1, no_slash),
         (&["resolve", "/a/~2"], 1, tilde),
     ];

@@ -1,13 +1,17 @@
-use Rattle.std.proofs.Common.{◌≡◌, sym, ap, ◌∙◌}
+use Rattle.std.proofs.Common.{◌≡◌, ap, ◌∙◌}
 use Rattle.std.specs.BTreeMap.{get_by_text}
 use Rattle.jsonptr_spec.specs.Text.{Text}
-use Rattle.jsonptr.proofs.Steps.{finds_member}
+use Rattle.jsonptr.proofs.Steps.{member_or}
 use Rattle.jsonptr.proofs.document.child.Goals as goal
 
-pub returns-in-Some-clause-found : goal.returns-in-Some-clause-found
-returns-in-Some-clause-found g c =
-    let members = c.in-Object.members.now in
-    let read : c.as_str.result.now ≡ c.args.token.now = c.as_str.ensures.value ∙ c.in-Ok-decoded.ensures.text in
-    finds_member (g.D.Document.nodes c.args.at.now) (g.D.Document.stands_at c.args.at.now) members c.args.token.now c.in-Some.member.now
-    c.in-Object.ensures.0 c.in-Object.ensures.1
-    (ap (λ (x : Text). get_by_text members x) (sym read) ∙ sym c.in-Some.ensures.value)
+pub returns-in_ok-key-in-Object-clause-found : goal.returns-in_ok-key-in-Object-clause-found
+returns-in_ok-key-in-Object-clause-found g c =
+    let read : c.as_str.result.now ≡ c.args.token.now = c.as_str.ensures.value ∙ c.in_ok-key-in-Object.ensures.text in
+    (member_or (g.D.Document.nodes c.args.at.now) (g.D.Document.stands_at c.args.at.now) c.in-Object.members.now c.args.token.now c.get.result c.args.position c.args.offset c.ok_or.result c.in-Object.ensures.0 c.in-Object.ensures.1
+    (c.get.ensures.value ∙ ap (λ (x : Text). get_by_text c.in-Object.members.now x) read) c.ok_or.ensures.value).0
+
+pub returns-in_ok-key-in-Object-clause-refused : goal.returns-in_ok-key-in-Object-clause-refused
+returns-in_ok-key-in-Object-clause-refused g c =
+    let read : c.as_str.result.now ≡ c.args.token.now = c.as_str.ensures.value ∙ c.in_ok-key-in-Object.ensures.text in
+    (member_or (g.D.Document.nodes c.args.at.now) (g.D.Document.stands_at c.args.at.now) c.in-Object.members.now c.args.token.now c.get.result c.args.position c.args.offset c.ok_or.result c.in-Object.ensures.0 c.in-Object.ensures.1
+    (c.get.ensures.value ∙ ap (λ (x : Text). get_by_text c.in-Object.members.now x) read) c.ok_or.ensures.value).1

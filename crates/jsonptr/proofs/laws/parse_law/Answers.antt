@@ -1,4 +1,4 @@
-use Rattle.jsonptr.proofs.LawLemmas.{fault_some, fault_one}
+use Rattle.jsonptr.proofs.LawLemmas.{fault_some, fault_one, fault_inside}
 use Rattle.jsonptr.proofs.ScanLemmas.{fault_no_pointer}
 use Rattle.jsonptr.proofs.laws.parse_law.Goals as goal
 
@@ -7,4 +7,5 @@ returns c = record {
   some = fault_some;
   not_both = λ s e pointer fault. fault_no_pointer s e fault pointer;
   one = fault_one;
+  inside = fault_inside;
 }

@@ -1,0 +1,203 @@
+//! Single tokens and runs of tokens of a pointer, by their places from 0.
+ghost use Rattle.std.specs.Prelude.{◌≡◌, ◌<◌, ◌≤◌, List, length, take, drop, slice_get, Option, MatchOption};
+ghost use Rattle.jsonptr_spec.specs.Text.{Text};
+
+use super::{Pointer, scan};
+use jsonptr_base::token::Token;
+use std::ops::{Bound, Range, RangeFrom, RangeFull, RangeInclusive, RangeTo, RangeToInclusive};
+
+/// What [`Pointer::get`] can be asked for: the place of one token, or a range of places.
+pub trait PointerIndex<'p>: private::Sealed {
+    ghost use Rattle.jsonptr.specs.Pointer.{tokens};
+
+    /// A token for a place, and a pointer for a range.
+    type Output;
+
+    ghost gives: { Self → List Text → Option Self.Output → Type 0 };
+
+    /// The token or the pointer there, or `None` where the places are not all in the pointer. No memory is
+    /// taken.
+    fn get(self, pointer: Pointer<'p>) -> Option<Self::Output>
+        ensures { gives self (tokens pointer.entry) result };
+}
+
+impl<'p> PointerIndex<'p> for usize {
+    type Output = Token<'p>;
+
+    ghost gives = { λ i ts r. r ≡ slice_get ts i };
+
+    fn get(self, pointer: Pointer<'p>) -> Option<Token<'p>> {
+        let (_, rest) = pointer.split_at_count(self)?;
+        rest.front()
+    }
+}
+
+impl<'p> PointerIndex<'p> for Range<usize> {
+    ghost use Rattle.jsonptr.specs.Slice.{GivesRange};
+
+    type Output = Pointer<'p>;
+
+    ghost gives = { λ range. GivesRange range.start range.end };
+
+    fn get(self, pointer: Pointer<'p>) -> Option<Pointer<'p>> {
+        let count = self.end.checked_sub(self.start)?;
+        let rest = (self.start..).get(pointer)?;
+        let (part, _) = rest.split_at_count(count)?;
+        Some(part)
+    }
+}
+
+impl<'p> PointerIndex<'p> for RangeFrom<usize> {
+    ghost use Rattle.jsonptr.specs.Slice.{GivesFrom};
+
+    type Output = Pointer<'p>;
+
+    ghost gives = { λ range. GivesFrom range.start };
+
+    fn get(self, pointer: Pointer<'p>) -> Option<Pointer<'p>> {
+        let (_, rest) = pointer.split_at_count(self.start)?;
+        if rest.is_root() {
+            return None;
+        }
+        Some(rest)
+    }
+}
+
+impl<'p> PointerIndex<'p> for RangeTo<usize> {
+    ghost use Rattle.jsonptr.specs.Slice.{GivesTo};
+
+    type Output = Pointer<'p>;
+
+    ghost gives = { λ range. GivesTo range.end };
+
+    fn get(self, pointer: Pointer<'p>) -> Option<Pointer<'p>> {
+        let (front, _) = pointer.split_at_count(self.end)?;
+        Some(front)
+    }
+}
+
+impl<'p> PointerIndex<'p> for RangeFull {
+    ghost use Rattle.jsonptr.specs.Slice.{GivesAll};
+
+    type Output = Pointer<'p>;
+
+    ghost gives = { λ _. GivesAll };
+
+    fn get(self, pointer: Pointer<'p>) -> Option<Pointer<'p>> {
+        Some(pointer)
+    }
+}
+
+impl<'p> PointerIndex<'p> for RangeInclusive<usize> {
+    ghost use Rattle.std.specs.Range.{range_inclusive_start, range_inclusive_end};
+    ghost use Rattle.jsonptr.specs.Slice.{GivesInclusive};
+
+    type Output = Pointer<'p>;
+
+    ghost gives = { λ range. GivesInclusive (range_inclusive_start range) (range_inclusive_end range) };
+
+    fn get(self, pointer: Pointer<'p>) -> Option<Pointer<'p>> {
+        let (start, end) = self.into_inner();
+        if end < start {
+            return None;
+        }
+        (start..pointer.end_after(end)?).get(pointer)
+    }
+}
+
+impl<'p> PointerIndex<'p> for RangeToInclusive<usize> {
+    ghost use Rattle.jsonptr.specs.Slice.{GivesToInclusive};
+
+    type Output = Pointer<'p>;
+
+    ghost gives = { λ range. GivesToInclusive range.end };
+
+    fn get(self, pointer: Pointer<'p>) -> Option<Pointer<'p>> {
+        (..pointer.end_after(self.end)?).get(pointer)
+    }
+}
+
+impl<'p> PointerIndex<'p> for (Bound<usize>, Bound<usize>) {
+    ghost use Rattle.jsonptr.specs.Slice.{GivesBounds};
+
+    type Output = Pointer<'p>;
+
+    ghost gives = { λ bounds. GivesBounds bounds.0 bounds.1 };
+
+    fn get(self, pointer: Pointer<'p>) -> Option<Pointer<'p>> {
+        match self {
+            (Bound::Included(start), Bound::Included(end)) => (start..=end).get(pointer),
+            (Bound::Included(start), Bound::Excluded(end)) => (start..end).get(pointer),
+            (Bound::Included(start), Bound::Unbounded) => (start..).get(pointer),
+            (Bound::Excluded(before), Bound::Included(end)) => {
+                (pointer.end_after(before)?..=end).get(pointer)
+            }
+            (Bound::Excluded(before), Bound::Excluded(end)) => {
+                (pointer.end_after(before)?..end).get(pointer)
+            }
+            (Bound::Excluded(before), Bound::Unbounded) => {
+                (pointer.end_after(before)?..).get(pointer)
+            }
+            (Bound::Unbounded, Bound::Included(end)) => (..=end).get(pointer),
+            (Bound::Unbounded, Bound::Excluded(end)) => (..end).get(pointer),
+            (Bound::Unbounded, Bound::Unbounded) => Some(pointer),
+        }
+    }
+}
+
+impl<'a> Pointer<'a> {
+    ghost use Rattle.jsonptr.specs.Pointer.{tokens};
+    ghost use Rattle.std.specs.Prelude.{◌+◌};
+
+    /// The token at a place from 0, or the pointer of the tokens in a range of such places; `None` where the
+    /// places are not all in the pointer. A range with a start asks for a token to stand at that start.
+    pub fn get<I: PointerIndex<'a>>(&self, index: I) -> Option<I::Output>
+        ensures { I.gives index (tokens self.now) result }
+    {
+        index.get(*self)
+    }
+
+    /// The pointers of the first `count` tokens and of those after them, or `None` where there are fewer.
+    fn split_at_count(&self, count: usize) -> Option<(Pointer<'a>, Pointer<'a>)>
+        ensures { MatchOption result
+            (length (tokens self.now) < count)
+            (λ r. (count ≤ length (tokens self.now)) × (tokens r.0 ≡ take count (tokens self.now)) × (tokens r.1 ≡ drop count (tokens self.now))) }
+    {
+        let at = scan::end_of(self.inner, count)?;
+        let (front, rest) = self.inner.split_at(at);
+        Some((Pointer { inner: front }, Pointer { inner: rest }))
+    }
+
+    /// The place behind a place, or `None` where that is past each place of a pointer.
+    fn end_after(&self, place: usize) -> Option<usize>
+        ensures { MatchOption result (length (tokens self.now) ≤ place) (λ next. next ≡ place + 1) }
+    {
+        if place < self.inner.len() {
+            Some(place + 1)
+        } else {
+            None
+        }
+    }
+}
+
+mod private {
+    use std::ops::{Bound, Range, RangeFrom, RangeFull, RangeInclusive, RangeTo, RangeToInclusive};
+
+    pub trait Sealed {}
+
+    impl Sealed for usize {}
+
+    impl Sealed for Range<usize> {}
+
+    impl Sealed for RangeFrom<usize> {}
+
+    impl Sealed for RangeTo<usize> {}
+
+    impl Sealed for RangeFull {}
+
+    impl Sealed for RangeInclusive<usize> {}
+
+    impl Sealed for RangeToInclusive<usize> {}
+
+    impl Sealed for (Bound<usize>, Bound<usize>) {}
+}

@@ -1,0 +1,65 @@
+//! The tokens of a pointer, one after the other.
+ghost use Rattle.std.specs.Prelude.{◌≡◌, length, count_by};
+ghost use Rattle.std.specs.Iterator.{YieldsFirst, item_count};
+ghost use Rattle.jsonptr_spec.specs.Text.{is_slash};
+ghost use Rattle.jsonptr.specs.Pointer.{tokens};
+ghost use Rattle.jsonptr.specs.Tokens.{rest_of};
+
+use super::Pointer;
+use jsonptr_base::token::Token;
+
+/// An iterator over the tokens of a [`Pointer`], from the first; after the last it gives `None` for good.
+/// It borrows the pointer's text and takes no memory.
+#[derive(Debug, Drop)]
+pub struct Tokens<'a> {
+    rest: Pointer<'a>,
+}
+
+impl<'a> Iterator for Tokens<'a> {
+    type Item = Token<'a>;
+
+    ghost next_gives = { YieldsFirst rest_of };
+
+    ghost remaining = { item_count rest_of };
+
+    fn next(&mut self) -> Option<Token<'a>> {
+        let (first, rest) = self.rest.split_front()?;
+        self.rest = rest;
+        Some(first)
+    }
+}
+
+impl<'a> Pointer<'a> {
+    /// The pointer's tokens, from the first.
+    pub fn tokens(&self) -> Tokens<'a>
+        ensures { rest_of result ≡ tokens self.now }
+    {
+        Tokens { rest: *self }
+    }
+
+    /// How many tokens the pointer has, found in one scan.
+    pub fn count(&self) -> usize
+        ensures { result ≡ length (tokens self.now) }
+    {
+        slashes(self.as_str())
+    }
+}
+
+/// How many slashes a text has.
+fn slashes(text: &str) -> usize
+    ensures { result ≡ count_by is_slash text.now }
+{
+    text.as_bytes().iter().filter(|b| **b == b'/').count()
+}
+
+impl<'a> IntoIterator for Pointer<'a> {
+    type Item = Token<'a>;
+
+    type IntoIter = Tokens<'a>;
+
+    ghost into_iter_gives = { λ p it. rest_of it ≡ tokens p };
+
+    fn into_iter(self) -> Tokens<'a> {
+        self.tokens()
+    }
+}
