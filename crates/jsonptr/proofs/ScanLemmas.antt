@@ -6,7 +6,7 @@ use Rattle.std.proofs.lemmas.Bool.{cases_lt, cases_eq, eqb-true, eq-eqb}
 use Rattle.std.specs.Prelude.{IsUtf8, IsCharBoundary}
 use Rattle.std.proofs.lemmas.Str.{IsCharBoundary-after_ascii}
 use Rattle.std.proofs.lemmas.List.Elements.{All-from_get_or}
-use Rattle.std.proofs.lemmas.List.{get_or-drop}
+use Rattle.std.proofs.lemmas.List.{get_or-drop, length-drop}
 use Rattle.memchr.specs.Find.{Nowhere, Passes, IsFirstByte, IsLastByte, is_byte}
 use Rattle.jsonptr_spec.specs.Text.{Text, esc, unesc, text, tokens_of}
 use Rattle.jsonptr_spec.specs.Grammar.{IsToken, IsPointer, root}
@@ -15,7 +15,7 @@ use Rattle.jsonptr_spec.proofs.EscapeLemmas.{unesc-esc}
 use Rattle.jsonptr_spec.proofs.PointerLemmas.{IsPointer-cut, IsPointer-from_tokens, text-tokens_of, tokens_of-segment, BeginsSegment-IsPointer}
 use Rattle.jsonptr_spec.proofs.FaultLemmas.{no_lack-IsPointer, no_tilde_fault-IsPointer}
 use Rattle.jsonptr_spec.proofs.ScanLemmas.{past_end}
-use Rattle.jsonptr.specs.Cut.{IsCut}
+use Rattle.jsonptr.specs.Cut.{IsCut, HasLooseTildeBefore, NoLooseTildeBefore}
 use Rattle.jsonptr.specs.ParseError.{IsFirstFault}
 use Rattle.jsonptr.specs.declared.pointer.ParseError.{ParseError}
 use Rattle.jsonptr.specs.declared.pointer.ParseError.TheVariants.{NoLeadingSlash, InvalidEncoding}
@@ -52,6 +52,31 @@ module _ (s : Text) (i : ℕ) (slash : get_or s 0 0 ≡ 47) (tilde : IsFirst (Is
           after = λ k low high is. h.0.after k (omega arith) (omega (arith, front_length)) (eq-eqb _ _ (at_front k high ∙ is));
         };
       }
+
+-- ---- blocks with no loose tilde
+
+-- m bytes from i on
+module _ (s : Text) (i m : ℕ) where
+  abbrev block : Text
+  block = take m (drop i s)
+
+  in_block : (j k : ℕ) → j < m → i + j ≡ k → get_or block j 0 ≡ get_or s k 0
+  in_block j k below e = get_or-take m (drop i s) j 0 below ∙ get_or-drop i s j 0 ∙ ap (λ (x : ℕ). get_or s x 0) e
+
+  loose_in_block : (j k : ℕ) → j + 1 < m → i + j ≡ k → IsLooseTilde s k → IsLooseTilde block j
+  loose_in_block j k below e loose =
+      let next = in_block (j + 1) (k + 1) (omega arith) (omega arith) in
+      record {
+        here = in_block j k (omega arith) e ∙ loose.here;
+        no_zero = λ is. loose.no_zero (sym next ∙ is);
+        no_one = λ is. loose.no_one (sym next ∙ is);
+      }
+
+  -- where they have no loose tilde before their last, the text has none before that place
+  pub sound_block : (n : ℕ) → NoLooseTildeBefore s i → (HasLooseTildeBefore block (length block - 1) → ⊥) → m ≡ n + 1 → i + n < length s → NoLooseTildeBefore s (i + n)
+  sound_block n before none more inside k below loose =
+      let whole : length block ≡ m = let left = length-drop i s in length-take-le m (drop i s) (omega arith) in
+      ⊎_elim (λ early. before k early loose) (λ late. none (k - i, omega (arith, whole), loose_in_block (k - i) k (omega arith) (omega arith) loose)) (cases_lt k i)
 
 -- ---- the cut behind the first token
 

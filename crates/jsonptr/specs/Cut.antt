@@ -10,9 +10,12 @@ pub record IsCut (s first rest : Text) : Type 0 where
   pub no_slash : All (λ b. b ≢ 47) first
   pub begins : (slice_index rest 0 ≡ 47) ⊎ (rest ≡ [])
 
--- no `~` stands before i
-abbrev pub NoTildeBefore : Text → ℕ → Type 0
-NoTildeBefore s i = (k : ℕ) → k < i → slice_index s k ≢ 126
+-- a loose `~` stands before i
+abbrev pub HasLooseTildeBefore : Text → ℕ → Type 0
+HasLooseTildeBefore s i = (k : ℕ) × (k < i) × IsLooseTilde s k
+
+abbrev pub NoLooseTildeBefore : Text → ℕ → Type 0
+NoLooseTildeBefore s i = (k : ℕ) → k < i → IsLooseTilde s k → ⊥
 
 abbrev pub HasNoLooseTilde : Text → Type 0
 HasNoLooseTilde s = (i : ℕ) → IsLooseTilde s i → ⊥

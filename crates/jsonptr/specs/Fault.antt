@@ -14,3 +14,9 @@ abbrev pub HasMemory : {T E : Type 0} → Result T (Fault E) → Type 0
 HasMemory (Ok v) = ⊤
 HasMemory (Err (Refused e)) = ⊤
 HasMemory (Err (Memory e)) = ⊥
+
+-- the call was refused, for another reason than memory
+abbrev pub IsRefused : {T E : Type 0} → Result T (Fault E) → Type 0
+IsRefused (Ok v) = ⊥
+IsRefused (Err (Refused e)) = ⊤
+IsRefused (Err (Memory e)) = ⊥

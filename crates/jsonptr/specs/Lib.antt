@@ -8,3 +8,4 @@ pub mod Tokens
 pub mod Parts
 pub mod Slice
 pub mod Component
+pub mod PointerBuf

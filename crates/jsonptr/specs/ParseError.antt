@@ -1,7 +1,8 @@
 -- What the contract of `Pointer::parse` says of texts that are no pointers.
-use Rattle.std.specs.Prelude.{◌≡◌, ℕ, ◌+◌, ◌++◌, nat_lt, if◌then◌else◌, codes, decimal, ⊤}
+use Rattle.std.specs.Prelude.{◌≡◌, ℕ, ◌+◌, ◌^◌, ◌<◌, ◌≤◌, ◌++◌, List, nat_lt, if◌then◌else◌, Option, codes, decimal, ⊤}
 use Rattle.jsonptr_spec.specs.Text.{Text}
 use Rattle.jsonptr_spec.specs.Fault.{LacksSlash, IsTildeFault}
+use Rattle.jsonptr_base.specs.Diagnostic.{Mark, IsOneLabel, IsNoLabel}
 use Rattle.jsonptr_base.specs.declared.token.InvalidEncoding.TheVariants.{Tilde}
 use Rattle.jsonptr.specs.declared.pointer.ParseError.{ParseError}
 use Rattle.jsonptr.specs.declared.pointer.ParseError.TheVariants.{NoLeadingSlash, InvalidEncoding}
@@ -30,6 +31,14 @@ source_offset_of (InvalidEncoding offset source) = source.offset
 abbrev pub encoding_len_of : ParseError → ℕ → ℕ
 encoding_len_of NoLeadingSlash len = 0
 encoding_len_of (InvalidEncoding offset source) len = if nat_lt (offset + source.offset + 1) len then 2 else 1
+
+-- the label that the error puts on a subject of this length; none where its place is past all that `usize`
+-- can tell
+abbrev pub IsLabelled : ParseError → ℕ → Option (List Mark) → Type 0
+IsLabelled NoLeadingSlash len labels = IsOneLabel (codes "must start with a slash ('/')") 0 0 labels
+IsLabelled (InvalidEncoding offset source) len labels =
+    (offset + source.offset < 2 ^ 64 → IsOneLabel (codes "'~' must be followed by '0' or '1'") (offset + source.offset) (encoding_len_of (InvalidEncoding offset source) len) labels)
+    × (2 ^ 64 ≤ offset + source.offset → IsNoLabel labels)
 
 abbrev pub IsInvalidEncoding : ParseError → Type 0
 IsInvalidEncoding NoLeadingSlash = ⊥

@@ -1,6 +1,6 @@
 -- Resolving a list of tokens against a document (RFC 6901, sections 4 and 7).
-use Rattle.std.specs.Prelude.{ℕ, List, ◌++◌, Ok, Err, ⊤, codes}
-use Rattle.jsonptr_spec.specs.Text.{Text, dec}
+use Rattle.std.specs.Prelude.{ℕ, List, ◌++◌, Ok, Err, ⊤, codes, decimal}
+use Rattle.jsonptr_spec.specs.Text.{Text}
 use Rattle.jsonptr_spec.specs.Node.{Scalar, an_object, an_array, a_leaf, NodeMap}
 use Rattle.jsonptr_spec.specs.Following.{StopsBefore}
 use Rattle.jsonptr_base.specs.declared.index.Index.{Index}
@@ -60,8 +60,8 @@ IsUnreachable (Unreachable position offset) = ⊤
 
 -- what the error displays
 abbrev pub message_of : Error → Text
-message_of (FailedToParseIndex position offset source) = codes "resolve failed: json pointer token at offset " ++ dec offset ++ codes " failed to parse as an index"
-message_of (OutOfBounds position offset source) = codes "resolve failed: json pointer token at offset " ++ dec offset ++ codes " is out of bounds"
-message_of (NotFound position offset) = codes "resolve failed: json pointer token at " ++ dec offset ++ codes " was not found in value"
+message_of (FailedToParseIndex position offset source) = codes "resolve failed: json pointer token at offset " ++ decimal offset ++ codes " failed to parse as an index"
+message_of (OutOfBounds position offset source) = codes "resolve failed: json pointer token at offset " ++ decimal offset ++ codes " is out of bounds"
+message_of (NotFound position offset) = codes "resolve failed: json pointer token at " ++ decimal offset ++ codes " was not found in value"
 message_of (Unreachable position offset) =
-    codes "resolve failed: json pointer token at " ++ dec offset ++ codes " is unreachable (previous token resolved to a scalar or null value)"
+    codes "resolve failed: json pointer token at " ++ decimal offset ++ codes " is unreachable (previous token resolved to a scalar or null value)"

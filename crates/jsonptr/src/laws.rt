@@ -1,10 +1,10 @@
 //! Laws of the answers of `parse` and `resolve`, of which each text and each document has one, and of the
 //! comparisons of pointers and components.
-ghost use Rattle.std.specs.Prelude.{◌≡◌, ◌≢◌, ◌⊎◌, ◌↔◌, ◌+◌, ◌<◌, List, ◌∷◌, ◌++◌, length, All, IsTrue, IsUtf8};
+ghost use Rattle.std.specs.Prelude.{◌≡◌, ◌≢◌, ◌⊎◌, ◌↔◌, ◌+◌, ◌<◌, List, [], ◌∷◌, ◌++◌, length, All, IsTrue, IsUtf8};
 ghost use Rattle.std.specs.Cmp.Lexicographic.{slice_cmp};
 ghost use Rattle.std.specs.Ordering.{nat_cmp};
 ghost use Rattle.std.specs.declared.cmp.Ordering.TheVariants.{Less, Equal, Greater};
-ghost use Rattle.jsonptr_spec.specs.Text.{Text, esc};
+ghost use Rattle.jsonptr_spec.specs.Text.{Text, esc, text};
 ghost use Rattle.jsonptr_spec.specs.Grammar.{IsPointer};
 ghost use Rattle.jsonptr_spec.specs.Node.{NodeMap, IsTree};
 ghost use Rattle.jsonptr_spec.specs.Following.{Finds};
@@ -21,7 +21,7 @@ ghost use Rattle.jsonptr.specs.declared.pointer.Pointer.{Pointer};
 ghost use Rattle.jsonptr.specs.declared.resolve.Error.{Error};
 
 use crate::component::Component;
-use crate::pointer::Pointer;
+use crate::pointer::{Pointer, PointerBuf};
 use jsonptr_base::index::index_law;
 use jsonptr_base::token::token_order_law;
 use std::hash::Hash;
@@ -60,6 +60,21 @@ pub fn comparison_law()
     ensures order { (p q : Pointer) → ⟦<Pointer<'static> as Ord>⟧.cmp p q ≡ slice_cmp nat_cmp (text_of p) (text_of q) }
     ensures front { (p q : Pointer) (t : Text) (rest : List Text) → tokens q ≡ tokens p ++ t ∷ rest → ⟦<Pointer<'static> as Ord>⟧.cmp p q ≡ Less }
     ensures hash { (p q : Pointer) → tokens p ≡ tokens q → ⟦<Pointer<'static> as Hash>⟧.hash_input p ≡ ⟦<Pointer<'static> as Hash>⟧.hash_input q }
+{}
+
+/// The same of pointers that own their text.
+pub fn owned_comparison_law()
+    ensures equal { (ts us : List Text) → IsTrue (⟦<PointerBuf as PartialEq>⟧.eq ts us) ↔ (ts ≡ us) }
+    ensures order { (ts us : List Text) → ⟦<PointerBuf as Ord>⟧.cmp ts us ≡ slice_cmp nat_cmp (text ts) (text us) }
+    ensures front { (ts rest : List Text) (t : Text) → ⟦<PointerBuf as Ord>⟧.cmp ts (ts ++ t ∷ rest) ≡ Less }
+    ensures hash { (ts us : List Text) → ts ≡ us → ⟦<PointerBuf as Hash>⟧.hash_input ts ≡ ⟦<PointerBuf as Hash>⟧.hash_input us }
+{}
+
+/// Where a token is pushed at one end and then one is popped there, it is that token, and the list is as it
+/// was before.
+pub fn end_law()
+    ensures front { (before after : List Text) (pushed popped : Text) → pushed ∷ before ≡ popped ∷ after → (popped ≡ pushed) × (after ≡ before) }
+    ensures back { (before after : List Text) (pushed popped : Text) → before ++ pushed ∷ [] ≡ after ++ popped ∷ [] → (popped ≡ pushed) × (after ≡ before) }
 {}
 
 /// The order of components: the root before every token, and tokens as they are ordered themselves; it

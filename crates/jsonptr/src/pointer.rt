@@ -2,9 +2,11 @@
 ghost use Rattle.std.specs.Prelude.{◌≡◌, ◌↔◌, ◌+◌, ◌<◌, ◌^◌, List, [], ◌∷◌, ◌++◌, length, Some, IsTrue, IsOk, IfOk, IfErr, MatchOption};
 ghost use Rattle.serde_json.specs.Data.{string};
 ghost use Rattle.serde_json.specs.View.{view};
-ghost use Rattle.jsonptr_spec.specs.Text.{Text, text, tokens_of};
+ghost use Rattle.jsonptr_spec.specs.Text.{Text, esc, text, tokens_of};
 ghost use Rattle.jsonptr_spec.specs.Grammar.{IsPointer};
 
+pub use buf::{PointerBuf, ReplaceError};
+use jsonptr_base::diagnostic::{Diagnostic, Label, Report, one_label};
 use jsonptr_base::token::{EncodingError, Token};
 use serde_json::Value;
 use std::alloc::{AllocError, Global};
@@ -15,6 +17,7 @@ pub use tokens::Tokens;
 
 #[cfg(test)]
 mod borrowed_tests;
+mod buf;
 mod scan;
 mod slice;
 #[cfg(test)]
@@ -232,6 +235,78 @@ impl<'a> Pointer<'a> {
         Pointer { inner: front }
     }
 
+    /// A pointer that owns a copy of this one's text.
+    ///
+    /// # Errors
+    ///
+    /// [`AllocError`] where there is no memory for the copy.
+    pub fn to_buf(&self, alloc: Global) -> Result<PointerBuf, AllocError>
+        ensures { IfOk result (λ p. p ≡ tokens self.now) }
+    {
+        let inner = String::from_str(alloc, self.inner)?;
+        Ok(PointerBuf::new_unchecked(inner))
+    }
+
+    /// The pointer of this one's tokens and then those of another, which owns its text.
+    ///
+    /// # Errors
+    ///
+    /// [`AllocError`] where there is no memory for the text.
+    pub fn concat(&self, alloc: Global, other: Pointer<'_>) -> Result<PointerBuf, AllocError>
+        ensures { IfOk result (λ p. p ≡ tokens self.now ++ tokens other.entry) }
+    {
+        let room = self.len().saturating_add(other.len());
+        let mut joined = PointerBuf::with_capacity(alloc, room)?;
+        joined.append(*self)?;
+        joined.append(other)?;
+        Ok(joined)
+    }
+
+    /// The pointer of a token and then this one's tokens, which owns its text.
+    ///
+    /// # Errors
+    ///
+    /// [`AllocError`] where there is no memory for the text.
+    pub fn with_leading_token(
+        &self,
+        alloc: Global,
+        token: Token<'_>,
+    ) -> Result<PointerBuf, AllocError>
+        ensures { IfOk result (λ p. p ≡ token.entry ∷ tokens self.now) }
+    {
+        let mut leading = PointerBuf::with_capacity(alloc, self.room_with(&token))?;
+        leading.push_back(token)?;
+        leading.append(*self)?;
+        Ok(leading)
+    }
+
+    /// The pointer of this one's tokens and then a token, which owns its text.
+    ///
+    /// # Errors
+    ///
+    /// [`AllocError`] where there is no memory for the text.
+    pub fn with_trailing_token(
+        &self,
+        alloc: Global,
+        token: Token<'_>,
+    ) -> Result<PointerBuf, AllocError>
+        ensures { IfOk result (λ p. p ≡ tokens self.now ++ token.entry ∷ []) }
+    {
+        let mut trailing = PointerBuf::with_capacity(alloc, self.room_with(&token))?;
+        trailing.append(*self)?;
+        trailing.push_back(token)?;
+        Ok(trailing)
+    }
+
+    /// How many bytes the pointer's text has with one more token; no memory has room for more than `usize`
+    /// can tell.
+    fn room_with(&self, token: &Token<'_>) -> usize
+        ensures { length (text_of self.now) + (length (esc token.now) + 1) < 2 ^ 64 → result ≡ length (text_of self.now) + (length (esc token.now) + 1) }
+    {
+        let segment = token.encoded().len().saturating_add(1);
+        self.len().saturating_add(segment)
+    }
+
     /// The pointer's text as a JSON string; memory is taken for a copy of it.
     ///
     /// # Errors
@@ -375,3 +450,34 @@ impl fmt::Display for ParseError {
 }
 
 impl Error for ParseError {}
+
+impl Diagnostic for ParseError {
+    ghost use Rattle.std.specs.Prelude.{codes, string_bytes};
+    ghost use Rattle.jsonptr.specs.ParseError.{IsLabelled};
+
+    type Subject = String;
+
+    ghost url = { codes "https://docs.rs/jsonptr/0.8.2/jsonptr/enum.ParseError.html" };
+
+    ghost labels_gives = { λ e subject. IsLabelled e (length (string_bytes subject)) };
+
+    fn url() -> &'static str {
+        "https://docs.rs/jsonptr/0.8.2/jsonptr/enum.ParseError.html"
+    }
+
+    fn labels(&self, alloc: Global, subject: &String) -> Result<Option<Vec<Label>>, AllocError> {
+        match self {
+            ParseError::NoLeadingSlash => one_label(alloc, "must start with a slash ('/')", 0, 0),
+            ParseError::InvalidEncoding { offset, source } => {
+                let Some(place) = offset.checked_add(source.offset) else {
+                    return Ok(None);
+                };
+                let len = self.invalid_encoding_len(subject.as_str());
+                one_label(alloc, "'~' must be followed by '0' or '1'", place, len)
+            }
+        }
+    }
+}
+
+/// Why a text that was handed over is no JSON Pointer, with that text as the subject.
+pub type RichParseError = Report<ParseError>;

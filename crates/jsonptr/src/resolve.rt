@@ -181,21 +181,20 @@ impl fmt::Display for Error {
     ghost output = { λ e. Some (message_of e) };
 
     fn fmt<W: fmt::Write>(&self, f: &mut fmt::Formatter<W>) -> fmt::Result {
-        let offset = self.offset();
         match self {
-            Error::FailedToParseIndex { .. } => write!(
+            Error::FailedToParseIndex { offset, .. } => write!(
                 f,
                 "resolve failed: json pointer token at offset {offset} failed to parse as an index"
             ),
-            Error::OutOfBounds { .. } => write!(
+            Error::OutOfBounds { offset, .. } => write!(
                 f,
                 "resolve failed: json pointer token at offset {offset} is out of bounds"
             ),
-            Error::NotFound { .. } => write!(
+            Error::NotFound { offset, .. } => write!(
                 f,
                 "resolve failed: json pointer token at {offset} was not found in value"
             ),
-            Error::Unreachable { .. } => write!(
+            Error::Unreachable { offset, .. } => write!(
                 f,
                 "resolve failed: json pointer token at {offset} is unreachable (previous token resolved to a scalar or null value)"
             ),

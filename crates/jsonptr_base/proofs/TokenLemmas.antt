@@ -1,19 +1,18 @@
 -- The scan of a token's text: what is known at a place before which no fault stands.
 use Rattle.std.specs.List.{All}
-use Rattle.std.proofs.Common.{◌≡◌, ◌≢◌, ℕ, ◌+◌, ◌-◌, ◌<◌, ◌≤◌, ◌⊎◌, Bool, true, false, length, get_or, refl, sym, ◌∙◌, ap, subst, inl, inr, ⊎_elim, arith, below_more, [], ◌∷◌, ◌++◌, drop, append-nil, append_assoc, cond, count_by, length-append, drop-cons, add-one}
-use Rattle.std.proofs.lemmas.Bool.{cases_lt, eqb-true, ne_eqb}
+use Rattle.std.proofs.Common.{◌≡◌, ◌≢◌, ℕ, ◌+◌, ◌-◌, ◌<◌, ◌≤◌, ◌⊎◌, Bool, true, length, get_or, refl, sym, ◌∙◌, ap, subst, inl, inr, ⊎_elim, arith, below_more, [], ◌++◌, drop, take, append-nil, append_assoc, length-append, drop-cons, add-one}
+use Rattle.std.proofs.lemmas.Bool.{cases_lt, eqb-true}
 use Rattle.std.specs.Str.{bytes_eq}
-use Rattle.std.proofs.lemmas.List.{at_drop_all}
-use Rattle.std.proofs.lemmas.List.Sums.{sum_by-cons}
+use Rattle.std.proofs.lemmas.List.{at_drop_all, take-append-drop, length-take-le, get_or-take}
 use Rattle.std.proofs.lemmas.Slice.Eq.{bytes_eq-Decides}
 use Rattle.memchr.specs.Find.{Nowhere, Passes, is_byte, is_byte2}
-use Rattle.jsonptr_spec.specs.Text.{Text, esc, escape_of, unesc, unesc_after}
-use Rattle.jsonptr_spec.proofs.EscapeLemmas.{IsToken-plain_at, esc-plain_at, unesc-plain_at, unesc-esc, esc_one, by_byte, esc-cons}
+use Rattle.jsonptr_spec.specs.Text.{Text, esc, escape_of, unesc}
+use Rattle.jsonptr_spec.proofs.EscapeLemmas.{IsToken-plain_at, esc-append, esc-plain_at, unesc-plain_at, unesc-esc, esc_one}
 use Rattle.jsonptr_spec.specs.Grammar.{IsToken}
 use Rattle.jsonptr_spec.specs.Fault.{IsSlashAt, EndsEscape}
 use Rattle.jsonptr_spec.proofs.FaultLemmas.{token_or_fault}
 use Rattle.jsonptr_spec.proofs.ScanLemmas.{past_end}
-use Rattle.jsonptr_base.specs.Token.{IsFirstFault, IsPlainBefore, is_escaped}
+use Rattle.jsonptr_base.specs.Token.{IsFirstFault, IsPlainBefore}
 use Rattle.jsonptr_base.specs.declared.token.InvalidEncoding.TheVariants.{Tilde, Slash}
 
 abbrev pub Spoils : Text → ℕ → Type 0
@@ -120,57 +119,54 @@ found_tilde s k below is none = none k 0 below (eqb-true _ _ is)
 
 -- ---- what has been unescaped at the end
 
-pub unescaped_whole : (items s : Text) (i : ℕ) (escaped : Bool) → length s ≤ i → items ++ unesc_after escaped (drop i s) ≡ unesc s → items ≡ unesc s
-unescaped_whole items s i escaped over e =
-    let nothing : unesc_after escaped (drop i s) ≡ [] = at_drop_all (unesc_after escaped) s i over in
-    sym (append-nil items) ∙ ap (λ (l : Text). items ++ l) (sym nothing) ∙ e
+pub unescaped_whole : (items s : Text) (i : ℕ) → length s ≤ i → items ++ unesc (drop i s) ≡ unesc s → items ≡ unesc s
+unescaped_whole items s i over e = sym (append-nil items) ∙ ap (λ (l : Text). items ++ l) (sym (at_drop_all unesc s i over)) ∙ e
 
 -- ---- what is escaped
-
--- how long an encoded text is
-count-cons : (c : ℕ) (s : Text) (b : Bool) → is_escaped c ≡ b → count_by is_escaped (c ∷ s) ≡ cond b 1 0 + count_by is_escaped s
-count-cons c s b is = sum_by-cons (λ x. cond (is_escaped x) 1 0) c s ∙ ap (λ (x : Bool). cond x 1 0 + count_by is_escaped s) is
-
-pub esc_len : (s : Text) → length (esc s) ≡ length s + count_by is_escaped s
-esc_len [] = refl
-esc_len (b ∷ s) =
-    by_byte (λ c. length (esc (c ∷ s)) ≡ length (c ∷ s) + count_by is_escaped (c ∷ s)) b
-    (omega (arith, esc_len s, count-cons 126 s true refl)) (omega (arith, esc_len s, count-cons 47 s true refl))
-    (λ tilde slash.
-    let one = ap length (esc-cons b s tilde slash) in
-    let none = count-cons b s false (rw (ne_eqb b 126 tilde, ne_eqb b 47 slash) refl) in
-    omega (arith, esc_len s))
 
 -- what is left to escape of s begins with the escape of the next byte
 esc-drop : (s : Text) (i : ℕ) → i < length s → esc (drop i s) ≡ escape_of (get_or s i 0) ++ esc (drop (i + 1) s)
 esc-drop s i below = ap esc (drop-cons s i 0 below) ∙ ap (λ (k : ℕ). escape_of (get_or s i 0) ++ esc (drop k s)) (sym (add-one i))
 
--- items are the escape of what stands before i in s, and there is room for the rest
-pub record Escaped (items : Text) (len cap : ℕ) (s : Text) (i : ℕ) : Type 0 where
-  pub so_far : items ++ esc (drop i s) ≡ esc s
-  pub room : len + length (esc (drop i s)) ≡ cap
+-- items and then the escape of what s has from i on are the whole, and there is room for it
+pub record Escaped (whole items : Text) (len cap : ℕ) (s : Text) (i : ℕ) : Type 0 where
+  pub so_far : items ++ esc (drop i s) ≡ whole
+  pub room : len + length (esc (drop i s)) ≤ cap
 
-module _ (items : Text) (len cap : ℕ) (s : Text) (i : ℕ) (h : Escaped items len cap s i) (below : i < length s) where
-  rest : length (esc (drop i s)) ≡ length (escape_of (get_or s i 0)) + length (esc (drop (i + 1) s))
-  rest = ap length (esc-drop s i below) ∙ length-append (escape_of (get_or s i 0)) (esc (drop (i + 1) s))
+module _ (whole items : Text) (len cap : ℕ) (s : Text) (i : ℕ) (h : Escaped whole items len cap s i) where
+  pub escaped_whole : length s ≤ i → items ≡ whole
+  escaped_whole over =
+      let nothing : esc (drop i s) ≡ [] = at_drop_all esc s i over in
+      sym (append-nil items) ∙ ap (λ (l : Text). items ++ l) (sym nothing) ∙ h.so_far
 
-  -- there is room for the next byte's escape
-  pub escaped_room : len + length (escape_of (get_or s i 0)) ≤ cap
-  escaped_room = omega (arith, rest, h.room)
+  module _ (below : i < length s) where
+    rest : length (esc (drop i s)) ≡ length (escape_of (get_or s i 0)) + length (esc (drop (i + 1) s))
+    rest = ap length (esc-drop s i below) ∙ length-append (escape_of (get_or s i 0)) (esc (drop (i + 1) s))
 
-  pub escaped_more : Escaped (items ++ escape_of (get_or s i 0)) (len + length (escape_of (get_or s i 0))) cap s (i + 1)
-  escaped_more = record {
-    so_far = append_assoc items (escape_of (get_or s i 0)) (esc (drop (i + 1) s)) ∙ ap (λ (x : Text). items ++ x) (sym (esc-drop s i below)) ∙ h.so_far;
-    room = omega (arith, rest, h.room);
-  }
+    -- there is room for the next byte's escape
+    pub escaped_room : len + length (escape_of (get_or s i 0)) ≤ cap
+    escaped_room = omega (arith, rest, h.room)
 
-pub escaped_start : (len cap : ℕ) (s : Text) → len ≡ 0 → cap ≡ length (esc s) → Escaped [] len cap s 0
-escaped_start len cap s none room = record { so_far = refl; room = omega arith }
+    pub escaped_more : Escaped whole (items ++ escape_of (get_or s i 0)) (len + length (escape_of (get_or s i 0))) cap s (i + 1)
+    escaped_more = record {
+      so_far = append_assoc items (escape_of (get_or s i 0)) (esc (drop (i + 1) s)) ∙ ap (λ (x : Text). items ++ x) (sym (esc-drop s i below)) ∙ h.so_far;
+      room = omega (arith, rest, h.room);
+    }
 
-pub escaped_whole : (items : Text) (len cap : ℕ) (s : Text) (i : ℕ) → Escaped items len cap s i → length s ≤ i → items ≡ esc s
-escaped_whole items len cap s i h over =
-    let nothing : esc (drop i s) ≡ [] = at_drop_all esc s i over in
-    sym (append-nil items) ∙ ap (λ (l : Text). items ++ l) (sym nothing) ∙ h.so_far
+plain_take : (s : Text) (i : ℕ) → i ≤ length s → IsPlainBefore s i → (k : ℕ) → k < length (take i s) → (get_or (take i s) k 0 ≢ 126) × (get_or (take i s) k 0 ≢ 47)
+plain_take s i inside plain k below =
+    let high : k < i = omega (arith, length-take-le i s inside) in
+    subst (λ (b : ℕ). (b ≢ 126) × (b ≢ 47)) (sym (get_or-take i s k 0 high)) (plain k high)
+
+-- a text with nothing to escape before i is escaped by escaping the rest
+esc-plain_front : (s : Text) (i : ℕ) → i ≤ length s → IsPlainBefore s i → take i s ++ esc (drop i s) ≡ esc s
+esc-plain_front s i inside plain =
+    let here = λ (k : ℕ) (below : k < length (take i s)). plain_take s i inside plain k below in
+    ap (λ (x : Text). x ++ esc (drop i s)) (sym (esc-plain_at (take i s) (λ k below. (here k below).0) (λ k below. (here k below).1)))
+    ∙ sym (esc-append (take i s) (drop i s)) ∙ ap esc (take-append-drop i s)
+
+pub escaped_start : (s bytes front rest : Text) (len cap i : ℕ) → bytes ≡ s → i ≤ length s → IsPlainBefore s i → front ≡ take i bytes → rest ≡ drop i bytes → len + length (esc rest) ≤ cap → Escaped (esc s) front len cap rest 0
+escaped_start s bytes front rest len cap i same inside plain f r room = record { so_far = rw (f, r, same) (esc-plain_front s i inside plain); room = room }
 
 -- ---- equal texts
 

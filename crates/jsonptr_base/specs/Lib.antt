@@ -1,3 +1,5 @@
+pub mod Diagnostic
+pub mod Report
 pub mod Token
 pub mod Index
 pub mod Number

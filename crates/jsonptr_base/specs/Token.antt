@@ -1,5 +1,5 @@
 -- What the contracts of `Token` say of texts that are no tokens.
-use Rattle.std.specs.Prelude.{◌≡◌, ℕ, ◌<◌, ◌≢◌, ◌==◌, ◌||◌, ◌++◌, Bool, length, slice_index}
+use Rattle.std.specs.Prelude.{◌≡◌, ℕ, ◌<◌, ◌≢◌, ◌++◌, length, slice_index}
 use Rattle.jsonptr_spec.specs.Text.{Text, unesc}
 use Rattle.jsonptr_spec.specs.Grammar.{IsToken}
 use Rattle.jsonptr_spec.specs.Fault.{IsTokenFault, IsSlashAt, EndsEscape}
@@ -20,10 +20,6 @@ pub record IsFirstFault (s : Text) (e : EncodingError) : Type 0 where
 -- neither `~` nor `/` stands before i
 abbrev pub IsPlainBefore : Text → ℕ → Type 0
 IsPlainBefore s i = (k : ℕ) → k < i → (slice_index s k ≢ 126) × (slice_index s k ≢ 47)
-
--- the byte is written as two in an encoded text
-abbrev pub is_escaped : ℕ → Bool
-is_escaped b = (b == 126) || (b == 47)
 
 -- a token's text cut around its first escape, which stands for `of`
 pub record IsEscapeCut (s plain of rest : Text) : Type 0 where

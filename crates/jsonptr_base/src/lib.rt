@@ -2,6 +2,7 @@
 //! indices (RFC 6901, sections 3 and 4). The crate `jsonptr` names them again under its own paths.
 #![tactic(auto)]
 
+pub mod diagnostic;
 pub mod fault;
 pub mod index;
 pub mod token;

@@ -66,14 +66,15 @@ impl<'a> Token<'a> {
     /// # Errors
     ///
     /// [`AllocError`] where the text has to be escaped and there is no memory for that.
+    #[inline(always)]
     pub fn new(alloc: Global, s: CowStr<'a>) -> Result<Token<'a>, AllocError>
         ensures text { IfOk result (λ t. t ≡ cow_str_bytes s.entry) }
         ensures no_memory { All (λ b. b ≢ 126) (cow_str_bytes s.entry) → All (λ b. b ≢ 47) (cow_str_bytes s.entry) → IsOk result }
     {
         match memchr::memchr2(b'~', b'/', s.as_str().as_bytes()) {
             None => Ok(Token { inner: s }),
-            Some(_) => Ok(Token {
-                inner: CowStr::Owned(scan::escaped(alloc, s.as_str())?),
+            Some(at) => Ok(Token {
+                inner: CowStr::Owned(scan::escaped(alloc, s.as_str(), at)?),
             }),
         }
     }

@@ -1,6 +1,9 @@
 //! Rows of the calls that take a pointer apart.
+ghost use Rattle.std.specs.Iterator.{IsFinite};
+
 use super::Pointer;
 use crate::component::{Component, Components};
+use jsonptr_base::token::Token;
 use std::cmp::Ordering;
 use std::fmt::Display;
 use std::hash::{DefaultHasher, Hash, Hasher};
@@ -194,7 +197,7 @@ fn components_in_order(rt: HostRuntime) -> Result<(), Fail> {
 }
 
 /// What a value displays.
-fn shown<D: Display>(rt: &HostRuntime, value: &D) -> Result<String, Fail> {
+pub(super) fn shown<D: Display>(rt: &HostRuntime, value: &D) -> Result<String, Fail> {
     Ok(value.to_string(rt.alloc())?)
 }
 
@@ -216,6 +219,23 @@ fn next_of<I: Iterator>(items: &mut I) -> Option<I::Item>
     items.next()
 }
 
+/// Whether what a value gives by a `for` are the tokens with these encoded texts.
+pub(super) fn gives<'a, P>(tokens: P, want: &[&str]) -> bool
+where
+    P: IntoIterator<Item = Token<'a>>,
+    P::IntoIter: Drop,
+    requires { (it : P.IntoIter) → P.into_iter_gives tokens it → P.IntoIter.can_next it × IsFinite (P.IntoIter.remaining it) }
+{
+    let mut left = want;
+    for token in tokens {
+        match left {
+            [text, rest @ ..] if token.encoded() == *text => left = rest,
+            _ => return false,
+        }
+    }
+    left.is_empty()
+}
+
 fn made<T: Default>() -> T {
     T::default()
 }
@@ -224,15 +244,15 @@ fn made_from<S, T: From<S>>(value: S) -> T {
     T::from(value)
 }
 
-fn comes_before<T: Ord>(first: &T, second: &T) -> bool {
+pub(super) fn comes_before<T: Ord>(first: &T, second: &T) -> bool {
     first.cmp(second) == Ordering::Less
 }
 
-fn same<T: Eq>(first: &T, second: &T) -> bool {
+pub(super) fn same<T: Eq>(first: &T, second: &T) -> bool {
     first == second
 }
 
-fn hash_of<T: Hash>(value: &T) -> u64 {
+pub(super) fn hash_of<T: Hash>(value: &T) -> u64 {
     let mut state = DefaultHasher::new();
     value.hash(&mut state);
     state.finish()
@@ -245,6 +265,9 @@ fn through_their_bounds(rt: HostRuntime) -> Result<(), Fail> {
         next_of(&mut long.tokens()) == short.front()
             && next_of(&mut long.into_iter()) == short.front()
     );
+    for (text, want) in [("", &[] as &[&str]), ("/a~1b//~0c", &["a~1b", "", "~0c"])] {
+        assert!(rt; gives(Pointer::parse(text)?, want), "{text}");
+    }
     let mut components: Components<'_> = made_from(long);
     assert!(rt; next_of(&mut components) == Some(Component::Root));
     assert!(rt; next_of(&mut components) == short.front().map(made_from));

@@ -1,10 +1,10 @@
 //! Passes over a pointer's text: its first fault, and where it may be cut between tokens.
-ghost use Rattle.std.specs.Prelude.{◌≡◌, ◌≢◌, ◌⊎◌, ◌<◌, ◌≤◌, ◌++◌, [], ◌∷◌, slice_index, length, IsSome, IsTrue, ◌↔◌, MatchOption};
+ghost use Rattle.std.specs.Prelude.{◌≡◌, ◌≢◌, ◌⊎◌, ◌<◌, ◌≤◌, ◌-◌, ◌++◌, [], ◌∷◌, slice_index, length, IsSome, IsTrue, ◌↔◌, MatchOption};
 ghost use Rattle.jsonptr_spec.specs.Grammar.{IsPointer};
 ghost use Rattle.jsonptr_spec.specs.Fault.{IsFirst, IsLooseTilde};
 ghost use Rattle.jsonptr.specs.ParseError.{IsFirstFault};
 ghost use Rattle.jsonptr_spec.specs.Text.{Text, text, tokens_of};
-ghost use Rattle.jsonptr.specs.Cut.{IsCut, IsEndOf, IsBackCut, IsSplit, IsSeam, AgreeUpTo, IsCommonSeam, NoTildeBefore, HasNoLooseTilde};
+ghost use Rattle.jsonptr.specs.Cut.{IsCut, IsEndOf, IsBackCut, IsSplit, IsSeam, AgreeUpTo, IsCommonSeam, HasLooseTildeBefore, NoLooseTildeBefore, HasNoLooseTilde};
 
 use super::ParseError;
 use jsonptr_base::token::{EncodingError, InvalidEncoding};
@@ -41,22 +41,54 @@ fn tilde_fault(bytes: &[u8]) -> Option<ParseError>
 fn loose_tilde(bytes: &[u8]) -> Option<usize>
     ensures { MatchOption result (HasNoLooseTilde bytes.now) (IsFirst (IsLooseTilde bytes.now)) }
 {
-    loose_tilde_from(bytes, memchr(b'~', bytes)?)
+    let first = memchr(b'~', bytes)?;
+    loose_tilde_from(bytes, after_sound_blocks(bytes, first))
 }
 
-/// The same for a text with no `~` before the place `at`.
+/// A place with no loose `~` before it: the start of the first block of bytes from `first` on with such a `~`,
+/// or the last byte where there is none.
+fn after_sound_blocks(bytes: &[u8], first: usize) -> usize
+    requires inside { first < length bytes.now }
+    requires none { NoLooseTildeBefore bytes.now first }
+    ensures inside { result < length bytes.now }
+    ensures none { NoLooseTildeBefore bytes.now result }
+{
+    let last = bytes.len() - 1;
+    let mut at = first;
+    while at < last {
+        let end = at + BLOCK.min(last - at);
+        if has_loose_tilde(&bytes[at..=end]) {
+            break;
+        }
+        at = end;
+    }
+    at
+}
+
+/// How many bytes are looked at before the next branch.
+const BLOCK: usize = 32;
+
+/// Whether a `~` that neither `0` nor `1` follows stands before the last byte. Each byte is read with no branch,
+/// so that many are read at once.
+fn has_loose_tilde(bytes: &[u8]) -> bool
+    requires { 0 < length bytes.now }
+    ensures { IsTrue result ↔ HasLooseTildeBefore bytes.now (length bytes.now - 1) }
+{
+    let mut loose = false;
+    for i in 0..bytes.len() - 1 {
+        let next = bytes[i + 1];
+        loose |= bytes[i] == b'~' && next != b'0' && next != b'1';
+    }
+    loose
+}
+
+/// The place of the first loose `~`, for a text with none before the place `at`.
 fn loose_tilde_from(bytes: &[u8], at: usize) -> Option<usize>
-    requires inside { at < length bytes.now }
-    requires plain { NoTildeBefore bytes.now at }
+    requires { NoLooseTildeBefore bytes.now at }
     ensures { MatchOption result (HasNoLooseTilde bytes.now) (IsFirst (IsLooseTilde bytes.now)) }
 {
-    let mut i = at;
-    while i < bytes.len() {
-        if bytes[i] != b'~' {
-            i += 1;
-        } else if let Some(b'0' | b'1') = bytes.get(i + 1) {
-            i += 2;
-        } else {
+    for i in at..bytes.len() {
+        if bytes[i] == b'~' && !matches!(bytes.get(i + 1), Some(b'0' | b'1')) {
             return Some(i);
         }
     }

@@ -147,7 +147,7 @@ impl<'p> PointerIndex<'p> for (Bound<usize>, Bound<usize>) {
 
 impl<'a> Pointer<'a> {
     ghost use Rattle.jsonptr.specs.Pointer.{tokens};
-    ghost use Rattle.std.specs.Prelude.{◌+◌};
+    ghost use Rattle.std.specs.Prelude.{◌+◌, ◌++◌, ◌∷◌};
 
     /// The token at a place from 0, or the pointer of the tokens in a range of such places; `None` where the
     /// places are not all in the pointer. A range with a start asks for a token to stand at that start.
@@ -166,6 +166,18 @@ impl<'a> Pointer<'a> {
         let at = scan::end_of(self.inner, count)?;
         let (front, rest) = self.inner.split_at(at);
         Some((Pointer { inner: front }, Pointer { inner: rest }))
+    }
+
+    /// The pointers of the tokens before the one at `index` and of those after it, with that token between
+    /// them, or `None` where no token is at that place.
+    pub(super) fn split_around(&self, index: usize) -> Option<(Pointer<'a>, Token<'a>, Pointer<'a>)>
+        ensures { MatchOption result
+            (length (tokens self.now) ≤ index)
+            (λ r. (tokens self.now ≡ tokens r.0 ++ r.1 ∷ tokens r.2) × (length (tokens r.0) ≡ index)) }
+    {
+        let (front, rest) = self.split_at_count(index)?;
+        let (token, rest) = rest.split_front()?;
+        Some((front, token, rest))
     }
 
     /// The place behind a place, or `None` where that is past each place of a pointer.

@@ -3,6 +3,7 @@ use super::{Index, IntegerCause, InvalidCharacterError, OutOfBoundsError, ParseI
 use crate::token::Token;
 use std::alloc::Global;
 use std::borrow::CowStr;
+use std::str::FromStr;
 use std::test::Fail;
 
 /// The refusal of the character at this offset.
@@ -147,4 +148,52 @@ fn texts_of_indices(rt: HostRuntime) -> Result<(), Fail> {
 fn order(rt: HostRuntime) {
     assert!(rt; Index::Num(2) < Index::Num(10));
     assert!(rt; Index::Num(usize::MAX) < Index::Next);
+}
+
+/// What a text parses as, through the bound.
+fn parsed<T: FromStr>(text: &str) -> Result<T, T::Err> {
+    T::from_str(text)
+}
+
+/// What a value reads as, through the bound.
+fn read<S, T: TryFrom<S>>(value: S) -> Result<T, T::Error> {
+    T::try_from(value)
+}
+
+/// What a value becomes, through the bound.
+fn made<S, T: From<S>>(value: S) -> T {
+    T::from(value)
+}
+
+#[test]
+fn readings_through_bounds(rt: HostRuntime) -> Result<(), Fail> {
+    for (text, want) in [
+        ("7", Ok(Index::Num(7))),
+        ("-", Ok(Index::Next)),
+        ("07", Err(ParseIndexError::LeadingZeros)),
+        (
+            "",
+            Err(ParseIndexError::InvalidInteger(IntegerCause::Empty)),
+        ),
+        ("1a", invalid_at(1)),
+    ] {
+        let string = String::from_str(rt.alloc(), text)?;
+        let token = Token::from_encoded(CowStr::Borrowed(text))?;
+        assert_eq!(rt; parsed::<Index>(text), want, "at {text}");
+        assert_eq!(rt; read::<&str, Index>(text), want, "at {text}");
+        assert_eq!(rt; read::<&String, Index>(&string), want, "at {text}");
+        assert_eq!(rt; read::<String, Index>(string), want, "at {text}");
+        assert_eq!(rt; read::<&Token, Index>(&token), want, "at {text}");
+        assert_eq!(rt; read::<Token, Index>(token), want, "at {text}");
+    }
+    Ok(())
+}
+
+#[test]
+fn numbers_through_bounds(rt: HostRuntime) {
+    assert_eq!(rt; made::<usize, Index>(7), Index::Num(7));
+    assert_eq!(rt;
+        made::<usize, Index>(usize::MAX),
+        Index::Num(18446744073709551615)
+    );
 }

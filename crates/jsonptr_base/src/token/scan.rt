@@ -1,9 +1,9 @@
 //! One pass over a token's bytes, for its first fault and for its decoded text.
-ghost use Rattle.std.specs.Prelude.{◌≡◌, ◌<◌, ◌≤◌, ◌+◌, ◌++◌, length, count_by, string_bytes, vec_len, vec_capacity, IfOk, MatchOption};
+ghost use Rattle.std.specs.Prelude.{◌≡◌, ◌<◌, ◌≤◌, ◌+◌, ◌++◌, length, string_bytes, vec_len, vec_capacity, IfOk, MatchOption};
 ghost use Rattle.jsonptr_spec.specs.Text.{esc, escape_of, unesc};
 ghost use Rattle.jsonptr_spec.specs.Grammar.{IsToken};
 ghost use Rattle.jsonptr_base.specs.declared.token.InvalidEncoding.TheVariants.{Tilde, Slash};
-ghost use Rattle.jsonptr_base.specs.Token.{IsEscapeCut, IsFirstFault, IsPlainBefore, is_escaped};
+ghost use Rattle.jsonptr_base.specs.Token.{IsEscapeCut, IsFirstFault, IsPlainBefore};
 
 use super::{EncodingError, InvalidEncoding};
 use std::alloc::{AllocError, Global};
@@ -62,16 +62,19 @@ pub(super) fn unescaped(alloc: Global, encoded: &str) -> Result<String, AllocErr
     requires { IsToken encoded.now }
     ensures { IfOk result (λ s. string_bytes s ≡ unesc encoded.now) }
 {
-    let mut bytes = Vec::with_capacity(alloc, encoded.len())?;
-    let mut escaped = false;
-    for &b in encoded.as_bytes() {
-        if escaped {
-            bytes.push_reserved(if b == b'1' { b'/' } else { b'~' });
-            escaped = false;
-        } else if b == b'~' {
-            escaped = true;
+    let text = encoded.as_bytes();
+    let mut bytes = Vec::with_capacity(alloc, text.len())?;
+    let mut i = 0;
+    while i < text.len() {
+        let b = text[i];
+        if b == b'~' {
+            if let Some(&escaped) = text.get(i + 1) {
+                bytes.push_reserved(if escaped == b'1' { b'/' } else { b'~' });
+            }
+            i += 2;
         } else {
             bytes.push_reserved(b);
+            i += 1;
         }
     }
     // SAFETY: what a UTF-8 text escapes is UTF-8, as the `requires` is proved to say.
@@ -94,33 +97,28 @@ pub(super) fn cut_escape(encoded: &str) -> Option<(&str, &'static str, &str)>
     Some((plain, stands_for, rest))
 }
 
-/// The encoded text of a text; its room is taken once.
-pub(super) fn escaped(alloc: Global, text: &str) -> Result<String, AllocError>
+/// The encoded text of a text with nothing to escape before the place `at`. Its room is taken once, for the case
+/// that each byte from there on is escaped.
+pub(super) fn escaped(alloc: Global, text: &str, at: usize) -> Result<String, AllocError>
+    requires inside { at ≤ length text.now }
+    requires plain { IsPlainBefore text.now at }
     ensures { IfOk result (λ s. string_bytes s ≡ esc text.now) }
 {
-    let room = escaped_len(text.as_bytes())?;
-    let mut bytes = Vec::with_capacity(alloc, room)?;
-    for &b in text.as_bytes() {
+    let (plain, rest) = text.as_bytes().split_at(at);
+    let mut bytes = Vec::with_capacity(alloc, sum(text.len(), rest.len())?)?;
+    bytes.extend_from_slice(plain)?;
+    for &b in rest {
         push_escaped(&mut bytes, b);
     }
     // SAFETY: the escape of a UTF-8 text is UTF-8.
     Ok(unsafe { String::from_utf8_unchecked(bytes) })
 }
 
-/// How many bytes the encoded text of a text has; no memory has room for more than `usize` can tell.
-#[tactic(auto, using(crate::proofs::TokenLemmas::esc_len))]
-fn escaped_len(bytes: &[u8]) -> Result<usize, AllocError>
-    ensures { IfOk result (λ n. n ≡ length (esc bytes.now)) }
+/// The sum of two lengths; no memory has room for more than `usize` can tell.
+fn sum(len: usize, more: usize) -> Result<usize, AllocError>
+    ensures { IfOk result (λ n. n ≡ len + more) }
 {
-    let len = bytes.len().checked_add(count_escaped(bytes));
-    len.ok_or(AllocError)
-}
-
-/// How many bytes of a text its encoded text writes as two.
-fn count_escaped(bytes: &[u8]) -> usize
-    ensures { result ≡ count_by is_escaped bytes.now }
-{
-    bytes.iter().filter(|b| **b == b'~' || **b == b'/').count()
+    len.checked_add(more).ok_or(AllocError)
 }
 
 /// Appends the escape of a byte, for which there is room.

@@ -1,6 +1,7 @@
 use Rattle.std.proofs.Common.{vec_len, vec_capacity}
+use Rattle.jsonptr_spec.specs.Text.{esc}
 use Rattle.jsonptr_base.proofs.TokenLemmas.{Escaped}
 use Rattle.jsonptr_base.proofs.token.scan.escaped.Given as goal
 
 abbrev pub invariant-loop-b : goal.invariant-loop-b
-invariant-loop-b l = Escaped l.bytes.items (vec_len l.bytes) (vec_capacity l.bytes) l.b-items l.b-index
+invariant-loop-b l = Escaped (esc l.text) l.bytes.items (vec_len l.bytes) (vec_capacity l.bytes) l.rest l.b-index

@@ -1,0 +1,458 @@
+//! Pointers that own their text, and may be edited.
+ghost use Rattle.std.specs.Prelude.{◌≡◌, ◌↔◌, ◌≤◌, refl, List, [], ◌∷◌, ◌++◌, length, string_bytes, Some, IsTrue, IsOk, IfOk, IfErr, MatchOption};
+ghost use Rattle.std.proofs.Common.{rules};
+ghost use Rattle.std.specs.Hash as fed;
+ghost use Rattle.std.specs.Iterator.{Drains, IsFinite};
+ghost use Rattle.std.specs.Ordering.{nat_cmp};
+ghost use Rattle.std.specs.Str.{bytes_eq};
+ghost use Rattle.std.specs.Cmp;
+ghost use Rattle.std.specs.Cmp.{on_equiv, on_per, on_po, on_total};
+ghost use Rattle.std.specs.Cmp.Lexicographic.{slice_cmp, nat_list_eq_equiv, nat_list_cmp_total, texts_po, texts_ties};
+ghost use Rattle.std.specs.Cmp.Rules.{hashing};
+ghost use Rattle.jsonptr_spec.specs.Text.{Text, text, dec};
+ghost use Rattle.jsonptr_spec.specs.Grammar.{IsPointer};
+ghost use Rattle.jsonptr_base.specs.Report.{original_of, subject_of};
+ghost use Rattle.jsonptr.specs.Pointer.{tokens, text_of};
+ghost use Rattle.jsonptr.specs.ParseError.{IsFirstFault};
+ghost use Rattle.jsonptr.specs.Fault.{IfRefused};
+
+use super::{ParseError, Pointer, RichParseError, Tokens};
+use jsonptr_base::diagnostic::{Diagnostic, Report};
+use jsonptr_base::fault::Fault;
+use jsonptr_base::token::Token;
+use std::alloc::{AllocError, Global};
+use std::borrow::CowStr;
+use std::cmp::Ordering;
+use std::error::Error;
+use std::fmt;
+use std::hash::{Hash, Hasher};
+use std::marker::Model;
+
+#[cfg(test)]
+mod tests;
+
+/// A JSON Pointer that owns its text; it is read through [`PointerBuf::as_ptr`].
+///
+/// Contracts see it as the list of its decoded tokens; its text is the text of that list.
+#[derive(Debug, Drop)]
+pub struct PointerBuf {
+    inner: String,
+}
+
+impl Model for PointerBuf {
+    ghost use Rattle.std.specs.Prelude.{◌≡◌, ℕ, List, string_bytes};
+    ghost use Rattle.jsonptr_spec.specs.Text.{text, tokens_of};
+
+    ghost Value = { List (List ℕ) };
+
+    ghost view = { λ p. tokens_of (string_bytes p.inner) };
+
+    ghost invariant = { λ p. text (tokens_of (string_bytes p.inner)) ≡ string_bytes p.inner };
+}
+
+impl PointerBuf {
+    ghost use Rattle.std.specs.Borrow.{sem};
+    ghost use Rattle.std.specs.Prelude.{◌<◌, slice_get, slice_set};
+    ghost use Rattle.jsonptr.specs.PointerBuf.{EndsJoined};
+    ghost use Rattle.jsonptr.specs.Fault.{IsRefused};
+
+    /// The pointer of no token, which names the whole document; no memory is taken.
+    pub fn new(alloc: Global) -> PointerBuf
+        ensures { result ≡ [] }
+    {
+        PointerBuf {
+            inner: String::new(alloc),
+        }
+    }
+
+    /// The same; another name of [`PointerBuf::new`].
+    pub fn root(alloc: Global) -> PointerBuf
+        ensures { result ≡ [] }
+    {
+        PointerBuf::new(alloc)
+    }
+
+    /// The pointer of no token, with room for a text of this many bytes.
+    pub(super) fn with_capacity(alloc: Global, capacity: usize) -> Result<PointerBuf, AllocError>
+        ensures { IfOk result (λ p. p ≡ []) }
+    {
+        Ok(PointerBuf {
+            inner: String::with_capacity(alloc, capacity)?,
+        })
+    }
+
+    /// The pointer with a copy of this text.
+    ///
+    /// # Errors
+    ///
+    /// [`ParseError`] where the text is no pointer (RFC 6901, section 3), at its first fault; [`AllocError`]
+    /// where there is no memory for the copy.
+    pub fn from_text(alloc: Global, s: &str) -> Result<PointerBuf, Fault<ParseError>>
+        ensures pointer { IfOk result (λ p. text p ≡ s.now) }
+        ensures refused { IsRefused result ↔ (IsPointer s.now → ⊥) }
+        ensures fault { IfRefused result (IsFirstFault s.now) }
+    {
+        match Pointer::parse(s) {
+            Ok(pointer) => Ok(pointer.to_buf(alloc)?),
+            Err(fault) => Err(Fault::Refused(fault)),
+        }
+    }
+
+    /// The pointer with this text, which is one of the grammar (RFC 6901, section 3). Nothing is tested.
+    pub fn new_unchecked(s: String) -> PointerBuf
+        requires { IsPointer (string_bytes s) }
+        ensures { text result ≡ string_bytes s }
+    {
+        PointerBuf { inner: s }
+    }
+
+    /// The pointer with this text, which it keeps; no memory is taken.
+    ///
+    /// # Errors
+    ///
+    /// [`RichParseError`] where the text is no pointer (RFC 6901, section 3): its first fault, and the text
+    /// itself.
+    pub fn parse(s: String) -> Result<PointerBuf, RichParseError>
+        ensures pointer { IsOk result ↔ IsPointer (string_bytes s) }
+        ensures text { IfOk result (λ p. text p ≡ string_bytes s) }
+        ensures fault { IfErr result (λ report. IsFirstFault (string_bytes s) (original_of report)) }
+        ensures subject { IfErr result (λ report. subject_of report ≡ s) }
+    {
+        match Pointer::parse(s.as_str()) {
+            Ok(_) => Ok(PointerBuf { inner: s }),
+            Err(fault) => Err(fault.into_report(s)),
+        }
+    }
+
+    /// The pointer of these tokens, in their order.
+    ///
+    /// # Errors
+    ///
+    /// [`AllocError`] where there is no memory for the text.
+    pub fn from_tokens<'t, I: Iterator<Item = Token<'t>> + Drop>(
+        alloc: Global,
+        tokens: I,
+    ) -> Result<PointerBuf, AllocError>
+        requires next { I.can_next tokens }
+        requires ends { IsFinite (I.remaining tokens) }
+        ensures { IfOk result (λ p. Drains I.next_gives tokens p) }
+    {
+        let mut pointer = PointerBuf::new(alloc);
+        for token in tokens {
+            pointer.push_back(token)?;
+        }
+        Ok(pointer)
+    }
+
+    /// The pointer of one token.
+    ///
+    /// # Errors
+    ///
+    /// [`AllocError`] where there is no memory for the text.
+    pub fn from_token(alloc: Global, token: Token<'_>) -> Result<PointerBuf, AllocError>
+        ensures { IfOk result (λ p. p ≡ token.entry ∷ []) }
+    {
+        Pointer::root().with_trailing_token(alloc, token)
+    }
+
+    /// The pointer of one token, the decimal text of a number.
+    ///
+    /// # Errors
+    ///
+    /// [`AllocError`] where there is no memory for the text.
+    pub fn from_usize(alloc: Global, n: usize) -> Result<PointerBuf, AllocError>
+        ensures { IfOk result (λ p. p ≡ dec n ∷ []) }
+    {
+        PointerBuf::from_token(alloc, Token::from_number(alloc, n)?)
+    }
+
+    /// A view of the pointer, which all reading goes through.
+    pub fn as_ptr(&self) -> Pointer<'_>
+        ensures tokens { tokens result ≡ self.now }
+        ensures text { text_of result ≡ text self.now }
+    {
+        Pointer {
+            inner: self.inner.as_str(),
+        }
+    }
+
+    /// Puts a token before the others.
+    ///
+    /// # Errors
+    ///
+    /// [`AllocError`] where the text has no room and there is no memory for more; the pointer stays.
+    #[inline(always)]
+    pub fn push_front(&mut self, token: Token<'_>) -> Result<(), AllocError>
+        ensures pushed { IfOk result (λ _. self.new ≡ token.entry ∷ self.old) }
+        ensures unchanged { IfErr result (λ _. self.new ≡ self.old) }
+    {
+        insert_segment(&mut self.inner, token.encoded())?;
+        Ok(())
+    }
+
+    /// Puts a token behind the others.
+    ///
+    /// # Errors
+    ///
+    /// [`AllocError`] where the text has no room and there is no memory for more; the pointer stays.
+    #[inline(always)]
+    pub fn push_back(&mut self, token: Token<'_>) -> Result<(), AllocError>
+        ensures pushed { IfOk result (λ _. self.new ≡ self.old ++ token.entry ∷ []) }
+        ensures unchanged { IfErr result (λ _. self.new ≡ self.old) }
+    {
+        push_segment(&mut self.inner, token.encoded())?;
+        Ok(())
+    }
+
+    /// Takes the first token off; `None` at the root. The rest of the text moves down in place.
+    ///
+    /// # Errors
+    ///
+    /// [`AllocError`] where there is no memory for the token; the pointer stays. The root asks for none.
+    pub fn pop_front(&mut self) -> Result<Option<Token<'static>>, AllocError>
+        ensures popped { IfOk result (λ r. MatchOption r ((self.old ≡ []) × (self.new ≡ [])) (λ t. self.old ≡ t ∷ self.new)) }
+        ensures unchanged { IfErr result (λ _. self.new ≡ self.old) }
+        ensures no_memory { self.old ≡ [] → IsOk result }
+    {
+        let Some((first, rest)) = self.as_ptr().split_front() else {
+            return Ok(None);
+        };
+        let first = first.into_owned(*self.inner.allocator())?;
+        let end = self.inner.len() - rest.len();
+        self.inner.replace_range(..end, "").unwrap();
+        Ok(Some(first))
+    }
+
+    /// Takes the last token off; `None` at the root.
+    ///
+    /// # Errors
+    ///
+    /// [`AllocError`] where there is no memory for the token; the pointer stays. The root asks for none.
+    pub fn pop_back(&mut self) -> Result<Option<Token<'static>>, AllocError>
+        ensures popped { IfOk result (λ r. MatchOption r ((self.old ≡ []) × (self.new ≡ [])) (λ t. self.old ≡ self.new ++ t ∷ [])) }
+        ensures unchanged { IfErr result (λ _. self.new ≡ self.old) }
+        ensures no_memory { self.old ≡ [] → IsOk result }
+    {
+        let Some((front, last)) = self.as_ptr().split_back() else {
+            return Ok(None);
+        };
+        let last = last.into_owned(*self.inner.allocator())?;
+        let end = front.len();
+        self.inner.truncate(end);
+        Ok(Some(last))
+    }
+
+    /// Puts a token in the place of the one at `index`, and gives that one back: never `Ok(None)`.
+    ///
+    /// # Errors
+    ///
+    /// [`ReplaceError`] where `index` is not below the count of tokens, which is tested before memory is
+    /// asked for; [`AllocError`] where there is no memory for the old token or for a longer text. The
+    /// pointer stays.
+    pub fn replace(
+        &mut self,
+        index: usize,
+        token: Token<'_>,
+    ) -> Result<Option<Token<'static>>, Fault<ReplaceError>>
+        ensures replaced { IfOk result (λ old. (index < length self.old) × (old ≡ slice_get self.old index) × (self.new ≡ slice_set self.old index token.entry)) }
+        ensures refused { IfRefused result (λ e. (e.index ≡ index) × (e.count ≡ length self.old)) }
+        ensures past { IsRefused result ↔ (length self.old ≤ index) }
+        ensures unchanged { IfErr result (λ _. self.new ≡ self.old) }
+    {
+        let pointer = self.as_ptr();
+        let Some((front, old, rest)) = pointer.split_around(index) else {
+            let count = pointer.count();
+            return Err(Fault::Refused(ReplaceError { index, count }));
+        };
+        let old = old.into_owned(*self.inner.allocator())?;
+        let start = front.len() + 1;
+        let end = self.inner.len() - rest.len();
+        self.inner.replace_range(start..end, token.encoded())?;
+        Ok(Some(old))
+    }
+
+    /// Puts the tokens of another pointer behind this one's.
+    ///
+    /// # Errors
+    ///
+    /// [`AllocError`] where the text has no room and there is no memory for more; the pointer stays.
+    pub fn append(&mut self, other: Pointer<'_>) -> Result<&PointerBuf, AllocError>
+        ensures* { sem 𝓛 (EndsJoined self.entry (tokens other.entry) result) }
+    {
+        self.join(other)?;
+        Ok(self)
+    }
+
+    /// The same, without the view of the pointer.
+    fn join(&mut self, other: Pointer<'_>) -> Result<(), AllocError>
+        ensures joined { IfOk result (λ _. self.new ≡ self.old ++ tokens other.entry) }
+        ensures unchanged { IfErr result (λ _. self.new ≡ self.old) }
+    {
+        self.inner.push_str(other.as_str())?;
+        Ok(())
+    }
+
+    /// Makes the pointer the root; its room is kept.
+    pub fn clear(&mut self)
+        ensures { self.new ≡ [] }
+    {
+        self.inner.clear();
+    }
+}
+
+/// The pointer with this text, which it keeps; on a fault the text is dropped. No memory is taken.
+impl TryFrom<String> for PointerBuf {
+    type Error = ParseError;
+
+    ghost use Rattle.jsonptr.specs.PointerBuf.{IsRead};
+
+    ghost try_from_gives = { λ s r. IsRead (string_bytes s) r };
+
+    fn try_from(s: String) -> Result<PointerBuf, ParseError>
+        ensures pointer { IsOk result ↔ IsPointer (string_bytes s) }
+        ensures text { IfOk result (λ p. text p ≡ string_bytes s) }
+        ensures fault { IfErr result (IsFirstFault (string_bytes s)) }
+    {
+        PointerBuf::parse(s).map_err(Report::into_original)
+    }
+}
+
+/// The tokens, from the first; no memory is taken.
+impl<'a> IntoIterator for &'a PointerBuf {
+    ghost use Rattle.jsonptr.specs.Tokens.{rest_of};
+
+    type Item = Token<'a>;
+
+    type IntoIter = Tokens<'a>;
+
+    ghost into_iter_gives = { λ p it. rest_of it ≡ p.now };
+
+    fn into_iter(self) -> Tokens<'a> {
+        self.as_ptr().tokens()
+    }
+}
+
+impl Clone for PointerBuf {
+    ghost is_clone = { λ p copy. copy ≡ p };
+
+    fn clone(&self) -> Result<PointerBuf, AllocError> {
+        self.as_ptr().to_buf(*self.inner.allocator())
+    }
+}
+
+/// By the texts; they are equal exactly where the lists of tokens are.
+impl PartialEq for PointerBuf {
+    ghost eq = { λ p q. bytes_eq (text p) (text q) };
+
+    ghost laws = { on_per text (Cmp.partial_equiv_from_equiv nat_list_eq_equiv) };
+
+    fn eq(&self, other: &PointerBuf) -> bool
+        ensures value { result ≡ bytes_eq (text self.now) (text other.now) }
+        ensures tokens { IsTrue result ↔ (self.now ≡ other.now) }
+    {
+        self.as_ptr().as_str() == other.as_ptr().as_str()
+    }
+}
+
+impl Eq for PointerBuf {
+    ghost laws = { on_equiv text nat_list_eq_equiv };
+}
+
+impl PartialOrd for PointerBuf {
+    ghost partial_cmp = { λ p q. Some (slice_cmp nat_cmp (text p) (text q)) };
+
+    ghost laws = { on_po text texts_po };
+
+    fn partial_cmp(&self, other: &PointerBuf) -> Option<Ordering> {
+        Some(self.cmp(other))
+    }
+}
+
+/// By the bytes of the texts.
+impl Ord for PointerBuf {
+    ghost cmp = { λ p q. slice_cmp nat_cmp (text p) (text q) };
+
+    ghost total = { on_total text nat_list_cmp_total };
+
+    ghost matches_partial_cmp = { λ p q. refl };
+
+    ghost matches_eq = { λ p q. texts_ties (text p) (text q) };
+
+    fn cmp(&self, other: &PointerBuf) -> Ordering {
+        self.as_ptr().as_str().cmp(other.as_ptr().as_str())
+    }
+}
+
+impl Hash for PointerBuf {
+    ghost hash_input = { λ p. fed.str (text p) };
+
+    ghost respects_eq = { Prim.search (hashing, rules) };
+
+    fn hash<H: Hasher>(&self, state: &mut H) {
+        self.as_ptr().as_str().hash(state);
+    }
+}
+
+/// The text; no memory is taken.
+impl fmt::Display for PointerBuf {
+    ghost output = { λ p. Some (text p) };
+
+    fn fmt<W: fmt::Write>(&self, f: &mut fmt::Formatter<W>) -> fmt::Result {
+        f.write_str(self.as_ptr().as_str())
+    }
+}
+
+/// Puts a slash and a token's text before a text. Where there is no room, the longer text is written to a new
+/// place, and nothing is moved twice.
+fn insert_segment(text: &mut String, token: &str) -> Result<(), AllocError>
+    ensures inserted { IfOk result (λ _. string_bytes text.new ≡ 47 ∷ token.now ++ string_bytes text.old) }
+    ensures unchanged { IfErr result (λ _. string_bytes text.new ≡ string_bytes text.old) }
+{
+    let segment = token.len().checked_add(1).ok_or(AllocError)?;
+    let len = text.len().checked_add(segment).ok_or(AllocError)?;
+    if len <= text.capacity() {
+        text.insert_str(0, token).unwrap();
+        text.insert(0, '/').unwrap();
+        return Ok(());
+    }
+    let capacity = len.max(text.capacity().saturating_mul(2));
+    let mut longer = String::with_capacity(*text.allocator(), capacity)?;
+    longer.push('/').unwrap();
+    longer.push_str(token).unwrap();
+    longer.push_str(text.as_str()).unwrap();
+    *text = longer;
+    Ok(())
+}
+
+/// Puts a slash and a token's text behind a text; room is made once.
+fn push_segment(text: &mut String, token: &str) -> Result<(), AllocError>
+    ensures pushed { IfOk result (λ _. string_bytes text.new ≡ string_bytes text.old ++ 47 ∷ token.now) }
+    ensures unchanged { IfErr result (λ _. string_bytes text.new ≡ string_bytes text.old) }
+{
+    let segment = token.len().checked_add(1).ok_or(AllocError)?;
+    text.reserve(segment)?;
+    text.push('/').unwrap();
+    text.push_str(token).unwrap();
+    Ok(())
+}
+
+/// Why [`PointerBuf::replace`] replaced nothing: there is no token at that place.
+#[derive(Debug, PartialEq, Eq, Drop)]
+pub struct ReplaceError {
+    /// The place that was asked for, in tokens from 0.
+    pub index: usize,
+    /// How many tokens the pointer has.
+    pub count: usize,
+}
+
+impl fmt::Display for ReplaceError {
+    ghost use Rattle.jsonptr.specs.PointerBuf.{replace_message_of};
+
+    ghost output = { λ e. Some (replace_message_of e) };
+
+    fn fmt<W: fmt::Write>(&self, f: &mut fmt::Formatter<W>) -> fmt::Result {
+        write!(f, "index {} is out of bounds ({})", self.index, self.count)
+    }
+}
+
+impl Error for ReplaceError {}
