@@ -1,11 +1,10 @@
--- Lemmas that several proofs of this crate cite.
-pub mod ScanLemmas
-pub mod CutLemmas
-pub mod PartLemmas
-pub mod BufLemmas
+-- Lemmas that several proofs of this crate cite, and those that callers do.
+pub mod Calling
+pub mod DescendLemmas
+pub mod DescendJson
+pub mod Follows
+pub mod Outcome
+pub mod WalkSteps
+pub mod FollowLemmas
+pub mod ResolveMutLemmas
 pub mod SliceLemmas
-pub mod JsonLook
-pub mod NoIndex
-pub mod Steps
-pub mod LawLemmas
-pub mod OrderLemmas

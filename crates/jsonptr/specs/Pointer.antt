@@ -1,6 +1,6 @@
 -- What contracts see of a `Pointer`.
 use Rattle.std.specs.Prelude.{List}
-use Rattle.jsonptr_spec.specs.Text.{Text, tokens_of}
+use Rattle.jsonptr_grammar.specs.Text.{Text, tokens_of}
 use Rattle.jsonptr.specs.declared.pointer.Pointer.{Pointer}
 
 -- its decoded tokens, in order

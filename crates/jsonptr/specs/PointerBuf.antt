@@ -2,9 +2,9 @@
 use Rattle.std.specs.Prelude.{◌≡◌, List, ◌++◌, Result, Ok, Err, MatchResult, ⊤, codes, decimal}
 use Rattle.std.specs.Borrow.{Fml, Bor, MutBor, follows_so}
 use mathlib.Core.Option.{none}
-use Rattle.jsonptr_spec.specs.Text.{Text, text}
-use Rattle.jsonptr.specs.declared.pointer.ParseError.{ParseError}
-use Rattle.jsonptr.specs.ParseError.{IsFirstFault}
+use Rattle.jsonptr_grammar.specs.Text.{Text, text}
+use Rattle.jsonptr_text.specs.declared.parse_error.ParseError.{ParseError}
+use Rattle.jsonptr_text.specs.ParseError.{TellsPointerFault}
 use Rattle.jsonptr.specs.declared.pointer.buf.ReplaceError.{ReplaceError}
 use Rattle.jsonptr.specs.contracts.pointer.buf.PointerBuf.{the_row}
 
@@ -17,7 +17,7 @@ EndsJoined lent other r = follows_so the_row the_row lent.ghost_name none (λ _ 
 -- what a text is read as: the pointer that has it, or why there is none
 abbrev pub IsRead : Text → Result (List Text) ParseError → Type 0
 IsRead s (Ok p) = text p ≡ s
-IsRead s (Err e) = IsFirstFault s e
+IsRead s (Err e) = TellsPointerFault s e
 
 -- what the error displays
 abbrev pub replace_message_of : ReplaceError → Text

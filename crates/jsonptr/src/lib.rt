@@ -2,21 +2,16 @@
 //! finding that place.
 #![tactic(auto)]
 
-mod component;
-mod document;
-pub mod laws;
+pub mod component;
+mod descend;
 mod pointer;
 pub mod resolve;
 
-/// Reports of faults, and labels on what they speak of.
-pub mod diagnostic {
-    pub use jsonptr_base::diagnostic::{Diagnostic, Label, Report};
-}
-
 pub use component::{Component, Components};
-pub use diagnostic::Report;
+pub use jsonptr_base::diagnostic::Report;
 pub use jsonptr_base::fault::Fault;
-pub use jsonptr_base::index;
 pub use jsonptr_base::token::{EncodingError, InvalidEncoding, InvalidEncodingError, Token};
+pub use jsonptr_base::{diagnostic, index, token};
+pub use jsonptr_text::laws;
 pub use pointer::{ParseError, Pointer, PointerBuf, ReplaceError, RichParseError, Tokens};
-pub use resolve::Resolve;
+pub use resolve::{Resolve, ResolveMut};

@@ -1,27 +1,21 @@
 //! JSON Pointers as texts that are known to be in the grammar (RFC 6901, section 3).
-ghost use Rattle.std.specs.Prelude.{◌≡◌, ◌↔◌, ◌+◌, ◌<◌, ◌^◌, List, [], ◌∷◌, ◌++◌, length, Some, IsTrue, IsOk, IfOk, IfErr, MatchOption};
+ghost use Rattle.std.specs.Prelude.{◌≡◌, ◌↔◌, ◌+◌, ◌<◌, ◌^◌, List, [], ◌∷◌, ◌++◌, length, Some, IsSome, IsTrue, IsOk, IfOk, IfErr, MatchOption, slice_index};
 ghost use Rattle.serde_json.specs.Data.{string};
 ghost use Rattle.serde_json.specs.View.{view};
-ghost use Rattle.jsonptr_spec.specs.Text.{Text, esc, text, tokens_of};
-ghost use Rattle.jsonptr_spec.specs.Grammar.{IsPointer};
+ghost use Rattle.jsonptr_grammar.specs.Text.{Text, esc, text, tokens_of};
+ghost use Rattle.jsonptr_grammar.specs.Grammar.{IsPointer};
 
 pub use buf::{PointerBuf, ReplaceError};
-use jsonptr_base::diagnostic::{Diagnostic, Label, Report, one_label};
-use jsonptr_base::token::{EncodingError, Token};
+use jsonptr_base::token::Token;
+pub use jsonptr_text::{ParseError, RichParseError};
+use jsonptr_text::{cut, first_fault};
 use serde_json::Value;
 use std::alloc::{AllocError, Global};
-use std::borrow::CowStr;
-use std::error::Error;
 use std::fmt;
 pub use tokens::Tokens;
 
-#[cfg(test)]
-mod borrowed_tests;
 mod buf;
-mod scan;
 mod slice;
-#[cfg(test)]
-mod tests;
 mod tokens;
 
 /// A JSON Pointer: a borrowed text of zero or more tokens, each behind a `/`.
@@ -36,8 +30,9 @@ pub struct Pointer<'a> {
 
 impl<'a> Pointer<'a> {
     ghost use Rattle.jsonptr.specs.Pointer.{tokens, text_of};
-    ghost use Rattle.jsonptr.specs.ParseError.{IsFirstFault};
-    ghost use Rattle.jsonptr.specs.Parts.{BeginsWith, EndsWith, IsSuffix, SplitsAt, IsLongestCommonFront};
+    ghost use Rattle.jsonptr_text.specs.ParseError.{TellsPointerFault};
+    ghost use Rattle.jsonptr_text.specs.Ends.{IsFirstOf, IsLastOf};
+    ghost use Rattle.jsonptr_text.specs.Parts.{BeginsWith, EndsWith, IsSuffix, SplitsAt, IsLongestCommonFront};
 
     /// The pointer of no token, which names the whole document.
     pub fn root() -> Pointer<'static>
@@ -56,9 +51,9 @@ impl<'a> Pointer<'a> {
         ensures pointer { IsOk result ↔ IsPointer s.now }
         ensures text { IfOk result (λ p. text_of p ≡ s.now) }
         ensures tokens { IfOk result (λ p. text (tokens p) ≡ s.now) }
-        ensures fault { IfErr result (IsFirstFault s.now) }
+        ensures fault { IfErr result (TellsPointerFault s.now) }
     {
-        match scan::first_fault(s.as_bytes()) {
+        match first_fault(s) {
             None => Ok(Pointer { inner: s }),
             Some(fault) => Err(fault),
         }
@@ -94,7 +89,7 @@ impl<'a> Pointer<'a> {
     pub fn len(&self) -> usize
         ensures { result ≡ length (text_of self.now) }
     {
-        self.inner.len()
+        self.as_str().len()
     }
 
     /// Whether the pointer has no token; another name of [`Pointer::is_root`].
@@ -108,30 +103,32 @@ impl<'a> Pointer<'a> {
     pub fn is_root(&self) -> bool
         ensures { IsTrue result ↔ (tokens self.now ≡ []) }
     {
-        self.inner.is_empty()
+        self.as_str().is_empty()
     }
 
     /// The first token and the pointer of the tokens after it, or `None` at the root.
     pub fn split_front(&self) -> Option<(Token<'a>, Pointer<'a>)>
-        ensures { MatchOption result (tokens self.now ≡ []) (λ r. tokens self.now ≡ r.0 ∷ tokens r.1) }
+        ensures { MatchOption result
+            (tokens self.now ≡ [])
+            (λ r. tokens self.now ≡ r.0 ∷ tokens r.1) }
     {
-        let (first, rest) = scan::cut(self.inner)?;
-        let token = Token::from_encoded(CowStr::Borrowed(first)).unwrap();
+        let (token, rest) = cut::split_front(self.as_str())?;
         Some((token, Pointer { inner: rest }))
     }
 
     /// The pointer of the tokens before the last one and that token, or `None` at the root.
     pub fn split_back(&self) -> Option<(Pointer<'a>, Token<'a>)>
-        ensures { MatchOption result (tokens self.now ≡ []) (λ r. tokens self.now ≡ tokens r.0 ++ r.1 ∷ []) }
+        ensures { MatchOption result
+            (tokens self.now ≡ [])
+            (λ r. tokens self.now ≡ tokens r.0 ++ r.1 ∷ []) }
     {
-        let (front, last) = scan::cut_back(self.inner)?;
-        let token = Token::from_encoded(CowStr::Borrowed(last)).unwrap();
+        let (front, token) = cut::split_back(self.as_str())?;
         Some((Pointer { inner: front }, token))
     }
 
     /// The first token, or `None` at the root.
     pub fn front(&self) -> Option<Token<'a>>
-        ensures { MatchOption result (tokens self.now ≡ []) (λ t. (rest : List Text) × (tokens self.now ≡ t ∷ rest)) }
+        ensures { IsFirstOf (tokens self.now) result }
     {
         let (first, _) = self.split_front()?;
         Some(first)
@@ -139,14 +136,14 @@ impl<'a> Pointer<'a> {
 
     /// The first token, or `None` at the root; another name of [`Pointer::front`].
     pub fn first(&self) -> Option<Token<'a>>
-        ensures { MatchOption result (tokens self.now ≡ []) (λ t. (rest : List Text) × (tokens self.now ≡ t ∷ rest)) }
+        ensures { IsFirstOf (tokens self.now) result }
     {
         self.front()
     }
 
     /// The last token, or `None` at the root.
     pub fn back(&self) -> Option<Token<'a>>
-        ensures { MatchOption result (tokens self.now ≡ []) (λ t. (front : List Text) × (tokens self.now ≡ front ++ t ∷ [])) }
+        ensures { IsLastOf (tokens self.now) result }
     {
         let (_, last) = self.split_back()?;
         Some(last)
@@ -154,33 +151,37 @@ impl<'a> Pointer<'a> {
 
     /// The last token, or `None` at the root; another name of [`Pointer::back`].
     pub fn last(&self) -> Option<Token<'a>>
-        ensures { MatchOption result (tokens self.now ≡ []) (λ t. (front : List Text) × (tokens self.now ≡ front ++ t ∷ [])) }
+        ensures { IsLastOf (tokens self.now) result }
     {
         self.back()
     }
 
     /// The pointer of the tokens before the last one, or `None` at the root.
     pub fn parent(&self) -> Option<Pointer<'a>>
-        ensures { MatchOption result (tokens self.now ≡ []) (λ p. (t : Text) × (tokens self.now ≡ tokens p ++ t ∷ [])) }
+        ensures { MatchOption result
+            (tokens self.now ≡ [])
+            (λ p. (t : Text) × (tokens self.now ≡ tokens p ++ t ∷ [])) }
     {
-        let (front, _) = scan::cut_back(self.inner)?;
+        let front = cut::parent(self.as_str())?;
         Some(Pointer { inner: front })
     }
 
     /// The pointers of the tokens before a slash and from it on, where byte `offset` of the text is that
     /// slash; elsewhere `None`.
     pub fn split_at_offset(&self, offset: usize) -> Option<(Pointer<'a>, Pointer<'a>)>
-        ensures { MatchOption result
+        ensures slash { IsSome result ↔ (slice_index (text_of self.now) offset ≡ 47) }
+        ensures split { MatchOption result
             ((front rest : List Text) → SplitsAt (tokens self.now) offset front rest → ⊥)
             (λ r. SplitsAt (tokens self.now) offset (tokens r.0) (tokens r.1)) }
     {
-        let (front, rest) = scan::cut_at(self.inner, offset)?;
+        let (front, rest) = cut::split_at_offset(self.as_str(), offset)?;
         Some((Pointer { inner: front }, Pointer { inner: rest }))
     }
 
     /// The old name of [`Pointer::split_at_offset`].
     pub fn split_at(&self, offset: usize) -> Option<(Pointer<'a>, Pointer<'a>)>
-        ensures { MatchOption result
+        ensures slash { IsSome result ↔ (slice_index (text_of self.now) offset ≡ 47) }
+        ensures split { MatchOption result
             ((front rest : List Text) → SplitsAt (tokens self.now) offset front rest → ⊥)
             (λ r. SplitsAt (tokens self.now) offset (tokens r.0) (tokens r.1)) }
     {
@@ -201,7 +202,7 @@ impl<'a> Pointer<'a> {
             (BeginsWith (tokens self.now) (tokens prefix.entry) → ⊥)
             (λ r. tokens self.now ≡ tokens prefix.entry ++ tokens r) }
     {
-        let rest = scan::after_front(self.inner, prefix.inner)?;
+        let rest = cut::strip_front(self.as_str(), prefix.as_str())?;
         Some(Pointer { inner: rest })
     }
 
@@ -222,7 +223,7 @@ impl<'a> Pointer<'a> {
             (EndsWith (tokens self.now) (tokens suffix.entry) → ⊥)
             (λ r. tokens self.now ≡ tokens r ++ tokens suffix.entry) }
     {
-        let front = self.inner.strip_suffix(suffix.inner)?;
+        let front = cut::strip_back(self.as_str(), suffix.as_str())?;
         Some(Pointer { inner: front })
     }
 
@@ -230,9 +231,9 @@ impl<'a> Pointer<'a> {
     pub fn intersection(&self, other: Pointer<'_>) -> Pointer<'a>
         ensures { IsLongestCommonFront (tokens self.now) (tokens other.entry) (tokens result) }
     {
-        let seam = scan::common_seam(self.inner.as_bytes(), other.inner.as_bytes());
-        let (front, _) = self.inner.split_at(seam);
-        Pointer { inner: front }
+        Pointer {
+            inner: cut::common_front(self.as_str(), other.as_str()),
+        }
     }
 
     /// A pointer that owns a copy of this one's text.
@@ -243,7 +244,7 @@ impl<'a> Pointer<'a> {
     pub fn to_buf(&self, alloc: Global) -> Result<PointerBuf, AllocError>
         ensures { IfOk result (λ p. p ≡ tokens self.now) }
     {
-        let inner = String::from_str(alloc, self.inner)?;
+        let inner = String::from_str(alloc, self.as_str())?;
         Ok(PointerBuf::new_unchecked(inner))
     }
 
@@ -301,7 +302,8 @@ impl<'a> Pointer<'a> {
     /// How many bytes the pointer's text has with one more token; no memory has room for more than `usize`
     /// can tell.
     fn room_with(&self, token: &Token<'_>) -> usize
-        ensures { length (text_of self.now) + (length (esc token.now) + 1) < 2 ^ 64 → result ≡ length (text_of self.now) + (length (esc token.now) + 1) }
+        ensures { length (text_of self.now) + (length (esc token.now) + 1) < 2 ^ 64
+            → result ≡ length (text_of self.now) + (length (esc token.now) + 1) }
     {
         let segment = token.encoded().len().saturating_add(1);
         self.len().saturating_add(segment)
@@ -315,7 +317,7 @@ impl<'a> Pointer<'a> {
     pub fn to_json_value(&self, alloc: Global) -> Result<Value, AllocError>
         ensures { IfOk result (λ v. view v ≡ string (text_of self.now)) }
     {
-        Ok(Value::String(String::from_str(alloc, self.inner)?))
+        Ok(Value::String(String::from_str(alloc, self.as_str())?))
     }
 }
 
@@ -335,149 +337,6 @@ impl fmt::Display for Pointer<'_> {
     ghost output = { λ p. Some (text_of p) };
 
     fn fmt<W: fmt::Write>(&self, f: &mut fmt::Formatter<W>) -> fmt::Result {
-        fmt::Display::fmt(&self.inner, f)
+        f.write_str(self.as_str())
     }
 }
-
-/// Why a text is no JSON Pointer, and where.
-#[derive(Debug, PartialEq, Drop)]
-pub enum ParseError {
-    /// The text is not empty and does not begin with `/`.
-    NoLeadingSlash,
-    /// A `~` is followed neither by `0` nor by `1`.
-    InvalidEncoding {
-        /// The place of the slash before the token at fault, in bytes.
-        offset: usize,
-        /// The fault of that token; its own offset is counted from the slash.
-        source: EncodingError,
-    },
-}
-
-impl ParseError {
-    ghost use Rattle.jsonptr.specs.ParseError.{pointer_offset_of, source_offset_of, encoding_len_of, IsInvalidEncoding};
-
-    /// The place of the slash before the token at fault, in bytes; 0 where no slash begins the text.
-    pub fn offset(&self) -> usize
-        ensures { result ≡ pointer_offset_of self.now }
-    {
-        match *self {
-            ParseError::NoLeadingSlash => 0,
-            ParseError::InvalidEncoding { offset, .. } => offset,
-        }
-    }
-
-    /// The same as [`ParseError::offset`].
-    pub fn pointer_offset(&self) -> usize
-        ensures { result ≡ pointer_offset_of self.now }
-    {
-        self.offset()
-    }
-
-    /// The place of the fault from that slash on, in bytes; 0 where no slash begins the text.
-    pub fn source_offset(&self) -> usize
-        ensures { result ≡ source_offset_of self.now }
-    {
-        match self {
-            ParseError::NoLeadingSlash => 0,
-            ParseError::InvalidEncoding { source, .. } => source.offset,
-        }
-    }
-
-    /// The place of the fault in the whole text, in bytes: of the `~` that escapes nothing, or 0 where no
-    /// slash begins the text. The two places of every error that parsing gives have a sum that fits.
-    pub fn complete_offset(&self) -> usize
-        requires { pointer_offset_of self.now + source_offset_of self.now < 2 ^ 64 }
-        ensures { result ≡ pointer_offset_of self.now + source_offset_of self.now }
-    {
-        self.pointer_offset() + self.source_offset()
-    }
-
-    /// How many bytes of the subject the fault takes up: 2 for a `~` and what follows it there, 1 for a `~`
-    /// at the subject's end or past it, and 0 where no slash begins the text.
-    pub fn invalid_encoding_len(&self, subject: &str) -> usize
-        ensures { result ≡ encoding_len_of self.now (length subject.now) }
-    {
-        match self {
-            ParseError::NoLeadingSlash => 0,
-            ParseError::InvalidEncoding { offset, source } => {
-                match offset.checked_add(source.offset) {
-                    Some(tilde) if tilde < subject.len() && subject.len() - tilde > 1 => 2,
-                    _ => 1,
-                }
-            }
-        }
-    }
-
-    /// Whether no slash begins the text.
-    pub fn is_no_leading_slash(&self) -> bool
-        ensures { IsTrue result ↔ (self.now ≡ ParseError.NoLeadingSlash) }
-    {
-        matches!(self, ParseError::NoLeadingSlash)
-    }
-
-    /// The old name of [`ParseError::is_no_leading_slash`].
-    pub fn is_no_leading_backslash(&self) -> bool
-        ensures { IsTrue result ↔ (self.now ≡ ParseError.NoLeadingSlash) }
-    {
-        self.is_no_leading_slash()
-    }
-
-    /// Whether a `~` escapes nothing.
-    pub fn is_invalid_encoding(&self) -> bool
-        ensures { IsTrue result ↔ IsInvalidEncoding self.now }
-    {
-        matches!(self, ParseError::InvalidEncoding { .. })
-    }
-}
-
-impl fmt::Display for ParseError {
-    ghost use Rattle.jsonptr.specs.ParseError.{message_of};
-
-    ghost output = { λ e. Some (message_of e) };
-
-    fn fmt<W: fmt::Write>(&self, f: &mut fmt::Formatter<W>) -> fmt::Result {
-        match self {
-            ParseError::NoLeadingSlash => write!(
-                f,
-                "json pointer failed to parse; does not start with a slash ('/') and is not empty"
-            ),
-            ParseError::InvalidEncoding { offset, .. } => write!(
-                f,
-                "json pointer failed to parse; the first token in the partial-pointer starting at offset {offset} is malformed"
-            ),
-        }
-    }
-}
-
-impl Error for ParseError {}
-
-impl Diagnostic for ParseError {
-    ghost use Rattle.std.specs.Prelude.{codes, string_bytes};
-    ghost use Rattle.jsonptr.specs.ParseError.{IsLabelled};
-
-    type Subject = String;
-
-    ghost url = { codes "https://docs.rs/jsonptr/0.8.2/jsonptr/enum.ParseError.html" };
-
-    ghost labels_gives = { λ e subject. IsLabelled e (length (string_bytes subject)) };
-
-    fn url() -> &'static str {
-        "https://docs.rs/jsonptr/0.8.2/jsonptr/enum.ParseError.html"
-    }
-
-    fn labels(&self, alloc: Global, subject: &String) -> Result<Option<Vec<Label>>, AllocError> {
-        match self {
-            ParseError::NoLeadingSlash => one_label(alloc, "must start with a slash ('/')", 0, 0),
-            ParseError::InvalidEncoding { offset, source } => {
-                let Some(place) = offset.checked_add(source.offset) else {
-                    return Ok(None);
-                };
-                let len = self.invalid_encoding_len(subject.as_str());
-                one_label(alloc, "'~' must be followed by '0' or '1'", place, len)
-            }
-        }
-    }
-}
-
-/// Why a text that was handed over is no JSON Pointer, with that text as the subject.
-pub type RichParseError = Report<ParseError>;

@@ -1,50 +1,61 @@
 //! Resolving a pointer against a document (RFC 6901, section 4).
-ghost use Rattle.std.specs.Prelude.{◌≡◌, ◌≢◌, ◌↔◌, All, IsTrue, IfOk, List, Some};
-ghost use Rattle.jsonptr_spec.specs.Text.{Text};
+ghost use Rattle.std.specs.Prelude.{◌≡◌, ◌≢◌, ◌↔◌, ℕ, All, IsTrue, IfOk, List, Some};
+ghost use Rattle.std.specs.Borrow.{sem, LendsSoOk};
+ghost use Rattle.jsonptr_grammar.specs.Text.{Text, esc, text};
+ghost use Rattle.jsonptr_base.specs.Fault.{IfRefused, HasMemory};
+ghost use Rattle.jsonptr_document.specs.Child.{FindsChild};
+ghost use Rattle.jsonptr.specs.Pointer.{tokens};
+ghost use Rattle.jsonptr.specs.Resolve.{Refuses, PutsAt};
+ghost use Rattle.jsonptr.specs.PrivateResolve.{FindsAt, RefusesStep};
 
-use crate::document;
+use crate::descend::{Descend, Guide, token_at};
 use crate::pointer::Pointer;
 use jsonptr_base::fault::Fault;
 use jsonptr_base::index::{OutOfBoundsError, ParseIndexError};
+use jsonptr_base::token::Token;
+use jsonptr_document::child::{NoChild, child};
+use jsonptr_document::document::Document;
 use serde_json::Value;
 use std::alloc::Global;
 use std::fmt;
 
-#[cfg(test)]
-mod tests;
-
 /// A document in which a pointer can be followed.
+///
+/// Contracts see what an implementation promises by three relations between the document and the pointer's
+/// tokens: `finds`, with the value that is found, `refuses`, with the error, and `needs_no_memory`.
 pub trait Resolve {
-    ghost use Rattle.jsonptr.specs.Pointer.{tokens, text_of};
-    ghost use Rattle.jsonptr.specs.Fault.{IfRefused, HasMemory};
-
     /// The type of what a pointer names.
     type Value;
 
     /// Why a pointer names nothing.
     type Error;
 
+    // these tokens name this value in the document
     ghost finds: { Self → List Text → Self.Value → Type 0 };
 
+    // these tokens name nothing in the document, which this error tells
     ghost refuses: { Self → List Text → Self.Error → Type 0 };
 
-    /// The value that the pointer names, which the document lends; the document is not changed. Memory is
-    /// taken from `alloc` only to decode a token with a `~`, and given back.
+    // to follow these tokens in the document never fails for want of memory
+    ghost needs_no_memory: { Self → List Text → Type 0 };
+
+    /// The value that the pointer names, which the document lends; the document is not changed. What memory
+    /// is taken from `alloc` is given back.
     ///
     /// # Errors
     ///
     /// [`Fault::Refused`] where the pointer names no value of the document, and [`Fault::Memory`] where a
-    /// token with a `~` has to be decoded and there is no memory for it.
+    /// request for memory is refused.
     fn resolve(&self, alloc: Global, ptr: Pointer<'_>) -> Result<&Self::Value, Fault<Self::Error>>
         ensures found { IfOk result (λ r. finds self.now (tokens ptr.entry) r.now) }
         ensures refused { IfRefused result (refuses self.now (tokens ptr.entry)) }
-        ensures no_memory { All (λ b. b ≢ 126) (text_of ptr.entry) → HasMemory result };
+        ensures no_memory { needs_no_memory self.now (tokens ptr.entry) → HasMemory result };
 }
 
+/// Memory is taken only to decode a token with a `~`.
 impl Resolve for Value {
     ghost use Rattle.serde_json.specs.View.{view};
-    ghost use Rattle.jsonptr_spec.specs.Json.{nodes, FindsValue};
-    ghost use Rattle.jsonptr.specs.Resolve.{Refuses};
+    ghost use Rattle.jsonptr_tree.specs.Json.{nodes, FindsValue};
 
     type Value = Value;
 
@@ -54,15 +65,110 @@ impl Resolve for Value {
 
     ghost refuses = { λ v tokens e. Refuses (nodes (view v)) tokens e };
 
+    ghost needs_no_memory = { λ v tokens. All (λ b. b ≢ 126) (text tokens) };
+
     fn resolve(&self, alloc: Global, ptr: Pointer<'_>) -> Result<&Value, Fault<Error>> {
-        document::resolve(self, alloc, ptr)
+        follow(self, alloc, ptr)
+    }
+}
+
+/// A document in which a pointer can be followed to a value that is written to.
+///
+/// Contracts see what an implementation promises by five relations between the document and the pointer's
+/// tokens: `finds`, with the value that is found, `refuses`, with the error, `needs_no_memory`, `writes`, with
+/// the value that is written there and the document that this makes, and `is_same`, with the document that is
+/// left after a refusal.
+pub trait ResolveMut: Drop {
+    /// The type of what a pointer names.
+    type Value: Drop;
+
+    /// Why a pointer names nothing.
+    type Error;
+
+    // these tokens name this value in the document
+    ghost finds: { Self → List Text → Self.Value → Type 0 };
+
+    // these tokens name nothing in the document, which this error tells
+    ghost refuses: { Self → List Text → Self.Error → Type 0 };
+
+    // to follow these tokens in the document never fails for want of memory
+    ghost needs_no_memory: { Self → List Text → Type 0 };
+
+    // with this value where these tokens lead, the first document becomes the second
+    ghost writes: { Self → List Text → Self.Value → Self → Type 0 };
+
+    // the second document is the first, unchanged
+    ghost is_same: { Self → Self → Type 0 };
+
+    /// The value that the pointer names, which the document lends, to be written to. What memory is taken
+    /// from `alloc` is given back.
+    ///
+    /// A caller learns what the document becomes once the loan ends where its own type parameter is bound by
+    /// `ResolveMut`, as `D` is here. Called at `Value`, this function has the contract that `writes` and
+    /// `is_same` of `Value` give:
+    ///
+    /// ```text
+    /// fn replace<D: ResolveMut>(
+    ///     document: &mut D,
+    ///     alloc: Global,
+    ///     pointer: Pointer<'_>,
+    ///     value: D::Value,
+    /// ) -> Result<D::Value, Fault<D::Error>>
+    ///     ensures written { IfOk result (λ _.
+    ///         D.writes document.old (tokens pointer.entry) value document.new) }
+    ///     ensures stays { OnErr result (D.is_same document.old document.new) }
+    /// {
+    ///     let place = document.resolve_mut(alloc, pointer)?;
+    ///     Ok(mem::replace(place, value))
+    /// }
+    /// ```
+    ///
+    /// # Errors
+    ///
+    /// [`Fault::Refused`] where the pointer names no value of the document, and [`Fault::Memory`] where a
+    /// request for memory is refused. The document is then as it was.
+    fn resolve_mut(
+        &mut self,
+        alloc: Global,
+        ptr: Pointer<'_>,
+    ) -> Result<&mut Self::Value, Fault<Self::Error>>
+        ensures* writes_back { sem 𝓛 (LendsSoOk Self.row Self.Value.row self.entry result
+            (λ n w. writes self.old (tokens ptr.entry) w n)
+            (λ n. is_same self.old n)) }
+        ensures found { IfOk result (λ r. finds self.old (tokens ptr.entry) r.now) }
+        ensures refused { IfRefused result (refuses self.old (tokens ptr.entry)) }
+        ensures no_memory { needs_no_memory self.old (tokens ptr.entry) → HasMemory result };
+}
+
+/// JSON documents: for `serde_json::Value`, `finds` and `refuses` are those of [`Resolve`], `writes` says that
+/// the map of the document has the map of the value put at the path that the tokens name, and `is_same` that the
+/// data is the same. Memory is taken only to decode a token with a `~`.
+impl<D: Descend> ResolveMut for D {
+    type Value = D::Node;
+
+    type Error = Error;
+
+    ghost finds = { λ d tokens r. D.finds d tokens r };
+
+    ghost refuses = { λ d tokens e. Refuses (D.Document.nodes d) tokens e };
+
+    ghost needs_no_memory = { λ d tokens. All (λ b. b ≢ 126) (text tokens) };
+
+    ghost writes = { λ d tokens w n.
+        PutsAt (D.Document.nodes d) tokens (D.Node.Document.nodes w) (D.Document.nodes n) };
+
+    ghost is_same = { λ d n. D.is_same d n };
+
+    fn resolve_mut(
+        &mut self,
+        alloc: Global,
+        ptr: Pointer<'_>,
+    ) -> Result<&mut D::Node, Fault<Error>> {
+        follow_mut(self, alloc, ptr)
     }
 }
 
 impl<'a> Pointer<'a> {
-    ghost use Rattle.jsonptr.specs.Pointer.{tokens, text_of};
-    ghost use Rattle.jsonptr.specs.Fault.{IfRefused, HasMemory};
-
     /// The value that the pointer names in a document, as [`Resolve::resolve`] gives it.
     ///
     /// # Errors
@@ -75,9 +181,104 @@ impl<'a> Pointer<'a> {
     ) -> Result<&'v R::Value, Fault<R::Error>>
         ensures found { IfOk result (λ r. R.finds value.now (tokens self.now) r.now) }
         ensures refused { IfRefused result (R.refuses value.now (tokens self.now)) }
-        ensures no_memory { All (λ b. b ≢ 126) (text_of self.now) → HasMemory result }
+        ensures no_memory { R.needs_no_memory value.now (tokens self.now) → HasMemory result }
     {
         value.resolve(alloc, *self)
+    }
+
+    /// The value that the pointer names in a document, to be written to, as [`ResolveMut::resolve_mut`] lends
+    /// it. What the document becomes once the loan ends stands in the contract of that method alone.
+    ///
+    /// # Errors
+    ///
+    /// Those of [`ResolveMut::resolve_mut`].
+    pub fn resolve_mut<'v, R: ResolveMut>(
+        &self,
+        alloc: Global,
+        value: &'v mut R,
+    ) -> Result<&'v mut R::Value, Fault<R::Error>>
+        ensures found { IfOk result (λ r. R.finds value.old (tokens self.now) r.now) }
+        ensures refused { IfRefused result (R.refuses value.old (tokens self.now)) }
+        ensures no_memory { R.needs_no_memory value.old (tokens self.now) → HasMemory result }
+    {
+        value.resolve_mut(alloc, *self)
+    }
+}
+
+/// The value that the pointer names in a document of any kind, to be written to.
+fn follow_mut<'v, D: Descend>(
+    value: &'v mut D,
+    alloc: Global,
+    ptr: Pointer<'_>,
+) -> Result<&'v mut D::Node, Fault<Error>>
+    ensures* writes_back { sem 𝓛 (LendsSoOk D.row D.Node.row value.entry result
+        (λ n w. PutsAt (D.Document.nodes value.old) (tokens ptr.entry)
+        (D.Node.Document.nodes w) (D.Document.nodes n))
+        (λ n. D.is_same value.old n)) }
+    ensures found { IfOk result (λ r. D.finds value.old (tokens ptr.entry) r.now) }
+    ensures refused { IfRefused result (Refuses (D.Document.nodes value.old) (tokens ptr.entry)) }
+    ensures no_memory { All (λ b. b ≢ 126) (text (tokens ptr.entry)) → HasMemory result }
+{
+    let guide = Guide { alloc, ptr };
+    let mut reached = 0;
+    match value.descend(&guide, &mut reached) {
+        Ok(node) => match token_at(ptr, reached) {
+            None => Ok(node),
+            Some((front, token, _)) => {
+                match step(&*node, alloc, &token, front.count(), reached) {
+                    Ok(_) => unreachable!(),
+                    Err(fault) => Err(fault),
+                }
+            }
+        },
+        Err(error) => Err(Fault::Memory(error)),
+    }
+}
+
+/// The value that the pointer names in a document of any kind.
+fn follow<'v, D: Document>(
+    value: &'v D,
+    alloc: Global,
+    ptr: Pointer<'_>,
+) -> Result<&'v D, Fault<Error>>
+    ensures found { IfOk result (λ r.
+        FindsAt (D.nodes value.now) (D.stands_at value.now) (tokens ptr.entry) r.now) }
+    ensures refused { IfRefused result (Refuses (D.nodes value.now) (tokens ptr.entry)) }
+    ensures no_memory { All (λ b. b ≢ 126) (text (tokens ptr.entry)) → HasMemory result }
+{
+    let length = ptr.as_str().len();
+    let mut at = value;
+    let mut rest = ptr;
+    let mut position = 0;
+    let mut offset = 0;
+    while let Some((token, after)) = rest.split_front() {
+        at = step(at, alloc, &token, position, offset)?;
+        position += 1;
+        offset = length - after.as_str().len();
+        rest = after;
+    }
+    Ok(at)
+}
+
+/// The child that the token names, or why there is none, as the error of the whole pointer.
+fn step<'v, D: Document>(
+    at: &'v D,
+    alloc: Global,
+    token: &Token<'_>,
+    position: usize,
+    offset: usize,
+) -> Result<&'v D, Fault<Error>>
+    ensures found { IfOk result (λ r.
+        FindsChild (D.nodes at.now) (D.stands_at at.now) token.now r.now) }
+    ensures refused { IfRefused result (RefusesStep (D.nodes at.now) token.now position offset) }
+    ensures no_memory { All (λ b. b ≢ 126) (esc token.now) → HasMemory result }
+{
+    match child(at, alloc, token) {
+        Ok(below) => Ok(below),
+        Err(Fault::Refused(no_child)) => {
+            Err(Fault::Refused(Error::at(position, offset, no_child)))
+        }
+        Err(Fault::Memory(error)) => Err(Fault::Memory(error)),
     }
 }
 
@@ -120,7 +321,32 @@ pub enum Error {
 }
 
 impl Error {
-    ghost use Rattle.jsonptr.specs.Resolve.{position_of, offset_of, IsFailedToParseIndex, IsOutOfBounds, IsNotFound, IsUnreachable};
+    ghost use Rattle.jsonptr_base.specs.declared.index.ParseIndexError.{ParseIndexError};
+    ghost use Rattle.jsonptr_base.specs.declared.index.OutOfBoundsError.{OutOfBoundsError};
+    ghost use Rattle.jsonptr.specs.Resolve.{position_of, offset_of, cause_of};
+    ghost use Rattle.jsonptr.specs.declared.resolve.Error.TheVariants.{FailedToParseIndex, OutOfBounds, NotFound, Unreachable};
+
+    /// The error of a token at this position and offset that names no child.
+    fn at(position: usize, offset: usize, no_child: NoChild) -> Error
+        ensures position { position_of result ≡ position }
+        ensures offset { offset_of result ≡ offset }
+        ensures cause { cause_of result ≡ no_child }
+    {
+        match no_child {
+            NoChild::NoIndex(source) => Error::FailedToParseIndex {
+                position,
+                offset,
+                source,
+            },
+            NoChild::OutOfBounds(source) => Error::OutOfBounds {
+                position,
+                offset,
+                source,
+            },
+            NoChild::NotFound => Error::NotFound { position, offset },
+            NoChild::Unreachable => Error::Unreachable { position, offset },
+        }
+    }
 
     /// How many tokens stand before the one at fault.
     pub fn position(&self) -> usize
@@ -148,37 +374,41 @@ impl Error {
 
     /// Whether the token stands at an array and is no array index.
     pub fn is_failed_to_parse_index(&self) -> bool
-        ensures { IsTrue result ↔ IsFailedToParseIndex self.now }
+        ensures { IsTrue result
+            ↔ ((p o : ℕ) × (source : ParseIndexError)
+            × (self.now ≡ FailedToParseIndex p o source)) }
     {
         matches!(self, Error::FailedToParseIndex { .. })
     }
 
     /// Whether the token stands at an array that has no element at its index.
     pub fn is_out_of_bounds(&self) -> bool
-        ensures { IsTrue result ↔ IsOutOfBounds self.now }
+        ensures { IsTrue result
+            ↔ ((p o : ℕ) × (source : OutOfBoundsError)
+            × (self.now ≡ OutOfBounds p o source)) }
     {
         matches!(self, Error::OutOfBounds { .. })
     }
 
     /// Whether the token stands at an object that has no member of that key.
     pub fn is_not_found(&self) -> bool
-        ensures { IsTrue result ↔ IsNotFound self.now }
+        ensures { IsTrue result ↔ ((p o : ℕ) × (self.now ≡ NotFound p o)) }
     {
         matches!(self, Error::NotFound { .. })
     }
 
     /// Whether the token stands at a value that is neither an array nor an object.
     pub fn is_unreachable(&self) -> bool
-        ensures { IsTrue result ↔ IsUnreachable self.now }
+        ensures { IsTrue result ↔ ((p o : ℕ) × (self.now ≡ Unreachable p o)) }
     {
         matches!(self, Error::Unreachable { .. })
     }
 }
 
 impl fmt::Display for Error {
-    ghost use Rattle.jsonptr.specs.Resolve.{message_of};
+    ghost use Rattle.jsonptr.specs.Resolve.{resolve_message};
 
-    ghost output = { λ e. Some (message_of e) };
+    ghost output = { λ e. Some (resolve_message e) };
 
     fn fmt<W: fmt::Write>(&self, f: &mut fmt::Formatter<W>) -> fmt::Result {
         match self {

@@ -3,10 +3,10 @@ use Rattle.std.proofs.Common.{◌≡◌, ◌≢◌, ℕ, zero, suc, ◌+◌, ◌
 use Rattle.std.proofs.lemmas.Bool.{eqb-true, ne_eqb}
 use Rattle.std.proofs.lemmas.List.{drop-drop, get_or-drop}
 use Rattle.memchr.specs.Find.{NoneBefore, Passes, is_byte}
-use Rattle.jsonptr_spec.specs.Text.{Text, escaped_by, unesc}
-use Rattle.jsonptr_spec.specs.Grammar.{IsToken, end, plain, tilde, slash}
-use Rattle.jsonptr_spec.proofs.EscapeLemmas.{unesc-cons}
-use Rattle.jsonptr_base.specs.Token.{IsEscapeCut}
+use Rattle.jsonptr_grammar.specs.Text.{Text, escaped_by, unesc}
+use Rattle.jsonptr_grammar.specs.Grammar.{IsToken, end, plain, tilde, slash}
+use Rattle.jsonptr_grammar.proofs.EscapeLemmas.{unesc-cons}
+use Rattle.jsonptr_base.specs.Private.{IsEscapeCut}
 
 -- what stands around the first `~` of a token's text
 pub record EscapeAt (s : Text) (at : ℕ) : Type 0 where

@@ -12,10 +12,11 @@ use Rattle.std.proofs.lemmas.Bool.Decides.{nat_tests}
 use Rattle.std.proofs.lemmas.List.{get_or_past}
 use Rattle.std.proofs.lemmas.Str.{encodes-chars, encodes-IsAscii}
 use Rattle.std.proofs.lemmas.Str.Parse.{digit_at, numerals_by_value, tells_digits, parse_digits}
-use Rattle.jsonptr_spec.specs.Text.{Text, dec, esc}
-use Rattle.jsonptr_spec.proofs.EscapeLemmas.{unesc-esc, IsUtf8-unesc, IsToken-esc, by_byte, length-le-esc, esc_one, chars-esc, esc-cons}
-use Rattle.jsonptr_spec.proofs.DecLemmas.{dec_from_digits_length, esc-dec, AllDigits-dec, range-dec, chars-dec, dec-not_nil, digits_value-dec, length-dec_zero}
-use Rattle.jsonptr_base.specs.Index.{Reads, first_nondigit, index_text}
+use Rattle.jsonptr_grammar.specs.Text.{Text, dec, esc}
+use Rattle.jsonptr_grammar.proofs.EscapeLemmas.{unesc-esc, IsUtf8-unesc, IsToken-esc, by_byte, length-le-esc, esc_one, chars-esc, esc-cons}
+use Rattle.jsonptr_grammar.proofs.DecLemmas.{dec_from_digits_length, esc-dec, AllDigits-dec, range-dec, chars-dec, dec-not_nil, digits_value-dec, length-dec_zero}
+use Rattle.jsonptr_base.specs.Index.{Reads, first_nondigit, index_text, IsWithin, IsWithinOrNext, place_in}
+use Rattle.jsonptr_base.specs.declared.index.OutOfBoundsError.{OutOfBoundsError}
 use Rattle.jsonptr_base.specs.declared.index.Index.{Index}
 use Rattle.jsonptr_base.specs.declared.index.Index.TheVariants.{Num, Next}
 use Rattle.jsonptr_base.specs.declared.index.ParseIndexError.{ParseIndexError}
@@ -270,3 +271,20 @@ Reads-esc_iff s u r = (Reads-esc s u r, Reads-unesc s u r)
 pub index_text-Reads : (s : Text) (index : Index) → Reads s (Ok index) → index_text index ≡ s
 index_text-Reads s (Num i) h = sym h.0
 index_text-Reads s Next h = sym h
+
+-- ---- an index within the bounds of an array
+
+pub within_some : (index : Index) (len : ℕ) → (r : Result ℕ OutOfBoundsError) × IsWithin index len r
+within_some (Num i) len =
+    ⊎_elim
+    (λ (below : i < len). (Ok i, (refl, below)))
+    (λ (over : len ≤ i). (Err (record { length = len; index = i }), (over, refl, refl)))
+    (cases_lt i len)
+within_some Next len = (Err (record { length = len; index = len }), (refl, refl))
+
+pub or_next_some : (index : Index) (len : ℕ) → (r : Result ℕ OutOfBoundsError) × IsWithinOrNext index len r
+or_next_some index len =
+    ⊎_elim
+    (λ (over : len < place_in len index). (Err (record { length = len; index = place_in len index }), (over, refl, refl)))
+    (λ (upto : place_in len index ≤ len). (Ok (place_in len index), (refl, upto)))
+    (cases_lt len (place_in len index))

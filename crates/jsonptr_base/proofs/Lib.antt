@@ -1,4 +1,5 @@
 pub mod CutLemmas
+pub mod EncodingLemmas
 pub mod IndexLemmas
 pub mod NumberLemmas
 pub mod TokenLemmas

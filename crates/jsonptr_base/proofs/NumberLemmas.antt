@@ -10,8 +10,8 @@ use Rattle.std.specs.Int.Digits.{digits_of}
 use Rattle.std.proofs.lemmas.List.{map-append}
 use Rattle.std.proofs.lemmas.Int.Digits.{digits_of_step}
 use Rattle.std.proofs.lemmas.Fmt.{decimal_by_steps_wide}
-use Rattle.jsonptr_spec.specs.Text.{Text, dec}
-use Rattle.jsonptr_spec.proofs.DecLemmas.{dec-digits_of}
+use Rattle.jsonptr_grammar.specs.Text.{Text, dec}
+use Rattle.jsonptr_grammar.proofs.DecLemmas.{dec-digits_of}
 use Rattle.jsonptr_base.specs.Number.{signed_dec}
 
 dec_digit : (n : ℕ) → n < 10 → dec n ≡ (48 + n) ∷ []

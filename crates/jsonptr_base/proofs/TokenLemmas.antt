@@ -6,13 +6,14 @@ use Rattle.std.specs.Str.{bytes_eq}
 use Rattle.std.proofs.lemmas.List.{at_drop_all, take-append-drop, length-take-le, get_or-take}
 use Rattle.std.proofs.lemmas.Slice.Eq.{bytes_eq-Decides}
 use Rattle.memchr.specs.Find.{Nowhere, Passes, is_byte, is_byte2}
-use Rattle.jsonptr_spec.specs.Text.{Text, esc, escape_of, unesc}
-use Rattle.jsonptr_spec.proofs.EscapeLemmas.{IsToken-plain_at, esc-append, esc-plain_at, unesc-plain_at, unesc-esc, esc_one}
-use Rattle.jsonptr_spec.specs.Grammar.{IsToken}
-use Rattle.jsonptr_spec.specs.Fault.{IsSlashAt, EndsEscape}
-use Rattle.jsonptr_spec.proofs.FaultLemmas.{token_or_fault}
-use Rattle.jsonptr_spec.proofs.ScanLemmas.{past_end}
-use Rattle.jsonptr_base.specs.Token.{IsFirstFault, IsPlainBefore}
+use Rattle.jsonptr_grammar.specs.Text.{Text, esc, escape_of, unesc}
+use Rattle.jsonptr_grammar.proofs.EscapeLemmas.{IsToken-plain_at, esc-append, esc-plain_at, unesc-plain_at, unesc-esc, esc_one}
+use Rattle.jsonptr_grammar.specs.Grammar.{IsToken}
+use Rattle.jsonptr_grammar.specs.FirstFault.{IsSlashAt, EndsEscape}
+use Rattle.jsonptr_grammar.proofs.FaultLemmas.{token_or_fault}
+use Rattle.jsonptr_grammar.proofs.ScanLemmas.{past_end}
+use Rattle.jsonptr_base.specs.Private.{IsPlainBefore}
+use Rattle.jsonptr_base.specs.Token.{TellsTokenFault}
 use Rattle.jsonptr_base.specs.declared.token.InvalidEncoding.TheVariants.{Tilde, Slash}
 
 abbrev pub Spoils : Text → ℕ → Type 0
@@ -44,7 +45,7 @@ module _ (s : Text) (i : ℕ) (h : Scanned s i) where
     no_tilde = λ above is. tilde (sym (at_last s i) ∙ is);
   }
 
-  pub scanned_slash : get_or s i 0 ≡ 47 → IsFirstFault s record { offset = i; source = Slash }
+  pub scanned_slash : get_or s i 0 ≡ 47 → TellsTokenFault s record { offset = i; source = Slash }
   scanned_slash slash = record { place = record { here = inl slash; before = h.none }; cause = slash }
 
   module _ (tilde : get_or s i 0 ≡ 126) where
@@ -63,10 +64,10 @@ module _ (s : Text) (i : ℕ) (h : Scanned s i) where
         } in
         subst (λ (k : ℕ). Scanned s k) (omega arith) next
 
-    pub scanned_slash_next : get_or s (i + 1) 0 ≡ 47 → IsFirstFault s record { offset = i + 1; source = Slash }
+    pub scanned_slash_next : get_or s (i + 1) 0 ≡ 47 → TellsTokenFault s record { offset = i + 1; source = Slash }
     scanned_slash_next slash = record { place = record { here = inl slash; before = none_yet }; cause = slash }
 
-    pub scanned_tilde : get_or s (i + 1) 0 ≢ 48 → get_or s (i + 1) 0 ≢ 49 → get_or s (i + 1) 0 ≢ 47 → IsFirstFault s record { offset = i + 1; source = Tilde }
+    pub scanned_tilde : get_or s (i + 1) 0 ≢ 48 → get_or s (i + 1) 0 ≢ 49 → get_or s (i + 1) 0 ≢ 47 → TellsTokenFault s record { offset = i + 1; source = Tilde }
     scanned_tilde zero one slash =
         let ends : EndsEscape s (i + 1) = record { inside = omega arith; after_tilde = at_last s i ∙ tilde; no_zero = zero; no_one = one; no_slash = slash } in
         record { place = record { here = inr ends; before = none_yet }; cause = ends }

@@ -2,7 +2,7 @@
 use Rattle.std.specs.Prelude.{◌≡◌, ◌==◌, ◌&&◌, Bool, ℕ, [], ◌∷◌, List, Option, Some, None, Vec}
 use Rattle.std.specs.Str.{bytes_eq}
 use Rattle.std.specs.Global.{Global}
-use Rattle.jsonptr_spec.specs.Text.{Text}
+use Rattle.jsonptr_grammar.specs.Text.{Text}
 
 -- what a label says of a text: the words, and the place and the length in bytes of the span that they speak of
 pub record Mark : Type 0 where

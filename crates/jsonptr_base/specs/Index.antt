@@ -1,7 +1,7 @@
 -- Array indices (RFC 6901, section 4).
 use Rattle.std.specs.Prelude.{◌≡◌, ◌≢◌, ℕ, ◌<◌, ◌≤◌, ◌^◌, not, [], ◌∷◌, length, slice_index, position, chars, Option, Some, Result, Ok, Err}
 use Rattle.std.specs.Char.{is_ascii_digit}
-use Rattle.jsonptr_spec.specs.Text.{Text, dec}
+use Rattle.jsonptr_grammar.specs.Text.{Text, dec}
 use Rattle.jsonptr_base.specs.declared.index.Index.{Index}
 use Rattle.jsonptr_base.specs.declared.index.Index.TheVariants.{Num, Next}
 use Rattle.jsonptr_base.specs.declared.index.ParseIndexError.{ParseIndexError}
@@ -20,7 +20,8 @@ Reads s (Ok Next) = s ≡ 45 ∷ []
 Reads s (Err (InvalidInteger Empty)) = s ≡ []
 Reads s (Err (InvalidInteger Overflow)) = (i : ℕ) × (s ≡ dec i) × (2 ^ 64 ≤ i)
 Reads s (Err LeadingZeros) = (slice_index s 0 ≡ 48) × (1 < length s)
-Reads s (Err (InvalidCharacter offset)) = (slice_index s 0 ≢ 48) × (s ≢ 45 ∷ []) × (first_nondigit s ≡ Some offset)
+Reads s (Err (InvalidCharacter offset)) =
+    (slice_index s 0 ≢ 48) × (s ≢ 45 ∷ []) × (first_nondigit s ≡ Some offset)
 
 -- the index is refused for the length, and the error tells both
 abbrev pub IsBeyond : Index → ℕ → OutOfBoundsError → Type 0
@@ -40,7 +41,8 @@ place_in len Next = len
 -- what an index is where that place may be used too: the place, which is at most the length, or refused
 abbrev pub IsWithinOrNext : Index → ℕ → Result ℕ OutOfBoundsError → Type 0
 IsWithinOrNext index len (Ok place) = (place ≡ place_in len index) × (place ≤ len)
-IsWithinOrNext index len (Err e) = (len < place_in len index) × (e.length ≡ len) × (e.index ≡ place_in len index)
+IsWithinOrNext index len (Err e) =
+    (len < place_in len index) × (e.length ≡ len) × (e.index ≡ place_in len index)
 
 -- the text of an index
 abbrev pub index_text : Index → Text

@@ -1,6 +1,6 @@
 -- The decimal texts of integers.
 use Rattle.std.specs.Prelude.{◌+◌, ◌∷◌, ℤ, pos, negsuc}
-use Rattle.jsonptr_spec.specs.Text.{Text, dec}
+use Rattle.jsonptr_grammar.specs.Text.{Text, dec}
 
 -- the decimal text of an integer, with `-` before that of the amount of a negative one
 abbrev pub signed_dec : ℤ → Text

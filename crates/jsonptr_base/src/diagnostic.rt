@@ -3,7 +3,7 @@
 ghost use Rattle.std.specs.Prelude.{◌≡◌, ◌↔◌, List, Option, IsTrue, IfOk, string_bytes};
 ghost use Rattle.std.proofs.Common.{rules};
 ghost use Rattle.std.specs.Cmp.Rules.{comparing};
-ghost use Rattle.jsonptr_spec.specs.Text.{Text};
+ghost use Rattle.jsonptr_grammar.specs.Text.{Text};
 ghost use Rattle.jsonptr_base.specs.Diagnostic.{Mark, mark_eq, listed, IsOneLabel};
 ghost use Rattle.jsonptr_base.specs.Report.{original_of, subject_of};
 
@@ -194,6 +194,3 @@ impl<T: Diagnostic + fmt::Display> fmt::Display for Report<T> {
         self.source.fmt(f)
     }
 }
-
-#[cfg(test)]
-mod tests;

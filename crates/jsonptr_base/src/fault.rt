@@ -1,8 +1,11 @@
 //! What a call answers that can refuse and can also run out of memory.
 ghost use Rattle.std.specs.Prelude.{◌≡◌};
+ghost use Rattle.jsonptr_base.specs.Fault.{fault_text};
 ghost use Rattle.jsonptr_base.specs.declared.fault.Fault.TheVariants.{Memory};
 
 use std::alloc::AllocError;
+use std::error::Error;
+use std::fmt;
 
 /// Why a call that takes memory did not succeed.
 #[derive(Debug, Drop)]
@@ -21,26 +24,16 @@ impl<E> From<AllocError> for Fault<E> {
     }
 }
 
-#[cfg(test)]
-mod tests {
-    use super::Fault;
-    use std::alloc::AllocError;
+/// The text of the refusal, or that of [`AllocError`].
+impl<E: fmt::Display> fmt::Display for Fault<E> {
+    ghost output = { fault_text E.output };
 
-    /// Refuses a number above 9, and has no memory for 0.
-    fn refused_or_full(n: u8) -> Result<(), Fault<u8>> {
-        if n > 9 {
-            return Err(Fault::Refused(n));
+    fn fmt<W: fmt::Write>(&self, f: &mut fmt::Formatter<W>) -> fmt::Result {
+        match self {
+            Fault::Refused(error) => error.fmt(f),
+            Fault::Memory(_) => f.write_str("memory allocation failed"),
         }
-        if n == 0 {
-            Err(AllocError)?;
-        }
-        Ok(())
-    }
-
-    #[test]
-    fn both_faults(rt: HostRuntime) {
-        assert!(rt; matches!(refused_or_full(12), Err(Fault::Refused(12))));
-        assert!(rt; matches!(refused_or_full(0), Err(Fault::Memory(_))));
-        assert!(rt; refused_or_full(1).is_ok());
     }
 }
+
+impl<E: Error> Error for Fault<E> {}

@@ -1,11 +1,12 @@
 //! Array indices as reference tokens write them (RFC 6901, section 4): a number without leading zeros,
 //! or `-`, the place after the last element.
-ghost use Rattle.std.specs.Prelude.{◌≡◌, ◌≢◌, ◌≤◌, ◌<◌, ◌^◌, ◌↔◌, ℕ, [], ◌∷◌, length, slice_index, string_bytes, IsUtf8, Result, Some};
+ghost use Rattle.std.specs.Prelude.{◌≡◌, ◌≢◌, ◌≤◌, ◌<◌, ◌^◌, ◌↔◌, ℕ, [], ◌∷◌, length, slice_index, string_bytes, IsTrue, IsUtf8, Result, Some};
 ghost use Rattle.std.specs.Ordering.{nat_cmp};
 ghost use Rattle.std.specs.declared.cmp.Ordering.TheVariants.{Less, Equal, Greater};
-ghost use Rattle.jsonptr_spec.specs.Text.{Text, esc};
+ghost use Rattle.jsonptr_grammar.specs.Text.{Text, esc};
 ghost use Rattle.jsonptr_base.specs.declared.index.Index.{Index};
 ghost use Rattle.jsonptr_base.specs.declared.index.ParseIndexError.{ParseIndexError};
+ghost use Rattle.jsonptr_base.specs.declared.index.OutOfBoundsError.{OutOfBoundsError};
 ghost use Rattle.jsonptr_base.specs.declared.index.Index.TheVariants.{Num, Next};
 ghost use Rattle.jsonptr_base.specs.Index.{IsWithin, IsWithinOrNext, Reads, first_nondigit, index_text, place_in};
 
@@ -200,7 +201,8 @@ impl<'a> Token<'a> {
 pub fn index_law()
     ensures one { (s : Text) (r q : Result Index ParseIndexError) → Reads s r → Reads s q → r ≡ q }
     ensures some { (s : Text) → IsUtf8 s → (r : Result Index ParseIndexError) × Reads s r }
-    ensures escape { (s : Text) → IsUtf8 s → (r : Result Index ParseIndexError) → Reads s r ↔ Reads (esc s) r }
+    ensures escape { (s : Text) → IsUtf8 s
+        → (r : Result Index ParseIndexError) → Reads s r ↔ Reads (esc s) r }
     ensures shown { (s : Text) (index : Index) → Reads s (Ok index) → index_text index ≡ s }
     ensures read_number { (n : ℕ) → n < 2 ^ 64 → Reads (index_text (Num n)) (Ok (Num n)) }
     ensures read_next { Reads (index_text Next) (Ok Next) }
@@ -209,8 +211,23 @@ pub fn index_law()
 /// The order of indices: numbers by size, and every number before `Next`.
 pub fn index_order_law()
     ensures numbers { (i j : ℕ) → ⟦<Index as Ord>⟧.cmp (Num i) (Num j) ≡ nat_cmp i j }
-    ensures next { (i : ℕ) → (⟦<Index as Ord>⟧.cmp (Num i) Next ≡ Less) × (⟦<Index as Ord>⟧.cmp Next (Num i) ≡ Greater) }
-    ensures equal { (i j : Index) → ⟦<Index as Ord>⟧.cmp i j ≡ Equal → i ≡ j }
+    ensures before_next { (i : ℕ) → ⟦<Index as Ord>⟧.cmp (Num i) Next ≡ Less }
+    ensures next { (i : ℕ) → ⟦<Index as Ord>⟧.cmp Next (Num i) ≡ Greater }
+    ensures tie { (i j : Index) → (⟦<Index as Ord>⟧.cmp i j ≡ Equal) ↔ (i ≡ j) }
+    ensures equal { (i j : Index) → IsTrue (⟦<Index as PartialEq>⟧.eq i j) ↔ (i ≡ j) }
+{}
+
+/// In an array of each length an index is one place or refused in one way, both where the place behind the
+/// last element counts and where it does not.
+pub fn bounds_law()
+    ensures within { (index : Index) (len : ℕ)
+        → (r : Result ℕ OutOfBoundsError) × IsWithin index len r }
+    ensures one_within { (index : Index) (len : ℕ) (r q : Result ℕ OutOfBoundsError)
+        → IsWithin index len r → IsWithin index len q → r ≡ q }
+    ensures or_next { (index : Index) (len : ℕ)
+        → (r : Result ℕ OutOfBoundsError) × IsWithinOrNext index len r }
+    ensures one_or_next { (index : Index) (len : ℕ) (r q : Result ℕ OutOfBoundsError)
+        → IsWithinOrNext index len r → IsWithinOrNext index len q → r ≡ q }
 {}
 
 /// An index that is not within the bounds of an array.
@@ -268,6 +285,3 @@ impl InvalidCharacterError {
         self.offset
     }
 }
-
-#[cfg(test)]
-mod tests;

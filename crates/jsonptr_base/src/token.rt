@@ -1,7 +1,7 @@
 //! One reference token of a JSON Pointer (RFC 6901, section 3).
-ghost use Rattle.std.specs.Prelude.{◌≡◌, ◌≢◌, ◌↔◌, refl, [], ◌∷◌, Some, All, IsTrue, IsOk, IfOk, IfErr};
+ghost use Rattle.std.specs.Prelude.{◌≡◌, ◌≢◌, ◌⊎◌, ◌↔◌, refl, [], ◌∷◌, Some, All, IsTrue, IsOk, IfOk, IfErr};
 ghost use Rattle.std.proofs.Common.{rules};
-ghost use Rattle.std.specs.Cow.{cow_str_bytes};
+ghost use Rattle.std.specs.Cow.{cow_str_bytes, IsBorrowedStr};
 ghost use Rattle.std.specs.Hash as fed;
 ghost use Rattle.std.specs.Ordering.{nat_cmp};
 ghost use Rattle.std.specs.Str.{bytes_eq};
@@ -10,8 +10,10 @@ ghost use Rattle.std.specs.Cmp.{on_equiv, on_per, on_po, on_total};
 ghost use Rattle.std.specs.Cmp.Lexicographic.{slice_cmp, nat_list_eq_equiv, nat_list_cmp_total, texts_po, texts_ties};
 ghost use Rattle.std.specs.Cmp.Rules.{hashing};
 ghost use Rattle.std.specs.declared.cmp.Ordering.TheVariants.{Equal};
-ghost use Rattle.jsonptr_spec.specs.Text.{Text, esc};
-ghost use Rattle.jsonptr_spec.specs.Grammar.{IsToken};
+ghost use Rattle.jsonptr_grammar.specs.Text.{Text, esc};
+ghost use Rattle.jsonptr_grammar.specs.Grammar.{IsToken};
+ghost use Rattle.jsonptr_base.specs.Token.{TellsTokenFault};
+ghost use Rattle.jsonptr_base.specs.declared.token.EncodingError.{EncodingError};
 
 use std::alloc::{AllocError, Global};
 use std::borrow::CowStr;
@@ -31,7 +33,7 @@ pub struct Token<'a> {
 impl<'a> Model for Token<'a> {
     ghost use Rattle.std.specs.Prelude.{◌≡◌, ℕ, List};
     ghost use Rattle.std.specs.Cow.{cow_str_bytes};
-    ghost use Rattle.jsonptr_spec.specs.Text.{esc, unesc};
+    ghost use Rattle.jsonptr_grammar.specs.Text.{esc, unesc};
 
     ghost Value = { List ℕ };
 
@@ -41,8 +43,6 @@ impl<'a> Model for Token<'a> {
 }
 
 impl<'a> Token<'a> {
-    ghost use Rattle.jsonptr_base.specs.Token.{IsFirstFault};
-
     /// The token with this encoded text, which it keeps as it is; no memory is taken.
     ///
     /// # Errors
@@ -52,7 +52,7 @@ impl<'a> Token<'a> {
     pub fn from_encoded(s: CowStr<'a>) -> Result<Token<'a>, EncodingError>
         ensures token { IsOk result ↔ IsToken (cow_str_bytes s.entry) }
         ensures text { IfOk result (λ t. esc t ≡ cow_str_bytes s.entry) }
-        ensures fault { IfErr result (IsFirstFault (cow_str_bytes s.entry)) }
+        ensures fault { IfErr result (TellsTokenFault (cow_str_bytes s.entry)) }
     {
         match scan::first_fault(s.as_str().as_bytes()) {
             None => Ok(Token { inner: s }),
@@ -69,9 +69,10 @@ impl<'a> Token<'a> {
     #[inline(always)]
     pub fn new(alloc: Global, s: CowStr<'a>) -> Result<Token<'a>, AllocError>
         ensures text { IfOk result (λ t. t ≡ cow_str_bytes s.entry) }
-        ensures no_memory { All (λ b. b ≢ 126) (cow_str_bytes s.entry) → All (λ b. b ≢ 47) (cow_str_bytes s.entry) → IsOk result }
+        ensures no_memory { All (λ b. b ≢ 126) (cow_str_bytes s.entry)
+            → All (λ b. b ≢ 47) (cow_str_bytes s.entry) → IsOk result }
     {
-        match memchr::memchr2(b'~', b'/', s.as_str().as_bytes()) {
+        match scan::first_special(s.as_str().as_bytes()) {
             None => Ok(Token { inner: s }),
             Some(at) => Ok(Token {
                 inner: CowStr::Owned(scan::escaped(alloc, s.as_str(), at)?),
@@ -128,13 +129,6 @@ impl<'a> Token<'a> {
         self.inner
     }
 
-    /// Whether the token is `-`, which names the place behind the last element of an array.
-    pub fn is_next(&self) -> bool
-        ensures { IsTrue result ↔ (self.now ≡ 45 ∷ []) }
-    {
-        self.encoded() == "-"
-    }
-
     /// The text that the token stands for: `~1` read as `/` and `~0` as `~`, in one pass from the left
     /// (RFC 6901, section 4). It lends the token's own text where that has no tilde.
     ///
@@ -144,12 +138,20 @@ impl<'a> Token<'a> {
     pub fn decoded(&self, alloc: Global) -> Result<CowStr<'_>, AllocError>
         ensures text { IfOk result (λ c. cow_str_bytes c ≡ self.now) }
         ensures no_memory { All (λ b. b ≢ 126) (esc self.now) → IsOk result }
+        ensures lends { All (λ b. b ≢ 126) (esc self.now) → IfOk result IsBorrowedStr }
     {
         let encoded = self.encoded();
         match memchr::memchr(b'~', encoded.as_bytes()) {
             None => Ok(CowStr::Borrowed(encoded)),
             Some(_) => Ok(CowStr::Owned(scan::unescaped(alloc, encoded)?)),
         }
+    }
+
+    /// Whether the token is `-`, which names the place behind the last element of an array.
+    pub fn is_next(&self) -> bool
+        ensures { IsTrue result ↔ (self.now ≡ 45 ∷ []) }
+    {
+        self.encoded() == "-"
     }
 }
 
@@ -216,11 +218,23 @@ impl<'a> Hash for Token<'a> {
     }
 }
 
-/// Tokens are compared by their encoded texts, and that tells any two decoded texts apart, and no text from
-/// itself.
+/// Tokens are equal where their decoded texts are, they are ordered as their encoded texts are by bytes, which
+/// ties no two tokens, and they are hashed as their encoded texts are.
 pub fn token_order_law()
     ensures tie { (s t : Text) → (⟦<Token<'static> as Ord>⟧.cmp s t ≡ Equal) ↔ (s ≡ t) }
     ensures equal { (s t : Text) → IsTrue (⟦<Token<'static> as PartialEq>⟧.eq s t) ↔ (s ≡ t) }
+    ensures order { (s t : Text)
+        → ⟦<Token<'static> as Ord>⟧.cmp s t ≡ slice_cmp nat_cmp (esc s) (esc t) }
+    ensures hash { (s : Text) → ⟦<Token<'static> as Hash>⟧.hash_input s ≡ fed.str (esc s) }
+{}
+
+/// Each text is a token (RFC 6901, section 3) or has a first fault, no text both, and the fault is one in its
+/// place and its kind.
+pub fn encoding_law()
+    ensures some { (t : Text) → IsToken t ⊎ ((e : EncodingError) × TellsTokenFault t e) }
+    ensures not_both { (t : Text) (e : EncodingError) → IsToken t → TellsTokenFault t e → ⊥ }
+    ensures one { (t : Text) (e f : EncodingError)
+        → TellsTokenFault t e → TellsTokenFault t f → e ≡ f }
 {}
 
 /// The decoded text, exactly; no memory is taken.
@@ -264,6 +278,3 @@ mod number;
 mod scan;
 
 pub use number::Number;
-
-#[cfg(test)]
-mod tests;

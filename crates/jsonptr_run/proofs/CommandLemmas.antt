@@ -3,7 +3,7 @@ use Rattle.std.proofs.Common.{◌≡◌, ◌<◌, ◌≤◌, true, nat_eq, List,
 use Rattle.std.proofs.lemmas.Slice.Eq.{slice_eq-Decides}
 use Rattle.std.proofs.lemmas.Bool.Decides.{Decides-eqb}
 use lib.Pointwise.{pointwise}
-use Rattle.jsonptr_spec.specs.Text.{Text}
+use Rattle.jsonptr.specs.Text.{Text}
 
 pub two_words : {A : Type 0} (f : A → Text) (ws : List A) (a b : A) → 2 ≤ length ws → length ws < 3 → a ≡ get_or ws 0 a → b ≡ get_or ws 1 b → map f ws ≡ f a ∷ f b ∷ []
 two_words f [] a b low high e h = absurd (omega arith)

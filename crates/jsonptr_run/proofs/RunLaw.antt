@@ -1,44 +1,43 @@
 -- That the stated answer of a run is one.
-use Rattle.std.proofs.Common.{◌≡◌, ℕ, List, [], ◌∷◌, ◌++◌, Result, Ok, Err, Some, None, codes, false, refl, sym, ◌∙◌, ap, subst, inl, inr, ⊎_elim}
+use Rattle.std.proofs.Common.{◌≡◌, ◌⊎◌, ℕ, List, [], ◌∷◌, ◌++◌, Option, Result, Ok, Err, Some, None, MatchOption, codes, false, sym, ◌∙◌, ap, subst, inl, inr}
 use Rattle.serde_json.specs.Data.{Data}
 use Rattle.serde_json.specs.Written.{has_float}
-use Rattle.jsonptr_spec.specs.Text.{Text, text}
-use Rattle.jsonptr_spec.specs.Grammar.{IsPointer}
-use Rattle.jsonptr_spec.specs.Node.{NodeMap}
-use Rattle.jsonptr_spec.specs.Following.{Finds}
-use Rattle.jsonptr_spec.specs.Json.{nodes, FindsValue}
-use Rattle.jsonptr_spec.proofs.PointerLemmas.{text_one, IsPointer-text}
-use Rattle.jsonptr_spec.proofs.JsonLemmas.{FindsValue_one, FindsValue-Finds}
-use Rattle.jsonptr.specs.ParseError.{IsFirstFault}
+use Rattle.jsonptr.specs.Text.{Text, text}
+use Rattle.jsonptr.specs.Grammar.{IsPointer}
+use Rattle.jsonptr.specs.Node.{NodeMap}
+use Rattle.jsonptr.specs.Following.{Finds}
+use Rattle.jsonptr.specs.Json.{nodes}
+use Rattle.jsonptr.proofs.Calling.{text_one, IsPointer-text}
+use Rattle.jsonptr.proofs.Calling.{FindsValue_one, FindsValue-Finds}
+use Rattle.jsonptr.specs.ParseError.{TellsPointerFault}
 use Rattle.jsonptr.specs.Resolve.{Refuses}
-use Rattle.jsonptr.specs.declared.pointer.ParseError.{ParseError}
+use Rattle.jsonptr.specs.Types.ParseError.{ParseError}
 use Rattle.jsonptr.specs.declared.resolve.Error.{Error}
-use Rattle.jsonptr_run.specs.Document.{json_of, IsJsonLine}
-use Rattle.jsonptr_run.specs.Run.{Request, resolve, tokens, words_of, TakesPointer, Asks, Gives, IsSameAnswer}
+use Rattle.jsonptr_run.specs.JsonText.{json_of, IsJsonLine}
+use Rattle.jsonptr_run.specs.Run.{Request, resolving, listing, AskFor, TakePointer, IsWordsFault, IsPointerFault, Asks, Gives, Resolves}
 use Rattle.jsonptr_run.specs.declared.fault.RunFault.{RunFault}
-use Rattle.jsonptr_run.specs.declared.fault.RunFault.TheVariants.{Usage, BadPointer, NoValue, InputNotJson, Memory, Read, Write}
+use Rattle.jsonptr_run.specs.declared.fault.RunFault.TheVariants.{BadPointer, NoValue, InputNotJson}
+
+-- ---- the words
 
 -- the tokens that a request speaks of
 tokens_in : Request → List Text
-tokens_in (resolve ts) = ts
-tokens_in (tokens ts) = ts
+tokens_in (resolving ts) = ts
+tokens_in (listing ts) = ts
 
 pair_one : (c d p q : Text) → c ∷ p ∷ [] ≡ d ∷ q ∷ [] → p ≡ q
 pair_one c d p q e = cc
 
-takes : (words : List Text) (request : Request) → words ≡ words_of request → TakesPointer words (text (tokens_in request))
+takes : (words : List Text) (request : Request) → AskFor words request → TakePointer words (text (tokens_in request))
 unfolding tokens_in
-takes words (resolve ts) h = inl h
-takes words (tokens ts) h = inr h
+takes words (resolving ts) h = inl h
+takes words (listing ts) h = inr h
 
-pointer_one : (words : List Text) (p q : Text) → TakesPointer words p → TakesPointer words q → p ≡ q
-pointer_one words p q h k =
-    ⊎_elim
-    (λ (x : words ≡ codes "resolve" ∷ p ∷ []).
-    ⊎_elim (λ (y : words ≡ codes "resolve" ∷ q ∷ []). pair_one (codes "resolve") (codes "resolve") p q (sym x ∙ y)) (λ (y : words ≡ codes "tokens" ∷ q ∷ []). pair_one (codes "resolve") (codes "tokens") p q (sym x ∙ y)) k)
-    (λ (x : words ≡ codes "tokens" ∷ p ∷ []).
-    ⊎_elim (λ (y : words ≡ codes "resolve" ∷ q ∷ []). pair_one (codes "tokens") (codes "resolve") p q (sym x ∙ y)) (λ (y : words ≡ codes "tokens" ∷ q ∷ []). pair_one (codes "tokens") (codes "tokens") p q (sym x ∙ y)) k)
-    h
+pointer_one : (words : List Text) (p q : Text) → TakePointer words p → TakePointer words q → p ≡ q
+pointer_one words p q (inl x) (inl y) = pair_one (codes "resolve") (codes "resolve") p q (sym x ∙ y)
+pointer_one words p q (inl x) (inr y) = pair_one (codes "resolve") (codes "tokens") p q (sym x ∙ y)
+pointer_one words p q (inr x) (inl y) = pair_one (codes "tokens") (codes "resolve") p q (sym x ∙ y)
+pointer_one words p q (inr x) (inr y) = pair_one (codes "tokens") (codes "tokens") p q (sym x ∙ y)
 
 other_command : (p q : Text) → codes "resolve" ∷ p ∷ [] ≡ codes "tokens" ∷ q ∷ [] → ⊥
 other_command p q e = let first : codes "resolve" ≡ codes "tokens" = first_one (codes "resolve") (codes "tokens") p q e in cc
@@ -46,85 +45,57 @@ other_command p q e = let first : codes "resolve" ≡ codes "tokens" = first_one
     first_one : (c d p q : Text) → c ∷ p ∷ [] ≡ d ∷ q ∷ [] → c ≡ d
     first_one c d p q e = cc
 
-words_of_one : (r q : Request) → words_of r ≡ words_of q → r ≡ q
-words_of_one (resolve ts) (resolve us) e = ap resolve (text_one ts us (pair_one (codes "resolve") (codes "resolve") (text ts) (text us) e))
-words_of_one (resolve ts) (tokens us) e = absurd (other_command (text ts) (text us) e)
-words_of_one (tokens ts) (resolve us) e = absurd (other_command (text us) (text ts) (sym e))
-words_of_one (tokens ts) (tokens us) e = ap tokens (text_one ts us (pair_one (codes "tokens") (codes "tokens") (text ts) (text us) e))
+request_one : (words : List Text) (r q : Request) → AskFor words r → AskFor words q → r ≡ q
+request_one words (resolving ts) (resolving us) h k = ap resolving (text_one ts us (pair_one (codes "resolve") (codes "resolve") (text ts) (text us) (sym h ∙ k)))
+request_one words (resolving ts) (listing us) h k = absurd (other_command (text ts) (text us) (sym h ∙ k))
+request_one words (listing ts) (resolving us) h k = absurd (other_command (text us) (text ts) (sym k ∙ h))
+request_one words (listing ts) (listing us) h k = ap listing (text_one ts us (pair_one (codes "tokens") (codes "tokens") (text ts) (text us) (sym h ∙ k)))
 
-module _ (not_both : (s : Text) (e : ParseError) → IsPointer s → IsFirstFault s e → ⊥) (one : (s : Text) (e f : ParseError) → IsFirstFault s e → IsFirstFault s f → e ≡ f) (words : List Text) where
-  not_refused : (request : Request) (e : ParseError) (p : Text) → words ≡ words_of request → TakesPointer words p → IsFirstFault p e → ⊥
-  not_refused request e p h k fault =
-      not_both p e (subst IsPointer (pointer_one words (text (tokens_in request)) p (takes words request h) k) (IsPointer-text (tokens_in request))) fault
+module _ (not_both : (s : Text) (e : ParseError) → IsPointer s → TellsPointerFault s e → ⊥) (one : (s : Text) (e f : ParseError) → TellsPointerFault s e → TellsPointerFault s f → e ≡ f) (words : List Text) where
+  not_refused : (request : Request) (e : RunFault) → AskFor words request → IsWordsFault words e ⊎ IsPointerFault words e → ⊥
+  not_refused request e h (inl k) = k.0 (text (tokens_in request)) (takes words request h)
+  not_refused request e h (inr k) =
+      not_both k.0 k.1 (subst IsPointer (pointer_one words (text (tokens_in request)) k.0 (takes words request h) k.2) (IsPointer-text (tokens_in request))) k.3
+
+  refusal_one : (e f : RunFault) → IsWordsFault words e ⊎ IsPointerFault words e → IsWordsFault words f ⊎ IsPointerFault words f → e ≡ f
+  refusal_one e f (inl h) (inl k) = h.1 ∙ sym k.1
+  refusal_one e f (inl h) (inr k) = absurd (h.0 k.0 k.2)
+  refusal_one e f (inr h) (inl k) = absurd (k.0 h.0 h.2)
+  refusal_one e f (inr h) (inr k) =
+      let same : h.0 ≡ k.0 = pointer_one words h.0 k.0 h.2 k.2 in
+      let fault : h.1 ≡ k.1 = one k.0 h.1 k.1 (subst (λ (s : Text). TellsPointerFault s h.1) same h.3) k.3 in
+      h.4 ∙ ap (λ (x : ParseError). BadPointer x) fault ∙ sym k.4
 
   pub asks_one : (r q : Result Request RunFault) → Asks words r → Asks words q → r ≡ q
-  asks_one (Ok r) (Ok q) h k = ap (λ (x : Request). Ok x) (words_of_one r q (sym h ∙ k))
-  asks_one (Ok r) (Err Usage) h k = absurd (k (text (tokens_in r)) (takes words r h))
-  asks_one (Ok r) (Err (BadPointer e)) h k = absurd (not_refused r e k.0 h k.1 k.2)
-  asks_one (Err Usage) (Ok q) h k = absurd (h (text (tokens_in q)) (takes words q k))
-  asks_one (Err Usage) (Err Usage) h k = refl
-  asks_one (Err Usage) (Err (BadPointer e)) h k = absurd (h k.0 k.1)
-  asks_one (Err (BadPointer e)) (Ok q) h k = absurd (not_refused q e h.0 k h.1 h.2)
-  asks_one (Err (BadPointer e)) (Err Usage) h k = absurd (k h.0 h.1)
-  asks_one (Err (BadPointer e)) (Err (BadPointer f)) h k =
-      let same : h.0 ≡ k.0 = pointer_one words h.0 k.0 h.1 k.1 in
-      let fault : e ≡ f = one k.0 e f (subst (λ (s : Text). IsFirstFault s e) same h.2) k.2 in
-      ap (λ (x : ParseError). Err (BadPointer x)) fault
-  asks_one r (Err (NoValue e)) h k = absurd k
-  asks_one r (Err InputNotJson) h k = absurd k
-  asks_one r (Err (Memory e)) h k = absurd k
-  asks_one r (Err Read) h k = absurd k
-  asks_one r (Err Write) h k = absurd k
-  asks_one (Err (NoValue e)) q h k = absurd h
-  asks_one (Err InputNotJson) q h k = absurd h
-  asks_one (Err (Memory e)) q h k = absurd h
-  asks_one (Err Read) q h k = absurd h
-  asks_one (Err Write) q h k = absurd h
+  asks_one (Ok r) (Ok q) h k = ap (λ (x : Request). Ok x) (request_one words r q h k)
+  asks_one (Ok r) (Err f) h k = absurd (not_refused r f h k)
+  asks_one (Err e) (Ok q) h k = absurd (not_refused q e k h)
+  asks_one (Err e) (Err f) h k = ap (λ (x : RunFault). Err x) (refusal_one e f h k)
+
+-- ---- the line
 
 -- two JSON lines of one value are one, if it has no float
-line_one : (value : Data) (l m : Text) → IsJsonLine value l → IsJsonLine value m → has_float value ≡ false → l ≡ m
-line_one value l m h k none =
+pub line_one : (value : Data) (l m : Text) → has_float value ≡ false → IsJsonLine value l → IsJsonLine value m → l ≡ m
+line_one value l m none h k =
     h.2 ∙ ap (λ (t : Text). t ++ 10 ∷ []) (h.1.exact none ∙ sym (k.1.exact none)) ∙ sym k.2
 
-same_value : (bytes : List ℕ) (d e : Data) → json_of bytes ≡ Some d → json_of bytes ≡ Some e → d ≡ e
-same_value bytes d e h k = let s : Some d ≡ Some e = sym h ∙ k in cc
-
-no_value : (bytes : List ℕ) (d : Data) → json_of bytes ≡ Some d → json_of bytes ≡ None → ⊥
-no_value bytes d h k = let s : Some d ≡ None = sym h ∙ k in cc
+-- ---- the operation
 
 module _ (not_both : (n : NodeMap) (tokens : List Text) (m : NodeMap) (e : Error) → Finds n tokens m → Refuses n tokens e → ⊥)
-    (one : (n : NodeMap) (tokens : List Text) (e f : Error) → Refuses n tokens e → Refuses n tokens f → e ≡ f) (bytes : List ℕ) where
-  not_refused_too : (tokens : List Text) (d e c : Data) (f : Error) → json_of bytes ≡ Some d → FindsValue d tokens e → json_of bytes ≡ Some c → Refuses (nodes c) tokens f → ⊥
-  not_refused_too ts d e c f h found k refused =
-      not_both (nodes c) ts (nodes e) f (subst (λ (v : Data). Finds (nodes v) ts (nodes e)) (same_value bytes d c h k) (FindsValue-Finds d ts e found)) refused
+    (one : (n : NodeMap) (tokens : List Text) (e f : Error) → Refuses n tokens e → Refuses n tokens f → e ≡ f) where
+  resolves_one : (d : Data) (ts : List Text) (r q : Result Data RunFault) → Resolves d ts r → Resolves d ts q → r ≡ q
+  resolves_one d ts (Ok v) (Ok w) h k = ap (λ (x : Data). Ok x) (FindsValue_one d ts v w h k)
+  resolves_one d ts (Ok v) (Err f) h k = absurd (not_both (nodes d) ts (nodes v) k.0 (FindsValue-Finds d ts v h) k.1)
+  resolves_one d ts (Err e) (Ok w) h k = absurd (not_both (nodes d) ts (nodes w) h.0 (FindsValue-Finds d ts w k) h.1)
+  resolves_one d ts (Err e) (Err f) h k =
+      let error : h.0 ≡ k.0 = one (nodes d) ts h.0 k.0 h.1 k.1 in
+      ap (λ (x : RunFault). Err x) (h.2 ∙ ap (λ (x : Error). NoValue x) error ∙ sym k.2)
 
-  pub gives_one : (request : Request) (r q : Result Text RunFault) → Gives request bytes r → Gives request bytes q → IsSameAnswer r q
-  gives_one (resolve ts) (Ok l) (Ok m) h k =
-      let same : h.0 ≡ k.0 = same_value bytes h.0 k.0 h.2 k.2 in
-      let value : h.1 ≡ k.1 = FindsValue_one k.0 ts h.1 k.1 (subst (λ (v : Data). FindsValue v ts h.1) same h.3) k.3 in
-      let there : IsJsonLine k.1 l = subst (λ (v : Data). IsJsonLine v l) value h.4 in
-      inr (k.1, there, k.4, line_one k.1 l m there k.4)
-  gives_one (resolve ts) (Ok l) (Err InputNotJson) h k = absurd (no_value bytes h.0 h.2 k)
-  gives_one (resolve ts) (Ok l) (Err (NoValue e)) h k = absurd (not_refused_too ts h.0 h.1 k.0 e h.2 h.3 k.1 k.2)
-  gives_one (resolve ts) (Err InputNotJson) (Ok m) h k = absurd (no_value bytes k.0 k.2 h)
-  gives_one (resolve ts) (Err InputNotJson) (Err InputNotJson) h k = refl
-  gives_one (resolve ts) (Err InputNotJson) (Err (NoValue e)) h k = absurd (no_value bytes k.0 k.1 h)
-  gives_one (resolve ts) (Err (NoValue e)) (Ok m) h k = absurd (not_refused_too ts k.0 k.1 h.0 e k.2 k.3 h.1 h.2)
-  gives_one (resolve ts) (Err (NoValue e)) (Err InputNotJson) h k = absurd (no_value bytes h.0 h.1 k)
-  gives_one (resolve ts) (Err (NoValue e)) (Err (NoValue f)) h k =
-      let same : h.0 ≡ k.0 = same_value bytes h.0 k.0 h.1 k.1 in
-      let error : e ≡ f = one (nodes k.0) ts e f (subst (λ (v : Data). Refuses (nodes v) ts e) same h.2) k.2 in
-      ap (λ (x : Error). NoValue x) error
-  gives_one (resolve ts) r (Err Usage) h k = absurd k
-  gives_one (resolve ts) r (Err (BadPointer e)) h k = absurd k
-  gives_one (resolve ts) r (Err (Memory e)) h k = absurd k
-  gives_one (resolve ts) r (Err Read) h k = absurd k
-  gives_one (resolve ts) r (Err Write) h k = absurd k
-  gives_one (resolve ts) (Err Usage) q h k = absurd h
-  gives_one (resolve ts) (Err (BadPointer e)) q h k = absurd h
-  gives_one (resolve ts) (Err (Memory e)) q h k = absurd h
-  gives_one (resolve ts) (Err Read) q h k = absurd h
-  gives_one (resolve ts) (Err Write) q h k = absurd h
-  gives_one (tokens ts) (Ok l) (Ok m) h k = inl (h ∙ sym k)
-  gives_one (tokens ts) r (Err e) h k = absurd k
-  gives_one (tokens ts) (Err e) q h k = absurd h
+  document_one : (o : Option Data) (ts : List Text) (r q : Result Data RunFault) → MatchOption o (r ≡ Err InputNotJson) (λ d. Resolves d ts r)
+      → MatchOption o (q ≡ Err InputNotJson) (λ d. Resolves d ts q) → r ≡ q
+  document_one None ts r q h k = h ∙ sym k
+  document_one (Some d) ts r q h k = resolves_one d ts r q h k
+
+  pub gives_one : (request : Request) (bytes : List ℕ) (r q : Result Data RunFault) → Gives request bytes r → Gives request bytes q → r ≡ q
+  gives_one (resolving ts) bytes r q h k = document_one (json_of bytes) ts r q h k
+  gives_one (listing ts) bytes r q h k = h ∙ sym k

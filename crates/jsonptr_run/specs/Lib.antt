@@ -1,5 +1,5 @@
 -- The words of the program's contracts.
 pub mod Streams
-pub mod Document
+pub mod JsonText
 pub mod Run
-pub mod Command
+pub mod Private

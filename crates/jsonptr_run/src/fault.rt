@@ -1,9 +1,15 @@
 //! Why the program ends other than well.
-ghost use Rattle.std.specs.Prelude.{◌≡◌};
+ghost use Rattle.std.specs.Prelude.{◌≡◌, MatchResult};
+ghost use Rattle.std.specs.Process.{exit_status};
+ghost use Rattle.jsonptr_run.specs.Private.{of_input_fault, of_resolve_fault};
 ghost use Rattle.jsonptr_run.specs.Run.{status_of};
+ghost use Rattle.jsonptr_run.specs.declared.fault.RunFault.TheVariants.{BadPointer, Memory, Write};
 
-use jsonptr::{ParseError, resolve};
+use crate::input::InputFault;
+use crate::output::WriteFailed;
+use jsonptr::{Fault, ParseError, resolve};
 use std::alloc::AllocError;
+use std::process::ExitCode;
 use thiserror::Error;
 
 /// Why the program ends other than well. Its text is the line on standard error.
@@ -44,5 +50,63 @@ impl RunFault {
             RunFault::Memory(_) => 4,
             RunFault::Read | RunFault::Write => 5,
         }
+    }
+}
+
+/// The code that the program ends with: 0 where the run was done.
+pub fn exit_code(outcome: &Result<(), RunFault>) -> ExitCode
+    ensures { MatchResult outcome.now
+        (λ _. exit_status result ≡ 0)
+        (λ fault. exit_status result ≡ status_of fault) }
+{
+    match outcome {
+        Ok(()) => ExitCode::SUCCESS,
+        Err(fault) => ExitCode::from(fault.status()),
+    }
+}
+
+impl From<AllocError> for RunFault {
+    ghost from_gives = { λ error fault. fault ≡ Memory error };
+
+    fn from(error: AllocError) -> RunFault {
+        RunFault::Memory(error)
+    }
+}
+
+impl From<ParseError> for RunFault {
+    ghost from_gives = { λ error fault. fault ≡ BadPointer error };
+
+    fn from(error: ParseError) -> RunFault {
+        RunFault::BadPointer(error)
+    }
+}
+
+impl From<Fault<resolve::Error>> for RunFault {
+    ghost from_gives = { λ error fault. fault ≡ of_resolve_fault error };
+
+    fn from(error: Fault<resolve::Error>) -> RunFault {
+        match error {
+            Fault::Refused(error) => RunFault::NoValue(error),
+            Fault::Memory(error) => RunFault::Memory(error),
+        }
+    }
+}
+
+impl From<InputFault> for RunFault {
+    ghost from_gives = { λ error fault. fault ≡ of_input_fault error };
+
+    fn from(error: InputFault) -> RunFault {
+        match error {
+            InputFault::Memory(error) => RunFault::Memory(error),
+            InputFault::Read => RunFault::Read,
+        }
+    }
+}
+
+impl From<WriteFailed> for RunFault {
+    ghost from_gives = { λ _ fault. fault ≡ Write };
+
+    fn from(_error: WriteFailed) -> RunFault {
+        RunFault::Write
     }
 }

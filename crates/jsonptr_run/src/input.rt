@@ -20,7 +20,8 @@ const CHUNK_LEN: usize = 4096;
 
 /// All bytes that the reader has left. A read that answers interruption is made again.
 pub fn read_all<R: Read>(alloc: Global, input: &mut R) -> Result<Vec<u8>, InputFault>
-    ensures bytes { IfOk result (λ v. Consumes (R.remaining input.old) (R.remaining input.new) v.items) }
+    ensures bytes { IfOk result
+        (λ v. Consumes (R.remaining input.old) (R.remaining input.new) v.items) }
     ensures all { IfOk result (λ v. IfSome (R.remaining input.old) (λ xs. v.items ≡ xs)) }
     ensures end { OnOk result (IsAtEnd (R.remaining input.new)) }
     ensures err { OnErr result (ConsumesSome (R.remaining input.old) (R.remaining input.new)) }

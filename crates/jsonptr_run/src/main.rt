@@ -1,32 +1,30 @@
 //! The program: a pointer and a JSON document in, one line out.
 #![tactic(auto)]
 
-use fault::RunFault;
+use fault::{RunFault, exit_code};
 use run::run_program;
 use std::alloc::AllocError;
 use std::env;
 use std::io::ErrorKind;
 use std::process::ExitCode;
 
-mod document;
 #[cfg(test)]
 mod fakes;
 mod fault;
 mod input;
+mod json_text;
 mod output;
 mod run;
 #[cfg(test)]
 mod tests;
 
 fn main(rt: HostRuntime) -> ExitCode {
-    match run_on_streams(&rt) {
-        Ok(()) => ExitCode::SUCCESS,
-        Err(fault) => {
-            // There is nobody left to tell where standard error fails too.
-            let _ = eprintln!(rt; "{fault}");
-            ExitCode::from(fault.status())
-        }
+    let outcome = run_on_streams(&rt);
+    if let Err(fault) = &outcome {
+        // There is nobody left to tell where standard error fails too.
+        let _ = eprintln!(rt; "{fault}");
     }
+    exit_code(&outcome)
 }
 
 /// Runs the program on the standard streams.
@@ -51,9 +49,7 @@ fn words(rt: &HostRuntime) -> Result<Vec<String>, RunFault> {
     };
     let mut words = Vec::new(rt.alloc());
     for word in args.skip(1) {
-        words
-            .push(word)
-            .map_err(|error| RunFault::Memory(AllocError::from(error)))?;
+        words.push(word).map_err(AllocError::from)?;
     }
     Ok(words)
 }

@@ -1,8 +1,8 @@
 //! What no clause says: that reading and writing succeed, and which fault comes.
-use crate::document::{JsonFault, node_line, read_document, read_json};
 use crate::fakes::{ScriptedReader, ScriptedWriter, Step};
 use crate::fault::RunFault;
 use crate::input::{InputFault, read_all};
+use crate::json_text::{json_line, read_json, read_json_input};
 use crate::output::{WriteFailed, write_line};
 use std::alloc::AllocError;
 
@@ -122,7 +122,7 @@ fn reads_json(rt: HostRuntime) -> Result<(), AllocError> {
     let others: [&[u8]; 6] = [b"", b" ", b"{\"a\"", b"\x22\xff\x22", b"1 1", b"01"];
     for bytes in others {
         let read = read_json(rt.alloc(), bytes);
-        assert!(rt; matches!(&read, Err(JsonFault::NotJson)), "{bytes:?}");
+        assert!(rt; matches!(&read, Ok(None)), "{bytes:?}");
     }
     for (text, line) in [
         ("{\"a/b\":1}", "{\"a/b\":1}\n"),
@@ -130,9 +130,9 @@ fn reads_json(rt: HostRuntime) -> Result<(), AllocError> {
         ("null", "null\n"),
     ] {
         let read = read_json(rt.alloc(), text.as_bytes());
-        assert!(rt; read.is_ok(), "{text}");
-        if let Ok(value) = read {
-            let written = node_line(rt.alloc(), &value)?;
+        assert!(rt; matches!(&read, Ok(Some(_))), "{text}");
+        if let Ok(Some(value)) = read {
+            let written = json_line(rt.alloc(), &value)?;
             assert!(rt; written.as_str() == line, "{text}");
         }
     }
@@ -150,7 +150,7 @@ fn reads_json_to_a_depth(rt: HostRuntime) -> Result<(), AllocError> {
         for _ in 0..depth {
             text.push(b']')?;
         }
-        assert_eq!(rt; read_json(rt.alloc(), &text).is_ok(), is_json, "{depth}");
+        assert_eq!(rt; read_json(rt.alloc(), &text)?.is_some(), is_json, "{depth}");
     }
     Ok(())
 }
@@ -163,16 +163,16 @@ fn reads_a_document(rt: HostRuntime) {
             rest: &TEXT[..len],
             script,
         };
-        let read = read_document(rt.alloc(), &mut reader);
+        let read = read_json_input(rt.alloc(), &mut reader);
         assert!(rt; matches!(&read, Err(RunFault::InputNotJson)), "{len}");
     }
     let mut reader = ScriptedReader { rest: TEXT, script };
-    assert!(rt; read_document(rt.alloc(), &mut reader).is_ok());
+    assert!(rt; read_json_input(rt.alloc(), &mut reader).is_ok());
     let mut reader = ScriptedReader {
         rest: TEXT,
         script: &[Step::Move(7), Step::Fail],
     };
-    let read = read_document(rt.alloc(), &mut reader);
+    let read = read_json_input(rt.alloc(), &mut reader);
     assert!(rt; matches!(&read, Err(RunFault::Read)));
 }
 

@@ -9,27 +9,24 @@ ghost use Rattle.std.specs.Cmp;
 ghost use Rattle.std.specs.Cmp.{on_equiv, on_per, on_po, on_total};
 ghost use Rattle.std.specs.Cmp.Lexicographic.{slice_cmp, nat_list_eq_equiv, nat_list_cmp_total, texts_po, texts_ties};
 ghost use Rattle.std.specs.Cmp.Rules.{hashing};
-ghost use Rattle.jsonptr_spec.specs.Text.{Text, text, dec};
-ghost use Rattle.jsonptr_spec.specs.Grammar.{IsPointer};
+ghost use Rattle.jsonptr_grammar.specs.Text.{Text, text, dec};
+ghost use Rattle.jsonptr_grammar.specs.Grammar.{IsPointer};
 ghost use Rattle.jsonptr_base.specs.Report.{original_of, subject_of};
 ghost use Rattle.jsonptr.specs.Pointer.{tokens, text_of};
-ghost use Rattle.jsonptr.specs.ParseError.{IsFirstFault};
-ghost use Rattle.jsonptr.specs.Fault.{IfRefused};
+ghost use Rattle.jsonptr_text.specs.ParseError.{TellsPointerFault};
+ghost use Rattle.jsonptr_base.specs.Fault.{IfRefused};
 
-use super::{ParseError, Pointer, RichParseError, Tokens};
+use super::{Pointer, Tokens};
 use jsonptr_base::diagnostic::{Diagnostic, Report};
 use jsonptr_base::fault::Fault;
 use jsonptr_base::token::Token;
+use jsonptr_text::{ParseError, RichParseError, edit};
 use std::alloc::{AllocError, Global};
-use std::borrow::CowStr;
 use std::cmp::Ordering;
 use std::error::Error;
 use std::fmt;
 use std::hash::{Hash, Hasher};
 use std::marker::Model;
-
-#[cfg(test)]
-mod tests;
 
 /// A JSON Pointer that owns its text; it is read through [`PointerBuf::as_ptr`].
 ///
@@ -41,7 +38,7 @@ pub struct PointerBuf {
 
 impl Model for PointerBuf {
     ghost use Rattle.std.specs.Prelude.{◌≡◌, ℕ, List, string_bytes};
-    ghost use Rattle.jsonptr_spec.specs.Text.{text, tokens_of};
+    ghost use Rattle.jsonptr_grammar.specs.Text.{text, tokens_of};
 
     ghost Value = { List (List ℕ) };
 
@@ -54,7 +51,8 @@ impl PointerBuf {
     ghost use Rattle.std.specs.Borrow.{sem};
     ghost use Rattle.std.specs.Prelude.{◌<◌, slice_get, slice_set};
     ghost use Rattle.jsonptr.specs.PointerBuf.{EndsJoined};
-    ghost use Rattle.jsonptr.specs.Fault.{IsRefused};
+    ghost use Rattle.jsonptr_text.specs.Ends.{PushesFront, PushesBack, PopsFront, PopsBack};
+    ghost use Rattle.jsonptr_base.specs.Fault.{IsRefused};
 
     /// The pointer of no token, which names the whole document; no memory is taken.
     pub fn new(alloc: Global) -> PointerBuf
@@ -90,7 +88,7 @@ impl PointerBuf {
     pub fn from_text(alloc: Global, s: &str) -> Result<PointerBuf, Fault<ParseError>>
         ensures pointer { IfOk result (λ p. text p ≡ s.now) }
         ensures refused { IsRefused result ↔ (IsPointer s.now → ⊥) }
-        ensures fault { IfRefused result (IsFirstFault s.now) }
+        ensures fault { IfRefused result (TellsPointerFault s.now) }
     {
         match Pointer::parse(s) {
             Ok(pointer) => Ok(pointer.to_buf(alloc)?),
@@ -115,7 +113,8 @@ impl PointerBuf {
     pub fn parse(s: String) -> Result<PointerBuf, RichParseError>
         ensures pointer { IsOk result ↔ IsPointer (string_bytes s) }
         ensures text { IfOk result (λ p. text p ≡ string_bytes s) }
-        ensures fault { IfErr result (λ report. IsFirstFault (string_bytes s) (original_of report)) }
+        ensures fault { IfErr result
+            (λ report. TellsPointerFault (string_bytes s) (original_of report)) }
         ensures subject { IfErr result (λ report. subject_of report ≡ s) }
     {
         match Pointer::parse(s.as_str()) {
@@ -152,7 +151,9 @@ impl PointerBuf {
     pub fn from_token(alloc: Global, token: Token<'_>) -> Result<PointerBuf, AllocError>
         ensures { IfOk result (λ p. p ≡ token.entry ∷ []) }
     {
-        Pointer::root().with_trailing_token(alloc, token)
+        let mut single = PointerBuf::new(alloc);
+        single.push_back(token)?;
+        Ok(single)
     }
 
     /// The pointer of one token, the decimal text of a number.
@@ -183,11 +184,10 @@ impl PointerBuf {
     /// [`AllocError`] where the text has no room and there is no memory for more; the pointer stays.
     #[inline(always)]
     pub fn push_front(&mut self, token: Token<'_>) -> Result<(), AllocError>
-        ensures pushed { IfOk result (λ _. self.new ≡ token.entry ∷ self.old) }
+        ensures pushed { IfOk result (λ _. PushesFront self.old token.entry self.new) }
         ensures unchanged { IfErr result (λ _. self.new ≡ self.old) }
     {
-        insert_segment(&mut self.inner, token.encoded())?;
-        Ok(())
+        edit::push_front(&mut self.inner, &token)
     }
 
     /// Puts a token behind the others.
@@ -197,11 +197,10 @@ impl PointerBuf {
     /// [`AllocError`] where the text has no room and there is no memory for more; the pointer stays.
     #[inline(always)]
     pub fn push_back(&mut self, token: Token<'_>) -> Result<(), AllocError>
-        ensures pushed { IfOk result (λ _. self.new ≡ self.old ++ token.entry ∷ []) }
+        ensures pushed { IfOk result (λ _. PushesBack self.old token.entry self.new) }
         ensures unchanged { IfErr result (λ _. self.new ≡ self.old) }
     {
-        push_segment(&mut self.inner, token.encoded())?;
-        Ok(())
+        edit::push_back(&mut self.inner, &token)
     }
 
     /// Takes the first token off; `None` at the root. The rest of the text moves down in place.
@@ -210,17 +209,11 @@ impl PointerBuf {
     ///
     /// [`AllocError`] where there is no memory for the token; the pointer stays. The root asks for none.
     pub fn pop_front(&mut self) -> Result<Option<Token<'static>>, AllocError>
-        ensures popped { IfOk result (λ r. MatchOption r ((self.old ≡ []) × (self.new ≡ [])) (λ t. self.old ≡ t ∷ self.new)) }
+        ensures popped { IfOk result (λ r. PopsFront self.old r self.new) }
         ensures unchanged { IfErr result (λ _. self.new ≡ self.old) }
         ensures no_memory { self.old ≡ [] → IsOk result }
     {
-        let Some((first, rest)) = self.as_ptr().split_front() else {
-            return Ok(None);
-        };
-        let first = first.into_owned(*self.inner.allocator())?;
-        let end = self.inner.len() - rest.len();
-        self.inner.replace_range(..end, "").unwrap();
-        Ok(Some(first))
+        edit::pop_front(&mut self.inner)
     }
 
     /// Takes the last token off; `None` at the root.
@@ -229,17 +222,11 @@ impl PointerBuf {
     ///
     /// [`AllocError`] where there is no memory for the token; the pointer stays. The root asks for none.
     pub fn pop_back(&mut self) -> Result<Option<Token<'static>>, AllocError>
-        ensures popped { IfOk result (λ r. MatchOption r ((self.old ≡ []) × (self.new ≡ [])) (λ t. self.old ≡ self.new ++ t ∷ [])) }
+        ensures popped { IfOk result (λ r. PopsBack self.old r self.new) }
         ensures unchanged { IfErr result (λ _. self.new ≡ self.old) }
         ensures no_memory { self.old ≡ [] → IsOk result }
     {
-        let Some((front, last)) = self.as_ptr().split_back() else {
-            return Ok(None);
-        };
-        let last = last.into_owned(*self.inner.allocator())?;
-        let end = front.len();
-        self.inner.truncate(end);
-        Ok(Some(last))
+        edit::pop_back(&mut self.inner)
     }
 
     /// Puts a token in the place of the one at `index`, and gives that one back: never `Ok(None)`.
@@ -254,20 +241,17 @@ impl PointerBuf {
         index: usize,
         token: Token<'_>,
     ) -> Result<Option<Token<'static>>, Fault<ReplaceError>>
-        ensures replaced { IfOk result (λ old. (index < length self.old) × (old ≡ slice_get self.old index) × (self.new ≡ slice_set self.old index token.entry)) }
+        ensures replaced { IfOk result (λ old. (index < length self.old)
+            × (old ≡ slice_get self.old index)
+            × (self.new ≡ slice_set self.old index token.entry)) }
         ensures refused { IfRefused result (λ e. (e.index ≡ index) × (e.count ≡ length self.old)) }
         ensures past { IsRefused result ↔ (length self.old ≤ index) }
         ensures unchanged { IfErr result (λ _. self.new ≡ self.old) }
     {
-        let pointer = self.as_ptr();
-        let Some((front, old, rest)) = pointer.split_around(index) else {
-            let count = pointer.count();
+        let Some(old) = edit::replace(&mut self.inner, index, &token)? else {
+            let count = self.as_ptr().count();
             return Err(Fault::Refused(ReplaceError { index, count }));
         };
-        let old = old.into_owned(*self.inner.allocator())?;
-        let start = front.len() + 1;
-        let end = self.inner.len() - rest.len();
-        self.inner.replace_range(start..end, token.encoded())?;
         Ok(Some(old))
     }
 
@@ -277,8 +261,11 @@ impl PointerBuf {
     ///
     /// [`AllocError`] where the text has no room and there is no memory for more; the pointer stays.
     pub fn append(&mut self, other: Pointer<'_>) -> Result<&PointerBuf, AllocError>
-        ensures* { sem 𝓛 (EndsJoined self.entry (tokens other.entry) result) }
+        ensures shown { IfOk result (λ p. p.now ≡ self.entry.now ++ tokens other.entry) }
+        ensures* ends { sem 𝓛 (EndsJoined self.entry (tokens other.entry) result) }
     {
+        // In Rust's terms: once the borrow that is given back has ended, `self` holds its own tokens and
+        // then those of `other`, which is what that borrow showed; after an `Err` it is as it was.
         self.join(other)?;
         Ok(self)
     }
@@ -288,8 +275,7 @@ impl PointerBuf {
         ensures joined { IfOk result (λ _. self.new ≡ self.old ++ tokens other.entry) }
         ensures unchanged { IfErr result (λ _. self.new ≡ self.old) }
     {
-        self.inner.push_str(other.as_str())?;
-        Ok(())
+        edit::append(&mut self.inner, other.as_str())
     }
 
     /// Makes the pointer the root; its room is kept.
@@ -311,7 +297,7 @@ impl TryFrom<String> for PointerBuf {
     fn try_from(s: String) -> Result<PointerBuf, ParseError>
         ensures pointer { IsOk result ↔ IsPointer (string_bytes s) }
         ensures text { IfOk result (λ p. text p ≡ string_bytes s) }
-        ensures fault { IfErr result (IsFirstFault (string_bytes s)) }
+        ensures fault { IfErr result (TellsPointerFault (string_bytes s)) }
     {
         PointerBuf::parse(s).map_err(Report::into_original)
     }
@@ -400,40 +386,6 @@ impl fmt::Display for PointerBuf {
     fn fmt<W: fmt::Write>(&self, f: &mut fmt::Formatter<W>) -> fmt::Result {
         f.write_str(self.as_ptr().as_str())
     }
-}
-
-/// Puts a slash and a token's text before a text. Where there is no room, the longer text is written to a new
-/// place, and nothing is moved twice.
-fn insert_segment(text: &mut String, token: &str) -> Result<(), AllocError>
-    ensures inserted { IfOk result (λ _. string_bytes text.new ≡ 47 ∷ token.now ++ string_bytes text.old) }
-    ensures unchanged { IfErr result (λ _. string_bytes text.new ≡ string_bytes text.old) }
-{
-    let segment = token.len().checked_add(1).ok_or(AllocError)?;
-    let len = text.len().checked_add(segment).ok_or(AllocError)?;
-    if len <= text.capacity() {
-        text.insert_str(0, token).unwrap();
-        text.insert(0, '/').unwrap();
-        return Ok(());
-    }
-    let capacity = len.max(text.capacity().saturating_mul(2));
-    let mut longer = String::with_capacity(*text.allocator(), capacity)?;
-    longer.push('/').unwrap();
-    longer.push_str(token).unwrap();
-    longer.push_str(text.as_str()).unwrap();
-    *text = longer;
-    Ok(())
-}
-
-/// Puts a slash and a token's text behind a text; room is made once.
-fn push_segment(text: &mut String, token: &str) -> Result<(), AllocError>
-    ensures pushed { IfOk result (λ _. string_bytes text.new ≡ string_bytes text.old ++ 47 ∷ token.now) }
-    ensures unchanged { IfErr result (λ _. string_bytes text.new ≡ string_bytes text.old) }
-{
-    let segment = token.len().checked_add(1).ok_or(AllocError)?;
-    text.reserve(segment)?;
-    text.push('/').unwrap();
-    text.push_str(token).unwrap();
-    Ok(())
 }
 
 /// Why [`PointerBuf::replace`] replaced nothing: there is no token at that place.

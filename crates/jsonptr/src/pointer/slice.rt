@@ -1,9 +1,10 @@
 //! Single tokens and runs of tokens of a pointer, by their places from 0.
 ghost use Rattle.std.specs.Prelude.{◌≡◌, ◌<◌, ◌≤◌, List, length, take, drop, slice_get, Option, MatchOption};
-ghost use Rattle.jsonptr_spec.specs.Text.{Text};
+ghost use Rattle.jsonptr_grammar.specs.Text.{Text};
 
-use super::{Pointer, scan};
+use super::Pointer;
 use jsonptr_base::token::Token;
+use jsonptr_text::cut;
 use std::ops::{Bound, Range, RangeFrom, RangeFull, RangeInclusive, RangeTo, RangeToInclusive};
 
 /// What [`Pointer::get`] can be asked for: the place of one token, or a range of places.
@@ -41,7 +42,7 @@ impl<'p> PointerIndex<'p> for Range<usize> {
 
     fn get(self, pointer: Pointer<'p>) -> Option<Pointer<'p>> {
         let count = self.end.checked_sub(self.start)?;
-        let rest = (self.start..).get(pointer)?;
+        let rest = pointer.get(self.start..)?;
         let (part, _) = rest.split_at_count(count)?;
         Some(part)
     }
@@ -94,14 +95,15 @@ impl<'p> PointerIndex<'p> for RangeInclusive<usize> {
 
     type Output = Pointer<'p>;
 
-    ghost gives = { λ range. GivesInclusive (range_inclusive_start range) (range_inclusive_end range) };
+    ghost gives = { λ range.
+        GivesInclusive (range_inclusive_start range) (range_inclusive_end range) };
 
     fn get(self, pointer: Pointer<'p>) -> Option<Pointer<'p>> {
         let (start, end) = self.into_inner();
         if end < start {
             return None;
         }
-        (start..pointer.end_after(end)?).get(pointer)
+        pointer.get(start..pointer.place_after(end)?)
     }
 }
 
@@ -113,7 +115,7 @@ impl<'p> PointerIndex<'p> for RangeToInclusive<usize> {
     ghost gives = { λ range. GivesToInclusive range.end };
 
     fn get(self, pointer: Pointer<'p>) -> Option<Pointer<'p>> {
-        (..pointer.end_after(self.end)?).get(pointer)
+        pointer.get(..pointer.place_after(self.end)?)
     }
 }
 
@@ -126,28 +128,28 @@ impl<'p> PointerIndex<'p> for (Bound<usize>, Bound<usize>) {
 
     fn get(self, pointer: Pointer<'p>) -> Option<Pointer<'p>> {
         match self {
-            (Bound::Included(start), Bound::Included(end)) => (start..=end).get(pointer),
-            (Bound::Included(start), Bound::Excluded(end)) => (start..end).get(pointer),
-            (Bound::Included(start), Bound::Unbounded) => (start..).get(pointer),
+            (Bound::Included(start), Bound::Included(end)) => pointer.get(start..=end),
+            (Bound::Included(start), Bound::Excluded(end)) => pointer.get(start..end),
+            (Bound::Included(start), Bound::Unbounded) => pointer.get(start..),
             (Bound::Excluded(before), Bound::Included(end)) => {
-                (pointer.end_after(before)?..=end).get(pointer)
+                pointer.get(pointer.place_after(before)?..=end)
             }
             (Bound::Excluded(before), Bound::Excluded(end)) => {
-                (pointer.end_after(before)?..end).get(pointer)
+                pointer.get(pointer.place_after(before)?..end)
             }
             (Bound::Excluded(before), Bound::Unbounded) => {
-                (pointer.end_after(before)?..).get(pointer)
+                pointer.get(pointer.place_after(before)?..)
             }
-            (Bound::Unbounded, Bound::Included(end)) => (..=end).get(pointer),
-            (Bound::Unbounded, Bound::Excluded(end)) => (..end).get(pointer),
+            (Bound::Unbounded, Bound::Included(end)) => pointer.get(..=end),
+            (Bound::Unbounded, Bound::Excluded(end)) => pointer.get(..end),
             (Bound::Unbounded, Bound::Unbounded) => Some(pointer),
         }
     }
 }
 
 impl<'a> Pointer<'a> {
+    ghost use Rattle.std.specs.Prelude.{◌+◌};
     ghost use Rattle.jsonptr.specs.Pointer.{tokens};
-    ghost use Rattle.std.specs.Prelude.{◌+◌, ◌++◌, ◌∷◌};
 
     /// The token at a place from 0, or the pointer of the tokens in a range of such places; `None` where the
     /// places are not all in the pointer. A range with a start asks for a token to stand at that start.
@@ -161,30 +163,20 @@ impl<'a> Pointer<'a> {
     fn split_at_count(&self, count: usize) -> Option<(Pointer<'a>, Pointer<'a>)>
         ensures { MatchOption result
             (length (tokens self.now) < count)
-            (λ r. (count ≤ length (tokens self.now)) × (tokens r.0 ≡ take count (tokens self.now)) × (tokens r.1 ≡ drop count (tokens self.now))) }
+            (λ r. (count ≤ length (tokens self.now))
+            × (tokens r.0 ≡ take count (tokens self.now))
+            × (tokens r.1 ≡ drop count (tokens self.now))) }
     {
-        let at = scan::end_of(self.inner, count)?;
-        let (front, rest) = self.inner.split_at(at);
+        let (front, rest) = cut::split_at_count(self.as_str(), count)?;
         Some((Pointer { inner: front }, Pointer { inner: rest }))
     }
 
-    /// The pointers of the tokens before the one at `index` and of those after it, with that token between
-    /// them, or `None` where no token is at that place.
-    pub(super) fn split_around(&self, index: usize) -> Option<(Pointer<'a>, Token<'a>, Pointer<'a>)>
-        ensures { MatchOption result
-            (length (tokens self.now) ≤ index)
-            (λ r. (tokens self.now ≡ tokens r.0 ++ r.1 ∷ tokens r.2) × (length (tokens r.0) ≡ index)) }
-    {
-        let (front, rest) = self.split_at_count(index)?;
-        let (token, rest) = rest.split_front()?;
-        Some((front, token, rest))
-    }
-
-    /// The place behind a place, or `None` where that is past each place of a pointer.
-    fn end_after(&self, place: usize) -> Option<usize>
+    /// The place behind a place, or `None` where the place is past each of a pointer's: there are no more tokens
+    /// than bytes, and with that the sum fits.
+    fn place_after(&self, place: usize) -> Option<usize>
         ensures { MatchOption result (length (tokens self.now) ≤ place) (λ next. next ≡ place + 1) }
     {
-        if place < self.inner.len() {
+        if place < self.len() {
             Some(place + 1)
         } else {
             None

@@ -1,12 +1,12 @@
 //! The tokens of a pointer, one after the other.
-ghost use Rattle.std.specs.Prelude.{◌≡◌, length, count_by};
+ghost use Rattle.std.specs.Prelude.{◌≡◌, length};
 ghost use Rattle.std.specs.Iterator.{YieldsFirst, item_count};
-ghost use Rattle.jsonptr_spec.specs.Text.{is_slash};
 ghost use Rattle.jsonptr.specs.Pointer.{tokens};
 ghost use Rattle.jsonptr.specs.Tokens.{rest_of};
 
 use super::Pointer;
 use jsonptr_base::token::Token;
+use jsonptr_text::cut;
 
 /// An iterator over the tokens of a [`Pointer`], from the first; after the last it gives `None` for good.
 /// It borrows the pointer's text and takes no memory.
@@ -41,15 +41,8 @@ impl<'a> Pointer<'a> {
     pub fn count(&self) -> usize
         ensures { result ≡ length (tokens self.now) }
     {
-        slashes(self.as_str())
+        cut::count(self.as_str())
     }
-}
-
-/// How many slashes a text has.
-fn slashes(text: &str) -> usize
-    ensures { result ≡ count_by is_slash text.now }
-{
-    text.as_bytes().iter().filter(|b| **b == b'/').count()
 }
 
 impl<'a> IntoIterator for Pointer<'a> {

@@ -1,6 +1,6 @@
 //! The integers, whose decimal texts are tokens.
 ghost use Rattle.std.specs.Prelude.{◌≡◌, string_bytes, IfOk};
-ghost use Rattle.jsonptr_spec.specs.Text.{Text, dec};
+ghost use Rattle.jsonptr_grammar.specs.Text.{Text, dec};
 ghost use Rattle.jsonptr_base.specs.Number.{signed_dec};
 
 use std::alloc::{AllocError, Global};

@@ -1,18 +1,39 @@
-//! One pass over a token's bytes, for its first fault and for its decoded text.
+//! Passes over a token's bytes: for its first fault, for its decoded text, and for the encoded text of a text.
 ghost use Rattle.std.specs.Prelude.{◌≡◌, ◌<◌, ◌≤◌, ◌+◌, ◌++◌, length, string_bytes, vec_len, vec_capacity, IfOk, MatchOption};
-ghost use Rattle.jsonptr_spec.specs.Text.{esc, escape_of, unesc};
-ghost use Rattle.jsonptr_spec.specs.Grammar.{IsToken};
+ghost use Rattle.jsonptr_grammar.specs.Text.{esc, escape_of, unesc};
+ghost use Rattle.jsonptr_grammar.specs.Grammar.{IsToken};
 ghost use Rattle.jsonptr_base.specs.declared.token.InvalidEncoding.TheVariants.{Tilde, Slash};
-ghost use Rattle.jsonptr_base.specs.Token.{IsEscapeCut, IsFirstFault, IsPlainBefore};
+ghost use Rattle.memchr.specs.Find.{IsFirstByte, is_byte2};
+ghost use Rattle.jsonptr_base.specs.Private.{IsEscapeCut, IsPlainBefore};
+ghost use Rattle.jsonptr_base.specs.Token.{TellsTokenFault};
 
 use super::{EncodingError, InvalidEncoding};
 use std::alloc::{AllocError, Global};
 
+/// The place of the first `~` or `/`. A short text is read by a plain loop, with no call.
+#[inline(always)]
+pub(super) fn first_special(bytes: &[u8]) -> Option<usize>
+    ensures { IsFirstByte (is_byte2 126 47) bytes.now result }
+{
+    if bytes.len() >= SHORT {
+        return memchr::memchr2(b'~', b'/', bytes);
+    }
+    for i in 0..bytes.len() {
+        if bytes[i] == b'~' || bytes[i] == b'/' {
+            return Some(i);
+        }
+    }
+    None
+}
+
+/// How many bytes a text has for which a search by blocks pays.
+const SHORT: usize = 32;
+
 /// The first fault of a token's text, if it has one.
 pub(super) fn first_fault(bytes: &[u8]) -> Option<EncodingError>
-    ensures { MatchOption result (IsToken bytes.now) (IsFirstFault bytes.now) }
+    ensures { MatchOption result (IsToken bytes.now) (TellsTokenFault bytes.now) }
 {
-    match memchr::memchr2(b'~', b'/', bytes) {
+    match first_special(bytes) {
         None => None,
         Some(at) => first_fault_from(bytes, at),
     }
@@ -22,7 +43,7 @@ pub(super) fn first_fault(bytes: &[u8]) -> Option<EncodingError>
 fn first_fault_from(bytes: &[u8], at: usize) -> Option<EncodingError>
     requires inside { at < length bytes.now }
     requires plain { IsPlainBefore bytes.now at }
-    ensures { MatchOption result (IsToken bytes.now) (IsFirstFault bytes.now) }
+    ensures { MatchOption result (IsToken bytes.now) (TellsTokenFault bytes.now) }
 {
     let mut i = at;
     while i < bytes.len() {
@@ -84,7 +105,9 @@ pub(super) fn unescaped(alloc: Global, encoded: &str) -> Result<String, AllocErr
 /// Cuts a token's text around its first escape: what stands before it, what it stands for, and what follows.
 pub(super) fn cut_escape(encoded: &str) -> Option<(&str, &'static str, &str)>
     requires { IsToken encoded.now }
-    ensures { MatchOption result (unesc encoded.now ≡ encoded.now) (λ r. IsEscapeCut encoded.now r.0.now r.1.now r.2.now) }
+    ensures { MatchOption result
+        (unesc encoded.now ≡ encoded.now)
+        (λ r. IsEscapeCut encoded.now r.0.now r.1.now r.2.now) }
 {
     let at = memchr::memchr(b'~', encoded.as_bytes())?;
     let (plain, escape) = encoded.split_at(at);

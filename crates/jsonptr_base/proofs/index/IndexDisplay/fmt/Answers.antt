@@ -1,5 +1,5 @@
 use Rattle.std.proofs.Common.{◌<◌, ◌^◌, arith}
-use Rattle.jsonptr_spec.proofs.DecLemmas.{dec-decimal}
+use Rattle.jsonptr_grammar.proofs.DecLemmas.{dec-decimal}
 use Rattle.jsonptr_base.proofs.index.IndexDisplay.fmt.Goals as goal
 
 pub returns-in-Num-clause-writes : goal.returns-in-Num-clause-writes

@@ -1,8 +1,8 @@
 use Rattle.std.proofs.Common.{◌≡◌, length, subst, sym, ap, ◌∙◌}
 use Rattle.memchr.specs.Find.{Nowhere, Passes, is_byte}
-use Rattle.jsonptr_spec.specs.Text.{Text, esc, unesc}
-use Rattle.jsonptr_spec.specs.Grammar.{IsToken}
-use Rattle.jsonptr_spec.proofs.EscapeLemmas.{IsToken-esc, unesc-esc}
+use Rattle.jsonptr_grammar.specs.Text.{Text, esc, unesc}
+use Rattle.jsonptr_grammar.specs.Grammar.{IsToken}
+use Rattle.jsonptr_grammar.proofs.EscapeLemmas.{IsToken-esc, unesc-esc}
 use Rattle.jsonptr_base.proofs.TokenLemmas.{decoded_plain}
 use Rattle.jsonptr_base.proofs.token.Token.decoded.Goals as goal
 

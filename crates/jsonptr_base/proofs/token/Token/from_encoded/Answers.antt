@@ -1,8 +1,8 @@
 use Rattle.std.proofs.Common.{subst, ◌∙◌, sym}
 use Rattle.std.proofs.lemmas.Bool.{false≢true}
-use Rattle.jsonptr_spec.specs.Grammar.{IsToken}
-use Rattle.jsonptr_spec.proofs.EscapeLemmas.{esc-unesc}
-use Rattle.jsonptr_spec.proofs.FaultLemmas.{no_token_fault}
+use Rattle.jsonptr_grammar.specs.Grammar.{IsToken}
+use Rattle.jsonptr_grammar.proofs.EscapeLemmas.{esc-unesc}
+use Rattle.jsonptr_grammar.proofs.FaultLemmas.{no_token_fault}
 use Rattle.jsonptr_base.proofs.token.Token.from_encoded.Goals as goal
 
 pub invariant_of-result : goal.invariant_of-result

@@ -1,8 +1,8 @@
 use Rattle.std.proofs.Common.{◌∙◌, subst, sym, ap, length}
 use Rattle.std.specs.Cow.{cow_str_bytes}
 use Rattle.memchr.specs.Find.{Nowhere, Passes, is_byte2}
-use Rattle.jsonptr_spec.specs.Text.{Text, esc, unesc}
-use Rattle.jsonptr_spec.proofs.EscapeLemmas.{unesc-esc}
+use Rattle.jsonptr_grammar.specs.Text.{Text, esc, unesc}
+use Rattle.jsonptr_grammar.proofs.EscapeLemmas.{unesc-esc}
 use Rattle.jsonptr_base.proofs.TokenLemmas.{plain_text}
 use Rattle.jsonptr_base.proofs.token.Token.new.Goals as goal
 

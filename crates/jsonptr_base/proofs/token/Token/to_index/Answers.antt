@@ -1,6 +1,6 @@
 use Rattle.std.proofs.Common.{subst}
 use Rattle.std.specs.Prelude.{IsUtf8}
-use Rattle.jsonptr_spec.specs.Text.{Text}
+use Rattle.jsonptr_grammar.specs.Text.{Text}
 use Rattle.jsonptr_base.specs.Index.{Reads}
 use Rattle.jsonptr_base.proofs.IndexLemmas.{Reads-unesc, IsUtf8-from_esc}
 use Rattle.jsonptr_base.proofs.token.Token.to_index.Goals as goal

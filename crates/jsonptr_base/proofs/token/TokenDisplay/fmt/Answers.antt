@@ -1,8 +1,8 @@
 use Rattle.std.proofs.Common.{rules, refl, [], ◌++◌, ap, sym, ◌∙◌, subst}
 use Rattle.std.proofs.Output.{has_written_append, has_written_of_eq}
-use Rattle.jsonptr_spec.specs.Text.{Text, unesc}
-use Rattle.jsonptr_spec.specs.Grammar.{IsToken}
-use Rattle.jsonptr_spec.proofs.EscapeLemmas.{IsToken-esc, unesc-esc}
+use Rattle.jsonptr_grammar.specs.Text.{Text, unesc}
+use Rattle.jsonptr_grammar.specs.Grammar.{IsToken}
+use Rattle.jsonptr_grammar.proofs.EscapeLemmas.{IsToken-esc, unesc-esc}
 use Rattle.jsonptr_base.proofs.CutLemmas.{written_more}
 use Rattle.jsonptr_base.proofs.token.TokenDisplay.fmt.Goals as goal
 

@@ -2,8 +2,8 @@ use Rattle.std.proofs.Common.{◌≡◌, ◌++◌, length}
 use Rattle.std.specs.Fmt.{HasWritten, IsPlainFormatter}
 use denote.Text.{Utf8}
 use denote.Shadow.{shadow}
-use Rattle.jsonptr_spec.specs.Text.{Text, unesc}
-use Rattle.jsonptr_spec.specs.Grammar.{IsToken}
+use Rattle.jsonptr_grammar.specs.Text.{Text, unesc}
+use Rattle.jsonptr_grammar.specs.Grammar.{IsToken}
 use Rattle.jsonptr_base.proofs.token.TokenDisplay.fmt.Given as goal
 
 abbrev pub invariant-loop-plain : goal.invariant-loop-plain

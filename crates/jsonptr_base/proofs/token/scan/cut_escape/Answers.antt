@@ -2,8 +2,8 @@ use Rattle.std.proofs.Common.{◌≡◌, ◌∙◌, subst, sym, ap, refl, arith,
 use Rattle.std.proofs.lemmas.Str.{IsCharBoundary-after_ascii}
 use Rattle.std.specs.Borrow.{Bor}
 use Rattle.std.specs.Str.{IsCharBoundary}
-use Rattle.jsonptr_spec.specs.Text.{Text, unesc}
-use Rattle.jsonptr_spec.proofs.EscapeLemmas.{unesc-plain_at}
+use Rattle.jsonptr_grammar.specs.Text.{Text, unesc}
+use Rattle.jsonptr_grammar.proofs.EscapeLemmas.{unesc-plain_at}
 use Rattle.jsonptr_base.proofs.CutLemmas.{escape_found, byte_after, IsEscapeCut-pieces, stands_for_one, stands_for_other}
 use Rattle.jsonptr_base.proofs.token.scan.cut_escape.Goals as goal
 use Rattle.jsonptr_base.proofs.token.scan.cut_escape.Goals.{then-as_bytes-eq49, else-as_bytes-eq49}

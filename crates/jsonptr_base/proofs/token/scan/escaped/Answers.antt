@@ -1,6 +1,6 @@
 use Rattle.std.proofs.Common.{sym, subst, ap, arith, length}
 use Rattle.std.specs.Prelude.{IsUtf8}
-use Rattle.jsonptr_spec.proofs.EscapeLemmas.{IsUtf8-esc_iff, length-esc-le}
+use Rattle.jsonptr_grammar.proofs.EscapeLemmas.{IsUtf8-esc_iff, length-esc-le}
 use Rattle.jsonptr_base.proofs.TokenLemmas.{escaped_start, escaped_whole}
 use Rattle.jsonptr_base.proofs.token.scan.escaped.Goals as goal
 

@@ -1,5 +1,5 @@
 use Rattle.std.proofs.Common.{vec_len, vec_capacity}
-use Rattle.jsonptr_spec.specs.Text.{esc}
+use Rattle.jsonptr_grammar.specs.Text.{esc}
 use Rattle.jsonptr_base.proofs.TokenLemmas.{Escaped}
 use Rattle.jsonptr_base.proofs.token.scan.escaped.Given as goal
 

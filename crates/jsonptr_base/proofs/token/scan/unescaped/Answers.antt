@@ -1,6 +1,6 @@
 use Rattle.std.proofs.Common.{subst, sym, arith}
 use Rattle.std.specs.Prelude.{IsUtf8}
-use Rattle.jsonptr_spec.proofs.EscapeLemmas.{IsUtf8-unesc}
+use Rattle.jsonptr_grammar.proofs.EscapeLemmas.{IsUtf8-unesc}
 use Rattle.jsonptr_base.proofs.TokenLemmas.{unescaped_whole}
 use Rattle.jsonptr_base.proofs.token.scan.unescaped.Goals as goal
 

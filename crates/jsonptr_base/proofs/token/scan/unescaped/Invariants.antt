@@ -1,5 +1,5 @@
 use Rattle.std.proofs.Common.{◌≡◌, ◌≤◌, ◌-◌, ◌++◌, length, drop, vec_len, vec_capacity}
-use Rattle.jsonptr_spec.specs.Text.{unesc}
+use Rattle.jsonptr_grammar.specs.Text.{unesc}
 use Rattle.jsonptr_base.proofs.token.scan.unescaped.Given as goal
 
 abbrev pub invariant-loop-i : goal.invariant-loop-i

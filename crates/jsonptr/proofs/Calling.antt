@@ -1,0 +1,4 @@
+-- The lemmas of the crates below that callers cite.
+pub use Rattle.jsonptr_grammar.proofs.EscapeLemmas.{unesc-esc, esc-unesc, esc_one}
+pub use Rattle.jsonptr_grammar.proofs.PointerLemmas.{IsPointer-from_tokens, IsPointer-text, text-tokens_of, tokens_of-text, text-append, text_one}
+pub use Rattle.jsonptr_tree.proofs.JsonLemmas.{FindsValue_one, FindsValue-Finds}

@@ -1,9 +1,0 @@
-use Rattle.std.proofs.Common.{refl}
-use Rattle.jsonptr.proofs.OrderLemmas.{equal_text, text_less}
-use Rattle.jsonptr.proofs.laws.owned_comparison_law.Goals as goal
-
-pub returns-clause-equal : goal.returns-clause-equal
-returns-clause-equal c = λ ts us. equal_text ts us _ refl
-
-pub returns-clause-front : goal.returns-clause-front
-returns-clause-front c = text_less

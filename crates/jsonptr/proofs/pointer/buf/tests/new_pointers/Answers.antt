@@ -1,6 +1,0 @@
-use Rattle.std.proofs.Common.{refl}
-use Rattle.jsonptr_spec.proofs.PointerLemmas.{IsPointer-from_tokens}
-use Rattle.jsonptr.proofs.pointer.buf.tests.new_pointers.Goals as goal
-
-pub new_unchecked-requires : goal.new_unchecked-requires
-new_unchecked-requires g c = rw c.in_ok-text.ensures.ok (IsPointer-from_tokens _ refl)

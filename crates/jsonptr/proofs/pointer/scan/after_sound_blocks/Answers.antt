@@ -1,9 +1,0 @@
-use Rattle.std.proofs.Common.{arith}
-use Rattle.jsonptr.proofs.ScanLemmas.{sound_block}
-use Rattle.jsonptr.proofs.pointer.scan.after_sound_blocks.Goals as goal
-
-pub loop-at-preserved : goal.loop-at-preserved
-loop-at-preserved c = record {
-  inside = omega arith;
-  none = sound_block _ _ _ c.min.result c.loop-at.invariant.none (λ loose. let e = c.if-has_loose_tilde.ensures.1 loose in cc) (omega arith) (omega arith);
-}

@@ -1,0 +1,198 @@
+//! Going down a document that is written to, as far as a pointer's tokens lead.
+ghost use Rattle.std.specs.Prelude.{◌≡◌, ◌≢◌, [], ◌∷◌, ◌++◌, All, List, length, IsOk, IfOk, OnErr, MatchOption};
+ghost use Rattle.std.specs.Borrow.{sem, follows_so, name_if_ok};
+ghost use Rattle.serde_json.specs.contracts.value.Value.{the_row};
+ghost use Rattle.jsonptr_grammar.specs.Text.{Text, text};
+ghost use Rattle.jsonptr_tree.specs.Node.{Path, Names};
+ghost use Rattle.jsonptr_document.specs.PrivateJson.{nodes_of, stands_in};
+ghost use Rattle.jsonptr.specs.Pointer.{tokens};
+ghost use Rattle.jsonptr.specs.PrivateDescend.{Begins, MovesTo, LendsMove, StopsWith, PutsBelow};
+
+use crate::pointer::Pointer;
+use jsonptr_base::token::Token;
+use jsonptr_document::document::Document;
+use jsonptr_document::stepping::{Way, way_of};
+use serde_json::Value;
+use std::alloc::{AllocError, Global};
+
+/// What a descent goes by: a pointer, and where memory to decode its tokens comes from.
+#[derive(Clone, Copy)]
+pub struct Guide<'p> {
+    /// Gives the memory.
+    pub alloc: Global,
+    /// Its tokens lead down.
+    pub ptr: Pointer<'p>,
+}
+
+/// A document to write to, after a move down from another one.
+#[derive(Drop)]
+pub struct Moved<'v, D> {
+    /// The child that the next token names, or the other document itself.
+    pub node: &'v mut D,
+    /// The offset of what follows that token, if it is the child.
+    pub next: usize,
+    /// Whether it is the child.
+    pub down: bool,
+}
+
+/// A document down which the tokens of a pointer lead.
+pub trait Descend: Document {
+    /// What stands below: documents of the same type, under a name of its own.
+    type Node: Document;
+
+    // at this path of the document stands this one
+    ghost node_at: { Self → Path → Self.Node → Type 0 };
+
+    // these tokens name this document below
+    ghost finds: { Self → List Text → Self.Node → Type 0 };
+
+    // the second document is the first
+    ghost is_same: { Self → Self → Type 0 };
+
+    /// Goes down as far as the pointer's tokens lead, lends the document there, and tells the offset of the
+    /// tokens that are left. Where there is no memory the document stays as it was.
+    ///
+    /// # Errors
+    ///
+    /// [`AllocError`] where a token with a `~` has to be decoded and there is no memory for it.
+    fn descend(
+        &mut self,
+        guide: &Guide<'_>,
+        reached: &mut usize,
+    ) -> Result<&mut Self::Node, AllocError>
+        ensures* writes_back { sem 𝓛 (follows_so Self.row Self.Node.row self.entry.ghost_name
+            (name_if_ok (λ v. v.ghost_name) result)
+            (λ w n. (IsOk result → PutsBelow (Self.Document.nodes self.old) (tokens guide.now.ptr)
+            reached.new (Self.Node.Document.nodes w) (Self.Document.nodes n))
+            × IfOk result (λ v. Self.Node.Document.stands_at v.now [] w
+            → Self.Document.stands_at self.old [] n))
+            (λ n. OnErr result (Self.Document.stands_at self.old [] n))) }
+        ensures value { IfOk result (λ v. StopsWith (Self.Document.nodes self.old)
+            (tokens guide.now.ptr) reached.new
+            (λ w. node_at self.old w v.now) (Self.Node.Document.nodes v.now))
+            × (All (λ b. b ≢ 126) (text (tokens guide.now.ptr)) → IsOk result) };
+
+    // the tokens that name a path find what stands there
+    ghost found_at: { (d : Self) (tokens : List Text) (w : Path) (e : Self.Node)
+        → Names (Self.Document.nodes d) tokens w → node_at d w e → finds d tokens e };
+
+    // what stands at the root of a document is the same document
+    ghost same_at: { (d e : Self) → Self.Document.stands_at d [] e → is_same d e };
+}
+
+/// The tokens before an offset, the token there, and those behind it; `None` where no token begins there.
+pub fn token_at<'p>(
+    ptr: Pointer<'p>,
+    offset: usize,
+) -> Option<(Pointer<'p>, Token<'p>, Pointer<'p>)>
+    ensures { MatchOption result
+        ((front left : List Text) → Begins (tokens ptr.entry) offset front left → left ≡ [])
+        (λ r. Begins (tokens ptr.entry) offset (tokens r.0) (r.1 ∷ tokens r.2)) }
+{
+    match ptr.split_at_offset(offset) {
+        None => None,
+        Some((front, rest)) => match rest.split_front() {
+            None => None,
+            Some((token, after)) => Some((front, token, after)),
+        },
+    }
+}
+
+/// The child that the token at the offset names, or the value itself where no token is there, or where it
+/// names no child.
+fn step<'v>(
+    at: &'v mut Value,
+    guide: &Guide<'_>,
+    offset: usize,
+) -> Result<Moved<'v, Value>, AllocError>
+    ensures* writes_back { sem 𝓛 (LendsMove the_row nodes_of stands_in
+        at.entry (tokens guide.now.ptr) offset result) }
+    ensures value { IfOk result (λ r.
+        MovesTo nodes_of stands_in (tokens guide.now.ptr) offset r.down at.old r.next r.node.now)
+        × (All (λ b. b ≢ 126) (text (tokens guide.now.ptr)) → IsOk result) }
+{
+    let Some((_, token, after)) = token_at(guide.ptr, offset) else {
+        return Ok(Moved {
+            node: at,
+            next: offset,
+            down: false,
+        });
+    };
+    let next = guide.ptr.len() - after.len();
+    let way = match way_of(at, guide.alloc, &token) {
+        Ok(way) => way,
+        Err(error) => return Err(error),
+    };
+    match way {
+        Way::Element(place) => match at.as_array_mut() {
+            Some(elements) => {
+                let node = &mut elements[place];
+                Ok(Moved {
+                    node,
+                    next,
+                    down: true,
+                })
+            }
+            None => unreachable!(),
+        },
+        Way::Member(key) => match at.as_object_mut() {
+            Some(members) => match members.get_mut(key.as_str()) {
+                Some(node) => Ok(Moved {
+                    node,
+                    next,
+                    down: true,
+                }),
+                None => unreachable!(),
+            },
+            None => unreachable!(),
+        },
+        Way::Here => Ok(Moved {
+            node: at,
+            next,
+            down: false,
+        }),
+    }
+}
+
+impl Descend for Value {
+    ghost use Rattle.serde_json.specs.View.{view};
+    ghost use Rattle.jsonptr_tree.specs.Json.{FindsValue};
+    ghost use Rattle.jsonptr_document.specs.PrivateJson.{stands_in};
+    ghost use Rattle.jsonptr_document.proofs.JsonPut.{same_view};
+
+    type Node = Value;
+
+    ghost node_at = { stands_in };
+
+    ghost finds = { λ v tokens r. FindsValue (view v) tokens (view r) };
+
+    ghost is_same = { λ v u. view u ≡ view v };
+
+    fn descend(
+        &mut self,
+        guide: &Guide<'_>,
+        reached: &mut usize,
+    ) -> Result<&mut Value, AllocError> {
+        let mut at = self;
+        let mut offset = 0;
+        loop {
+            match step(at, guide, offset) {
+                Ok(moved) => {
+                    let Moved { node, next, down } = moved;
+                    if !down {
+                        *reached = offset;
+                        return Ok(node);
+                    }
+                    at = node;
+                    offset = next;
+                }
+                Err(error) => return Err(error),
+            }
+        }
+    }
+
+    ghost found_at = { λ d tokens w e named there.
+        record { path = w; named = named; there = there } };
+
+    ghost same_at = { λ d e h. same_view d e h };
+}

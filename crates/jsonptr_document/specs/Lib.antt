@@ -1,0 +1,13 @@
+-- Documents of every kind, one level after another, and one step into them (RFC 6901, section 4).
+pub mod Document
+pub mod Child
+pub mod Way
+pub mod Private
+pub mod PrivateJson
+pub use Rattle.jsonptr_base.specs.Fault
+pub use Rattle.jsonptr_base.specs.Index
+pub use Rattle.jsonptr_grammar.specs.Text
+pub use Rattle.jsonptr_tree.specs.Node
+pub use Rattle.jsonptr_tree.specs.Following
+pub use Rattle.jsonptr_tree.specs.Put
+pub use Rattle.jsonptr_tree.specs.Json

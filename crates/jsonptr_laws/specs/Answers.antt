@@ -1,0 +1,8 @@
+-- When two answers are the same.
+use Rattle.std.specs.Prelude.{◌≡◌, Option, None, MatchOption}
+use Rattle.jsonptr.specs.Pointer.{tokens}
+use Rattle.jsonptr.specs.declared.pointer.Pointer.{Pointer}
+
+-- both are `None`, or both are pointers with the same tokens
+abbrev pub SamePointer : Option Pointer → Option Pointer → Type 0
+SamePointer r q = MatchOption r (q ≡ None) (λ p. MatchOption q ⊥ (λ u. tokens p ≡ tokens u))

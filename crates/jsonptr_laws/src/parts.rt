@@ -1,0 +1,44 @@
+//! Parts of a pointer: each call that takes one apart has one answer.
+ghost use Rattle.std.specs.Prelude.{◌≡◌, ℕ, List, Option};
+ghost use Rattle.std.specs.declared.ops.Bound.{Bound};
+ghost use Rattle.jsonptr.specs.Text.{Text};
+ghost use Rattle.jsonptr.specs.Diagnostic.{Mark};
+ghost use Rattle.jsonptr.specs.ParseError.{IsLabelled};
+ghost use Rattle.jsonptr.specs.Parts.{SplitsAt, IsLongestCommonFront};
+ghost use Rattle.jsonptr.specs.Slice.{GivesRange, GivesFrom, GivesTo, GivesAll, GivesInclusive, GivesToInclusive, GivesBounds};
+ghost use Rattle.jsonptr.specs.Types.ParseError.{ParseError};
+ghost use Rattle.jsonptr.specs.declared.pointer.Pointer.{Pointer};
+ghost use Rattle.jsonptr_laws.specs.Answers.{SamePointer};
+
+/// A list of tokens is split at a byte of its text in one way, and two lists have one longest front in common.
+pub fn split_law()
+    ensures split { (ts front rest other after : List Text) (offset : ℕ)
+        → SplitsAt ts offset front rest → SplitsAt ts offset other after
+        → (front ≡ other) × (rest ≡ after) }
+    ensures common { (ts us front other : List Text)
+        → IsLongestCommonFront ts us front → IsLongestCommonFront ts us other → front ≡ other }
+{}
+
+/// Each range of places gives one pointer of a list of tokens, or none, and so does each pair of bounds.
+pub fn range_law()
+    ensures range { (a b : ℕ) (ts : List Text) (r q : Option Pointer)
+        → GivesRange a b ts r → GivesRange a b ts q → SamePointer r q }
+    ensures from { (a : ℕ) (ts : List Text) (r q : Option Pointer)
+        → GivesFrom a ts r → GivesFrom a ts q → SamePointer r q }
+    ensures to { (b : ℕ) (ts : List Text) (r q : Option Pointer)
+        → GivesTo b ts r → GivesTo b ts q → SamePointer r q }
+    ensures all { (ts : List Text) (r q : Option Pointer)
+        → GivesAll ts r → GivesAll ts q → SamePointer r q }
+    ensures inclusive { (a b : ℕ) (ts : List Text) (r q : Option Pointer)
+        → GivesInclusive a b ts r → GivesInclusive a b ts q → SamePointer r q }
+    ensures to_inclusive { (b : ℕ) (ts : List Text) (r q : Option Pointer)
+        → GivesToInclusive b ts r → GivesToInclusive b ts q → SamePointer r q }
+    ensures bounds { (a b : Bound ℕ) (ts : List Text) (r q : Option Pointer)
+        → GivesBounds a b ts r → GivesBounds a b ts q → SamePointer r q }
+{}
+
+/// An error of parsing puts one list of labels, or none, on a subject of each length.
+pub fn label_law()
+    ensures { (e : ParseError) (len : ℕ) (r q : Option (List Mark))
+        → IsLabelled e len r → IsLabelled e len q → r ≡ q }
+{}

@@ -1,7 +1,0 @@
-use Rattle.jsonptr_spec.proofs.EscapeLemmas.{esc-encodes, IsUtf8-esc_iff, IsUtf8-unesc, chars-esc, chars-unesc, IsToken-encodes_iff}
-use Rattle.jsonptr_spec.proofs.PointerLemmas.{text-encodes}
-use Rattle.jsonptr_spec.proofs.FaultLemmas.{IsPointer-encodes_iff}
-use Rattle.jsonptr_spec.proofs.text.characters_law.Goals as goal
-
-pub returns : goal.returns
-returns c = record { bytes = esc-encodes; text_bytes = text-encodes; token = IsToken-encodes_iff; pointer = IsPointer-encodes_iff; encoded = IsUtf8-esc_iff; decoded = IsUtf8-unesc; characters = chars-esc; decoded_characters = chars-unesc }

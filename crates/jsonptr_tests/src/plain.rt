@@ -1,0 +1,156 @@
+//! What parsing, decoding and encoding mean, as the byte loops that one would first write, run beside the fast
+//! ones over every text of up to five characters.
+use jsonptr::{EncodingError, InvalidEncoding, ParseError, Pointer, PointerBuf, Token};
+use std::alloc::{AllocError, Global};
+use std::borrow::CowStr;
+use std::test::Fail;
+
+/// The first fault of a pointer's text (RFC 6901, section 3).
+fn pointer_fault(text: &str) -> Option<ParseError> {
+    let bytes = text.as_bytes();
+    if *bytes.first()? != b'/' {
+        return Some(ParseError::NoLeadingSlash);
+    }
+    let mut slash = 0;
+    for (i, b) in bytes.iter().enumerate() {
+        if *b == b'/' {
+            slash = i;
+        }
+        if *b == b'~' && !matches!(bytes.get(i + 1), Some(b'0' | b'1')) {
+            let source = EncodingError {
+                offset: i.saturating_sub(slash),
+                source: InvalidEncoding::Tilde,
+            };
+            return Some(ParseError::InvalidEncoding {
+                offset: slash,
+                source,
+            });
+        }
+    }
+    None
+}
+
+/// The first fault of a token's text (RFC 6901, section 3).
+fn token_fault(text: &str) -> Option<EncodingError> {
+    let mut escaped = false;
+    for (offset, b) in text.as_bytes().iter().enumerate() {
+        if *b == b'/' {
+            let source = InvalidEncoding::Slash;
+            return Some(EncodingError { offset, source });
+        }
+        if escaped && *b != b'0' && *b != b'1' {
+            let source = InvalidEncoding::Tilde;
+            return Some(EncodingError { offset, source });
+        }
+        escaped = !escaped && *b == b'~';
+    }
+    if escaped {
+        let source = InvalidEncoding::Tilde;
+        return Some(EncodingError {
+            offset: text.len(),
+            source,
+        });
+    }
+    None
+}
+
+/// What a token's text stands for, in one pass from the left (RFC 6901, section 4).
+fn decoded(alloc: Global, text: &str) -> Result<String, AllocError> {
+    let mut plain = String::new(alloc);
+    let mut escaped = false;
+    for c in text.chars() {
+        if escaped {
+            plain.push(if c == '1' { '/' } else { '~' })?;
+        } else if c != '~' {
+            plain.push(c)?;
+        }
+        escaped = !escaped && c == '~';
+    }
+    Ok(plain)
+}
+
+/// How a token writes a text (RFC 6901, section 3).
+fn encoded(alloc: Global, text: &str) -> Result<String, AllocError> {
+    let mut token = String::new(alloc);
+    for c in text.chars() {
+        match c {
+            '~' => token.push_str("~0")?,
+            '/' => token.push_str("~1")?,
+            _ => token.push(c)?,
+        }
+    }
+    Ok(token)
+}
+
+/// Whether the text is read as a pointer, borrowed and owned, as the plain loop reads it.
+fn pointers_agree(alloc: Global, text: &str) -> Result<bool, AllocError> {
+    let owned = PointerBuf::parse(String::from_str(alloc, text)?);
+    Ok(match (Pointer::parse(text), owned, pointer_fault(text)) {
+        (Ok(pointer), Ok(owned), None) => {
+            pointer.as_str() == text && owned.as_ptr().as_str() == text
+        }
+        (Err(error), Err(report), Some(fault)) => {
+            error == fault && report.into_original() == fault
+        }
+        _ => false,
+    })
+}
+
+/// Whether the text is read as an encoded token, and decoded, as the plain loops do it.
+fn tokens_agree(alloc: Global, text: &str) -> Result<bool, AllocError> {
+    Ok(
+        match (
+            Token::from_encoded(CowStr::Borrowed(text)),
+            token_fault(text),
+        ) {
+            (Ok(token), None) => {
+                let plain = decoded(alloc, text)?;
+                token.encoded() == text && token.decoded(alloc)?.as_str() == plain.as_str()
+            }
+            (Err(error), Some(fault)) => error == fault,
+            _ => false,
+        },
+    )
+}
+
+/// Whether the text is encoded as the plain loop encodes it, and decodes as itself.
+fn escapes_agree(alloc: Global, text: &str) -> Result<bool, AllocError> {
+    let token = Token::new(alloc, CowStr::Borrowed(text))?;
+    let plain = encoded(alloc, text)?;
+    Ok(token.encoded() == plain.as_str() && token.decoded(alloc)?.as_str() == text)
+}
+
+/// The characters of the texts.
+const CHARACTERS: [char; 7] = ['/', '~', '0', '1', '2', 'a', 'é'];
+
+/// Of each length, how many texts there are.
+const COUNTS: [usize; 6] = [1, 7, 49, 343, 2401, 16807];
+
+/// The text whose characters are the digits of a number, base 7, from the lowest.
+fn text_of(alloc: Global, number: usize, length: usize) -> Result<String, AllocError> {
+    let mut text = String::new(alloc);
+    let mut left = number;
+    for _ in 0..length {
+        text.push(CHARACTERS[left % 7])?;
+        left /= 7;
+    }
+    Ok(text)
+}
+
+#[test]
+fn every_short_text(rt: HostRuntime) -> Result<(), Fail> {
+    let alloc = rt.alloc();
+    let mut seen: usize = 0;
+    for (length, count) in COUNTS.iter().enumerate() {
+        for number in 0..*count {
+            let text = text_of(alloc, number, length)?;
+            let text = text.as_str();
+            assert!(rt; pointers_agree(alloc, text)?, "at {text}");
+            assert!(rt; tokens_agree(alloc, text)?, "at {text}");
+            assert!(rt; escapes_agree(alloc, text)?, "at {text}");
+            seen = seen.saturating_add(1);
+        }
+    }
+    assert_eq!(rt; seen, 19608);
+    Ok(())
+}

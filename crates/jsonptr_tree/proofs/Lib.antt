@@ -1,0 +1,13 @@
+-- Lemmas about the definitions of specs/, for the laws of this crate and for the proofs of those above.
+pub mod NodeLemmas
+pub mod FollowingLemmas
+pub mod PutLemmas
+pub mod ListedLemmas
+pub mod TreeLemmas
+pub mod LandingLemmas
+pub mod GrowingLemmas
+pub mod AssigningLemmas
+pub mod RemovingLemmas
+pub mod JsonLemmas
+pub mod JsonWritingLemmas
+pub mod JsonMapLemmas

@@ -1,0 +1,11 @@
+-- Documents as maps from paths to nodes, following a list of tokens into one, and writing where it
+-- leads (RFC 6901, section 4).
+pub mod Node
+pub mod Following
+pub mod Json
+pub mod Put
+pub mod Growing
+pub mod Landing
+pub mod Assigning
+pub mod Removing
+pub use Rattle.jsonptr_grammar.specs.Text
