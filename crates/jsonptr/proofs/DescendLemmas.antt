@@ -60,9 +60,9 @@ module _ (tokens : List Text) (offset : ℕ) (front : List Text) (x : Text) (res
     pub moves_nowhere : LacksStep (nodes d) [] x → MovesTo nodes stands tokens offset false d next d
     moves_nowhere lacks = (fits, (λ f l y r c e. let one = same_place f l c in let here : x ≡ y = cc in subst (λ (t : Text). LacksStep (nodes d) [] t) here lacks), refl)
 
-  module _ {D : Type 0} (nodes : D → NodeMap) (stands : D → Path → D → Type 0) (d : D) where
-    pub moves_back : (e w m : D) → StepsBack nodes stands d x e w m → MovesBack nodes stands tokens offset true d e w m
-    moves_back e w m back f y r c = let one = same_place f (y ∷ r) c in let here : x ≡ y = cc in subst (λ (t : Text). StepsBack nodes stands d t e w m) here back
+  module _ {D : Type 0} (nodes : D → NodeMap) (stands : D → Path → D → Type 0) (in_order : D → Type 0) (d : D) where
+    pub moves_back : (e w m : D) → StepsBack nodes stands in_order d x e w m → MovesBack nodes stands tokens offset in_order true d e w m
+    moves_back e w m back f y r c = let one = same_place f (y ∷ r) c in let here : x ≡ y = cc in subst (λ (t : Text). StepsBack nodes stands in_order d t e w m) here back
 
 pub moves_past : {D : Type 0} (nodes : D → NodeMap) (stands : D → Path → D → Type 0) (tokens : List Text) (offset : ℕ) (d : D) → offset < 2 ^ 64 → ((front left : List Text) → Begins tokens offset front left → left ≡ []) → MovesTo nodes stands tokens offset false d offset d
 moves_past nodes stands tokens offset d fits none = (fits, (λ f l y r c e. let past : y ∷ r ≡ [] = sym e ∙ none f l c in let no : ⊥ = cc in absurd no), refl)
@@ -81,9 +81,10 @@ stops_behind n tokens front path e named = record {
   longest = λ longer after w is k. let same : longer ++ after ≡ front ++ [] = sym is ∙ e in omega (arith, ap length same, length-append longer after, length-append front []);
 }
 
-module _ {D : Type 0} (nodes : D → NodeMap) (stands : D → Path → D → Type 0) (tokens : List Text) where
+module _ {D : Type 0} (nodes : D → NodeMap) (stands : D → Path → D → Type 0) (in_order : D → Type 0) (tokens : List Text) where
   -- the tokens before the offset name the path of doc at which x stands, and once x becomes y, doc becomes F y:
-  -- the map has that of y at the path, and doc stays the same document if x does
+  -- the map has that of y at the path, doc stays the same document if x does, and its keys stay in order if those
+  -- of x do
   pub record Kept (doc x : D) (F : D → D) (offset : ℕ) : Type 0 where
     pub front : List Text
     pub left : List Text
@@ -93,9 +94,10 @@ module _ {D : Type 0} (nodes : D → NodeMap) (stands : D → Path → D → Typ
     pub there : stands doc path x
     pub made : (y : D) → nodes (F y) ≡ put (nodes doc) path (nodes y)
     pub same : (y : D) → stands x [] y → stands doc [] (F y)
+    pub order : (y : D) → (in_order x → in_order y) → in_order doc → in_order (F y)
 
   pub kept_none : (doc : D) → IsSome (nodes doc []) → stands doc [] doc → Kept doc doc (λ y. y) 0
-  kept_none doc root here = record { front = []; left = tokens; path = []; begins = (refl, refl); named = root; there = here; made = λ y. refl; same = λ y k. k }
+  kept_none doc root here = record { front = []; left = tokens; path = []; begins = (refl, refl); named = root; there = here; made = λ y. refl; same = λ y k. k; order = λ y k. k }
 
   -- the offset is within the text
   pub kept_within : (doc x : D) (F : D → D) (offset : ℕ) → Kept doc x F offset → offset ≤ length (text tokens)
@@ -114,7 +116,7 @@ module _ {D : Type 0} (nodes : D → NodeMap) (stands : D → Path → D → Typ
 
   module _ (root : (d : D) → IsSome (nodes d [])) (below : (d e f : D) (w : Path) (s : Step) → stands d w e → stands e (s ∷ []) f → stands d (w ++ s ∷ []) f) (is_sub : (d e : D) (w : Path) → stands d w e → nodes e ≡ sub (nodes d) w) where
     -- a move down
-    pub kept_more : (doc x e : D) (F G : D → D) (offset next : ℕ) → Kept doc x F offset → MovesTo nodes stands tokens offset true x next e → ((w : D) → MovesBack nodes stands tokens offset true x e w (G w)) → Kept doc e (λ y. F (G y)) next
+    pub kept_more : (doc x e : D) (F G : D → D) (offset next : ℕ) → Kept doc x F offset → MovesTo nodes stands tokens offset true x next e → ((w : D) → MovesBack nodes stands tokens offset in_order true x e w (G w)) → Kept doc e (λ y. F (G y)) next
     kept_more doc x e F G offset next h m back =
         let f = m.1 h.front h.left h.begins in
         let s : Step = f.child.step in
@@ -132,6 +134,7 @@ module _ {D : Type 0} (nodes : D → NodeMap) (stands : D → Path → D → Typ
           there = below doc x e h.path s h.there f.child.there;
           made = λ y. h.made (G y) ∙ ap (put (nodes doc) h.path) ((written y).0 s f.child.named ∙ ap (λ (n : NodeMap). put n (s ∷ []) (nodes y)) map_x) ∙ sym (put_below (nodes doc) h.path (s ∷ []) (nodes y));
           same = λ y k. h.same (G y) ((written y).1 k);
+          order = λ y k. h.order (G y) ((written y).2 k);
         }
 
     -- the end of the way
@@ -160,4 +163,5 @@ module _ {D : Type 0} (nodes : D → NodeMap) (stands : D → Path → D → Typ
     there = subst (λ (d : D). stands doc h.path d) (sym is) h.there;
     made = λ y. ap (λ (d : D). nodes (F d)) (back y) ∙ h.made y;
     same = λ y k. subst (λ (d : D). stands doc [] (F d)) (sym (back y)) (h.same y (subst (λ (d : D). stands d [] y) is k));
+    order = λ y k. subst (λ (d : D). in_order doc → in_order (F d)) (sym (back y)) (h.order y (subst (λ (d : D). in_order d → in_order y) is k));
   }

@@ -7,4 +7,7 @@ pub mod Outcome
 pub mod WalkSteps
 pub mod FollowLemmas
 pub mod ResolveMutLemmas
+pub mod AssignLemmas
+pub mod AssignBelow
+pub mod DeleteLemmas
 pub mod SliceLemmas

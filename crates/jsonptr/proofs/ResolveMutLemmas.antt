@@ -29,10 +29,10 @@ module _ {n : NodeMap} {tokens : List Text} {offset : ℕ} where
     same : (h.front ≡ front) × (h.rest ≡ x ∷ rest)
     same = one_front h.front front h.rest (x ∷ rest) (sym h.stops.split ∙ b.0) (sym h.offset_is ∙ b.1)
 
-    stops : StopsAt n tokens front h.path (x ∷ rest)
+    pub stops : StopsAt n tokens front h.path (x ∷ rest)
     stops = subst (λ (f : List Text). StopsAt n tokens f h.path (x ∷ rest)) same.0 (subst (λ (r : List Text). StopsAt n tokens h.front h.path r) same.1 h.stops)
 
-    root_below : m [] ≡ n h.path
+    pub root_below : m [] ≡ n h.path
     root_below = ap (λ (k : NodeMap). k []) h.below ∙ sub-root n h.path
 
     -- no child of the node there is the one that the next token names

@@ -1,12 +1,16 @@
--- What contracts say of pointers and of resolving them, and the words of the crates below, named again for callers.
+-- What contracts say of pointers, of resolving them and of assigning at them, and the words of the crates
+-- below, named again for callers.
 pub mod Pointer
 pub mod Tokens
 pub mod Slice
 pub mod Component
 pub mod PointerBuf
 pub mod Resolve
+pub mod Assign
+pub mod Delete
 pub mod PrivateResolve
 pub mod PrivateDescend
+pub mod PrivateAssign
 pub mod Types
 pub use Rattle.jsonptr_grammar.specs.Text
 pub use Rattle.jsonptr_grammar.specs.Grammar
@@ -14,6 +18,10 @@ pub use Rattle.jsonptr_grammar.specs.FirstFault
 pub use Rattle.jsonptr_tree.specs.Node
 pub use Rattle.jsonptr_tree.specs.Following
 pub use Rattle.jsonptr_tree.specs.Put
+pub use Rattle.jsonptr_tree.specs.Growing
+pub use Rattle.jsonptr_tree.specs.Landing
+pub use Rattle.jsonptr_tree.specs.Assigning
+pub use Rattle.jsonptr_tree.specs.Removing
 pub use Rattle.jsonptr_tree.specs.Json
 pub use Rattle.jsonptr_base.specs.Fault
 pub use Rattle.jsonptr_base.specs.Diagnostic

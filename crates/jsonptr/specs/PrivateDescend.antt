@@ -16,35 +16,48 @@ Begins tokens offset front left = (tokens ≡ front ++ left) × (offset ≡ leng
 
 -- the first of these tokens names a child of the map n, which `stands` says of e, and the text of the tokens
 -- before those, which are `front`, and of that token has `next` bytes
-pub record FindsNext {D : Type 0} (n : NodeMap) (stands : Path → D → Type 0) (front left : List Text) (next : ℕ) (e : D) : Type 0 where
+pub record FindsNext {D : Type 0} (n : NodeMap) (stands : Path → D → Type 0)
+    (front left : List Text) (next : ℕ) (e : D) : Type 0 where
   pub token : Text
   pub rest : List Text
   pub split : left ≡ token ∷ rest
   pub next_is : next ≡ length (text (front ++ token ∷ []))
   pub child : FindsChild n stands token e
 
-module _ {D : Type 0} (nodes : D → NodeMap) (stands : D → Path → D → Type 0) (tokens : List Text) (offset : ℕ) where
+module _ {D : Type 0} (nodes : D → NodeMap) (stands : D → Path → D → Type 0)
+    (tokens : List Text) (offset : ℕ) where
   -- e is the child of d that the token at the offset names, if the move goes down, or d itself, if the token
   -- there names none; `next` is the offset of what follows that token
   abbrev pub MovesTo : Bool → D → ℕ → D → Type 0
-  MovesTo true d next e = (next < 2 ^ 64) × ((front left : List Text) → Begins tokens offset front left → FindsNext (nodes d) (stands d) front left next e)
-  MovesTo false d next e = (next < 2 ^ 64) × ((front left : List Text) (x : Text) (rest : List Text) → Begins tokens offset front left → left ≡ x ∷ rest → LacksStep (nodes d) [] x) × (e ≡ d)
+  MovesTo true d next e =
+      (next < 2 ^ 64)
+      × ((front left : List Text) → Begins tokens offset front left
+      → FindsNext (nodes d) (stands d) front left next e)
+  MovesTo false d next e =
+      (next < 2 ^ 64)
+      × ((front left : List Text) (x : Text) (rest : List Text)
+      → Begins tokens offset front left → left ≡ x ∷ rest → LacksStep (nodes d) [] x)
+      × (e ≡ d)
 
   -- d becomes m once e becomes w
-  abbrev pub MovesBack : Bool → D → D → D → D → Type 0
-  MovesBack true d e w m = (front : List Text) (x : Text) (rest : List Text) → Begins tokens offset front (x ∷ rest) → StepsBack nodes stands d x e w m
-  MovesBack false d e w m = m ≡ w
+  abbrev pub MovesBack : (D → Type 0) → Bool → D → D → D → D → Type 0
+  MovesBack in_order true d e w m =
+      (front : List Text) (x : Text) (rest : List Text)
+      → Begins tokens offset front (x ∷ rest) → StepsBack nodes stands in_order d x e w m
+  MovesBack in_order false d e w m = m ≡ w
 
-module _ (D : RattleType) (nodes : D.Denot → NodeMap) (stands : D.Denot → Path → D.Denot → Type 0) {E : Type 0} where
+module _ (D : RattleType) (nodes : D.Denot → NodeMap) (stands : D.Denot → Path → D.Denot → Type 0)
+    (in_order : D.Denot → Type 0) {E : Type 0} where
   -- what the lender of a move becomes
   abbrev pub LendsMove : MutBor D.Denot → List Text → ℕ → Result (Moved D.Denot) E → Fml
   LendsMove at tokens offset r = follows_so D D at.ghost_name (name_if_ok (λ t. t.node.ghost_name) r)
-      (λ w m. IfOk r (λ t. MovesBack nodes stands tokens offset t.down at.now t.node.now w m))
+      (λ w m. IfOk r (λ t. MovesBack nodes stands tokens offset in_order t.down at.now t.node.now w m))
       (λ m. OnErr r (m ≡ at.now))
 
 -- the tokens lead from the map n as far as the offset, and to no child there: at the path that they name there
 -- `at` holds, and m is the map below it
-pub record StopsWith (n : NodeMap) (tokens : List Text) (offset : ℕ) (at : Path → Type 0) (m : NodeMap) : Type 0 where
+pub record StopsWith (n : NodeMap) (tokens : List Text) (offset : ℕ) (at : Path → Type 0)
+    (m : NodeMap) : Type 0 where
   pub front : List Text
   pub path : Path
   pub rest : List Text

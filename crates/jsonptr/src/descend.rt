@@ -3,8 +3,8 @@ ghost use Rattle.std.specs.Prelude.{◌≡◌, ◌≢◌, [], ◌∷◌, ◌++�
 ghost use Rattle.std.specs.Borrow.{sem, follows_so, name_if_ok};
 ghost use Rattle.serde_json.specs.contracts.value.Value.{the_row};
 ghost use Rattle.jsonptr_grammar.specs.Text.{Text, text};
-ghost use Rattle.jsonptr_tree.specs.Node.{Path, Names};
-ghost use Rattle.jsonptr_document.specs.PrivateJson.{nodes_of, stands_in};
+ghost use Rattle.jsonptr_tree.specs.Node.{Step, Path, Names};
+ghost use Rattle.jsonptr_document.specs.PrivateJson.{nodes_of, stands_in, ordered};
 ghost use Rattle.jsonptr.specs.Pointer.{tokens};
 ghost use Rattle.jsonptr.specs.PrivateDescend.{Begins, MovesTo, LendsMove, StopsWith, PutsBelow};
 
@@ -12,6 +12,7 @@ use crate::pointer::Pointer;
 use jsonptr_base::token::Token;
 use jsonptr_document::document::Document;
 use jsonptr_document::stepping::{Way, way_of};
+use jsonptr_document::writing::DocumentMut;
 use serde_json::Value;
 use std::alloc::{AllocError, Global};
 
@@ -38,7 +39,7 @@ pub struct Moved<'v, D> {
 /// A document down which the tokens of a pointer lead.
 pub trait Descend: Document {
     /// What stands below: documents of the same type, under a name of its own.
-    type Node: Document;
+    type Node: DocumentMut;
 
     // at this path of the document stands this one
     ghost node_at: { Self → Path → Self.Node → Type 0 };
@@ -65,7 +66,9 @@ pub trait Descend: Document {
             (λ w n. (IsOk result → PutsBelow (Self.Document.nodes self.old) (tokens guide.now.ptr)
             reached.new (Self.Node.Document.nodes w) (Self.Document.nodes n))
             × IfOk result (λ v. Self.Node.Document.stands_at v.now [] w
-            → Self.Document.stands_at self.old [] n))
+            → Self.Document.stands_at self.old [] n)
+            × IfOk result (λ v. (Self.Node.Document.in_order v.now → Self.Node.Document.in_order w)
+            → Self.Document.in_order self.old → Self.Document.in_order n))
             (λ n. OnErr result (Self.Document.stands_at self.old [] n))) }
         ensures value { IfOk result (λ v. StopsWith (Self.Document.nodes self.old)
             (tokens guide.now.ptr) reached.new
@@ -75,6 +78,14 @@ pub trait Descend: Document {
     // the tokens that name a path find what stands there
     ghost found_at: { (d : Self) (tokens : List Text) (w : Path) (e : Self.Node)
         → Names (Self.Document.nodes d) tokens w → node_at d w e → finds d tokens e };
+
+    // where the keys of a document ascend, those of what stands in it do
+    ghost order_at: { (d : Self) (w : Path) (e : Self.Node)
+        → node_at d w e → Self.Document.in_order d → Self.Node.Document.in_order e };
+
+    // what stands one step below what stands at a path of a document stands at the longer path
+    ghost below_at: { (d : Self) (w : Path) (s : Step) (e f : Self.Node)
+        → node_at d w e → Self.Node.Document.stands_at e (s ∷ []) f → node_at d (w ++ s ∷ []) f };
 
     // what stands at the root of a document is the same document
     ghost same_at: { (d e : Self) → Self.Document.stands_at d [] e → is_same d e };
@@ -105,7 +116,7 @@ fn step<'v>(
     guide: &Guide<'_>,
     offset: usize,
 ) -> Result<Moved<'v, Value>, AllocError>
-    ensures* writes_back { sem 𝓛 (LendsMove the_row nodes_of stands_in
+    ensures* writes_back { sem 𝓛 (LendsMove the_row nodes_of stands_in ordered
         at.entry (tokens guide.now.ptr) offset result) }
     ensures value { IfOk result (λ r.
         MovesTo nodes_of stands_in (tokens guide.now.ptr) offset r.down at.old r.next r.node.now)
@@ -156,8 +167,11 @@ fn step<'v>(
 
 impl Descend for Value {
     ghost use Rattle.serde_json.specs.View.{view};
+    ghost use Rattle.std.proofs.Common.{◌∙◌};
     ghost use Rattle.jsonptr_tree.specs.Json.{FindsValue};
+    ghost use Rattle.jsonptr_tree.proofs.JsonLemmas.{value_at-below};
     ghost use Rattle.jsonptr_document.specs.PrivateJson.{stands_in};
+    ghost use Rattle.jsonptr_tree.proofs.JsonOrderLemmas.{ascends_part};
     ghost use Rattle.jsonptr_document.proofs.JsonPut.{same_view};
 
     type Node = Value;
@@ -193,6 +207,10 @@ impl Descend for Value {
 
     ghost found_at = { λ d tokens w e named there.
         record { path = w; named = named; there = there } };
+
+    ghost order_at = { λ d w e h a. ascends_part w (view d) (view e) a h };
+
+    ghost below_at = { λ d w s e f here there. value_at-below w (s ∷ []) (view d) (view e) here ∙ there };
 
     ghost same_at = { λ d e h. same_view d e h };
 }

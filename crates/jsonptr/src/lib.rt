@@ -1,13 +1,17 @@
-//! JSON Pointers of RFC 6901: validated texts, borrowed and owned, that name a place in a document, and
-//! finding that place.
+//! JSON Pointers of RFC 6901: validated texts, borrowed and owned, that name a place in a document, finding
+//! that place, and writing there.
 #![tactic(auto)]
 
+pub mod assign;
 pub mod component;
+pub mod delete;
 mod descend;
 mod pointer;
 pub mod resolve;
 
+pub use assign::Assign;
 pub use component::{Component, Components};
+pub use delete::Delete;
 pub use jsonptr_base::diagnostic::Report;
 pub use jsonptr_base::fault::Fault;
 pub use jsonptr_base::token::{EncodingError, InvalidEncoding, InvalidEncodingError, Token};

@@ -187,7 +187,8 @@ impl<'a> Pointer<'a> {
     }
 
     /// The value that the pointer names in a document, to be written to, as [`ResolveMut::resolve_mut`] lends
-    /// it. What the document becomes once the loan ends stands in the contract of that method alone.
+    /// it. The proof of a caller learns what the document becomes once the loan ends where it calls that
+    /// method, whose first parameter is the document, and not where it calls this one.
     ///
     /// # Errors
     ///
@@ -197,12 +198,31 @@ impl<'a> Pointer<'a> {
         alloc: Global,
         value: &'v mut R,
     ) -> Result<&'v mut R::Value, Fault<R::Error>>
+        ensures* writes_back { sem 𝓛 (LendsSoOk R.row R.Value.row value.entry result
+            (λ n w. R.writes value.old (tokens self.now) w n)
+            (λ n. R.is_same value.old n)) }
         ensures found { IfOk result (λ r. R.finds value.old (tokens self.now) r.now) }
         ensures refused { IfRefused result (R.refuses value.old (tokens self.now)) }
         ensures no_memory { R.needs_no_memory value.old (tokens self.now) → HasMemory result }
     {
-        value.resolve_mut(alloc, *self)
+        lend_by(value, alloc, self)
     }
+}
+
+/// What [`ResolveMut::resolve_mut`] lends, by a pointer that is lent itself.
+fn lend_by<'v, R: ResolveMut>(
+    value: &'v mut R,
+    alloc: Global,
+    ptr: &Pointer<'_>,
+) -> Result<&'v mut R::Value, Fault<R::Error>>
+    ensures* writes_back { sem 𝓛 (LendsSoOk R.row R.Value.row value.entry result
+        (λ n w. R.writes value.old (tokens ptr.now) w n)
+        (λ n. R.is_same value.old n)) }
+    ensures found { IfOk result (λ r. R.finds value.old (tokens ptr.now) r.now) }
+    ensures refused { IfRefused result (R.refuses value.old (tokens ptr.now)) }
+    ensures no_memory { R.needs_no_memory value.old (tokens ptr.now) → HasMemory result }
+{
+    value.resolve_mut(alloc, *ptr)
 }
 
 /// The value that the pointer names in a document of any kind, to be written to.

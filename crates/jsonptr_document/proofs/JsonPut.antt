@@ -14,15 +14,16 @@ use Rattle.serde_json.specs.declared.value.Value.{Value, Array, Object}
 use Rattle.serde_json.proofs.Views.{view-Array, view-Object}
 use Rattle.jsonptr_grammar.specs.Text.{Text}
 use Rattle.jsonptr_tree.specs.Node.{Step, key, place, Label, an_object, an_array, NodeMap, sub, NamesStep}
-use Rattle.jsonptr_tree.specs.Json.{items_len, label_of, child, value_at, nodes}
+use Rattle.jsonptr_tree.specs.Json.{items_len, label_of, child, value_at, nodes, KeysAscend}
 use Rattle.jsonptr_tree.specs.Put.{same_place, same_step, put}
 use Rattle.jsonptr_tree.proofs.NodeLemmas.{NamesStep_one_step}
 use Rattle.jsonptr_tree.proofs.JsonLemmas.{nodes-sub, items_len-items_view, get_item-items_view, get_member-members_view}
+use Rattle.jsonptr_tree.proofs.JsonOrderLemmas.{ascends_part, ascends_element, ascends_member}
 use Rattle.jsonptr_tree.proofs.PutLemmas.{cases_same, same_by_step, put-step, put-other_step}
 use Rattle.jsonptr_document.specs.Child.{FindsChild}
 use Rattle.jsonptr_document.specs.Way.{IsPlace}
 use Rattle.jsonptr_document.specs.Private.{StepsBack}
-use Rattle.jsonptr_document.specs.PrivateJson.{nodes_of, stands_in}
+use Rattle.jsonptr_document.specs.PrivateJson.{nodes_of, stands_in, ordered}
 
 pub some_one : {A : Type 0} (a b : A) → Some a ≡ Some b → a ≡ b
 some_one a b e = cc
@@ -112,11 +113,12 @@ module _ (at : Value) (vs : Vec Value Global) (x : Text) (i : ℕ) (is : Some (i
       ∙ put_child (array (items_view vs.items)) (array (items_view (set vs.items i w))) (view w) (place i) (ap an_array (items_len-set vs.items i w)) (get_item-set vs.items i w array_inside) (other_place w)
       ∙ ap (λ (d : Data). put (nodes d) (place i ∷ []) (nodes_of w)) (sym array_is)
 
-  pub element_back : (e w : Value) → e ≡ get_or vs.items i e → StepsBack nodes_of stands_in at x e w (Array (with_item vs i w))
+  pub element_back : (e w : Value) → e ≡ get_or vs.items i e → StepsBack nodes_of stands_in ordered at x e w (Array (with_item vs i w))
   element_back e w there = (
     λ s named. let same : place i ≡ s = NamesStep_one_step (nodes_of at []) x (place i) s place_named named in
         subst (λ (t : Step). nodes_of (Array (with_item vs i w)) ≡ put (nodes_of at) (t ∷ []) (nodes_of w)) same (element_put w),
     λ same. ap Some (array_is ∙ ap array (sym (items_view-set vs.items i e w there (some_one (view e) (view w) same))) ∙ sym (view-Array (with_item vs i w))),
+    λ keeps order. ascends_element vs (with_item vs i w) (subst KeysAscend (array_is ∙ sym (view-Array vs)) order) i w (keeps (ascends_part (place i ∷ []) (view at) (view e) order (element_there e there))) refl,
   )
 
 -- ---- a member
@@ -159,11 +161,14 @@ module _ (at : Value) (m : BTreeMap (String Global) Value) (x k : Text) (same_ke
       some_member None h = h
       some_member (Some v) h = refl
 
+  member_there : (e : Value) → Some e ≡ get_by_text m k → stands_in at (key k ∷ []) e
+  member_there e there = ap (λ (d : Data). value_at (key k ∷ []) d) object_is ∙ ap (option_and_then (value_at [])) (get_member-members_view m k ∙ ap (option_map view) (sym there))
+
   pub member_found : (e : Value) → Some e ≡ get_by_text m k → FindsChild (nodes_of at) (stands_in at) x e
   member_found e there = record {
     step = key k;
     named = key_named;
-    there = ap (λ (d : Data). value_at (key k ∷ []) d) object_is ∙ ap (option_and_then (value_at [])) (get_member-members_view m k ∙ ap (option_map view) (sym there));
+    there = member_there e there;
   }
 
   module _ (n : BTreeMap (String Global) Value) (e w : Value) (there : Some e ≡ get_by_text m k) (writes : WritesThrough string_cmp (λ q. slice_cmp nat_cmp k (string_bytes q)) m w n) where
@@ -183,9 +188,10 @@ module _ (at : Value) (m : BTreeMap (String Global) Value) (x k : Text) (same_ke
         ∙ put_child (object (members_view m.entries)) (object (members_view n.entries)) (view w) (key k) refl (get_member-members_view n k ∙ ap (option_map view) (writes.3 has).1) other_key
         ∙ ap (λ (d : Data). put (nodes d) (key k ∷ []) (nodes_of w)) (sym object_is)
 
-    pub member_back : StepsBack nodes_of stands_in at x e w (Object n)
+    pub member_back : StepsBack nodes_of stands_in ordered at x e w (Object n)
     member_back = (
       λ s named. let same : key k ≡ s = NamesStep_one_step (nodes_of at []) x (key k) s key_named named in
           subst (λ (t : Step). nodes_of (Object n) ≡ put (nodes_of at) (t ∷ []) (nodes_of w)) same member_put,
       λ same. ap Some (object_is ∙ ap object (sym (ap members_view writes.0 ∙ members_view-set (is_at (λ q. slice_cmp nat_cmp k (string_bytes q))) e w (some_one (view e) (view w) same) m.entries (sym there))) ∙ sym (view-Object n)),
+      λ keeps order. ascends_member m n (subst KeysAscend (object_is ∙ sym (view-Object m)) order) (is_at (λ q. slice_cmp nat_cmp k (string_bytes q))) w (keeps (ascends_part (key k ∷ []) (view at) (view e) order (member_there e there))) writes.0,
     )

@@ -4,3 +4,4 @@ pub mod NoIndex
 pub mod ChildLemmas
 pub mod SteppingLemmas
 pub mod JsonPut
+pub mod JsonChildren

@@ -2,6 +2,7 @@
 pub mod Document
 pub mod Child
 pub mod Way
+pub mod Writing
 pub mod Private
 pub mod PrivateJson
 pub use Rattle.jsonptr_base.specs.Fault

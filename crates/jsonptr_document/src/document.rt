@@ -17,7 +17,8 @@ pub enum Node<'v, D> {
 /// A value whose parts a pointer can name.
 ///
 /// Contracts see a document `d` as its map, `nodes d`, from each path to the label of the node there.
-/// `stands_at d w e` says that the document `e` stands at the path `w` below `d`.
+/// `stands_at d w e` says that the document `e` stands at the path `w` below `d`, and `in_order d` that in each
+/// of its objects the keys ascend.
 pub trait Document: Sized + Drop {
     ghost use Rattle.jsonptr_document.specs.Document.{Shows};
 
@@ -26,6 +27,9 @@ pub trait Document: Sized + Drop {
 
     // at this path below the first document stands the second
     ghost stands_at: { Self → Path → Self → Type 0 };
+
+    // in each object of the document the keys ascend
+    ghost in_order: { Self → Type 0 };
 
     /// The node at the root, with what stands one step below it.
     fn node(&self) -> Node<'_, Self>
@@ -43,4 +47,7 @@ pub trait Document: Sized + Drop {
 
     // the map of a part of a document is the document's map below the path of the part
     ghost is_sub: { (d e : Self) (w : Path) → stands_at d w e → nodes e ≡ sub (nodes d) w };
+
+    // in a part of a document the keys ascend as they do in the document
+    ghost part_in_order: { (d e : Self) (w : Path) → stands_at d w e → in_order d → in_order e };
 }

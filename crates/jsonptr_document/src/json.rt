@@ -1,17 +1,24 @@
 //! JSON values as documents.
 use crate::document::{Document, Node};
+use crate::stepping::Way;
+use crate::writing::DocumentMut;
 use serde_json::Value;
+use std::alloc::{AllocError, Global};
+use std::collections::BTreeMap;
 
 impl Document for Value {
     ghost use Rattle.std.specs.Prelude.{◌≡◌, [], ◌∷◌, Some, refl};
     ghost use Rattle.std.proofs.Common.{◌∙◌};
     ghost use Rattle.serde_json.specs.View.{view};
-    ghost use Rattle.jsonptr_tree.specs.Json.{nodes as json_nodes, value_at};
+    ghost use Rattle.jsonptr_tree.specs.Json.{nodes as json_nodes, value_at, KeysAscend};
     ghost use Rattle.jsonptr_tree.proofs.JsonLemmas.{nodes-sub, value_at-below};
+    ghost use Rattle.jsonptr_tree.proofs.JsonOrderLemmas.{ascends_part};
 
     ghost nodes = { λ v. json_nodes (view v) };
 
     ghost stands_at = { λ v w u. value_at w (view v) ≡ Some (view u) };
+
+    ghost in_order = { λ v. KeysAscend (view v) };
 
     fn node(&self) -> Node<'_, Value> {
         match self {
@@ -31,4 +38,59 @@ impl Document for Value {
     ghost below = { λ d e f w s h k. value_at-below w (s ∷ []) (view d) (view e) h ∙ k };
 
     ghost is_sub = { λ d e w h. nodes-sub w (view d) (view e) h };
+
+    ghost part_in_order = { λ d e w h a. ascends_part w (view d) (view e) a h };
+}
+
+impl DocumentMut for Value {
+    ghost use Rattle.serde_json.specs.Data.{null};
+    ghost use Rattle.serde_json.specs.View.{view};
+    ghost use Rattle.jsonptr_tree.specs.Json.{nodes as json_nodes};
+    ghost use Rattle.jsonptr_tree.proofs.JsonLemmas.{nodes-IsTree};
+
+    ghost blank_map = { json_nodes null };
+
+    fn blank() -> Value {
+        Value::Null
+    }
+
+    fn array_of(alloc: Global, element: Value) -> Result<Value, AllocError> {
+        let mut array = Vec::with_capacity(alloc, 1)?;
+        array.push(element)?;
+        Ok(Value::Array(array))
+    }
+
+    fn object_of(alloc: Global, name: String, value: Value) -> Result<Value, AllocError> {
+        let mut object = BTreeMap::new(alloc);
+        object.insert(name, value)?;
+        Ok(Value::Object(object))
+    }
+
+    fn push(&mut self, element: Value) -> Result<(), AllocError> {
+        let Value::Array(elements) = self else {
+            unreachable!();
+        };
+        elements.push(element)?;
+        Ok(())
+    }
+
+    fn insert(&mut self, name: String, value: Value) -> Result<(), AllocError> {
+        let Value::Object(members) = self else {
+            unreachable!();
+        };
+        members.insert(name, value)?;
+        Ok(())
+    }
+
+    fn remove(&mut self, way: &Way<'_>) -> Option<Value> {
+        match (self, way) {
+            (Value::Array(elements), Way::Element(place)) if *place < elements.len() => {
+                Some(elements.remove(*place))
+            }
+            (Value::Object(members), Way::Member(key)) => members.remove(key.as_str()),
+            _ => None,
+        }
+    }
+
+    ghost is_tree = { λ d. nodes-IsTree (view d) };
 }

@@ -6,3 +6,4 @@ pub mod child;
 pub mod document;
 mod json;
 pub mod stepping;
+pub mod writing;

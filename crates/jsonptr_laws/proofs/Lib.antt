@@ -1,4 +1,5 @@
 -- Lemmas that the laws cite.
+pub mod AssignLemmas
 pub mod OrderLemmas
 pub mod PartLemmas
 pub mod ResolveLemmas

@@ -50,13 +50,14 @@ refused_not_found n tokens m e f h = Finds-StopsBefore n tokens m (position_of e
 abbrev ChildOrRefused : Type 0
 ChildOrRefused = (n : NodeMap) (x : Text) → IsTree n → IsUtf8 x → ((s : Step) × NamesStep (n []) x s × IsSome (n (s ∷ []))) ⊎ ((e : NoChild) × RefusesChild n x e)
 
-module _ (child : ChildOrRefused) (n : NodeMap) (tokens : List Text) (tree : IsTree n) (utf8 : All IsUtf8 tokens) where
-  next_utf8 : (front : List Text) (x : Text) (rest : List Text) → tokens ≡ front ++ x ∷ rest → IsUtf8 x
-  next_utf8 front x rest e =
-      let below : length front < length tokens = omega (arith, ap length e, length-append front (x ∷ rest)) in
-      let here : get_or tokens (length front) x ≡ x = ap (λ (l : List Text). get_or l (length front) x) e ∙ get_or-append_seam front x rest x in
-      subst IsUtf8 here (utf8 (length front) x below)
+-- each of the tokens is UTF-8, if all are
+pub next_utf8 : (tokens : List Text) → All IsUtf8 tokens → (front : List Text) (x : Text) (rest : List Text) → tokens ≡ front ++ x ∷ rest → IsUtf8 x
+next_utf8 tokens utf8 front x rest e =
+    let below : length front < length tokens = omega (arith, ap length e, length-append front (x ∷ rest)) in
+    let here : get_or tokens (length front) x ≡ x = ap (λ (l : List Text). get_or l (length front) x) e ∙ get_or-append_seam front x rest x in
+    subst IsUtf8 here (utf8 (length front) x below)
 
+module _ (child : ChildOrRefused) (n : NodeMap) (tokens : List Text) (tree : IsTree n) (utf8 : All IsUtf8 tokens) where
   by_stop : (p o : ℕ) (l : Label) (x : Text) → StopsBefore n tokens p o l x → (e : Error) × Refuses n tokens e
   by_stop p o l x s =
       let there : IsSome (n s.path) = subst (λ (k : Option Label). IsSome k) (sym s.label_is) refl in
@@ -68,7 +69,7 @@ module _ (child : ChildOrRefused) (n : NodeMap) (tokens : List Text) (tree : IsT
       let same : Some no.1.label ≡ Some l = sym no.1.root ∙ root ∙ s.label_is in
       let label : no.1.label ≡ l = cc same in
       (error_of p o no.0, refusal p o l x no.0 s (subst (λ (k : Label). IsNoChild k x no.0) label no.1.why)))
-      (child (sub n s.path) x (IsTree-sub n s.path tree there) (next_utf8 s.front x s.rest s.stops.split))
+      (child (sub n s.path) x (IsTree-sub n s.path tree there) (next_utf8 tokens utf8 s.front x s.rest s.stops.split))
     where
       refusal : (p o : ℕ) (l : Label) (x : Text) (c : NoChild) → StopsBefore n tokens p o l x → IsNoChild l x c → Refuses n tokens (error_of p o c)
       refusal p o l x (no_child.NoIndex source) s why = record { label = l; token = x; stops = s; why = why }

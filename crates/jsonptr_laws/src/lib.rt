@@ -2,6 +2,7 @@
 //! are those of the lists of tokens. Each law is the contract of a function that does nothing.
 #![tactic(auto)]
 
+pub mod assigning;
 pub mod comparing;
 pub mod editing;
 pub mod parts;

@@ -3,3 +3,4 @@ pub mod JsonLemmas
 pub mod AnswerLemmas
 pub mod TokensLemmas
 pub mod RunLaw
+mod OrderLemmas

@@ -1,70 +1,115 @@
 -- That the stated answer of a run is one.
-use Rattle.std.proofs.Common.{◌≡◌, ◌⊎◌, ℕ, List, [], ◌∷◌, ◌++◌, Option, Result, Ok, Err, Some, None, MatchOption, codes, false, sym, ◌∙◌, ap, subst, inl, inr}
-use Rattle.serde_json.specs.Data.{Data}
+use Rattle.std.proofs.Common.{◌≡◌, ◌⊎◌, ℕ, List, [], ◌∷◌, ◌++◌, Option, Some, None, Result, Ok, Err, MatchOption, option_map, if◌then◌else◌, codes, false, refl, sym, ◌∙◌, ap, subst, inl, inr}
+use Rattle.std.specs.Str.{bytes_eq}
+use Rattle.serde_json.specs.Data.{Data, null}
 use Rattle.serde_json.specs.Written.{has_float}
-use Rattle.jsonptr.specs.Text.{Text, text}
+use Rattle.jsonptr.specs.Text.{Text, text, tokens_of}
 use Rattle.jsonptr.specs.Grammar.{IsPointer}
-use Rattle.jsonptr.specs.Node.{NodeMap}
+use Rattle.jsonptr.specs.Node.{NodeMap, IsTree}
 use Rattle.jsonptr.specs.Following.{Finds}
-use Rattle.jsonptr.specs.Json.{nodes}
-use Rattle.jsonptr.proofs.Calling.{text_one, IsPointer-text}
-use Rattle.jsonptr.proofs.Calling.{FindsValue_one, FindsValue-Finds}
+use Rattle.jsonptr.specs.Assigning.{Assigns}
+use Rattle.jsonptr.specs.Removing.{Deletes}
+use Rattle.jsonptr.specs.Json.{nodes, KeysAscend}
+use Rattle.jsonptr.proofs.Calling.{tokens_of-text, IsPointer-text, FindsValue_one, FindsValue-Finds}
 use Rattle.jsonptr.specs.ParseError.{TellsPointerFault}
 use Rattle.jsonptr.specs.Resolve.{Refuses}
+use Rattle.jsonptr.specs.Assign.{RefusesAssign}
 use Rattle.jsonptr.specs.Types.ParseError.{ParseError}
-use Rattle.jsonptr.specs.declared.resolve.Error.{Error}
+use Rattle.jsonptr.specs.declared.resolve.Error as resolve
+use Rattle.jsonptr.specs.declared.assign.Error as assign
+use Rattle.jsonptr_run.proofs.OrderLemmas.{ascends_json}
 use Rattle.jsonptr_run.specs.JsonText.{json_of, IsJsonLine}
-use Rattle.jsonptr_run.specs.Run.{Request, resolving, listing, AskFor, TakePointer, IsWordsFault, IsPointerFault, Asks, Gives, Resolves}
+use Rattle.jsonptr_run.specs.Run.{Request, resolving, listing, assigning, deleting, AskFor, HaveValue, TakePointer, IsWordsFault, IsPointerFault, IsValueFault, Asks, AssignsAt, DeletesAt, Gives, Resolves}
 use Rattle.jsonptr_run.specs.declared.fault.RunFault.{RunFault}
-use Rattle.jsonptr_run.specs.declared.fault.RunFault.TheVariants.{BadPointer, NoValue, InputNotJson}
+use Rattle.jsonptr_run.specs.declared.fault.RunFault.TheVariants.{BadPointer, NoValue, BadPlace, InputNotJson}
 
 -- ---- the words
+
+-- what words ask for, if their pointer is one
+asked : List Text → Option Request
+asked [] = None
+asked (c ∷ []) = None
+asked (c ∷ p ∷ []) =
+    if bytes_eq c (codes "resolve")
+    then Some (resolving (tokens_of p))
+    else if bytes_eq c (codes "tokens") then Some (listing (tokens_of p)) else Some (deleting (tokens_of p))
+asked (c ∷ p ∷ value ∷ ws) = option_map (λ v. assigning (tokens_of p) v) (json_of value)
+
+is_asked : (words : List Text) (request : Request) → AskFor words request → asked words ≡ Some request
+unfolding asked
+is_asked words (resolving ts) h = rw h (ap (λ (us : List Text). Some (resolving us)) (tokens_of-text ts))
+is_asked words (listing ts) h = rw h (ap (λ (us : List Text). Some (listing us)) (tokens_of-text ts))
+is_asked words (assigning ts v) h = rw (h.1, h.2) (ap (λ (us : List Text). Some (assigning us v)) (tokens_of-text ts))
+is_asked words (deleting ts) h = rw h (ap (λ (us : List Text). Some (deleting us)) (tokens_of-text ts))
+
+none_asked : (words ts : List Text) (value : Text) → HaveValue words ts value → json_of value ≡ None → asked words ≡ None
+unfolding asked
+none_asked words ts value h none = rw (h, none) refl
+
+request_one : (words : List Text) (r q : Request) → AskFor words r → AskFor words q → r ≡ q
+request_one words r q h k = let same : Some r ≡ Some q = sym (is_asked words r h) ∙ is_asked words q k in cc
 
 -- the tokens that a request speaks of
 tokens_in : Request → List Text
 tokens_in (resolving ts) = ts
 tokens_in (listing ts) = ts
-
-pair_one : (c d p q : Text) → c ∷ p ∷ [] ≡ d ∷ q ∷ [] → p ≡ q
-pair_one c d p q e = cc
+tokens_in (assigning ts v) = ts
+tokens_in (deleting ts) = ts
 
 takes : (words : List Text) (request : Request) → AskFor words request → TakePointer words (text (tokens_in request))
 unfolding tokens_in
 takes words (resolving ts) h = inl h
-takes words (listing ts) h = inr h
+takes words (listing ts) h = inr (inl h)
+takes words (assigning ts v) h = inr (inr (inl (h.0, h.1)))
+takes words (deleting ts) h = inr (inr (inr h))
+
+-- the second word
+second : List Text → Text
+second [] = []
+second (c ∷ []) = []
+second (c ∷ p ∷ ws) = p
+
+is_second : (words : List Text) (pointer : Text) → TakePointer words pointer → second words ≡ pointer
+unfolding second
+is_second words p (inl h) = ap second h
+is_second words p (inr (inl h)) = ap second h
+is_second words p (inr (inr (inl h))) = ap second h.1
+is_second words p (inr (inr (inr h))) = ap second h
 
 pointer_one : (words : List Text) (p q : Text) → TakePointer words p → TakePointer words q → p ≡ q
-pointer_one words p q (inl x) (inl y) = pair_one (codes "resolve") (codes "resolve") p q (sym x ∙ y)
-pointer_one words p q (inl x) (inr y) = pair_one (codes "resolve") (codes "tokens") p q (sym x ∙ y)
-pointer_one words p q (inr x) (inl y) = pair_one (codes "tokens") (codes "resolve") p q (sym x ∙ y)
-pointer_one words p q (inr x) (inr y) = pair_one (codes "tokens") (codes "tokens") p q (sym x ∙ y)
-
-other_command : (p q : Text) → codes "resolve" ∷ p ∷ [] ≡ codes "tokens" ∷ q ∷ [] → ⊥
-other_command p q e = let first : codes "resolve" ≡ codes "tokens" = first_one (codes "resolve") (codes "tokens") p q e in cc
-  where
-    first_one : (c d p q : Text) → c ∷ p ∷ [] ≡ d ∷ q ∷ [] → c ≡ d
-    first_one c d p q e = cc
-
-request_one : (words : List Text) (r q : Request) → AskFor words r → AskFor words q → r ≡ q
-request_one words (resolving ts) (resolving us) h k = ap resolving (text_one ts us (pair_one (codes "resolve") (codes "resolve") (text ts) (text us) (sym h ∙ k)))
-request_one words (resolving ts) (listing us) h k = absurd (other_command (text ts) (text us) (sym h ∙ k))
-request_one words (listing ts) (resolving us) h k = absurd (other_command (text us) (text ts) (sym k ∙ h))
-request_one words (listing ts) (listing us) h k = ap listing (text_one ts us (pair_one (codes "tokens") (codes "tokens") (text ts) (text us) (sym h ∙ k)))
+pointer_one words p q h k = sym (is_second words p h) ∙ is_second words q k
 
 module _ (not_both : (s : Text) (e : ParseError) → IsPointer s → TellsPointerFault s e → ⊥) (one : (s : Text) (e f : ParseError) → TellsPointerFault s e → TellsPointerFault s f → e ≡ f) (words : List Text) where
-  not_refused : (request : Request) (e : RunFault) → AskFor words request → IsWordsFault words e ⊎ IsPointerFault words e → ⊥
-  not_refused request e h (inl k) = k.0 (text (tokens_in request)) (takes words request h)
-  not_refused request e h (inr k) =
-      not_both k.0 k.1 (subst IsPointer (pointer_one words (text (tokens_in request)) k.0 (takes words request h) k.2) (IsPointer-text (tokens_in request))) k.3
+  -- a pointer that is one is not refused
+  not_pointer_fault : (ts : List Text) (e : RunFault) → TakePointer words (text ts) → IsPointerFault words e → ⊥
+  not_pointer_fault ts e h k = not_both k.0 k.1 (subst IsPointer (pointer_one words (text ts) k.0 h k.2) (IsPointer-text ts)) k.3
 
-  refusal_one : (e f : RunFault) → IsWordsFault words e ⊎ IsPointerFault words e → IsWordsFault words f ⊎ IsPointerFault words f → e ≡ f
-  refusal_one e f (inl h) (inl k) = h.1 ∙ sym k.1
-  refusal_one e f (inl h) (inr k) = absurd (h.0 k.0 k.2)
-  refusal_one e f (inr h) (inl k) = absurd (k.0 h.0 h.2)
-  refusal_one e f (inr h) (inr k) =
+  not_refused : (request : Request) (e : RunFault) → AskFor words request → IsWordsFault words e ⊎ IsPointerFault words e ⊎ IsValueFault words e → ⊥
+  not_refused request e h (inl k) = k.0 (text (tokens_in request)) (takes words request h)
+  not_refused request e h (inr (inl k)) = not_pointer_fault (tokens_in request) e (takes words request h) k
+  not_refused request e h (inr (inr k)) =
+      let both : Some request ≡ None = sym (is_asked words request h) ∙ none_asked words k.0 k.1 k.2 k.3 in
+      cc
+
+  pointer_fault_one : (e f : RunFault) → IsPointerFault words e → IsPointerFault words f → e ≡ f
+  pointer_fault_one e f h k =
       let same : h.0 ≡ k.0 = pointer_one words h.0 k.0 h.2 k.2 in
       let fault : h.1 ≡ k.1 = one k.0 h.1 k.1 (subst (λ (s : Text). TellsPointerFault s h.1) same h.3) k.3 in
       h.4 ∙ ap (λ (x : ParseError). BadPointer x) fault ∙ sym k.4
+
+  value_takes : (e : RunFault) (h : IsValueFault words e) → TakePointer words (text h.0)
+  value_takes e h = inr (inr (inl (h.1, h.2)))
+
+  refusal_one : (e f : RunFault) → IsWordsFault words e ⊎ IsPointerFault words e ⊎ IsValueFault words e → IsWordsFault words f ⊎ IsPointerFault words f ⊎ IsValueFault words f → e ≡ f
+  refusal_one e f (inl h) (inl k) = h.1 ∙ sym k.1
+  refusal_one e f (inl h) (inr (inl k)) = absurd (h.0 k.0 k.2)
+  refusal_one e f (inl h) (inr (inr k)) = absurd (h.0 (text k.0) (value_takes f k))
+  refusal_one e f (inr (inl h)) (inl k) = absurd (k.0 h.0 h.2)
+  refusal_one e f (inr (inl h)) (inr (inl k)) = pointer_fault_one e f h k
+  refusal_one e f (inr (inl h)) (inr (inr k)) = absurd (not_pointer_fault k.0 e (value_takes f k) h)
+  refusal_one e f (inr (inr h)) (inl k) = absurd (k.0 (text h.0) (value_takes e h))
+  refusal_one e f (inr (inr h)) (inr (inl k)) = absurd (not_pointer_fault h.0 f (value_takes e h) k)
+  refusal_one e f (inr (inr h)) (inr (inr k)) = h.4 ∙ sym k.4
 
   pub asks_one : (r q : Result Request RunFault) → Asks words r → Asks words q → r ≡ q
   asks_one (Ok r) (Ok q) h k = ap (λ (x : Request). Ok x) (request_one words r q h k)
@@ -81,21 +126,93 @@ line_one value l m none h k =
 
 -- ---- the operation
 
-module _ (not_both : (n : NodeMap) (tokens : List Text) (m : NodeMap) (e : Error) → Finds n tokens m → Refuses n tokens e → ⊥)
-    (one : (n : NodeMap) (tokens : List Text) (e f : Error) → Refuses n tokens e → Refuses n tokens f → e ≡ f) where
+-- what follows from two answers on a document, and where there is none, follows from them on the bytes
+on_both : (o : Option Data) (P Q : Data → Type 0) (r q : Result Data RunFault) (C : Type 0) → (r ≡ Err InputNotJson → q ≡ Err InputNotJson → C) → ((d : Data) → P d → Q d → C) → MatchOption o (r ≡ Err InputNotJson) P
+    → MatchOption o (q ≡ Err InputNotJson) Q → C
+on_both None P Q r q C none some h k = none h k
+on_both (Some d) P Q r q C none some h k = some d h k
+
+-- the same on bytes that are read: in the document the keys ascend
+on_document : (bytes : List ℕ) (P Q : Data → Type 0) (r q : Result Data RunFault) (C : Type 0) → (r ≡ Err InputNotJson → q ≡ Err InputNotJson → C) → ((d : Data) → KeysAscend d → P d → Q d → C) → MatchOption (json_of bytes) (r ≡ Err InputNotJson) P
+    → MatchOption (json_of bytes) (q ≡ Err InputNotJson) Q → C
+on_document bytes P Q r q C none some h k = by_data (json_of bytes) refl h k
+  where
+    by_data : (o : Option Data) → json_of bytes ≡ o → MatchOption o (r ≡ Err InputNotJson) P → MatchOption o (q ≡ Err InputNotJson) Q → C
+    by_data None is a b = none a b
+    by_data (Some d) is a b = some d (ascends_json bytes d is) a b
+
+abbrev value_given : Data → Result Data RunFault
+value_given d = Ok d
+
+abbrev refusal : RunFault → Result Data RunFault
+refusal e = Err e
+
+value_or_fault : (value : Data) (e : RunFault) (C : Type 0) → value_given value ≡ refusal e → C
+value_or_fault value e C h = cc
+
+fault_of : (e f : RunFault) → refusal e ≡ refusal f → e ≡ f
+fault_of e f h = cc
+
+value_of : (d e : Data) → value_given d ≡ value_given e → d ≡ e
+value_of d e h = cc
+
+module _ (not_both : (n : NodeMap) (tokens : List Text) (m : NodeMap) (e : resolve.Error) → Finds n tokens m → Refuses n tokens e → ⊥)
+    (one : (n : NodeMap) (tokens : List Text) (e f : resolve.Error) → Refuses n tokens e → Refuses n tokens f → e ≡ f) where
   resolves_one : (d : Data) (ts : List Text) (r q : Result Data RunFault) → Resolves d ts r → Resolves d ts q → r ≡ q
   resolves_one d ts (Ok v) (Ok w) h k = ap (λ (x : Data). Ok x) (FindsValue_one d ts v w h k)
   resolves_one d ts (Ok v) (Err f) h k = absurd (not_both (nodes d) ts (nodes v) k.0 (FindsValue-Finds d ts v h) k.1)
   resolves_one d ts (Err e) (Ok w) h k = absurd (not_both (nodes d) ts (nodes w) h.0 (FindsValue-Finds d ts w k) h.1)
   resolves_one d ts (Err e) (Err f) h k =
       let error : h.0 ≡ k.0 = one (nodes d) ts h.0 k.0 h.1 k.1 in
-      ap (λ (x : RunFault). Err x) (h.2 ∙ ap (λ (x : Error). NoValue x) error ∙ sym k.2)
+      ap (λ (x : RunFault). Err x) (h.2 ∙ ap (λ (x : resolve.Error). NoValue x) error ∙ sym k.2)
 
-  document_one : (o : Option Data) (ts : List Text) (r q : Result Data RunFault) → MatchOption o (r ≡ Err InputNotJson) (λ d. Resolves d ts r)
-      → MatchOption o (q ≡ Err InputNotJson) (λ d. Resolves d ts q) → r ≡ q
-  document_one None ts r q h k = h ∙ sym k
-  document_one (Some d) ts r q h k = resolves_one d ts r q h k
+  pub resolving_one : (ts : List Text) (bytes : List ℕ) (r q : Result Data RunFault) → Gives (resolving ts) bytes r → Gives (resolving ts) bytes q → r ≡ q
+  resolving_one ts bytes r q h k =
+      on_both (json_of bytes) (λ d. Resolves d ts r) (λ d. Resolves d ts q) r q (r ≡ q) (λ x y. x ∙ sym y) (λ d. resolves_one d ts r q) h k
 
-  pub gives_one : (request : Request) (bytes : List ℕ) (r q : Result Data RunFault) → Gives request bytes r → Gives request bytes q → r ≡ q
-  gives_one (resolving ts) bytes r q h k = document_one (json_of bytes) ts r q h k
-  gives_one (listing ts) bytes r q h k = h ∙ sym k
+pub listing_one : (ts : List Text) (bytes : List ℕ) (r q : Result Data RunFault) → Gives (listing ts) bytes r → Gives (listing ts) bytes q → r ≡ q
+listing_one ts bytes r q h k = h ∙ sym k
+
+-- the documents that are left are one, where the keys ascend in both
+abbrev OneMap : Type 0
+OneMap = (d e : Data) → KeysAscend d → KeysAscend e → nodes d ≡ nodes e → d ≡ e
+
+-- what resolving gives is one
+abbrev OneResolved : Type 0
+OneResolved = (ts : List Text) (bytes : List ℕ) (r q : Result Data RunFault) → Gives (resolving ts) bytes r → Gives (resolving ts) bytes q → r ≡ q
+
+module _ (resolved_one : OneResolved) (assign_not_both : (n : NodeMap) (tokens : List Text) (v m : NodeMap) (old : Option NodeMap) (e : assign.Error) → Assigns n tokens v m old → RefusesAssign n tokens e → ⊥) where
+  pub not_both : (request : Request) (bytes : List ℕ) (value : Data) (e : RunFault) → Gives request bytes (Ok value) → Gives request bytes (Err e) → ⊥
+  not_both (resolving ts) bytes value e h k = value_or_fault value e ⊥ (resolved_one ts bytes (Ok value) (Err e) h k)
+  not_both (listing ts) bytes value e h k = value_or_fault value e ⊥ (listing_one ts bytes (Ok value) (Err e) h k)
+  not_both (assigning ts v) bytes value e h k =
+      on_both (json_of bytes) (λ d. AssignsAt d ts v (Ok value)) (λ d. AssignsAt d ts v (Err e)) (Ok value) (Err e) ⊥ (λ x y. value_or_fault value InputNotJson ⊥ x)
+      (λ d a b. assign_not_both (nodes d) ts (nodes v) (nodes value) a.0 b.0 a.1 b.1) h k
+  not_both (deleting ts) bytes value e h k =
+      on_both (json_of bytes) (λ d. DeletesAt d ts (Ok value)) (λ d. DeletesAt d ts (Err e)) (Ok value) (Err e) ⊥ (λ x y. value_or_fault value InputNotJson ⊥ x)
+      (λ d a b. b.0 a.0.0 a.0.1) h k
+
+module _ (resolved_one : OneResolved) (refused_one : (n : NodeMap) (tokens : List Text) (e f : assign.Error) → RefusesAssign n tokens e → RefusesAssign n tokens f → e ≡ f) where
+  pub one_fault : (request : Request) (bytes : List ℕ) (e f : RunFault) → Gives request bytes (Err e) → Gives request bytes (Err f) → e ≡ f
+  one_fault (resolving ts) bytes e f h k = fault_of e f (resolved_one ts bytes (Err e) (Err f) h k)
+  one_fault (listing ts) bytes e f h k = fault_of e f (listing_one ts bytes (Err e) (Err f) h k)
+  one_fault (assigning ts v) bytes e f h k =
+      on_both (json_of bytes) (λ d. AssignsAt d ts v (Err e)) (λ d. AssignsAt d ts v (Err f)) (Err e) (Err f) (e ≡ f) (λ x y. fault_of e f (x ∙ sym y))
+      (λ d a b. a.2 ∙ ap (λ (x : assign.Error). BadPlace x) (refused_one (nodes d) ts a.0 b.0 a.1 b.1) ∙ sym b.2) h k
+  one_fault (deleting ts) bytes e f h k =
+      on_both (json_of bytes) (λ d. DeletesAt d ts (Err e)) (λ d. DeletesAt d ts (Err f)) (Err e) (Err f) (e ≡ f) (λ x y. fault_of e f (x ∙ sym y)) (λ d a b. a.1 ∙ sym b.1) h k
+
+module _ (resolved_one : OneResolved) (one_map : OneMap) (tree : (d : Data) → IsTree (nodes d))
+    (made_one : (n : NodeMap) (tokens : List Text) (v m k : NodeMap) (old was : Option NodeMap) → Assigns n tokens v m old → Assigns n tokens v k was → (m ≡ k) × (old ≡ was))
+    (deleted_one : (n blank : NodeMap) (tokens : List Text) (m k : NodeMap) → IsTree n → Deletes n tokens blank m → Deletes n tokens blank k → m ≡ k) where
+  pub one_value : (words : List Text) (request : Request) (bytes : List ℕ) (value other : Data) → AskFor words request → Gives request bytes (Ok value) → Gives request bytes (Ok other) → value ≡ other
+  one_value words (resolving ts) bytes value other asks h k = value_of value other (resolved_one ts bytes (Ok value) (Ok other) h k)
+  one_value words (listing ts) bytes value other asks h k = value_of value other (listing_one ts bytes (Ok value) (Ok other) h k)
+  one_value words (assigning ts v) bytes value other asks h k =
+      on_document bytes (λ d. AssignsAt d ts v (Ok value)) (λ d. AssignsAt d ts v (Ok other)) (Ok value) (Ok other) (value ≡ other) (λ x y. value_or_fault value InputNotJson (value ≡ other) x)
+      (λ d order x y.
+      let given : KeysAscend v = ascends_json asks.0 v asks.2 in
+      one_map value other (x.2 given order) (y.2 given order) (made_one (nodes d) ts (nodes v) (nodes value) (nodes other) x.0 y.0 x.1 y.1).0) h k
+  one_value words (deleting ts) bytes value other asks h k =
+      on_document bytes (λ d. DeletesAt d ts (Ok value)) (λ d. DeletesAt d ts (Ok other)) (Ok value) (Ok other) (value ≡ other) (λ x y. value_or_fault value InputNotJson (value ≡ other) x)
+      (λ d order x y. one_map value other (x.2 order) (y.2 order) (deleted_one (nodes d) (nodes null) ts (nodes value) (nodes other) (tree d) x.1 y.1)) h k

@@ -2,25 +2,29 @@
 -- and the faults and lines of single stages. No public clause cites them, so nothing here has to be believed.
 use Rattle.std.specs.Prelude.{◌≡◌, ◌⊎◌, ℕ, List, Option, None, Result, Ok, Err, alloc_error}
 use Rattle.serde_json.specs.Data.{Data}
+use Rattle.serde_json.specs.View.{view}
 use Rattle.jsonptr.specs.Text.{Text}
 use Rattle.jsonptr.specs.Types.Fault.{Fault}
 use Rattle.jsonptr.specs.Types.Fault.TheVariants as fault
 use Rattle.jsonptr.specs.Pointer.{tokens}
-use Rattle.jsonptr.specs.declared.resolve.Error.{Error}
+use Rattle.jsonptr.specs.declared.resolve.Error as resolve
+use Rattle.jsonptr.specs.declared.assign.Error as assign
 use Rattle.jsonptr_run.specs.declared.fault.RunFault.{RunFault}
-use Rattle.jsonptr_run.specs.declared.fault.RunFault.TheVariants.{NoValue, InputNotJson, Memory, Read}
+use Rattle.jsonptr_run.specs.declared.fault.RunFault.TheVariants.{ValueNotJson, NoValue, BadPlace, InputNotJson, Memory, Read}
 use Rattle.jsonptr_run.specs.declared.input.InputFault.{InputFault}
 use Rattle.jsonptr_run.specs.declared.input.InputFault.TheVariants as input
 use Rattle.jsonptr_run.specs.declared.run.Request as code
-use Rattle.jsonptr_run.specs.declared.run.Request.TheVariants.{Resolve, Tokens}
+use Rattle.jsonptr_run.specs.declared.run.Request.TheVariants.{Resolve, Tokens, Assign, Delete}
 use Rattle.jsonptr_run.specs.Streams.{ForBytes}
 use Rattle.jsonptr_run.specs.JsonText.{json_of, IsJsonLine}
-use Rattle.jsonptr_run.specs.Run.{Request, resolving, listing}
+use Rattle.jsonptr_run.specs.Run.{Request, resolving, listing, assigning, deleting}
 
 -- what contracts see of the program's `Request`
 abbrev pub request_of : code.Request → Request
 request_of (Resolve p) = resolving (tokens p)
 request_of (Tokens p) = listing (tokens p)
+request_of (Assign p v) = assigning (tokens p) (view v)
+request_of (Delete p) = deleting (tokens p)
 
 -- the fault of the run where the input could not be read
 abbrev pub of_input_fault : InputFault → RunFault
@@ -28,9 +32,14 @@ of_input_fault (input.Memory e) = Memory e
 of_input_fault input.Read = Read
 
 -- the fault of the run where a pointer was not resolved
-abbrev pub of_resolve_fault : Fault Error → RunFault
+abbrev pub of_resolve_fault : Fault resolve.Error → RunFault
 of_resolve_fault (fault.Refused e) = NoValue e
 of_resolve_fault (fault.Memory e) = Memory e
+
+-- the fault of the run where a value was not assigned
+abbrev pub of_assign_fault : Fault assign.Error → RunFault
+of_assign_fault (fault.Refused e) = BadPlace e
+of_assign_fault (fault.Memory e) = Memory e
 
 -- a fault of reading the input as a document: memory, a read, or that the bytes are no JSON
 abbrev pub IsInputFault : Option (List ℕ) → RunFault → Type 0
@@ -46,3 +55,7 @@ IsLineOf P line = (value : Data) × P (Ok value) × IsJsonLine value line
 -- and such a refusal, or want of memory
 abbrev pub IsFaultOf : (Result Data RunFault → Type 0) → RunFault → Type 0
 IsFaultOf P e = P (Err e) ⊎ (e ≡ Memory alloc_error)
+
+-- the text is no value to assign, or memory for it is refused
+abbrev pub RefusesValue : Text → RunFault → Type 0
+RefusesValue text e = ((json_of text ≡ None) × (e ≡ ValueNotJson)) ⊎ (e ≡ Memory alloc_error)

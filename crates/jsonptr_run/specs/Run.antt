@@ -1,17 +1,23 @@
 -- What the program answers to its words and its input, and which fault comes when. A run has stages, in this
--- order: the words, the pointer, the input, the operation, the line. Each stage hands on what it made, or
--- refuses the run.
-use Rattle.std.specs.Prelude.{◌≡◌, ◌⊎◌, ℕ, List, [], ◌∷◌, map, Option, Result, Ok, Err, MatchOption, codes, alloc_error, ⊤}
-use Rattle.serde_json.specs.Data.{Data, string, array}
+-- order: the words, the pointer, the value to assign, the input, the operation, the line. Each stage hands on
+-- what it made, or refuses the run.
+use Rattle.std.specs.Prelude.{◌≡◌, ◌⊎◌, ℕ, List, [], ◌∷◌, map, Option, Some, None, Result, Ok, Err, MatchOption, codes, alloc_error, ⊤}
+use Rattle.serde_json.specs.Data.{Data, null, string, array}
 use Rattle.serde_json.specs.View.{items_of}
 use Rattle.jsonptr.specs.Text.{Text, text}
-use Rattle.jsonptr.specs.Json.{nodes, FindsValue}
+use Rattle.jsonptr.specs.Node.{Path, NodeMap, Names}
+use Rattle.jsonptr.specs.Assigning.{Assigns}
+use Rattle.jsonptr.specs.Removing.{Deletes}
+use Rattle.jsonptr.specs.Json.{nodes, FindsValue, KeysAscend}
 use Rattle.jsonptr.specs.ParseError.{TellsPointerFault}
 use Rattle.jsonptr.specs.Types.ParseError.{ParseError}
 use Rattle.jsonptr.specs.Resolve.{Refuses}
-use Rattle.jsonptr.specs.declared.resolve.Error.{Error}
+use Rattle.jsonptr.specs.Assign.{RefusesAssign}
+use Rattle.jsonptr.specs.Delete.{NamesNothing}
+use Rattle.jsonptr.specs.declared.resolve.Error as resolve
+use Rattle.jsonptr.specs.declared.assign.Error as assign
 use Rattle.jsonptr_run.specs.declared.fault.RunFault.{RunFault}
-use Rattle.jsonptr_run.specs.declared.fault.RunFault.TheVariants.{Usage, BadPointer, NoValue, InputNotJson, Memory, Read, Write}
+use Rattle.jsonptr_run.specs.declared.fault.RunFault.TheVariants.{Usage, BadPointer, ValueNotJson, NoValue, BadPlace, NotThere, InputNotJson, Memory, Read, Write}
 use Rattle.jsonptr_run.specs.Streams.{ForBytes}
 use Rattle.jsonptr_run.specs.JsonText.{json_of, IsJsonLine}
 
@@ -19,28 +25,43 @@ use Rattle.jsonptr_run.specs.JsonText.{json_of, IsJsonLine}
 abbrev pub status_of : RunFault → ℕ
 status_of (BadPointer e) = 1
 status_of (NoValue e) = 1
+status_of (BadPlace e) = 1
+status_of NotThere = 1
 status_of Usage = 2
+status_of ValueNotJson = 3
 status_of InputNotJson = 3
 status_of (Memory e) = 4
 status_of Read = 5
 status_of Write = 5
 
--- ---- the words and the pointer
+-- ---- the words, the pointer and the value to assign
 
--- what the words can ask for: the value that these tokens name, or the tokens themselves
+-- what the words can ask for: the value that these tokens name, the tokens themselves, the document with this
+-- value assigned at the tokens, or the document without what they name
 pub data Request : Type 0 where
   resolving : List Text → Request
   listing : List Text → Request
+  assigning : List Text → Data → Request
+  deleting : List Text → Request
 
--- these words ask for the request: a command, and the text of the tokens
+-- the words are to assign at these tokens the value that this text is
+abbrev pub HaveValue : List Text → List Text → Text → Type 0
+HaveValue words ts value = words ≡ codes "assign" ∷ text ts ∷ value ∷ []
+
+-- these words ask for the request: a command, the text of the tokens, and the JSON text of a value to assign
 abbrev pub AskFor : List Text → Request → Type 0
 AskFor words (resolving ts) = words ≡ codes "resolve" ∷ text ts ∷ []
 AskFor words (listing ts) = words ≡ codes "tokens" ∷ text ts ∷ []
+AskFor words (assigning ts v) = (value : Text) × HaveValue words ts value × (json_of value ≡ Some v)
+AskFor words (deleting ts) = words ≡ codes "delete" ∷ text ts ∷ []
 
 -- the words are a known command and as many more as it takes, of which this text is to be a pointer
 abbrev pub TakePointer : List Text → Text → Type 0
 TakePointer words pointer =
-    (words ≡ codes "resolve" ∷ pointer ∷ []) ⊎ (words ≡ codes "tokens" ∷ pointer ∷ [])
+    (words ≡ codes "resolve" ∷ pointer ∷ [])
+    ⊎ (words ≡ codes "tokens" ∷ pointer ∷ [])
+    ⊎ ((value : Text) × (words ≡ codes "assign" ∷ pointer ∷ value ∷ []))
+    ⊎ (words ≡ codes "delete" ∷ pointer ∷ [])
 
 -- the words are refused so
 abbrev pub IsWordsFault : List Text → RunFault → Type 0
@@ -54,10 +75,23 @@ IsPointerFault words e =
     × TellsPointerFault pointer f
     × (e ≡ BadPointer f)
 
+-- their pointer is one, and the value to assign is refused so
+abbrev pub IsValueFault : List Text → RunFault → Type 0
+IsValueFault words e =
+    (ts : List Text) × (value : Text)
+    × HaveValue words ts value
+    × (json_of value ≡ None)
+    × (e ≡ ValueNotJson)
+
 -- the words ask for this, or are refused so; the input has no part in it
 abbrev pub Asks : List Text → Result Request RunFault → Type 0
 Asks words (Ok request) = AskFor words request
-Asks words (Err e) = IsWordsFault words e ⊎ IsPointerFault words e
+Asks words (Err e) = IsWordsFault words e ⊎ IsPointerFault words e ⊎ IsValueFault words e
+
+-- memory is refused for the value to assign, before it is known what the words ask for
+abbrev pub IsValueMemory : List Text → RunFault → Type 0
+IsValueMemory words e =
+    (ts : List Text) × (value : Text) × HaveValue words ts value × (e ≡ Memory alloc_error)
 
 -- the words ask for something, and P holds of what they ask for
 abbrev pub ForRequest : List Text → (Request → Type 0) → Type 0
@@ -69,6 +103,8 @@ ForRequest words P = (request : Request) × AskFor words request × P request
 abbrev pub NeedsInput : Request → Type 0
 NeedsInput (resolving ts) = ⊤
 NeedsInput (listing ts) = ⊥
+NeedsInput (assigning ts v) = ⊤
+NeedsInput (deleting ts) = ⊤
 
 -- what the words ask for, if anything, needs no input
 abbrev pub NeedNoInput : List Text → Type 0
@@ -83,7 +119,25 @@ OnDocument bytes r P = MatchOption (json_of bytes) (r ≡ Err InputNotJson) P
 -- the value that the tokens name in the document, or why they name none
 abbrev pub Resolves : Data → List Text → Result Data RunFault → Type 0
 Resolves d ts (Ok value) = FindsValue d ts value
-Resolves d ts (Err e) = (f : Error) × Refuses (nodes d) ts f × (e ≡ NoValue f)
+Resolves d ts (Err e) = (f : resolve.Error) × Refuses (nodes d) ts f × (e ≡ NoValue f)
+
+-- the document with the value assigned at the tokens, in whose objects the keys ascend if they do in both, or
+-- why it is assigned nowhere
+abbrev pub AssignsAt : Data → List Text → Data → Result Data RunFault → Type 0
+AssignsAt d ts v (Ok new) =
+    (old : Option NodeMap)
+    × Assigns (nodes d) ts (nodes v) (nodes new) old
+    × (KeysAscend v → KeysAscend d → KeysAscend new)
+AssignsAt d ts v (Err e) = (f : assign.Error) × RefusesAssign (nodes d) ts f × (e ≡ BadPlace f)
+
+-- the document without what the tokens name, where null is left of the whole, and in whose objects the keys
+-- ascend if they did, or that they name nothing
+abbrev pub DeletesAt : Data → List Text → Result Data RunFault → Type 0
+DeletesAt d ts (Ok new) =
+    ((w : Path) × Names (nodes d) ts w)
+    × Deletes (nodes d) ts (nodes null) (nodes new)
+    × (KeysAscend d → KeysAscend new)
+DeletesAt d ts (Err e) = NamesNothing (nodes d) ts × (e ≡ NotThere)
 
 -- the array of the tokens, as a JSON value
 abbrev pub tokens_value : List Text → Data
@@ -93,6 +147,8 @@ tokens_value ts = array (items_of (map string ts))
 abbrev pub Gives : Request → List ℕ → Result Data RunFault → Type 0
 Gives (resolving ts) bytes r = OnDocument bytes r (λ d. Resolves d ts r)
 Gives (listing ts) bytes r = r ≡ Ok (tokens_value ts)
+Gives (assigning ts v) bytes r = OnDocument bytes r (λ d. AssignsAt d ts v r)
+Gives (deleting ts) bytes r = OnDocument bytes r (λ d. DeletesAt d ts r)
 
 -- the request is refused so: by the input or the operation, by memory, or by the reader where it is needed
 abbrev pub IsRequestFault : Request → Option (List ℕ) → RunFault → Type 0
@@ -111,8 +167,9 @@ ForLine words known P =
     × IsJsonLine value line
     × P line))
 
--- the run is refused so: by its words, by its request, or by the writer
+-- the run is refused so: by its words, by memory for the value to assign, by its request, or by the writer
 abbrev pub IsRefusedSo : List Text → Option (List ℕ) → RunFault → Type 0
 IsRefusedSo words known e =
     Asks words (Err e)
+    ⊎ IsValueMemory words e
     ⊎ ForRequest words (λ request. IsRequestFault request known e ⊎ (e ≡ Write))

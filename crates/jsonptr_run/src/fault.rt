@@ -1,13 +1,13 @@
 //! Why the program ends other than well.
 ghost use Rattle.std.specs.Prelude.{◌≡◌, MatchResult};
 ghost use Rattle.std.specs.Process.{exit_status};
-ghost use Rattle.jsonptr_run.specs.Private.{of_input_fault, of_resolve_fault};
+ghost use Rattle.jsonptr_run.specs.Private.{of_assign_fault, of_input_fault, of_resolve_fault};
 ghost use Rattle.jsonptr_run.specs.Run.{status_of};
 ghost use Rattle.jsonptr_run.specs.declared.fault.RunFault.TheVariants.{BadPointer, Memory, Write};
 
 use crate::input::InputFault;
 use crate::output::WriteFailed;
-use jsonptr::{Fault, ParseError, resolve};
+use jsonptr::{Fault, ParseError, assign, resolve};
 use std::alloc::AllocError;
 use std::process::ExitCode;
 use thiserror::Error;
@@ -21,9 +21,18 @@ pub enum RunFault {
     /// The pointer's text is no JSON Pointer.
     #[error(transparent)]
     BadPointer(ParseError),
+    /// The text of the value to assign is no JSON text.
+    #[error("VALUE is not JSON")]
+    ValueNotJson,
     /// The pointer names no value of the input.
     #[error(transparent)]
     NoValue(resolve::Error),
+    /// No value can be assigned at the pointer in the input.
+    #[error(transparent)]
+    BadPlace(assign::Error),
+    /// The pointer of what is to be deleted names no value of the input.
+    #[error("delete failed: json pointer does not resolve")]
+    NotThere,
     /// The input is no JSON text, or is not UTF-8.
     #[error("input is not JSON")]
     InputNotJson,
@@ -44,9 +53,12 @@ impl RunFault {
         ensures { result ≡ status_of self.now }
     {
         match self {
-            RunFault::BadPointer(_) | RunFault::NoValue(_) => 1,
+            RunFault::BadPointer(_)
+            | RunFault::NoValue(_)
+            | RunFault::BadPlace(_)
+            | RunFault::NotThere => 1,
             RunFault::Usage => 2,
-            RunFault::InputNotJson => 3,
+            RunFault::ValueNotJson | RunFault::InputNotJson => 3,
             RunFault::Memory(_) => 4,
             RunFault::Read | RunFault::Write => 5,
         }
@@ -87,6 +99,17 @@ impl From<Fault<resolve::Error>> for RunFault {
     fn from(error: Fault<resolve::Error>) -> RunFault {
         match error {
             Fault::Refused(error) => RunFault::NoValue(error),
+            Fault::Memory(error) => RunFault::Memory(error),
+        }
+    }
+}
+
+impl From<Fault<assign::Error>> for RunFault {
+    ghost from_gives = { λ error fault. fault ≡ of_assign_fault error };
+
+    fn from(error: Fault<assign::Error>) -> RunFault {
+        match error {
+            Fault::Refused(error) => RunFault::BadPlace(error),
             Fault::Memory(error) => RunFault::Memory(error),
         }
     }

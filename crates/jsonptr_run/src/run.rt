@@ -1,24 +1,28 @@
 //! One run of the program.
-ghost use Rattle.std.specs.Prelude.{◌≡◌, ◌≢◌, ◌++◌, ◌∷◌, [], ℕ, List, Result, map, Ok, Err, OnOk, IfOk, IfErr, IsErrOf, false, string_bytes};
+ghost use Rattle.std.specs.Prelude.{◌≡◌, ◌≢◌, ◌⊎◌, ◌++◌, ◌∷◌, [], ℕ, List, Result, map, Some, Ok, Err, OnOk, IfOk, IfErr, IsErrOf, false, string_bytes};
 ghost use Rattle.std.specs.Io.KnownBytes.{Appends};
 ghost use Rattle.serde_json.specs.Data.{Data, string};
 ghost use Rattle.serde_json.specs.View.{view};
 ghost use Rattle.serde_json.specs.Written.{has_float, compact_text};
 ghost use Rattle.jsonptr.specs.Text.{Text};
 ghost use Rattle.jsonptr.specs.Pointer.{tokens};
-ghost use Rattle.jsonptr_run.specs.JsonText.{IsJsonLine};
+ghost use Rattle.jsonptr_run.specs.JsonText.{json_of, IsJsonLine};
 ghost use Rattle.jsonptr_run.specs.Streams.{AppendsFront, ForBytes};
 ghost use Rattle.jsonptr_run.specs.declared.fault.RunFault.{RunFault};
-ghost use Rattle.jsonptr_run.specs.Private.{request_of, IsFaultOf, IsLineOf};
+ghost use Rattle.jsonptr_run.specs.declared.fault.RunFault.TheVariants as fault;
+ghost use Rattle.jsonptr_run.specs.Private.{request_of, IsFaultOf, IsLineOf, RefusesValue};
 ghost use Rattle.jsonptr_run.specs.Run as specs;
-ghost use Rattle.jsonptr_run.specs.Run.{resolving, Asks, ForLine, Gives, IsRefusedSo, IsRequestFault, NeedNoInput, NeedsInput, Resolves, tokens_value};
+ghost use Rattle.jsonptr_run.specs.Run.{AskFor, resolving, listing, assigning, deleting, Asks, AssignsAt, DeletesAt, ForLine, Gives, IsRefusedSo, IsRequestFault, IsValueMemory, NeedNoInput, NeedsInput, Resolves, tokens_value};
 
 use crate::fault::RunFault;
-use crate::json_text::{json_line, read_json_input};
+use crate::json_text::{json_line, read_json, read_json_input};
 use crate::output::write_line;
 use jsonptr::Pointer;
 use jsonptr::laws::parse_law;
+use jsonptr_laws::assigning::assign_law;
 use jsonptr_laws::resolving::resolve_law;
+use jsonptr_tree::json::{json_law, json_map_law};
+use jsonptr_tree::writing::deleting_law;
 use serde_json::Value;
 use std::alloc::{AllocError, Global};
 use std::io::{Read, Write};
@@ -27,16 +31,22 @@ use std::io::{Read, Write};
 mod tests;
 
 /// What the words ask for, as far as it is known without the input.
-#[derive(Clone, Copy, Debug)]
+#[derive(Debug, Drop)]
 pub enum Request<'w> {
     /// To find the value that the pointer names.
     Resolve(Pointer<'w>),
     /// To list the pointer's tokens, decoded.
     Tokens(Pointer<'w>),
+    /// To assign the value at the pointer.
+    Assign(Pointer<'w>, Value),
+    /// To delete what the pointer names.
+    Delete(Pointer<'w>),
 }
 
 /// Answers the words, which are those after the program's own name, with one line, or with a fault. The
-/// words come first, then the pointer, the input to its end as one JSON text, the operation, the line.
+/// words come first, then the pointer, the value to assign, the input to its end as one JSON text, the
+/// operation, the line. The line is of the value that the pointer names, of its tokens, or of the document as
+/// an assignment or a deletion leaves it.
 ///
 /// # Errors
 ///
@@ -59,24 +69,43 @@ pub fn run_program<R: Read, W: Write>(
     ensures unwritten { IfErr result (λ e. e ≢ RunFault.Write → output.new ≡ output.old) }
     ensures unread { NeedNoInput (map string_bytes words.now) → input.new ≡ input.old }
 {
-    let request = read_request(words)?;
+    let request = read_request(alloc, words)?;
     let line = answer(alloc, request, input)?;
     write_line(output, line.as_bytes())?;
     Ok(())
 }
 
 /// What [`run_program`] is to answer is one: words ask for one thing or are refused in one way, a request
-/// gives one value or one fault on an input, and a value has one line, but for the digits of its floats.
-/// Lists of tokens have no float.
+/// gives one value or one fault on an input, and never both, and a value has one line, but for the digits of
+/// its floats. Lists of tokens have no float. In a value that is read the keys of each object ascend, so they do
+/// in what an assignment or a deletion makes of it, and that is one value for its map.
 pub fn run_law()
     ensures asks { (words : List Text) (r q : Result specs.Request RunFault)
         → Asks words r
         → Asks words q
         → r ≡ q }
-    ensures gives { (request : specs.Request) (bytes : List ℕ) (r q : Result Data RunFault)
-        → Gives request bytes r
-        → Gives request bytes q
+    ensures resolves { (ts : List Text) (bytes : List ℕ) (r q : Result Data RunFault)
+        → Gives (resolving ts) bytes r
+        → Gives (resolving ts) bytes q
         → r ≡ q }
+    ensures lists { (ts : List Text) (bytes : List ℕ) (r q : Result Data RunFault)
+        → Gives (listing ts) bytes r
+        → Gives (listing ts) bytes q
+        → r ≡ q }
+    ensures not_both { (request : specs.Request) (bytes : List ℕ) (value : Data) (e : RunFault)
+        → Gives request bytes (Ok value)
+        → Gives request bytes (Err e)
+        → ⊥ }
+    ensures one_fault { (request : specs.Request) (bytes : List ℕ) (e f : RunFault)
+        → Gives request bytes (Err e)
+        → Gives request bytes (Err f)
+        → e ≡ f }
+    ensures one_value { (words : List Text) (request : specs.Request) (bytes : List ℕ)
+        (value other : Data)
+        → AskFor words request
+        → Gives request bytes (Ok value)
+        → Gives request bytes (Ok other)
+        → value ≡ other }
     ensures line { (value : Data) (line other : Text)
         → has_float value ≡ false
         → IsJsonLine value line
@@ -88,12 +117,17 @@ pub fn run_law()
 {
     parse_law();
     resolve_law();
+    assign_law();
+    deleting_law();
+    json_law();
+    json_map_law();
 }
 
 /// What the words ask for.
-fn read_request(words: &[String]) -> Result<Request<'_>, RunFault>
+fn read_request(alloc: Global, words: &[String]) -> Result<Request<'_>, RunFault>
     ensures ok { IfOk result (λ r. Asks (map string_bytes words.now) (Ok (request_of r))) }
-    ensures err { IfErr result (λ e. Asks (map string_bytes words.now) (Err e)) }
+    ensures err { IfErr result (λ e. Asks (map string_bytes words.now) (Err e)
+        ⊎ IsValueMemory (map string_bytes words.now) e) }
 {
     match words {
         [command, pointer] if command.as_str() == "resolve" => {
@@ -102,8 +136,23 @@ fn read_request(words: &[String]) -> Result<Request<'_>, RunFault>
         [command, pointer] if command.as_str() == "tokens" => {
             Ok(Request::Tokens(Pointer::parse(pointer.as_str())?))
         }
+        [command, pointer] if command.as_str() == "delete" => {
+            Ok(Request::Delete(Pointer::parse(pointer.as_str())?))
+        }
+        [command, pointer, value] if command.as_str() == "assign" => {
+            let pointer = Pointer::parse(pointer.as_str())?;
+            Ok(Request::Assign(pointer, read_value(alloc, value)?))
+        }
         _ => Err(RunFault::Usage),
     }
+}
+
+/// The value to assign, whose JSON text the word is.
+fn read_value(alloc: Global, word: &String) -> Result<Value, RunFault>
+    ensures ok { IfOk result (λ v. json_of (string_bytes word.now) ≡ Some (view v)) }
+    ensures err { IfErr result (RefusesValue (string_bytes word.now)) }
+{
+    read_json(alloc, word.as_bytes())?.ok_or(RunFault::ValueNotJson)
 }
 
 /// The line that is asked for, from the input if it is needed.
@@ -117,6 +166,8 @@ fn answer<R: Read>(alloc: Global, request: Request<'_>, input: &mut R) -> Result
     match request {
         Request::Resolve(pointer) => resolved_line(alloc, pointer, input),
         Request::Tokens(pointer) => Ok(tokens_line(alloc, pointer)?),
+        Request::Assign(pointer, value) => assigned_line(alloc, pointer, value, input),
+        Request::Delete(pointer) => deleted_line(alloc, pointer, input),
     }
 }
 
@@ -143,6 +194,71 @@ fn line_in(alloc: Global, document: &Value, pointer: Pointer<'_>) -> Result<Stri
 {
     let value = pointer.resolve(alloc, document)?;
     Ok(json_line(alloc, value)?)
+}
+
+/// The line of the input with the value assigned at the pointer.
+fn assigned_line<R: Read>(
+    alloc: Global,
+    pointer: Pointer<'_>,
+    value: Value,
+    input: &mut R,
+) -> Result<String, RunFault>
+    ensures ok { IfOk result (λ line. ForBytes (R.remaining input.old)
+        (λ bytes. IsLineOf (Gives (assigning (tokens pointer.entry) (view value)) bytes)
+        (string_bytes line))) }
+    ensures err { IfErr result
+        (IsRequestFault (assigning (tokens pointer.entry) (view value)) (R.remaining input.old)) }
+{
+    let document = read_json_input(alloc, input)?;
+    line_with(alloc, document, pointer, value)
+}
+
+/// The line of the document with the value assigned at the pointer.
+fn line_with(
+    alloc: Global,
+    mut document: Value,
+    pointer: Pointer<'_>,
+    value: Value,
+) -> Result<String, RunFault>
+    ensures ok { IfOk result (λ line.
+        IsLineOf (AssignsAt (view document) (tokens pointer.entry) (view value))
+        (string_bytes line)) }
+    ensures err { IfErr result
+        (IsFaultOf (AssignsAt (view document) (tokens pointer.entry) (view value))) }
+{
+    pointer.assign(alloc, &mut document, value)?;
+    Ok(json_line(alloc, &document)?)
+}
+
+/// The line of the input without what the pointer names.
+fn deleted_line<R: Read>(
+    alloc: Global,
+    pointer: Pointer<'_>,
+    input: &mut R,
+) -> Result<String, RunFault>
+    ensures ok { IfOk result (λ line. ForBytes (R.remaining input.old)
+        (λ bytes. IsLineOf (Gives (deleting (tokens pointer.entry)) bytes) (string_bytes line))) }
+    ensures err { IfErr result
+        (IsRequestFault (deleting (tokens pointer.entry)) (R.remaining input.old)) }
+{
+    let document = read_json_input(alloc, input)?;
+    line_without(alloc, document, pointer)
+}
+
+/// The line of the document without what the pointer names.
+fn line_without(
+    alloc: Global,
+    mut document: Value,
+    pointer: Pointer<'_>,
+) -> Result<String, RunFault>
+    ensures ok { IfOk result (λ line.
+        IsLineOf (DeletesAt (view document) (tokens pointer.entry)) (string_bytes line)) }
+    ensures err { IfErr result (IsFaultOf (DeletesAt (view document) (tokens pointer.entry))) }
+{
+    if pointer.delete(alloc, &mut document)?.is_none() {
+        return Err(RunFault::NotThere);
+    }
+    Ok(json_line(alloc, &document)?)
 }
 
 /// The line of the pointer's tokens, decoded, as a JSON array.

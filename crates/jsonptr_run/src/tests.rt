@@ -182,6 +182,11 @@ fn tells_faults(rt: HostRuntime) -> Result<(), AllocError> {
         "usage: jsonptr_run resolve POINTER, delete POINTER, tokens POINTER, assign POINTER VALUE";
     for (fault, text) in [
         (RunFault::Usage, usage),
+        (RunFault::ValueNotJson, "VALUE is not JSON"),
+        (
+            RunFault::NotThere,
+            "delete failed: json pointer does not resolve",
+        ),
         (RunFault::InputNotJson, "input is not JSON"),
         (RunFault::Memory(AllocError), "out of memory"),
         (RunFault::Read, "reading failed"),

@@ -3,7 +3,11 @@
 #![tactic(auto)]
 
 #[cfg(test)]
+mod assigning;
+#[cfg(test)]
 mod bounds;
+#[cfg(test)]
+mod deleting;
 #[cfg(test)]
 mod edits;
 #[cfg(test)]

@@ -28,10 +28,10 @@ seen p o = option_map label_of (option_and_then (value_at p) o)
 same_key : (k l : List ℕ) → slice_cmp nat_cmp k l ≡ Equal → k ≡ l
 same_key k l e = (bytes_eq-Decides k l).0 (sym (is_eq-slice_cmp k l) ∙ ap is_eq e)
 
-below_flip : (k l : List ℕ) → slice_cmp nat_cmp k l ≡ Greater → slice_cmp nat_cmp l k ≡ Less
+pub below_flip : (k l : List ℕ) → slice_cmp nat_cmp k l ≡ Greater → slice_cmp nat_cmp l k ≡ Less
 below_flip k l e = nat_list_cmp_total.antisymm l k ∙ ap ordering_reverse e
 
-above_more : (k l : List ℕ) (ms : Members) → slice_cmp nat_cmp k l ≡ Less → KeysAbove l ms → KeysAbove k ms
+pub above_more : (k l : List ℕ) (ms : Members) → slice_cmp nat_cmp k l ≡ Less → KeysAbove l ms → KeysAbove k ms
 above_more k l no_members e h = tt
 above_more k l (member q d ms) e h = (nat_list_cmp_total.trans k l q e h.0, above_more k l ms e h.1)
 

@@ -11,3 +11,4 @@ pub mod RemovingLemmas
 pub mod JsonLemmas
 pub mod JsonWritingLemmas
 pub mod JsonMapLemmas
+pub mod JsonOrderLemmas

@@ -44,6 +44,21 @@ fn run_on(
 
 const ALL: &[Step] = &[];
 
+/// Readers and writers that take their time, and fail nowhere.
+const SLOW: [(&[Step], &[Step]); 3] = [
+    (ALL, ALL),
+    (&[Step::Move(1)], &[Step::Move(1)]),
+    (
+        &[
+            Step::Interrupt,
+            Step::Move(3),
+            Step::Interrupt,
+            Step::Move(2),
+        ],
+        ALL,
+    ),
+];
+
 #[test]
 fn writes_the_value_that_the_pointer_names(rt: HostRuntime) -> Result<(), AllocError> {
     for (pointer, input, line) in [
@@ -53,20 +68,58 @@ fn writes_the_value_that_the_pointer_names(rt: HostRuntime) -> Result<(), AllocE
         ("/~01", "{\"~1\":\"\u{e9}\"}", "\"\u{e9}\"\n"),
         ("/", "{\"\":true}", "true\n"),
     ] {
-        for (reads, writes) in [
-            (ALL, ALL),
-            (&[Step::Move(1)], &[Step::Move(1)]),
-            (
-                &[
-                    Step::Interrupt,
-                    Step::Move(3),
-                    Step::Interrupt,
-                    Step::Move(2),
-                ],
-                ALL,
-            ),
-        ] {
+        for (reads, writes) in SLOW {
             let ran = run_on(rt.alloc(), &["resolve", pointer], input, reads, writes)?;
+            assert_eq!(rt; ran.status, 0, "{pointer}");
+            assert!(rt; ran.written.as_slice() == line.as_bytes(), "{pointer}");
+            assert_eq!(rt; ran.left, 0, "{pointer}");
+        }
+    }
+    Ok(())
+}
+
+#[test]
+fn assigns_the_value_and_writes_the_document(rt: HostRuntime) -> Result<(), AllocError> {
+    for (pointer, value, input, line) in [
+        ("/1", "\"x\"", "null", "{\"1\":\"x\"}\n"),
+        (
+            "/foo/-",
+            "\"baz\"",
+            "{\"foo\":[\"bar\"]}",
+            "{\"foo\":[\"bar\",\"baz\"]}\n",
+        ),
+        ("/a/b", "1", "{}", "{\"a\":{\"b\":1}}\n"),
+        (
+            "/a~1b",
+            " { \"x\" : [] } ",
+            "{\"a/b\":1,\"c\":2}",
+            "{\"a/b\":{\"x\":[]},\"c\":2}\n",
+        ),
+        ("", "[1, 2]", "{\"a\":1}", "[1,2]\n"),
+        ("/0", "null", " [ true ] ", "[null]\n"),
+    ] {
+        for (reads, writes) in SLOW {
+            let words = &["assign", pointer, value];
+            let ran = run_on(rt.alloc(), words, input, reads, writes)?;
+            assert_eq!(rt; ran.status, 0, "{pointer}");
+            assert!(rt; ran.written.as_slice() == line.as_bytes(), "{pointer}");
+            assert_eq!(rt; ran.left, 0, "{pointer}");
+        }
+    }
+    Ok(())
+}
+
+#[test]
+fn deletes_and_writes_the_document(rt: HostRuntime) -> Result<(), AllocError> {
+    for (pointer, input, line) in [
+        ("/0", "[1,2,3]", "[2,3]\n"),
+        ("", "[1]", "null\n"),
+        ("/foo/0", "{\"foo\":[\"bar\"]}", "{\"foo\":[]}\n"),
+        ("/a~1b", "{\"a/b\":1, \"c\" : 2}", "{\"c\":2}\n"),
+        ("/", "{\"\":{}}", "{}\n"),
+    ] {
+        for (reads, writes) in SLOW {
+            let ran = run_on(rt.alloc(), &["delete", pointer], input, reads, writes)?;
             assert_eq!(rt; ran.status, 0, "{pointer}");
             assert!(rt; ran.written.as_slice() == line.as_bytes(), "{pointer}");
             assert_eq!(rt; ran.left, 0, "{pointer}");
@@ -129,6 +182,47 @@ fn refuses_what_names_no_value(rt: HostRuntime) -> Result<(), AllocError> {
 }
 
 #[test]
+fn refuses_what_cannot_be_assigned_or_deleted(rt: HostRuntime) -> Result<(), AllocError> {
+    let lines: [(&[&str], &str, u8, &str); 7] = [
+        (
+            &["assign", "/1", "\"x\""],
+            "[]",
+            1,
+            "assign failed: json pointer token at offset 0 is out of bounds",
+        ),
+        (
+            &["assign", "/a/b", "2"],
+            "{\"a\":[1]}",
+            1,
+            "assign failed: json pointer token at offset 2 failed to parse as an array index",
+        ),
+        (&["assign", "/a", "1"], "{\"a\"", 3, "input is not JSON"),
+        (
+            &["delete", "/x"],
+            "{}",
+            1,
+            "delete failed: json pointer does not resolve",
+        ),
+        (
+            &["delete", "/-"],
+            "[1]",
+            1,
+            "delete failed: json pointer does not resolve",
+        ),
+        (&["delete", ""], "", 3, "input is not JSON"),
+        (&["delete", "/x"], "1 1", 3, "input is not JSON"),
+    ];
+    for (words, input, status, told) in lines {
+        let ran = run_on(rt.alloc(), words, input, ALL, ALL)?;
+        assert_eq!(rt; ran.status, status, "{words:?}");
+        assert!(rt; ran.told.as_str() == told, "{words:?}");
+        assert!(rt; ran.written.is_empty(), "{words:?}");
+        assert_eq!(rt; ran.left, 0, "{words:?}");
+    }
+    Ok(())
+}
+
+#[test]
 fn refuses_words_before_it_reads(rt: HostRuntime) -> Result<(), AllocError> {
     let usage =
         "usage: jsonptr_run resolve POINTER, delete POINTER, tokens POINTER, assign POINTER VALUE";
@@ -136,7 +230,8 @@ fn refuses_words_before_it_reads(rt: HostRuntime) -> Result<(), AllocError> {
         "json pointer failed to parse; does not start with a slash ('/') and is not empty";
     let tilde =
         "json pointer failed to parse; the first token in the partial-pointer starting at offset 2 is malformed";
-    let lines: [(&[&str], u8, &str); 12] = [
+    let no_value = "VALUE is not JSON";
+    let lines: [(&[&str], u8, &str); 20] = [
         (&[], 2, usage),
         (&["resolve"], 2, usage),
         (&["resolve", "/a", "/b"], 2, usage),
@@ -145,8 +240,16 @@ fn refuses_words_before_it_reads(rt: HostRuntime) -> Result<(), AllocError> {
         (&["resolve ", "/a"], 2, usage),
         (&["tokens"], 2, usage),
         (&["tokens", "/a", "1"], 2, usage),
-        (&["delete", "/a"], 2, usage),
+        (&["delete"], 2, usage),
+        (&["delete", "/a", "1"], 2, usage),
+        (&["assign", "/a"], 2, usage),
+        (&["assign", "/a", "1", "2"], 2, usage),
+        (&["assigns", "/a", "1"], 2, usage),
         (&["tokens", "a"], 1, no_slash),
+        (&["delete", "a"], 1, no_slash),
+        (&["assign", "a", "x"], 1, no_slash),
+        (&["assign", "/a", "x"], 3, no_value),
+        (&["assign", "/a", ""], 3, no_value),
         (&["resolve", "foo"], 1, no_slash),
         (&["resolve", "/a/~2"], 1, tilde),
     ];
@@ -162,27 +265,33 @@ fn refuses_words_before_it_reads(rt: HostRuntime) -> Result<(), AllocError> {
 
 #[test]
 fn streams_that_fail_are_told(rt: HostRuntime) -> Result<(), AllocError> {
-    let resolve: &[&str] = &["resolve", "/a"];
-    let scripts: [(&[Step], &[Step], &str, &str); 5] = [
-        (&[Step::Fail], ALL, "reading failed", ""),
-        (&[Step::Move(3), Step::Fail], ALL, "reading failed", ""),
-        (ALL, &[Step::Move(2), Step::Fail], "writing failed", "12"),
+    let lines: [(&[&str], &str); 3] = [
+        (&["resolve", "/a"], "{\"b\":1}\n"),
+        (&["assign", "/a/b", "2"], "{\"a\":{\"b\":2}}\n"),
+        (&["delete", "/a/b"], "{\"a\":{}}\n"),
+    ];
+    let scripts: [(&[Step], &[Step], &str, usize); 5] = [
+        (&[Step::Fail], ALL, "reading failed", 0),
+        (&[Step::Move(3), Step::Fail], ALL, "reading failed", 0),
+        (ALL, &[Step::Move(2), Step::Fail], "writing failed", 2),
         (
             ALL,
             &[Step::Move(2), Step::Interrupt, Step::Move(9)],
             "writing failed",
-            "12",
+            2,
         ),
-        (ALL, &[Step::Move(1), Step::Move(0)], "writing failed", "1"),
+        (ALL, &[Step::Move(1), Step::Move(0)], "writing failed", 1),
     ];
-    for (reads, writes, told, written) in scripts {
-        let ran = run_on(rt.alloc(), resolve, "{\"a\":1234}", reads, writes)?;
-        assert_eq!(rt; ran.status, 5, "{reads:?} {writes:?}");
-        assert!(rt; ran.told.as_str() == told, "{reads:?} {writes:?}");
-        assert!(rt;
-            ran.written.as_slice() == written.as_bytes(),
-            "{reads:?} {writes:?}"
-        );
+    for (words, line) in lines {
+        for (reads, writes, told, written) in scripts {
+            let ran = run_on(rt.alloc(), words, "{\"a\":{\"b\":1}}", reads, writes)?;
+            assert_eq!(rt; ran.status, 5, "{reads:?} {writes:?}");
+            assert!(rt; ran.told.as_str() == told, "{reads:?} {writes:?}");
+            assert!(rt;
+                line.as_bytes().get(..written) == Some(ran.written.as_slice()),
+                "{reads:?} {writes:?}"
+            );
+        }
     }
     Ok(())
 }

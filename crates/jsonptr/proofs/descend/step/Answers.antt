@@ -1,7 +1,7 @@
 use Rattle.std.proofs.Common.{ℕ, ◌<◌, ◌∙◌, refl, sym, ap, subst, length, arith, true≢false, IsSome}
 use Rattle.jsonptr_document.specs.declared.stepping.Way.TheVariants.{Element, Member, Here}
 use Rattle.jsonptr_document.specs.Way.{IsWay}
-use Rattle.jsonptr_document.specs.PrivateJson.{nodes_of, stands_in}
+use Rattle.jsonptr_document.specs.PrivateJson.{nodes_of, stands_in, ordered}
 use Rattle.jsonptr_document.proofs.JsonPut.{array_inside, element_found, element_back, member_some, member_found, member_back}
 use Rattle.jsonptr.specs.Pointer.{tokens}
 use Rattle.jsonptr.proofs.DescendLemmas.{next_of, plain_token, moves_down, moves_nowhere, moves_back}
@@ -35,7 +35,7 @@ returns-in-Some-as_array_mut c =
     let way : IsWay (nodes_of at) x (Element i) = rw c.in-Element.is at c.in-Ok.ensures.way in
     let e = c.index_mut-node.result.now in let there = c.index_mut-node.ensures.value in
     let next = next_of (tokens p) o (tokens front) x (tokens a) b c.len.result c.len-2.result (c.len.ensures ∙ ap length (sym p.valid)) (c.len-2.ensures ∙ ap length (sym a.valid)) in (
-      (refl, (λ w. moves_back (tokens p) o (tokens front) x (tokens a) b nodes_of stands_in at e w _ (element_back at vs x i is way.0 way.1 way.2 e w there)), tt),
+      (refl, (λ w. moves_back (tokens p) o (tokens front) x (tokens a) b nodes_of stands_in ordered at e w _ (element_back at vs x i is way.0 way.1 way.2 e w there)), tt),
       record {
         writes_back = tt;
         value = (moves_down (tokens p) o (tokens front) x (tokens a) b nodes_of stands_in at _ (omega (arith, c.len.type_inv)) e next.1 (element_found at vs x i is way.0 way.1 way.2 e there), λ plain. refl);
@@ -50,7 +50,7 @@ returns-in-Some-get_mut c =
     let text_is = c.as_str.ensures.value ∙ way.1 in
     let e = c.in-Some-get_mut.node.now in let there = c.in-Some-get_mut.ensures.value in
     let next = next_of (tokens p) o (tokens front) x (tokens a) b c.len.result c.len-2.result (c.len.ensures ∙ ap length (sym p.valid)) (c.len-2.ensures ∙ ap length (sym a.valid)) in (
-      (refl, (λ w. moves_back (tokens p) o (tokens front) x (tokens a) b nodes_of stands_in at e w _ (member_back at m x k text_is is way.0 (c.get_mut.follows.lender w) e w there (c.get_mut.follows.holds w))), tt),
+      (refl, (λ w. moves_back (tokens p) o (tokens front) x (tokens a) b nodes_of stands_in ordered at e w _ (member_back at m x k text_is is way.0 (c.get_mut.follows.lender w) e w there (c.get_mut.follows.holds w))), tt),
       record {
         writes_back = tt;
         value = (moves_down (tokens p) o (tokens front) x (tokens a) b nodes_of stands_in at _ (omega (arith, c.len.type_inv)) e next.1 (member_found at m x k text_is is way.0 e there), λ plain. refl);

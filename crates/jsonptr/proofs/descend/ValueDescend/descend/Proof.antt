@@ -38,7 +38,7 @@ use Rattle.serde_json.specs.contracts.value.Value.{the_row as R}
 use Rattle.serde_json.specs.declared.value.Value.{Value}
 use Rattle.jsonptr_grammar.specs.Text.{Text, text}
 use Rattle.jsonptr_tree.specs.Node.{NodeMap}
-use Rattle.jsonptr_document.specs.PrivateJson.{nodes_of, stands_in}
+use Rattle.jsonptr_document.specs.PrivateJson.{nodes_of, stands_in, ordered}
 use Rattle.jsonptr.specs.contracts.descend.Moved as L
 use Rattle.jsonptr.specs.contracts.descend.Guide as guide_row
 use Rattle.jsonptr.specs.declared.descend.Guide.{Guide}
@@ -157,14 +157,14 @@ module _ {M : Type 1} {𝓤 : Ura M} (𝓛 : Logic 𝓤) (𝓜 : Model 𝓤 𝓛
     Plain = All (λ b. b ≢ 126) (text all)
 
     abbrev Says : Ro.Denot → ℕ → Type 0
-    Says r k = (s : (D → D) × D) × ((w : D) → (IsOk r → PutsBelow N all k (nodes_of w) (nodes_of (s.0 w))) × IfOk r (λ v. stands_in v.now [] w → stands_in doc.now [] (s.0 w))) × OnErr r (stands_in doc.now [] s.1)
+    Says r k = (s : (D → D) × D) × ((w : D) → (IsOk r → PutsBelow N all k (nodes_of w) (nodes_of (s.0 w))) × IfOk r (λ v. stands_in v.now [] w → stands_in doc.now [] (s.0 w)) × IfOk r (λ v. (ordered v.now → ordered w) → ordered doc.now → ordered (s.0 w))) × OnErr r (stands_in doc.now [] s.1)
 
     abbrev Follows : (r : Ro.Denot) (k : ℕ) → Says r k → Fml
     Follows r k s = follows_by D D R.coded.code R.coded.code doc.ghost_name (name_if_ok (λ v. v.ghost_name) r) s.0.0 s.0.1
 
     abbrev Lent : Ro.Denot → ℕ → Fml
     Lent r k = follows_so R R doc.ghost_name (name_if_ok (λ v. v.ghost_name) r)
-        (λ w n. (IsOk r → PutsBelow N all k (nodes_of w) (nodes_of n)) × IfOk r (λ v. stands_in v.now [] w → stands_in doc.now [] n)) (λ n. OnErr r (stands_in doc.now [] n))
+        (λ w n. (IsOk r → PutsBelow N all k (nodes_of w) (nodes_of n)) × IfOk r (λ v. stands_in v.now [] w → stands_in doc.now [] n) × IfOk r (λ v. (ordered v.now → ordered w) → ordered doc.now → ordered n)) (λ n. OnErr r (stands_in doc.now [] n))
 
     abbrev Stopped : Ro.Denot → ℕ → Type 0
     Stopped r k = IfOk r (λ v. StopsWith N all k (λ w. stands_in doc.now w v.now) (nodes_of v.now)) × (Plain → IsOk r)
@@ -185,7 +185,7 @@ module _ {M : Type 1} {𝓤 : Ura M} (𝓛 : Logic 𝓤) (𝓜 : Model 𝓤 𝓛
         let r : Ro.Denot = Ok x in let v = live 0 (of_list (mut_vals x)) in
         qed 𝓛 (‵ (Count k) ∷ ‵ (Ref x) ∷ ‵ (follows R R doc.ghost_name x.ghost_name F) ∷ raw Three ∷ ‵ Fourth ∷ []) ∵
         move ! (1 ∷ []) $ use1 𝓛 (‵ (Ro.own_val r (v ∷ []))) (ok_of 𝓛 MR Why x (vptr x.ref_ptr.0 x.ref_ptr.1)) $ move ! (2 ∷ []) $
-        fpack ! (Says r k) (Follows r k) ((F, x.now), (λ w. ((λ ok. kept_puts nodes_of stands_in all doc.now x.now F k kept w), kept.same w)), tt) $
+        fpack ! (Says r k) (Follows r k) ((F, x.now), (λ w. ((λ ok. kept_puts nodes_of stands_in ordered all doc.now x.now F k kept w), kept.same w, kept.order w)), tt) $
         move ! (1 ∷ 2 ∷ 0 ∷ []) $ by ! (exits r v k (stops, λ plain. refl))
 
     failed : (x : MutBor D) (F : D → D) (e : AllocError) (ev : Val) (t : D) → stands_in doc.now [] (F t) → (Plain → ⊥)
@@ -195,7 +195,7 @@ module _ {M : Type 1} {𝓤 : Ura M} (𝓛 : Logic 𝓤) (𝓜 : Model 𝓤 𝓛
         let r : Ro.Denot = Err e in let v = live 1 (of_list (ev ∷ [])) in let k = count.now in
         qed 𝓛 (‵ (Why.own_val e (ev ∷ [])) ∷ ‵ (fres x.ghost_name (R.coded.code t)) ∷ ‵ (follows R R doc.ghost_name x.ghost_name F) ∷ raw Three ∷ ‵ (Count k) ∷ ‵ Fourth ∷ []) ∵
         move ! (2 ∷ 1 ∷ []) $ use2 𝓛 (‵ (fres doc.ghost_name (R.coded.code (F t)))) (followed 𝓛 R R F doc.ghost_name x.ghost_name t) $
-        fpack ! (Says r k) (Follows r k) (((λ w. w), F t), (λ w. ((λ ok. absurd (true≢false (sym ok))), tt)), same) $
+        fpack ! (Says r k) (Follows r k) (((λ w. w), F t), (λ w. ((λ ok. absurd (true≢false (sym ok))), tt, tt)), same) $
         move ! (1 ∷ []) $ use1 𝓛 (‵ (Ro.own_val r (v ∷ []))) (err_of 𝓛 MR Why e ev) $
         move ! (0 ∷ 3 ∷ 1 ∷ 2 ∷ []) $ by ! (exits r v k (tt, λ plain. absurd (none plain)))
 
@@ -207,7 +207,7 @@ module _ {M : Type 1} {𝓤 : Ura M} (𝓛 : Logic 𝓤) (𝓜 : Model 𝓤 𝓛
     Nearer t u = length (text all) - t.0 < length (text all) - u.0
 
     abbrev Lends : MutBor D → ℕ → Rt.Denot → Fml
-    Lends x i r = LendsMove R nodes_of stands_in x all i r
+    Lends x i r = LendsMove R nodes_of stands_in ordered x all i r
 
     abbrev Gives : MutBor D → ℕ → Rt.Denot → Type 0
     Gives x i r = IfOk r (λ t. MovesTo nodes_of stands_in all i t.down x.now t.next t.node.now) × (Plain → IsOk r)
@@ -260,8 +260,8 @@ module _ {M : Type 1} {𝓤 : Ura M} (𝓛 : Logic 𝓤) (𝓜 : Model 𝓤 𝓛
           first ! $ branches ! (get ! refl)
           (λ stops. let down = off lent.down stops in
           let none = subst (λ d. MovesTo nodes_of stands_in all i d x.now lent.next lent.node.now) down here in
-          let back = λ (m : D). subst (λ d. MovesBack nodes_of stands_in all i d x.now lent.node.now m (G' m)) down (s.1 m) in
-          let kept' : Keeps all doc.now lent.node.now K i = kept_here nodes_of stands_in all doc.now x.now lent.node.now F G' i kept none.2 back in
+          let back = λ (m : D). subst (λ d. MovesBack nodes_of stands_in all i ordered d x.now lent.node.now m (G' m)) down (s.1 m) in
+          let kept' : Keeps all doc.now lent.node.now K i = kept_here nodes_of stands_in ordered all doc.now x.now lent.node.now F G' i kept none.2 back in
           let lacks = λ (front left : List Text) (t : Text) (rest : List Text). subst (λ (d : D). Rattle.jsonptr.specs.PrivateDescend.Begins all i front left → left ≡ t ∷ rest → Rattle.jsonptr_tree.specs.Following.LacksStep (nodes_of d) [] t) (sym none.2) (none.1 front left t rest) in
           let b = count.ref_ptr.0 in let o = count.ref_ptr.1 in
           move ! (4 ∷ []) $ fsplit3 ! $ move ! (1 ∷ 2 ∷ 7 ∷ []) $ opens ! tt usize b o (λ us. tied ! full_share usize.mir us b o $
@@ -276,10 +276,10 @@ module _ {M : Type 1} {𝓤 : Ura M} (𝓛 : Logic 𝓤) (𝓜 : Model 𝓤 𝓛
           by ! (arrived lent.node K i kept' (keeps_stops all doc.now lent.node.now K i kept' lacks))))
           (λ goes. let down = on lent.down goes in
           let step = subst (λ d. MovesTo nodes_of stands_in all i d x.now lent.next lent.node.now) down here in
-          let back = λ (m : D). subst (λ d. MovesBack nodes_of stands_in all i d x.now lent.node.now m (G' m)) down (s.1 m) in
+          let back = λ (m : D). subst (λ d. MovesBack nodes_of stands_in all i ordered d x.now lent.node.now m (G' m)) down (s.1 m) in
           let kept' : Keeps all doc.now lent.node.now K lent.next = keeps_more all doc.now x.now lent.node.now F G' i lent.next kept step back in
-          let farther = kept_farther nodes_of stands_in all doc.now x.now lent.node.now F i lent.next kept step in
-          let within = kept_within nodes_of stands_in all doc.now lent.node.now K lent.next kept' in
+          let farther = kept_farther nodes_of stands_in ordered all doc.now x.now lent.node.now F i lent.next kept step in
+          let within = kept_within nodes_of stands_in ordered all doc.now lent.node.now K lent.next kept' in
           skips ! $ exec ! 𝓣.C 𝓣.Λ En (after 6 arm) (any_q (Turned t)) $
           sets ! (addr ! (through ! refl (stop !))) refl (tt, tt) $
           sets_last ! (of_opd ! (get ! refl)) refl (tt, record { fits = fn }) $

@@ -1,0 +1,62 @@
+-- Assigning a value at a list of tokens, and why none is assigned there (RFC 6901, section 4).
+use Rattle.std.specs.Prelude.{◌≡◌, ◌≢◌, ◌⊎◌, ℕ, List, ◌++◌, All, Option, Some, option_map, Ok, Err, codes, decimal}
+use Rattle.jsonptr_grammar.specs.Text.{Text, text}
+use Rattle.jsonptr_tree.specs.Node.{Path, NodeMap, Names}
+use Rattle.jsonptr_tree.specs.Following.{StopsAt}
+use Rattle.jsonptr_tree.specs.Landing.{LandsNowhere}
+use Rattle.jsonptr_tree.specs.Assigning.{Assigns}
+use Rattle.jsonptr_base.specs.Index.{Reads, IsWithinOrNext}
+use Rattle.jsonptr_base.specs.declared.index.Index.{Index}
+use Rattle.jsonptr.specs.declared.assign.Error.{Error}
+use Rattle.jsonptr.specs.declared.assign.Error.TheVariants.{FailedToParseIndex, OutOfBounds}
+
+-- the value v, assigned at the tokens, makes the map m of n, and what is given back, if anything is,
+-- is the value at which following the tokens stops; the front of them that leads there finds it
+pub record AssignsValue {V : Type 0} (n : NodeMap) (tokens : List Text) (v m : NodeMap)
+    (nodes : V → NodeMap) (finds : List Text → V → Type 0) (answer : Option V) : Type 0 where
+  pub assigned : Assigns n tokens v m (option_map nodes answer)
+  pub given_back : (e : V)
+      → answer ≡ Some e
+      → (front : List Text) × (w : Path) × (rest : List Text)
+      × StopsAt n tokens front w rest × finds front e
+
+-- how many tokens stand before the one at fault
+abbrev pub position_of : Error → ℕ
+position_of (FailedToParseIndex position offset source) = position
+position_of (OutOfBounds position offset source) = position
+
+-- how many bytes stand before the slash of the token at fault
+abbrev pub offset_of : Error → ℕ
+offset_of (FailedToParseIndex position offset source) = offset
+offset_of (OutOfBounds position offset source) = offset
+
+-- why no value lands at the token x in an array of this length: x is no index, or its index is
+-- above the length
+abbrev pub IsNoPlace : ℕ → Text → Error → Type 0
+IsNoPlace len x (FailedToParseIndex position offset source) = Reads x (Err source)
+IsNoPlace len x (OutOfBounds position offset source) =
+    (index : Index) × Reads x (Ok index) × IsWithinOrNext index len (Err source)
+
+-- the error tells where following the tokens stops, at an array in which no value lands at them,
+-- and why
+pub record RefusesAssign (n : NodeMap) (tokens : List Text) (e : Error) : Type 0 where
+  pub len : ℕ
+  pub token : Text
+  pub nowhere : LandsNowhere n tokens (position_of e) (offset_of e) len token
+  pub why : IsNoPlace len token e
+
+-- nothing has to be decoded or grown to assign at the tokens: their text has no `~`, and they name a
+-- path, or no value lands at them
+pub record NeedsNothing (n : NodeMap) (tokens : List Text) : Type 0 where
+  pub plain : All (λ b. b ≢ 126) (text tokens)
+  pub ends : ((w : Path) × Names n tokens w)
+      ⊎ ((position offset len : ℕ) × (x : Text) × LandsNowhere n tokens position offset len x)
+
+-- what the error displays
+abbrev pub assign_message : Error → Text
+assign_message (FailedToParseIndex position offset source) =
+    codes "assign failed: json pointer token at offset " ++ decimal offset
+    ++ codes " failed to parse as an array index"
+assign_message (OutOfBounds position offset source) =
+    codes "assign failed: json pointer token at offset " ++ decimal offset
+    ++ codes " is out of bounds"

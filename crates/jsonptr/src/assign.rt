@@ -1,0 +1,366 @@
+//! Assigning a value at the place that a pointer names, and growing what the document lacks on the way
+//! (RFC 6901, section 4).
+ghost use Rattle.std.specs.Prelude.{◌≡◌, ◌≢◌, ◌↔◌, ℕ, ◌<◌, [], ◌∷◌, List, Some, IsTrue, Option, Ok, IfOk, IfErr, OnErr, option_map, string_bytes};
+ghost use Rattle.jsonptr_grammar.specs.Text.{Text, dec};
+ghost use Rattle.jsonptr_tree.specs.Node.{an_array};
+ghost use Rattle.jsonptr_tree.specs.Following.{LacksStep};
+ghost use Rattle.jsonptr_tree.specs.Growing.{grown, means_end};
+ghost use Rattle.jsonptr_tree.specs.Assigning.{Assigns};
+ghost use Rattle.jsonptr_base.specs.Fault.{IfRefused, HasMemory};
+ghost use Rattle.jsonptr.specs.Pointer.{tokens};
+ghost use Rattle.jsonptr.specs.Assign.{AssignsValue, RefusesAssign, NeedsNothing};
+ghost use Rattle.jsonptr.specs.PrivateAssign.{HasNoPlace, RefusesPlace, RefusesBelow};
+
+use crate::descend::{Descend, Guide, token_at};
+use crate::pointer::Pointer;
+use jsonptr_base::fault::Fault;
+use jsonptr_base::index::{OutOfBoundsError, ParseIndexError};
+use jsonptr_base::token::Token;
+use jsonptr_document::document::{Document, Node};
+use jsonptr_document::writing::DocumentMut;
+use std::alloc::{AllocError, Global};
+use std::{fmt, mem};
+
+/// A document in which a value can be assigned at a pointer.
+///
+/// Contracts see what an implementation promises by four relations: `assigns`, between the document, the
+/// pointer's tokens, the value, the document that this makes and what is given back, `refuses`, with the
+/// error, `needs_no_memory`, and `is_same`, with the document that is left where nothing is assigned. By
+/// `in_order` and `value_in_order` they see that the keys of each object ascend.
+pub trait Assign {
+    /// The type of what is assigned, and of what is given back.
+    type Value: Drop;
+
+    /// Why no value can be assigned at a pointer.
+    type Error;
+
+    // this value, assigned at these tokens, makes the second document of the first, and this is given back
+    ghost assigns: { Self → List Text → Self.Value → Self → Option Self.Value → Type 0 };
+
+    // no value can be assigned at these tokens in the document, which this error tells
+    ghost refuses: { Self → List Text → Self.Error → Type 0 };
+
+    // to assign at these tokens in the document never fails for want of memory
+    ghost needs_no_memory: { Self → List Text → Type 0 };
+
+    // the second document is the first, unchanged
+    ghost is_same: { Self → Self → Type 0 };
+
+    // in each object of the document the keys ascend
+    ghost in_order: { Self → Type 0 };
+
+    // in each object of the value the keys ascend
+    ghost value_in_order: { Self.Value → Type 0 };
+
+    /// Assigns a value at the place that the pointer names, and gives back what stood there; `None` where the
+    /// place is new. Where the document ends before the pointer does, it grows by what the tokens that are
+    /// left name (RFC 6901, section 4): an array for a token that is `-` or `0`, else an object. The value is
+    /// owned by the document from then on.
+    ///
+    /// # Errors
+    ///
+    /// [`Fault::Refused`] where the pointer leads to an array and goes on with a token that is neither `-`
+    /// nor an index up to its length, and [`Fault::Memory`] where a request for memory is refused. The
+    /// document is then as it was, and the value is dropped.
+    fn assign(
+        &mut self,
+        alloc: Global,
+        ptr: Pointer<'_>,
+        value: Self::Value,
+    ) -> Result<Option<Self::Value>, Fault<Self::Error>>
+        ensures assigned { IfOk result (assigns self.old (tokens ptr.entry) value self.new) }
+        ensures order { IfOk result (λ _.
+            value_in_order value → in_order self.old → in_order self.new) }
+        ensures refused { IfRefused result (refuses self.old (tokens ptr.entry)) }
+        ensures unchanged { OnErr result (is_same self.old self.new) }
+        ensures no_memory { needs_no_memory self.old (tokens ptr.entry) → HasMemory result };
+}
+
+/// JSON documents: for `serde_json::Value`, `assigns` says that the map of the document has, where the value
+/// lands, the map of what the tokens that are left grow round it, and that what is given back is the value
+/// that stood there; `is_same` says that the data is the same. No memory is taken to replace a value whose
+/// tokens have no `~`.
+impl<D: Descend> Assign for D {
+    type Value = D::Node;
+
+    type Error = Error;
+
+    ghost assigns = { λ d tokens v n r.
+        AssignsValue (D.Document.nodes d) tokens (D.Node.Document.nodes v) (D.Document.nodes n)
+        D.Node.Document.nodes (D.finds d) r };
+
+    ghost refuses = { λ d tokens e. RefusesAssign (D.Document.nodes d) tokens e };
+
+    ghost needs_no_memory = { λ d tokens. NeedsNothing (D.Document.nodes d) tokens };
+
+    ghost is_same = { λ d n. D.is_same d n };
+
+    ghost in_order = { λ d. D.Document.in_order d };
+
+    ghost value_in_order = { λ v. D.Node.Document.in_order v };
+
+    fn assign(
+        &mut self,
+        alloc: Global,
+        ptr: Pointer<'_>,
+        value: D::Node,
+    ) -> Result<Option<D::Node>, Fault<Error>> {
+        let guide = Guide { alloc, ptr };
+        let mut reached = 0;
+        let node = self.descend(&guide, &mut reached)?;
+        match token_at(ptr, reached) {
+            None => Ok(Some(mem::replace(node, value))),
+            Some((front, token, rest)) => put_below(node, alloc, front, &token, rest, value),
+        }
+    }
+}
+
+impl<'a> Pointer<'a> {
+    /// Assigns a value at the place that the pointer names in a document, as [`Assign::assign`] does.
+    ///
+    /// # Errors
+    ///
+    /// Those of [`Assign::assign`].
+    pub fn assign<D: Assign>(
+        &self,
+        alloc: Global,
+        dest: &mut D,
+        src: D::Value,
+    ) -> Result<Option<D::Value>, Fault<D::Error>>
+        ensures assigned { IfOk result (D.assigns dest.old (tokens self.now) src dest.new) }
+        ensures order { IfOk result (λ _.
+            D.value_in_order src → D.in_order dest.old → D.in_order dest.new) }
+        ensures refused { IfRefused result (D.refuses dest.old (tokens self.now)) }
+        ensures unchanged { OnErr result (D.is_same dest.old dest.new) }
+        ensures no_memory { D.needs_no_memory dest.old (tokens self.now) → HasMemory result }
+    {
+        dest.assign(alloc, *self, src)
+    }
+}
+
+/// Assigns the value below a node no child of which the token names, and gives back what stood where it
+/// lands: at an object a new member, at an array a new element behind the last, and in the place of a leaf
+/// what the token and the rest grow. The token stands behind those of the front.
+///
+/// # Errors
+///
+/// [`Fault::Refused`] where the node is an array and the token does not mean the place behind its last
+/// element, and [`Fault::Memory`] where a request for memory is refused. The node is then as it was, and the
+/// value is dropped.
+fn put_below<N: DocumentMut>(
+    node: &mut N,
+    alloc: Global,
+    front: Pointer<'_>,
+    token: &Token<'_>,
+    rest: Pointer<'_>,
+    value: N,
+) -> Result<Option<N>, Fault<Error>>
+    requires { LacksStep (N.Document.nodes node.old) [] token.now }
+    ensures assigned { IfOk result (λ r.
+        Assigns (N.Document.nodes node.old) (token.now ∷ tokens rest.entry)
+        (N.Document.nodes value) (N.Document.nodes node.new)
+        (option_map N.Document.nodes r)) }
+    ensures order { IfOk result (λ _. N.Document.in_order value
+        → N.Document.in_order node.old → N.Document.in_order node.new) }
+    ensures refused { IfRefused result
+        (RefusesBelow (N.Document.nodes node.old) (tokens front.entry) token.now) }
+    ensures given_back { (e : N) → result ≡ Ok (Some e) → e ≡ node.old }
+    ensures unchanged { OnErr result (N.Document.stands_at node.old [] node.new) }
+    ensures no_memory { (len : ℕ) → N.Document.nodes node.old [] ≡ Some (an_array len)
+        → HasNoPlace len token.now → HasMemory result }
+{
+    match node.node() {
+        Node::Leaf => {
+            let below = grow(alloc, rest, value)?;
+            let grown = grow_one(alloc, token, below)?;
+            Ok(Some(mem::replace(node, grown)))
+        }
+        Node::Object(_) => {
+            let key = key_of(alloc, token)?;
+            let grown = grow(alloc, rest, value)?;
+            node.insert(key, grown)?;
+            Ok(None)
+        }
+        Node::Array(elements) => {
+            find_end(elements.len(), front, token).map_err(Fault::Refused)?;
+            let grown = grow(alloc, rest, value)?;
+            node.push(grown)?;
+            Ok(None)
+        }
+    }
+}
+
+/// Finds that the token means the place behind the last of `length` elements, none of which it names. It
+/// stands behind the tokens of the front.
+///
+/// # Errors
+///
+/// [`Error`] where the token is no index, or where its index is above the length.
+fn find_end(length: usize, front: Pointer<'_>, token: &Token<'_>) -> Result<(), Error>
+    requires { (i : ℕ) → i < length → token.now ≢ dec i }
+    ensures end { IfOk result (λ _. IsTrue (means_end length token.now)) }
+    ensures refused { IfErr result (RefusesPlace (tokens front.entry) length token.now) }
+{
+    match token.to_index() {
+        Ok(index) => match index.for_len_incl(length) {
+            Ok(_) => Ok(()),
+            Err(source) => Err(Error::OutOfBounds {
+                position: front.count(),
+                offset: front.len(),
+                source,
+            }),
+        },
+        Err(source) => Err(Error::FailedToParseIndex {
+            position: front.count(),
+            offset: front.len(),
+            source,
+        }),
+    }
+}
+
+/// What the tokens grow round a value.
+///
+/// # Errors
+///
+/// [`AllocError`] where a request for memory is refused. The value is dropped.
+fn grow<N: DocumentMut>(alloc: Global, ptr: Pointer<'_>, value: N) -> Result<N, AllocError>
+    ensures map { IfOk result (λ r.
+        N.Document.nodes r ≡ grown (tokens ptr.entry) (N.Document.nodes value)) }
+    ensures order { IfOk result (λ r. N.Document.in_order value → N.Document.in_order r) }
+{
+    let mut grown = value;
+    let mut left = ptr;
+    while let Some((front, token)) = left.split_back() {
+        grown = grow_one(alloc, &token, grown)?;
+        left = front;
+    }
+    Ok(grown)
+}
+
+/// What one token grows round a value: an array of one element, or an object of one member.
+///
+/// # Errors
+///
+/// [`AllocError`] where a request for memory is refused. The value is dropped.
+fn grow_one<N: DocumentMut>(alloc: Global, token: &Token<'_>, value: N) -> Result<N, AllocError>
+    ensures map { IfOk result (λ r.
+        N.Document.nodes r ≡ grown (token.now ∷ []) (N.Document.nodes value)) }
+    ensures order { IfOk result (λ r. N.Document.in_order value → N.Document.in_order r) }
+{
+    if begins_array(token) {
+        return N::array_of(alloc, value);
+    }
+    let key = key_of(alloc, token)?;
+    N::object_of(alloc, key, value)
+}
+
+/// The key of the member that the token names: its decoded text.
+///
+/// # Errors
+///
+/// [`AllocError`] where a request for memory is refused.
+fn key_of(alloc: Global, token: &Token<'_>) -> Result<String, AllocError>
+    ensures { IfOk result (λ key. string_bytes key ≡ token.now) }
+{
+    token.decoded(alloc)?.into_owned(alloc)
+}
+
+/// Whether the token means the end of an empty array.
+#[tactic(auto, using(crate::proofs::AssignLemmas::begins_some, crate::proofs::AssignLemmas::begins_none))]
+fn begins_array(token: &Token<'_>) -> bool
+    ensures { result ≡ means_end 0 token.now }
+{
+    match token.to_index() {
+        Ok(index) => index.for_len_incl(0).is_ok(),
+        Err(_) => false,
+    }
+}
+
+/// Why no value is assigned at a pointer, and at which token.
+#[derive(Debug, PartialEq, Eq, Drop)]
+pub enum Error {
+    /// The value before the token is an array, and the token is no array index.
+    FailedToParseIndex {
+        /// How many tokens stand before the one at fault.
+        position: usize,
+        /// How many bytes of the pointer stand before the slash of the token at fault.
+        offset: usize,
+        /// Why the token is no array index.
+        source: ParseIndexError,
+    },
+    /// The value before the token is an array, and the token's index is above its length.
+    OutOfBounds {
+        /// How many tokens stand before the one at fault.
+        position: usize,
+        /// How many bytes of the pointer stand before the slash of the token at fault.
+        offset: usize,
+        /// The index, and the length of the array.
+        source: OutOfBoundsError,
+    },
+}
+
+impl Error {
+    ghost use Rattle.jsonptr_base.specs.declared.index.ParseIndexError.{ParseIndexError};
+    ghost use Rattle.jsonptr_base.specs.declared.index.OutOfBoundsError.{OutOfBoundsError};
+    ghost use Rattle.jsonptr.specs.Assign.{position_of, offset_of};
+    ghost use Rattle.jsonptr.specs.declared.assign.Error.TheVariants.{FailedToParseIndex, OutOfBounds};
+
+    /// How many tokens stand before the one at fault.
+    pub fn position(&self) -> usize
+        ensures { result ≡ position_of self.now }
+    {
+        match self {
+            Error::FailedToParseIndex { position, .. } | Error::OutOfBounds { position, .. } => {
+                *position
+            }
+        }
+    }
+
+    /// How many bytes of the pointer stand before the slash of the token at fault.
+    pub fn offset(&self) -> usize
+        ensures { result ≡ offset_of self.now }
+    {
+        match self {
+            Error::FailedToParseIndex { offset, .. } | Error::OutOfBounds { offset, .. } => *offset,
+        }
+    }
+
+    /// Whether the token is no array index.
+    pub fn is_failed_to_parse_index(&self) -> bool
+        ensures { IsTrue result
+            ↔ ((p o : ℕ) × (source : ParseIndexError)
+            × (self.now ≡ FailedToParseIndex p o source)) }
+    {
+        matches!(self, Error::FailedToParseIndex { .. })
+    }
+
+    /// Whether the token's index is above the length of the array.
+    pub fn is_out_of_bounds(&self) -> bool
+        ensures { IsTrue result
+            ↔ ((p o : ℕ) × (source : OutOfBoundsError)
+            × (self.now ≡ OutOfBounds p o source)) }
+    {
+        matches!(self, Error::OutOfBounds { .. })
+    }
+}
+
+impl fmt::Display for Error {
+    ghost use Rattle.jsonptr.specs.Assign.{assign_message};
+
+    ghost output = { λ e. Some (assign_message e) };
+
+    fn fmt<W: fmt::Write>(&self, f: &mut fmt::Formatter<W>) -> fmt::Result {
+        match self {
+            Error::FailedToParseIndex { offset, .. } => write!(
+                f,
+                "assign failed: json pointer token at offset {offset} failed to parse as an array index"
+            ),
+            Error::OutOfBounds { offset, .. } => write!(
+                f,
+                "assign failed: json pointer token at offset {offset} is out of bounds"
+            ),
+        }
+    }
+}
+
+impl std::error::Error for Error {}

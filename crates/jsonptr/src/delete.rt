@@ -1,0 +1,159 @@
+//! Taking the value that a pointer names out of a document.
+ghost use Rattle.std.specs.Prelude.{◌≡◌, ◌≢◌, [], ◌∷◌, ◌++◌, All, List, IsOk, IfOk, OnErr, MatchOption};
+ghost use Rattle.jsonptr_grammar.specs.Text.{Text, text};
+ghost use Rattle.jsonptr_tree.specs.Removing.{Deletes};
+ghost use Rattle.jsonptr.specs.Delete.{NamesNothing};
+ghost use Rattle.jsonptr.specs.Pointer.{tokens};
+
+use crate::descend::{Descend, Guide};
+use crate::pointer::Pointer;
+use jsonptr_base::token::Token;
+use jsonptr_document::stepping::way_of;
+use jsonptr_document::writing::DocumentMut;
+use std::alloc::{AllocError, Global};
+use std::mem;
+
+/// A document out of which the value that a pointer names can be taken.
+///
+/// Contracts see what an implementation promises by five relations between the document and the pointer's
+/// tokens: `finds`, with the value that is found, `lacks`, `deletes`, with the document that is left,
+/// `is_same`, with the document that is left where nothing is taken out, and `needs_no_memory`. By `in_order`
+/// they see that the keys of each object ascend.
+pub trait Delete {
+    /// The type of what a pointer names.
+    type Value: Drop;
+
+    // these tokens name this value in the document
+    ghost finds: { Self → List Text → Self.Value → Type 0 };
+
+    // these tokens name nothing in the document
+    ghost lacks: { Self → List Text → Type 0 };
+
+    // deletion at these tokens makes the second document of the first
+    ghost deletes: { Self → List Text → Self → Type 0 };
+
+    // the second document is the first, unchanged
+    ghost is_same: { Self → Self → Type 0 };
+
+    // to follow these tokens in the document never fails for want of memory
+    ghost needs_no_memory: { Self → List Text → Type 0 };
+
+    // in each object of the document the keys ascend
+    ghost in_order: { Self → Type 0 };
+
+    /// Takes out the value that the pointer names, and gives it back. Where the pointer names no value, the
+    /// answer is `None`, and the document stays as it was. In an array each later element moves down by one.
+    /// The root takes out the whole document and leaves a blank one in its place, which at JSON is null. What
+    /// memory is taken from `alloc` is given back.
+    ///
+    /// # Errors
+    ///
+    /// [`AllocError`] where a request for memory is refused. The document is then as it was.
+    fn delete(&mut self, alloc: Global, ptr: Pointer<'_>) -> Result<Option<Self::Value>, AllocError>
+        ensures deleted { IfOk result (λ _. deletes self.old (tokens ptr.entry) self.new) }
+        ensures order { IfOk result (λ _. in_order self.old → in_order self.new) }
+        ensures found { IfOk result (λ r. MatchOption r
+            (lacks self.old (tokens ptr.entry) × is_same self.old self.new)
+            (finds self.old (tokens ptr.entry))) }
+        ensures unchanged { OnErr result (is_same self.old self.new) }
+        ensures no_memory { needs_no_memory self.old (tokens ptr.entry) → IsOk result };
+}
+
+/// JSON documents: for `serde_json::Value`, `finds` is that of [`Resolve`](crate::resolve::Resolve), `lacks`
+/// says that the tokens name no path of the document's map, `deletes` that the map is what deletion there
+/// makes of it, where the blank document is null, and `is_same` that the data is the same. Memory is taken
+/// only to decode a token with a `~`.
+impl<D: Descend> Delete for D {
+    type Value = D::Node;
+
+    ghost finds = { λ d tokens r. D.finds d tokens r };
+
+    ghost lacks = { λ d tokens. NamesNothing (D.Document.nodes d) tokens };
+
+    ghost deletes = { λ d tokens n.
+        Deletes (D.Document.nodes d) tokens D.Node.DocumentMut.blank_map (D.Document.nodes n) };
+
+    ghost is_same = { λ d n. D.is_same d n };
+
+    ghost needs_no_memory = { λ d tokens. All (λ b. b ≢ 126) (text tokens) };
+
+    ghost in_order = { λ d. D.Document.in_order d };
+
+    fn delete(&mut self, alloc: Global, ptr: Pointer<'_>) -> Result<Option<D::Node>, AllocError> {
+        match ptr.split_back() {
+            None => take_whole(self, alloc).map(Some),
+            Some((parent, token)) => take_child(self, alloc, parent, &token),
+        }
+    }
+}
+
+impl<'a> Pointer<'a> {
+    /// Takes the value that the pointer names out of a document, as [`Delete::delete`] does.
+    ///
+    /// # Errors
+    ///
+    /// Those of [`Delete::delete`].
+    pub fn delete<D: Delete>(
+        &self,
+        alloc: Global,
+        value: &mut D,
+    ) -> Result<Option<D::Value>, AllocError>
+        ensures deleted { IfOk result (λ _. D.deletes value.old (tokens self.now) value.new) }
+        ensures order { IfOk result (λ _. D.in_order value.old → D.in_order value.new) }
+        ensures found { IfOk result (λ r. MatchOption r
+            (D.lacks value.old (tokens self.now) × D.is_same value.old value.new)
+            (D.finds value.old (tokens self.now))) }
+        ensures unchanged { OnErr result (D.is_same value.old value.new) }
+        ensures no_memory { D.needs_no_memory value.old (tokens self.now) → IsOk result }
+    {
+        value.delete(alloc, *self)
+    }
+}
+
+/// Takes out the whole document, and leaves a blank one in its place.
+fn take_whole<D: Descend>(document: &mut D, alloc: Global) -> Result<D::Node, AllocError>
+    ensures deleted { IfOk result (λ _. Deletes (D.Document.nodes document.old) []
+        D.Node.DocumentMut.blank_map (D.Document.nodes document.new)) }
+    ensures order { IfOk result (λ _.
+        D.Document.in_order document.old → D.Document.in_order document.new) }
+    ensures found { IfOk result (D.finds document.old []) }
+    ensures no_memory { IsOk result }
+{
+    let guide = Guide {
+        alloc,
+        ptr: Pointer::root(),
+    };
+    let mut reached = 0;
+    let node = document.descend(&guide, &mut reached)?;
+    Ok(mem::replace(node, D::Node::blank()))
+}
+
+/// Takes out what the tokens of the pointer and then this one name, if they name something.
+fn take_child<D: Descend>(
+    document: &mut D,
+    alloc: Global,
+    parent: Pointer<'_>,
+    token: &Token<'_>,
+) -> Result<Option<D::Node>, AllocError>
+    ensures deleted { IfOk result (λ _.
+        Deletes (D.Document.nodes document.old) (tokens parent.entry ++ token.now ∷ [])
+        D.Node.DocumentMut.blank_map (D.Document.nodes document.new)) }
+    ensures order { IfOk result (λ _.
+        D.Document.in_order document.old → D.Document.in_order document.new) }
+    ensures found { IfOk result (λ r. MatchOption r
+        (NamesNothing (D.Document.nodes document.old) (tokens parent.entry ++ token.now ∷ [])
+        × D.is_same document.old document.new)
+        (D.finds document.old (tokens parent.entry ++ token.now ∷ []))) }
+    ensures unchanged { OnErr result (D.is_same document.old document.new) }
+    ensures no_memory { All (λ b. b ≢ 126) (text (tokens parent.entry ++ token.now ∷ []))
+        → IsOk result }
+{
+    let guide = Guide { alloc, ptr: parent };
+    let mut reached = 0;
+    let node = document.descend(&guide, &mut reached)?;
+    if reached < parent.len() {
+        return Ok(None);
+    }
+    let way = way_of(&*node, alloc, token)?;
+    Ok(node.remove(&way))
+}
