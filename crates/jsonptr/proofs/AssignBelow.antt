@@ -1,13 +1,14 @@
 -- An assignment below a path, and where a descent has stopped.
-use Rattle.std.proofs.Common.{◌≡◌, ℕ, List, [], ◌∷◌, ◌++◌, length, Option, Some, None, option_map, IsSome, ⊎_elim, Result, Ok, Err, IfOk, sym, ap, ◌∙◌, subst, arith, append-nil, append_assoc, length-append}
-use Rattle.jsonptr_grammar.specs.Text.{Text}
-use Rattle.jsonptr_tree.specs.Node.{key, place, Path, Label, an_object, an_array, a_leaf, NodeMap, Names, sub}
-use Rattle.jsonptr_tree.specs.Following.{StopsAt, StopsBefore}
+use Rattle.std.proofs.Common.{◌≡◌, ◌≢◌, All, ℕ, List, [], ◌∷◌, ◌++◌, length, Option, Some, None, option_map, IsSome, ⊎_elim, Result, Ok, Err, IfOk, sym, ap, ◌∙◌, subst, arith, append-nil, append_assoc, length-append}
+use Rattle.jsonptr_grammar.specs.Text.{Text, text}
+use Rattle.jsonptr_grammar.proofs.PointerLemmas.{text-append}
+use Rattle.jsonptr_tree.specs.Node.{key, place, Path, Label, an_object, an_array, a_leaf, NodeMap, NamesStep, Names, sub}
+use Rattle.jsonptr_tree.specs.Following.{LacksStep, StopsAt, StopsBefore}
 use Rattle.jsonptr_tree.specs.Put.{put}
 use Rattle.jsonptr_tree.specs.Growing.{grown}
 use Rattle.jsonptr_tree.specs.Landing.{LandsFrom, LandsNowhere}
 use Rattle.jsonptr_tree.specs.Assigning.{Assigns}
-use Rattle.jsonptr_tree.proofs.NodeLemmas.{sub-sub, Names-append, Names_one_path}
+use Rattle.jsonptr_tree.proofs.NodeLemmas.{sub-sub, sub-root, Names-append, Names_one_path}
 use Rattle.jsonptr_tree.proofs.FollowingLemmas.{stops_in, stops-lacks, StopsAt_one}
 use Rattle.jsonptr_tree.proofs.LandingLemmas.{stops_named}
 use Rattle.jsonptr_tree.proofs.AssigningLemmas.{made_below, Assigns_named}
@@ -15,12 +16,13 @@ use Rattle.jsonptr_base.specs.declared.fault.Fault.{Fault}
 use Rattle.jsonptr_base.specs.declared.fault.Fault.TheVariants.{Refused, Memory}
 use Rattle.jsonptr_base.specs.Fault.{IfRefused}
 use Rattle.jsonptr.specs.declared.assign.Error.{Error}
-use Rattle.jsonptr.specs.Resolve.{PutsAt}
-use Rattle.jsonptr.specs.Assign.{RefusesAssign, NeedsNothing}
-use Rattle.jsonptr.specs.PrivateAssign.{HasNoPlace, RefusesBelow}
-use Rattle.jsonptr.specs.PrivateDescend.{Begins, StopsWith, PutsBelow}
+use Rattle.jsonptr.specs.declared.resolve.Error.{Error as ResolveError}
+use Rattle.jsonptr.specs.Resolve.{PutsAt, Refuses, position_of, offset_of}
+use Rattle.jsonptr.specs.Assign.{AssignsValue, RefusesAssign, NeedsNothing}
+use Rattle.jsonptr.specs.PrivateAssign.{StopsThere, HasNoPlace, RefusesBelow}
+use Rattle.jsonptr.specs.PrivateDescend.{Begins, LeadsTo}
 use Rattle.jsonptr.proofs.DescendLemmas.{one_front}
-use Rattle.jsonptr.proofs.ResolveMutLemmas.{named_all, put_all, stops, root_below}
+use Rattle.jsonptr.proofs.FollowLemmas.{All-left}
 
 -- ---- below a path that is named
 
@@ -57,40 +59,69 @@ module _ (n : NodeMap) (xs ys : List Text) (w : Path) (h : Names n xs w) where
     replaced = a.replaced ∙ ap (λ (k : NodeMap). option_map (λ (l : Label). k) (n (w ++ a.path))) (sub-sub n w a.path);
   }
 
--- ---- where a descent has stopped
+-- ---- behind all tokens
 
-module _ {n : NodeMap} {tokens : List Text} {offset : ℕ} {at : Path → Type 0} {m : NodeMap} (h : StopsWith n tokens offset at m) where
-  -- behind all tokens
-  pub assigned_named : (v whole old : NodeMap) → ((f l : List Text) → Begins tokens offset f l → l ≡ []) → old ≡ m → PutsBelow n tokens offset v whole → Assigns n tokens v whole (Some old)
-  assigned_named v whole old none is puts =
-      let all : PutsAt n tokens v whole = put_all v whole none puts in
-      let same : all.path ≡ h.path = Names_one_path n tokens all.path h.path all.named (named_all h none) in
+module _ {n : NodeMap} {tokens : List Text} {at : Path → Type 0} {m : NodeMap} (h : LeadsTo n tokens at m) where
+  pub assigned_named : (v whole old : NodeMap) → old ≡ m → PutsAt n tokens v whole → Assigns n tokens v whole (Some old)
+  assigned_named v whole old is all =
+      let same : all.path ≡ h.path = Names_one_path n tokens all.path h.path all.named h.named in
       subst (λ (k : NodeMap). Assigns n tokens v k (Some old)) (sym all.made)
       (subst (λ (k : NodeMap). Assigns n tokens v (put n all.path v) (Some k)) (ap (sub n) same ∙ sym h.below ∙ sym is) (Assigns_named n tokens v all.path all.named))
 
-  module _ (front : List Text) (x : Text) (rest : List Text) (b : Begins tokens offset front (x ∷ rest)) where
-    -- before some of them
-    pub assigned_below : (v w whole : NodeMap) (old : Option NodeMap) → PutsBelow n tokens offset w whole → Assigns m (x ∷ rest) v w old → Assigns n tokens v whole old
+-- ---- before some of them
+
+-- a text of tokens without `~` has none in those before
+pub plain_before : (tokens : List Text) {offset : ℕ} (front : List Text) (x : Text) (rest : List Text) → Begins tokens offset front (x ∷ rest) → All (λ b. b ≢ 126) (text tokens) → All (λ b. b ≢ 126) (text front)
+plain_before tokens front x rest b plain = All-left (λ b. b ≢ 126) (text front) (text (x ∷ rest)) (subst (λ (t : Text). All (λ b. b ≢ 126) t) (ap text b.0 ∙ text-append front (x ∷ rest)) plain)
+
+-- a token begins where following stops
+pub begins_there : {n : NodeMap} {tokens : List Text} {offset : ℕ} → StopsThere n tokens offset → ((front left : List Text) → Begins tokens offset front left → left ≡ []) → ⊥
+begins_there s none = let end = none s.3.front (s.2 ∷ s.3.rest) (s.3.stops.split, s.3.offset_is) in let no : ⊥ = cc in no
+
+module _ {n : NodeMap} {tokens : List Text} {offset : ℕ} (s : StopsThere n tokens offset) (front : List Text) (x : Text) (rest : List Text) (b : Begins tokens offset front (x ∷ rest)) where
+  same : (s.3.front ≡ front) × (s.2 ∷ s.3.rest ≡ x ∷ rest)
+  same = one_front s.3.front front (s.2 ∷ s.3.rest) (x ∷ rest) (sym s.3.stops.split ∙ b.0) (sym s.3.offset_is ∙ b.1)
+
+  -- the tokens before it lead somewhere
+  pub leads_there : (e : ResolveError) → Refuses n front e → ⊥
+  leads_there e r =
+      let named : Names n front s.3.path = subst (λ (f : List Text). Names n f s.3.path) same.0 s.3.stops.named in
+      let k = r.stops.stops in
+      let shorter = k.longest front [] s.3.path (sym (append-nil front)) named in
+      omega (arith, shorter, ap length k.split, length-append r.stops.front (r.token ∷ r.stops.rest))
+
+  module _ {at : Path → Type 0} {m : NodeMap} (h : LeadsTo n front at m) where
+    pub stops : StopsAt n tokens front h.path (x ∷ rest)
+    stops =
+        let here : StopsAt n tokens front s.3.path (x ∷ rest) = subst (λ (f : List Text). StopsAt n tokens f s.3.path (x ∷ rest)) same.0 (subst (λ (r : List Text). StopsAt n tokens s.3.front s.3.path r) same.1 s.3.stops) in
+        subst (λ (w : Path). StopsAt n tokens front w (x ∷ rest)) (Names_one_path n front s.3.path h.path here.named h.named) here
+
+    root_below : m [] ≡ n h.path
+    root_below = ap (λ (k : NodeMap). k []) h.below ∙ sub-root n h.path
+
+    -- no child of the node there is the one that the token names
+    pub lacks_there : LacksStep m [] x
+    lacks_there t named has = stops-lacks n tokens front x rest h.path stops t (subst (λ (o : Option Label). NamesStep o x t) root_below named) (subst (λ (k : NodeMap). IsSome (k (t ∷ []))) h.below has)
+
+    pub assigned_below : (v w whole : NodeMap) (old : Option NodeMap) → PutsAt n front w whole → Assigns m (x ∷ rest) v w old → Assigns n tokens v whole old
     assigned_below v w whole old puts a =
-        let one = one_front puts.front front puts.rest (x ∷ rest) (sym puts.begins.0 ∙ b.0) (sym puts.begins.1 ∙ b.1) in
-        let named : Names n front h.path = (stops h front x rest b).named in
-        let same : puts.path ≡ h.path = Names_one_path n front puts.path h.path (subst (λ (f : List Text). Names n f puts.path) one.0 puts.named) named in
+        let one : puts.path ≡ h.path = Names_one_path n front puts.path h.path puts.named h.named in
         let below : Assigns (sub n h.path) (x ∷ rest) v w old = subst (λ (k : NodeMap). Assigns k (x ∷ rest) v w old) h.below a in
         subst (λ (ts : List Text). Assigns n ts v whole old) (sym b.0)
-        (subst (λ (k : NodeMap). Assigns n (front ++ x ∷ rest) v k old) (sym (puts.made ∙ ap (λ (p : Path). put n p w) same)) (Assigns_below n front (x ∷ rest) h.path named v w old below))
+        (subst (λ (k : NodeMap). Assigns n (front ++ x ∷ rest) v k old) (sym (puts.made ∙ ap (λ (p : Path). put n p w) one)) (Assigns_below n front (x ∷ rest) h.path h.named v w old below))
 
     stops_before : (len position before : ℕ) → m [] ≡ Some (an_array len) → position ≡ length front → before ≡ offset → StopsBefore n tokens position before (an_array len) x
     stops_before len position before root here there = record {
       front = front;
       path = h.path;
       rest = rest;
-      stops = stops h front x rest b;
-      label_is = sym (root_below h front x rest b) ∙ root;
+      stops = stops;
+      label_is = sym root_below ∙ root;
       position_is = here;
       offset_is = there ∙ b.1;
     }
 
-    -- what refuses the next token there refuses the tokens
+    -- what refuses the token there refuses the tokens
     pub refused_below : (e : Error) → RefusesBelow m front x e → RefusesAssign n tokens e
     refused_below e r = record {
       len = r.len;
@@ -99,24 +130,37 @@ module _ {n : NodeMap} {tokens : List Text} {offset : ℕ} {at : Path → Type 0
       why = r.refuses.why;
     }
 
-    -- tokens that need nothing land nowhere, if some of them are left
+    -- tokens that need nothing land nowhere
     pub nowhere_below : NeedsNothing n tokens → (len : ℕ) × (m [] ≡ Some (an_array len)) × HasNoPlace len x
     nowhere_below needs = ⊎_elim
         (λ (r : (w : Path) × Names n tokens w).
-        let shorter = (stops h front x rest b).longest tokens [] r.0 (sym (append-nil tokens)) r.1 in
+        let shorter = stops.longest tokens [] r.0 (sym (append-nil tokens)) r.1 in
         absurd (omega (arith, shorter, ap length b.0, length-append front (x ∷ rest))))
         (λ (r : (p o len : ℕ) × (y : Text) × LandsNowhere n tokens p o len y).
-        let s = r.4.stops in
-        let one = StopsAt_one n tokens front s.front h.path s.path (x ∷ rest) (r.3 ∷ s.rest) (stops h front x rest b) s.stops in
-        let same : r.3 ≡ x = cc in
-        (r.2, root_below h front x rest b ∙ ap n one.1 ∙ s.label_is, subst (λ (t : Text). HasNoPlace r.2 t) same (record { no_dash = r.4.no_dash; no_place = r.4.no_place })))
+        let k = r.4.stops in
+        let one = StopsAt_one n tokens front k.front h.path k.path (x ∷ rest) (r.3 ∷ k.rest) stops k.stops in
+        let token : r.3 ≡ x = cc in
+        (r.2, root_below ∙ ap n one.1 ∙ k.label_is, subst (λ (t : Text). HasNoPlace r.2 t) token (record { no_dash = r.4.no_dash; no_place = r.4.no_place })))
         needs.ends
 
 -- ---- what is given back
 
-module _ {V : Type 0} {n : NodeMap} {tokens : List Text} {offset : ℕ} {m : NodeMap} (node_at : Path → V → Type 0) (finds : List Text → V → Type 0) (found_at : (ts : List Text) (w : Path) (e : V) → Names n ts w → node_at w e → finds ts e) (node : V) (h : StopsWith n tokens offset (λ w. node_at w node) m) where
-  pub stood : (e : V) → e ≡ node → (front : List Text) × (w : Path) × (rest : List Text) × StopsAt n tokens front w rest × finds front e
-  stood e is = (h.front, h.path, h.rest, h.stops, subst (λ (d : V). finds h.front d) (sym is) (found_at h.front h.path node h.stops.named h.there))
+pub stood : {V : Type 0} {n : NodeMap} {tokens front rest : List Text} {w : Path} (finds : List Text → V → Type 0) (node e : V) → e ≡ node → StopsAt n tokens front w rest → finds front node → (f : List Text) × (u : Path) × (r : List Text) × StopsAt n tokens f u r × finds f e
+stood {V} {n} {tokens} {front} {rest} {w} finds node e is stops found = (front, w, rest, stops, subst (λ (d : V). finds front d) (sym is) found)
+
+-- ---- a document with the same map
+
+pub stops_there : (n m : NodeMap) (tokens : List Text) (e : ResolveError) (offset : ℕ) → m ≡ n → offset ≡ offset_of e → Refuses n tokens e → StopsThere m tokens offset
+stops_there n m tokens e offset same is r =
+    subst (λ (k : NodeMap). StopsThere k tokens offset) (sym same) (subst (λ (o : ℕ). StopsThere n tokens o) (sym is) (position_of e, r.label, r.token, r.stops))
+
+pub assigned_on : {V E : Type 0} {n m v u : NodeMap} (tokens : List Text) (whole : NodeMap) (nodes : V → NodeMap) {finds found : List Text → V → Type 0} (r : Result (Option V) E) → m ≡ n → u ≡ v → ((ts : List Text) (f : V) → found ts f → finds ts f)
+    → IfOk r (AssignsValue m tokens u whole nodes found) → IfOk r (AssignsValue n tokens v whole nodes finds)
+assigned_on {m = m} {v = v} tokens whole nodes (Ok o) one is on h = record {
+  assigned = subst (λ (k : NodeMap). Assigns k tokens v whole (option_map nodes o)) one (subst (λ (k : NodeMap). Assigns m tokens k whole (option_map nodes o)) is h.assigned);
+  given_back = λ e was. let g = h.given_back e was in (g.0, g.1, g.2, subst (λ (k : NodeMap). StopsAt k tokens g.0 g.1 g.2) one g.3, on g.0 e g.4);
+}
+assigned_on tokens whole nodes (Err x) one is on h = h
 
 -- what holds of each answer holds of the one that is given
 module _ {V E : Type 0} where

@@ -1,17 +1,19 @@
 -- One move down a document, and all of them.
-use Rattle.std.proofs.Common.{◌≡◌, ◌≢◌, ℕ, ◌+◌, ◌-◌, ◌<◌, ◌≤◌, ◌^◌, All, List, [], ◌∷◌, ◌++◌, length, Bool, true, false, IsSome, refl, sym, ap, ap₂, ◌∙◌, subst, arith, append_assoc, length-append}
+use Rattle.std.proofs.Common.{◌≡◌, ◌≢◌, ℕ, ◌+◌, ◌-◌, ◌<◌, ◌≤◌, ◌^◌, All, List, [], ◌∷◌, ◌++◌, length, Bool, true, false, IsSome, refl, sym, ap, ap₂, ◌∙◌, subst, arith, append_assoc, append-nil, Some}
 use Rattle.jsonptr_grammar.specs.Text.{Text, esc, text}
 use Rattle.jsonptr_grammar.proofs.PointerLemmas.{text-append, length-text-append, length-text-cons}
 use Rattle.jsonptr_tree.specs.Node.{Step, Path, NodeMap, Names, sub}
-use Rattle.jsonptr_tree.specs.Following.{StopsAt, LacksStep}
+use Rattle.jsonptr_tree.specs.Following.{StopsBefore}
 use Rattle.jsonptr_tree.specs.Put.{put}
-use Rattle.jsonptr_tree.proofs.NodeLemmas.{Names-push_below}
+use Rattle.jsonptr_tree.proofs.NodeLemmas.{Names-push_below, sub-root}
 use Rattle.jsonptr_tree.proofs.FollowingLemmas.{stops_in, lacks_below}
 use Rattle.jsonptr_tree.proofs.PutLemmas.{put_below}
 use Rattle.jsonptr_text.specs.Parts.{SplitsAt}
 use Rattle.jsonptr_document.specs.Child.{FindsChild}
 use Rattle.jsonptr_document.specs.Private.{StepsBack}
-use Rattle.jsonptr.specs.PrivateDescend.{Begins, MovesTo, MovesBack, StopsWith, PutsBelow}
+use Rattle.jsonptr.specs.declared.resolve.Error.{Error}
+use Rattle.jsonptr.specs.Resolve.{PutsAt, Refuses, offset_of}
+use Rattle.jsonptr.specs.PrivateDescend.{Begins, MovesTo, MovesBack, RefusesMove, LeadsTo}
 use Rattle.jsonptr.proofs.FollowLemmas.{All-left, All-right}
 
 -- ---- the token at an offset
@@ -57,15 +59,12 @@ module _ (tokens : List Text) (offset : ℕ) (front : List Text) (x : Text) (res
           record { token = x; rest = rest; split = sym one.1; next_is = is ∙ ap (λ (ts : List Text). length (text (ts ++ x ∷ []))) one.0; child = child },
     )
 
-    pub moves_nowhere : LacksStep (nodes d) [] x → MovesTo nodes stands tokens offset false d next d
-    moves_nowhere lacks = (fits, (λ f l y r c e. let one = same_place f l c in let here : x ≡ y = cc in subst (λ (t : Text). LacksStep (nodes d) [] t) here lacks), refl)
-
   module _ {D : Type 0} (nodes : D → NodeMap) (stands : D → Path → D → Type 0) (in_order : D → Type 0) (d : D) where
     pub moves_back : (e w m : D) → StepsBack nodes stands in_order d x e w m → MovesBack nodes stands tokens offset in_order true d e w m
     moves_back e w m back f y r c = let one = same_place f (y ∷ r) c in let here : x ≡ y = cc in subst (λ (t : Text). StepsBack nodes stands in_order d t e w m) here back
 
 pub moves_past : {D : Type 0} (nodes : D → NodeMap) (stands : D → Path → D → Type 0) (tokens : List Text) (offset : ℕ) (d : D) → offset < 2 ^ 64 → ((front left : List Text) → Begins tokens offset front left → left ≡ []) → MovesTo nodes stands tokens offset false d offset d
-moves_past nodes stands tokens offset d fits none = (fits, (λ f l y r c e. let past : y ∷ r ≡ [] = sym e ∙ none f l c in let no : ⊥ = cc in absurd no), refl)
+moves_past nodes stands tokens offset d fits none = (fits, none, refl)
 
 pub move_fits : {D : Type 0} (nodes : D → NodeMap) (stands : D → Path → D → Type 0) (tokens : List Text) (offset : ℕ) (down : Bool) (d : D) (next : ℕ) (e : D) → MovesTo nodes stands tokens offset down d next e → next < 2 ^ 64
 move_fits nodes stands tokens offset true d next e m = m.0
@@ -73,13 +72,9 @@ move_fits nodes stands tokens offset false d next e m = m.0
 
 -- ---- the whole way down
 
--- following stops behind all tokens
-stops_behind : (n : NodeMap) (tokens front : List Text) (path : Path) → tokens ≡ front ++ [] → Names n front path → StopsAt n tokens front path []
-stops_behind n tokens front path e named = record {
-  split = e;
-  named = named;
-  longest = λ longer after w is k. let same : longer ++ after ≡ front ++ [] = sym is ∙ e in omega (arith, ap length same, length-append longer after, length-append front []);
-}
+-- no token is left behind the front
+all_taken : (tokens : List Text) (offset : ℕ) (front rest : List Text) → Begins tokens offset front rest → ((f l : List Text) → Begins tokens offset f l → l ≡ []) → front ≡ tokens
+all_taken tokens offset front rest b none = sym (b.0 ∙ ap (λ (ts : List Text). front ++ ts) (none front rest b) ∙ append-nil front)
 
 module _ {D : Type 0} (nodes : D → NodeMap) (stands : D → Path → D → Type 0) (in_order : D → Type 0) (tokens : List Text) where
   -- the tokens before the offset name the path of doc at which x stands, and once x becomes y, doc becomes F y:
@@ -138,19 +133,42 @@ module _ {D : Type 0} (nodes : D → NodeMap) (stands : D → Path → D → Typ
         }
 
     -- the end of the way
-    pub kept_stops : (doc x : D) (F : D → D) (offset : ℕ) → Kept doc x F offset → ((front left : List Text) (t : Text) (rest : List Text) → Begins tokens offset front left → left ≡ t ∷ rest → LacksStep (nodes x) [] t)
-        → StopsWith (nodes doc) tokens offset (λ w. stands doc w x) (nodes x)
-    kept_stops doc x F offset h lacks =
+    pub kept_leads : (doc x : D) (F : D → D) (offset : ℕ) → Kept doc x F offset → ((front left : List Text) → Begins tokens offset front left → left ≡ []) → LeadsTo (nodes doc) tokens (λ w. stands doc w x) (nodes x)
+    kept_leads doc x F offset h none = record {
+      path = h.path;
+      named = subst (λ (ts : List Text). Names (nodes doc) ts h.path) (all_taken tokens offset h.front h.left h.begins none) h.named;
+      there = h.there;
+      below = is_sub doc x h.path h.there;
+    }
+
+    -- what refuses the next token refuses the tokens
+    pub kept_refused : (doc x : D) (F : D → D) (offset : ℕ) → Kept doc x F offset → (e : Error) → RefusesMove (nodes x) tokens offset e → Refuses (nodes doc) tokens e
+    kept_refused doc x F offset h e m =
+        let r = m.refuses in
         let map_x : nodes x ≡ sub (nodes doc) h.path = is_sub doc x h.path h.there in
-        record { front = h.front; path = h.path; rest = h.left; stops = by_left h.left h.begins.0 (λ t rest e. lacks h.front h.left t rest h.begins e); offset_is = h.begins.1; there = h.there; below = map_x }
-      where
-        by_left : (left : List Text) → tokens ≡ h.front ++ left → ((t : Text) (rest : List Text) → left ≡ t ∷ rest → LacksStep (nodes x) [] t) → StopsAt (nodes doc) tokens h.front h.path left
-        by_left [] e none = stops_behind (nodes doc) tokens h.front h.path e h.named
-        by_left (t ∷ rest) e none = stops_in (nodes doc) tokens h.front t rest h.path e h.named (lacks_below (nodes doc) (nodes x) h.path t (is_sub doc x h.path h.there) (none t rest refl))
+        let one = one_front m.front h.front (m.token ∷ m.rest) h.left (sym m.begins.0 ∙ h.begins.0) (sym m.begins.1 ∙ h.begins.1) in
+        let named : Names (nodes doc) m.front h.path = subst (λ (f : List Text). Names (nodes doc) f h.path) (sym one.0) h.named in
+        let label : nodes doc h.path ≡ Some r.child.label = sym (ap (λ (n : NodeMap). n []) map_x ∙ sub-root (nodes doc) h.path) ∙ r.child.root in
+        let stop : StopsBefore (nodes doc) tokens (length m.front) offset r.child.label m.token =
+        record {
+          front = m.front;
+          path = h.path;
+          rest = m.rest;
+          stops = stops_in (nodes doc) tokens m.front m.token m.rest h.path m.begins.0 named (lacks_below (nodes doc) (nodes x) h.path m.token map_x r.child.lacks);
+          label_is = label;
+          position_is = refl;
+          offset_is = m.begins.1;
+        } in
+        record {
+          label = r.child.label;
+          token = m.token;
+          stops = subst (λ (k : ℕ). StopsBefore (nodes doc) tokens k (offset_of e) r.child.label m.token) (sym r.position_is) (subst (λ (k : ℕ). StopsBefore (nodes doc) tokens (length m.front) k r.child.label m.token) (sym r.offset_is) stop);
+          why = r.child.why;
+        }
 
   -- what is written there
-  pub kept_puts : (doc x : D) (F : D → D) (offset : ℕ) → Kept doc x F offset → (w : D) → PutsBelow (nodes doc) tokens offset (nodes w) (nodes (F w))
-  kept_puts doc x F offset h w = record { front = h.front; path = h.path; rest = h.left; begins = h.begins; named = h.named; made = h.made w }
+  pub kept_puts : (doc x : D) (F : D → D) (offset : ℕ) → Kept doc x F offset → ((front left : List Text) → Begins tokens offset front left → left ≡ []) → (w : D) → PutsAt (nodes doc) tokens (nodes w) (nodes (F w))
+  kept_puts doc x F offset h none w = record { path = h.path; named = subst (λ (ts : List Text). Names (nodes doc) ts h.path) (all_taken tokens offset h.front h.left h.begins none) h.named; made = h.made w }
 
   -- a move nowhere
   pub kept_here : (doc x e : D) (F G : D → D) (offset : ℕ) → Kept doc x F offset → e ≡ x → ((w : D) → G w ≡ w) → Kept doc e (λ y. F (G y)) offset

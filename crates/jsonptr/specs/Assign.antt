@@ -5,8 +5,11 @@ use Rattle.jsonptr_tree.specs.Node.{Path, NodeMap, Names}
 use Rattle.jsonptr_tree.specs.Following.{StopsAt}
 use Rattle.jsonptr_tree.specs.Landing.{LandsNowhere}
 use Rattle.jsonptr_tree.specs.Assigning.{Assigns}
+use Rattle.jsonptr_diagnostic.specs.Diagnostic.{Mark}
 use Rattle.jsonptr_base.specs.Index.{Reads, IsWithinOrNext}
 use Rattle.jsonptr_base.specs.declared.index.Index.{Index}
+use Rattle.jsonptr_base.specs.declared.index.OutOfBoundsError.{OutOfBoundsError}
+use Rattle.jsonptr.specs.Labelling.{IsTokenLabelled}
 use Rattle.jsonptr.specs.declared.assign.Error.{Error}
 use Rattle.jsonptr.specs.declared.assign.Error.TheVariants.{FailedToParseIndex, OutOfBounds}
 
@@ -60,3 +63,17 @@ assign_message (FailedToParseIndex position offset source) =
 assign_message (OutOfBounds position offset source) =
     codes "assign failed: json pointer token at offset " ++ decimal offset
     ++ codes " is out of bounds"
+
+-- what the label of an index above the length says
+abbrev pub above_words : OutOfBoundsError → Text
+above_words source =
+    decimal source.index ++ (codes " is out of bounds (len: " ++ decimal source.length ++ codes ")")
+
+-- what the label of the error says
+abbrev pub label_words : Error → Text
+label_words (FailedToParseIndex position offset source) = codes "expected array index or '-'"
+label_words (OutOfBounds position offset source) = above_words source
+
+-- the label that the error puts on the pointer of these tokens
+abbrev pub IsLabelled : Error → List Text → Option (List Mark) → Type 0
+IsLabelled e tokens labels = IsTokenLabelled (label_words e) (position_of e) (offset_of e) tokens labels

@@ -8,6 +8,7 @@ pub mod PointerBuf
 pub mod Resolve
 pub mod Assign
 pub mod Delete
+pub mod Labelling
 pub mod PrivateResolve
 pub mod PrivateDescend
 pub mod PrivateAssign
@@ -22,12 +23,14 @@ pub use Rattle.jsonptr_tree.specs.Growing
 pub use Rattle.jsonptr_tree.specs.Landing
 pub use Rattle.jsonptr_tree.specs.Assigning
 pub use Rattle.jsonptr_tree.specs.Removing
+pub use Rattle.jsonptr_tree.specs.Content
 pub use Rattle.jsonptr_tree.specs.Json
+pub use Rattle.jsonptr_tree.specs.TomlValue
 pub use Rattle.jsonptr_base.specs.Fault
 pub use Rattle.jsonptr_base.specs.Diagnostic
 pub use Rattle.jsonptr_base.specs.Report
 pub use Rattle.jsonptr_base.specs.Token
-pub use Rattle.jsonptr_base.specs.Number
+pub use Rattle.jsonptr_number.specs.Number
 pub use Rattle.jsonptr_base.specs.Index
 pub use Rattle.jsonptr_text.specs.ParseError
 pub use Rattle.jsonptr_text.specs.Parts

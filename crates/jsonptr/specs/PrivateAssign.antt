@@ -2,9 +2,15 @@
 -- to be believed.
 use Rattle.std.specs.Prelude.{◌≡◌, ◌≢◌, ℕ, ◌≤◌, List, [], Some, length, codes}
 use Rattle.jsonptr_grammar.specs.Text.{Text, text, dec}
-use Rattle.jsonptr_tree.specs.Node.{an_array, NodeMap}
+use Rattle.jsonptr_tree.specs.Node.{Label, an_array, NodeMap}
+use Rattle.jsonptr_tree.specs.Following.{StopsBefore}
 use Rattle.jsonptr.specs.declared.assign.Error.{Error}
 use Rattle.jsonptr.specs.Assign.{position_of, offset_of, IsNoPlace}
+
+-- following the tokens stops before the one at the offset
+abbrev pub StopsThere : NodeMap → List Text → ℕ → Type 0
+StopsThere n tokens offset =
+    (position : ℕ) × (label : Label) × (x : Text) × StopsBefore n tokens position offset label x
 
 -- the token x is neither `-` nor the decimal text of a number up to this length
 pub record HasNoPlace (len : ℕ) (x : Text) : Type 0 where

@@ -4,11 +4,11 @@ use Rattle.std.specs.Prelude.{◌≡◌, ℕ, ◌<◌, ◌^◌, List, [], ◌∷
 use Rattle.std.specs.Borrow.{MutBor, RattleType, Fml, name_if_ok, follows_so}
 use Rattle.jsonptr_grammar.specs.Text.{Text, text}
 use Rattle.jsonptr_tree.specs.Node.{Path, NodeMap, Names, sub}
-use Rattle.jsonptr_tree.specs.Following.{StopsAt, LacksStep}
-use Rattle.jsonptr_tree.specs.Put.{put}
 use Rattle.jsonptr_document.specs.Child.{FindsChild}
 use Rattle.jsonptr_document.specs.Private.{StepsBack}
 use Rattle.jsonptr.specs.declared.descend.Moved.{Moved}
+use Rattle.jsonptr.specs.declared.resolve.Error.{Error}
+use Rattle.jsonptr.specs.PrivateResolve.{RefusesStep}
 
 -- the tokens are `front`, whose text has `offset` bytes, and then `left`
 abbrev pub Begins : List Text → ℕ → List Text → List Text → Type 0
@@ -26,8 +26,8 @@ pub record FindsNext {D : Type 0} (n : NodeMap) (stands : Path → D → Type 0)
 
 module _ {D : Type 0} (nodes : D → NodeMap) (stands : D → Path → D → Type 0)
     (tokens : List Text) (offset : ℕ) where
-  -- e is the child of d that the token at the offset names, if the move goes down, or d itself, if the token
-  -- there names none; `next` is the offset of what follows that token
+  -- e is the child of d that the token at the offset names, if the move goes down, or d itself, if no token is
+  -- there; `next` is the offset of what follows that token
   abbrev pub MovesTo : Bool → D → ℕ → D → Type 0
   MovesTo true d next e =
       (next < 2 ^ 64)
@@ -35,8 +35,7 @@ module _ {D : Type 0} (nodes : D → NodeMap) (stands : D → Path → D → Typ
       → FindsNext (nodes d) (stands d) front left next e)
   MovesTo false d next e =
       (next < 2 ^ 64)
-      × ((front left : List Text) (x : Text) (rest : List Text)
-      → Begins tokens offset front left → left ≡ x ∷ rest → LacksStep (nodes d) [] x)
+      × ((front left : List Text) → Begins tokens offset front left → left ≡ [])
       × (e ≡ d)
 
   -- d becomes m once e becomes w
@@ -52,25 +51,19 @@ module _ (D : RattleType) (nodes : D.Denot → NodeMap) (stands : D.Denot → Pa
   abbrev pub LendsMove : MutBor D.Denot → List Text → ℕ → Result (Moved D.Denot) E → Fml
   LendsMove at tokens offset r = follows_so D D at.ghost_name (name_if_ok (λ t. t.node.ghost_name) r)
       (λ w m. IfOk r (λ t. MovesBack nodes stands tokens offset in_order t.down at.now t.node.now w m))
-      (λ m. OnErr r (m ≡ at.now))
+      (λ m. OnErr r (stands at.now [] m))
 
--- the tokens lead from the map n as far as the offset, and to no child there: at the path that they name there
--- `at` holds, and m is the map below it
-pub record StopsWith (n : NodeMap) (tokens : List Text) (offset : ℕ) (at : Path → Type 0)
-    (m : NodeMap) : Type 0 where
+-- the token at the offset names no child of the root of the map n, which the error tells
+pub record RefusesMove (n : NodeMap) (tokens : List Text) (offset : ℕ) (e : Error) : Type 0 where
   pub front : List Text
-  pub path : Path
+  pub token : Text
   pub rest : List Text
-  pub stops : StopsAt n tokens front path rest
-  pub offset_is : offset ≡ length (text front)
+  pub begins : Begins tokens offset front (token ∷ rest)
+  pub refuses : RefusesStep n token (length front) offset e
+
+-- the tokens name a path of the map n, at which `at` holds, and m is the map below it
+pub record LeadsTo (n : NodeMap) (tokens : List Text) (at : Path → Type 0) (m : NodeMap) : Type 0 where
+  pub path : Path
+  pub named : Names n tokens path
   pub there : at path
   pub below : m ≡ sub n path
-
--- m is the map n with v at the path that the tokens before the offset name
-pub record PutsBelow (n : NodeMap) (tokens : List Text) (offset : ℕ) (v m : NodeMap) : Type 0 where
-  pub front : List Text
-  pub path : Path
-  pub rest : List Text
-  pub begins : Begins tokens offset front rest
-  pub named : Names n front path
-  pub made : m ≡ put n path v

@@ -1,12 +1,15 @@
 -- Resolving a list of tokens against a document (RFC 6901, sections 4 and 7).
-use Rattle.std.specs.Prelude.{◌≡◌, ℕ, List, ◌++◌, codes, decimal}
+use Rattle.std.specs.Prelude.{◌≡◌, ℕ, List, Option, ◌++◌, codes, decimal}
 use Rattle.jsonptr_grammar.specs.Text.{Text}
 use Rattle.jsonptr_tree.specs.Node.{Path, Label, NodeMap, Names}
 use Rattle.jsonptr_tree.specs.Following.{StopsBefore}
 use Rattle.jsonptr_tree.specs.Put.{put}
+use Rattle.jsonptr_diagnostic.specs.Diagnostic.{Mark}
+use Rattle.jsonptr_base.specs.Index.{bounds_message}
 use Rattle.jsonptr_document.specs.Child.{IsNoChild}
 use Rattle.jsonptr_document.specs.declared.child.NoChild.{NoChild}
 use Rattle.jsonptr_document.specs.declared.child.NoChild.TheVariants as no_child
+use Rattle.jsonptr.specs.Labelling.{IsTokenLabelled}
 use Rattle.jsonptr.specs.declared.resolve.Error.{Error}
 use Rattle.jsonptr.specs.declared.resolve.Error.TheVariants.{FailedToParseIndex, OutOfBounds, NotFound, Unreachable}
 
@@ -59,3 +62,14 @@ resolve_message (NotFound position offset) =
 resolve_message (Unreachable position offset) =
     codes "resolve failed: json pointer token at " ++ decimal offset
     ++ codes " is unreachable (previous token resolved to a scalar or null value)"
+
+-- what the label of the error says
+abbrev pub label_words : Error → Text
+label_words (FailedToParseIndex position offset source) = codes "not an array index"
+label_words (OutOfBounds position offset source) = bounds_message source
+label_words (NotFound position offset) = codes "not found in value"
+label_words (Unreachable position offset) = codes "unreachable"
+
+-- the label that the error puts on the pointer of these tokens
+abbrev pub IsLabelled : Error → List Text → Option (List Mark) → Type 0
+IsLabelled e tokens labels = IsTokenLabelled (label_words e) (position_of e) (offset_of e) tokens labels

@@ -1,18 +1,22 @@
 //! Assigning a value at the place that a pointer names, and growing what the document lacks on the way
 //! (RFC 6901, section 4).
-ghost use Rattle.std.specs.Prelude.{◌≡◌, ◌≢◌, ◌↔◌, ℕ, ◌<◌, [], ◌∷◌, List, Some, IsTrue, Option, Ok, IfOk, IfErr, OnErr, option_map, string_bytes};
-ghost use Rattle.jsonptr_grammar.specs.Text.{Text, dec};
+ghost use Rattle.std.specs.Prelude.{◌≡◌, ◌≢◌, ◌↔◌, ℕ, ◌<◌, [], ◌∷◌, List, All, Some, IsTrue, Option, Ok, IfOk, IfErr, OnErr, option_map, string_bytes};
+ghost use Rattle.jsonptr_grammar.specs.Text.{Text, text, dec};
 ghost use Rattle.jsonptr_tree.specs.Node.{an_array};
 ghost use Rattle.jsonptr_tree.specs.Following.{LacksStep};
 ghost use Rattle.jsonptr_tree.specs.Growing.{grown, means_end};
 ghost use Rattle.jsonptr_tree.specs.Assigning.{Assigns};
 ghost use Rattle.jsonptr_base.specs.Fault.{IfRefused, HasMemory};
 ghost use Rattle.jsonptr.specs.Pointer.{tokens};
-ghost use Rattle.jsonptr.specs.Assign.{AssignsValue, RefusesAssign, NeedsNothing};
-ghost use Rattle.jsonptr.specs.PrivateAssign.{HasNoPlace, RefusesPlace, RefusesBelow};
+ghost use Rattle.jsonptr.specs.Resolve.{Refuses};
+ghost use Rattle.jsonptr.specs.Assign.{AssignsValue, RefusesAssign, NeedsNothing, above_words};
+ghost use Rattle.jsonptr.specs.PrivateAssign.{StopsThere, HasNoPlace, RefusesPlace, RefusesBelow};
 
 use crate::descend::{Descend, Guide, token_at};
-use crate::pointer::Pointer;
+use crate::labelling::span_of;
+use crate::pointer::{Pointer, PointerBuf};
+use crate::resolve;
+use jsonptr_base::diagnostic::{Diagnostic, Label, one_label};
 use jsonptr_base::fault::Fault;
 use jsonptr_base::index::{OutOfBoundsError, ParseIndexError};
 use jsonptr_base::token::Token;
@@ -76,10 +80,10 @@ pub trait Assign {
         ensures no_memory { needs_no_memory self.old (tokens ptr.entry) → HasMemory result };
 }
 
-/// JSON documents: for `serde_json::Value`, `assigns` says that the map of the document has, where the value
-/// lands, the map of what the tokens that are left grow round it, and that what is given back is the value
-/// that stood there; `is_same` says that the data is the same. No memory is taken to replace a value whose
-/// tokens have no `~`.
+/// JSON and TOML documents: for `serde_json::Value` and `toml::Value`, `assigns` says that the map of the document
+/// has, where the value lands, the map of what the tokens that are left grow round it, and that what is given back
+/// is the value that stood there; `is_same` says that the data is the same. No memory is taken to replace a value
+/// whose tokens have no `~`.
 impl<D: Descend> Assign for D {
     type Value = D::Node;
 
@@ -106,11 +110,11 @@ impl<D: Descend> Assign for D {
         value: D::Node,
     ) -> Result<Option<D::Node>, Fault<Error>> {
         let guide = Guide { alloc, ptr };
-        let mut reached = 0;
-        let node = self.descend(&guide, &mut reached)?;
-        match token_at(ptr, reached) {
-            None => Ok(Some(mem::replace(node, value))),
-            Some((front, token, rest)) => put_below(node, alloc, front, &token, rest, value),
+        let mut value = value;
+        match swap_at(self, &guide, &mut value) {
+            Ok(()) => Ok(Some(value)),
+            Err(Fault::Refused(error)) => put_behind(self, alloc, ptr, error.offset(), value),
+            Err(Fault::Memory(error)) => Err(Fault::Memory(error)),
         }
     }
 }
@@ -135,6 +139,70 @@ impl<'a> Pointer<'a> {
         ensures no_memory { D.needs_no_memory dest.old (tokens self.now) → HasMemory result }
     {
         dest.assign(alloc, *self, src)
+    }
+}
+
+/// Swaps the value and the one that the tokens name.
+///
+/// # Errors
+///
+/// Those of [`Descend::descend`]. Document and value are then as they were.
+fn swap_at<D: Descend>(
+    document: &mut D,
+    guide: &Guide<'_>,
+    value: &mut D::Node,
+) -> Result<(), Fault<resolve::Error>>
+    ensures swapped { IfOk result (λ _.
+        AssignsValue (D.Document.nodes document.old) (tokens guide.now.ptr)
+        (D.Node.Document.nodes value.old) (D.Document.nodes document.new)
+        D.Node.Document.nodes (D.finds document.old) (Some value.new)) }
+    ensures order { IfOk result (λ _. D.Node.Document.in_order value.old
+        → D.Document.in_order document.old → D.Document.in_order document.new) }
+    ensures refused { IfRefused result
+        (Refuses (D.Document.nodes document.old) (tokens guide.now.ptr)) }
+    ensures unchanged { OnErr result (D.Document.stands_at document.old [] document.new
+        × (value.new ≡ value.old)) }
+    ensures no_memory { All (λ b. b ≢ 126) (text (tokens guide.now.ptr)) → HasMemory result }
+{
+    let node = document.descend(guide)?;
+    mem::swap(node, value);
+    Ok(())
+}
+
+/// Assigns the value at the tokens, which lead into the document as far as the offset, before a token that
+/// names no child there.
+///
+/// # Errors
+///
+/// Those of [`put_below`]. The document is then as it was, and the value is dropped.
+fn put_behind<D: Descend>(
+    document: &mut D,
+    alloc: Global,
+    ptr: Pointer<'_>,
+    offset: usize,
+    value: D::Node,
+) -> Result<Option<D::Node>, Fault<Error>>
+    requires { StopsThere (D.Document.nodes document.old) (tokens ptr) offset }
+    ensures assigned { IfOk result (λ r.
+        AssignsValue (D.Document.nodes document.old) (tokens ptr.entry)
+        (D.Node.Document.nodes value) (D.Document.nodes document.new)
+        D.Node.Document.nodes (D.finds document.old) r) }
+    ensures order { IfOk result (λ _. D.Node.Document.in_order value
+        → D.Document.in_order document.old → D.Document.in_order document.new) }
+    ensures refused { IfRefused result
+        (RefusesAssign (D.Document.nodes document.old) (tokens ptr.entry)) }
+    ensures unchanged { OnErr result (D.is_same document.old document.new) }
+    ensures no_memory { NeedsNothing (D.Document.nodes document.old) (tokens ptr.entry)
+        → HasMemory result }
+{
+    let Some((front, token, rest)) = token_at(ptr, offset) else {
+        unreachable!();
+    };
+    let guide = Guide { alloc, ptr: front };
+    match document.descend(&guide) {
+        Ok(node) => put_below(node, alloc, front, &token, rest, value),
+        Err(Fault::Refused(_)) => unreachable!(),
+        Err(Fault::Memory(error)) => Err(Fault::Memory(error)),
     }
 }
 
@@ -276,6 +344,9 @@ fn begins_array(token: &Token<'_>) -> bool
     }
 }
 
+/// The name that [`Error`] had.
+pub type AssignError = Error;
+
 /// Why no value is assigned at a pointer, and at which token.
 #[derive(Debug, PartialEq, Eq, Drop)]
 pub enum Error {
@@ -364,3 +435,51 @@ impl fmt::Display for Error {
 }
 
 impl std::error::Error for Error {}
+
+impl Diagnostic for Error {
+    ghost use Rattle.std.specs.Prelude.{codes};
+    ghost use Rattle.jsonptr.specs.Assign.{IsLabelled};
+
+    type Subject = PointerBuf;
+
+    ghost url = { codes "https://docs.rs/jsonptr/0.8.2/jsonptr/assign/enum.Error.html" };
+
+    ghost labels_gives = { λ e tokens. IsLabelled e tokens };
+
+    fn url() -> &'static str {
+        "https://docs.rs/jsonptr/0.8.2/jsonptr/assign/enum.Error.html"
+    }
+
+    fn labels(
+        &self,
+        alloc: Global,
+        subject: &PointerBuf,
+    ) -> Result<Option<Vec<Label>>, AllocError> {
+        let Some((place, len)) = span_of(subject.as_ptr(), self.position(), self.offset()) else {
+            return Ok(None);
+        };
+        match self {
+            Error::FailedToParseIndex { .. } => {
+                one_label(alloc, "expected array index or '-'", place, len)
+            }
+            Error::OutOfBounds { source, .. } => {
+                let text = above_words(alloc, source)?;
+                Ok(Some(vec![in alloc; Label::new(text, place, len)]?))
+            }
+        }
+    }
+}
+
+/// The words of a label for an index above the length of an array.
+///
+/// # Errors
+///
+/// [`AllocError`] where a request for memory is refused.
+fn above_words(alloc: Global, source: &OutOfBoundsError) -> Result<String, AllocError>
+    ensures { IfOk result (λ text. string_bytes text ≡ above_words source.now) }
+{
+    format!(in alloc;
+        "{} is out of bounds (len: {})",
+        source.index, source.length
+    )
+}

@@ -7,6 +7,7 @@ ghost use Rattle.jsonptr.specs.Pointer.{tokens};
 
 use crate::descend::{Descend, Guide};
 use crate::pointer::Pointer;
+use jsonptr_base::fault::Fault;
 use jsonptr_base::token::Token;
 use jsonptr_document::stepping::way_of;
 use jsonptr_document::writing::DocumentMut;
@@ -43,8 +44,8 @@ pub trait Delete {
 
     /// Takes out the value that the pointer names, and gives it back. Where the pointer names no value, the
     /// answer is `None`, and the document stays as it was. In an array each later element moves down by one.
-    /// The root takes out the whole document and leaves a blank one in its place, which at JSON is null. What
-    /// memory is taken from `alloc` is given back.
+    /// The root takes out the whole document and leaves a blank one in its place: at JSON null, at TOML an empty
+    /// table. What memory is taken from `alloc` is given back.
     ///
     /// # Errors
     ///
@@ -59,10 +60,10 @@ pub trait Delete {
         ensures no_memory { needs_no_memory self.old (tokens ptr.entry) → IsOk result };
 }
 
-/// JSON documents: for `serde_json::Value`, `finds` is that of [`Resolve`](crate::resolve::Resolve), `lacks`
-/// says that the tokens name no path of the document's map, `deletes` that the map is what deletion there
-/// makes of it, where the blank document is null, and `is_same` that the data is the same. Memory is taken
-/// only to decode a token with a `~`.
+/// JSON and TOML documents: for `serde_json::Value` and `toml::Value`, `finds` is that of
+/// [`Resolve`](crate::resolve::Resolve), `lacks` says that the tokens name no path of the document's map,
+/// `deletes` that the map is what deletion there makes of it, where the blank document is null or an empty table,
+/// and `is_same` that the data is the same. Memory is taken only to decode a token with a `~`.
 impl<D: Descend> Delete for D {
     type Value = D::Node;
 
@@ -123,9 +124,11 @@ fn take_whole<D: Descend>(document: &mut D, alloc: Global) -> Result<D::Node, Al
         alloc,
         ptr: Pointer::root(),
     };
-    let mut reached = 0;
-    let node = document.descend(&guide, &mut reached)?;
-    Ok(mem::replace(node, D::Node::blank()))
+    match document.descend(&guide) {
+        Ok(node) => Ok(mem::replace(node, D::Node::blank(alloc))),
+        Err(Fault::Refused(_)) => unreachable!(),
+        Err(Fault::Memory(error)) => Err(error),
+    }
 }
 
 /// Takes out what the tokens of the pointer and then this one name, if they name something.
@@ -149,11 +152,12 @@ fn take_child<D: Descend>(
         → IsOk result }
 {
     let guide = Guide { alloc, ptr: parent };
-    let mut reached = 0;
-    let node = document.descend(&guide, &mut reached)?;
-    if reached < parent.len() {
-        return Ok(None);
+    match document.descend(&guide) {
+        Ok(node) => {
+            let way = way_of(&*node, alloc, token)?;
+            Ok(node.remove(&way))
+        }
+        Err(Fault::Refused(_)) => Ok(None),
+        Err(Fault::Memory(error)) => Err(error),
     }
-    let way = way_of(&*node, alloc, token)?;
-    Ok(node.remove(&way))
 }

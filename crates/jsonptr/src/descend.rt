@@ -1,20 +1,25 @@
 //! Going down a document that is written to, as far as a pointer's tokens lead.
-ghost use Rattle.std.specs.Prelude.{◌≡◌, ◌≢◌, [], ◌∷◌, ◌++◌, All, List, length, IsOk, IfOk, OnErr, MatchOption};
+ghost use Rattle.std.specs.Prelude.{◌≡◌, ◌≢◌, [], ◌∷◌, ◌++◌, All, List, IsOk, IfOk, OnErr, MatchOption};
 ghost use Rattle.std.specs.Borrow.{sem, follows_so, name_if_ok};
 ghost use Rattle.serde_json.specs.contracts.value.Value.{the_row};
 ghost use Rattle.jsonptr_grammar.specs.Text.{Text, text};
 ghost use Rattle.jsonptr_tree.specs.Node.{Step, Path, Names};
+ghost use Rattle.jsonptr_base.specs.Fault.{IfRefused, HasMemory};
 ghost use Rattle.jsonptr_document.specs.PrivateJson.{nodes_of, stands_in, ordered};
 ghost use Rattle.jsonptr.specs.Pointer.{tokens};
-ghost use Rattle.jsonptr.specs.PrivateDescend.{Begins, MovesTo, LendsMove, StopsWith, PutsBelow};
+ghost use Rattle.jsonptr.specs.Resolve.{Refuses, PutsAt};
+ghost use Rattle.jsonptr.specs.PrivateDescend.{Begins, MovesTo, LendsMove, RefusesMove, LeadsTo};
 
 use crate::pointer::Pointer;
+use crate::resolve::Error;
+use jsonptr_base::fault::Fault;
 use jsonptr_base::token::Token;
+use jsonptr_document::child::NoChild;
 use jsonptr_document::document::Document;
 use jsonptr_document::stepping::{Way, way_of};
 use jsonptr_document::writing::DocumentMut;
 use serde_json::Value;
-use std::alloc::{AllocError, Global};
+use std::alloc::Global;
 
 /// What a descent goes by: a pointer, and where memory to decode its tokens comes from.
 #[derive(Clone, Copy)]
@@ -50,30 +55,27 @@ pub trait Descend: Document {
     // the second document is the first
     ghost is_same: { Self → Self → Type 0 };
 
-    /// Goes down as far as the pointer's tokens lead, lends the document there, and tells the offset of the
-    /// tokens that are left. Where there is no memory the document stays as it was.
+    /// Goes down as the pointer's tokens lead, and lends the document that they name.
     ///
     /// # Errors
     ///
-    /// [`AllocError`] where a token with a `~` has to be decoded and there is no memory for it.
-    fn descend(
-        &mut self,
-        guide: &Guide<'_>,
-        reached: &mut usize,
-    ) -> Result<&mut Self::Node, AllocError>
+    /// [`Fault::Refused`] where a token names no child, and [`Fault::Memory`] where a token with a `~` has to
+    /// be decoded and there is no memory for it. The document is then as it was.
+    fn descend(&mut self, guide: &Guide<'_>) -> Result<&mut Self::Node, Fault<Error>>
         ensures* writes_back { sem 𝓛 (follows_so Self.row Self.Node.row self.entry.ghost_name
             (name_if_ok (λ v. v.ghost_name) result)
-            (λ w n. (IsOk result → PutsBelow (Self.Document.nodes self.old) (tokens guide.now.ptr)
-            reached.new (Self.Node.Document.nodes w) (Self.Document.nodes n))
+            (λ w n. (IsOk result → PutsAt (Self.Document.nodes self.old) (tokens guide.now.ptr)
+            (Self.Node.Document.nodes w) (Self.Document.nodes n))
             × IfOk result (λ v. Self.Node.Document.stands_at v.now [] w
             → Self.Document.stands_at self.old [] n)
             × IfOk result (λ v. (Self.Node.Document.in_order v.now → Self.Node.Document.in_order w)
             → Self.Document.in_order self.old → Self.Document.in_order n))
             (λ n. OnErr result (Self.Document.stands_at self.old [] n))) }
-        ensures value { IfOk result (λ v. StopsWith (Self.Document.nodes self.old)
-            (tokens guide.now.ptr) reached.new
+        ensures value { IfOk result (λ v. LeadsTo (Self.Document.nodes self.old)
+            (tokens guide.now.ptr)
             (λ w. node_at self.old w v.now) (Self.Node.Document.nodes v.now))
-            × (All (λ b. b ≢ 126) (text (tokens guide.now.ptr)) → IsOk result) };
+            × IfRefused result (Refuses (Self.Document.nodes self.old) (tokens guide.now.ptr))
+            × (All (λ b. b ≢ 126) (text (tokens guide.now.ptr)) → HasMemory result) };
 
     // the tokens that name a path find what stands there
     ghost found_at: { (d : Self) (tokens : List Text) (w : Path) (e : Self.Node)
@@ -89,6 +91,13 @@ pub trait Descend: Document {
 
     // what stands at the root of a document is the same document
     ghost same_at: { (d e : Self) → Self.Document.stands_at d [] e → is_same d e };
+
+    // and what is the same as that is the same as the document
+    ghost same_on: { (d e f : Self) → Self.Document.stands_at d [] e → is_same e f → is_same d f };
+
+    // and what is found in that is found in the document
+    ghost found_on: { (d e : Self) (tokens : List Text) (f : Self.Node)
+        → Self.Document.stands_at d [] e → finds e tokens f → finds d tokens f };
 }
 
 /// The tokens before an offset, the token there, and those behind it; `None` where no token begins there.
@@ -109,20 +118,24 @@ pub fn token_at<'p>(
     }
 }
 
-/// The child that the token at the offset names, or the value itself where no token is there, or where it
-/// names no child.
+/// The child that the token at the offset names, or the value itself where no token is there.
+///
+/// # Errors
+///
+/// [`Fault::Refused`] where the token names no child, and [`Fault::Memory`] as [`Descend::descend`] has it.
 fn step<'v>(
     at: &'v mut Value,
     guide: &Guide<'_>,
     offset: usize,
-) -> Result<Moved<'v, Value>, AllocError>
+) -> Result<Moved<'v, Value>, Fault<Error>>
     ensures* writes_back { sem 𝓛 (LendsMove the_row nodes_of stands_in ordered
         at.entry (tokens guide.now.ptr) offset result) }
     ensures value { IfOk result (λ r.
         MovesTo nodes_of stands_in (tokens guide.now.ptr) offset r.down at.old r.next r.node.now)
-        × (All (λ b. b ≢ 126) (text (tokens guide.now.ptr)) → IsOk result) }
+        × IfRefused result (RefusesMove (nodes_of at.old) (tokens guide.now.ptr) offset)
+        × (All (λ b. b ≢ 126) (text (tokens guide.now.ptr)) → HasMemory result) }
 {
-    let Some((_, token, after)) = token_at(guide.ptr, offset) else {
+    let Some((front, token, after)) = token_at(guide.ptr, offset) else {
         return Ok(Moved {
             node: at,
             next: offset,
@@ -132,7 +145,7 @@ fn step<'v>(
     let next = guide.ptr.len() - after.len();
     let way = match way_of(at, guide.alloc, &token) {
         Ok(way) => way,
-        Err(error) => return Err(error),
+        Err(error) => return Err(Fault::Memory(error)),
     };
     match way {
         Way::Element(place) => match at.as_array_mut() {
@@ -153,26 +166,23 @@ fn step<'v>(
                     next,
                     down: true,
                 }),
-                None => unreachable!(),
+                None => Err(Fault::Refused(Error::at(front.count(), offset, NoChild::NotFound))),
             },
             None => unreachable!(),
         },
-        Way::Here => Ok(Moved {
-            node: at,
-            next,
-            down: false,
-        }),
+        Way::Nowhere(no_child) => {
+            Err(Fault::Refused(Error::at(front.count(), offset, no_child)))
+        }
     }
 }
 
 impl Descend for Value {
     ghost use Rattle.serde_json.specs.View.{view};
-    ghost use Rattle.std.proofs.Common.{◌∙◌};
+    ghost use Rattle.std.proofs.Common.{◌∙◌, subst};
     ghost use Rattle.jsonptr_tree.specs.Json.{FindsValue};
-    ghost use Rattle.jsonptr_tree.proofs.JsonLemmas.{value_at-below};
+    ghost use Rattle.jsonptr_tree.proofs.JsonLemmas.{value_at-below, ascends_part};
     ghost use Rattle.jsonptr_document.specs.PrivateJson.{stands_in};
-    ghost use Rattle.jsonptr_tree.proofs.JsonOrderLemmas.{ascends_part};
-    ghost use Rattle.jsonptr_document.proofs.JsonPut.{same_view};
+    ghost use Rattle.jsonptr_document.proofs.JsonLevel.{same_view};
 
     type Node = Value;
 
@@ -182,11 +192,7 @@ impl Descend for Value {
 
     ghost is_same = { λ v u. view u ≡ view v };
 
-    fn descend(
-        &mut self,
-        guide: &Guide<'_>,
-        reached: &mut usize,
-    ) -> Result<&mut Value, AllocError> {
+    fn descend(&mut self, guide: &Guide<'_>) -> Result<&mut Value, Fault<Error>> {
         let mut at = self;
         let mut offset = 0;
         loop {
@@ -194,13 +200,12 @@ impl Descend for Value {
                 Ok(moved) => {
                     let Moved { node, next, down } = moved;
                     if !down {
-                        *reached = offset;
                         return Ok(node);
                     }
                     at = node;
                     offset = next;
                 }
-                Err(error) => return Err(error),
+                Err(fault) => return Err(fault),
             }
         }
     }
@@ -213,4 +218,9 @@ impl Descend for Value {
     ghost below_at = { λ d w s e f here there. value_at-below w (s ∷ []) (view d) (view e) here ∙ there };
 
     ghost same_at = { λ d e h. same_view d e h };
+
+    ghost same_on = { λ d e f h same. same ∙ same_view d e h };
+
+    ghost found_on = { λ d e tokens f h found.
+        subst (λ v. FindsValue v tokens (view f)) (same_view d e h) found };
 }

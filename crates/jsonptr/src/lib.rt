@@ -6,13 +6,15 @@ pub mod assign;
 pub mod component;
 pub mod delete;
 mod descend;
+mod labelling;
 mod pointer;
 pub mod resolve;
+mod toml_value;
 
 pub use assign::Assign;
 pub use component::{Component, Components};
 pub use delete::Delete;
-pub use jsonptr_base::diagnostic::Report;
+pub use jsonptr_base::diagnostic::{Diagnose, Report};
 pub use jsonptr_base::fault::Fault;
 pub use jsonptr_base::token::{EncodingError, InvalidEncoding, InvalidEncodingError, Token};
 pub use jsonptr_base::{diagnostic, index, token};

@@ -8,15 +8,17 @@ ghost use Rattle.jsonptr.specs.Pointer.{tokens};
 ghost use Rattle.jsonptr.specs.Resolve.{Refuses, PutsAt};
 ghost use Rattle.jsonptr.specs.PrivateResolve.{FindsAt, RefusesStep};
 
-use crate::descend::{Descend, Guide, token_at};
-use crate::pointer::Pointer;
+use crate::descend::{Descend, Guide};
+use crate::labelling::span_of;
+use crate::pointer::{Pointer, PointerBuf};
+use jsonptr_base::diagnostic::{Diagnostic, Label, one_label};
 use jsonptr_base::fault::Fault;
 use jsonptr_base::index::{OutOfBoundsError, ParseIndexError};
 use jsonptr_base::token::Token;
 use jsonptr_document::child::{NoChild, child};
 use jsonptr_document::document::Document;
 use serde_json::Value;
-use std::alloc::Global;
+use std::alloc::{AllocError, Global};
 use std::fmt;
 
 /// A document in which a pointer can be followed.
@@ -140,9 +142,9 @@ pub trait ResolveMut: Drop {
         ensures no_memory { needs_no_memory self.old (tokens ptr.entry) → HasMemory result };
 }
 
-/// JSON documents: for `serde_json::Value`, `finds` and `refuses` are those of [`Resolve`], `writes` says that
-/// the map of the document has the map of the value put at the path that the tokens name, and `is_same` that the
-/// data is the same. Memory is taken only to decode a token with a `~`.
+/// JSON and TOML documents: for `serde_json::Value` and `toml::Value`, `finds` and `refuses` are those of
+/// [`Resolve`], `writes` says that the map of the document has the map of the value put at the path that the tokens
+/// name, and `is_same` that the data is the same. Memory is taken only to decode a token with a `~`.
 impl<D: Descend> ResolveMut for D {
     type Value = D::Node;
 
@@ -164,7 +166,7 @@ impl<D: Descend> ResolveMut for D {
         alloc: Global,
         ptr: Pointer<'_>,
     ) -> Result<&mut D::Node, Fault<Error>> {
-        follow_mut(self, alloc, ptr)
+        self.descend(&Guide { alloc, ptr })
     }
 }
 
@@ -225,38 +227,8 @@ fn lend_by<'v, R: ResolveMut>(
     value.resolve_mut(alloc, *ptr)
 }
 
-/// The value that the pointer names in a document of any kind, to be written to.
-fn follow_mut<'v, D: Descend>(
-    value: &'v mut D,
-    alloc: Global,
-    ptr: Pointer<'_>,
-) -> Result<&'v mut D::Node, Fault<Error>>
-    ensures* writes_back { sem 𝓛 (LendsSoOk D.row D.Node.row value.entry result
-        (λ n w. PutsAt (D.Document.nodes value.old) (tokens ptr.entry)
-        (D.Node.Document.nodes w) (D.Document.nodes n))
-        (λ n. D.is_same value.old n)) }
-    ensures found { IfOk result (λ r. D.finds value.old (tokens ptr.entry) r.now) }
-    ensures refused { IfRefused result (Refuses (D.Document.nodes value.old) (tokens ptr.entry)) }
-    ensures no_memory { All (λ b. b ≢ 126) (text (tokens ptr.entry)) → HasMemory result }
-{
-    let guide = Guide { alloc, ptr };
-    let mut reached = 0;
-    match value.descend(&guide, &mut reached) {
-        Ok(node) => match token_at(ptr, reached) {
-            None => Ok(node),
-            Some((front, token, _)) => {
-                match step(&*node, alloc, &token, front.count(), reached) {
-                    Ok(_) => unreachable!(),
-                    Err(fault) => Err(fault),
-                }
-            }
-        },
-        Err(error) => Err(Fault::Memory(error)),
-    }
-}
-
 /// The value that the pointer names in a document of any kind.
-fn follow<'v, D: Document>(
+pub(crate) fn follow<'v, D: Document>(
     value: &'v D,
     alloc: Global,
     ptr: Pointer<'_>,
@@ -301,6 +273,9 @@ fn step<'v, D: Document>(
         Err(Fault::Memory(error)) => Err(Fault::Memory(error)),
     }
 }
+
+/// The name that [`Error`] had.
+pub type ResolveError = Error;
 
 /// Why a pointer names no value of a document (RFC 6901, section 7), and at which token.
 #[derive(Debug, PartialEq, Eq, Drop)]
@@ -347,7 +322,7 @@ impl Error {
     ghost use Rattle.jsonptr.specs.declared.resolve.Error.TheVariants.{FailedToParseIndex, OutOfBounds, NotFound, Unreachable};
 
     /// The error of a token at this position and offset that names no child.
-    fn at(position: usize, offset: usize, no_child: NoChild) -> Error
+    pub(crate) fn at(position: usize, offset: usize, no_child: NoChild) -> Error
         ensures position { position_of result ≡ position }
         ensures offset { offset_of result ≡ offset }
         ensures cause { cause_of result ≡ no_child }
@@ -453,3 +428,37 @@ impl fmt::Display for Error {
 }
 
 impl std::error::Error for Error {}
+
+impl Diagnostic for Error {
+    ghost use Rattle.std.specs.Prelude.{codes};
+    ghost use Rattle.jsonptr.specs.Resolve.{IsLabelled};
+
+    type Subject = PointerBuf;
+
+    ghost url = { codes "https://docs.rs/jsonptr/0.8.2/jsonptr/resolve/enum.Error.html" };
+
+    ghost labels_gives = { λ e tokens. IsLabelled e tokens };
+
+    fn url() -> &'static str {
+        "https://docs.rs/jsonptr/0.8.2/jsonptr/resolve/enum.Error.html"
+    }
+
+    fn labels(
+        &self,
+        alloc: Global,
+        subject: &PointerBuf,
+    ) -> Result<Option<Vec<Label>>, AllocError> {
+        let Some((place, len)) = span_of(subject.as_ptr(), self.position(), self.offset()) else {
+            return Ok(None);
+        };
+        match self {
+            Error::FailedToParseIndex { .. } => one_label(alloc, "not an array index", place, len),
+            Error::OutOfBounds { source, .. } => {
+                let text = source.to_string(alloc)?;
+                Ok(Some(vec![in alloc; Label::new(text, place, len)]?))
+            }
+            Error::NotFound { .. } => one_label(alloc, "not found in value", place, len),
+            Error::Unreachable { .. } => one_label(alloc, "unreachable", place, len),
+        }
+    }
+}

@@ -1,5 +1,5 @@
 -- The first fault of a token's text, its place and its kind together.
-use Rattle.std.proofs.Common.{◌≡◌, ◌⊎◌, ℕ, refl, sym, ap, ◌∙◌, subst, ⊎_elim, inl, inr}
+use Rattle.std.proofs.Common.{◌≡◌, ◌⊎◌, ℕ, refl, subst, ⊎_elim, inl, inr}
 use Rattle.jsonptr_grammar.specs.Text.{Text}
 use Rattle.jsonptr_grammar.specs.Grammar.{IsToken}
 use Rattle.jsonptr_grammar.specs.FirstFault.{IsTokenFault, IsSlashAt, EndsEscape}

@@ -8,9 +8,12 @@ ghost use Rattle.jsonptr_base.specs.declared.index.Index.{Index};
 ghost use Rattle.jsonptr_base.specs.declared.index.ParseIndexError.{ParseIndexError};
 ghost use Rattle.jsonptr_base.specs.declared.index.OutOfBoundsError.{OutOfBoundsError};
 ghost use Rattle.jsonptr_base.specs.declared.index.Index.TheVariants.{Num, Next};
-ghost use Rattle.jsonptr_base.specs.Index.{IsWithin, IsWithinOrNext, Reads, first_nondigit, index_text, place_in};
+ghost use Rattle.jsonptr_base.specs.Index.{IsWithin, IsWithinOrNext, Reads, first_nondigit, index_text, place_in, subject_text, leading_zeros, nondigits_from};
 
 use crate::token::Token;
+use jsonptr_diagnostic::diagnostic::{Diagnostic, Label, one_label};
+use std::alloc::{AllocError, Global};
+use std::error::Error;
 use std::fmt;
 use std::marker::Model;
 use std::str::FromStr;
@@ -239,6 +242,22 @@ pub struct OutOfBoundsError {
     pub index: usize,
 }
 
+impl fmt::Display for OutOfBoundsError {
+    ghost use Rattle.jsonptr_base.specs.Index.{bounds_message};
+
+    ghost output = { λ e. Some (bounds_message e) };
+
+    fn fmt<W: fmt::Write>(&self, f: &mut fmt::Formatter<W>) -> fmt::Result {
+        write!(
+            f,
+            "index {} out of bounds (len: {})",
+            self.index, self.length
+        )
+    }
+}
+
+impl Error for OutOfBoundsError {}
+
 /// Why a text is no array index.
 #[derive(Clone, Debug, PartialEq, Eq, Drop)]
 pub enum ParseIndexError {
@@ -248,6 +267,124 @@ pub enum ParseIndexError {
     LeadingZeros,
     /// The text has a character that is no ASCII digit.
     InvalidCharacter(InvalidCharacterError),
+}
+
+impl fmt::Display for ParseIndexError {
+    ghost use Rattle.jsonptr_base.specs.Index.{index_message};
+
+    ghost output = { λ e. Some (index_message e) };
+
+    fn fmt<W: fmt::Write>(&self, f: &mut fmt::Formatter<W>) -> fmt::Result {
+        match self {
+            ParseIndexError::InvalidInteger(_) => {
+                f.write_str("failed to parse token as an integer")
+            }
+            ParseIndexError::LeadingZeros => {
+                f.write_str("token contained leading zeros, which are disallowed by RFC 6901")
+            }
+            ParseIndexError::InvalidCharacter(_) => f.write_str(
+                "failed to parse token as an index",
+            ),
+        }
+    }
+}
+
+impl Error for ParseIndexError {}
+
+impl Diagnostic for ParseIndexError {
+    ghost use Rattle.std.specs.Prelude.{codes};
+    ghost use Rattle.jsonptr_base.specs.Index.{IsLabelled, subject_text};
+
+    type Subject = StringOrToken;
+
+    ghost url = { codes "https://docs.rs/jsonptr/0.8.2/jsonptr/index/enum.ParseIndexError.html" };
+
+    ghost labels_gives = { λ e subject. IsLabelled e (subject_text subject) };
+
+    fn url() -> &'static str {
+        "https://docs.rs/jsonptr/0.8.2/jsonptr/index/enum.ParseIndexError.html"
+    }
+
+    fn labels(
+        &self,
+        alloc: Global,
+        subject: &StringOrToken,
+    ) -> Result<Option<Vec<Label>>, AllocError> {
+        let text = subject.as_str().as_bytes();
+        match self {
+            ParseIndexError::InvalidInteger(_) => Ok(None),
+            ParseIndexError::LeadingZeros => {
+                one_label(alloc, "leading zeros", 0, leading_zeros(text))
+            }
+            ParseIndexError::InvalidCharacter(error) => {
+                let len = nondigits_from(error.offset, text);
+                one_label(alloc, "invalid character(s)", error.offset, len)
+            }
+        }
+    }
+}
+
+/// How many `0` the text begins with.
+fn leading_zeros(text: &[u8]) -> usize
+    ensures { result ≡ leading_zeros text.now }
+{
+    let mut count = 0;
+    while count < text.len() && text[count] == b'0' {
+        count += 1;
+    }
+    count
+}
+
+/// How many bytes stand from this place on before the next ASCII digit, or before the end.
+fn nondigits_from(offset: usize, text: &[u8]) -> usize
+    ensures { result ≡ nondigits_from offset text.now }
+{
+    let mut end = offset;
+    while end < text.len() && !text[end].is_ascii_digit() {
+        end += 1;
+    }
+    end - offset
+}
+
+/// A text that was to be read as an array index.
+#[derive(Debug, Drop)]
+pub enum StringOrToken {
+    /// The text itself.
+    String(String),
+    /// A token, which stands for its encoded text.
+    Token(Token<'static>),
+}
+
+impl StringOrToken {
+    /// The text: of a token, the encoded one.
+    pub fn as_str(&self) -> &str
+        ensures { result.now ≡ subject_text self.now }
+    {
+        match self {
+            StringOrToken::String(text) => text.as_str(),
+            StringOrToken::Token(token) => token.encoded(),
+        }
+    }
+}
+
+impl From<String> for StringOrToken {
+    ghost use Rattle.jsonptr_base.specs.declared.index.StringOrToken.TheVariants as subject_of;
+
+    ghost from_gives = { λ s subject. subject ≡ subject_of.String s };
+
+    fn from(text: String) -> StringOrToken {
+        StringOrToken::String(text)
+    }
+}
+
+impl From<Token<'static>> for StringOrToken {
+    ghost use Rattle.jsonptr_base.specs.declared.index.StringOrToken.TheVariants as subject_of;
+
+    ghost from_gives = { λ t subject. subject ≡ subject_of.Token t };
+
+    fn from(token: Token<'static>) -> StringOrToken {
+        StringOrToken::Token(token)
+    }
 }
 
 /// Why a text of digits is no number.
@@ -285,3 +422,16 @@ impl InvalidCharacterError {
         self.offset
     }
 }
+
+impl fmt::Display for InvalidCharacterError {
+    ghost use Rattle.std.specs.Prelude.{codes};
+
+    ghost output = { λ _.
+        Some (codes "token contains a non-digit character, which is disallowed by RFC 6901") };
+
+    fn fmt<W: fmt::Write>(&self, f: &mut fmt::Formatter<W>) -> fmt::Result {
+        f.write_str("token contains a non-digit character, which is disallowed by RFC 6901")
+    }
+}
+
+impl Error for InvalidCharacterError {}

@@ -3,7 +3,8 @@
 //! paths.
 #![tactic(auto)]
 
-pub mod diagnostic;
 pub mod fault;
 pub mod index;
 pub mod token;
+
+pub use jsonptr_diagnostic::diagnostic;

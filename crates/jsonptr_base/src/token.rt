@@ -15,9 +15,11 @@ ghost use Rattle.jsonptr_grammar.specs.Grammar.{IsToken};
 ghost use Rattle.jsonptr_base.specs.Token.{TellsTokenFault};
 ghost use Rattle.jsonptr_base.specs.declared.token.EncodingError.{EncodingError};
 
+use jsonptr_diagnostic::diagnostic::{Diagnostic, Label, one_label};
 use std::alloc::{AllocError, Global};
 use std::borrow::CowStr;
 use std::cmp::Ordering;
+use std::error::Error;
 use std::fmt;
 use std::hash::{Hash, Hasher};
 use std::marker::Model;
@@ -58,6 +60,15 @@ impl<'a> Token<'a> {
             None => Ok(Token { inner: s }),
             Some(fault) => Err(fault),
         }
+    }
+
+    /// The token with this encoded text, which is one of the grammar (RFC 6901, section 3). Nothing is tested, and
+    /// no memory is taken.
+    pub fn from_encoded_unchecked(s: CowStr<'a>) -> Token<'a>
+        requires { IsToken (cow_str_bytes s) }
+        ensures { esc result ≡ cow_str_bytes s.entry }
+    {
+        Token { inner: s }
     }
 
     /// The token that stands for this text, which is escaped where it has a `~` or a `/`; any other text is
@@ -265,6 +276,50 @@ pub struct EncodingError {
     pub source: InvalidEncoding,
 }
 
+impl fmt::Display for EncodingError {
+    ghost use Rattle.jsonptr_base.specs.Token.{encoding_message};
+
+    ghost output = { λ e. Some (encoding_message e) };
+
+    fn fmt<W: fmt::Write>(&self, f: &mut fmt::Formatter<W>) -> fmt::Result {
+        write!(
+            f,
+            "token contains invalid encoding at offset {}",
+            self.offset
+        )
+    }
+}
+
+impl Error for EncodingError {}
+
+impl Diagnostic for EncodingError {
+    ghost use Rattle.std.specs.Prelude.{codes, length, string_bytes};
+    ghost use Rattle.jsonptr_base.specs.Token.{IsLabelled};
+
+    type Subject = String;
+
+    ghost url = { codes "https://docs.rs/jsonptr/0.8.2/jsonptr/struct.EncodingError.html" };
+
+    ghost labels_gives = { λ e subject. IsLabelled e (length (string_bytes subject)) };
+
+    fn url() -> &'static str {
+        "https://docs.rs/jsonptr/0.8.2/jsonptr/struct.EncodingError.html"
+    }
+
+    fn labels(&self, alloc: Global, subject: &String) -> Result<Option<Vec<Label>>, AllocError> {
+        match self.source {
+            InvalidEncoding::Slash => one_label(alloc, "invalid character", self.offset, 1),
+            InvalidEncoding::Tilde if self.offset != subject.len() => {
+                one_label(alloc, "must be 0 or 1", self.offset, 1)
+            }
+            InvalidEncoding::Tilde => match self.offset.checked_sub(1) {
+                Some(tilde) => one_label(alloc, "incomplete escape sequence", tilde, 1),
+                None => Ok(None),
+            },
+        }
+    }
+}
+
 /// What is wrong with the text of a token.
 #[derive(Clone, Copy, Debug, PartialEq, Eq)]
 pub enum InvalidEncoding {
@@ -274,7 +329,21 @@ pub enum InvalidEncoding {
     Slash,
 }
 
-mod number;
+impl fmt::Display for InvalidEncoding {
+    ghost use Rattle.jsonptr_base.specs.Token.{cause_message};
+
+    ghost output = { λ cause. Some (cause_message cause) };
+
+    fn fmt<W: fmt::Write>(&self, f: &mut fmt::Formatter<W>) -> fmt::Result {
+        match *self {
+            InvalidEncoding::Tilde => f.write_str("tilde (~) not followed by 0 or 1"),
+            InvalidEncoding::Slash => f.write_str("slash (/) found in token"),
+        }
+    }
+}
+
+impl Error for InvalidEncoding {}
+
 mod scan;
 
-pub use number::Number;
+pub use jsonptr_number::number::Number;

@@ -1,7 +1,8 @@
 -- Lemmas that several proofs of this crate cite.
-pub mod JsonNodes
 pub mod NoIndex
 pub mod ChildLemmas
-pub mod SteppingLemmas
-pub mod JsonPut
-pub mod JsonChildren
+pub mod LevelNodes
+pub mod LevelPut
+pub mod LevelChildren
+pub mod JsonLevel
+pub mod TomlLevel

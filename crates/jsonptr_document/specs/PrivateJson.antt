@@ -4,7 +4,7 @@ use Rattle.std.specs.Prelude.{◌≡◌, Some}
 use Rattle.serde_json.specs.View.{view}
 use Rattle.serde_json.specs.declared.value.Value.{Value}
 use Rattle.jsonptr_tree.specs.Node.{Path, NodeMap}
-use Rattle.jsonptr_tree.specs.Json.{nodes, value_at, KeysAscend}
+use Rattle.jsonptr_tree.specs.Json.{content, nodes, value_at, KeysAscend}
 
 -- the map of a value
 abbrev pub nodes_of : Value → NodeMap
@@ -12,7 +12,7 @@ nodes_of v = nodes (view v)
 
 -- at the path w below v stands u
 abbrev pub stands_in : Value → Path → Value → Type 0
-stands_in v w u = value_at w (view v) ≡ Some (view u)
+stands_in v w u = value_at w (view v) ≡ Some (content (view u))
 
 -- in each object of v the keys ascend
 abbrev pub ordered : Value → Type 0

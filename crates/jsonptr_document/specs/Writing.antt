@@ -6,7 +6,7 @@ use Rattle.jsonptr_tree.specs.Put.{put}
 use Rattle.jsonptr_tree.specs.Assigning.{with_room}
 use Rattle.jsonptr_tree.specs.Removing.{without_step}
 use Rattle.jsonptr_document.specs.declared.stepping.Way.{Way}
-use Rattle.jsonptr_document.specs.declared.stepping.Way.TheVariants.{Element, Member, Here}
+use Rattle.jsonptr_document.specs.declared.stepping.Way.TheVariants.{Element, Member, Nowhere}
 
 -- at the root of the map n is an array
 abbrev pub IsArray : NodeMap → Type 0
@@ -25,7 +25,7 @@ Pushes n v m = (len : ℕ) → n [] ≡ Some (an_array len)
 abbrev pub step_of : Way → Option Step
 step_of (Element i) = Some (place i)
 step_of (Member k) = Some (key (cow_str_bytes k))
-step_of Here = None
+step_of (Nowhere e) = None
 
 module _ {D : Type 0} (nodes : D → NodeMap) (stands : D → Path → D → Type 0) where
   -- the child e goes from the document d, from a step that is taken so, and m is left; or d has none there, and

@@ -10,13 +10,12 @@ impl Document for Value {
     ghost use Rattle.std.specs.Prelude.{◌≡◌, [], ◌∷◌, Some, refl};
     ghost use Rattle.std.proofs.Common.{◌∙◌};
     ghost use Rattle.serde_json.specs.View.{view};
-    ghost use Rattle.jsonptr_tree.specs.Json.{nodes as json_nodes, value_at, KeysAscend};
-    ghost use Rattle.jsonptr_tree.proofs.JsonLemmas.{nodes-sub, value_at-below};
-    ghost use Rattle.jsonptr_tree.proofs.JsonOrderLemmas.{ascends_part};
+    ghost use Rattle.jsonptr_tree.specs.Json.{content, nodes as json_nodes, value_at, KeysAscend};
+    ghost use Rattle.jsonptr_tree.proofs.JsonLemmas.{nodes-sub, value_at-below, ascends_part};
 
     ghost nodes = { λ v. json_nodes (view v) };
 
-    ghost stands_at = { λ v w u. value_at w (view v) ≡ Some (view u) };
+    ghost stands_at = { λ v w u. value_at w (view v) ≡ Some (content (view u)) };
 
     ghost in_order = { λ v. KeysAscend (view v) };
 
@@ -45,12 +44,12 @@ impl Document for Value {
 impl DocumentMut for Value {
     ghost use Rattle.serde_json.specs.Data.{null};
     ghost use Rattle.serde_json.specs.View.{view};
-    ghost use Rattle.jsonptr_tree.specs.Json.{nodes as json_nodes};
-    ghost use Rattle.jsonptr_tree.proofs.JsonLemmas.{nodes-IsTree};
+    ghost use Rattle.jsonptr_tree.specs.Json.{content, nodes as json_nodes};
+    ghost use Rattle.jsonptr_tree.proofs.ContentLemmas.{map_of-IsTree};
 
     ghost blank_map = { json_nodes null };
 
-    fn blank() -> Value {
+    fn blank(_: Global) -> Value {
         Value::Null
     }
 
@@ -92,5 +91,5 @@ impl DocumentMut for Value {
         }
     }
 
-    ghost is_tree = { λ d. nodes-IsTree (view d) };
+    ghost is_tree = { λ d. map_of-IsTree (content (view d)) };
 }

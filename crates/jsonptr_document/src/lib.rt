@@ -6,4 +6,5 @@ pub mod child;
 pub mod document;
 mod json;
 pub mod stepping;
+mod toml_value;
 pub mod writing;

@@ -3,7 +3,7 @@ ghost use Rattle.std.specs.Prelude.{◌≢◌, All, IsOk, IfOk};
 ghost use Rattle.jsonptr_grammar.specs.Text.{esc};
 ghost use Rattle.jsonptr_document.specs.Way.{IsWay};
 
-use crate::child::place_of;
+use crate::child::{NoChild, place_of};
 use crate::document::{Document, Node};
 use jsonptr_base::token::Token;
 use std::alloc::{AllocError, Global};
@@ -14,13 +14,14 @@ use std::borrow::CowStr;
 pub enum Way<'t> {
     /// The element at this place.
     Element(usize),
-    /// The member with this key.
+    /// The member with this key, if the object has one.
     Member(CowStr<'t>),
-    /// None.
-    Here,
+    /// None, for this reason.
+    Nowhere(NoChild),
 }
 
-/// Which child the token names. Memory is taken as [`child`](crate::child::child) takes it.
+/// Which child the token names. At an object the members are not searched for its key. Memory is taken as
+/// [`child`](crate::child::child) takes it.
 ///
 /// # Errors
 ///
@@ -34,18 +35,11 @@ pub fn way_of<'t, D: Document>(
     ensures no_memory { All (λ b. b ≢ 126) (esc token.now) → IsOk result }
 {
     match at.node() {
-        Node::Leaf => Ok(Way::Here),
+        Node::Leaf => Ok(Way::Nowhere(NoChild::Unreachable)),
         Node::Array(elements) => match place_of(token, elements.len()) {
             Ok(place) => Ok(Way::Element(place)),
-            Err(_) => Ok(Way::Here),
+            Err(no_child) => Ok(Way::Nowhere(no_child)),
         },
-        Node::Object(members) => {
-            let key = token.decoded(alloc)?;
-            if members.contains_key(key.as_str()) {
-                Ok(Way::Member(key))
-            } else {
-                Ok(Way::Here)
-            }
-        }
+        Node::Object(_) => Ok(Way::Member(token.decoded(alloc)?)),
     }
 }

@@ -15,8 +15,8 @@ pub trait DocumentMut: Document {
     // the map of the document that is left where a whole document is taken out
     ghost blank_map: { NodeMap };
 
-    /// What is left where a whole document is taken out.
-    fn blank() -> Self
+    /// What is left where a whole document is taken out. It takes no memory.
+    fn blank(alloc: Global) -> Self
         ensures map { Self.nodes result ≡ blank_map }
         ensures order { Self.in_order result };
 

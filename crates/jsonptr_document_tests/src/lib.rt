@@ -7,4 +7,8 @@ mod assigning;
 #[cfg(test)]
 mod deleting;
 #[cfg(test)]
+mod labels;
+#[cfg(test)]
 mod resolving;
+#[cfg(test)]
+mod toml_documents;

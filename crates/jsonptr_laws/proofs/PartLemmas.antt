@@ -1,15 +1,24 @@
 -- That the relations on parts of a pointer, and on its labels, have one answer.
-use Rattle.std.proofs.Common.{◌≡◌, ℕ, ◌+◌, ◌<◌, ◌≤◌, ◌^◌, List, [], ◌∷◌, ◌++◌, Option, Some, None, length, refl, sym, ap, ◌∙◌, ⊎_elim, arith}
+use Rattle.std.proofs.Common.{◌≡◌, ℕ, ◌+◌, ◌<◌, ◌≤◌, ◌^◌, List, [], ◌∷◌, ◌++◌, Option, Some, None, length, refl, sym, ap, ◌∙◌, ⊎_elim, inl, inr, arith}
 use Rattle.std.specs.declared.ops.Bound.{Bound}
 use Rattle.std.specs.declared.ops.Bound.TheVariants.{Included, Excluded, Unbounded}
-use Rattle.std.proofs.lemmas.Bool.{cases_lt}
+use Rattle.std.specs.Prelude.{slice_get}
+use Rattle.std.proofs.lemmas.Bool.{cases_lt, cases_eq}
 use Rattle.jsonptr.specs.Text.{Text, esc, text}
 use Rattle.jsonptr.specs.Diagnostic.{Mark}
 use Rattle.jsonptr.specs.ParseError.{IsLabelled}
+use Rattle.jsonptr.specs.Token as token
+use Rattle.jsonptr.specs.Index as index
+use Rattle.jsonptr.specs.Labelling.{IsTokenLabelled, IsSpan, place_behind}
 use Rattle.jsonptr.specs.Parts.{SplitsAt, IsLongestCommonFront}
 use Rattle.jsonptr.specs.Slice.{GivesPart, GivesAll, GivesBounds}
 use Rattle.jsonptr.specs.Types.ParseError.{ParseError}
 use Rattle.jsonptr.specs.Types.ParseError.TheVariants.{NoLeadingSlash, InvalidEncoding}
+use Rattle.jsonptr.specs.Types.EncodingError.{EncodingError}
+use Rattle.jsonptr.specs.Types.InvalidEncoding as cause
+use Rattle.jsonptr.specs.Types.InvalidEncoding.TheVariants.{Tilde, Slash}
+use Rattle.jsonptr.specs.Types.ParseIndexError.{ParseIndexError}
+use Rattle.jsonptr.specs.Types.ParseIndexError.TheVariants.{InvalidInteger, LeadingZeros, InvalidCharacter}
 use Rattle.jsonptr.specs.declared.pointer.Pointer.{Pointer}
 use Rattle.jsonptr_grammar.proofs.PointerLemmas.{length-text-cons}
 use Rattle.jsonptr_laws.specs.Answers.{SamePointer}
@@ -81,3 +90,36 @@ label_one (InvalidEncoding offset source) len r q h k =
     (λ (fits : offset + source.offset < 2 ^ 64). h.0 fits ∙ sym (k.0 fits))
     (λ (past : 2 ^ 64 ≤ offset + source.offset). h.1 past ∙ sym (k.1 past))
     (cases_lt (offset + source.offset) (2 ^ 64))
+
+pub encoding_label_one : (e : EncodingError) (len : ℕ) (r q : Option (List Mark)) → token.IsLabelled e len r → token.IsLabelled e len q → r ≡ q
+encoding_label_one e len r q = at e.source e.offset
+  where
+    at : (source : cause.InvalidEncoding) (o : ℕ) → token.IsCauseLabelled source o len r → token.IsCauseLabelled source o len q → r ≡ q
+    at Slash o h k = h ∙ sym k
+    at Tilde o h k =
+        ⊎_elim
+        (λ (end : o ≡ len).
+        ⊎_elim
+        (λ (start : o ≡ 0). h.2 end start ∙ sym (k.2 end start))
+        (λ behind. let some : 0 < o = omega (arith, behind) in h.1 end some ∙ sym (k.1 end some))
+        (cases_eq o 0))
+        (λ inside. h.0 inside ∙ sym (k.0 inside))
+        (cases_eq o len)
+
+pub index_label_one : (e : ParseIndexError) (s : Text) (r q : Option (List Mark)) → index.IsLabelled e s r → index.IsLabelled e s q → r ≡ q
+index_label_one (InvalidInteger cause) s r q h k = h ∙ sym k
+index_label_one LeadingZeros s r q h k = h ∙ sym k
+index_label_one (InvalidCharacter o) s r q h k = h ∙ sym k
+
+pub token_label_one : (words : Text) (position o : ℕ) (tokens : List Text) (r q : Option (List Mark)) → IsTokenLabelled words position o tokens r → IsTokenLabelled words position o tokens q → r ≡ q
+token_label_one words position o tokens r q h k = at (slice_get tokens position) refl
+  where
+    at : (x : Option Text) → slice_get tokens position ≡ x → r ≡ q
+    at None e = h.none (inl e) ∙ sym (k.none (inl e))
+    at (Some x) e =
+        ⊎_elim
+        (λ fits.
+        let span : IsSpan tokens position o (place_behind o tokens) (length (esc x)) = record { token = x; there = e; fits = fits; place_is = refl; len_is = refl } in
+        h.one _ _ span ∙ sym (k.one _ _ span))
+        (λ over. h.none (inr over) ∙ sym (k.none (inr over)))
+        (cases_lt (o + 1) (2 ^ 64))

@@ -1,2 +1,3 @@
--- The laws cite the words of the crates below alone.
+-- The laws cite the words of the crates below, when two answers are the same, and what the states of a session are.
 pub mod Answers
+pub mod States

@@ -3,10 +3,18 @@ ghost use Rattle.std.specs.Prelude.{◌≡◌, ℕ, List, Option};
 ghost use Rattle.std.specs.declared.ops.Bound.{Bound};
 ghost use Rattle.jsonptr.specs.Text.{Text};
 ghost use Rattle.jsonptr.specs.Diagnostic.{Mark};
-ghost use Rattle.jsonptr.specs.ParseError.{IsLabelled};
+ghost use Rattle.jsonptr.specs.ParseError as parsing;
+ghost use Rattle.jsonptr.specs.Token as token;
+ghost use Rattle.jsonptr.specs.Index as index;
+ghost use Rattle.jsonptr.specs.Resolve as resolve;
+ghost use Rattle.jsonptr.specs.Assign as assign;
 ghost use Rattle.jsonptr.specs.Parts.{SplitsAt, IsLongestCommonFront};
 ghost use Rattle.jsonptr.specs.Slice.{GivesRange, GivesFrom, GivesTo, GivesAll, GivesInclusive, GivesToInclusive, GivesBounds};
 ghost use Rattle.jsonptr.specs.Types.ParseError.{ParseError};
+ghost use Rattle.jsonptr.specs.Types.EncodingError.{EncodingError};
+ghost use Rattle.jsonptr.specs.Types.ParseIndexError.{ParseIndexError};
+ghost use Rattle.jsonptr.specs.declared.resolve.Error as resolving;
+ghost use Rattle.jsonptr.specs.declared.assign.Error as assigning;
 ghost use Rattle.jsonptr.specs.declared.pointer.Pointer.{Pointer};
 ghost use Rattle.jsonptr_laws.specs.Answers.{SamePointer};
 
@@ -37,8 +45,16 @@ pub fn range_law()
         → GivesBounds a b ts r → GivesBounds a b ts q → SamePointer r q }
 {}
 
-/// An error of parsing puts one list of labels, or none, on a subject of each length.
+/// Each error puts one list of labels, or none, on each subject, whether that gave the error or not.
 pub fn label_law()
-    ensures { (e : ParseError) (len : ℕ) (r q : Option (List Mark))
-        → IsLabelled e len r → IsLabelled e len q → r ≡ q }
+    ensures parsing { (e : ParseError) (len : ℕ) (r q : Option (List Mark))
+        → parsing.IsLabelled e len r → parsing.IsLabelled e len q → r ≡ q }
+    ensures encoding { (e : EncodingError) (len : ℕ) (r q : Option (List Mark))
+        → token.IsLabelled e len r → token.IsLabelled e len q → r ≡ q }
+    ensures index { (e : ParseIndexError) (s : Text) (r q : Option (List Mark))
+        → index.IsLabelled e s r → index.IsLabelled e s q → r ≡ q }
+    ensures resolving { (e : resolving.Error) (ts : List Text) (r q : Option (List Mark))
+        → resolve.IsLabelled e ts r → resolve.IsLabelled e ts q → r ≡ q }
+    ensures assigning { (e : assigning.Error) (ts : List Text) (r q : Option (List Mark))
+        → assign.IsLabelled e ts r → assign.IsLabelled e ts q → r ≡ q }
 {}

@@ -5,6 +5,8 @@
 #[cfg(test)]
 mod indices;
 #[cfg(test)]
+mod labels;
+#[cfg(test)]
 mod parsing;
 #[cfg(test)]
 mod plain;

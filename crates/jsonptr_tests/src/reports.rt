@@ -54,17 +54,17 @@ impl Diagnostic for Misspelt {
 }
 
 /// A report, through the bound.
-fn reported<E: Diagnostic>(error: E, subject: E::Subject) -> Report<E> {
+pub(crate) fn reported<E: Diagnostic>(error: E, subject: E::Subject) -> Report<E> {
     error.into_report(subject)
 }
 
 /// The address of an error's page, through the bound.
-fn address_of<E: Diagnostic>() -> &'static str {
+pub(crate) fn address_of<E: Diagnostic>() -> &'static str {
     E::url()
 }
 
 /// The labels that a report's error puts on its subject, through the bound.
-fn labels_of<E: Diagnostic>(
+pub(crate) fn labels_of<E: Diagnostic>(
     alloc: Global,
     report: &Report<E>,
 ) -> Result<Option<Vec<Label>>, AllocError> {
@@ -72,7 +72,7 @@ fn labels_of<E: Diagnostic>(
 }
 
 /// What a report displays, through the bound.
-fn text_of<E: Diagnostic + fmt::Display>(
+pub(crate) fn text_of<E: Diagnostic + fmt::Display>(
     alloc: Global,
     report: &Report<E>,
 ) -> Result<String, AllocError> {
@@ -80,7 +80,7 @@ fn text_of<E: Diagnostic + fmt::Display>(
 }
 
 /// How a value is shown to a programmer, through the bound.
-fn debug_of<T: fmt::Debug>(alloc: Global, value: &T) -> Result<String, AllocError> {
+pub(crate) fn debug_of<T: fmt::Debug>(alloc: Global, value: &T) -> Result<String, AllocError> {
     format!(in alloc; "{value:?}")
 }
 
@@ -90,7 +90,7 @@ fn copy_of<T: Clone>(value: &T) -> Result<T, AllocError> {
 }
 
 /// Whether two values are equal, through the bound.
-fn are_equal<T: Eq>(a: &T, b: &T) -> bool {
+pub(crate) fn are_equal<T: Eq>(a: &T, b: &T) -> bool {
     a == b
 }
 

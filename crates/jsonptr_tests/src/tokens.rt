@@ -48,6 +48,14 @@ fn decoded_texts(rt: HostRuntime) -> Result<(), Fail> {
     Ok(())
 }
 
+#[test]
+fn texts_that_are_known_to_be_tokens(rt: HostRuntime) -> Result<(), Fail> {
+    let token = Token::from_encoded_unchecked(CowStr::Borrowed("~1~0"));
+    assert_eq!(rt; token.encoded(), "~1~0");
+    assert_eq!(rt; token.decoded(rt.alloc())?.as_str(), "/~");
+    Ok(())
+}
+
 /// Whether the token of a text has this encoded text, and the text as its decoded and its printed text.
 fn encodes(alloc: Global, text: &str, encoded: &str) -> Result<bool, AllocError> {
     let token = Token::new(alloc, CowStr::Borrowed(text))?;

@@ -16,7 +16,7 @@ pub fn split_front(pointer: &str) -> Option<(Token<'_>, &str)>
     ensures rest { IfSome result (λ r. text (tokens_of r.1.now) ≡ r.1.now) }
 {
     let (first, rest) = place::cut(pointer)?;
-    let token = Token::from_encoded(CowStr::Borrowed(first)).unwrap();
+    let token = Token::from_encoded_unchecked(CowStr::Borrowed(first));
     Some((token, rest))
 }
 
@@ -29,7 +29,7 @@ pub fn split_back(pointer: &str) -> Option<(&str, Token<'_>)>
     ensures front { IfSome result (λ r. text (tokens_of r.0.now) ≡ r.0.now) }
 {
     let (front, last) = place::cut_back(pointer)?;
-    let token = Token::from_encoded(CowStr::Borrowed(last)).unwrap();
+    let token = Token::from_encoded_unchecked(CowStr::Borrowed(last));
     Some((front, token))
 }
 

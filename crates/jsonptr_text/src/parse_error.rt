@@ -122,12 +122,7 @@ impl Error for ParseError {}
 
 impl Diagnostic for ParseError {
     ghost use Rattle.std.specs.Prelude.{codes, string_bytes};
-    ghost use Rattle.jsonptr_base.specs.Diagnostic.{listed};
-    ghost use Rattle.jsonptr_text.specs.ParseError.{
-      IsLabelled,
-      pointer_offset_of,
-      source_offset_of,
-    };
+    ghost use Rattle.jsonptr_text.specs.ParseError.{IsLabelled};
 
     type Subject = String;
 
@@ -139,12 +134,7 @@ impl Diagnostic for ParseError {
         "https://docs.rs/jsonptr/0.8.2/jsonptr/enum.ParseError.html"
     }
 
-    fn labels(&self, alloc: Global, subject: &String) -> Result<Option<Vec<Label>>, AllocError>
-        ensures labels { IfOk result
-            (λ answer. IsLabelled self.now (length (string_bytes subject.now)) (listed answer)) }
-        ensures no_memory { 2 ^ 64 ≤ pointer_offset_of self.now + source_offset_of self.now
-            → IsOk result }
-    {
+    fn labels(&self, alloc: Global, subject: &String) -> Result<Option<Vec<Label>>, AllocError> {
         match self {
             ParseError::NoLeadingSlash => one_label(alloc, "must start with a slash ('/')", 0, 0),
             ParseError::InvalidEncoding { offset, source } => {

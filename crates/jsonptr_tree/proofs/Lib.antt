@@ -8,7 +8,10 @@ pub mod LandingLemmas
 pub mod GrowingLemmas
 pub mod AssigningLemmas
 pub mod RemovingLemmas
+pub mod ContentLemmas
+pub mod ContentMapLemmas
+pub mod LevelLemmas
+pub mod ContentOrderLemmas
 pub mod JsonLemmas
-pub mod JsonWritingLemmas
-pub mod JsonMapLemmas
 pub mod JsonOrderLemmas
+pub mod TomlLemmas

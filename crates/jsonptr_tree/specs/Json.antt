@@ -1,63 +1,46 @@
--- The node map of a JSON value.
-use Rattle.std.specs.Prelude.{◌≡◌, ℕ, suc, List, [], ◌∷◌, Option, Some, option_and_then, option_map}
-use Rattle.std.specs.declared.cmp.Ordering.TheVariants.{Less}
-use Rattle.std.specs.Ordering.{nat_cmp}
-use Rattle.std.specs.Cmp.Lexicographic.{slice_cmp}
-use Rattle.serde_json.specs.Data.{Data, null, boolean, number, string, array, object, Items, no_items, item, Members, no_members, member}
-use Rattle.serde_json.specs.Find.{get, at}
+-- What a JSON value holds, and its node map.
+use Rattle.std.specs.Prelude.{List, Option}
+use Rattle.serde_json.specs.Data as json
 use Rattle.jsonptr_grammar.specs.Text.{Text}
-use Rattle.jsonptr_tree.specs.Node.{Step, key, place, Path, Label, an_object, an_array, a_leaf, of_json, NodeMap, Names}
+use Rattle.jsonptr_tree.specs.Node.{Path, of_json, NodeMap}
+use Rattle.jsonptr_tree.specs.Content.{Content, scalar, array, object, Items, no_items, item, Members, no_members, member, content_at, map_of, FindsContent, InOrder, ItemsInOrder, MembersInOrder}
 
-abbrev pub items_len : Items → ℕ
-items_len no_items = 0
-items_len (item d ds) = suc (items_len ds)
+-- null, booleans, numbers and strings are scalars
+abbrev mutual
+  pub content : json.Data → Content
+  content json.null = scalar (of_json json.null)
+  content (json.boolean b) = scalar (of_json (json.boolean b))
+  content (json.number n) = scalar (of_json (json.number n))
+  content (json.string s) = scalar (of_json (json.string s))
+  content (json.array ds) = array (items ds)
+  content (json.object ms) = object (members ms)
 
-abbrev pub label_of : Data → Label
-label_of null = a_leaf (of_json null)
-label_of (boolean b) = a_leaf (of_json (boolean b))
-label_of (number n) = a_leaf (of_json (number n))
-label_of (string s) = a_leaf (of_json (string s))
-label_of (array ds) = an_array (items_len ds)
-label_of (object ms) = an_object
+  pub items : json.Items → Items
+  items json.no_items = no_items
+  items (json.item d ds) = item (content d) (items ds)
 
--- the member under a key, or the element at a place
-abbrev pub child : Step → Data → Option Data
-child (key k) d = get k d
-child (place i) d = at i d
+  pub members : json.Members → Members
+  members json.no_members = no_members
+  members (json.member k d ms) = member k (content d) (members ms)
 
--- the value at a path
-abbrev pub value_at : Path → Data → Option Data
-value_at [] d = Some d
-value_at (s ∷ w) d = option_and_then (value_at w) (child s d)
+-- the label at each path of a value
+abbrev pub nodes : json.Data → NodeMap
+nodes d = map_of (content d)
 
-abbrev pub nodes : Data → NodeMap
-nodes d = λ w. option_map label_of (value_at w d)
+-- what stands at a path of a value
+abbrev pub value_at : Path → json.Data → Option Content
+value_at w d = content_at w (content d)
 
 -- the tokens name a path of d, and e is the value there
-pub record FindsValue (d : Data) (tokens : List Text) (e : Data) : Type 0 where
-  pub path : Path
-  pub named : Names (nodes d) tokens path
-  pub there : value_at path d ≡ Some e
-
--- each of the keys is above this one
-abbrev pub KeysAbove : List ℕ → Members → Type 0
-KeysAbove k no_members = Unit {0}
-KeysAbove k (member l d ms) = (slice_cmp nat_cmp k l ≡ Less) × KeysAbove k ms
+abbrev pub FindsValue : json.Data → List Text → json.Data → Type 0
+FindsValue d tokens e = FindsContent (content d) tokens (content e)
 
 -- in each object of a value the keys ascend, as those of a Rust map do
-abbrev mutual
-  pub KeysAscend : Data → Type 0
-  KeysAscend null = Unit {0}
-  KeysAscend (boolean b) = Unit {0}
-  KeysAscend (number n) = Unit {0}
-  KeysAscend (string s) = Unit {0}
-  KeysAscend (array ds) = ItemsAscend ds
-  KeysAscend (object ms) = MembersAscend ms
+abbrev pub KeysAscend : json.Data → Type 0
+KeysAscend d = InOrder (content d)
 
-  pub ItemsAscend : Items → Type 0
-  ItemsAscend no_items = Unit {0}
-  ItemsAscend (item d ds) = KeysAscend d × ItemsAscend ds
+abbrev pub ItemsAscend : json.Items → Type 0
+ItemsAscend ds = ItemsInOrder (items ds)
 
-  pub MembersAscend : Members → Type 0
-  MembersAscend no_members = Unit {0}
-  MembersAscend (member k d ms) = KeysAscend d × KeysAbove k ms × MembersAscend ms
+abbrev pub MembersAscend : json.Members → Type 0
+MembersAscend ms = MembersInOrder (members ms)

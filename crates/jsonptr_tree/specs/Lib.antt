@@ -2,7 +2,9 @@
 -- leads (RFC 6901, section 4).
 pub mod Node
 pub mod Following
+pub mod Content
 pub mod Json
+pub mod TomlValue
 pub mod Put
 pub mod Growing
 pub mod Landing

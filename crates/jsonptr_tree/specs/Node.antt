@@ -1,6 +1,7 @@
 -- A document as the map from its paths to what stands there (RFC 6901, section 4).
 use Rattle.std.specs.Prelude.{◌≡◌, ℕ, ◌<◌, List, [], ◌∷◌, ◌++◌, length, Option, Some, None, IsSome, ⊤, Contains}
 use Rattle.serde_json.specs.Data.{Data}
+use Rattle.toml.specs.Data.{Data as TomlData}
 use Rattle.jsonptr_grammar.specs.Text.{Text, dec}
 
 -- one step down: to the member under a key, or to the element at a place
@@ -14,6 +15,7 @@ Path = List Step
 -- a value that is neither an object nor an array, as its crate sees it
 pub data Scalar : Type 0 where
   of_json : Data → Scalar
+  of_toml : TomlData → Scalar
 
 -- what stands at a path: an object, an array of some length, or a scalar
 pub data Label : Type 0 where

@@ -18,19 +18,23 @@ ghost use Rattle.jsonptr_tree.specs.Put.{put};
 ghost use Rattle.jsonptr_tree.specs.Growing.{with_one};
 ghost use Rattle.jsonptr_tree.specs.Assigning.{with_room};
 ghost use Rattle.jsonptr_tree.specs.Removing.{without_step};
-ghost use Rattle.jsonptr_tree.specs.Json.{value_at, nodes, FindsValue, KeysAscend};
+ghost use Rattle.jsonptr_tree.specs.Content.{Content, content_at, map_of};
+ghost use Rattle.jsonptr_tree.specs.Json.{content, value_at, nodes, FindsValue, KeysAscend};
 
 /// RFC 6901, section 4: what stands in a JSON document at which path. The map of each value is a
 /// tree with finitely many nodes, and the map below a path is the map of the value there. Tokens
-/// find one value at most, and the map that they find is the map of that value. An array has an
+/// find one value at most, and the map that they find is the map of that value. What a value holds
+/// tells the value, and what stands in it at a path is what some value holds. An array has an
 /// element at each place below its length and an object a member at each of its keys, as the Rust
 /// value has, and every other value is a leaf.
 pub fn json_law()
     ensures tree { (d : Data) → IsTree (nodes d) }
     ensures finite { (d : Data) → IsListed (nodes d) }
-    ensures below { (w : Path) (d e : Data) → value_at w d ≡ Some e → nodes e ≡ sub (nodes d) w }
+    ensures below { (w : Path) (d : Data) (e : Content)
+        → value_at w d ≡ Some e
+        → map_of e ≡ sub (nodes d) w }
     ensures path { (w v : Path) (d : Data)
-        → value_at (w ++ v) d ≡ option_and_then (value_at v) (value_at w d) }
+        → value_at (w ++ v) d ≡ option_and_then (content_at v) (value_at w d) }
     ensures finds { (d : Data) (tokens : List Text) (e : Data)
         → FindsValue d tokens e
         → Finds (nodes d) tokens (nodes e) }
@@ -38,15 +42,21 @@ pub fn json_law()
         → FindsValue d tokens e
         → FindsValue d tokens f
         → e ≡ f }
+    ensures content { (d e : Data) → content d ≡ content e → d ≡ e }
+    ensures value { (w : Path) (d : Data) (c : Content)
+        → value_at w d ≡ Some c
+        → (e : Data) × (c ≡ content e) }
     ensures array { (v : Vec Value Global)
         → nodes (view (Array v)) [] ≡ Some (an_array (length v.items)) }
     ensures element { (v : Vec Value Global) (i : ℕ) (x : Value)
         → i < length v.items
-        → value_at (place i ∷ []) (view (Array v)) ≡ Some (view (slice_index_or v.items i x)) }
+        → value_at (place i ∷ []) (view (Array v))
+        ≡ Some (content (view (slice_index_or v.items i x))) }
     ensures object { (m : BTreeMap (String Global) Value)
         → nodes (view (Object m)) [] ≡ Some an_object }
     ensures member { (m : BTreeMap (String Global) Value) (k : List ℕ)
-        → value_at (key k ∷ []) (view (Object m)) ≡ option_map view (get_by_text m k) }
+        → value_at (key k ∷ []) (view (Object m))
+        ≡ option_map (λ v. content (view v)) (get_by_text m k) }
     ensures null { nodes (view Null) [] ≡ Some (a_leaf (of_json null)) }
     ensures boolean { (b : Bool)
         → nodes (view (of_bool b)) [] ≡ Some (a_leaf (of_json (boolean b))) }

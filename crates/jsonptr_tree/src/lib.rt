@@ -5,4 +5,5 @@
 
 pub mod following;
 pub mod json;
+pub mod toml_value;
 pub mod writing;

@@ -6,6 +6,7 @@ use serde_json::Value;
 use std::borrow::CowStr;
 
 mod edits;
+mod toml_writes;
 mod writes;
 
 fn main(rt: HostRuntime) -> anyhow::Result<()> {

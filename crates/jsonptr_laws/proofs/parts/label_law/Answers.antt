@@ -1,5 +1,19 @@
-use Rattle.jsonptr_laws.proofs.PartLemmas.{label_one}
+use Rattle.jsonptr.specs.Resolve as resolve
+use Rattle.jsonptr.specs.Assign as assign
+use Rattle.jsonptr_laws.proofs.PartLemmas.{label_one, encoding_label_one, index_label_one, token_label_one}
 use Rattle.jsonptr_laws.proofs.parts.label_law.Goals as goal
 
-pub returns : goal.returns
-returns c = label_one
+pub returns-clause-parsing : goal.returns-clause-parsing
+returns-clause-parsing c = label_one
+
+pub returns-clause-encoding : goal.returns-clause-encoding
+returns-clause-encoding c = encoding_label_one
+
+pub returns-clause-index : goal.returns-clause-index
+returns-clause-index c = index_label_one
+
+pub returns-clause-resolving : goal.returns-clause-resolving
+returns-clause-resolving c e = token_label_one (resolve.label_words e) (resolve.position_of e) (resolve.offset_of e)
+
+pub returns-clause-assigning : goal.returns-clause-assigning
+returns-clause-assigning c e = token_label_one (assign.label_words e) (assign.position_of e) (assign.offset_of e)

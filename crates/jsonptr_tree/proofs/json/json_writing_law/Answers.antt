@@ -1,23 +1,25 @@
-use Rattle.jsonptr_tree.proofs.JsonWritingLemmas.{nodes-set, nodes-push, nodes-remove, nodes-one_element, nodes-insert, nodes-remove_member, nodes-one_member}
+use Rattle.serde_json.specs.declared.value.Value.{Array, Object}
+use Rattle.jsonptr_tree.proofs.JsonLemmas.{content_of, array_is, object_is}
+use Rattle.jsonptr_tree.proofs.LevelLemmas.{map_of-set, map_of-push, map_of-remove, map_of-one_element, map_of-insert, map_of-remove_member, map_of-one_member}
 use Rattle.jsonptr_tree.proofs.json.json_writing_law.Goals as goal
 
 pub returns-clause-set : goal.returns-clause-set
-returns-clause-set c = nodes-set
+returns-clause-set c = map_of-set content_of Array array_is
 
 pub returns-clause-push : goal.returns-clause-push
-returns-clause-push c = nodes-push
+returns-clause-push c = map_of-push content_of Array array_is
 
 pub returns-clause-remove : goal.returns-clause-remove
-returns-clause-remove c = nodes-remove
+returns-clause-remove c = map_of-remove content_of Array array_is
 
 pub returns-clause-one_element : goal.returns-clause-one_element
-returns-clause-one_element c = nodes-one_element
+returns-clause-one_element c = map_of-one_element content_of Array array_is
 
 pub returns-clause-insert : goal.returns-clause-insert
-returns-clause-insert c = nodes-insert
+returns-clause-insert c = map_of-insert content_of Object object_is
 
 pub returns-clause-remove_member : goal.returns-clause-remove_member
-returns-clause-remove_member c = nodes-remove_member
+returns-clause-remove_member c = map_of-remove_member content_of Object object_is
 
 pub returns-clause-one_member : goal.returns-clause-one_member
-returns-clause-one_member c = nodes-one_member
+returns-clause-one_member c = map_of-one_member content_of Object object_is

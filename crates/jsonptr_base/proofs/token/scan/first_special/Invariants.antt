@@ -1,4 +1,3 @@
-use Rattle.std.proofs.Common.{◌≡◌, ℕ, ◌<◌}
 use Rattle.memchr.specs.Find.{Nowhere, Passes, is_byte2}
 use Rattle.jsonptr_base.proofs.token.scan.first_special.Given as goal
 

@@ -2,17 +2,18 @@ use Rattle.std.proofs.Common.{rules, string_bytes}
 use Rattle.serde_json.specs.View.{view}
 use Rattle.serde_json.specs.declared.value.Value.{Object, the_lemmas}
 use Rattle.jsonptr_tree.specs.Json.{KeysAscend}
-use Rattle.jsonptr_tree.proofs.JsonOrderLemmas.{ascends_insert}
-use Rattle.jsonptr_document.proofs.JsonChildren.{object-insert}
+use Rattle.jsonptr_tree.proofs.ContentOrderLemmas.{ascends_insert}
+use Rattle.jsonptr_tree.proofs.JsonLemmas.{content_of, object_is}
+use Rattle.jsonptr_document.proofs.LevelChildren.{object-insert}
 use Rattle.jsonptr_document.proofs.json.ValueDocumentMut.insert.Goals as goal
 
 pub returns-clause-inserted : goal.returns-clause-inserted
 returns-clause-inserted c =
-    let inserted = object-insert c.in-Object.members c.insert.new.self (string_bytes c.args.name) c.args.value (rw c.in-Object.members-is at c.in_ok-insert.ensures.updates) in
+    let inserted = object-insert content_of Object object_is c.in-Object.members c.insert.new.self (string_bytes c.args.name) c.args.value (rw c.in-Object.members-is at c.in_ok-insert.ensures.updates) in
     search (rules, the_lemmas, inserted)
 
 pub returns-clause-order : goal.returns-clause-order
 returns-clause-order c = λ h.
     let entries = rw c.in-Object.members-is at c.in_ok-insert.ensures.entries in
-    let kept : KeysAscend (view (Object c.in-Object.members)) → KeysAscend (view (Object c.insert.new.self)) = λ a. ascends_insert c.in-Object.members c.insert.new.self a c.args.name c.args.value h entries in
+    let kept : KeysAscend (view (Object c.in-Object.members)) → KeysAscend (view (Object c.insert.new.self)) = λ a. ascends_insert content_of Object object_is c.in-Object.members c.insert.new.self a c.args.name c.args.value h entries in
     search (rules, the_lemmas, kept)

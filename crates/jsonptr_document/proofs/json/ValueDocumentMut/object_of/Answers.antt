@@ -1,6 +1,8 @@
 use Rattle.std.proofs.Common.{string_bytes}
-use Rattle.jsonptr_document.proofs.JsonChildren.{one_member}
+use Rattle.serde_json.specs.declared.value.Value.{Object}
+use Rattle.jsonptr_tree.proofs.JsonLemmas.{content_of, object_is}
+use Rattle.jsonptr_document.proofs.LevelChildren.{one_member}
 use Rattle.jsonptr_document.proofs.json.ValueDocumentMut.object_of.Goals as goal
 
 pub returns-clause-map : goal.returns-clause-map
-returns-clause-map c = one_member c.new-object.result c.insert.new.self (string_bytes c.args.name) c.args.value c.new-object.ensures.empty c.in_ok-insert.ensures.updates
+returns-clause-map c = one_member content_of Object object_is c.new-object.result c.insert.new.self (string_bytes c.args.name) c.args.value c.new-object.ensures.empty c.in_ok-insert.ensures.updates

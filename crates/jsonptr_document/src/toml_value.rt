@@ -1,0 +1,95 @@
+//! TOML values as documents.
+use crate::document::{Document, Node};
+use crate::stepping::Way;
+use crate::writing::DocumentMut;
+use std::alloc::{AllocError, Global};
+use toml::{Table, Value};
+
+impl Document for Value {
+    ghost use Rattle.std.specs.Prelude.{◌≡◌, [], ◌∷◌, Some, refl};
+    ghost use Rattle.std.proofs.Common.{◌∙◌};
+    ghost use Rattle.toml.specs.View.{view};
+    ghost use Rattle.jsonptr_tree.specs.TomlValue.{content, nodes as toml_nodes, value_at, KeysAscend};
+    ghost use Rattle.jsonptr_tree.proofs.TomlLemmas.{nodes-sub, value_at-below, ascends_part};
+
+    ghost nodes = { λ v. toml_nodes (view v) };
+
+    ghost stands_at = { λ v w u. value_at w (view v) ≡ Some (content (view u)) };
+
+    ghost in_order = { λ v. KeysAscend (view v) };
+
+    fn node(&self) -> Node<'_, Value> {
+        match self {
+            Value::String(_) => Node::Leaf,
+            Value::Integer(_) => Node::Leaf,
+            Value::Float(_) => Node::Leaf,
+            Value::Boolean(_) => Node::Leaf,
+            Value::Datetime(_) => Node::Leaf,
+            Value::Array(elements) => Node::Array(elements),
+            Value::Table(members) => Node::Object(members),
+        }
+    }
+
+    ghost has_root = { λ d. refl };
+
+    ghost here = { λ d. refl };
+
+    ghost below = { λ d e f w s h k. value_at-below w (s ∷ []) (view d) (view e) h ∙ k };
+
+    ghost is_sub = { λ d e w h. nodes-sub w (view d) (view e) h };
+
+    ghost part_in_order = { λ d e w h a. ascends_part w (view d) (view e) a h };
+}
+
+impl DocumentMut for Value {
+    ghost use Rattle.toml.specs.Data.{table, no_members};
+    ghost use Rattle.toml.specs.View.{view};
+    ghost use Rattle.jsonptr_tree.specs.TomlValue.{content, nodes as toml_nodes};
+    ghost use Rattle.jsonptr_tree.proofs.ContentLemmas.{map_of-IsTree};
+
+    ghost blank_map = { toml_nodes (table no_members) };
+
+    fn blank(alloc: Global) -> Value {
+        Value::Table(Table::new(alloc))
+    }
+
+    fn array_of(alloc: Global, element: Value) -> Result<Value, AllocError> {
+        let mut array = Vec::with_capacity(alloc, 1)?;
+        array.push(element)?;
+        Ok(Value::Array(array))
+    }
+
+    fn object_of(alloc: Global, name: String, value: Value) -> Result<Value, AllocError> {
+        let mut table = Table::new(alloc);
+        table.insert(name, value)?;
+        Ok(Value::Table(table))
+    }
+
+    fn push(&mut self, element: Value) -> Result<(), AllocError> {
+        let Value::Array(elements) = self else {
+            unreachable!();
+        };
+        elements.push(element)?;
+        Ok(())
+    }
+
+    fn insert(&mut self, name: String, value: Value) -> Result<(), AllocError> {
+        let Value::Table(members) = self else {
+            unreachable!();
+        };
+        members.insert(name, value)?;
+        Ok(())
+    }
+
+    fn remove(&mut self, way: &Way<'_>) -> Option<Value> {
+        match (self, way) {
+            (Value::Array(elements), Way::Element(place)) if *place < elements.len() => {
+                Some(elements.remove(*place))
+            }
+            (Value::Table(members), Way::Member(key)) => members.remove(key.as_str()),
+            _ => None,
+        }
+    }
+
+    ghost is_tree = { λ d. map_of-IsTree (content (view d)) };
+}

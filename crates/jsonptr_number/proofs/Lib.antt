@@ -1,0 +1,2 @@
+-- Lemmas that several proofs of this crate cite.
+pub mod NumberLemmas

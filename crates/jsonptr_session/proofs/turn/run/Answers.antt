@@ -1,0 +1,19 @@
+use Rattle.std.proofs.lemmas.List.{map-append}
+use Rattle.std.proofs.Common.{◌++◌, ◌∷◌, [], ap, sym, ◌∙◌, append_assoc, arith, length-append}
+use Rattle.jsonptr_session.proofs.RunLemmas.{run_on}
+use Rattle.jsonptr_session.proofs.turn.run.Goals as goal
+
+pub loop-call-preserved : goal.loop-call-preserved
+loop-call-preserved g c =
+    let held = c.loop-call.invariant in
+    let steps = c.in-Some.ensures.steps in
+    let items = rw c.unwrap.ensures at c.push.ensures.items in
+    let len = rw c.unwrap.ensures at c.push.ensures.len in
+    record {
+      callable = tt;
+      finite = tt;
+      rest = append_assoc c.loop-call.yielded (c.in-Some.call ∷ []) _ ∙ ap (λ l. c.loop-call.yielded ++ l) (sym steps.0) ∙ held.rest;
+      room = simp length-append (omega (arith, held.room, held.paired, steps.1, c.push.ensures.capacity));
+      paired = simp length-append (omega (arith, held.paired, len));
+      ran = rw items (simp map-append (run_on g.D.Document.blank _ _ _ _ _ _ _ held.ran c.turn-reply.ensures));
+    }

@@ -1,0 +1,18 @@
+use Rattle.std.proofs.Common.{◌≡◌, ◌+◌, ◌++◌, ◌≤◌, length, map, vec_len, vec_capacity}
+use Rattle.std.specs.Vec.Iter.{into_iter_items, into_iter_len}
+use Rattle.jsonptr_session.specs.Machine.{Runs}
+use Rattle.jsonptr_session.specs.Session.{tells, says}
+use Rattle.jsonptr_session.proofs.turn.run.Given as goal
+
+abbrev pub invariant-loop-call : goal.invariant-loop-call
+invariant-loop-call g l = record {
+  callable : (goal.iterator-loop-call g).can_next l.call-iterator;
+  finite : (goal.iterator-loop-call g).is_finite l.call-iterator;
+  rest : l.yielded ++ into_iter_items l.call-iterator ≡ l.fn.calls.items;
+  room : length l.yielded + into_iter_len l.call-iterator ≤ vec_capacity l.replies;
+  paired : vec_len l.replies ≡ length l.yielded;
+  ran : Runs g.D.Document.blank
+      (record { tokens = l.initial.ptr; nodes = g.D.Document.nodes l.initial.doc })
+      (map (tells g.D.Document.nodes) l.yielded) (map (says g.D.Document.nodes) l.replies.items)
+      (record { tokens = l.ptr; nodes = g.D.Document.nodes l.doc });
+}

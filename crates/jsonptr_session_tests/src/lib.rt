@@ -1,0 +1,12 @@
+//! Tests of sessions, over public items alone: every call with ample memory, and every refusal with all its
+//! fields.
+#![tactic(auto)]
+
+#[cfg(test)]
+mod calls;
+#[cfg(test)]
+mod json;
+#[cfg(test)]
+mod long;
+#[cfg(test)]
+mod toml_documents;

@@ -1,0 +1,113 @@
+//! Laws of TOML values as documents (RFC 6901, section 4).
+
+ghost use Rattle.std.specs.Prelude.{◌≡◌, ℕ, ℤ, ◌<◌, List, [], ◌∷◌, ◌++◌, length, Contains, slice_index_or, slice_set, Option, Some, None, option_map, option_and_then, if◌then◌else◌, Bool, Float, Vec, String, string_bytes};
+ghost use Rattle.std.specs.declared.alloc.Global.{Global};
+ghost use Rattle.std.specs.BTreeMap.{BTreeMap, get_by_text, values, IsOrdered};
+ghost use Rattle.std.specs.String.{string_cmp};
+ghost use Rattle.std.specs.List.{remove};
+ghost use Rattle.std.specs.Map.{update};
+ghost use Rattle.std.specs.Str.{bytes_eq};
+ghost use Rattle.toml.specs.Data.{Data, string, integer, float, boolean, datetime};
+ghost use Rattle.toml.specs.View.{view};
+ghost use Rattle.toml.specs.declared.value.Value.{Value, String as of_string, Integer as of_integer, Float as of_float, Boolean as of_boolean, Datetime as of_datetime, Array, Table};
+ghost use Rattle.jsonptr_grammar.specs.Text.{Text};
+ghost use Rattle.jsonptr_tree.specs.Node.{key, place, Path, an_object, an_array, a_leaf, of_toml, sub, IsTree, IsListed};
+ghost use Rattle.jsonptr_tree.specs.Following.{Finds};
+ghost use Rattle.jsonptr_tree.specs.Put.{put};
+ghost use Rattle.jsonptr_tree.specs.Growing.{with_one};
+ghost use Rattle.jsonptr_tree.specs.Assigning.{with_room};
+ghost use Rattle.jsonptr_tree.specs.Removing.{without_step};
+ghost use Rattle.jsonptr_tree.specs.Content.{Content, content_at, map_of};
+ghost use Rattle.jsonptr_tree.specs.TomlValue.{content, value_at, nodes, FindsValue, KeysAscend};
+
+/// RFC 6901, section 4: what stands in a TOML document at which path. The map of each value is a
+/// tree with finitely many nodes, and the map below a path is the map of the value there. Tokens
+/// find one value at most, and the map that they find is the map of that value. What a value holds
+/// tells the value, and what stands in it at a path is what some value holds. An array has an
+/// element at each place below its length and a table a member at each of its keys, as the Rust
+/// value has, and every other value is a leaf.
+pub fn toml_law()
+    ensures tree { (d : Data) → IsTree (nodes d) }
+    ensures finite { (d : Data) → IsListed (nodes d) }
+    ensures below { (w : Path) (d : Data) (e : Content)
+        → value_at w d ≡ Some e
+        → map_of e ≡ sub (nodes d) w }
+    ensures path { (w v : Path) (d : Data)
+        → value_at (w ++ v) d ≡ option_and_then (content_at v) (value_at w d) }
+    ensures finds { (d : Data) (tokens : List Text) (e : Data)
+        → FindsValue d tokens e
+        → Finds (nodes d) tokens (nodes e) }
+    ensures one_value { (d : Data) (tokens : List Text) (e f : Data)
+        → FindsValue d tokens e
+        → FindsValue d tokens f
+        → e ≡ f }
+    ensures content { (d e : Data) → content d ≡ content e → d ≡ e }
+    ensures value { (w : Path) (d : Data) (c : Content)
+        → value_at w d ≡ Some c
+        → (e : Data) × (c ≡ content e) }
+    ensures array { (v : Vec Value Global)
+        → nodes (view (Array v)) [] ≡ Some (an_array (length v.items)) }
+    ensures element { (v : Vec Value Global) (i : ℕ) (x : Value)
+        → i < length v.items
+        → value_at (place i ∷ []) (view (Array v))
+        ≡ Some (content (view (slice_index_or v.items i x))) }
+    ensures table { (m : BTreeMap (String Global) Value)
+        → nodes (view (Table m)) [] ≡ Some an_object }
+    ensures member { (m : BTreeMap (String Global) Value) (k : List ℕ)
+        → value_at (key k ∷ []) (view (Table m))
+        ≡ option_map (λ v. content (view v)) (get_by_text m k) }
+    ensures string { (s : String Global)
+        → nodes (view (of_string s)) [] ≡ Some (a_leaf (of_toml (string (string_bytes s)))) }
+    ensures integer { (z : ℤ)
+        → nodes (view (of_integer z)) [] ≡ Some (a_leaf (of_toml (integer z))) }
+    ensures float { (x : Float) → nodes (view (of_float x)) [] ≡ Some (a_leaf (of_toml (float x))) }
+    ensures boolean { (b : Bool)
+        → nodes (view (of_boolean b)) [] ≡ Some (a_leaf (of_toml (boolean b))) }
+    ensures datetime { (dt : _)
+        → nodes (view (of_datetime dt)) [] ≡ Some (a_leaf (of_toml (datetime dt))) }
+{}
+
+/// What writing one level of a TOML value makes of its document: an element of an array or a member
+/// of a table that is set is put at its step; one behind the last makes the array longer; one
+/// that is taken out goes, as `delete` of a document would have it; and an array of one element, or
+/// a table of one member, is what `-` or a token grows.
+pub fn toml_writing_law()
+    ensures set { (v w : Vec Value Global) (i : ℕ) (x : Value)
+        → i < length v.items
+        → w.items ≡ slice_set v.items i x
+        → nodes (view (Array w)) ≡ put (nodes (view (Array v))) (place i ∷ []) (nodes (view x)) }
+    ensures push { (v w : Vec Value Global) (x : Value)
+        → w.items ≡ v.items ++ x ∷ []
+        → nodes (view (Array w))
+        ≡ put (with_room (nodes (view (Array v))) (place (length v.items) ∷ []))
+        (place (length v.items) ∷ []) (nodes (view x)) }
+    ensures remove { (v w : Vec Value Global) (i : ℕ)
+        → i < length v.items
+        → w.items ≡ remove v.items i
+        → nodes (view (Array w)) ≡ without_step (place i) (nodes (view (Array v))) }
+    ensures one_element { (v : Vec Value Global) (x : Value)
+        → v.items ≡ x ∷ []
+        → nodes (view (Array v)) ≡ with_one (an_array 1) (place 0) (nodes (view x)) }
+    ensures insert { (m n : BTreeMap (String Global) Value) (k : Text) (x : Value)
+        → ((q : Text) → get_by_text n q ≡ update bytes_eq (get_by_text m) k (Some x) q)
+        → nodes (view (Table n)) ≡ put (nodes (view (Table m))) (key k ∷ []) (nodes (view x)) }
+    ensures remove_member { (m n : BTreeMap (String Global) Value) (k : Text)
+        → ((q : Text) → get_by_text n q ≡ update bytes_eq (get_by_text m) k None q)
+        → nodes (view (Table n)) ≡ without_step (key k) (nodes (view (Table m))) }
+    ensures one_member { (n : BTreeMap (String Global) Value) (k : Text) (x : Value)
+        → ((q : Text) → get_by_text n q ≡ (if bytes_eq k q then Some x else None))
+        → nodes (view (Table n)) ≡ with_one an_object (key k) (nodes (view x)) }
+{}
+
+/// Two TOML values with one map are one value, if in each of their tables the keys ascend, as
+/// those of a Rust map in order do.
+pub fn toml_map_law()
+    ensures one_value { (d e : Data) → KeysAscend d → KeysAscend e → nodes d ≡ nodes e → d ≡ e }
+    ensures array { (v : Vec Value Global)
+        → ((x : Value) → Contains v.items x → KeysAscend (view x))
+        → KeysAscend (view (Array v)) }
+    ensures table { (m : BTreeMap (String Global) Value)
+        → IsOrdered string_cmp m
+        → ((x : Value) → Contains (values m) x → KeysAscend (view x))
+        → KeysAscend (view (Table m)) }
+{}
