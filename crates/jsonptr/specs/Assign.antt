@@ -1,27 +1,16 @@
 -- Assigning a value at a list of tokens, and why none is assigned there (RFC 6901, section 4).
-use Rattle.std.specs.Prelude.{◌≡◌, ◌≢◌, ◌⊎◌, ℕ, List, ◌++◌, All, Option, Some, option_map, Ok, Err, codes, decimal}
-use Rattle.jsonptr_grammar.specs.Text.{Text, text}
-use Rattle.jsonptr_tree.specs.Node.{Path, NodeMap, Names}
-use Rattle.jsonptr_tree.specs.Following.{StopsAt}
+use Rattle.std.specs.Prelude.{ℕ, List, ◌++◌, Option, Ok, Err, codes, decimal}
+use Rattle.jsonptr_grammar.specs.Text.{Text}
+use Rattle.jsonptr_tree.specs.Node.{NodeMap}
 use Rattle.jsonptr_tree.specs.Landing.{LandsNowhere}
-use Rattle.jsonptr_tree.specs.Assigning.{Assigns}
 use Rattle.jsonptr_diagnostic.specs.Diagnostic.{Mark}
 use Rattle.jsonptr_base.specs.Index.{Reads, IsWithinOrNext}
 use Rattle.jsonptr_base.specs.declared.index.Index.{Index}
 use Rattle.jsonptr_base.specs.declared.index.OutOfBoundsError.{OutOfBoundsError}
+pub use Rattle.jsonptr_walk.specs.Putting.{AssignsValue, NeedsNothing}
 use Rattle.jsonptr.specs.Labelling.{IsTokenLabelled}
 use Rattle.jsonptr.specs.declared.assign.Error.{Error}
 use Rattle.jsonptr.specs.declared.assign.Error.TheVariants.{FailedToParseIndex, OutOfBounds}
-
--- the value v, assigned at the tokens, makes the map m of n, and what is given back, if anything is,
--- is the value at which following the tokens stops; the front of them that leads there finds it
-pub record AssignsValue {V : Type 0} (n : NodeMap) (tokens : List Text) (v m : NodeMap)
-    (nodes : V → NodeMap) (finds : List Text → V → Type 0) (answer : Option V) : Type 0 where
-  pub assigned : Assigns n tokens v m (option_map nodes answer)
-  pub given_back : (e : V)
-      → answer ≡ Some e
-      → (front : List Text) × (w : Path) × (rest : List Text)
-      × StopsAt n tokens front w rest × finds front e
 
 -- how many tokens stand before the one at fault
 abbrev pub position_of : Error → ℕ
@@ -47,13 +36,6 @@ pub record RefusesAssign (n : NodeMap) (tokens : List Text) (e : Error) : Type 0
   pub token : Text
   pub nowhere : LandsNowhere n tokens (position_of e) (offset_of e) len token
   pub why : IsNoPlace len token e
-
--- nothing has to be decoded or grown to assign at the tokens: their text has no `~`, and they name a
--- path, or no value lands at them
-pub record NeedsNothing (n : NodeMap) (tokens : List Text) : Type 0 where
-  pub plain : All (λ b. b ≢ 126) (text tokens)
-  pub ends : ((w : Path) × Names n tokens w)
-      ⊎ ((position offset len : ℕ) × (x : Text) × LandsNowhere n tokens position offset len x)
 
 -- what the error displays
 abbrev pub assign_message : Error → Text

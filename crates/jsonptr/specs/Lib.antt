@@ -10,8 +10,6 @@ pub mod Assign
 pub mod Delete
 pub mod Labelling
 pub mod PrivateResolve
-pub mod PrivateDescend
-pub mod PrivateAssign
 pub mod Types
 pub use Rattle.jsonptr_grammar.specs.Text
 pub use Rattle.jsonptr_grammar.specs.Grammar

@@ -1,14 +1,14 @@
 -- Resolving a list of tokens against a document (RFC 6901, sections 4 and 7).
 use Rattle.std.specs.Prelude.{◌≡◌, ℕ, List, Option, ◌++◌, codes, decimal}
 use Rattle.jsonptr_grammar.specs.Text.{Text}
-use Rattle.jsonptr_tree.specs.Node.{Path, Label, NodeMap, Names}
+use Rattle.jsonptr_tree.specs.Node.{Label, NodeMap}
 use Rattle.jsonptr_tree.specs.Following.{StopsBefore}
-use Rattle.jsonptr_tree.specs.Put.{put}
 use Rattle.jsonptr_diagnostic.specs.Diagnostic.{Mark}
 use Rattle.jsonptr_base.specs.Index.{bounds_message}
 use Rattle.jsonptr_document.specs.Child.{IsNoChild}
 use Rattle.jsonptr_document.specs.declared.child.NoChild.{NoChild}
 use Rattle.jsonptr_document.specs.declared.child.NoChild.TheVariants as no_child
+pub use Rattle.jsonptr_walk.specs.Follow.{PutsAt}
 use Rattle.jsonptr.specs.Labelling.{IsTokenLabelled}
 use Rattle.jsonptr.specs.declared.resolve.Error.{Error}
 use Rattle.jsonptr.specs.declared.resolve.Error.TheVariants.{FailedToParseIndex, OutOfBounds, NotFound, Unreachable}
@@ -41,12 +41,6 @@ pub record Refuses (n : NodeMap) (tokens : List Text) (e : Error) : Type 0 where
   pub token : Text
   pub stops : StopsBefore n tokens (position_of e) (offset_of e) label token
   pub why : IsNoChild label token (cause_of e)
-
--- m is the map n with v put at the path that the tokens name
-pub record PutsAt (n : NodeMap) (tokens : List Text) (v m : NodeMap) : Type 0 where
-  pub path : Path
-  pub named : Names n tokens path
-  pub made : m ≡ put n path v
 
 -- what the error displays
 abbrev pub resolve_message : Error → Text

@@ -1,18 +1,14 @@
 //! Taking the value that a pointer names out of a document.
-ghost use Rattle.std.specs.Prelude.{◌≡◌, ◌≢◌, [], ◌∷◌, ◌++◌, All, List, IsOk, IfOk, OnErr, MatchOption};
+ghost use Rattle.std.specs.Prelude.{◌≢◌, All, List, IsOk, IfOk, OnErr, MatchOption};
 ghost use Rattle.jsonptr_grammar.specs.Text.{Text, text};
 ghost use Rattle.jsonptr_tree.specs.Removing.{Deletes};
 ghost use Rattle.jsonptr.specs.Delete.{NamesNothing};
 ghost use Rattle.jsonptr.specs.Pointer.{tokens};
 
-use crate::descend::{Descend, Guide};
 use crate::pointer::Pointer;
-use jsonptr_base::fault::Fault;
-use jsonptr_base::token::Token;
-use jsonptr_document::stepping::way_of;
-use jsonptr_document::writing::DocumentMut;
+use jsonptr_walk::descend::Descend;
+use jsonptr_walk::taking::take;
 use std::alloc::{AllocError, Global};
-use std::mem;
 
 /// A document out of which the value that a pointer names can be taken.
 ///
@@ -81,10 +77,7 @@ impl<D: Descend> Delete for D {
     ghost in_order = { λ d. D.Document.in_order d };
 
     fn delete(&mut self, alloc: Global, ptr: Pointer<'_>) -> Result<Option<D::Node>, AllocError> {
-        match ptr.split_back() {
-            None => take_whole(self, alloc).map(Some),
-            Some((parent, token)) => take_child(self, alloc, parent, &token),
-        }
+        take(self, alloc, ptr.route())
     }
 }
 
@@ -108,56 +101,5 @@ impl<'a> Pointer<'a> {
         ensures no_memory { D.needs_no_memory value.old (tokens self.now) → IsOk result }
     {
         value.delete(alloc, *self)
-    }
-}
-
-/// Takes out the whole document, and leaves a blank one in its place.
-fn take_whole<D: Descend>(document: &mut D, alloc: Global) -> Result<D::Node, AllocError>
-    ensures deleted { IfOk result (λ _. Deletes (D.Document.nodes document.old) []
-        D.Node.DocumentMut.blank_map (D.Document.nodes document.new)) }
-    ensures order { IfOk result (λ _.
-        D.Document.in_order document.old → D.Document.in_order document.new) }
-    ensures found { IfOk result (D.finds document.old []) }
-    ensures no_memory { IsOk result }
-{
-    let guide = Guide {
-        alloc,
-        ptr: Pointer::root(),
-    };
-    match document.descend(&guide) {
-        Ok(node) => Ok(mem::replace(node, D::Node::blank(alloc))),
-        Err(Fault::Refused(_)) => unreachable!(),
-        Err(Fault::Memory(error)) => Err(error),
-    }
-}
-
-/// Takes out what the tokens of the pointer and then this one name, if they name something.
-fn take_child<D: Descend>(
-    document: &mut D,
-    alloc: Global,
-    parent: Pointer<'_>,
-    token: &Token<'_>,
-) -> Result<Option<D::Node>, AllocError>
-    ensures deleted { IfOk result (λ _.
-        Deletes (D.Document.nodes document.old) (tokens parent.entry ++ token.now ∷ [])
-        D.Node.DocumentMut.blank_map (D.Document.nodes document.new)) }
-    ensures order { IfOk result (λ _.
-        D.Document.in_order document.old → D.Document.in_order document.new) }
-    ensures found { IfOk result (λ r. MatchOption r
-        (NamesNothing (D.Document.nodes document.old) (tokens parent.entry ++ token.now ∷ [])
-        × D.is_same document.old document.new)
-        (D.finds document.old (tokens parent.entry ++ token.now ∷ []))) }
-    ensures unchanged { OnErr result (D.is_same document.old document.new) }
-    ensures no_memory { All (λ b. b ≢ 126) (text (tokens parent.entry ++ token.now ∷ []))
-        → IsOk result }
-{
-    let guide = Guide { alloc, ptr: parent };
-    match document.descend(&guide) {
-        Ok(node) => {
-            let way = way_of(&*node, alloc, token)?;
-            Ok(node.remove(&way))
-        }
-        Err(Fault::Refused(_)) => Ok(None),
-        Err(Fault::Memory(error)) => Err(error),
     }
 }

@@ -5,7 +5,6 @@
 pub mod assign;
 pub mod component;
 pub mod delete;
-mod descend;
 mod labelling;
 mod pointer;
 pub mod resolve;

@@ -9,6 +9,7 @@ pub use buf::{PointerBuf, ReplaceError};
 use jsonptr_base::token::Token;
 pub use jsonptr_text::{ParseError, RichParseError};
 use jsonptr_text::{cut, first_fault};
+use jsonptr_walk::route::Route;
 use serde_json::Value;
 use std::alloc::{AllocError, Global};
 use std::fmt;
@@ -30,6 +31,7 @@ pub struct Pointer<'a> {
 
 impl<'a> Pointer<'a> {
     ghost use Rattle.jsonptr.specs.Pointer.{tokens, text_of};
+    ghost use Rattle.jsonptr_walk.specs.Route.{tokens as tokens_on};
     ghost use Rattle.jsonptr_text.specs.ParseError.{TellsPointerFault};
     ghost use Rattle.jsonptr_text.specs.Ends.{IsFirstOf, IsLastOf};
     ghost use Rattle.jsonptr_text.specs.Parts.{BeginsWith, EndsWith, IsSuffix, SplitsAt, IsLongestCommonFront};
@@ -83,6 +85,13 @@ impl<'a> Pointer<'a> {
         ensures tokens { result.now ≡ text (tokens self.now) }
     {
         self.inner
+    }
+
+    /// The pointer's text as a route down a document.
+    pub(crate) fn route(&self) -> Route<'a>
+        ensures { tokens_on result ≡ tokens self.now }
+    {
+        Route::new(self.inner)
     }
 
     /// The length of the pointer's text, in bytes.

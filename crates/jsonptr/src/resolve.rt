@@ -3,20 +3,23 @@ ghost use Rattle.std.specs.Prelude.{◌≡◌, ◌≢◌, ◌↔◌, ℕ, All, I
 ghost use Rattle.std.specs.Borrow.{sem, LendsSoOk};
 ghost use Rattle.jsonptr_grammar.specs.Text.{Text, esc, text};
 ghost use Rattle.jsonptr_base.specs.Fault.{IfRefused, HasMemory};
-ghost use Rattle.jsonptr_document.specs.Child.{FindsChild};
+ghost use Rattle.jsonptr_tree.specs.Node.{NodeMap};
 ghost use Rattle.jsonptr.specs.Pointer.{tokens};
 ghost use Rattle.jsonptr.specs.Resolve.{Refuses, PutsAt};
-ghost use Rattle.jsonptr.specs.PrivateResolve.{FindsAt, RefusesStep};
+ghost use Rattle.jsonptr_walk.specs.Follow.{IsStop};
+ghost use Rattle.jsonptr_walk.specs.PrivateFollow.{FindsAt};
+ghost use Rattle.jsonptr.specs.PrivateResolve.{IsTold};
 
-use crate::descend::{Descend, Guide};
 use crate::labelling::span_of;
 use crate::pointer::{Pointer, PointerBuf};
 use jsonptr_base::diagnostic::{Diagnostic, Label, one_label};
 use jsonptr_base::fault::Fault;
 use jsonptr_base::index::{OutOfBoundsError, ParseIndexError};
-use jsonptr_base::token::Token;
-use jsonptr_document::child::{NoChild, child};
+use jsonptr_document::child::NoChild;
 use jsonptr_document::document::Document;
+use jsonptr_walk::descend::{Descend, Guide};
+use jsonptr_walk::follow::follow;
+use jsonptr_walk::stop::Stop;
 use serde_json::Value;
 use std::alloc::{AllocError, Global};
 use std::fmt;
@@ -70,7 +73,7 @@ impl Resolve for Value {
     ghost needs_no_memory = { λ v tokens. All (λ b. b ≢ 126) (text tokens) };
 
     fn resolve(&self, alloc: Global, ptr: Pointer<'_>) -> Result<&Value, Fault<Error>> {
-        follow(self, alloc, ptr)
+        find(self, alloc, ptr)
     }
 }
 
@@ -166,7 +169,14 @@ impl<D: Descend> ResolveMut for D {
         alloc: Global,
         ptr: Pointer<'_>,
     ) -> Result<&mut D::Node, Fault<Error>> {
-        self.descend(&Guide { alloc, ptr })
+        let guide = Guide {
+            alloc,
+            route: ptr.route(),
+        };
+        match self.descend(&guide) {
+            Ok(node) => Ok(node),
+            Err(fault) => Err(told(fault)),
+        }
     }
 }
 
@@ -228,7 +238,7 @@ fn lend_by<'v, R: ResolveMut>(
 }
 
 /// The value that the pointer names in a document of any kind.
-pub(crate) fn follow<'v, D: Document>(
+pub(crate) fn find<'v, D: Document>(
     value: &'v D,
     alloc: Global,
     ptr: Pointer<'_>,
@@ -238,39 +248,19 @@ pub(crate) fn follow<'v, D: Document>(
     ensures refused { IfRefused result (Refuses (D.nodes value.now) (tokens ptr.entry)) }
     ensures no_memory { All (λ b. b ≢ 126) (text (tokens ptr.entry)) → HasMemory result }
 {
-    let length = ptr.as_str().len();
-    let mut at = value;
-    let mut rest = ptr;
-    let mut position = 0;
-    let mut offset = 0;
-    while let Some((token, after)) = rest.split_front() {
-        at = step(at, alloc, &token, position, offset)?;
-        position += 1;
-        offset = length - after.as_str().len();
-        rest = after;
+    match follow(value, alloc, ptr.route()) {
+        Ok(found) => Ok(found),
+        Err(fault) => Err(told(fault)),
     }
-    Ok(at)
 }
 
-/// The child that the token names, or why there is none, as the error of the whole pointer.
-fn step<'v, D: Document>(
-    at: &'v D,
-    alloc: Global,
-    token: &Token<'_>,
-    position: usize,
-    offset: usize,
-) -> Result<&'v D, Fault<Error>>
-    ensures found { IfOk result (λ r.
-        FindsChild (D.nodes at.now) (D.stands_at at.now) token.now r.now) }
-    ensures refused { IfRefused result (RefusesStep (D.nodes at.now) token.now position offset) }
-    ensures no_memory { All (λ b. b ≢ 126) (esc token.now) → HasMemory result }
+/// The fault of a pointer that can be followed as far as the stop tells.
+fn told(fault: Fault<Stop>) -> Fault<Error>
+    ensures { IsTold fault result }
 {
-    match child(at, alloc, token) {
-        Ok(below) => Ok(below),
-        Err(Fault::Refused(no_child)) => {
-            Err(Fault::Refused(Error::at(position, offset, no_child)))
-        }
-        Err(Fault::Memory(error)) => Err(Fault::Memory(error)),
+    match fault {
+        Fault::Refused(stop) => Fault::Refused(Error::at(stop)),
+        Fault::Memory(error) => Fault::Memory(error),
     }
 }
 
@@ -318,15 +308,18 @@ pub enum Error {
 impl Error {
     ghost use Rattle.jsonptr_base.specs.declared.index.ParseIndexError.{ParseIndexError};
     ghost use Rattle.jsonptr_base.specs.declared.index.OutOfBoundsError.{OutOfBoundsError};
-    ghost use Rattle.jsonptr.specs.Resolve.{position_of, offset_of, cause_of};
+    ghost use Rattle.jsonptr.specs.Resolve.{position_of, offset_of};
     ghost use Rattle.jsonptr.specs.declared.resolve.Error.TheVariants.{FailedToParseIndex, OutOfBounds, NotFound, Unreachable};
 
-    /// The error of a token at this position and offset that names no child.
-    pub(crate) fn at(position: usize, offset: usize, no_child: NoChild) -> Error
-        ensures position { position_of result ≡ position }
-        ensures offset { offset_of result ≡ offset }
-        ensures cause { cause_of result ≡ no_child }
+    /// The error of a pointer that can be followed as far as the stop tells.
+    pub(crate) fn at(stop: Stop) -> Error
+        ensures { (n : NodeMap) (tokens : List Text) → IsStop n tokens stop → Refuses n tokens result }
     {
+        let Stop {
+            position,
+            offset,
+            no_child,
+        } = stop;
         match no_child {
             NoChild::NoIndex(source) => Error::FailedToParseIndex {
                 position,

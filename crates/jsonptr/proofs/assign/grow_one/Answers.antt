@@ -1,9 +1,0 @@
-use Rattle.std.proofs.Common.{sym, ◌∙◌}
-use Rattle.jsonptr.proofs.AssignLemmas.{grows_array, grows_object}
-use Rattle.jsonptr.proofs.assign.grow_one.Goals as goal
-
-pub returns-then-begins_array-clause-map : goal.returns-then-begins_array-clause-map
-returns-then-begins_array-clause-map g c = grows_array g.N.Document.nodes c.args.token.now (g.N.Document.nodes c.args.value) c.array_of.result (sym c.begins_array.ensures ∙ c.if-begins_array.true) c.array_of.ensures.map
-
-pub returns-clause-map : goal.returns-clause-map
-returns-clause-map g c = grows_object g.N.Document.nodes c.args.token.now (g.N.Document.nodes c.args.value) c.object_of.result _ (sym c.begins_array.ensures ∙ c.if-begins_array.false) c.in_ok-key.ensures c.object_of.ensures.map
