@@ -3,12 +3,14 @@
 pub mod Pointer
 pub mod Tokens
 pub mod Slice
+pub mod Slashes
 pub mod Component
 pub mod PointerBuf
 pub mod Resolve
 pub mod Assign
 pub mod Delete
 pub mod Labelling
+pub mod PrivateSlice
 pub mod PrivateResolve
 pub mod Types
 pub use Rattle.jsonptr_grammar.specs.Text
@@ -27,6 +29,7 @@ pub use Rattle.jsonptr_tree.specs.TomlValue
 pub use Rattle.jsonptr_base.specs.Fault
 pub use Rattle.jsonptr_base.specs.Diagnostic
 pub use Rattle.jsonptr_base.specs.Report
+pub use Rattle.jsonptr_base.specs.Rendering
 pub use Rattle.jsonptr_base.specs.Token
 pub use Rattle.jsonptr_number.specs.Number
 pub use Rattle.jsonptr_base.specs.Index

@@ -1,6 +1,7 @@
 -- What contracts see of a `Pointer`.
-use Rattle.std.specs.Prelude.{List}
+use Rattle.std.specs.Prelude.{◌≡◌, ℕ, List, [], ◌∷◌, ◌++◌, Option, MatchOption}
 use Rattle.jsonptr_grammar.specs.Text.{Text, tokens_of}
+use Rattle.jsonptr_text.specs.Parts.{SplitsAt}
 use Rattle.jsonptr.specs.declared.pointer.Pointer.{Pointer}
 
 -- its decoded tokens, in order
@@ -10,3 +11,13 @@ tokens p = tokens_of p.inner.now
 -- its text
 abbrev pub text_of : Pointer → Text
 text_of p = p.inner.now
+
+-- the pointer of the tokens before the last one, or `None` where there are none
+abbrev pub IsParentOf : List Text → Option Pointer → Type 0
+IsParentOf ts r = MatchOption r (ts ≡ []) (λ p. (t : Text) × (ts ≡ tokens p ++ t ∷ []))
+
+-- the pointers of the tokens before a place in the text and from it on, or `None` where no slash stands there
+abbrev pub IsSplitOf : List Text → ℕ → Option (Pointer × Pointer) → Type 0
+IsSplitOf ts offset r = MatchOption r
+    ((front rest : List Text) → SplitsAt ts offset front rest → ⊥)
+    (λ parts. SplitsAt ts offset (tokens parts.0) (tokens parts.1))

@@ -1,16 +1,16 @@
 //! Assigning a value at the place that a pointer names, and growing what the document lacks on the way
 //! (RFC 6901, section 4).
-ghost use Rattle.std.specs.Prelude.{◌≡◌, ◌↔◌, ℕ, List, IsTrue, Option, Some, IfOk, OnErr, string_bytes};
+ghost use Rattle.std.specs.Prelude.{◌≡◌, ◌↔◌, ℕ, List, IsTrue, Option, Some, IfOk, OnErr};
 ghost use Rattle.jsonptr_grammar.specs.Text.{Text};
 ghost use Rattle.jsonptr_tree.specs.Node.{NodeMap};
 ghost use Rattle.jsonptr_base.specs.Fault.{IfRefused, HasMemory};
 ghost use Rattle.jsonptr_walk.specs.Putting.{IsNowhere};
 ghost use Rattle.jsonptr.specs.Pointer.{tokens};
-ghost use Rattle.jsonptr.specs.Assign.{AssignsValue, RefusesAssign, NeedsNothing, above_words};
+ghost use Rattle.jsonptr.specs.Assign.{AssignsValue, RefusesAssign, NeedsNothing};
 
-use crate::labelling::span_of;
+use crate::labelling::token_label;
 use crate::pointer::{Pointer, PointerBuf};
-use jsonptr_base::diagnostic::{Diagnostic, Label, one_label};
+use jsonptr_base::diagnostic::{Diagnostic, Label};
 use jsonptr_base::fault::Fault;
 use jsonptr_base::index::{OutOfBoundsError, ParseIndexError};
 use jsonptr_document::document::Document;
@@ -269,31 +269,19 @@ impl Diagnostic for Error {
         alloc: Global,
         subject: &PointerBuf,
     ) -> Result<Option<Vec<Label>>, AllocError> {
-        let Some((place, len)) = span_of(subject.as_ptr(), self.position(), self.offset()) else {
-            return Ok(None);
-        };
+        let (position, offset) = (self.position(), self.offset());
         match self {
             Error::FailedToParseIndex { .. } => {
-                one_label(alloc, "expected array index or '-'", place, len)
+                let words = "expected array index or '-'";
+                token_label(alloc, subject, position, offset, &words)
             }
             Error::OutOfBounds { source, .. } => {
-                let text = above_words(alloc, source)?;
-                Ok(Some(vec![in alloc; Label::new(text, place, len)]?))
+                let words = format_args!(
+                    "{} is out of bounds (len: {})",
+                    source.index, source.length
+                );
+                token_label(alloc, subject, position, offset, &words)
             }
         }
     }
-}
-
-/// The words of a label for an index above the length of an array.
-///
-/// # Errors
-///
-/// [`AllocError`] where a request for memory is refused.
-fn above_words(alloc: Global, source: &OutOfBoundsError) -> Result<String, AllocError>
-    ensures { IfOk result (λ text. string_bytes text ≡ above_words source.now) }
-{
-    format!(in alloc;
-        "{} is out of bounds (len: {})",
-        source.index, source.length
-    )
 }

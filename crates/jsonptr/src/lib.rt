@@ -18,5 +18,7 @@ pub use jsonptr_base::fault::Fault;
 pub use jsonptr_base::token::{EncodingError, InvalidEncoding, InvalidEncodingError, Token};
 pub use jsonptr_base::{diagnostic, index, token};
 pub use jsonptr_text::laws;
-pub use pointer::{ParseError, Pointer, PointerBuf, ReplaceError, RichParseError, Tokens};
+pub use pointer::{
+    ParseError, Pointer, PointerBuf, PointerIndex, ReplaceError, RichParseError, Tokens,
+};
 pub use resolve::{Resolve, ResolveMut};

@@ -11,6 +11,7 @@ pub use jsonptr_text::{ParseError, RichParseError};
 use jsonptr_text::{cut, first_fault};
 use jsonptr_walk::route::Route;
 use serde_json::Value;
+pub use slice::PointerIndex;
 use std::alloc::{AllocError, Global};
 use std::fmt;
 pub use tokens::Tokens;
@@ -30,11 +31,11 @@ pub struct Pointer<'a> {
 }
 
 impl<'a> Pointer<'a> {
-    ghost use Rattle.jsonptr.specs.Pointer.{tokens, text_of};
+    ghost use Rattle.jsonptr.specs.Pointer.{tokens, text_of, IsParentOf, IsSplitOf};
     ghost use Rattle.jsonptr_walk.specs.Route.{tokens as tokens_on};
     ghost use Rattle.jsonptr_text.specs.ParseError.{TellsPointerFault};
     ghost use Rattle.jsonptr_text.specs.Ends.{IsFirstOf, IsLastOf};
-    ghost use Rattle.jsonptr_text.specs.Parts.{BeginsWith, EndsWith, IsSuffix, SplitsAt, IsLongestCommonFront};
+    ghost use Rattle.jsonptr_text.specs.Parts.{BeginsWith, EndsWith, IsSuffix, IsLongestCommonFront};
 
     /// The pointer of no token, which names the whole document.
     pub fn root() -> Pointer<'static>
@@ -167,9 +168,7 @@ impl<'a> Pointer<'a> {
 
     /// The pointer of the tokens before the last one, or `None` at the root.
     pub fn parent(&self) -> Option<Pointer<'a>>
-        ensures { MatchOption result
-            (tokens self.now ≡ [])
-            (λ p. (t : Text) × (tokens self.now ≡ tokens p ++ t ∷ [])) }
+        ensures { IsParentOf (tokens self.now) result }
     {
         let front = cut::parent(self.as_str())?;
         Some(Pointer { inner: front })
@@ -179,9 +178,7 @@ impl<'a> Pointer<'a> {
     /// slash; elsewhere `None`.
     pub fn split_at_offset(&self, offset: usize) -> Option<(Pointer<'a>, Pointer<'a>)>
         ensures slash { IsSome result ↔ (slice_index (text_of self.now) offset ≡ 47) }
-        ensures split { MatchOption result
-            ((front rest : List Text) → SplitsAt (tokens self.now) offset front rest → ⊥)
-            (λ r. SplitsAt (tokens self.now) offset (tokens r.0) (tokens r.1)) }
+        ensures split { IsSplitOf (tokens self.now) offset result }
     {
         let (front, rest) = cut::split_at_offset(self.as_str(), offset)?;
         Some((Pointer { inner: front }, Pointer { inner: rest }))
@@ -190,9 +187,7 @@ impl<'a> Pointer<'a> {
     /// The old name of [`Pointer::split_at_offset`].
     pub fn split_at(&self, offset: usize) -> Option<(Pointer<'a>, Pointer<'a>)>
         ensures slash { IsSome result ↔ (slice_index (text_of self.now) offset ≡ 47) }
-        ensures split { MatchOption result
-            ((front rest : List Text) → SplitsAt (tokens self.now) offset front rest → ⊥)
-            (λ r. SplitsAt (tokens self.now) offset (tokens r.0) (tokens r.1)) }
+        ensures split { IsSplitOf (tokens self.now) offset result }
     {
         self.split_at_offset(offset)
     }

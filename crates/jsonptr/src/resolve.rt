@@ -1,7 +1,7 @@
 //! Resolving a pointer against a document (RFC 6901, section 4).
 ghost use Rattle.std.specs.Prelude.{◌≡◌, ◌≢◌, ◌↔◌, ℕ, All, IsTrue, IfOk, List, Some};
 ghost use Rattle.std.specs.Borrow.{sem, LendsSoOk};
-ghost use Rattle.jsonptr_grammar.specs.Text.{Text, esc, text};
+ghost use Rattle.jsonptr_grammar.specs.Text.{Text, text};
 ghost use Rattle.jsonptr_base.specs.Fault.{IfRefused, HasMemory};
 ghost use Rattle.jsonptr_tree.specs.Node.{NodeMap};
 ghost use Rattle.jsonptr.specs.Pointer.{tokens};
@@ -10,9 +10,9 @@ ghost use Rattle.jsonptr_walk.specs.Follow.{IsStop};
 ghost use Rattle.jsonptr_walk.specs.PrivateFollow.{FindsAt};
 ghost use Rattle.jsonptr.specs.PrivateResolve.{IsTold};
 
-use crate::labelling::span_of;
+use crate::labelling::token_label;
 use crate::pointer::{Pointer, PointerBuf};
-use jsonptr_base::diagnostic::{Diagnostic, Label, one_label};
+use jsonptr_base::diagnostic::{Diagnostic, Label};
 use jsonptr_base::fault::Fault;
 use jsonptr_base::index::{OutOfBoundsError, ParseIndexError};
 use jsonptr_document::child::NoChild;
@@ -147,7 +147,8 @@ pub trait ResolveMut: Drop {
 
 /// JSON and TOML documents: for `serde_json::Value` and `toml::Value`, `finds` and `refuses` are those of
 /// [`Resolve`], `writes` says that the map of the document has the map of the value put at the path that the tokens
-/// name, and `is_same` that the data is the same. Memory is taken only to decode a token with a `~`.
+/// name, and that the keys of each object ascend if those of document and value do, and `is_same` that the data is
+/// the same. Memory is taken only to decode a token with a `~`.
 impl<D: Descend> ResolveMut for D {
     type Value = D::Node;
 
@@ -160,7 +161,8 @@ impl<D: Descend> ResolveMut for D {
     ghost needs_no_memory = { λ d tokens. All (λ b. b ≢ 126) (text tokens) };
 
     ghost writes = { λ d tokens w n.
-        PutsAt (D.Document.nodes d) tokens (D.Node.Document.nodes w) (D.Document.nodes n) };
+        PutsAt (D.Document.nodes d) tokens (D.Node.Document.nodes w) (D.Document.nodes n)
+        × (D.Node.Document.in_order w → D.Document.in_order d → D.Document.in_order n) };
 
     ghost is_same = { λ d n. D.is_same d n };
 
@@ -441,17 +443,20 @@ impl Diagnostic for Error {
         alloc: Global,
         subject: &PointerBuf,
     ) -> Result<Option<Vec<Label>>, AllocError> {
-        let Some((place, len)) = span_of(subject.as_ptr(), self.position(), self.offset()) else {
-            return Ok(None);
-        };
+        let (position, offset) = (self.position(), self.offset());
         match self {
-            Error::FailedToParseIndex { .. } => one_label(alloc, "not an array index", place, len),
-            Error::OutOfBounds { source, .. } => {
-                let text = source.to_string(alloc)?;
-                Ok(Some(vec![in alloc; Label::new(text, place, len)]?))
+            Error::FailedToParseIndex { .. } => {
+                token_label(alloc, subject, position, offset, &"not an array index")
             }
-            Error::NotFound { .. } => one_label(alloc, "not found in value", place, len),
-            Error::Unreachable { .. } => one_label(alloc, "unreachable", place, len),
+            Error::OutOfBounds { source, .. } => {
+                token_label(alloc, subject, position, offset, source)
+            }
+            Error::NotFound { .. } => {
+                token_label(alloc, subject, position, offset, &"not found in value")
+            }
+            Error::Unreachable { .. } => {
+                token_label(alloc, subject, position, offset, &"unreachable")
+            }
         }
     }
 }

@@ -9,3 +9,4 @@ pub use Rattle.jsonptr_grammar.specs.FirstFault
 pub use Rattle.jsonptr_number.specs.Number
 pub use Rattle.jsonptr_diagnostic.specs.Diagnostic
 pub use Rattle.jsonptr_diagnostic.specs.Report
+pub use Rattle.jsonptr_diagnostic.specs.Rendering

@@ -13,6 +13,7 @@ ghost use Rattle.jsonptr_base.specs.Index.{IsWithin, IsWithinOrNext, Reads, firs
 use crate::token::Token;
 use jsonptr_diagnostic::diagnostic::{Diagnostic, Label, one_label};
 use std::alloc::{AllocError, Global};
+use std::convert::AsStr;
 use std::error::Error;
 use std::fmt;
 use std::marker::Model;
@@ -364,6 +365,14 @@ impl StringOrToken {
             StringOrToken::String(text) => text.as_str(),
             StringOrToken::Token(token) => token.encoded(),
         }
+    }
+}
+
+impl AsStr for StringOrToken {
+    ghost text = { λ subject. subject_text subject };
+
+    fn as_str(&self) -> &str {
+        self.as_str()
     }
 }
 

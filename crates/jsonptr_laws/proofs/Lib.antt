@@ -5,3 +5,4 @@ pub mod OrderLemmas
 pub mod PartLemmas
 pub mod ResolveLemmas
 pub mod RunLemmas
+pub mod SlashLemmas

@@ -1,6 +1,6 @@
 -- That a list of commands has one run, which is a session's.
 use Rattle.std.proofs.Common.{◌≡◌, List, [], ◌∷◌, ◌++◌, length, map, Option, Some, None, refl, sym, ap, ◌∙◌, subst}
-use Rattle.std.specs.Prelude.{All}
+use Rattle.std.specs.Prelude.{All, IsSome}
 use Rattle.std.proofs.lemmas.List.Elements.{All-head, All-tail}
 use Rattle.jsonptr.specs.Node.{NodeMap}
 use Rattle.jsonptr_session.specs.Machine.{State, Command, Answer, Moves, Runs}
@@ -29,6 +29,28 @@ runs_one moves_one blank old new next (c ∷ cs) (x ∷ xs) (y ∷ ys) h k =
     let same = moves_one blank old h.0 k.0 c x y h.1 k.1 in
     let more = runs_one moves_one blank h.0 new next cs xs ys h.2 (subst (λ (s : State). Runs blank s cs (map (λ a. Some a) ys) next) (sym same.1) k.2) in
     (ap (λ (a : Answer). a ∷ xs) same.0 ∙ ap (λ (l : List Answer). y ∷ l) more.0, more.1)
+
+not_some : IsSome {T = Answer} None → ⊥
+not_some h = cc
+
+-- the same, where it is told of each answer that it is one
+pub runs_same : (moves_one : MovesOne) (blank : NodeMap) (old new next : State) (cs : List Command) (xs ys : List (Option Answer))
+    → All IsSome xs
+    → All IsSome ys
+    → Runs blank old cs xs new
+    → Runs blank old cs ys next
+    → (xs ≡ ys) × (new ≡ next)
+runs_same moves_one blank old new next [] [] [] p q h k = (refl, h ∙ sym k)
+runs_same moves_one blank old new next [] (x ∷ xs) ys p q h k = absurd h
+runs_same moves_one blank old new next [] [] (y ∷ ys) p q h k = absurd k
+runs_same moves_one blank old new next (c ∷ cs) [] ys p q h k = absurd h
+runs_same moves_one blank old new next (c ∷ cs) (x ∷ xs) [] p q h k = absurd k
+runs_same moves_one blank old new next (c ∷ cs) (None ∷ xs) (y ∷ ys) p q h k = absurd (not_some (All-head IsSome None xs p))
+runs_same moves_one blank old new next (c ∷ cs) (Some x ∷ xs) (None ∷ ys) p q h k = absurd (not_some (All-head IsSome None ys q))
+runs_same moves_one blank old new next (c ∷ cs) (Some x ∷ xs) (Some y ∷ ys) p q h k =
+    let same = moves_one blank old h.0 k.0 c x y h.1 k.1 in
+    let more = runs_same moves_one blank h.0 new next cs xs ys (All-tail IsSome (Some x) xs p) (All-tail IsSome (Some y) ys q) h.2 (subst (λ (s : State). Runs blank s cs ys next) (sym same.1) k.2) in
+    (ap (λ (a : Answer). Some a ∷ xs) same.0 ∙ ap (λ (l : List (Option Answer)). Some y ∷ l) more.0, more.1)
 
 pub runs_some : (moves_some : MovesSome) (moves_state : MovesState) (blank : NodeMap) (old : State) (cs : List Command)
     → IsDocument blank

@@ -19,6 +19,7 @@ use crate::resolving::{resolve_law, tokens_law};
 use jsonptr::PointerBuf;
 use jsonptr::laws::parse_law;
 use jsonptr_session::session::Call;
+use jsonptr_tabled::EditPointer;
 use jsonptr_tree::json::json_law;
 use jsonptr_tree::toml_value::toml_law;
 
@@ -109,6 +110,21 @@ pub fn run_law()
         → length answers ≡ length cs
         → Runs blank old (cs ++ c ∷ ds) (answers ++ None ∷ others) new
         → Runs blank old (cs ++ ds) (answers ++ others) new }
+{
+    machine_law();
+}
+
+/// Two runs of the same calls from one state, in neither of which memory is wanting, give the same replies and
+/// end in one state, whichever kinds of pointer they are made on.
+pub fn kinds_law<P: EditPointer, Q: EditPointer>()
+    ensures { (blank n m k : NodeMap) (p end : P) (q last : Q) (cs : List Command)
+        (answers others : List (Option Answer))
+        → P.list p ≡ Q.list q → All IsSome answers → All IsSome others
+        → Runs blank (record { tokens = P.list p; nodes = n }) cs answers
+        (record { tokens = P.list end; nodes = m })
+        → Runs blank (record { tokens = Q.list q; nodes = n }) cs others
+        (record { tokens = Q.list last; nodes = k })
+        → (answers ≡ others) × (P.list end ≡ Q.list last) × (m ≡ k) }
 {
     machine_law();
 }

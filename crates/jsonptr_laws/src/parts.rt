@@ -1,7 +1,7 @@
 //! Parts of a pointer: each call that takes one apart has one answer.
-ghost use Rattle.std.specs.Prelude.{◌≡◌, ℕ, List, Option};
+ghost use Rattle.std.specs.Prelude.{◌≡◌, ◌↔◌, ℕ, ◌<◌, List, Contains, length, slice_index, Option};
 ghost use Rattle.std.specs.declared.ops.Bound.{Bound};
-ghost use Rattle.jsonptr.specs.Text.{Text};
+ghost use Rattle.jsonptr.specs.Text.{Text, text};
 ghost use Rattle.jsonptr.specs.Diagnostic.{Mark};
 ghost use Rattle.jsonptr.specs.ParseError as parsing;
 ghost use Rattle.jsonptr.specs.Token as token;
@@ -10,6 +10,7 @@ ghost use Rattle.jsonptr.specs.Resolve as resolve;
 ghost use Rattle.jsonptr.specs.Assign as assign;
 ghost use Rattle.jsonptr.specs.Parts.{SplitsAt, IsLongestCommonFront};
 ghost use Rattle.jsonptr.specs.Slice.{GivesRange, GivesFrom, GivesTo, GivesAll, GivesInclusive, GivesToInclusive, GivesBounds};
+ghost use Rattle.jsonptr.specs.Slashes.{slash_offsets};
 ghost use Rattle.jsonptr.specs.Types.ParseError.{ParseError};
 ghost use Rattle.jsonptr.specs.Types.EncodingError.{EncodingError};
 ghost use Rattle.jsonptr.specs.Types.ParseIndexError.{ParseIndexError};
@@ -25,6 +26,15 @@ pub fn split_law()
         → (front ≡ other) × (rest ≡ after) }
     ensures common { (ts us front other : List Text)
         → IsLongestCommonFront ts us front → IsLongestCommonFront ts us other → front ≡ other }
+{}
+
+/// The table of a list of tokens has the places of the slashes of its text, all of them and no others, and
+/// ascending.
+pub fn slashes_law()
+    ensures slash { (ts : List Text) (o : ℕ)
+        → Contains (slash_offsets ts) o ↔ (slice_index (text ts) o ≡ 47) }
+    ensures ascending { (ts : List Text) (i j : ℕ) → i < j → j < length (slash_offsets ts)
+        → slice_index (slash_offsets ts) i < slice_index (slash_offsets ts) j }
 {}
 
 /// Each range of places gives one pointer of a list of tokens, or none, and so does each pair of bounds.

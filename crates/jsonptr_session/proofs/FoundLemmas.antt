@@ -1,20 +1,22 @@
--- What is found in a document by its content is found by its map.
-use Rattle.std.proofs.Common.{◌≡◌, List, Option, Some, None, Result, Ok, Err, IfOk, MatchOption, ap, sym, subst}
+-- What is found in a document by its content is found by its map, and ordered as the document is.
+use Rattle.std.proofs.Common.{◌≡◌, List, Option, Some, None, Result, Ok, Err, IfOk, IfSome, MatchOption, refl, ap, sym, subst}
 use Rattle.jsonptr.specs.Text.{Text}
 use Rattle.jsonptr.specs.Node.{NodeMap}
 use Rattle.jsonptr.specs.Following.{Finds}
-use Rattle.jsonptr.specs.Content.{Content, map_of, FindsContent}
+use Rattle.jsonptr.specs.Content.{Content, map_of, FindsContent, InOrder}
+use Rattle.jsonptr.specs.Assign.{AssignsValue}
 use Rattle.jsonptr.specs.Delete.{NamesNothing}
 use Rattle.jsonptr.specs.Removing.{Deletes}
 use Rattle.jsonptr_tree.proofs.ContentLemmas.{FindsContent-Finds}
+use Rattle.jsonptr_tree.proofs.ContentOrderLemmas.{part_in_order}
 
 module _ {V D : Type 0} (view : V → D) (content : D → Content) where
-  -- what was found
-  pub found_map : {E : Type 0} (d : D) (tokens : List Text) (r : Result V E)
-      → IfOk r (λ v. FindsContent (content d) tokens (content (view v)))
-      → IfOk r (λ v. Finds (map_of (content d)) tokens (map_of (content (view v))))
-  found_map d tokens (Ok v) found = FindsContent-Finds (content d) tokens (content (view v)) found
-  found_map d tokens (Err e) found = tt
+  -- what was swapped out
+  pub found_map : {T E : Type 0} (d : D) (tokens : List Text) (v : V) (r : Result T E)
+      → IfOk r (λ _. FindsContent (content d) tokens (content (view v)))
+      → IfOk r (λ _. Finds (map_of (content d)) tokens (map_of (content (view v))))
+  found_map d tokens v (Ok t) found = FindsContent-Finds (content d) tokens (content (view v)) found
+  found_map d tokens v (Err e) found = tt
 
   -- a copy of it
   pub found_copy : (d : D) (tokens : List Text) (v w : V)
@@ -32,3 +34,13 @@ module _ {V D : Type 0} (view : V → D) (content : D → Content) where
   found_deleted d e tokens blank (Ok (Some v)) made found = (FindsContent-Finds (content d) tokens (content (view v)) found, made)
   found_deleted d e tokens blank (Ok None) made found = (found.0, ap (λ (f : D). map_of (content f)) found.1)
   found_deleted d e tokens blank (Err error) made found = tt
+
+  -- where the keys of a document ascend, those of what an assignment gives back do
+  pub given_ordered : {E : Type 0} (d : D) (tokens : List Text) (v m : NodeMap) (r : Result (Option V) E)
+      → IfOk r (AssignsValue (map_of (content d)) tokens v m (λ w. map_of (content (view w))) (λ ts e. FindsContent (content d) ts (content (view e))))
+      → IfOk r (λ o. IfSome o (λ e. InOrder (content d) → InOrder (content (view e))))
+  given_ordered d tokens v m (Ok (Some e)) made = λ ordered.
+      let found = made.given_back e refl in
+      part_in_order found.4.path (content d) (content (view e)) ordered found.4.there
+  given_ordered d tokens v m (Ok None) made = tt
+  given_ordered d tokens v m (Err error) made = tt

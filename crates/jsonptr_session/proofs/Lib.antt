@@ -1,3 +1,4 @@
--- Lemmas on runs, and on what is found in a document.
+-- Lemmas on runs, on what is found in a document, and on taking assignments back.
 pub mod RunLemmas
 pub mod FoundLemmas
+pub mod UndoLemmas

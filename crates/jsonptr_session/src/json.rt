@@ -1,28 +1,41 @@
 //! Sessions over JSON documents.
 
-use crate::document::{Document, replace};
+use crate::document::{Document, swap};
 use jsonptr::{Fault, Pointer, assign, resolve};
 use serde_json::Value;
 use std::alloc::{AllocError, Global};
 
 impl Document for Value {
+    ghost use Rattle.std.specs.Prelude.{◌≡◌, refl};
+    ghost use Rattle.serde_json.specs.View.{view};
+    ghost use Rattle.jsonptr.specs.Json.{content, KeysAscend};
+    ghost use Rattle.jsonptr.proofs.Calling.{map_of-IsTree};
     ghost use Rattle.jsonptr_session.specs.Documents.{json_map, json_blank};
 
     ghost nodes = { json_map };
 
     ghost blank = { json_blank };
 
+    ghost is_same = { λ d e. view e ≡ view d };
+
+    ghost in_order = { λ d. KeysAscend (view d) };
+
+    fn find_at(&self, alloc: Global, ptr: Pointer<'_>) -> Result<(), Fault<resolve::Error>> {
+        ptr.resolve(alloc, self)?;
+        Ok(())
+    }
+
     fn copy_at(&self, alloc: Global, ptr: Pointer<'_>) -> Result<Value, Fault<resolve::Error>> {
         Ok(ptr.resolve(alloc, self)?.clone()?)
     }
 
-    fn write_at(
+    fn swap_at(
         &mut self,
         alloc: Global,
         ptr: Pointer<'_>,
-        value: Value,
-    ) -> Result<Value, Fault<resolve::Error>> {
-        replace(self, alloc, ptr, value)
+        value: &mut Value,
+    ) -> Result<(), Fault<resolve::Error>> {
+        swap(self, alloc, ptr, value)
     }
 
     fn assign_at(
@@ -37,4 +50,8 @@ impl Document for Value {
     fn delete_at(&mut self, alloc: Global, ptr: Pointer<'_>) -> Result<Option<Value>, AllocError> {
         ptr.delete(alloc, self)
     }
+
+    ghost is_tree = { λ d. map_of-IsTree (content (view d)) };
+
+    ghost same_self = { λ d. refl };
 }

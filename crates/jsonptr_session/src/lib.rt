@@ -4,8 +4,11 @@
 
 mod document;
 mod json;
+mod landing;
 pub mod session;
 mod toml_value;
 mod turn;
+pub mod undo;
+mod undoing;
 
-pub use session::{Call, Reply, run_json, run_toml};
+pub use session::{Call, Reply, run_json, run_json_with, run_toml, run_toml_with};

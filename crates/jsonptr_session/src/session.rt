@@ -6,6 +6,7 @@ ghost use Rattle.jsonptr_session.specs.Documents.{json_map, json_blank, toml_map
 
 use crate::turn::run;
 use jsonptr::{PointerBuf, ReplaceError, RichParseError, Token, assign, resolve};
+use jsonptr_tabled::EditPointer;
 use std::alloc::{AllocError, Global};
 
 /// A call of a session. It owns what it is made with; `V` is the type of the document and of its values.
@@ -81,6 +82,27 @@ pub fn run_json(
         (record { tokens = ptr.new; nodes = json_map doc.new })) }
     ensures unchanged { OnErr result ((ptr.new ≡ ptr.old) × (doc.new ≡ doc.old)) }
 {
+    run_json_with(alloc, ptr, doc, calls)
+}
+
+/// The same on a pointer of any kind.
+///
+/// # Errors
+///
+/// [`AllocError`] where there is no memory for all the replies, which is asked for first. No call is then
+/// made, and all are dropped.
+pub fn run_json_with<P: EditPointer>(
+    alloc: Global,
+    ptr: &mut P,
+    doc: &mut serde_json::Value,
+    calls: Vec<Call<serde_json::Value>>,
+) -> Result<Vec<Reply<serde_json::Value>>, AllocError>
+    ensures runs { IfOk result (λ replies. Runs json_blank
+        (record { tokens = P.list ptr.old; nodes = json_map doc.old })
+        (map (tells json_map) calls.items) (map (says json_map) replies.items)
+        (record { tokens = P.list ptr.new; nodes = json_map doc.new })) }
+    ensures unchanged { OnErr result ((ptr.new ≡ ptr.old) × (doc.new ≡ doc.old)) }
+{
     run(alloc, ptr, doc, calls)
 }
 
@@ -100,6 +122,27 @@ pub fn run_toml(
         (record { tokens = ptr.old; nodes = toml_map doc.old })
         (map (tells toml_map) calls.items) (map (says toml_map) replies.items)
         (record { tokens = ptr.new; nodes = toml_map doc.new })) }
+    ensures unchanged { OnErr result ((ptr.new ≡ ptr.old) × (doc.new ≡ doc.old)) }
+{
+    run_toml_with(alloc, ptr, doc, calls)
+}
+
+/// The same on a pointer of any kind and a TOML document.
+///
+/// # Errors
+///
+/// [`AllocError`] where there is no memory for all the replies, which is asked for first. No call is then
+/// made, and all are dropped.
+pub fn run_toml_with<P: EditPointer>(
+    alloc: Global,
+    ptr: &mut P,
+    doc: &mut toml::Value,
+    calls: Vec<Call<toml::Value>>,
+) -> Result<Vec<Reply<toml::Value>>, AllocError>
+    ensures runs { IfOk result (λ replies. Runs toml_blank
+        (record { tokens = P.list ptr.old; nodes = toml_map doc.old })
+        (map (tells toml_map) calls.items) (map (says toml_map) replies.items)
+        (record { tokens = P.list ptr.new; nodes = toml_map doc.new })) }
     ensures unchanged { OnErr result ((ptr.new ≡ ptr.old) × (doc.new ≡ doc.old)) }
 {
     run(alloc, ptr, doc, calls)

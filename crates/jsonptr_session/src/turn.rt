@@ -6,7 +6,8 @@ ghost use Rattle.jsonptr_session.specs.Session.{tells, says};
 
 use crate::document::Document;
 use crate::session::{Call, Reply};
-use jsonptr::{Fault, PointerBuf, Token};
+use jsonptr::{Fault, Token};
+use jsonptr_tabled::EditPointer;
 use std::alloc::{AllocError, Global};
 use std::borrow::CowStr;
 
@@ -15,16 +16,16 @@ use std::borrow::CowStr;
 /// # Errors
 ///
 /// [`AllocError`] where there is no memory for all the replies; no call is then made.
-pub fn run<D: Document>(
+pub fn run<P: EditPointer, D: Document>(
     alloc: Global,
-    ptr: &mut PointerBuf,
+    ptr: &mut P,
     doc: &mut D,
     calls: Vec<Call<D>>,
 ) -> Result<Vec<Reply<D>>, AllocError>
     ensures runs { IfOk result (λ replies. Runs D.blank
-        (record { tokens = ptr.old; nodes = D.nodes doc.old })
+        (record { tokens = P.list ptr.old; nodes = D.nodes doc.old })
         (map (tells D.nodes) calls.items) (map (says D.nodes) replies.items)
-        (record { tokens = ptr.new; nodes = D.nodes doc.new })) }
+        (record { tokens = P.list ptr.new; nodes = D.nodes doc.new })) }
     ensures unchanged { OnErr result ((ptr.new ≡ ptr.old) × (doc.new ≡ doc.old)) }
 {
     let mut replies = Vec::with_capacity(alloc, calls.len())?;
@@ -36,10 +37,15 @@ pub fn run<D: Document>(
 }
 
 /// One call.
-fn turn<D: Document>(alloc: Global, ptr: &mut PointerBuf, doc: &mut D, call: Call<D>) -> Reply<D>
-    ensures { Steps D.blank (record { tokens = ptr.old; nodes = D.nodes doc.old })
+fn turn<P: EditPointer, D: Document>(
+    alloc: Global,
+    ptr: &mut P,
+    doc: &mut D,
+    call: Call<D>,
+) -> Reply<D>
+    ensures { Steps D.blank (record { tokens = P.list ptr.old; nodes = D.nodes doc.old })
         (tells D.nodes call) (says D.nodes result)
-        (record { tokens = ptr.new; nodes = D.nodes doc.new }) }
+        (record { tokens = P.list ptr.new; nodes = D.nodes doc.new }) }
 {
     match answer(alloc, ptr, doc, call) {
         Ok(reply) => reply,
@@ -52,23 +58,21 @@ fn turn<D: Document>(alloc: Global, ptr: &mut PointerBuf, doc: &mut D, call: Cal
 /// # Errors
 ///
 /// [`AllocError`] where a request for memory is refused. Pointer and document are then as they were.
-fn answer<D: Document>(
+fn answer<P: EditPointer, D: Document>(
     alloc: Global,
-    ptr: &mut PointerBuf,
+    ptr: &mut P,
     doc: &mut D,
     call: Call<D>,
 ) -> Result<Reply<D>, AllocError>
-    ensures { Steps D.blank (record { tokens = ptr.old; nodes = D.nodes doc.old })
+    ensures { Steps D.blank (record { tokens = P.list ptr.old; nodes = D.nodes doc.old })
         (tells D.nodes call) (option_and_then (says D.nodes) (result_ok result))
-        (record { tokens = ptr.new; nodes = D.nodes doc.new }) }
+        (record { tokens = P.list ptr.new; nodes = D.nodes doc.new }) }
 {
     match call {
-        Call::Parse(text) => match PointerBuf::parse(text) {
-            Ok(parsed) => {
-                *ptr = parsed;
-                Ok(Reply::Done)
-            }
-            Err(report) => Ok(Reply::BadPointer(report)),
+        Call::Parse(text) => match ptr.set_text(text) {
+            Ok(()) => Ok(Reply::Done),
+            Err(Fault::Refused(report)) => Ok(Reply::BadPointer(report)),
+            Err(Fault::Memory(error)) => Err(error),
         },
         Call::PushBack(text) => {
             ptr.push_back(Token::new(alloc, CowStr::Owned(text))?)?;
@@ -101,11 +105,14 @@ fn answer<D: Document>(
             Err(Fault::Refused(error)) => Ok(Reply::NoValue(error)),
             Err(Fault::Memory(error)) => Err(error),
         },
-        Call::Write(value) => match doc.write_at(alloc, ptr.as_ptr(), value) {
-            Ok(old) => Ok(Reply::Value(old)),
-            Err(Fault::Refused(error)) => Ok(Reply::NoValue(error)),
-            Err(Fault::Memory(error)) => Err(error),
-        },
+        Call::Write(value) => {
+            let mut value = value;
+            match doc.swap_at(alloc, ptr.as_ptr(), &mut value) {
+                Ok(()) => Ok(Reply::Value(value)),
+                Err(Fault::Refused(error)) => Ok(Reply::NoValue(error)),
+                Err(Fault::Memory(error)) => Err(error),
+            }
+        }
         Call::Assign(value) => match doc.assign_at(alloc, ptr.as_ptr(), value) {
             Ok(old) => Ok(Reply::Assigned(old)),
             Err(Fault::Refused(error)) => Ok(Reply::BadPlace(error)),

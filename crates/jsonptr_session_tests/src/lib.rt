@@ -10,3 +10,9 @@ mod json;
 mod long;
 #[cfg(test)]
 mod toml_documents;
+#[cfg(test)]
+mod toml_undo;
+#[cfg(test)]
+mod undo;
+#[cfg(test)]
+mod walk;

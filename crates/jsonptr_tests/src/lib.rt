@@ -11,6 +11,8 @@ mod parsing;
 #[cfg(test)]
 mod plain;
 #[cfg(test)]
+mod rendering;
+#[cfg(test)]
 mod reports;
 #[cfg(test)]
 mod tokens;

@@ -114,6 +114,16 @@ pub fn common_front<'a>(pointer: &'a str, other: &str) -> &'a str
     front
 }
 
+/// The token of a text that has one alone: all that stands behind its slash. The text is not searched.
+pub fn only(pointer: &str) -> Token<'_>
+    requires pointer { text (tokens_of pointer.now) ≡ pointer.now }
+    requires one { length (tokens_of pointer.now) ≡ 1 }
+    ensures { tokens_of pointer.now ≡ result ∷ [] }
+{
+    let (_, token) = pointer.split_at(1);
+    Token::from_encoded_unchecked(CowStr::Borrowed(token))
+}
+
 /// How many tokens a pointer's text has, found in one pass.
 pub fn count(pointer: &str) -> usize
     requires { text (tokens_of pointer.now) ≡ pointer.now }

@@ -72,7 +72,7 @@ room-some (Some an_object) (Some (place i ∷ p)) h = h
 room-some (Some (an_array len)) (Some (place i ∷ p)) h = refl
 room-some (Some (a_leaf v)) (Some (place i ∷ p)) h = h
 
-some-room : (o : Option Label) (r : Option Path) → IsSome o → IsSome (long_enough r o)
+pub some-room : (o : Option Label) (r : Option Path) → IsSome o → IsSome (long_enough r o)
 some-room o None h = h
 some-room o (Some []) h = h
 some-room o (Some (key k ∷ p)) h = h

@@ -8,6 +8,7 @@ pub mod LandingLemmas
 pub mod GrowingLemmas
 pub mod AssigningLemmas
 pub mod RemovingLemmas
+pub mod UndoingLemmas
 pub mod ContentLemmas
 pub mod ContentMapLemmas
 pub mod LevelLemmas

@@ -155,10 +155,10 @@ place_before-within i j len b = ⊎_elim
 
 -- trees
 
-without_key-same : (k : Text) (n : NodeMap) (p : Path) → without_key k n (key k ∷ p) ≡ None
+pub without_key-same : (k : Text) (n : NodeMap) (p : Path) → without_key k n (key k ∷ p) ≡ None
 without_key-same k n p = ap (λ (b : Bool). cond b None (n (key k ∷ p))) (same_step-refl (key k))
 
-without_key-other : (k : Text) (n : NodeMap) (t : Step) (p : Path) → same_step (key k) t ≡ false → without_key k n (t ∷ p) ≡ n (t ∷ p)
+pub without_key-other : (k : Text) (n : NodeMap) (t : Step) (p : Path) → same_step (key k) t ≡ false → without_key k n (t ∷ p) ≡ n (t ∷ p)
 without_key-other k n t p e = ap (λ (b : Bool). cond b None (n (t ∷ p))) e
 
 IsTree-without_key : (k : Text) (n : NodeMap) → IsTree n → IsTree (without_key k n)

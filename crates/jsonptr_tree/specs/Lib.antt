@@ -10,4 +10,5 @@ pub mod Growing
 pub mod Landing
 pub mod Assigning
 pub mod Removing
+pub mod PrivateUndoing
 pub use Rattle.jsonptr_grammar.specs.Text

@@ -274,3 +274,26 @@ pub fn deleting_law()
         → Deletes n tokens blank m
         → IsListed m }
 {}
+
+/// How an assignment is taken back. One list of tokens names, in the document that it made, the place
+/// where the value landed. Where something stood there before, to put that back gives the old document;
+/// and where nothing did, to delete at those tokens does.
+pub fn undoing_law()
+    ensures named { (n : NodeMap) (tokens : List Text) (v m : NodeMap) (old : Option NodeMap)
+        → IsTree n
+        → IsTree v
+        → (r : Assigns n tokens v m old)
+        → (landing : List Text) × Names m landing r.path
+        × ((others : List Text) → Names m others r.path → others ≡ landing) }
+    ensures replaced { (n : NodeMap) (tokens : List Text) (v m old : NodeMap)
+        → IsTree n
+        → (r : Assigns n tokens v m (Some old))
+        → put m r.path old ≡ n }
+    ensures new { (n : NodeMap) (tokens : List Text) (v m : NodeMap)
+        → IsTree n
+        → (r : Assigns n tokens v m None)
+        → (landing : List Text) (blank k : NodeMap)
+        → Names m landing r.path
+        → Deletes m landing blank k
+        → k ≡ n }
+{}

@@ -7,6 +7,7 @@ use std::borrow::CowStr;
 
 mod edits;
 mod toml_writes;
+mod undoing;
 mod writes;
 
 fn main(rt: HostRuntime) -> anyhow::Result<()> {

@@ -23,6 +23,7 @@ use jsonptr_base::token::Token;
 use jsonptr_text::{ParseError, RichParseError, edit};
 use std::alloc::{AllocError, Global};
 use std::cmp::Ordering;
+use std::convert::AsStr;
 use std::error::Error;
 use std::fmt;
 use std::hash::{Hash, Hasher};
@@ -49,8 +50,7 @@ impl Model for PointerBuf {
 
 impl PointerBuf {
     ghost use Rattle.std.specs.Borrow.{sem};
-    ghost use Rattle.std.specs.Prelude.{◌<◌, slice_get, slice_set};
-    ghost use Rattle.jsonptr.specs.PointerBuf.{EndsJoined};
+    ghost use Rattle.jsonptr.specs.PointerBuf.{EndsJoined, Replaces, RefusesReplace};
     ghost use Rattle.jsonptr_text.specs.Ends.{PushesFront, PushesBack, PopsFront, PopsBack};
     ghost use Rattle.jsonptr_base.specs.Fault.{IsRefused};
 
@@ -241,10 +241,8 @@ impl PointerBuf {
         index: usize,
         token: Token<'_>,
     ) -> Result<Option<Token<'static>>, Fault<ReplaceError>>
-        ensures replaced { IfOk result (λ old. (index < length self.old)
-            × (old ≡ slice_get self.old index)
-            × (self.new ≡ slice_set self.old index token.entry)) }
-        ensures refused { IfRefused result (λ e. (e.index ≡ index) × (e.count ≡ length self.old)) }
+        ensures replaced { IfOk result (λ old. Replaces self.old index token.entry old self.new) }
+        ensures refused { IfRefused result (RefusesReplace self.old index) }
         ensures past { IsRefused result ↔ (length self.old ≤ index) }
         ensures unchanged { IfErr result (λ _. self.new ≡ self.old) }
     {
@@ -315,6 +313,15 @@ impl<'a> IntoIterator for &'a PointerBuf {
 
     fn into_iter(self) -> Tokens<'a> {
         self.as_ptr().tokens()
+    }
+}
+
+/// The text of the pointer.
+impl AsStr for PointerBuf {
+    ghost text = { λ tokens. text tokens };
+
+    fn as_str(&self) -> &str {
+        self.as_ptr().as_str()
     }
 }
 

@@ -1,5 +1,5 @@
 //! Single tokens and runs of tokens of a pointer, by their places from 0.
-ghost use Rattle.std.specs.Prelude.{◌≡◌, ◌<◌, ◌≤◌, List, length, take, drop, slice_get, Option, MatchOption};
+ghost use Rattle.std.specs.Prelude.{◌≡◌, ◌≤◌, List, length, slice_get, Option, MatchOption};
 ghost use Rattle.jsonptr_grammar.specs.Text.{Text};
 
 use super::Pointer;
@@ -10,6 +10,7 @@ use std::ops::{Bound, Range, RangeFrom, RangeFull, RangeInclusive, RangeTo, Rang
 /// What [`Pointer::get`] can be asked for: the place of one token, or a range of places.
 pub trait PointerIndex<'p>: private::Sealed {
     ghost use Rattle.jsonptr.specs.Pointer.{tokens};
+    ghost use Rattle.jsonptr.specs.Slashes.{slash_offsets};
 
     /// A token for a place, and a pointer for a range.
     type Output;
@@ -19,6 +20,12 @@ pub trait PointerIndex<'p>: private::Sealed {
     /// The token or the pointer there, or `None` where the places are not all in the pointer. No memory is
     /// taken.
     fn get(self, pointer: Pointer<'p>) -> Option<Self::Output>
+        ensures { gives self (tokens pointer.entry) result };
+
+    /// The same, with the places of all slashes of the pointer's text at hand, in bytes and ascending: no pass
+    /// is made over the text.
+    fn get_tabled(self, pointer: Pointer<'p>, offsets: &[usize]) -> Option<Self::Output>
+        requires { offsets.now ≡ slash_offsets (tokens pointer) }
         ensures { gives self (tokens pointer.entry) result };
 }
 
@@ -30,6 +37,11 @@ impl<'p> PointerIndex<'p> for usize {
     fn get(self, pointer: Pointer<'p>) -> Option<Token<'p>> {
         let (_, rest) = pointer.split_at_count(self)?;
         rest.front()
+    }
+
+    fn get_tabled(self, pointer: Pointer<'p>, offsets: &[usize]) -> Option<Token<'p>> {
+        let single = (self..pointer.place_after(self)?).get_tabled(pointer, offsets)?;
+        Some(cut::only(single.as_str()))
     }
 }
 
@@ -44,6 +56,15 @@ impl<'p> PointerIndex<'p> for Range<usize> {
         let count = self.end.checked_sub(self.start)?;
         let rest = pointer.get(self.start..)?;
         let (part, _) = rest.split_at_count(count)?;
+        Some(part)
+    }
+
+    fn get_tabled(self, pointer: Pointer<'p>, offsets: &[usize]) -> Option<Pointer<'p>> {
+        if self.end < self.start || offsets.len() <= self.start {
+            return None;
+        }
+        let (front, _) = pointer.split_by_table(offsets, self.end)?;
+        let (_, part) = front.split_by_table(&offsets[..self.end], self.start)?;
         Some(part)
     }
 }
@@ -62,6 +83,14 @@ impl<'p> PointerIndex<'p> for RangeFrom<usize> {
         }
         Some(rest)
     }
+
+    fn get_tabled(self, pointer: Pointer<'p>, offsets: &[usize]) -> Option<Pointer<'p>> {
+        if offsets.len() <= self.start {
+            return None;
+        }
+        let (_, rest) = pointer.split_by_table(offsets, self.start)?;
+        Some(rest)
+    }
 }
 
 impl<'p> PointerIndex<'p> for RangeTo<usize> {
@@ -75,6 +104,11 @@ impl<'p> PointerIndex<'p> for RangeTo<usize> {
         let (front, _) = pointer.split_at_count(self.end)?;
         Some(front)
     }
+
+    fn get_tabled(self, pointer: Pointer<'p>, offsets: &[usize]) -> Option<Pointer<'p>> {
+        let (front, _) = pointer.split_by_table(offsets, self.end)?;
+        Some(front)
+    }
 }
 
 impl<'p> PointerIndex<'p> for RangeFull {
@@ -86,6 +120,10 @@ impl<'p> PointerIndex<'p> for RangeFull {
 
     fn get(self, pointer: Pointer<'p>) -> Option<Pointer<'p>> {
         Some(pointer)
+    }
+
+    fn get_tabled(self, pointer: Pointer<'p>, _offsets: &[usize]) -> Option<Pointer<'p>> {
+        self.get(pointer)
     }
 }
 
@@ -105,6 +143,14 @@ impl<'p> PointerIndex<'p> for RangeInclusive<usize> {
         }
         pointer.get(start..pointer.place_after(end)?)
     }
+
+    fn get_tabled(self, pointer: Pointer<'p>, offsets: &[usize]) -> Option<Pointer<'p>> {
+        let (start, end) = self.into_inner();
+        if end < start {
+            return None;
+        }
+        (start..pointer.place_after(end)?).get_tabled(pointer, offsets)
+    }
 }
 
 impl<'p> PointerIndex<'p> for RangeToInclusive<usize> {
@@ -116,6 +162,10 @@ impl<'p> PointerIndex<'p> for RangeToInclusive<usize> {
 
     fn get(self, pointer: Pointer<'p>) -> Option<Pointer<'p>> {
         pointer.get(..pointer.place_after(self.end)?)
+    }
+
+    fn get_tabled(self, pointer: Pointer<'p>, offsets: &[usize]) -> Option<Pointer<'p>> {
+        (..pointer.place_after(self.end)?).get_tabled(pointer, offsets)
     }
 }
 
@@ -145,11 +195,37 @@ impl<'p> PointerIndex<'p> for (Bound<usize>, Bound<usize>) {
             (Bound::Unbounded, Bound::Unbounded) => Some(pointer),
         }
     }
+
+    fn get_tabled(self, pointer: Pointer<'p>, offsets: &[usize]) -> Option<Pointer<'p>> {
+        match self {
+            (Bound::Included(start), Bound::Included(end)) => {
+                (start..=end).get_tabled(pointer, offsets)
+            }
+            (Bound::Included(start), Bound::Excluded(end)) => {
+                (start..end).get_tabled(pointer, offsets)
+            }
+            (Bound::Included(start), Bound::Unbounded) => (start..).get_tabled(pointer, offsets),
+            (Bound::Excluded(before), Bound::Included(end)) => {
+                (pointer.place_after(before)?..=end).get_tabled(pointer, offsets)
+            }
+            (Bound::Excluded(before), Bound::Excluded(end)) => {
+                (pointer.place_after(before)?..end).get_tabled(pointer, offsets)
+            }
+            (Bound::Excluded(before), Bound::Unbounded) => {
+                (pointer.place_after(before)?..).get_tabled(pointer, offsets)
+            }
+            (Bound::Unbounded, Bound::Included(end)) => (..=end).get_tabled(pointer, offsets),
+            (Bound::Unbounded, Bound::Excluded(end)) => (..end).get_tabled(pointer, offsets),
+            (Bound::Unbounded, Bound::Unbounded) => Some(pointer),
+        }
+    }
 }
 
 impl<'a> Pointer<'a> {
     ghost use Rattle.std.specs.Prelude.{◌+◌};
     ghost use Rattle.jsonptr.specs.Pointer.{tokens};
+    ghost use Rattle.jsonptr.specs.PrivateSlice.{IsCutBehind};
+    ghost use Rattle.jsonptr.specs.Slashes.{slash_offsets};
 
     /// The token at a place from 0, or the pointer of the tokens in a range of such places; `None` where the
     /// places are not all in the pointer. A range with a start asks for a token to stand at that start.
@@ -161,14 +237,22 @@ impl<'a> Pointer<'a> {
 
     /// The pointers of the first `count` tokens and of those after them, or `None` where there are fewer.
     fn split_at_count(&self, count: usize) -> Option<(Pointer<'a>, Pointer<'a>)>
-        ensures { MatchOption result
-            (length (tokens self.now) < count)
-            (λ r. (count ≤ length (tokens self.now))
-            × (tokens r.0 ≡ take count (tokens self.now))
-            × (tokens r.1 ≡ drop count (tokens self.now))) }
+        ensures { IsCutBehind (tokens self.now) count result }
     {
         let (front, rest) = cut::split_at_count(self.as_str(), count)?;
         Some((Pointer { inner: front }, Pointer { inner: rest }))
+    }
+
+    /// The same by the places of all slashes; no pass is made over the text.
+    fn split_by_table(&self, offsets: &[usize], count: usize) -> Option<(Pointer<'a>, Pointer<'a>)>
+        requires { offsets.now ≡ slash_offsets (tokens self.now) }
+        ensures { IsCutBehind (tokens self.now) count result }
+    {
+        match offsets.get(count) {
+            Some(offset) => self.split_at_offset(*offset),
+            None if count == offsets.len() => Some((*self, Pointer::root())),
+            None => None,
+        }
     }
 
     /// The place behind a place, or `None` where the place is past each of a pointer's: there are no more tokens

@@ -12,7 +12,7 @@ invariant-loop-call g l = record {
   room : length l.yielded + into_iter_len l.call-iterator ≤ vec_capacity l.replies;
   paired : vec_len l.replies ≡ length l.yielded;
   ran : Runs g.D.Document.blank
-      (record { tokens = l.initial.ptr; nodes = g.D.Document.nodes l.initial.doc })
+      (record { tokens = g.P.EditPointer.list l.initial.ptr; nodes = g.D.Document.nodes l.initial.doc })
       (map (tells g.D.Document.nodes) l.yielded) (map (says g.D.Document.nodes) l.replies.items)
-      (record { tokens = l.ptr; nodes = g.D.Document.nodes l.doc });
+      (record { tokens = g.P.EditPointer.list l.ptr; nodes = g.D.Document.nodes l.doc });
 }

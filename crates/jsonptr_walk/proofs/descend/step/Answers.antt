@@ -1,7 +1,6 @@
-use Rattle.std.proofs.Common.{ℕ, ◌<◌, ◌∙◌, refl, sym, ap, subst, length, arith, true≢false}
+use Rattle.std.proofs.Common.{ℕ, ◌<◌, ◌∙◌, refl, sym, subst, arith, true≢false}
 use Rattle.serde_json.specs.declared.value.Value.{Array, Object}
 use Rattle.jsonptr_tree.specs.Node.{an_object}
-use Rattle.jsonptr_document.specs.Child.{IsNoChild, RefusesChild}
 use Rattle.jsonptr_document.specs.declared.stepping.Way.TheVariants.{Element, Member, Nowhere}
 use Rattle.jsonptr_document.specs.Way.{IsWay}
 use Rattle.jsonptr_document.specs.PrivateJson.{nodes_of, stands_in, ordered}

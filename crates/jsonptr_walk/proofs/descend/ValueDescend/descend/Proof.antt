@@ -6,7 +6,7 @@ use mathlib.Core.WellFounded.InvImage
 use lib.WfN.{lt-wf_rel}
 use lib.Dec.{T}
 use base.Logic.{SProp, ent, sep}
-use base.Fml.{Fml, Lft}
+use base.Fml.{Fml}
 use mir.Val.{of_list, vcons, vnil, has_ty, WT}
 use mir.Syntax.{Body, Ty, Fn}
 use prog.Model.{Model}

@@ -1,0 +1,2 @@
+pub mod RenderingLemmas
+pub mod RenderingLaws

@@ -1,7 +1,0 @@
-use Rattle.serde_json.specs.View.{view}
-use Rattle.jsonptr.specs.Json.{content}
-use Rattle.jsonptr_session.proofs.FoundLemmas.{found_map}
-use Rattle.jsonptr_session.proofs.json.ValueDocument.write_at.Goals as goal
-
-pub returns-clause-found : goal.returns-clause-found
-returns-clause-found c = found_map view content _ _ _ c.replace.ensures.found

@@ -1,0 +1,83 @@
+//! A walk of many assignments, each taken back, the last first.
+use jsonptr::{Fault, Pointer};
+use jsonptr_session::undo::Undo;
+use jsonptr_session::undo::json::{assign_with_undo, undo};
+use serde_json::Value;
+use std::test::Fail;
+
+const TOKENS: [&str; 8] = ["/a", "/b~1c", "/-", "/0", "/1", "/2", "/~0", "/"];
+
+const VALUES: [&str; 8] = [
+    "null",
+    "7",
+    r#""x""#,
+    "[]",
+    "{}",
+    "[1,[2,3]]",
+    r#"{"a":[],"b/c":{"0":1}}"#,
+    r#"[{"a":true},[[]]]"#,
+];
+
+/// Numbers by a linear congruence: each is made of the one before.
+#[derive(Drop)]
+struct Numbers(u64);
+
+impl Numbers {
+    /// The next number, below 8.
+    fn below_8(&mut self) -> usize {
+        self.0 = self
+            .0
+            .wrapping_mul(6_364_136_223_846_793_005)
+            .wrapping_add(1_442_695_040_888_963_407);
+        (self.0 >> 61) as usize
+    }
+
+    /// One of eight texts.
+    fn pick(&mut self, texts: &[&'static str]) -> Result<&'static str, Fail> {
+        Ok(*texts.get(self.below_8()).ok_or("eight texts")?)
+    }
+}
+
+/// A value assigned at a pointer of up to seven tokens, and what takes that back; `None` where no value can be
+/// assigned there.
+fn step(
+    rt: &HostRuntime,
+    numbers: &mut Numbers,
+    doc: &mut Value,
+) -> Result<Option<Undo<Value>>, Fail> {
+    let alloc = rt.alloc();
+    let mut text = String::new(alloc);
+    for _token in 0..numbers.below_8() {
+        text.push_str(numbers.pick(&TOKENS)?)?;
+    }
+    let value = Value::from_str(alloc, numbers.pick(&VALUES)?)?;
+    match assign_with_undo(alloc, doc, Pointer::parse(text.as_str())?, value) {
+        Ok(answer) => Ok(Some(answer)),
+        Err(Fault::Refused(_)) => Ok(None),
+        Err(Fault::Memory(error)) => Err(error.into()),
+    }
+}
+
+#[test]
+fn five_hundred_assignments(rt: HostRuntime) -> Result<(), Fail> {
+    let alloc = rt.alloc();
+    let mut numbers = Numbers(6901);
+    let mut doc = Value::from_str(alloc, r#"{"a":[1,{"b/c":null}]}"#)?;
+    let mut undos = Vec::new(alloc);
+    for _attempt in 0..2000 {
+        if undos.len() == 500 {
+            break;
+        }
+        let before = format!(in alloc; "{doc}")?;
+        if let Some(answer) = step(&rt, &mut numbers, &mut doc)? {
+            undos.push((before, answer))?;
+        }
+    }
+    assert_eq!(rt; undos.len(), 500);
+    for _undo in 0..500 {
+        let (before, answer) = undos.pop().ok_or("an undo")?;
+        undo(alloc, &mut doc, answer)?;
+        assert_eq!(rt; format!(in alloc; "{doc}")?.as_str(), before.as_str());
+    }
+    Ok(())
+}

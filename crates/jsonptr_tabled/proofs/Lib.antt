@@ -1,0 +1,3 @@
+-- Lemmas on tables of places, and on reading the ends of a list.
+pub mod TableLemmas
+pub mod ReadingLemmas

@@ -1,0 +1,16 @@
+use Rattle.std.proofs.Common.{◌≡◌, ◌+◌, ◌≤◌, ◌++◌, length, vec_len, vec_capacity}
+use Rattle.jsonptr.specs.Text.{text}
+use Rattle.jsonptr.specs.Pointer.{tokens}
+use Rattle.jsonptr_tabled.specs.Private.{offsets_up_to}
+use Rattle.jsonptr_tabled.proofs.table.extend.Given as goal
+
+abbrev pub invariant-loop-behind : goal.invariant-loop-behind
+invariant-loop-behind l = record {
+  within : length (text (tokens l.rest)) ≤ l.end;
+  room : vec_len l.offsets + length (tokens l.rest) ≤ vec_capacity l.offsets;
+  so_far : l.offsets.items ++ offsets_up_to l.end (tokens l.rest)
+      ≡ l.fn.offsets.items ++ offsets_up_to l.end (tokens l.pointer);
+}
+
+abbrev pub decreases-loop-behind : goal.decreases-loop-behind
+decreases-loop-behind l = length (tokens l.rest)

@@ -1,0 +1,2 @@
+-- What contracts say of tabled pointers beside the words of `jsonptr`.
+pub mod Private

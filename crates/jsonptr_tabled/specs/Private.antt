@@ -1,0 +1,22 @@
+-- Words of private clauses alone: how a table of places is filled and moved. No public clause cites them, so
+-- nothing here has to be believed.
+use Rattle.std.specs.Prelude.{◌≡◌, ℕ, ◌+◌, ◌-◌, ◌<◌, ◌≤◌, List, map, length, slice_index}
+use Rattle.jsonptr.specs.Text.{Text, text}
+use Rattle.jsonptr.specs.Slashes.{slash_offsets}
+
+-- the places of the slashes of a list's text that ends at `end`
+abbrev pub offsets_up_to : ℕ → List Text → List ℕ
+offsets_up_to end ts = map (λ (o : ℕ). end - length (text ts) + o) (slash_offsets ts)
+
+-- the places from the `from`th on are within a text of `before` bytes, no farther from its end than `after`
+abbrev pub CanMove : List ℕ → ℕ → ℕ → ℕ → Type 0
+CanMove old from before after = (k : ℕ) → from ≤ k → k < length old
+    → (slice_index old k ≤ before) × (before ≤ slice_index old k + after)
+
+-- the places from the `from`th on keep their distance from the end of a text that has `after` bytes in place of
+-- `before`, and those in front of them stay
+pub record Moves (old new : List ℕ) (from before after : ℕ) : Type 0 where
+  pub len : length new ≡ length old
+  pub kept : (k : ℕ) → k < from → slice_index new k ≡ slice_index old k
+  pub moved : (k : ℕ) → from ≤ k → k < length old
+      → slice_index new k + before ≡ slice_index old k + after

@@ -1,0 +1,143 @@
+//! Rows of edits, each on a plain and on a tabled pointer.
+use crate::pointers::{is_table, plain, tabled, token};
+use jsonptr::{Fault, Token};
+use jsonptr_tabled::{EditPointer, TabledPointer};
+use std::alloc::Global;
+use std::test::Fail;
+
+/// What a pop or a replacement gave, in words.
+fn given(alloc: Global, token: Option<Token<'static>>) -> Result<String, Fail> {
+    match token {
+        None => Ok(String::from_str(alloc, "no token")?),
+        Some(token) => {
+            let text = token.encoded();
+            Ok(format!(in alloc; "token {text}")?)
+        }
+    }
+}
+
+/// What an edit answers, in words; of a refusal what its error displays.
+pub fn edit<P: EditPointer>(rt: &HostRuntime, pointer: &mut P, line: &str) -> Result<String, Fail> {
+    let alloc = rt.alloc();
+    let (name, with) = line.split_once(' ').unwrap_or((line, ""));
+    match name {
+        "push_front" => pointer.push_front(token(rt, with)?)?,
+        "push_back" => pointer.push_back(token(rt, with)?)?,
+        "append" => pointer.append(plain(rt, with)?.as_ptr())?,
+        "clear" => pointer.clear(),
+        "pop_front" => return given(alloc, pointer.pop_front()?),
+        "pop_back" => return given(alloc, pointer.pop_back()?),
+        "replace" => return replace(rt, pointer, with),
+        "set" => return set(alloc, pointer, with),
+        _ => return Err("an edit".into()),
+    }
+    Ok(String::from_str(alloc, "done")?)
+}
+
+/// What `replace` answers of a place and a decoded text.
+fn replace<P: EditPointer>(rt: &HostRuntime, pointer: &mut P, with: &str) -> Result<String, Fail> {
+    let (index, text) = with.split_once(' ').unwrap_or((with, ""));
+    match pointer.replace(index.parse()?, token(rt, text)?) {
+        Ok(old) => given(rt.alloc(), old),
+        Err(Fault::Refused(error)) => Ok(error.to_string(rt.alloc())?),
+        Err(Fault::Memory(_)) => Err("memory".into()),
+    }
+}
+
+/// What `set_text` answers of a text.
+fn set<P: EditPointer>(alloc: Global, pointer: &mut P, with: &str) -> Result<String, Fail> {
+    match pointer.set_text(String::from_str(alloc, with)?) {
+        Ok(()) => Ok(String::from_str(alloc, "done")?),
+        Err(Fault::Refused(report)) => {
+            let text = report.subject();
+            Ok(format!(in alloc; "{text}: {report}")?)
+        }
+        Err(Fault::Memory(_)) => Err("memory".into()),
+    }
+}
+
+/// What the edits of these lines answer, and the pointer's text after each.
+fn steps<P: EditPointer>(
+    rt: &HostRuntime,
+    pointer: &mut P,
+    lines: &[&str],
+) -> Result<String, Fail> {
+    let alloc = rt.alloc();
+    let mut steps = String::new(alloc);
+    for line in lines {
+        let answer = edit(rt, pointer, line)?;
+        let text = pointer.as_ptr().as_str();
+        steps.push_str(format!(in alloc; "{line}: {answer}: {text}\n")?.as_str())?;
+    }
+    Ok(steps)
+}
+
+/// Whether both kinds of pointer answer so.
+fn both(rt: &HostRuntime, text: &str, lines: &[&str], want: &str) -> Result<bool, Fail> {
+    let mut table = tabled(rt, text)?;
+    let mut text = plain(rt, text)?;
+    let same = steps(rt, &mut table, lines)?.as_str() == want;
+    Ok(same && is_table(&table) && steps(rt, &mut text, lines)?.as_str() == want)
+}
+
+#[test]
+fn pops(rt: HostRuntime) -> Result<(), Fail> {
+    let lines = ["pop_front", "pop_front", "pop_front", "pop_back"];
+    let want = "pop_front: token : /a\n\
+        pop_front: token a: \n\
+        pop_front: no token: \n\
+        pop_back: no token: \n";
+    assert!(rt; both(&rt, "//a", &lines, want)?);
+    Ok(())
+}
+
+#[test]
+fn pushes(rt: HostRuntime) -> Result<(), Fail> {
+    let lines = ["push_back ~", "push_front a/b", "pop_back", "clear"];
+    let want = "push_back ~: done: /foo/bar/~0\n\
+        push_front a/b: done: /a~1b/foo/bar/~0\n\
+        pop_back: token ~0: /a~1b/foo/bar\n\
+        clear: done: \n";
+    assert!(rt; both(&rt, "/foo/bar", &lines, want)?);
+    Ok(())
+}
+
+#[test]
+fn replacements(rt: HostRuntime) -> Result<(), Fail> {
+    let lines = ["replace 0 b", "append /a//c", "replace 1 ~/~", "replace 0 "];
+    let want = "replace 0 b: index 0 is out of bounds (0): \n\
+        append /a//c: done: /a//c\n\
+        replace 1 ~/~: token : /a/~0~1~0/c\n\
+        replace 0 : token a: //~0~1~0/c\n";
+    assert!(rt; both(&rt, "", &lines, want)?);
+    Ok(())
+}
+
+#[test]
+fn texts_that_are_set(rt: HostRuntime) -> Result<(), Fail> {
+    let lines = ["set /a/b", "set foo", "append /c"];
+    let want = "set /a/b: done: /a/b\n\
+        set foo: foo: json pointer failed to parse; does not start with a slash ('/') and is not empty: /a/b\n\
+        append /c: done: /a/b/c\n";
+    assert!(rt; both(&rt, "/x", &lines, want)?);
+    Ok(())
+}
+
+#[test]
+fn edits_by_name(rt: HostRuntime) -> Result<(), Fail> {
+    let mut pointer = TabledPointer::new(rt.alloc());
+    pointer.push_back(token(&rt, "b")?)?;
+    pointer.push_front(token(&rt, "a")?)?;
+    pointer.append(plain(&rt, "/c/d")?.as_ptr())?;
+    let Ok(Some(old)) = pointer.replace(2, token(&rt, "e")?) else {
+        return Err("a token".into());
+    };
+    assert_eq!(rt; old.encoded(), "c");
+    assert_eq!(rt; pointer.pop_back()?.ok_or("a token")?.encoded(), "d");
+    assert_eq!(rt; pointer.pop_front()?.ok_or("a token")?.encoded(), "a");
+    assert_eq!(rt; pointer.as_ptr().as_str(), "/b/e");
+    assert!(rt; pointer.offsets() == [0, 2].as_slice());
+    pointer.clear();
+    assert!(rt; pointer.as_ptr().is_root() && pointer.offsets().is_empty());
+    Ok(())
+}

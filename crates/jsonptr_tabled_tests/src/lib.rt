@@ -1,0 +1,16 @@
+//! Tests of tabled pointers beside plain ones, over public items alone: rows of ranges, splits and edits, a long
+//! walk of edits, sessions on both kinds, and every trait that is implemented once through its bound.
+#![tactic(auto)]
+
+#[cfg(test)]
+mod bounds;
+#[cfg(test)]
+mod edits;
+#[cfg(test)]
+mod parts;
+#[cfg(test)]
+mod pointers;
+#[cfg(test)]
+mod sessions;
+#[cfg(test)]
+mod walk;

@@ -1,0 +1,228 @@
+//! One session on each kind of pointer and of document: every call, and the replies field by field.
+use crate::pointers::{is_table, plain, tabled};
+use jsonptr::{PointerBuf, Token};
+use jsonptr_session::{Call, Reply, run_json, run_json_with, run_toml, run_toml_with};
+use jsonptr_tabled::TabledPointer;
+use std::alloc::{AllocError, Global};
+use std::fmt::Display;
+use std::test::Fail;
+
+/// What the tests do to a document of either kind.
+pub trait Document: Display + Drop + Sized {
+    /// The value of a text.
+    fn read(alloc: Global, text: &str) -> Result<Self, Fail>;
+
+    /// The replies to calls on a plain pointer.
+    fn run(
+        alloc: Global,
+        ptr: &mut PointerBuf,
+        doc: &mut Self,
+        calls: Vec<Call<Self>>,
+    ) -> Result<Vec<Reply<Self>>, AllocError>;
+
+    /// The replies to calls on a tabled pointer.
+    fn run_tabled(
+        alloc: Global,
+        ptr: &mut TabledPointer,
+        doc: &mut Self,
+        calls: Vec<Call<Self>>,
+    ) -> Result<Vec<Reply<Self>>, AllocError>;
+}
+
+impl Document for serde_json::Value {
+    fn read(alloc: Global, text: &str) -> Result<serde_json::Value, Fail> {
+        Ok(serde_json::Value::from_str(alloc, text)?)
+    }
+
+    fn run(
+        alloc: Global,
+        ptr: &mut PointerBuf,
+        doc: &mut serde_json::Value,
+        calls: Vec<Call<serde_json::Value>>,
+    ) -> Result<Vec<Reply<serde_json::Value>>, AllocError> {
+        run_json(alloc, ptr, doc, calls)
+    }
+
+    fn run_tabled(
+        alloc: Global,
+        ptr: &mut TabledPointer,
+        doc: &mut serde_json::Value,
+        calls: Vec<Call<serde_json::Value>>,
+    ) -> Result<Vec<Reply<serde_json::Value>>, AllocError> {
+        run_json_with(alloc, ptr, doc, calls)
+    }
+}
+
+impl Document for toml::Value {
+    fn read(alloc: Global, text: &str) -> Result<toml::Value, Fail> {
+        Ok(toml::Value::from_str(alloc, text).ok().ok_or("a value")?)
+    }
+
+    fn run(
+        alloc: Global,
+        ptr: &mut PointerBuf,
+        doc: &mut toml::Value,
+        calls: Vec<Call<toml::Value>>,
+    ) -> Result<Vec<Reply<toml::Value>>, AllocError> {
+        run_toml(alloc, ptr, doc, calls)
+    }
+
+    fn run_tabled(
+        alloc: Global,
+        ptr: &mut TabledPointer,
+        doc: &mut toml::Value,
+        calls: Vec<Call<toml::Value>>,
+    ) -> Result<Vec<Reply<toml::Value>>, AllocError> {
+        run_toml_with(alloc, ptr, doc, calls)
+    }
+}
+
+/// A copy of a text.
+fn text(rt: &HostRuntime, text: &str) -> Result<String, Fail> {
+    Ok(String::from_str(rt.alloc(), text)?)
+}
+
+/// The call of a line: its name, and what it is made with, as text.
+fn call<D: Document>(rt: &HostRuntime, line: &str) -> Result<Call<D>, Fail> {
+    let (name, with) = line.split_once(' ').unwrap_or((line, ""));
+    match name {
+        "parse" => Ok(Call::Parse(text(rt, with)?)),
+        "push_back" => Ok(Call::PushBack(text(rt, with)?)),
+        "push_front" => Ok(Call::PushFront(text(rt, with)?)),
+        "pop_back" => Ok(Call::PopBack),
+        "pop_front" => Ok(Call::PopFront),
+        "replace" => Ok(Call::Replace(1, text(rt, with)?)),
+        "append" => Ok(Call::Append(plain(rt, with)?)),
+        "clear" => Ok(Call::Clear),
+        "resolve" => Ok(Call::Resolve),
+        "write" => Ok(Call::Write(D::read(rt.alloc(), with)?)),
+        "assign" => Ok(Call::Assign(D::read(rt.alloc(), with)?)),
+        "delete" => Ok(Call::Delete),
+        _ => Err("a call".into()),
+    }
+}
+
+/// The calls of these lines.
+fn calls<D: Document>(rt: &HostRuntime, lines: &[&str]) -> Result<Vec<Call<D>>, Fail> {
+    let mut calls = Vec::new(rt.alloc());
+    for line in lines {
+        calls.push(call(rt, line)?)?;
+    }
+    Ok(calls)
+}
+
+/// Whether two tokens are both there and have one text, or are both missing.
+fn same_token(a: &Option<Token<'static>>, b: &Option<Token<'static>>) -> bool {
+    match (a, b) {
+        (Some(a), Some(b)) => a == b,
+        (None, None) => true,
+        _ => false,
+    }
+}
+
+/// Whether two values display one text, or are both missing.
+fn same_value<D: Display>(alloc: Global, a: &Option<D>, b: &Option<D>) -> Result<bool, Fail> {
+    match (a, b) {
+        (Some(a), Some(b)) => Ok(a.to_string(alloc)? == b.to_string(alloc)?),
+        (None, None) => Ok(true),
+        _ => Ok(false),
+    }
+}
+
+/// Whether two replies are the same, field by field, values by what they display.
+fn same<D: Display>(alloc: Global, a: &Reply<D>, b: &Reply<D>) -> Result<bool, Fail> {
+    match (a, b) {
+        (Reply::Done, Reply::Done) => Ok(true),
+        (Reply::BadPointer(a), Reply::BadPointer(b)) => {
+            Ok(a.original() == b.original() && a.subject() == b.subject())
+        }
+        (Reply::Token(a), Reply::Token(b)) => Ok(same_token(a, b)),
+        (Reply::BadPosition(a), Reply::BadPosition(b)) => Ok(a == b),
+        (Reply::Value(a), Reply::Value(b)) => Ok(a.to_string(alloc)? == b.to_string(alloc)?),
+        (Reply::NoValue(a), Reply::NoValue(b)) => Ok(a == b),
+        (Reply::Assigned(a), Reply::Assigned(b)) => same_value(alloc, a, b),
+        (Reply::BadPlace(a), Reply::BadPlace(b)) => Ok(a == b),
+        (Reply::Deleted(a), Reply::Deleted(b)) => same_value(alloc, a, b),
+        _ => Ok(false),
+    }
+}
+
+/// Whether all replies are the same.
+fn all_same<D: Display>(alloc: Global, a: &[Reply<D>], b: &[Reply<D>]) -> Result<bool, Fail> {
+    if a.len() != b.len() {
+        return Ok(false);
+    }
+    for i in 0..a.len() {
+        if !same(alloc, &a[i], &b[i])? {
+            return Ok(false);
+        }
+    }
+    Ok(true)
+}
+
+/// What pointer and document are after these calls, where both kinds of pointer give the same replies.
+fn after<D: Document>(rt: &HostRuntime, doc: &str, lines: &[&str]) -> Result<String, Fail> {
+    let alloc = rt.alloc();
+    let (mut plain, mut table) = (plain(rt, "/x")?, tabled(rt, "/x")?);
+    let (mut first, mut second) = (D::read(alloc, doc)?, D::read(alloc, doc)?);
+    let replies = D::run(alloc, &mut plain, &mut first, calls(rt, lines)?)?;
+    let others = D::run_tabled(alloc, &mut table, &mut second, calls(rt, lines)?)?;
+    let (a, b) = (first.to_string(alloc)?, second.to_string(alloc)?);
+    if !all_same(alloc, &replies, &others)? || a != b || !is_table(&table) {
+        return Err("one session".into());
+    }
+    let (text, same) = (plain.as_ptr(), table.as_ptr());
+    if text != same {
+        return Err("one pointer".into());
+    }
+    Ok(format!(in alloc; "{text} {a}")?)
+}
+
+const LINES: [&str; 24] = [
+    "parse /a",
+    "parse a",
+    "push_back ~",
+    "push_front b/c",
+    "pop_front",
+    "replace 0",
+    "resolve",
+    "write 3",
+    "append /x/-",
+    "resolve",
+    "assign 4",
+    "pop_back",
+    "delete",
+    "pop_back",
+    "delete",
+    "delete",
+    "clear",
+    "replace 0",
+    "pop_back",
+    "pop_front",
+    "parse /a/b",
+    "assign 5",
+    "parse /a/0",
+    "delete",
+];
+
+#[test]
+fn every_call_on_json(rt: HostRuntime) -> Result<(), Fail> {
+    let left = after::<serde_json::Value>(&rt, r#"{"a":[1,2]}"#, &LINES)?;
+    assert_eq!(rt; left.as_str(), r#"/a/0 {"a":[]}"#);
+    Ok(())
+}
+
+#[test]
+fn rows_on_json(rt: HostRuntime) -> Result<(), Fail> {
+    let lines = ["clear", "push_back a/b", "assign 1", "delete", "resolve"];
+    let left = after::<serde_json::Value>(&rt, "null", &lines)?;
+    assert_eq!(rt; left.as_str(), "/a~1b {}");
+    Ok(())
+}
+
+#[test]
+fn every_call_on_toml(rt: HostRuntime) -> Result<(), Fail> {
+    let left = after::<toml::Value>(&rt, "{ a = [1, 2] }", &LINES)?;
+    assert_eq!(rt; left.as_str(), "/a/0 { a = [] }");
+    Ok(())
+}

@@ -1,0 +1,2 @@
+-- Lemmas on the undos of an editor.
+pub mod UndoingLemmas

@@ -1,0 +1,2 @@
+-- What the undos of an editor lead back to.
+pub mod Undoing

@@ -1,0 +1,86 @@
+//! An editor of a JSON document that takes back what it assigned, with contracts that follow from those of
+//! `jsonptr_session` alone.
+ghost use Rattle.std.specs.Prelude.{◌≡◌, ◌-◌, length, IfOk};
+ghost use Rattle.serde_json.specs.Data.{Data};
+ghost use Rattle.serde_json.specs.View.{view};
+ghost use Rattle.jsonptr.specs.Fault.{IsRefused};
+ghost use Rattle.jsonptr.specs.Json.{KeysAscend};
+ghost use Rattle.jsonptr_uses.specs.Undoing.{IsOpenedOn};
+
+use jsonptr::{Fault, Pointer, assign, resolve};
+use jsonptr_session::undo::Undo;
+use jsonptr_session::undo::json::{assign_with_undo, undo};
+use serde_json::Value;
+use std::alloc::Global;
+
+/// A JSON document, and what takes each assignment in it back, the last one last.
+#[derive(Drop)]
+pub struct Editor {
+    document: Value,
+    undos: Vec<Undo<Value>>,
+}
+
+impl Editor {
+    /// An editor of this document, which it owns.
+    pub fn open(alloc: Global, document: Value) -> Editor
+        ensures { KeysAscend (view document) → IsOpenedOn (view document) result }
+    {
+        Editor {
+            document,
+            undos: Vec::new(alloc),
+        }
+    }
+
+    /// Assigns a value where a pointer leads. After a refusal, want of memory included, the editor is as it was.
+    pub fn assign(
+        &mut self,
+        alloc: Global,
+        pointer: Pointer<'_>,
+        value: Value,
+    ) -> Result<(), Fault<assign::Error>>
+        ensures opened { (start : Data) → KeysAscend (view value)
+            → IsOpenedOn start self.old → IsOpenedOn start self.new }
+    {
+        self.undos.reserve(1)?;
+        let last = assign_with_undo(alloc, &mut self.document, pointer, value)?;
+        self.undos.push_reserved(last);
+        Ok(())
+    }
+
+    /// Takes the last assignment back, if there is one. Where memory is wanted the editor is as it was.
+    fn take_last_back(&mut self, alloc: Global) -> Result<(), Fault<resolve::Error>>
+        ensures opened { (start : Data)
+            → IsOpenedOn start self.old → IsOpenedOn start self.new }
+        ensures fewer { IfOk result (λ _.
+            length self.new.undos.items ≡ length self.old.undos.items - 1) }
+        ensures never_refused { (start : Data)
+            → IsOpenedOn start self.old → IsRefused result → ⊥ }
+    {
+        let Some(last) = self.undos.pop() else {
+            return Ok(());
+        };
+        match undo(alloc, &mut self.document, last) {
+            Ok(()) => Ok(()),
+            Err(refused) => {
+                self.undos.push_reserved(refused.undo);
+                Err(refused.cause)
+            }
+        }
+    }
+
+    /// Takes all assignments back, the last first: the document is the one that the editor was opened on. Where
+    /// memory is wanted, which is the only refusal, the rest can be taken back by another call.
+    pub fn take_all_back(&mut self, alloc: Global) -> Result<(), Fault<resolve::Error>>
+        ensures restored { IfOk result (λ _. (start : Data)
+            → IsOpenedOn start self.old → view self.new.document ≡ start) }
+        ensures opened { (start : Data)
+            → IsOpenedOn start self.old → IsOpenedOn start self.new }
+        ensures never_refused { (start : Data)
+            → IsOpenedOn start self.old → IsRefused result → ⊥ }
+    {
+        for _turn in 0..self.undos.len() {
+            self.take_last_back(alloc)?;
+        }
+        Ok(())
+    }
+}
