@@ -315,7 +315,8 @@ impl Error {
 
     /// The error of a pointer that can be followed as far as the stop tells.
     pub(crate) fn at(stop: Stop) -> Error
-        ensures { (n : NodeMap) (tokens : List Text) → IsStop n tokens stop → Refuses n tokens result }
+        ensures { (n : NodeMap) (tokens : List Text)
+            → IsStop n tokens stop → Refuses n tokens result }
     {
         let Stop {
             position,

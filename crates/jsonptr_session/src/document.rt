@@ -37,7 +37,8 @@ pub trait Document: Sized + Drop {
     /// [`Fault::Refused`] where the pointer names no value, and [`Fault::Memory`] where a request for memory
     /// is refused.
     fn find_at(&self, alloc: Global, ptr: Pointer<'_>) -> Result<(), Fault<resolve::Error>>
-        ensures found { IfOk result (λ _. (w : Path) × Names (nodes self.now) (tokens ptr.entry) w) }
+        ensures found { IfOk result (λ _.
+            (w : Path) × Names (nodes self.now) (tokens ptr.entry) w) }
         ensures refused { IfRefused result (Refuses (nodes self.now) (tokens ptr.entry)) };
 
     /// A copy of the value that the pointer names.
