@@ -5,3 +5,4 @@ pub use Rattle.jsonptr_tree.proofs.ContentLemmas.{map_of-IsTree, map_of-finite}
 pub use Rattle.jsonptr_tree.proofs.JsonLemmas.{content_one, FindsValue_one, FindsValue-Finds, nodes_one, ascends_part}
 pub use Rattle.jsonptr_tree.proofs.RemovingLemmas.{Deletes_one, element_lower, element_kept, member_forgotten}
 pub use Rattle.jsonptr_tree.proofs.JsonOrderLemmas.{ascends_put}
+pub use Rattle.jsonptr_base.proofs.IndexLemmas.{Reads_one}

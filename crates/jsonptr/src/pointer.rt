@@ -31,7 +31,7 @@ pub struct Pointer<'a> {
 }
 
 impl<'a> Pointer<'a> {
-    ghost use Rattle.jsonptr.specs.Pointer.{tokens, text_of, IsParentOf, IsSplitOf};
+    ghost use Rattle.jsonptr.specs.Pointer.{tokens, text_of, IsParentOf, IsSplitAt, IsSplitOf};
     ghost use Rattle.jsonptr_walk.specs.Route.{tokens as tokens_on};
     ghost use Rattle.jsonptr_text.specs.ParseError.{TellsPointerFault};
     ghost use Rattle.jsonptr_text.specs.Ends.{IsFirstOf, IsLastOf};
@@ -184,12 +184,12 @@ impl<'a> Pointer<'a> {
         Some((Pointer { inner: front }, Pointer { inner: rest }))
     }
 
-    /// The old name of [`Pointer::split_at_offset`].
-    pub fn split_at(&self, offset: usize) -> Option<(Pointer<'a>, Pointer<'a>)>
-        ensures slash { IsSome result ↔ (slice_index (text_of self.now) offset ≡ 47) }
-        ensures split { IsSplitOf (tokens self.now) offset result }
+    /// The pointers of the first `position` tokens and of those after them; `None` where there are fewer.
+    pub fn split_at(&self, position: usize) -> Option<(Pointer<'a>, Pointer<'a>)>
+        ensures { IsSplitAt (tokens self.now) position result }
     {
-        self.split_at_offset(offset)
+        let (front, rest) = cut::split_at_count(self.as_str(), position)?;
+        Some((Pointer { inner: front }, Pointer { inner: rest }))
     }
 
     /// Whether the pointer's tokens begin with those of another, as they always do with those of the root.

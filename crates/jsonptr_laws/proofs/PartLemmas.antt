@@ -1,5 +1,5 @@
 -- That the relations on parts of a pointer, and on its labels, have one answer.
-use Rattle.std.proofs.Common.{◌≡◌, ℕ, ◌+◌, ◌<◌, ◌≤◌, ◌^◌, List, [], ◌∷◌, ◌++◌, Option, Some, None, length, refl, sym, ap, ◌∙◌, ⊎_elim, inl, inr, arith}
+use Rattle.std.proofs.Common.{◌≡◌, ℕ, ◌+◌, ◌<◌, ◌≤◌, ◌^◌, List, [], ◌∷◌, ◌++◌, Option, Some, None, length, refl, sym, ap, ◌∙◌, ⊎_elim, inl, inr, arith, length-append}
 use Rattle.std.specs.declared.ops.Bound.{Bound}
 use Rattle.std.specs.declared.ops.Bound.TheVariants.{Included, Excluded, Unbounded}
 use Rattle.std.specs.Prelude.{slice_get}
@@ -20,8 +20,9 @@ use Rattle.jsonptr.specs.Types.InvalidEncoding.TheVariants.{Tilde, Slash}
 use Rattle.jsonptr.specs.Types.ParseIndexError.{ParseIndexError}
 use Rattle.jsonptr.specs.Types.ParseIndexError.TheVariants.{InvalidInteger, LeadingZeros, InvalidCharacter}
 use Rattle.jsonptr.specs.declared.pointer.Pointer.{Pointer}
+use Rattle.jsonptr.specs.Pointer.{tokens, IsSplitAt}
 use Rattle.jsonptr_grammar.proofs.PointerLemmas.{length-text-cons}
-use Rattle.jsonptr_laws.specs.Answers.{SamePointer}
+use Rattle.jsonptr_laws.specs.Answers.{SamePointer, SamePointers}
 
 -- ---- a list in two
 
@@ -41,21 +42,27 @@ pub split_one : (ts front rest other after : List Text) (offset : ℕ) → Split
 split_one ts front rest other after offset h k = same_text_front front rest other after (sym h.split ∙ k.split) (h.place ∙ sym k.place)
 
 -- two fronts of one list that are equally long are one
-same_front : (f r g s : List Text) → f ++ r ≡ g ++ s → length f ≡ length g → f ≡ g
-same_front [] r [] s e h = refl
-same_front [] r (y ∷ g) s e h = absurd (omega (arith, h))
-same_front (x ∷ f) r [] s e h = absurd (omega (arith, h))
-same_front (x ∷ f) r (y ∷ g) s e h =
+same_fronts : (f r g s : List Text) → f ++ r ≡ g ++ s → length f ≡ length g → (f ≡ g) × (r ≡ s)
+same_fronts [] r [] s e h = (refl, e)
+same_fronts [] r (y ∷ g) s e h = absurd (omega (arith, h))
+same_fronts (x ∷ f) r [] s e h = absurd (omega (arith, h))
+same_fronts (x ∷ f) r (y ∷ g) s e h =
     let first : x ≡ y = cc in
     let others : f ++ r ≡ g ++ s = cc in
-    let more : f ≡ g = same_front f r g s others (omega (arith, h)) in
-    cc (first, more)
+    let more = same_fronts f r g s others (omega (arith, h)) in
+    (cc (first, more.0), more.1)
+
+pub split_at_one : (ts : List Text) (n : ℕ) (r q : Option (Pointer × Pointer)) → IsSplitAt ts n r → IsSplitAt ts n q → SamePointers r q
+split_at_one ts n None None h k = refl
+split_at_one ts n None (Some q) h k = absurd (omega (arith, h, k.1, ap length k.0, length-append (tokens q.0) (tokens q.1)))
+split_at_one ts n (Some p) None h k = absurd (omega (arith, k, h.1, ap length h.0, length-append (tokens p.0) (tokens p.1)))
+split_at_one ts n (Some p) (Some q) h k = same_fronts (tokens p.0) (tokens p.1) (tokens q.0) (tokens q.1) (sym h.0 ∙ k.0) (h.1 ∙ sym k.1)
 
 pub common_one : (ts us front other : List Text) → IsLongestCommonFront ts us front → IsLongestCommonFront ts us other → front ≡ other
 common_one ts us front other h k =
     let upto : length other ≤ length front = h.longest other k.first k.second in
     let from : length front ≤ length other = k.longest front h.first h.second in
-    same_front front h.first.0 other k.first.0 (sym h.first.1 ∙ k.first.1) (omega (arith, upto, from))
+    (same_fronts front h.first.0 other k.first.0 (sym h.first.1 ∙ k.first.1) (omega (arith, upto, from))).0
 
 -- ---- a range of places
 

@@ -1,5 +1,5 @@
 -- The table of a list's slashes against the bytes of its text.
-use Rattle.std.proofs.Common.{◌≡◌, ◌≢◌, ℕ, suc, zero, ◌+◌, ◌-◌, ◌<◌, ◌≤◌, ◌↔◌, List, [], ◌∷◌, ◌++◌, Some, length, take, drop, get_or, slice_index, slice_get, refl, sym, ap, ◌∙◌, subst, ⊎_elim, arith, length-append, length-drop, take-append-drop, add-zero}
+use Rattle.std.proofs.Common.{◌≡◌, ◌≢◌, ℕ, suc, zero, ◌+◌, ◌-◌, ◌<◌, ◌≤◌, ◌↔◌, List, [], ◌∷◌, ◌++◌, length, take, drop, get_or, slice_index, refl, sym, ap, ◌∙◌, subst, ⊎_elim, arith, length-append, length-drop, take-append-drop, add-zero}
 use Rattle.std.specs.Prelude.{Contains}
 use Rattle.std.proofs.lemmas.List.{get_or_append_left, get_or-append-add}
 use Rattle.std.proofs.lemmas.List.Elements.{All-get_or}
@@ -9,7 +9,7 @@ use Rattle.jsonptr_grammar.specs.Text.{Text, esc, text}
 use Rattle.jsonptr_grammar.proofs.EscapeLemmas.{no_slash-esc}
 use Rattle.jsonptr_grammar.proofs.PointerLemmas.{text-append}
 use Rattle.jsonptr.specs.Slashes.{slash_offsets}
-use Rattle.jsonptr.proofs.SlashesLemmas.{slashes_from, offsets_are, length-offsets, length-from, below_end, offset_at}
+use Rattle.jsonptr.proofs.SlashesLemmas.{slashes_from, offsets_are, length-offsets, below_end, offset_at}
 
 -- behind the first n tokens of more a slash stands
 begins_some : (ts : List Text) → 0 < length ts → slice_index (text ts) 0 ≡ 47

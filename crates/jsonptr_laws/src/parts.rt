@@ -10,6 +10,7 @@ ghost use Rattle.jsonptr.specs.Resolve as resolve;
 ghost use Rattle.jsonptr.specs.Assign as assign;
 ghost use Rattle.jsonptr.specs.Parts.{SplitsAt, IsLongestCommonFront};
 ghost use Rattle.jsonptr.specs.Slice.{GivesRange, GivesFrom, GivesTo, GivesAll, GivesInclusive, GivesToInclusive, GivesBounds};
+ghost use Rattle.jsonptr.specs.Pointer.{IsSplitAt};
 ghost use Rattle.jsonptr.specs.Slashes.{slash_offsets};
 ghost use Rattle.jsonptr.specs.Types.ParseError.{ParseError};
 ghost use Rattle.jsonptr.specs.Types.EncodingError.{EncodingError};
@@ -17,13 +18,16 @@ ghost use Rattle.jsonptr.specs.Types.ParseIndexError.{ParseIndexError};
 ghost use Rattle.jsonptr.specs.declared.resolve.Error as resolving;
 ghost use Rattle.jsonptr.specs.declared.assign.Error as assigning;
 ghost use Rattle.jsonptr.specs.declared.pointer.Pointer.{Pointer};
-ghost use Rattle.jsonptr_laws.specs.Answers.{SamePointer};
+ghost use Rattle.jsonptr_laws.specs.Answers.{SamePointer, SamePointers};
 
-/// A list of tokens is split at a byte of its text in one way, and two lists have one longest front in common.
+/// A list of tokens is split at a byte of its text in one way, or behind a number of its tokens, and two lists
+/// have one longest front in common.
 pub fn split_law()
     ensures split { (ts front rest other after : List Text) (offset : ℕ)
         → SplitsAt ts offset front rest → SplitsAt ts offset other after
         → (front ≡ other) × (rest ≡ after) }
+    ensures position { (ts : List Text) (n : ℕ) (r q : Option (Pointer × Pointer))
+        → IsSplitAt ts n r → IsSplitAt ts n q → SamePointers r q }
     ensures common { (ts us front other : List Text)
         → IsLongestCommonFront ts us front → IsLongestCommonFront ts us other → front ≡ other }
 {}

@@ -276,6 +276,14 @@ fn reports_of_faults(rt: HostRuntime) -> Result<(), Fail> {
         assert!(rt; is_labelled(&rt, &fault, subject, want)?, "on {subject}");
     }
     assert!(rt; is_labelled(&rt, &ParseError::NoLeadingSlash, "/a", (slash, 0, 0))?);
+    let near = ParseError::InvalidEncoding {
+        offset: 0,
+        source: EncodingError {
+            offset: 0,
+            source: InvalidEncoding::Tilde,
+        },
+    };
+    assert!(rt; is_labelled(&rt, &near, "/~", (tilde, 0, 2))?);
     let far = ParseError::InvalidEncoding {
         offset: usize::MAX,
         source: EncodingError {
@@ -283,6 +291,7 @@ fn reports_of_faults(rt: HostRuntime) -> Result<(), Fail> {
             source: InvalidEncoding::Tilde,
         },
     };
+    assert!(rt; far.labels(rt.alloc(), &String::new(rt.alloc()))?.is_none());
     let subject = String::from_str(rt.alloc(), "/a~2")?;
     assert!(rt; far.labels(rt.alloc(), &subject)?.is_none());
     let report: Report<ParseError> = far.into_report(subject);

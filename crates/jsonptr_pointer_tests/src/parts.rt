@@ -12,6 +12,14 @@ fn text_of<'a>(pointer: Option<Pointer<'a>>) -> Option<&'a str> {
     }
 }
 
+/// The texts of two pointers, where there are two.
+fn texts_of<'a>(split: Option<(Pointer<'a>, Pointer<'a>)>) -> Option<(&'a str, &'a str)> {
+    match split {
+        Some((front, rest)) => Some((front.as_str(), rest.as_str())),
+        None => None,
+    }
+}
+
 #[test]
 fn both_ends(rt: HostRuntime) -> Result<(), Fail> {
     let pointer = Pointer::parse("/foo/b~1r/")?;
@@ -45,16 +53,28 @@ fn splits_at_offsets(rt: HostRuntime) {
         (12, None),
         (usize::MAX, None),
     ] {
-        for split in [pointer.split_at_offset(offset), pointer.split_at(offset)] {
-            match (split, want) {
-                (Some((front, rest)), Some((a, b))) => {
-                    assert_eq!(rt; front.as_str(), a, "at {offset}");
-                    assert_eq!(rt; rest.as_str(), b, "at {offset}");
-                }
-                (split, want) => assert!(rt; split.is_none() && want.is_none(), "at {offset}"),
-            }
-        }
+        let split = texts_of(pointer.split_at_offset(offset));
+        assert!(rt; split == want, "at {offset}");
     }
+}
+
+#[test]
+fn splits_at_positions(rt: HostRuntime) -> Result<(), Fail> {
+    for (text, position, want) in [
+        ("/foo/bar/baz", 0, Some(("", "/foo/bar/baz"))),
+        ("/foo/bar/baz", 1, Some(("/foo", "/bar/baz"))),
+        ("/foo/bar/baz", 2, Some(("/foo/bar", "/baz"))),
+        ("/foo/bar/baz", 3, Some(("/foo/bar/baz", ""))),
+        ("/foo/bar/baz", 4, None),
+        ("", 0, Some(("", ""))),
+        ("", 1, None),
+        ("/a", usize::MAX, None),
+        ("//~1/", 2, Some(("//~1", "/"))),
+    ] {
+        let split = texts_of(Pointer::parse(text)?.split_at(position));
+        assert!(rt; split == want, "{text} at {position}");
+    }
+    Ok(())
 }
 
 #[test]
@@ -141,6 +161,11 @@ fn places_and_ranges(rt: HostRuntime) -> Result<(), Fail> {
     let one = Pointer::parse("/foo")?;
     assert_eq!(rt; text_of(one.get(0..0)), Some(""));
     assert_eq!(rt; text_of(one.get(1..1)), None);
+    let most = usize::MAX;
+    assert_eq!(rt; text_of(one.get(most..most)), None);
+    assert_eq!(rt; text_of(one.get(..most)), None);
+    assert_eq!(rt; text_of(one.get(..=most)), None);
+    assert_eq!(rt; text_of(one.get(0..=most)), None);
     let root = Pointer::root();
     assert_eq!(rt; text_of(root.get(0..)), None);
     assert_eq!(rt; text_of(root.get(..0)), Some(""));

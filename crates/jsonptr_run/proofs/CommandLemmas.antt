@@ -1,5 +1,5 @@
 -- What two and three words are, and how their pointer is refused.
-use Rattle.std.proofs.Common.{◌≡◌, ◌<◌, ◌≤◌, ◌⊎◌, inl, inr, true, false, nat_eq, List, [], ◌∷◌, map, length, get_or, Result, Err, IfErr, refl, sym, ap, ◌∙◌, subst, arith}
+use Rattle.std.proofs.Common.{◌≡◌, ◌<◌, ◌≤◌, ◌⊎◌, inl, inr, true, false, nat_eq, ℕ, List, [], ◌∷◌, map, length, get_or, Result, Ok, Err, IfErr, refl, sym, ap, ◌∙◌, subst, arith}
 use Rattle.std.specs.Result.{IsErrAnd}
 use Rattle.std.proofs.lemmas.List.{length-map}
 use Rattle.std.proofs.lemmas.Result.{err_from_is_err_and}
@@ -9,6 +9,11 @@ use lib.Pointwise.{pointwise}
 use Rattle.jsonptr.specs.Text.{Text}
 use Rattle.jsonptr.specs.ParseError.{TellsPointerFault}
 use Rattle.jsonptr.specs.Types.ParseError.{ParseError}
+use Rattle.jsonptr.specs.Index.{Reads}
+use Rattle.jsonptr.specs.Types.Index.{Index}
+use Rattle.jsonptr.specs.Types.Index.TheVariants.{Num, Next}
+use Rattle.jsonptr.specs.Types.ParseIndexError.{ParseIndexError}
+use Rattle.jsonptr.proofs.Calling.{Reads_one}
 use Rattle.jsonptr_run.specs.Run.{Asks, HaveValue, IsValueMemory, TakePointer}
 use Rattle.jsonptr_run.specs.Private.{RefusesValue}
 use Rattle.jsonptr_run.specs.declared.fault.RunFault.{RunFault}
@@ -90,3 +95,19 @@ value_refused words r ts value e refused have none =
     by_value : RefusesValue value e → Asks words (Err e) ⊎ IsValueMemory words e
     by_value (inl h) = inl (inr (inr (ts, value, have, h.0, h.1)))
     by_value (inr h) = inr (ts, value, have, h)
+
+-- a text has one number as an index, and none where it reads otherwise
+abbrev index_of_number : ℕ → Result Index ParseIndexError
+index_of_number n = Ok (Num n)
+
+pub number_one : (s : Text) (n m : ℕ) → Reads s (Ok (Num n)) → Reads s (Ok (Num m)) → n ≡ m
+number_one s n m h k = let same : index_of_number n ≡ index_of_number m = Reads_one s (Ok (Num n)) (Ok (Num m)) h k in cc
+
+pub no_number : (s read : Text) (r : Result Index ParseIndexError) → read ≡ s → Reads read r → ((n : ℕ) → r ≡ Ok (Num n) → ⊥) → (n : ℕ) → Reads s (Ok (Num n)) → ⊥
+no_number s read r is h other n k = other n (Reads_one s r (Ok (Num n)) (subst (λ (t : Text). Reads t r) is h) k)
+
+pub next_is_no_number : (r : Result Index ParseIndexError) (i : Index) → r ≡ Ok i → i ≡ Next → (n : ℕ) → r ≡ Ok (Num n) → ⊥
+next_is_no_number r i is next n e = cc
+
+pub fault_is_no_number : (r : Result Index ParseIndexError) (f : ParseIndexError) → r ≡ Err f → (n : ℕ) → r ≡ Ok (Num n) → ⊥
+fault_is_no_number r f is n e = cc

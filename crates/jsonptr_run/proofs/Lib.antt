@@ -1,6 +1,6 @@
 pub mod CommandLemmas
 pub mod JsonLemmas
 pub mod AnswerLemmas
-pub mod TokensLemmas
+pub mod TextsLemmas
 pub mod RunLaw
 mod OrderLemmas

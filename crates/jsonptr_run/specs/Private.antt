@@ -7,17 +7,19 @@ use Rattle.jsonptr.specs.Text.{Text}
 use Rattle.jsonptr.specs.Types.Fault.{Fault}
 use Rattle.jsonptr.specs.Types.Fault.TheVariants as fault
 use Rattle.jsonptr.specs.Pointer.{tokens}
+use Rattle.jsonptr.specs.Index.{Reads}
+use Rattle.jsonptr.specs.Types.Index.TheVariants.{Num}
 use Rattle.jsonptr.specs.declared.resolve.Error as resolve
 use Rattle.jsonptr.specs.declared.assign.Error as assign
 use Rattle.jsonptr_run.specs.declared.fault.RunFault.{RunFault}
-use Rattle.jsonptr_run.specs.declared.fault.RunFault.TheVariants.{ValueNotJson, NoValue, BadPlace, InputNotJson, Memory, Read}
+use Rattle.jsonptr_run.specs.declared.fault.RunFault.TheVariants.{Usage, ValueNotJson, NoValue, BadPlace, InputNotJson, Memory, Read}
 use Rattle.jsonptr_run.specs.declared.input.InputFault.{InputFault}
 use Rattle.jsonptr_run.specs.declared.input.InputFault.TheVariants as input
 use Rattle.jsonptr_run.specs.declared.run.Request as code
-use Rattle.jsonptr_run.specs.declared.run.Request.TheVariants.{Resolve, Tokens, Assign, Delete}
+use Rattle.jsonptr_run.specs.declared.run.Request.TheVariants.{Resolve, Tokens, Assign, Delete, Split}
 use Rattle.jsonptr_run.specs.Streams.{ForBytes}
 use Rattle.jsonptr_run.specs.JsonText.{json_of, IsJsonLine}
-use Rattle.jsonptr_run.specs.Run.{Request, resolving, listing, assigning, deleting}
+use Rattle.jsonptr_run.specs.Run.{Request, resolving, listing, assigning, deleting, splitting}
 
 -- what contracts see of the program's `Request`
 abbrev pub request_of : code.Request → Request
@@ -25,6 +27,7 @@ request_of (Resolve p) = resolving (tokens p)
 request_of (Tokens p) = listing (tokens p)
 request_of (Assign p v) = assigning (tokens p) (view v)
 request_of (Delete p) = deleting (tokens p)
+request_of (Split p n) = splitting (tokens p) n
 
 -- the fault of the run where the input could not be read
 abbrev pub of_input_fault : InputFault → RunFault
@@ -59,3 +62,7 @@ IsFaultOf P e = P (Err e) ⊎ (e ≡ Memory alloc_error)
 -- the text is no value to assign, or memory for it is refused
 abbrev pub RefusesValue : Text → RunFault → Type 0
 RefusesValue text e = ((json_of text ≡ None) × (e ≡ ValueNotJson)) ⊎ (e ≡ Memory alloc_error)
+
+-- the text is no position to split at
+abbrev pub RefusesPosition : Text → RunFault → Type 0
+RefusesPosition text e = ((n : ℕ) → Reads text (Ok (Num n)) → ⊥) × (e ≡ Usage)

@@ -1,7 +1,7 @@
 -- What the program answers to its words and its input, and which fault comes when. A run has stages, in this
 -- order: the words, the pointer, the value to assign, the input, the operation, the line. Each stage hands on
 -- what it made, or refuses the run.
-use Rattle.std.specs.Prelude.{◌≡◌, ◌⊎◌, ℕ, List, [], ◌∷◌, map, Option, Some, None, Result, Ok, Err, MatchOption, codes, alloc_error, ⊤}
+use Rattle.std.specs.Prelude.{◌≡◌, ◌⊎◌, ℕ, ◌<◌, List, [], ◌∷◌, ◌++◌, length, map, Option, Some, None, Result, Ok, Err, MatchOption, codes, alloc_error, ⊤}
 use Rattle.serde_json.specs.Data.{Data, null, string, array}
 use Rattle.serde_json.specs.View.{items_of}
 use Rattle.jsonptr.specs.Text.{Text, text}
@@ -9,7 +9,9 @@ use Rattle.jsonptr.specs.Node.{Path, NodeMap, Names}
 use Rattle.jsonptr.specs.Assigning.{Assigns}
 use Rattle.jsonptr.specs.Removing.{Deletes}
 use Rattle.jsonptr.specs.Json.{nodes, FindsValue, KeysAscend}
+use Rattle.jsonptr.specs.Index.{Reads}
 use Rattle.jsonptr.specs.ParseError.{TellsPointerFault}
+use Rattle.jsonptr.specs.Types.Index.TheVariants.{Num}
 use Rattle.jsonptr.specs.Types.ParseError.{ParseError}
 use Rattle.jsonptr.specs.Resolve.{Refuses}
 use Rattle.jsonptr.specs.Assign.{RefusesAssign}
@@ -17,7 +19,7 @@ use Rattle.jsonptr.specs.Delete.{NamesNothing}
 use Rattle.jsonptr.specs.declared.resolve.Error as resolve
 use Rattle.jsonptr.specs.declared.assign.Error as assign
 use Rattle.jsonptr_run.specs.declared.fault.RunFault.{RunFault}
-use Rattle.jsonptr_run.specs.declared.fault.RunFault.TheVariants.{Usage, BadPointer, ValueNotJson, NoValue, BadPlace, NotThere, InputNotJson, Memory, Read, Write}
+use Rattle.jsonptr_run.specs.declared.fault.RunFault.TheVariants.{Usage, BadPointer, ValueNotJson, NoValue, BadPlace, NotThere, BadSplit, InputNotJson, Memory, Read, Write}
 use Rattle.jsonptr_run.specs.Streams.{ForBytes}
 use Rattle.jsonptr_run.specs.JsonText.{json_of, IsJsonLine}
 
@@ -27,6 +29,7 @@ status_of (BadPointer e) = 1
 status_of (NoValue e) = 1
 status_of (BadPlace e) = 1
 status_of NotThere = 1
+status_of (BadSplit position count) = 1
 status_of Usage = 2
 status_of ValueNotJson = 3
 status_of InputNotJson = 3
@@ -37,31 +40,43 @@ status_of Write = 5
 -- ---- the words, the pointer and the value to assign
 
 -- what the words can ask for: the value that these tokens name, the tokens themselves, the document with this
--- value assigned at the tokens, or the document without what they name
+-- value assigned at the tokens, the document without what they name, or the tokens in two at this position
 pub data Request : Type 0 where
   resolving : List Text → Request
   listing : List Text → Request
   assigning : List Text → Data → Request
   deleting : List Text → Request
+  splitting : List Text → ℕ → Request
 
 -- the words are to assign at these tokens the value that this text is
 abbrev pub HaveValue : List Text → List Text → Text → Type 0
 HaveValue words ts value = words ≡ codes "assign" ∷ text ts ∷ value ∷ []
 
--- these words ask for the request: a command, the text of the tokens, and the JSON text of a value to assign
+-- the words are to split what this text names at this position, whose decimal text they have
+abbrev pub HavePosition : List Text → Text → ℕ → Type 0
+HavePosition words pointer n =
+    (position : Text)
+    × (words ≡ codes "split" ∷ pointer ∷ position ∷ [])
+    × Reads position (Ok (Num n))
+
+-- these words ask for the request: a command, the text of the tokens, and the JSON text of a value to assign or
+-- a position to split at
 abbrev pub AskFor : List Text → Request → Type 0
 AskFor words (resolving ts) = words ≡ codes "resolve" ∷ text ts ∷ []
 AskFor words (listing ts) = words ≡ codes "tokens" ∷ text ts ∷ []
 AskFor words (assigning ts v) = (value : Text) × HaveValue words ts value × (json_of value ≡ Some v)
 AskFor words (deleting ts) = words ≡ codes "delete" ∷ text ts ∷ []
+AskFor words (splitting ts n) = HavePosition words (text ts) n
 
--- the words are a known command and as many more as it takes, of which this text is to be a pointer
+-- the words are a known command and as many more as it takes, of which this text is to be a pointer, and which
+-- have a position where the command takes one
 abbrev pub TakePointer : List Text → Text → Type 0
 TakePointer words pointer =
     (words ≡ codes "resolve" ∷ pointer ∷ [])
     ⊎ (words ≡ codes "tokens" ∷ pointer ∷ [])
     ⊎ ((value : Text) × (words ≡ codes "assign" ∷ pointer ∷ value ∷ []))
     ⊎ (words ≡ codes "delete" ∷ pointer ∷ [])
+    ⊎ ((n : ℕ) × HavePosition words pointer n)
 
 -- the words are refused so
 abbrev pub IsWordsFault : List Text → RunFault → Type 0
@@ -105,6 +120,7 @@ NeedsInput (resolving ts) = ⊤
 NeedsInput (listing ts) = ⊥
 NeedsInput (assigning ts v) = ⊤
 NeedsInput (deleting ts) = ⊤
+NeedsInput (splitting ts n) = ⊥
 
 -- what the words ask for, if anything, needs no input
 abbrev pub NeedNoInput : List Text → Type 0
@@ -139,16 +155,26 @@ DeletesAt d ts (Ok new) =
     × (KeysAscend d → KeysAscend new)
 DeletesAt d ts (Err e) = NamesNothing (nodes d) ts × (e ≡ NotThere)
 
--- the array of the tokens, as a JSON value
-abbrev pub tokens_value : List Text → Data
-tokens_value ts = array (items_of (map string ts))
+-- the array of these texts, as a JSON value
+abbrev pub texts_value : List Text → Data
+texts_value ts = array (items_of (map string ts))
+
+-- the array of the texts of the first n tokens and of the rest, or that there are fewer
+abbrev pub SplitsAt : List Text → ℕ → Result Data RunFault → Type 0
+SplitsAt ts n (Ok value) =
+    (front : List Text) × (rest : List Text)
+    × (ts ≡ front ++ rest)
+    × (length front ≡ n)
+    × (value ≡ texts_value (text front ∷ text rest ∷ []))
+SplitsAt ts n (Err e) = (length ts < n) × (e ≡ BadSplit n (length ts))
 
 -- what a request gives on an input of these bytes: a value, or a refusal
 abbrev pub Gives : Request → List ℕ → Result Data RunFault → Type 0
 Gives (resolving ts) bytes r = OnDocument bytes r (λ d. Resolves d ts r)
-Gives (listing ts) bytes r = r ≡ Ok (tokens_value ts)
+Gives (listing ts) bytes r = r ≡ Ok (texts_value ts)
 Gives (assigning ts v) bytes r = OnDocument bytes r (λ d. AssignsAt d ts v r)
 Gives (deleting ts) bytes r = OnDocument bytes r (λ d. DeletesAt d ts r)
+Gives (splitting ts n) bytes r = SplitsAt ts n r
 
 -- the request is refused so: by the input or the operation, by memory, or by the reader where it is needed
 abbrev pub IsRequestFault : Request → Option (List ℕ) → RunFault → Type 0

@@ -2,8 +2,8 @@
 ghost use Rattle.std.specs.Prelude.{Some};
 
 use std::alloc::Global;
-use std::io;
 use std::io::{Error, ErrorKind, Read, Write};
+use std::{fmt, io};
 
 /// What one call does. After the last step of a script that step is made again, and an empty script
 /// moves all that it can.
@@ -13,6 +13,8 @@ pub enum Step {
     Move(usize),
     /// The call is interrupted, and moves none.
     Interrupt,
+    /// The call would have to wait, and moves none.
+    Block,
     /// The call fails.
     Fail,
 }
@@ -50,6 +52,7 @@ impl Read for ScriptedReader<'_> {
                 Ok(n)
             }
             Step::Interrupt => Err(Error::new(ErrorKind::Interrupted, "interrupted")),
+            Step::Block => Err(Error::new(ErrorKind::WouldBlock, "would block")),
             Step::Fail => Err(Error::other("failed")),
         }
     }
@@ -93,6 +96,7 @@ impl Write for ScriptedWriter<'_> {
                 Ok(n)
             }
             Step::Interrupt => Err(Error::new(ErrorKind::Interrupted, "interrupted")),
+            Step::Block => Err(Error::new(ErrorKind::WouldBlock, "would block")),
             Step::Fail => Err(Error::other("failed")),
         }
     }
@@ -103,5 +107,29 @@ impl Write for ScriptedWriter<'_> {
             return Err(Error::other("failed"));
         }
         Ok(())
+    }
+}
+
+/// A writer of text that fails once it has taken so many calls, and counts how often it failed.
+#[derive(Debug, Drop)]
+pub struct FailingText {
+    /// How many calls it still takes.
+    pub calls: usize,
+    /// How often it failed.
+    pub faults: usize,
+}
+
+impl fmt::Write for FailingText {
+    fn write_str(&mut self, _text: &str) -> fmt::Result {
+        match self.calls.checked_sub(1) {
+            Some(calls) => {
+                self.calls = calls;
+                Ok(())
+            }
+            None => {
+                self.faults = self.faults.saturating_add(1);
+                Err(fmt::Error)
+            }
+        }
     }
 }

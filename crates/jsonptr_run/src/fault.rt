@@ -15,8 +15,8 @@ use thiserror::Error;
 /// Why the program ends other than well. Its text is the line on standard error.
 #[derive(Debug, Drop, Error)]
 pub enum RunFault {
-    /// An unknown command, or a wrong number of words.
-    #[error("usage: jsonptr_run resolve POINTER, delete POINTER, tokens POINTER, assign POINTER VALUE")]
+    /// An unknown command, a wrong number of words, or a position to split at that is no number.
+    #[error("usage: jsonptr_run resolve POINTER, delete POINTER, tokens POINTER, assign POINTER VALUE, split POINTER POSITION")]
     Usage,
     /// The pointer's text is no JSON Pointer.
     #[error(transparent)]
@@ -33,6 +33,14 @@ pub enum RunFault {
     /// The pointer of what is to be deleted names no value of the input.
     #[error("delete failed: json pointer does not resolve")]
     NotThere,
+    /// The position to split at is above the count of the pointer's tokens.
+    #[error("split failed: position {position} is above the token count {count}")]
+    BadSplit {
+        /// The position that was asked for, in tokens.
+        position: usize,
+        /// How many tokens the pointer has.
+        count: usize,
+    },
     /// The input is no JSON text, or is not UTF-8.
     #[error("input is not JSON")]
     InputNotJson,
@@ -56,7 +64,8 @@ impl RunFault {
             RunFault::BadPointer(_)
             | RunFault::NoValue(_)
             | RunFault::BadPlace(_)
-            | RunFault::NotThere => 1,
+            | RunFault::NotThere
+            | RunFault::BadSplit { .. } => 1,
             RunFault::Usage => 2,
             RunFault::ValueNotJson | RunFault::InputNotJson => 3,
             RunFault::Memory(_) => 4,

@@ -16,6 +16,8 @@ mod json_text;
 mod output;
 mod run;
 #[cfg(test)]
+mod streams;
+#[cfg(test)]
 mod tests;
 
 fn main(rt: HostRuntime) -> ExitCode {

@@ -4,20 +4,23 @@ ghost use Rattle.std.specs.Io.KnownBytes.{Appends};
 ghost use Rattle.serde_json.specs.Data.{Data, string};
 ghost use Rattle.serde_json.specs.View.{view};
 ghost use Rattle.serde_json.specs.Written.{has_float, compact_text};
-ghost use Rattle.jsonptr.specs.Text.{Text};
+ghost use Rattle.jsonptr.specs.Text.{Text, text};
+ghost use Rattle.jsonptr.specs.Index.{Reads};
+ghost use Rattle.jsonptr.specs.Types.Index.TheVariants.{Num};
 ghost use Rattle.jsonptr.specs.Pointer.{tokens};
 ghost use Rattle.jsonptr_run.specs.JsonText.{json_of, IsJsonLine};
 ghost use Rattle.jsonptr_run.specs.Streams.{AppendsFront, ForBytes};
 ghost use Rattle.jsonptr_run.specs.declared.fault.RunFault.{RunFault};
 ghost use Rattle.jsonptr_run.specs.declared.fault.RunFault.TheVariants as fault;
-ghost use Rattle.jsonptr_run.specs.Private.{request_of, IsFaultOf, IsLineOf, RefusesValue};
+ghost use Rattle.jsonptr_run.specs.Private.{request_of, IsFaultOf, IsLineOf, RefusesPosition, RefusesValue};
 ghost use Rattle.jsonptr_run.specs.Run as specs;
-ghost use Rattle.jsonptr_run.specs.Run.{AskFor, resolving, listing, assigning, deleting, Asks, AssignsAt, DeletesAt, ForLine, Gives, IsRefusedSo, IsRequestFault, IsValueMemory, NeedNoInput, NeedsInput, Resolves, tokens_value};
+ghost use Rattle.jsonptr_run.specs.Run.{AskFor, resolving, listing, assigning, deleting, splitting, Asks, AssignsAt, DeletesAt, ForLine, Gives, IsRefusedSo, IsRequestFault, IsValueMemory, NeedNoInput, NeedsInput, Resolves, SplitsAt, texts_value};
 
 use crate::fault::RunFault;
 use crate::json_text::{json_line, read_json, read_json_input};
 use crate::output::write_line;
 use jsonptr::Pointer;
+use jsonptr::index::Index;
 use jsonptr::laws::parse_law;
 use jsonptr_laws::assigning::assign_law;
 use jsonptr_laws::resolving::resolve_law;
@@ -41,12 +44,14 @@ pub enum Request<'w> {
     Assign(Pointer<'w>, Value),
     /// To delete what the pointer names.
     Delete(Pointer<'w>),
+    /// To split the pointer at the position, in tokens.
+    Split(Pointer<'w>, usize),
 }
 
 /// Answers the words, which are those after the program's own name, with one line, or with a fault. The
-/// words come first, then the pointer, the value to assign, the input to its end as one JSON text, the
-/// operation, the line. The line is of the value that the pointer names, of its tokens, or of the document as
-/// an assignment or a deletion leaves it.
+/// words come first, and with them the position to split at, then the pointer, the value to assign, the input
+/// to its end as one JSON text, the operation, the line. The line is of the value that the pointer names, of
+/// its tokens, of its text in two, or of the document as an assignment or a deletion leaves it.
 ///
 /// # Errors
 ///
@@ -77,7 +82,7 @@ pub fn run_program<R: Read, W: Write>(
 
 /// What [`run_program`] is to answer is one: words ask for one thing or are refused in one way, a request
 /// gives one value or one fault on an input, and never both, and a value has one line, but for the digits of
-/// its floats. Lists of tokens have no float. In a value that is read the keys of each object ascend, so they do
+/// its floats. Lists of texts have no float. In a value that is read the keys of each object ascend, so they do
 /// in what an assignment or a deletion makes of it, and that is one value for its map.
 pub fn run_law()
     ensures asks { (words : List Text) (r q : Result specs.Request RunFault)
@@ -91,6 +96,10 @@ pub fn run_law()
     ensures lists { (ts : List Text) (bytes : List ℕ) (r q : Result Data RunFault)
         → Gives (listing ts) bytes r
         → Gives (listing ts) bytes q
+        → r ≡ q }
+    ensures splits { (ts : List Text) (n : ℕ) (bytes : List ℕ) (r q : Result Data RunFault)
+        → Gives (splitting ts n) bytes r
+        → Gives (splitting ts n) bytes q
         → r ≡ q }
     ensures not_both { (request : specs.Request) (bytes : List ℕ) (value : Data) (e : RunFault)
         → Gives request bytes (Ok value)
@@ -111,9 +120,9 @@ pub fn run_law()
         → IsJsonLine value line
         → IsJsonLine value other
         → line ≡ other }
-    ensures tokens { (ts : List Text) (line : Text)
-        → IsJsonLine (tokens_value ts) line
-        → line ≡ compact_text (tokens_value ts) ++ 10 ∷ [] }
+    ensures texts { (ts : List Text) (line : Text)
+        → IsJsonLine (texts_value ts) line
+        → line ≡ compact_text (texts_value ts) ++ 10 ∷ [] }
 {
     parse_law();
     resolve_law();
@@ -143,6 +152,10 @@ fn read_request(alloc: Global, words: &[String]) -> Result<Request<'_>, RunFault
             let pointer = Pointer::parse(pointer.as_str())?;
             Ok(Request::Assign(pointer, read_value(alloc, value)?))
         }
+        [command, pointer, position] if command.as_str() == "split" => {
+            let position = read_position(position)?;
+            Ok(Request::Split(Pointer::parse(pointer.as_str())?, position))
+        }
         _ => Err(RunFault::Usage),
     }
 }
@@ -153,6 +166,18 @@ fn read_value(alloc: Global, word: &String) -> Result<Value, RunFault>
     ensures err { IfErr result (RefusesValue (string_bytes word.now)) }
 {
     read_json(alloc, word.as_bytes())?.ok_or(RunFault::ValueNotJson)
+}
+
+/// The position to split at, whose decimal text the word is.
+fn read_position(word: &String) -> Result<usize, RunFault>
+    ensures ok { IfOk result (λ n. Reads (string_bytes word.now) (Ok (Num n))) }
+    ensures err { IfErr result (RefusesPosition (string_bytes word.now)) }
+{
+    match word.as_str().parse() {
+        Ok(Index::Num(position)) => Ok(position),
+        Ok(Index::Next) => Err(RunFault::Usage),
+        Err(_) => Err(RunFault::Usage),
+    }
 }
 
 /// The line that is asked for, from the input if it is needed.
@@ -168,6 +193,7 @@ fn answer<R: Read>(alloc: Global, request: Request<'_>, input: &mut R) -> Result
         Request::Tokens(pointer) => Ok(tokens_line(alloc, pointer)?),
         Request::Assign(pointer, value) => assigned_line(alloc, pointer, value, input),
         Request::Delete(pointer) => deleted_line(alloc, pointer, input),
+        Request::Split(pointer, position) => split_line(alloc, pointer, position),
     }
 }
 
@@ -261,10 +287,35 @@ fn line_without(
     Ok(json_line(alloc, &document)?)
 }
 
+/// The line of the texts of the pointer's first tokens and of the rest, as a JSON array.
+fn split_line(alloc: Global, pointer: Pointer<'_>, position: usize) -> Result<String, RunFault>
+    ensures ok { IfOk result
+        (λ line. IsLineOf (SplitsAt (tokens pointer.entry) position) (string_bytes line)) }
+    ensures err { IfErr result (IsFaultOf (SplitsAt (tokens pointer.entry) position)) }
+{
+    let Some((front, rest)) = pointer.split_at(position) else {
+        let count = pointer.count();
+        return Err(RunFault::BadSplit { position, count });
+    };
+    Ok(texts_line(alloc, front, rest)?)
+}
+
+/// The line of the texts of two pointers, as a JSON array.
+fn texts_line(alloc: Global, front: Pointer<'_>, rest: Pointer<'_>) -> Result<String, AllocError>
+    ensures { IfOk result (λ line. IsJsonLine
+        (texts_value (text (tokens front.entry) ∷ text (tokens rest.entry) ∷ []))
+        (string_bytes line)) }
+{
+    let mut parts = Vec::new(alloc);
+    parts.push(front.to_json_value(alloc)?)?;
+    parts.push(rest.to_json_value(alloc)?)?;
+    json_line(alloc, &Value::Array(parts))
+}
+
 /// The line of the pointer's tokens, decoded, as a JSON array.
 fn tokens_line(alloc: Global, pointer: Pointer<'_>) -> Result<String, AllocError>
     ensures { IfOk result
-        (λ line. IsJsonLine (tokens_value (tokens pointer.entry)) (string_bytes line)) }
+        (λ line. IsJsonLine (texts_value (tokens pointer.entry)) (string_bytes line)) }
 {
     let texts = token_texts(alloc, pointer)?;
     json_line(alloc, &Value::Array(texts))

@@ -179,13 +179,20 @@ fn reads_a_document(rt: HostRuntime) {
 #[test]
 fn tells_faults(rt: HostRuntime) -> Result<(), AllocError> {
     let usage =
-        "usage: jsonptr_run resolve POINTER, delete POINTER, tokens POINTER, assign POINTER VALUE";
+        "usage: jsonptr_run resolve POINTER, delete POINTER, tokens POINTER, assign POINTER VALUE, split POINTER POSITION";
     for (fault, text) in [
         (RunFault::Usage, usage),
         (RunFault::ValueNotJson, "VALUE is not JSON"),
         (
             RunFault::NotThere,
             "delete failed: json pointer does not resolve",
+        ),
+        (
+            RunFault::BadSplit {
+                position: 3,
+                count: 2,
+            },
+            "split failed: position 3 is above the token count 2",
         ),
         (RunFault::InputNotJson, "input is not JSON"),
         (RunFault::Memory(AllocError), "out of memory"),

@@ -1,14 +1,13 @@
 -- Tables of places, filled and moved.
-use Rattle.std.proofs.Common.{◌≡◌, ◌≢◌, ℕ, suc, zero, ◌+◌, ◌-◌, ◌<◌, ◌≤◌, List, [], ◌∷◌, ◌++◌, Some, None, Option, length, take, set, slice_index, slice_set, refl, sym, ap, ◌∙◌, subst, ⊎_elim, arith, length-append, append_assoc, drop}
-use Rattle.std.specs.List.{remove}
-use Rattle.std.proofs.lemmas.List.{length-set, get_or-set_same, get_or-set_other, take_at}
+use Rattle.std.proofs.Common.{◌≡◌, ◌≢◌, ℕ, suc, zero, ◌+◌, ◌-◌, ◌^◌, ◌<◌, ◌≤◌, List, [], ◌∷◌, ◌++◌, Some, None, Option, length, take, set, slice_index, slice_set, refl, sym, ap, ap₂, ◌∙◌, subst, ⊎_elim, arith, length-append, append_assoc, drop}
+use Rattle.std.proofs.lemmas.List.{length-set, length-drop, get_or-set_same, get_or-set_other, get_or-drop, take_at, take_more, take_more_set, drop_more, drop-set-lt, map-append}
 use Rattle.std.proofs.lemmas.Bool.{cases_eq}
 use Rattle.jsonptr.specs.Text.{Text, esc, text}
-use Rattle.jsonptr.specs.Ends.{PopsBack}
+use Rattle.jsonptr.specs.Ends.{PopsFront, PopsBack}
 use Rattle.jsonptr.proofs.Calling.{text-append}
 use Rattle.jsonptr.specs.Slashes.{slash_offsets}
-use Rattle.jsonptr.proofs.SlashesLemmas.{slashes_from, offsets_are, from_moved, length-from, length-offsets, below_end, offsets-append, offsets-push, offsets-cons, moved_from, offsets-set}
-use Rattle.jsonptr_tabled.specs.Private.{offsets_up_to, CanMove, Moves}
+use Rattle.jsonptr.proofs.SlashesLemmas.{slashes_from, offsets_are, from_moved, length-from, length-offsets, offset_below, below_end, offsets-append, offsets-push, offsets-cons, offsets-set}
+use Rattle.jsonptr_tabled.specs.Private.{offsets_up_to, moved_up, moved_down, CanMoveUp, CanMoveDown, CanMove, Moves}
 
 -- ---- the places from `from` up to i moved, and the others not yet
 
@@ -57,6 +56,69 @@ moved_all old now from before after i so_far end = record {
   moved = λ k a b. so_far.done k a (omega (arith, b, so_far.len, end)) b;
 }
 
+-- ---- 0 and the places moved up, written up to i over the places; behind stands what they were
+
+pub record ShiftedUp (old now : List ℕ) (by i carried : ℕ) : Type 0 where
+  pub len : length now ≡ length old
+  pub ahead : drop i now ≡ drop i old
+  pub so_far : take i now ++ carried ∷ [] ≡ 0 ∷ moved_up by (take i old)
+
+same_tail : (now old : List ℕ) (i : ℕ) → length now ≡ length old → drop i now ≡ drop i old → i < length now → (slice_index now i ≡ slice_index old i) × (drop (i + 1) now ≡ drop (i + 1) old)
+same_tail now old i len e high =
+    let both : slice_index now i ∷ drop (i + 1) now ≡ slice_index old i ∷ drop (i + 1) old = sym (drop_more now i 0 high) ∙ e ∙ drop_more old i 0 (omega (arith, high, len)) in
+    (cc, cc)
+
+-- the place at i may be moved up
+pub can_shift_up : (old now : List ℕ) (by i carried : ℕ) → CanMoveUp old by → ShiftedUp old now by i carried → i < length now → slice_index now i + by < 2 ^ 64
+can_shift_up old now by i carried can so_far high =
+    let same = same_tail now old i so_far.len so_far.ahead high in
+    let here = can i (omega (arith, high, so_far.len)) in
+    omega (arith, same.0, here)
+
+pub shifted_up_more : (old now : List ℕ) (by i carried next : ℕ) → ShiftedUp old now by i carried → i < length now → next ≡ slice_index now i + by → ShiftedUp old (set now i carried) by (i + 1) next
+shifted_up_more old now by i carried next so_far high e =
+    let same = same_tail now old i so_far.len so_far.ahead high in
+    let next_is : next ≡ by + slice_index old i = omega (arith, e, same.0) in
+    record {
+      len = length-set now i carried ∙ so_far.len;
+      ahead = drop-set-lt (i + 1) now i carried (omega arith) ∙ same.1;
+      so_far =
+          ap (λ (l : List ℕ). l ++ next ∷ []) (take_more_set now i carried high ∙ so_far.so_far)
+          ∙ ap (λ (n : ℕ). 0 ∷ moved_up by (take i old) ++ n ∷ []) next_is
+          ∙ ap (λ (l : List ℕ). 0 ∷ l) (sym (map-append (λ (o : ℕ). by + o) (take i old) (slice_index old i ∷ [])))
+          ∙ ap (λ (l : List ℕ). 0 ∷ moved_up by l) (sym (take_more old i 0 (omega (arith, high, so_far.len))));
+    }
+
+-- ---- the places behind the first moved down, written up to i - 1 from the first place on; at i and behind stands
+-- what they were
+
+pub record ShiftedDown (old now : List ℕ) (by i : ℕ) : Type 0 where
+  pub len : length now ≡ length old
+  pub ahead : drop i now ≡ drop i old
+  pub so_far : take (i - 1) now ≡ moved_down by (take (i - 1) (drop 1 old))
+
+shifted_part : (old now : List ℕ) (by j x : ℕ) → length now ≡ length old → take j now ≡ moved_down by (take j (drop 1 old)) → j + 1 < length now → x ≡ slice_index old (1 + j) - by
+    → take (j + 1) (set now j x) ≡ moved_down by (take (j + 1) (drop 1 old))
+shifted_part old now by j x len so_far high e =
+    let here : x ≡ slice_index (drop 1 old) j - by = e ∙ ap (λ (o : ℕ). o - by) (sym (get_or-drop 1 old j 0)) in
+    take_more_set now j x (omega (arith, high))
+    ∙ ap (λ (l : List ℕ). l ++ x ∷ []) so_far
+    ∙ ap (λ (n : ℕ). moved_down by (take j (drop 1 old)) ++ n ∷ []) here
+    ∙ sym (map-append (λ (o : ℕ). o - by) (take j (drop 1 old)) (slice_index (drop 1 old) j ∷ []))
+    ∙ ap (moved_down by) (sym (take_more (drop 1 old) j 0 (omega (arith, high, len, length-drop 1 old))))
+
+pub shifted_down_more : (old now : List ℕ) (by i x : ℕ) → ShiftedDown old now by i → 1 ≤ i → i < length now → x ≡ slice_index now i - by → ShiftedDown old (set now (i - 1) x) by (i + 1)
+shifted_down_more old now by i x so_far low high e =
+    let same = same_tail now old i so_far.len so_far.ahead high in
+    let x_is : x ≡ slice_index old (1 + (i - 1)) - by = e ∙ ap (λ (o : ℕ). o - by) same.0 ∙ ap (λ (n : ℕ). slice_index old n - by) (omega (arith, low)) in
+    record {
+      len = length-set now (i - 1) x ∙ so_far.len;
+      ahead = drop-set-lt (i + 1) now (i - 1) x (omega (arith, low)) ∙ same.1;
+      so_far =
+          subst (λ (n : ℕ). take n (set now (i - 1) x) ≡ moved_down by (take n (drop 1 old))) (omega (arith, low))
+          (shifted_part old now by (i - 1) x so_far.len so_far.so_far (omega (arith, low, high)) x_is);
+    }
+
 -- ---- the places of a text that ends at `end`
 
 pub up_to_is : (end : ℕ) (ts : List Text) → offsets_up_to end ts ≡ slashes_from (end - length (text ts)) ts
@@ -81,20 +143,27 @@ filled_more items old end all ts rest t x so_far e within is =
 
 -- ---- which places may be moved
 
-can_move_from : (a : ℕ) (ts : List Text) (before after : ℕ) → a + length (text ts) ≤ before → before ≤ a + after → CanMove (slashes_from a ts) 0 before after
-can_move_from a ts before after h m k low high =
-    let within = below_end a ts k (omega (arith, high, length-from a ts)) in
-    (omega (arith, within.1, h), omega (arith, within.0, m))
-
 -- before a token is put in front
-pub can_move_up : (os : List ℕ) (ts : List Text) (t : Text) (before after : ℕ) → os ≡ slash_offsets ts → before ≡ length (text ts) → after ≡ length (text (t ∷ ts)) → CanMove os 0 before after
-can_move_up os ts t before after e b a =
-    rw (e ∙ offsets_are ts) (can_move_from 0 ts before after (omega (arith, b)) (omega (arith, a, b, length-append (esc t) (text ts))))
+pub can_move_up : (os : List ℕ) (ts new : List Text) (t : Text) (before after : ℕ) → os ≡ slash_offsets ts → new ≡ t ∷ ts → before ≡ length (text ts) → after ≡ length (text new) → after < 2 ^ 64 → CanMoveUp os (after - before)
+can_move_up os ts new t before after was e b a fits k high =
+    let longer = ap (λ (l : List Text). length (text l)) e in
+    let below : slice_index os k < length (text ts) = rw was (offset_below ts k (omega (arith, high, ap length was, length-offsets ts))) in
+    omega (arith, below, fits, b, a, longer, length-append (esc t) (text ts))
 
 -- behind a token that was taken off
-pub can_move_down : (os : List ℕ) (ts : List Text) (t : Text) (before after : ℕ) → os ≡ slashes_from (1 + length (esc t)) ts → before ≡ length (text (t ∷ ts)) → after ≡ length (text ts) → CanMove os 0 before after
-can_move_down os ts t before after e b a =
-    rw e (can_move_from (1 + length (esc t)) ts before after (omega (arith, b, length-append (esc t) (text ts))) (omega (arith, a, b, length-append (esc t) (text ts))))
+behind_first : (ts : List Text) (t : Text) (k : ℕ) → 0 < k → k < length (slash_offsets (t ∷ ts)) → 1 + length (esc t) ≤ slice_index (slash_offsets (t ∷ ts)) k
+behind_first ts t zero low high = absurd (omega (arith, low))
+behind_first ts t (suc k) low high =
+    let within = below_end (1 + length (esc t)) ts k (omega (arith, high, length-offsets (t ∷ ts))) in
+    rw (offsets-cons t ts) within.0
+
+pub can_move_down : (os : List ℕ) (ts new : List Text) (r : Option Text) (before after : ℕ) → os ≡ slash_offsets ts → PopsFront ts r new → before ≡ length (text ts) → after ≡ length (text new) → CanMoveDown os (before - after)
+can_move_down os ts new None before after was pops b a k low high = absurd (omega (arith, high, ap length was, length-offsets ts, ap length pops.0))
+can_move_down os ts new (Some t) before after was pops b a k low high =
+    let longer = ap (λ (l : List Text). length (text l)) pops in
+    let table : os ≡ slash_offsets (t ∷ new) = was ∙ ap slash_offsets pops in
+    let far : 1 + length (esc t) ≤ slice_index os k = rw table (behind_first new t k low (omega (arith, high, ap length table))) in
+    omega (arith, far, b, a, longer, length-append (esc t) (text new))
 
 -- behind a token that was put in the place of another
 far_from_end : (a : ℕ) (ts : List Text) (i : ℕ) (t : Text) (k : ℕ) → i < k → k < length ts → a + length (text ts) ≤ slice_index (slashes_from a ts) k + length (text (slice_set ts i t))
@@ -140,23 +209,30 @@ pub pushed_back : (old items : List ℕ) (ts new : List Text) (t : Text) (before
 pushed_back old items ts new t before was len is e = rw (is, was, len, e, offsets-push ts t) refl
 
 -- one token in front
-pub pushed_front : (old moved : List ℕ) (ts new : List Text) (t : Text) (before after : ℕ) → old ≡ slash_offsets ts → before ≡ length (text ts) → after ≡ length (text new) → new ≡ t ∷ ts → Moves old moved 0 before after → 0 ∷ moved ≡ slash_offsets new
-pushed_front old moved ts new t before after was b a e h =
+in_front : (t : Text) (ts : List Text) (by : ℕ) → by ≡ 1 + length (esc t) → slash_offsets (t ∷ ts) ≡ 0 ∷ moved_up by (slash_offsets ts)
+in_front t ts by e = offsets-cons t ts ∙ ap (λ (l : List ℕ). 0 ∷ l) (from_moved (1 + length (esc t)) ts ∙ ap (λ (n : ℕ). moved_up n (slash_offsets ts)) (sym e))
+
+pub pushed_front : (items old : List ℕ) (ts new : List Text) (t : Text) (before after : ℕ) → items ≡ 0 ∷ moved_up (after - before) old → old ≡ slash_offsets ts → new ≡ t ∷ ts → before ≡ length (text ts) → after ≡ length (text new)
+    → items ≡ slash_offsets new
+pushed_front items old ts new t before after is was e b a =
     let longer = ap (λ (l : List Text). length (text l)) e in
-    rw (e, offsets-cons t ts)
-    (ap (λ (l : List ℕ). 0 ∷ l) (moved_from ts moved 0 (1 + length (esc t)) before after (omega (arith, b, a, longer, length-append (esc t) (text ts))) (h.len ∙ ap length was ∙ length-offsets ts)
-    (λ k l. h.moved k (omega arith) (omega (arith, l, ap length was, length-offsets ts)) ∙ ap (λ (os : List ℕ). slice_index os k + after) (was ∙ offsets_are ts))))
+    rw e
+    (is ∙ ap (λ (l : List ℕ). 0 ∷ moved_up (after - before) l) was
+    ∙ sym (in_front t ts (after - before) (omega (arith, b, a, longer, length-append (esc t) (text ts)))))
 
 -- the first token gone
-pub first_gone : (old now : List ℕ) (ts new : List Text) (t : Text) → old ≡ slash_offsets ts → ts ≡ t ∷ new → now ≡ remove old 0 → now ≡ slashes_from (1 + length (esc t)) new
-first_gone old now ts new t was e is = is ∙ ap (λ (os : List ℕ). remove os 0) (was ∙ ap slash_offsets e ∙ offsets-cons t new)
+down_again : (by : ℕ) (os : List ℕ) → moved_down by (moved_up by os) ≡ os
+down_again by [] = refl
+down_again by (o ∷ os) = ap₂ (λ (x : ℕ) (xs : List ℕ). x ∷ xs) (omega arith) (down_again by os)
 
-pub popped_front : (now moved : List ℕ) (ts new : List Text) (t : Text) (before after : ℕ) → now ≡ slashes_from (1 + length (esc t)) new → ts ≡ t ∷ new → before ≡ length (text ts) → after ≡ length (text new) → Moves now moved 0 before after → moved ≡ slash_offsets new
-popped_front now moved ts new t before after was e b a h =
-    let longer = ap (λ (l : List Text). length (text l)) e in
-    rw (offsets_are new)
-    (moved_from new moved (1 + length (esc t)) 0 before after (omega (arith, b, a, longer, length-append (esc t) (text new))) (h.len ∙ ap length was ∙ length-from (1 + length (esc t)) new)
-    (λ k l. h.moved k (omega arith) (omega (arith, l, ap length was, length-from (1 + length (esc t)) new)) ∙ ap (λ (os : List ℕ). slice_index os k + after) was))
+pub popped_front : (items old : List ℕ) (ts new : List Text) (r : Option Text) (before after : ℕ) → items ≡ moved_down (before - after) (drop 1 old) → old ≡ slash_offsets ts → PopsFront ts r new → before ≡ length (text ts) → after ≡ length (text new)
+    → items ≡ slash_offsets new
+popped_front items old ts new None before after is was pops b a =
+    is ∙ ap (λ (l : List ℕ). moved_down (before - after) (drop 1 l)) (was ∙ ap slash_offsets pops.0) ∙ ap slash_offsets (sym pops.1)
+popped_front items old ts new (Some t) before after is was pops b a =
+    let longer = ap (λ (l : List Text). length (text l)) pops in
+    let table : old ≡ 0 ∷ moved_up (before - after) (slash_offsets new) = was ∙ ap slash_offsets pops ∙ in_front t new (before - after) (omega (arith, b, a, longer, length-append (esc t) (text new))) in
+    is ∙ ap (λ (l : List ℕ). moved_down (before - after) (drop 1 l)) table ∙ down_again (before - after) (slash_offsets new)
 
 -- the last token gone
 take_none : (n : ℕ) → take {A = ℕ} n [] ≡ []

@@ -14,7 +14,7 @@ ghost use Rattle.jsonptr.specs.Fault.{IfRefused, IsRefused};
 ghost use Rattle.jsonptr.specs.Report.{original_of, subject_of};
 ghost use Rattle.jsonptr.specs.ParseError.{TellsPointerFault};
 ghost use Rattle.jsonptr.specs.Ends.{IsFirstOf, IsLastOf, PushesFront, PushesBack, PopsFront, PopsBack};
-ghost use Rattle.jsonptr.specs.Pointer.{tokens, text_of, IsParentOf, IsSplitOf};
+ghost use Rattle.jsonptr.specs.Pointer.{tokens, text_of, IsParentOf, IsSplitAt, IsSplitOf};
 ghost use Rattle.jsonptr.specs.PointerBuf.{Replaces, RefusesReplace};
 ghost use Rattle.jsonptr.specs.Slashes.{slash_offsets};
 
@@ -153,6 +153,18 @@ impl TabledPointer {
         self.as_ptr().split_at_offset(offset)
     }
 
+    /// The pointers of the first `position` tokens and of those after them; `None` where there are fewer. The
+    /// place where they meet is looked up in the table.
+    pub fn split_at(&self, position: usize) -> Option<(Pointer<'_>, Pointer<'_>)>
+        ensures { IsSplitAt self.now position result }
+    {
+        match self.offsets().get(position) {
+            Some(offset) => self.as_ptr().split_at_offset(*offset),
+            None if position == self.count() => Some((self.as_ptr(), Pointer::root())),
+            None => None,
+        }
+    }
+
     /// The token at a place from 0, or the pointer of the tokens in a range of such places; `None` where the
     /// places are not all in the pointer. A range with a start asks for a token to stand at that start.
     pub fn get<'a, I: PointerIndex<'a>>(&'a self, index: I) -> Option<I::Output>
@@ -173,8 +185,7 @@ impl TabledPointer {
         self.offsets.reserve(1)?;
         let before = len_of(&self.plain);
         self.plain.push_front(token)?;
-        table::move_places(&mut self.offsets, 0, before, len_of(&self.plain));
-        self.offsets.insert(0, 0).unwrap();
+        table::push_front(&mut self.offsets, len_of(&self.plain) - before);
         Ok(())
     }
 
@@ -205,12 +216,9 @@ impl TabledPointer {
         ensures no_memory { self.old ≡ [] → IsOk result }
     {
         let before = len_of(&self.plain);
-        let Some(first) = self.plain.pop_front()? else {
-            return Ok(None);
-        };
-        self.offsets.remove(0);
-        table::move_places(&mut self.offsets, 0, before, len_of(&self.plain));
-        Ok(Some(first))
+        let first = self.plain.pop_front()?;
+        table::pop_front(&mut self.offsets, before - len_of(&self.plain));
+        Ok(first)
     }
 
     /// Takes the last token off; `None` at the root.

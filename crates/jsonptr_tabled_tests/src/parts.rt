@@ -13,6 +13,14 @@ fn text_of<'a>(pointer: Option<Pointer<'a>>) -> Option<&'a str> {
     }
 }
 
+/// The texts of two pointers, where there are two.
+fn texts_of<'a>(split: Option<(Pointer<'a>, Pointer<'a>)>) -> Option<(&'a str, &'a str)> {
+    match split {
+        Some((front, rest)) => Some((front.as_str(), rest.as_str())),
+        None => None,
+    }
+}
+
 #[test]
 fn tokens_at_places(rt: HostRuntime) -> Result<(), Fail> {
     let pointer = tabled(&rt, "/foo/b~1r/")?;
@@ -104,13 +112,32 @@ fn splits_at_offsets(rt: HostRuntime) -> Result<(), Fail> {
         (12, None),
         (usize::MAX, None),
     ] {
-        match (pointer.split_at_offset(offset), want) {
-            (Some((front, rest)), Some((a, b))) => {
-                assert_eq!(rt; front.as_str(), a, "at {offset}");
-                assert_eq!(rt; rest.as_str(), b, "at {offset}");
-            }
-            (split, want) => assert!(rt; split.is_none() && want.is_none(), "at {offset}"),
-        }
+        let split = texts_of(pointer.split_at_offset(offset));
+        assert!(rt; split == want, "at {offset}");
+    }
+    Ok(())
+}
+
+#[test]
+fn splits_at_positions(rt: HostRuntime) -> Result<(), Fail> {
+    for (text, position, want) in [
+        ("/foo/bar/baz", 0, Some(("", "/foo/bar/baz"))),
+        ("/foo/bar/baz", 1, Some(("/foo", "/bar/baz"))),
+        ("/foo/bar/baz", 2, Some(("/foo/bar", "/baz"))),
+        ("/foo/bar/baz", 3, Some(("/foo/bar/baz", ""))),
+        ("/foo/bar/baz", 4, None),
+        ("", 0, Some(("", ""))),
+        ("", 1, None),
+        ("/a", usize::MAX, None),
+        ("//~1/", 2, Some(("//~1", "/"))),
+    ] {
+        let pointer = tabled(&rt, text)?;
+        let split = texts_of(pointer.split_at(position));
+        assert!(rt; split == want, "{text} at {position}");
+        assert!(rt;
+            split == texts_of(pointer.as_ptr().split_at(position)),
+            "{text} at {position}"
+        );
     }
     Ok(())
 }

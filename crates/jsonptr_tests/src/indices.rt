@@ -80,6 +80,14 @@ fn bounds(rt: HostRuntime) {
                 index: 0,
             }),
         ),
+        (
+            Index::Num(usize::MAX),
+            usize::MAX,
+            Err(OutOfBoundsError {
+                length: usize::MAX,
+                index: usize::MAX,
+            }),
+        ),
     ] {
         assert_eq!(rt; index.for_len(length), want, "at {length}");
     }
@@ -90,6 +98,7 @@ fn bounds_with_the_next_place(rt: HostRuntime) {
     for (index, length, want) in [
         (Index::Num(1), 1, Ok(1)),
         (Index::Next, 1, Ok(1)),
+        (Index::Num(usize::MAX), usize::MAX, Ok(usize::MAX)),
         (
             Index::Num(2),
             1,

@@ -1,7 +1,7 @@
 //! A pointer's text taken apart between its tokens. Each part borrows the text, and no memory is taken.
-ghost use Rattle.std.specs.Prelude.{◌≡◌, ◌↔◌, ◌<◌, ◌≤◌, List, [], ◌∷◌, ◌++◌, length, slice_index, take, drop, IsSome, IfSome, MatchOption};
-ghost use Rattle.jsonptr_grammar.specs.Text.{Text, text, tokens_of};
-ghost use Rattle.jsonptr_text.specs.Parts.{BeginsWith, EndsWith, SplitsAt, IsLongestCommonFront};
+ghost use Rattle.std.specs.Prelude.{◌≡◌, ◌↔◌, ◌+◌, ◌<◌, ◌≤◌, List, [], ◌∷◌, ◌++◌, length, slice_index, take, drop, IsSome, IfSome, MatchOption};
+ghost use Rattle.jsonptr_grammar.specs.Text.{Text, esc, text, tokens_of};
+ghost use Rattle.jsonptr_text.specs.Parts.{BeginsWith, EndsWith, SplitsAt, StandsAt, IsLongestCommonFront};
 
 use crate::place;
 use jsonptr_base::token::Token;
@@ -114,13 +114,15 @@ pub fn common_front<'a>(pointer: &'a str, other: &str) -> &'a str
     front
 }
 
-/// The token of a text that has one alone: all that stands behind its slash. The text is not searched.
-pub fn only(pointer: &str) -> Token<'_>
+/// The token whose slash stands at `start`, and whose text ends at `end`. The text is not searched.
+pub fn token_between(pointer: &str, start: usize, end: usize) -> Token<'_>
     requires pointer { text (tokens_of pointer.now) ≡ pointer.now }
-    requires one { length (tokens_of pointer.now) ≡ 1 }
-    ensures { tokens_of pointer.now ≡ result ∷ [] }
+    requires token { (t : Text) × StandsAt (tokens_of pointer.now) start t
+        × (end ≡ start + (1 + length (esc t))) }
+    ensures { StandsAt (tokens_of pointer.now) start result }
 {
-    let (_, token) = pointer.split_at(1);
+    let (front, _) = pointer.split_at(end);
+    let (_, token) = front.split_at(start + 1);
     Token::from_encoded_unchecked(CowStr::Borrowed(token))
 }
 

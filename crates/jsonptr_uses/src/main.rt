@@ -5,6 +5,7 @@ use jsonptr::{Pointer, Token};
 use serde_json::Value;
 use std::borrow::CowStr;
 
+mod conditions;
 mod edits;
 mod toml_writes;
 mod undoing;

@@ -1,6 +1,6 @@
 //! Single tokens and runs of tokens of a pointer, by their places from 0.
-ghost use Rattle.std.specs.Prelude.{◌≡◌, ◌≤◌, List, length, slice_get, Option, MatchOption};
-ghost use Rattle.jsonptr_grammar.specs.Text.{Text};
+ghost use Rattle.std.specs.Prelude.{◌≡◌, ◌≤◌, List, length, take, slice_get, Option, MatchOption};
+ghost use Rattle.jsonptr_grammar.specs.Text.{Text, text};
 
 use super::Pointer;
 use jsonptr_base::token::Token;
@@ -35,13 +35,17 @@ impl<'p> PointerIndex<'p> for usize {
     ghost gives = { λ i ts r. r ≡ slice_get ts i };
 
     fn get(self, pointer: Pointer<'p>) -> Option<Token<'p>> {
-        let (_, rest) = pointer.split_at_count(self)?;
+        let (_, rest) = pointer.split_at(self)?;
         rest.front()
     }
 
     fn get_tabled(self, pointer: Pointer<'p>, offsets: &[usize]) -> Option<Token<'p>> {
-        let single = (self..pointer.place_after(self)?).get_tabled(pointer, offsets)?;
-        Some(cut::only(single.as_str()))
+        if offsets.len() <= self {
+            return None;
+        }
+        let start = pointer.end_by_table(offsets, self);
+        let end = pointer.end_by_table(offsets, self + 1);
+        Some(cut::token_between(pointer.as_str(), start, end))
     }
 }
 
@@ -55,7 +59,7 @@ impl<'p> PointerIndex<'p> for Range<usize> {
     fn get(self, pointer: Pointer<'p>) -> Option<Pointer<'p>> {
         let count = self.end.checked_sub(self.start)?;
         let rest = pointer.get(self.start..)?;
-        let (part, _) = rest.split_at_count(count)?;
+        let (part, _) = rest.split_at(count)?;
         Some(part)
     }
 
@@ -77,7 +81,7 @@ impl<'p> PointerIndex<'p> for RangeFrom<usize> {
     ghost gives = { λ range. GivesFrom range.start };
 
     fn get(self, pointer: Pointer<'p>) -> Option<Pointer<'p>> {
-        let (_, rest) = pointer.split_at_count(self.start)?;
+        let (_, rest) = pointer.split_at(self.start)?;
         if rest.is_root() {
             return None;
         }
@@ -101,7 +105,7 @@ impl<'p> PointerIndex<'p> for RangeTo<usize> {
     ghost gives = { λ range. GivesTo range.end };
 
     fn get(self, pointer: Pointer<'p>) -> Option<Pointer<'p>> {
-        let (front, _) = pointer.split_at_count(self.end)?;
+        let (front, _) = pointer.split_at(self.end)?;
         Some(front)
     }
 
@@ -223,8 +227,7 @@ impl<'p> PointerIndex<'p> for (Bound<usize>, Bound<usize>) {
 
 impl<'a> Pointer<'a> {
     ghost use Rattle.std.specs.Prelude.{◌+◌};
-    ghost use Rattle.jsonptr.specs.Pointer.{tokens};
-    ghost use Rattle.jsonptr.specs.PrivateSlice.{IsCutBehind};
+    ghost use Rattle.jsonptr.specs.Pointer.{tokens, IsSplitAt};
     ghost use Rattle.jsonptr.specs.Slashes.{slash_offsets};
 
     /// The token at a place from 0, or the pointer of the tokens in a range of such places; `None` where the
@@ -235,23 +238,31 @@ impl<'a> Pointer<'a> {
         index.get(*self)
     }
 
-    /// The pointers of the first `count` tokens and of those after them, or `None` where there are fewer.
-    fn split_at_count(&self, count: usize) -> Option<(Pointer<'a>, Pointer<'a>)>
-        ensures { IsCutBehind (tokens self.now) count result }
+    /// What [`Pointer::split_at`] gives, by the places of all slashes; no pass is made over the text.
+    fn split_by_table(
+        &self,
+        offsets: &[usize],
+        position: usize,
+    ) -> Option<(Pointer<'a>, Pointer<'a>)>
+        requires { offsets.now ≡ slash_offsets (tokens self.now) }
+        ensures { IsSplitAt (tokens self.now) position result }
     {
-        let (front, rest) = cut::split_at_count(self.as_str(), count)?;
-        Some((Pointer { inner: front }, Pointer { inner: rest }))
+        match offsets.get(position) {
+            Some(offset) => self.split_at_offset(*offset),
+            None if position == offsets.len() => Some((*self, Pointer::root())),
+            None => None,
+        }
     }
 
-    /// The same by the places of all slashes; no pass is made over the text.
-    fn split_by_table(&self, offsets: &[usize], count: usize) -> Option<(Pointer<'a>, Pointer<'a>)>
-        requires { offsets.now ≡ slash_offsets (tokens self.now) }
-        ensures { IsCutBehind (tokens self.now) count result }
+    /// Where the text of the first `count` tokens ends, by the places of all slashes.
+    fn end_by_table(&self, offsets: &[usize], count: usize) -> usize
+        requires table { offsets.now ≡ slash_offsets (tokens self.now) }
+        requires within { count ≤ length (tokens self.now) }
+        ensures { result ≡ length (text (take count (tokens self.now))) }
     {
         match offsets.get(count) {
-            Some(offset) => self.split_at_offset(*offset),
-            None if count == offsets.len() => Some((*self, Pointer::root())),
-            None => None,
+            Some(offset) => *offset,
+            None => self.len(),
         }
     }
 

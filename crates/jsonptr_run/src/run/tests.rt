@@ -144,6 +144,74 @@ fn lists_the_tokens_and_reads_nothing(rt: HostRuntime) -> Result<(), AllocError>
 }
 
 #[test]
+fn splits_the_pointer_and_reads_nothing(rt: HostRuntime) -> Result<(), AllocError> {
+    for (pointer, position, line) in [
+        ("/foo/bar", "1", "[\"/foo\",\"/bar\"]\n"),
+        ("/foo/bar", "0", "[\"\",\"/foo/bar\"]\n"),
+        ("/foo/bar", "2", "[\"/foo/bar\",\"\"]\n"),
+        ("", "0", "[\"\",\"\"]\n"),
+        ("/a~1b/\u{e9}\"", "1", "[\"/a~1b\",\"/\u{e9}\\\"\"]\n"),
+    ] {
+        for writes in [ALL, &[Step::Move(1)]] {
+            let words = &["split", pointer, position];
+            let ran = run_on(rt.alloc(), words, "{", &[Step::Fail], writes)?;
+            assert_eq!(rt; ran.status, 0, "{pointer}");
+            assert!(rt; ran.written.as_slice() == line.as_bytes(), "{pointer}");
+            assert_eq!(rt; ran.left, 1, "{pointer}");
+        }
+    }
+    Ok(())
+}
+
+#[test]
+fn refuses_positions_above_the_count(rt: HostRuntime) -> Result<(), AllocError> {
+    for (pointer, position, told) in [
+        (
+            "/foo/bar",
+            "3",
+            "split failed: position 3 is above the token count 2",
+        ),
+        (
+            "",
+            "1",
+            "split failed: position 1 is above the token count 0",
+        ),
+        (
+            "/a",
+            "18446744073709551615",
+            "split failed: position 18446744073709551615 is above the token count 1",
+        ),
+    ] {
+        let words = &["split", pointer, position];
+        let ran = run_on(rt.alloc(), words, "{}", &[Step::Fail], ALL)?;
+        assert_eq!(rt; ran.status, 1, "{pointer}");
+        assert!(rt; ran.told.as_str() == told, "{pointer}");
+        assert!(rt; ran.written.is_empty(), "{pointer}");
+        assert_eq!(rt; ran.left, 2, "{pointer}");
+    }
+    Ok(())
+}
+
+#[test]
+fn a_split_that_is_written_in_part_is_told(rt: HostRuntime) -> Result<(), AllocError> {
+    let line = "[\"/foo\",\"/bar\"]\n".as_bytes();
+    for len in 0..line.len() {
+        let taken = if len == 0 {
+            Step::Fail
+        } else {
+            Step::Move(len)
+        };
+        let words = &["split", "/foo/bar", "1"];
+        let ran = run_on(rt.alloc(), words, "{}", &[Step::Fail], &[taken, Step::Fail])?;
+        assert_eq!(rt; ran.status, 5, "{len}");
+        assert!(rt; ran.told.as_str() == "writing failed", "{len}");
+        assert!(rt; line.get(..len) == Some(ran.written.as_slice()), "{len}");
+        assert_eq!(rt; ran.left, 2, "{len}");
+    }
+    Ok(())
+}
+
+#[test]
 fn refuses_what_names_no_value(rt: HostRuntime) -> Result<(), AllocError> {
     for (pointer, input, status, told) in [
         (
@@ -225,13 +293,13 @@ fn refuses_what_cannot_be_assigned_or_deleted(rt: HostRuntime) -> Result<(), All
 #[test]
 fn refuses_words_before_it_reads(rt: HostRuntime) -> Result<(), AllocError> {
     let usage =
-        "usage: jsonptr_run resolve POINTER, delete POINTER, tokens POINTER, assign POINTER VALUE";
+        "usage: jsonptr_run resolve POINTER, delete POINTER, tokens POINTER, assign POINTER VALUE, split POINTER POSITION";
     let no_slash =
         "json pointer failed to parse; does not start with a slash ('/') and is not empty";
     let tilde =
         "json pointer failed to parse; the first token in the partial-pointer starting at offset 2 is malformed";
     let no_value = "VALUE is not JSON";
-    let lines: [(&[&str], u8, &str); 20] = [
+    let lines: [(&[&str], u8, &str); 32] = [
         (&[], 2, usage),
         (&["resolve"], 2, usage),
         (&["resolve", "/a", "/b"], 2, usage),
@@ -252,6 +320,18 @@ fn refuses_words_before_it_reads(rt: HostRuntime) -> Result<(), AllocError> {
         (&["assign", "/a", ""], 3, no_value),
         (&["resolve", "foo"], 1, no_slash),
         (&["resolve", "/a/~2"], 1, tilde),
+        (&["split"], 2, usage),
+        (&["split", "/a"], 2, usage),
+        (&["split", "/a", "1", "2"], 2, usage),
+        (&["splits", "/a", "1"], 2, usage),
+        (&["split", "/a", "x"], 2, usage),
+        (&["split", "foo", "x"], 2, usage),
+        (&["split", "/a", "-"], 2, usage),
+        (&["split", "/a", "01"], 2, usage),
+        (&["split", "/a", ""], 2, usage),
+        (&["split", "/a", "18446744073709551616"], 2, usage),
+        (&["split", "foo", "1"], 1, no_slash),
+        (&["split", "/a/~2", "0"], 1, tilde),
     ];
     for (line, status, told) in lines {
         let ran = run_on(rt.alloc(), line, "{}", &[Step::Fail], ALL)?;

@@ -1,5 +1,5 @@
-use Rattle.jsonptr_run.proofs.RunLaw.{asks_one, resolving_one, listing_one, not_both, one_fault, one_value, line_one}
-use Rattle.jsonptr_run.proofs.TokensLemmas.{tokens_written}
+use Rattle.jsonptr_run.proofs.RunLaw.{asks_one, resolving_one, listing_one, splitting_one, not_both, one_fault, one_value, line_one}
+use Rattle.jsonptr_run.proofs.TextsLemmas.{texts_written}
 use Rattle.jsonptr_run.proofs.run.run_law.Goals as goal
 
 pub returns-clause-asks : goal.returns-clause-asks
@@ -10,6 +10,9 @@ returns-clause-resolves c = resolving_one c.resolve_law.ensures.not_both c.resol
 
 pub returns-clause-lists : goal.returns-clause-lists
 returns-clause-lists c = listing_one
+
+pub returns-clause-splits : goal.returns-clause-splits
+returns-clause-splits c = splitting_one
 
 pub returns-clause-not_both : goal.returns-clause-not_both
 returns-clause-not_both c =
@@ -26,5 +29,5 @@ returns-clause-one_value c =
 pub returns-clause-line : goal.returns-clause-line
 returns-clause-line c = line_one
 
-pub returns-clause-tokens : goal.returns-clause-tokens
-returns-clause-tokens c = tokens_written
+pub returns-clause-texts : goal.returns-clause-texts
+returns-clause-texts c = texts_written

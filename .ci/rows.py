@@ -1,0 +1,767 @@
+"""The table of rows: the lines that the program `jsonptr_rows` is given, and what it is to write then.
+
+To add a row, write it where its like stands. `free` rows are of calls that take no memory.
+"""
+from typing import NamedTuple
+
+
+class Row(NamedTuple):
+    """The lines of a row, what its call answers, what is then left of what was lent, and a session's calls."""
+
+    lines: tuple
+    answer: str
+    after: str = ""
+    is_free: bool = False
+    calls: tuple = ()
+
+
+MOST = 18446744073709551615
+NO_SLASH = "json pointer failed to parse; does not start with a slash ('/') and is not empty"
+MALFORMED = "json pointer failed to parse; the first token in the partial-pointer starting at offset {} is malformed"
+NO_TOKEN = "token contains invalid encoding at offset {}"
+NO_INTEGER = "failed to parse token as an integer"
+ZEROS = "token contained leading zeros, which are disallowed by RFC 6901"
+NO_INDEX = "failed to parse token as an index"
+NO_POSITION = "index {} is out of bounds ({})"
+NOT_AN_INDEX = "resolve failed: json pointer token at offset {} failed to parse as an index"
+PAST_THE_END = "resolve failed: json pointer token at offset {} is out of bounds"
+NOT_FOUND = "resolve failed: json pointer token at {} was not found in value"
+UNREACHABLE = (
+    "resolve failed: json pointer token at {} is unreachable (previous token resolved to a scalar or null value)"
+)
+NO_PLACE = "assign failed: json pointer token at offset {} failed to parse as an array index"
+NO_ROOM = "assign failed: json pointer token at offset {} is out of bounds"
+
+LONG = "a" * 100_000
+SLASHES = "/" * 100_000
+ENCODED = "~1" * 50_000
+DECODED = "/" * 50_000
+MANY = "/a" * 50_000
+KINDS = ("plain", "tabled")
+
+
+def takes(*lines, answer):
+    """A row of a call that may take memory, and is lent nothing that it could change."""
+    return Row(tuple(map(str, lines)), f"{answer}\n")
+
+
+def free(*lines, answer):
+    """A row of a call that takes no memory."""
+    return takes(*lines, answer=answer)._replace(is_free=True)
+
+
+def texts():
+    """Of what is made of a text."""
+    for text, token in [
+        ("/foo/~bar", "~1foo~1~0bar"),
+        ("~1", "~01"),
+        (SLASHES, "~1" * 100_000),
+        (LONG + "~", LONG + "~0"),
+    ]:
+        yield takes("text", "Token::new", text, answer=token)
+        yield takes("text kept", "Token::new", text, answer=token)
+    for text in ["abc", "", "-", "é", LONG]:
+        for call in ["Token::new", "Token::from_encoded"]:
+            yield free("text", call, text, answer=text)
+            yield free("text kept", call, text, answer=text)
+    wrong = [
+        ("foo/oops~bar", 3),
+        ("a~/b", 2),
+        ("~~0", 1),
+        ("~", 1),
+        ("é~x", 3),
+        (LONG + "~", 100_001),
+        (LONG + "/", 100_000),
+    ]
+    for text, offset in wrong:
+        yield free("text", "Token::from_encoded", text, answer=NO_TOKEN.format(offset))
+        yield free("text kept", "Token::from_encoded", text, answer=NO_TOKEN.format(offset))
+
+
+def pointers_of_texts():
+    """Of what a pointer is parsed from."""
+    for text in ["", "/", "//", "/a~1b", "/foo/bar", "/é", MANY, SLASHES, "/" + ENCODED]:
+        yield free("text", "Pointer::parse", text, answer=text)
+        yield free("text kept", "PointerBuf::parse", text, answer=text)
+        yield free("text kept", "PointerBuf::try_from", text, answer=text)
+        yield takes("text", "PointerBuf::from_text", text, answer=text)
+        yield takes("text kept", "TabledPointer::parse", text, answer=text)
+    wrong = [
+        ("foo", NO_SLASH),
+        ("/foo/invalid~tilde/invalid", MALFORMED.format(4)),
+        ("/a~2", MALFORMED.format(0)),
+        ("/foo~", MALFORMED.format(0)),
+        ("/é~", MALFORMED.format(0)),
+        (MANY + "~", MALFORMED.format(99_998)),
+        (LONG, NO_SLASH),
+    ]
+    for text, fault in wrong:
+        yield free("text", "Pointer::parse", text, answer=fault)
+        yield free("text", "PointerBuf::from_text", text, answer=fault)
+        yield free("text kept", "PointerBuf::try_from", text, answer=fault)
+        for call in ["PointerBuf::parse", "TabledPointer::parse"]:
+            yield free("text kept", call, text, answer=f"{fault}: {text}")
+
+
+def indices():
+    """Of reading an index."""
+    rows = [
+        ("0", "0"), ("-", "-"), ("10", "10"), (str(MOST), str(MOST)),
+        ("00", ZEROS), ("0a", ZEROS), ("0" * 100_000, ZEROS),
+        ("+1", NO_INDEX), ("1a", NO_INDEX), ("1" * 99_999 + "a", NO_INDEX),
+        ("", NO_INTEGER), (str(MOST + 1), NO_INTEGER), ("1" * 100_000, NO_INTEGER),
+    ]
+    for text, answer in rows:
+        yield free("text", "Index::from_str", text, answer=answer)
+        yield free("text", "Index::try_from", text, answer=answer)
+        yield free("text kept", "Index::try_from", text, answer=answer)
+        yield free("text kept", "Index::try_from lent", text, answer=answer)
+        yield free("token", "to_index", text, "", answer=answer)
+        yield free("token", "Index::try_from", text, "", answer=answer)
+        yield free("token kept", "Index::try_from", text, answer=answer)
+
+
+def tokens():
+    """Of the calls of a token."""
+    for token, text in [
+        ("a~1b", "a/b"),
+        ("~01", "~1"),
+        ("m~0n", "m~n"),
+        (ENCODED, DECODED),
+        (LONG + "~0", LONG + "~"),
+    ]:
+        yield takes("token", "decoded", token, "", answer=text)
+    for token in ["abc", "", LONG]:
+        yield free("token", "decoded", token, "", answer=token)
+    for token in ["abc", "a~1b", LONG, ENCODED]:
+        yield free("token", "encoded", token, "", answer=token)
+        yield free("token kept", "into_encoded", token, answer=token)
+        yield takes("token", "to_owned", token, "", answer=token)
+        yield takes("token kept", "into_owned", token, answer=token)
+        yield takes("token kept", "clone", token, answer=token)
+        yield takes("token owned", "clone", token, answer=token)
+        for call in ["into_owned", "into_encoded"]:
+            yield free("token owned", call, token, answer=token)
+        yield takes("token kept", "PointerBuf::from_token", token, answer="/" + token)
+        yield free("token", "==", token, token, answer="true")
+        yield free("token", "cmp", token, token + "0", answer="<")
+        yield free("token", "is_next", token, "", answer="false")
+    yield free("token", "is_next", "-", "", answer="true")
+
+
+def numbers():
+    """Of tokens of numbers: the greatest of each unsigned type, the least of each signed one."""
+    for bits in [8, 16, 32, 64, 128]:
+        yield takes("number", f"u{bits}", answer=2**bits - 1)
+        yield takes("number", f"i{bits}", answer=-(2 ** (bits - 1)))
+    yield takes("number", "usize", answer=MOST)
+    yield takes("number", "isize", answer=-(2**63))
+    yield takes("number", "PointerBuf::from_usize", answer=f"/{MOST}")
+
+
+def measures():
+    """Of what a pointer is, as one and at its ends."""
+    pointers = ["", "/", "/foo", "/foo/bar/qux", "//a", "/a~1b/~0", MANY, SLASHES, "/" + LONG, "/x/" + ENCODED]
+    for text in pointers:
+        parts = text.split("/")[1:]
+        front, last = text.rpartition("/")[::2]
+        first, rest = parts[0] if parts else "none", text[len(parts[0]) + 1 :] if parts else ""
+        back = last if parts else "none"
+        decoded = [it.replace("~1", "/").replace("~0", "~") for it in (first, back)]
+        rows = [
+            ("as_str", text), ("len", len(text)), ("count", len(parts)),
+            ("is_empty", str(not text).lower()), ("is_root", str(not text).lower()),
+            ("tokens", back), ("components", back if parts else "root"),
+            ("front", first), ("first", first), ("back", back), ("last", back),
+            ("parent", front if parts else "none"),
+            ("split_front", f"{decoded[0]} and {rest}" if parts else "none"),
+            ("split_back", f"{front} and {decoded[1]}" if parts else "none"),
+        ]
+        for call, answer in rows:
+            yield free("pointer", call, text, answer=answer)
+        table = "".join(f"{at} " for at, it in enumerate(text) if it == "/")
+        rows = [("as_ptr", text), ("offsets", table), ("count", len(parts)), ("front", first), ("back", back)]
+        for call, answer in [*rows, ("parent", front if parts else "none")]:
+            yield free("tabled", call, text, 0, 0, answer=answer)
+        for call in ["to_buf", "PointerBuf::from_tokens"]:
+            yield takes("pointer", call, text, answer=text)
+        yield takes("pointer", "to_json_value", text, answer=f'"{text}"')
+
+
+def pairs():
+    """Of two pointers."""
+    rows = [
+        ("starts_with", "/foobar", "/foo", "false"), ("strip_prefix", "/foobar", "/foo", "none"),
+        ("starts_with", "/foo/bar", "/foo", "true"), ("strip_prefix", "/foo/bar", "/foo", "/bar"),
+        ("ends_with", "/foo", "", "false"), ("strip_suffix", "/foo", "", "/foo"),
+        ("ends_with", "/foo/bar", "/bar", "true"), ("strip_suffix", "/foo/bar", "/bar", "/foo"),
+        ("intersection", "/foo", "/fob", ""), ("intersection", "/a/b/c", "/a/b/d", "/a/b"),
+        ("starts_with", MANY + "/b", MANY, "true"), ("strip_prefix", MANY + "/b", MANY, "/b"),
+        ("ends_with", "/b" + MANY, MANY, "true"), ("strip_suffix", "/b" + MANY, MANY, "/b"),
+        ("intersection", MANY + "/b", MANY + "/c", MANY),
+    ]
+    for call, one, other, answer in rows:
+        yield free("pointers", call, one, other, answer=answer)
+    orders = [
+        ("/a", "/a", "="),
+        ("/a", "/b", "<"),
+        ("/a/b", "/a", ">"),
+        ("/a~1b", "/a~0", ">"),
+        (MANY, MANY + "/", "<"),
+        (MANY, MANY, "="),
+    ]
+    for one, other, order in orders:
+        equal = str(order == "=").lower()
+        for group in ["pointers", "tabled two"]:
+            yield free(group, "==", one, other, answer=equal)
+            yield free(group, "cmp", one, other, answer=order)
+        for kind in ["pointer", *KINDS]:
+            yield free("hash", kind, one, other, answer=equal)
+    yield free("hash", "token", LONG, LONG, answer="true")
+    for one, other in [
+        ("/a", "/b"),
+        ("", "/"),
+        ("/a", ""),
+        ("/a~1b", "/~0"),
+        (MANY, MANY),
+        ("/" + LONG, "/" + ENCODED),
+    ]:
+        yield takes("pointers", "concat", one, other, answer=one + other)
+    for token in ["x", "", "~0~1", LONG, ENCODED]:
+        yield takes("pointer with", "with_leading_token", "/a/b", token, answer=f"/{token}/a/b")
+        yield takes("pointer with", "with_trailing_token", "/a/b", token, answer=f"/a/b/{token}")
+
+
+def ranges():
+    """Of the parts of a pointer between two places, of both kinds."""
+    three = "/foo/bar/qux"
+    rows = [
+        ("get i", three, 0, 0, "foo"),
+        ("get i", three, 3, 0, "none"),
+        ("get i", "/a~1b", 0, 0, "a~1b"),
+        ("get ..i", three, 1, 0, "/foo"),
+        ("get i..j", three, 1, 3, "/bar/qux"),
+        ("get i..=j", three, 1, 2, "/bar/qux"),
+        ("get i..", three, 2, 0, "/qux"),
+        ("get ..=i", three, 1, 0, "/foo/bar"),
+        ("get ..", three, 0, 0, three),
+        ("get i..j", "/foo", 0, 0, ""),
+        ("get i..j", "/foo", 1, 1, "none"),
+        ("get i..", "", 0, 0, "none"),
+        ("get ..i", "", 0, 0, ""),
+        ("get i..j", "/a", MOST, MOST, "none"),
+        ("get ..i", "/a", MOST, 0, "none"),
+        ("get ..=i", "/a", MOST, 0, "none"),
+        ("get i..=j", "/a", 0, MOST, "none"),
+        ("get i", "/a", MOST, 0, "none"),
+        ("get i..", "/a", MOST, 0, "none"),
+        ("get i..=j", "/a", MOST, MOST, "none"),
+        ("get bounds", "/a/b", 0, 1, ""),
+        ("get bounds", "/a", 0, 1, "none"),
+        ("get bounds", "/a", MOST, MOST, "none"),
+        ("get bounds", "/a", MOST, 0, "none"),
+        ("get bounds", "/a/b/c", 0, 2, "/b"),
+        ("split_at_offset", "/foo/bar/baz", 4, 0, "/foo and /bar/baz"),
+        ("split_at_offset", "/foo/bar/baz", 3, 0, "none"),
+        ("split_at_offset", "/foo/bar/baz", 12, 0, "none"),
+        ("split_at_offset", "/a", MOST, 0, "none"),
+        ("split_at", "/foo/bar/baz", 0, 0, " and /foo/bar/baz"),
+        ("split_at", "/foo/bar/baz", 1, 0, "/foo and /bar/baz"),
+        ("split_at", "/foo/bar/baz", 3, 0, "/foo/bar/baz and "),
+        ("split_at", "/foo/bar/baz", 4, 0, "none"),
+        ("split_at", "", 0, 0, " and "),
+        ("split_at", "", 1, 0, "none"),
+        ("split_at", "/a", MOST, 0, "none"),
+        ("get i", MANY, 49_999, 0, "a"),
+        ("get i", MANY, 50_000, 0, "none"),
+        ("get i..j", MANY, 1, 49_999, "/a" * 49_998),
+        ("get i..", MANY, 49_999, 0, "/a"),
+        ("get ..=i", MANY, 49_999, 0, MANY),
+        ("split_at_offset", MANY, 99_998, 0, MANY[2:] + " and /a"),
+        ("split_at", MANY, 49_999, 0, MANY[2:] + " and /a"),
+    ]
+    for call, pointer, first, second, answer in rows:
+        for group in ["range", "tabled"]:
+            yield free(group, call, pointer, first, second, answer=answer)
+
+
+def copies():
+    """Of copies of owned pointers, and of one kind made of the other."""
+    for text in ["", "/", "/a/b", "/a~1b", MANY, "/" + ENCODED]:
+        for call in ["PointerBuf::clone", "TabledPointer::clone", "from_plain"]:
+            yield takes("kept", call, text, answer=text)
+        yield free("kept", "into_plain", text, answer=text)
+    for call in ["PointerBuf::new", "PointerBuf::root", "TabledPointer::new"]:
+        yield free("kept", call, "/a", answer="")
+
+
+def edit(kind, call, pointer, text="", place=0, *, answer="done", after):
+    """A row of a call that changes a pointer."""
+    lines = ("edit", kind, call, pointer, text, str(place))
+    return Row(lines, f"{answer}\n", f"{after}\n")
+
+
+def edits():
+    """Of the calls that change a pointer, of both kinds."""
+    tokens = [("a", "a"), ("", ""), ("~/", "~0~1"), (LONG, LONG), (DECODED, ENCODED)]
+    for kind in KINDS:
+        for text, token in tokens:
+            for pointer in ["", "/", "/foo/bar", MANY]:
+                yield edit(kind, "push_back", pointer, text, after=f"{pointer}/{token}")
+                yield edit(kind, "push_front", pointer, text, after=f"/{token}{pointer}")
+            yield edit(kind, "pop_back", f"/x/{token}", answer=token, after="/x")
+            yield edit(kind, "pop_front", f"/{token}/x", answer=token, after="/x")
+            yield edit(kind, "replace", "/a/b", text, 1, answer="b", after=f"/a/{token}")
+            yield edit(kind, "replace", f"/a/{token}/c", "b", 1, answer=token, after="/a/b/c")
+            yield edit(kind, "append", "/x", f"/{token}/y", after=f"/x/{token}/y")
+            yield edit(kind, "append", "", f"/{token}", after=f"/{token}")
+            yield edit(kind, "set_text", "/x", f"/{token}/y", after=f"/{token}/y")
+            yield edit(kind, "clear", f"/{token}", after="")._replace(is_free=True)
+        yield edit(kind, "pop_front", "//a", answer="", after="/a")
+        yield edit(kind, "push_back", "/foo/bar", "~", after="/foo/bar/~0")
+        yield edit(kind, "push_front", "/", "x", after="/x/")
+        yield edit(kind, "append", "/a", "", after="/a")
+        yield edit(kind, "append", "", "/", after="/")
+        yield edit(kind, "append", MANY, MANY, after=MANY + MANY)
+        yield edit(kind, "pop_back", MANY, answer="a", after=MANY[2:])
+        yield edit(kind, "pop_front", MANY, answer="a", after=MANY[2:])
+        yield edit(kind, "replace", MANY, LONG, 25_000, answer="a", after="/a" * 25_000 + f"/{LONG}" + "/a" * 24_999)
+        free_rows = [
+            edit(kind, "pop_front", "", answer="none", after=""),
+            edit(kind, "pop_back", "", answer="none", after=""),
+            edit(kind, "replace", "", "b", 0, answer=NO_POSITION.format(0, 0), after=""),
+            edit(kind, "replace", "/a", "x", MOST, answer=NO_POSITION.format(MOST, 1), after="/a"),
+            edit(kind, "replace", MANY, "x", 50_000, answer=NO_POSITION.format(50_000, 50_000), after=MANY),
+            edit(kind, "set_text", "/a", "foo", answer=f"{NO_SLASH}: foo", after="/a"),
+            edit(kind, "set_text", "/a", "/b~", answer=f"{MALFORMED.format(0)}: /b~", after="/a"),
+            edit(kind, "set_text", "/a", LONG, answer=f"{NO_SLASH}: {LONG}", after="/a"),
+        ]
+        for row in free_rows:
+            yield row._replace(is_free=True)
+
+
+def on(kind, document, call, pointer, value="1", *, answer, after, is_free=False):
+    """A row of a call on a document at a pointer."""
+    lines = ("document", kind, document, call, pointer, *([] if call == "resolve" else [value]))
+    return Row(lines, f"{answer}\n", f"{after}\n", is_free)
+
+
+SECTION_5 = r'{"":0," ":7,"a/b":1,"c%d":2,"e^f":3,"foo":["bar","baz"],"g|h":4,"i\\j":5,"k\"l":6,"m~n":8}'
+VECTORS = [
+    ("", SECTION_5), ("/foo", '["bar","baz"]'), ("/foo/0", '"bar"'), ("/", "0"), ("/a~1b", "1"), ("/c%d", "2"),
+    ("/e^f", "3"), ("/g|h", "4"), ("/i\\j", "5"), ('/k"l', "6"), ("/ ", "7"), ("/m~0n", "8"),
+]
+
+
+def found():
+    """Of finding a value in a JSON document, and of writing in its place."""
+    for pointer, value in VECTORS:
+        yield on("json", SECTION_5, "resolve", pointer, answer=value, after=SECTION_5, is_free="~" not in pointer)
+    rows = [
+        ('{"foo":["bar"]}', "/foo/-", PAST_THE_END.format(4)),
+        ('{"foo":["bar"]}', "/foo/01", NOT_AN_INDEX.format(4)),
+        ('{"a":{}}', "/a/", NOT_FOUND.format(2)), ('{"a":1}', "/a/b", UNREACHABLE.format(2)),
+        ("[]", "/" + LONG, NOT_AN_INDEX.format(0)),
+        ("{}", "/" + LONG, NOT_FOUND.format(0)),
+        ("{}", MANY, NOT_FOUND.format(0)),
+    ]
+    for document, pointer, fault in rows:
+        for call in ["resolve", "write"]:
+            yield on("json", document, call, pointer, answer=fault, after=document, is_free=True)
+    escaped = [("{}", "/" + ENCODED, NOT_FOUND.format(0)), ('{"~":[0]}', "/~0/", NOT_AN_INDEX.format(3))]
+    for document, pointer, fault in escaped:
+        for call in ["resolve", "write"]:
+            yield on("json", document, call, pointer, answer=fault, after=document)
+    for key, token in [("a", "a"), (LONG, LONG), ("a/b", "a~1b"), (DECODED, ENCODED)]:
+        document, is_free = f'{{"{key}":[1]}}', "~" not in token
+        yield on("json", document, "resolve", f"/{token}/0", answer="1", after=document, is_free=is_free)
+        yield on(
+            "json", document, "write", f"/{token}/0", '"x"', answer="1", after=f'{{"{key}":["x"]}}', is_free=is_free
+        )
+        yield on("json", document, "delete", f"/{token}/0", answer="1", after=f'{{"{key}":[]}}', is_free=is_free)
+        yield on("json", document, "delete", f"/{token}", answer="[1]", after="{}", is_free=is_free)
+        yield on(
+            "json", document, "assign", f"/{token}/0", "2", answer="1", after=f'{{"{key}":[2]}}', is_free=is_free
+        )
+        yield on("json", document, "assign", f"/{token}/-", "2", answer="none", after=f'{{"{key}":[1,2]}}')
+        yield on("json", "{}", "assign", f"/{token}", "2", answer="none", after=f'{{"{key}":2}}')
+        yield on("json", "null", "assign", f"/{token}/0", "2", answer="null", after=f'{{"{key}":[2]}}')
+        yield on("json", "[]", "assign", f"/-/{token}", "2", answer="none", after=f'[{{"{key}":2}}]')
+
+
+def assigned():
+    """Of assigning and deleting in a JSON document."""
+    nested = "[" * 127 + "1" + "]" * 127
+    yield on("json", nested, "resolve", "/0" * 127, answer="1", after=nested, is_free=True)
+    yield on("json", "null", "assign", "/0" * 127, answer="null", after=nested)
+    rows = [
+        ('{"foo":"bar"}', "/foo/bar/-/baz", '"qux"', '"bar"', '{"foo":{"bar":[{"baz":"qux"}]}}'),
+        ("null", "/1", '"x"', "null", '{"1":"x"}'), ('["a"]', "/-", '"b"', "none", '["a","b"]'),
+        ("[1]", "/-/x", "7", "none", '[1,{"x":7}]'),
+        ("{}", "/a/-", "7", "none", '{"a":[7]}'),
+        ("[1]", "/1", "7", "none", "[1,7]"),
+        ('{"a":{}}', "/a/~1~0/0", "7", "none", '{"a":{"/~":[7]}}'),
+        ("[]", "/0/0/0", "1", "none", "[[[1]]]"),
+        ("null", "/x" * 100, "1", "null", '{"x":' * 100 + "1" + "}" * 100),
+    ]
+    for document, pointer, value, answer, after in rows:
+        yield on("json", document, "assign", pointer, value, answer=answer, after=after)
+    free_rows = [
+        ("[]", "/1", '"x"', NO_ROOM.format(0), "[]"),
+        ('{"a":[1]}', "/a/b", "2", NO_PLACE.format(2), '{"a":[1]}'),
+        ("[1]", "/0", "7", "1", "[7]"),
+        ('{"a":3}', "", "7", '{"a":3}', "7"),
+        ("[1]", f"/{MOST}", "2", NO_ROOM.format(0), "[1]"),
+    ]
+    for document, pointer, value, answer, after in free_rows:
+        yield on("json", document, "assign", pointer, value, answer=answer, after=after, is_free=True)
+    deleted = [
+        ("[1,2,3]", "/0", "1", "[2,3]"),
+        ("{}", "/x", "none", "{}"),
+        ("[1]", "", "[1]", "null"),
+        ("[1]", "/-", "none", "[1]"),
+    ]
+    for document, pointer, answer, after in deleted:
+        yield on("json", document, "delete", pointer, answer=answer, after=after, is_free=True)
+    yield on("json", '{"a/b":{"~":1}}', "delete", "/a~1b/~0", answer="1", after='{"a/b":{}}')
+
+
+def in_tables():
+    """Of the calls on a TOML document."""
+    table = "{ a = [1, 2] }"
+    for call, pointer, answer, after in [
+        ("resolve", "/a/1", "2", table),
+        ("resolve", "/a/-", PAST_THE_END.format(2), table),
+        ("resolve", "/a/0/x", UNREACHABLE.format(4), table),
+        ("resolve", "/" + LONG, NOT_FOUND.format(0), table),
+        ("delete", "/a/0", "1", "{ a = [2] }"),
+        ("delete", "", table, "{}"),
+        ("delete", "/b", "none", table),
+        ("write", "/a/0", "1", "{ a = [3, 2] }"),
+        ("write", "/a/2", PAST_THE_END.format(2), table),
+        ("assign", "/a/0", "1", "{ a = [3, 2] }"),
+        ("assign", "/a/3", NO_ROOM.format(2), table),
+        ("assign", "/a/x", NO_PLACE.format(2), table),
+    ]:
+        yield on("toml", table, call, pointer, "3", answer=answer, after=after, is_free=True)
+    yield on("toml", "{ a = [2] }", "assign", "/b/-", "3", answer="none", after="{ a = [2], b = [3] }")
+    yield on("toml", "{ d = 1979-05-27 }", "assign", "/d/x", "1", answer="1979-05-27", after="{ d = { x = 1 } }")
+    yield on(
+        "toml",
+        "{ d = 1979-05-27 }",
+        "resolve",
+        "/d/x",
+        answer=UNREACHABLE.format(2),
+        after="{ d = 1979-05-27 }",
+        is_free=True,
+    )
+    yield on("toml", "1", "delete", "", answer="1", after="{}", is_free=True)
+    yield on("toml", '{ "a/b" = 1 }', "resolve", "/a~1b", answer="1", after='{ "a/b" = 1 }')
+    yield on("toml", '{ "a/b" = 1 }', "write", "/a~1b", "2", answer="1", after='{ "a/b" = 2 }')
+    yield on("toml", '{ "a/b" = 1 }', "assign", "/a~1b", "2", answer="1", after='{ "a/b" = 2 }')
+    yield on("toml", '{ "a/b" = 1 }', "delete", "/a~1b", answer="1", after="{}")
+    yield on("toml", "[]", "assign", "/-/" + LONG, "2", answer="none", after=f"[{{ {LONG} = 2 }}]")
+
+
+def undoing(kind, document, call, pointer, value, *, answer, after):
+    """A row of a call that takes an assignment back, or answers what does."""
+    return Row(("undo", kind, document, call, pointer, value), f"{answer}\n", f"{after}\n")
+
+
+def undos():
+    """Of taking assignments back, in both kinds of document."""
+    long = f"/{LONG}"
+    rows = [
+        ("json", '{"foo":"bar"}', "/foo/bar/-/baz", '"qux"', 'put "bar" at /foo', '{"foo":{"bar":[{"baz":"qux"}]}}'),
+        ("json", '["a"]', "/-", '"b"', "remove at /1", '["a","b"]'),
+        ("json", "[1]", "/-/x", "7", "remove at /1", '[1,{"x":7}]'),
+        ("json", "{}", "/a/-", "7", "remove at /a", '{"a":[7]}'),
+        ("json", "[1]", "/0", "7", "put 1 at /0", "[7]"),
+        ("json", '{"a":3}', "", "7", 'put {"a":3} at ', "7"),
+        ("json", "{}", "/a~1b", "7", "remove at /a~1b", '{"a/b":7}'),
+        ("json", "{}", long, "7", f"remove at {long}", f'{{"{LONG}":7}}'),
+        ("json", "1", long, "7", "put 1 at ", f'{{"{LONG}":7}}'),
+        ("toml", "{ a = [1] }", "/a/-", "7", "remove at /a/1", "{ a = [1, 7] }"),
+        ("toml", "{ a = 1 }", "/a", "7", "put 1 at /a", "{ a = 7 }"),
+        ("toml", "{ a = 1 }", "/a/b", "7", "put 1 at /a", "{ a = { b = 7 } }"),
+        ("toml", "{}", "/a~1b", "7", "remove at /a~1b", '{ "a/b" = 7 }'),
+    ]
+    for kind, document, pointer, value, answer, after in rows:
+        yield undoing(kind, document, "assign_with_undo", pointer, value, answer=answer, after=after)
+        yield undoing(kind, document, "undo", pointer, value, answer="done", after=document)
+    yield undoing("json", "[]", "assign_with_undo", "/1", "7", answer=NO_ROOM.format(0), after="[]")
+    yield undoing("json", '{"a":[1]}', "assign_with_undo", "/a/b", "2", answer=NO_PLACE.format(2), after='{"a":[1]}')
+    yield undoing("json", "[1]", "Remove", "/1", "null", answer=PAST_THE_END.format(0), after="[1]\nremove at /1")
+    yield undoing(
+        "json", '{"a":1}', "Put", "/a/b", "[7]", answer=UNREACHABLE.format(2), after='{"a":1}\nput [7] at /a/b'
+    )
+    yield undoing("json", '{"a/b":1}', "Put", "/a~1b", "7", answer="done", after='{"a/b":7}')
+    yield undoing("json", '{"a/b":1}', "Remove", "/a~1b", "null", answer="done", after="{}")
+    yield undoing("toml", '{ "a/b" = 1 }', "Put", "/a~1b", "7", answer="done", after='{ "a/b" = 7 }')
+    yield undoing(
+        "toml", "{ a = 1 }", "Remove", "/b", "1", answer=NOT_FOUND.format(0), after="{ a = 1 }\nremove at /b"
+    )
+
+
+def patched(document, *operations, answer="done", after=None):
+    """A row of a patch, which leaves the document where it is refused."""
+    lines = ("patch", document, *(line for operation in operations for line in operation))
+    return Row(lines, f"{answer}\n", f"{document if after is None else after}\n")
+
+
+def failed(operation, cause):
+    """What a patch answers whose numbered operation is refused."""
+    return f"patch failed at operation {operation}: {cause}"
+
+
+def patches():
+    """Of patches, and of deletions that can be taken back."""
+    two = '{"a":[1,2]}'
+    yield patched('{"a":1}', after='{"a":1}')
+    yield patched(two, ("add", "/a/1", "9"), after='{"a":[1,9,2]}')
+    yield patched(two, ("add", "/a/3", "9"), answer=failed(0, NO_ROOM.format(2)))
+    yield patched("{}", ("add", "/a/b", "1"), answer=failed(0, NOT_FOUND.format(0)))
+    yield patched('{"a":5}', ("add", "/a/b", "1"), answer=failed(0, UNREACHABLE.format(2)))
+    yield patched("[1,2]", ("move", "/0", "/1"), after="[2,1]")
+    yield patched("[1,2]", ("move", "/0", "/2"), answer=failed(0, NO_ROOM.format(0)))
+    yield patched('{"a":1}', ("move", "/a", "/a/b"), answer=failed(0, "from is a proper prefix of path"))
+    yield patched('{"a":1}', ("move", "/a", "/ab"), after='{"ab":1}')
+    yield patched('{"a":[1]}', ("copy", "/a", "/b"), after='{"a":[1],"b":[1]}')
+    yield patched('{"a":1}', ("test", "/a", "1"), after='{"a":1}')
+    yield patched('{"a":1}', ("test", "/a", '"1"'), answer=failed(0, "test failed"))
+    yield patched('{"a":1}', ("test", "/a", "1.5"), answer=failed(0, "a float cannot be tested"))
+    yield patched("{}", ("add", "/x", "1"), ("test", "/x", "2"), answer=failed(1, "test failed"))
+    yield patched("[1]", ("remove", "/-"), answer=failed(0, PAST_THE_END.format(0)))
+    long = f"/{LONG}"
+    for token, key in [("a", "a"), ("a~1b", "a/b"), (LONG, LONG), (ENCODED, DECODED)]:
+        kept, patch = f'{{"{key}":[1]}}', [("add", f"/{token}/0", "0"), ("replace", f"/{token}/1", "[2]")]
+        yield patched(kept, *patch, ("remove", f"/{token}/0"), after=f'{{"{key}":[[2]]}}')
+        yield patched(kept, *patch, ("test", f"/{token}/1/0", "3"), answer=failed(2, "test failed"))
+        yield patched(kept, *patch, ("copy", f"/{token}", "/c"), ("move", f"/{token}", "/c/0"), after='{"c":[[0,[2]],0,[2]]}')
+    yield patched("{}", ("add", long, "1"), ("remove", long), after="{}")
+    yield Row(("patch back", "[1,2,3]", "/1"), "add 2 at /1\n", "[1,3]\n")
+    yield Row(("patch back", '{"a/b":[1]}', "/a~1b"), "add [1] at /a~1b\n", "{}\n")
+    yield Row(("patch back", "{}", "/a"), "nothing\n", "{}\n")
+
+
+def session(kind, document, pointer, steps, after):
+    """Rows of a session on both kinds of pointer: the calls with their replies, and what is then left."""
+    calls, replies = zip(*steps)
+    for pointers in KINDS:
+        lines = ("session", kind, document, pointers, pointer, *calls)
+        yield Row(lines, "".join(f"{it}\n" for it in replies), f"{after}\n", calls=calls)
+
+
+EVERY_CALL = [
+    ("parse /a", "done"), ("push_back ~", "done"), ("push_front b/c", "done"), ("pop_front", "token b~1c"),
+    ("pop_back", "token ~0"), ("replace x/y", "token a"), ("replace a", "token x~1y"), ("append /0", "done"),
+    ("resolve", "value 1"), ("write 3", "value 1"), ("append /x/-", "done"), ("assign 4", "assigned for 3"),
+    ("delete", "not deleted"),
+    ("pop_back", "token -"),
+    ("delete", "deleted [4]"),
+    ("clear", "done"),
+    ("pop_back", "no token"),
+    ("pop_front", "no token"),
+    ("replace a", NO_POSITION.format(0, 0)),
+    ("parse foo", f"{NO_SLASH}: foo"),
+    ("parse /a/-", "done"),
+    ("assign 5", "assigned"),
+    ("resolve", PAST_THE_END.format(2)),
+    ("write 6", PAST_THE_END.format(2)),
+    ("push_back x", "done"),
+    ("parse /a/x", "done"),
+    ("assign 7", NO_PLACE.format(2)),
+    ("parse /~0/~1", "done"),
+    ("assign 8", "assigned"),
+    ("resolve", "value 8"),
+]
+
+
+def sessions():
+    """Of sessions: the worked one, and one of every call on each kind of document."""
+    worked = [
+        ("push_back a/b", "done"),
+        ("assign 1", "assigned for null"),
+        ("delete", "deleted 1"),
+        ("resolve", NOT_FOUND.format(0)),
+    ]
+    yield from session("json", "null", "", worked, "/a~1b {}")
+    yield from session("json", '{"a":[1,2]}', "/x", EVERY_CALL, '/~0/~1 {"a":[{},2,5],"~":{"/":8}}')
+    yield from session("toml", "{ a = [1, 2] }", "/x", EVERY_CALL, '/~0/~1 { a = [{}, 2, 5], "~" = { "/" = 8 } }')
+    long = [
+        (f"parse /{LONG}", "done"),
+        (f"push_back {DECODED}", "done"),
+        ("assign 1", "assigned"),
+        ("resolve", "value 1"),
+        ("pop_back", f"token {ENCODED}"),
+        (f"append {MANY}", "done"),
+        ("resolve", NOT_FOUND.format(100_001)),
+        ("clear", "done"),
+        (f"push_front {LONG}", "done"),
+        (f"replace {DECODED}", f"token {LONG}"),
+        ("delete", "not deleted"),
+        ("pop_front", f"token {ENCODED}"),
+    ]
+    yield from session("json", "{}", "", long, f' {{"{LONG}":{{"{DECODED}":1}}}}')
+
+
+def reports():
+    """Of the labels of errors, of what is drawn of them, and of what they display."""
+    tilde = "'~' must be followed by '0' or '1'"
+    rows = [
+        (
+            ("pointer", "foo"),
+            NO_SLASH,
+            "must start with a slash ('/') at 0, length 0",
+            "foo\n^ must start with a slash ('/')",
+        ),
+        (
+            ("pointer", "/foo/invalid~tilde/invalid"),
+            MALFORMED.format(4),
+            f"{tilde} at 12, length 2",
+            f"/foo/invalid~tilde/invalid\n            ^^ {tilde}",
+        ),
+        (
+            ("token", "~"),
+            NO_TOKEN.format(1),
+            "incomplete escape sequence at 0, length 1",
+            "~\n^ incomplete escape sequence",
+        ),
+        (("token", "~~0"), NO_TOKEN.format(1), "must be 0 or 1 at 1, length 1", "~~0\n ^ must be 0 or 1"),
+        (
+            ("token", "foo/oops~bar"),
+            NO_TOKEN.format(3),
+            "invalid character at 3, length 1",
+            "foo/oops~bar\n   ^ invalid character",
+        ),
+        (("index", "00"), ZEROS, "leading zeros at 0, length 2", "00\n^^ leading zeros"),
+        (("index", "1a"), NO_INDEX, "invalid character(s) at 1, length 1", "1a\n ^ invalid character(s)"),
+        (
+            ("resolve", '{"foo":["bar"]}', "/foo/-"),
+            PAST_THE_END.format(4),
+            "index 1 out of bounds (len: 1) at 5, length 1",
+            "/foo/-\n     ^ index 1 out of bounds (len: 1)",
+        ),
+        (
+            ("resolve", '{"a":{}}', "/a/"),
+            NOT_FOUND.format(2),
+            "not found in value at 2, length 0",
+            "/a/\n  ^ not found in value",
+        ),
+        (("resolve", "1", "/a~1b"), UNREACHABLE.format(0), "unreachable at 1, length 4", "/a~1b\n ^^^^ unreachable"),
+        (
+            ("resolve", "[]", "/x"),
+            NOT_AN_INDEX.format(0),
+            "not an array index at 1, length 1",
+            "/x\n ^ not an array index",
+        ),
+        (
+            ("assign", "[]", "/1"),
+            NO_ROOM.format(0),
+            "1 is out of bounds (len: 0) at 1, length 1",
+            "/1\n ^ 1 is out of bounds (len: 0)",
+        ),
+        (
+            ("assign", "[]", "/x"),
+            NO_PLACE.format(0),
+            "expected array index or '-' at 1, length 1",
+            "/x\n ^ expected array index or '-'",
+        ),
+        (
+            ("index", "1" + LONG),
+            NO_INDEX,
+            "invalid character(s) at 1, length 100000",
+            f"1{LONG}\n {'^' * 100_000} invalid character(s)",
+        ),
+        (
+            ("pointer", MANY + "~"),
+            MALFORMED.format(99_998),
+            f"{tilde} at 100000, length 1",
+            f"{MANY}~\n{' ' * 100_000}^ {tilde}",
+        ),
+    ]
+    for about, text, label, drawn in rows:
+        yield free("report", "display", *about, answer=text)
+        yield free("report", "display failing", *about, answer="true")
+        yield takes("report", "labels", *about, answer=label)
+        yield takes("report", "clone", *about, answer=label)
+        yield takes("report", "render", *about, answer=drawn)
+    for text, fault in [("foo", NO_SLASH), ("/~", MALFORMED.format(0)), (LONG, NO_SLASH)]:
+        for call in ["diagnose", "diagnose_with"]:
+            yield free("report joined", call, text, answer=f"{fault}: {text}")
+            yield free("report joined", call, f"/{text.replace('~', 'x')}", answer=f"/{text.replace('~', 'x')}")
+        yield free("report joined", "decompose", text, answer=text)
+        yield free("report joined", "into_original", text, answer=fault)
+    yield free("report", "labels", "index", "", answer="none")
+    yield free("report", "labels", "index", "9" * 100_000, answer="none")
+
+
+def bounds():
+    """Of where an index lies in an array, and of the labels of errors whose fields no reading gave."""
+    rows = [
+        ("for_len", MOST, MOST, f"index {MOST} out of bounds (len: {MOST})"),
+        ("for_len_incl", MOST, MOST, MOST),
+        ("for_len_unchecked", MOST, 0, MOST),
+        ("for_len", 0, 1, 0),
+        ("for_len", 1, 1, "index 1 out of bounds (len: 1)"),
+        ("for_len", "-", 1, "index 1 out of bounds (len: 1)"),
+        ("for_len_incl", 1, 1, 1),
+        ("for_len_incl", "-", 1, 1),
+        ("for_len_incl", 2, 1, "index 2 out of bounds (len: 1)"),
+        ("for_len_incl", "-", MOST, MOST),
+        ("for_len_unchecked", "-", 30, 30),
+    ]
+    for call, index, length, answer in rows:
+        yield free("index", call, index, length, answer=answer)
+    yield free("invalid_encoding_len", MOST, 1, "", answer=1)
+    yield free("invalid_encoding_len", 0, 0, "/~", answer=2)
+    none = [
+        ("pointer", MOST, 1, ""),
+        ("pointer", MOST, MOST, "/~"),
+        ("tilde", 0, 0, ""),
+        ("resolve", 0, MOST, "/a"),
+        ("resolve", MOST, 0, "/a"),
+    ]
+    for kind, first, second, subject in none:
+        yield free("fields", "labels", kind, first, second, subject, answer="none")
+    labels = [
+        ("pointer", 0, 0, "/~", "'~' must be followed by '0' or '1' at 0, length 2"),
+        ("slash", 0, 0, "", "invalid character at 0, length 1"),
+        ("tilde", MOST, 0, "", f"must be 0 or 1 at {MOST}, length 1"),
+        ("pointer", MOST, 0, "", f"'~' must be followed by '0' or '1' at {MOST}, length 1"),
+        ("resolve", 0, MOST - 1, "/a", f"not found in value at {MOST - 1}, length 1"),
+    ]
+    for kind, first, second, subject, label in labels:
+        yield takes("fields", "labels", kind, first, second, subject, answer=label)
+    orders = [("index", "/1", "/2", "<"), ("index", "/-", f"/{MOST}", ">"), ("index", "/-", "/-", "=")]
+    orders += [("component", "", "/", "<"), ("component", "/a~1b", "/a~0", ">"), ("component", MANY, MANY, "=")]
+    for kind, one, other, order in orders:
+        yield free("order", kind, one, other, answer=order)
+    yield free("known", "from_static", answer=8)
+    yield free("known", "new_unchecked", answer=5)
+    yield free("known", "complete_offset", answer=12)
+
+
+def shown():
+    """Of what is displayed, also to writers that fail at each of their calls in turn."""
+    for kind in ["pointer", *KINDS]:
+        yield free("show failing", kind, "/a~1b", answer="true")
+    invalid = ["InvalidEncoding::Tilde", "InvalidEncoding::Slash", "InvalidCharacterError"]
+    for error in [*invalid, "OutOfBoundsError", "ReplaceError", "Fault::Refused", "Fault::Memory"]:
+        yield free("show failing error", error, answer="true")
+    for kind, text in [("token", "a~1b"), ("token", "abc"), ("index", "-"), ("index", "12")]:
+        yield free("show failing", kind, text, answer="true")
+    for kind in ["pointer", *KINDS]:
+        for text in ["", "/a~1b", MANY, "/" + ENCODED]:
+            yield free("show", kind, text, answer=text)
+    for token, text in [("a~1b", "a/b"), ("", ""), (ENCODED, DECODED), (LONG, LONG)]:
+        yield free("show", "token", token, answer=text)
+    for text in ["-", "0", str(MOST)]:
+        yield free("show", "index", text, answer=text)
+
+
+TABLES = [
+    texts, pointers_of_texts, indices, tokens, numbers, measures, pairs, ranges, copies, edits,
+    found, assigned, in_tables, undos, patches, sessions, reports, bounds, shown,
+]
+ROWS = [row for table in TABLES for row in table()]

@@ -1,0 +1,13 @@
+use Rattle.jsonptr_tree.proofs.JsonLemmas.{FindsValue-Finds}
+use Rattle.jsonptr_patch.proofs.RestoringLemmas.{restored_at}
+use Rattle.jsonptr_patch.proofs.undoing.delete_with_undo.Goals as goal
+
+pub returns-in-Some-clause-nothing : goal.returns-in-Some-clause-nothing
+returns-in-Some-clause-nothing c =
+    let found = rw c.in-Some.is at c.in_ok-value.ensures.found in
+    (c.in_ok-path.ensures, FindsValue-Finds _ _ _ found)
+
+pub returns-in-Some-clause-restores : goal.returns-in-Some-clause-restores
+returns-in-Some-clause-restores c =
+    let found = rw c.in-Some.is at c.in_ok-value.ensures.found in
+    restored_at _ _ _ _ _ c.in_ok-path.ensures found c.in_ok-value.ensures.deleted

@@ -1,0 +1,10 @@
+-- What the operations of a patch make of a document, when they are refused, and what a whole list of them does
+-- (RFC 6902).
+pub mod Inserting
+pub mod Adding
+pub mod Testing
+pub mod Operating
+pub mod Patching
+pub mod PrivateAdding
+pub mod PrivateTesting
+pub mod PrivateBase

@@ -1,0 +1,163 @@
+//! The values that an operation works on: taken out, copied, or replaced (RFC 6902, sections 4.2 to 4.5).
+ghost use Rattle.std.specs.Prelude.{◌≡◌, ◌↔◌, IfOk, OnErr, IsTrue};
+ghost use Rattle.serde_json.specs.View.{view};
+ghost use Rattle.jsonptr.specs.Delete.{NamesNothing};
+ghost use Rattle.jsonptr.specs.Fault.{IfRefused};
+ghost use Rattle.jsonptr.specs.Following.{Finds};
+ghost use Rattle.jsonptr.specs.Json.{nodes};
+ghost use Rattle.jsonptr.specs.Node.{NodeMap};
+ghost use Rattle.jsonptr.specs.Pointer.{tokens};
+ghost use Rattle.jsonptr.specs.Resolve.{Refuses, PutsAt};
+ghost use Rattle.jsonptr_patch.specs.Operating.{Takes, IsProperFront, RefusesTarget};
+ghost use Rattle.jsonptr_patch.specs.PrivateAdding.{ForRefusal, told};
+
+use crate::operation::PatchError;
+use jsonptr::{Fault, Pointer, ResolveMut, resolve};
+use serde_json::Value;
+use std::alloc::Global;
+use std::mem;
+
+/// A fault of following a pointer, as that of the operation with this number.
+pub fn no_target(number: usize, fault: Fault<resolve::Error>) -> Fault<PatchError>
+    ensures { result ≡ told number fault }
+{
+    match fault {
+        Fault::Refused(cause) => Fault::Refused(PatchError::NoTarget {
+            operation: number,
+            cause,
+        }),
+        Fault::Memory(error) => Fault::Memory(error),
+    }
+}
+
+/// Why the pointer names nothing.
+fn refusal(alloc: Global, doc: &Value, ptr: Pointer<'_>) -> Fault<resolve::Error>
+    requires { NamesNothing (nodes (view doc.now)) (tokens ptr) }
+    ensures { ForRefusal result (Refuses (nodes (view doc.now)) (tokens ptr.entry)) }
+{
+    match ptr.resolve(alloc, doc) {
+        Ok(_) => unreachable!(),
+        Err(fault) => fault,
+    }
+}
+
+/// Takes out the value that the pointer names; of the whole document null is left.
+///
+/// # Errors
+///
+/// [`Fault::Refused`] where the pointer names no value, and [`Fault::Memory`] where a request for memory is
+/// refused.
+pub fn take(
+    alloc: Global,
+    doc: &mut Value,
+    number: usize,
+    from: Pointer<'_>,
+) -> Result<Value, Fault<PatchError>>
+    ensures taken { IfOk result (λ v. Takes (nodes (view doc.old)) (tokens from.entry)
+        (nodes (view v)) (nodes (view doc.new))) }
+    ensures refused { IfRefused result
+        (RefusesTarget (nodes (view doc.old)) number (tokens from.entry)) }
+{
+    match from.delete(alloc, doc)? {
+        Some(value) => Ok(value),
+        None => Err(no_target(number, refusal(alloc, doc, from))),
+    }
+}
+
+/// The same, where the value is dropped.
+///
+/// # Errors
+///
+/// Those of [`take`].
+pub fn remove(
+    alloc: Global,
+    doc: &mut Value,
+    number: usize,
+    path: Pointer<'_>,
+) -> Result<(), Fault<PatchError>>
+    ensures removed { IfOk result (λ _. (v : NodeMap)
+        × Takes (nodes (view doc.old)) (tokens path.entry) v (nodes (view doc.new))) }
+    ensures refused { IfRefused result
+        (RefusesTarget (nodes (view doc.old)) number (tokens path.entry)) }
+{
+    take(alloc, doc, number, path)?;
+    Ok(())
+}
+
+/// A copy of the value that the pointer names.
+///
+/// # Errors
+///
+/// [`Fault::Refused`] where the pointer names no value, and [`Fault::Memory`] where a request for memory is
+/// refused.
+pub fn copy_of(
+    alloc: Global,
+    doc: &Value,
+    number: usize,
+    from: Pointer<'_>,
+) -> Result<Value, Fault<PatchError>>
+    ensures found { IfOk result (λ v. Finds (nodes (view doc.now)) (tokens from.entry)
+        (nodes (view v))) }
+    ensures refused { IfRefused result
+        (RefusesTarget (nodes (view doc.now)) number (tokens from.entry)) }
+{
+    match from.resolve(alloc, doc) {
+        Ok(value) => Ok(value.clone()?),
+        Err(fault) => Err(no_target(number, fault)),
+    }
+}
+
+/// Puts a value in place of the one that the pointer names in a document of any kind.
+///
+/// # Errors
+///
+/// Those of [`ResolveMut::resolve_mut`]. The document is then as it was, and the value is dropped.
+pub fn put<D: ResolveMut>(
+    document: &mut D,
+    alloc: Global,
+    ptr: Pointer<'_>,
+    value: D::Value,
+) -> Result<(), Fault<D::Error>>
+    ensures written { IfOk result (λ _.
+        D.writes document.old (tokens ptr.entry) value document.new) }
+    ensures refused { IfRefused result (D.refuses document.old (tokens ptr.entry)) }
+    ensures stays { OnErr result (D.is_same document.old document.new) }
+{
+    let place = document.resolve_mut(alloc, ptr)?;
+    drop(mem::replace(place, value));
+    Ok(())
+}
+
+/// Puts a value in place of the one that the pointer names.
+///
+/// # Errors
+///
+/// [`Fault::Refused`] where the pointer names no value, and [`Fault::Memory`] where a request for memory is
+/// refused. The value is dropped.
+pub fn replace(
+    alloc: Global,
+    doc: &mut Value,
+    number: usize,
+    path: Pointer<'_>,
+    value: Value,
+) -> Result<(), Fault<PatchError>>
+    ensures replaced { IfOk result (λ _. PutsAt (nodes (view doc.old)) (tokens path.entry)
+        (nodes (view value)) (nodes (view doc.new))) }
+    ensures refused { IfRefused result
+        (RefusesTarget (nodes (view doc.old)) number (tokens path.entry)) }
+{
+    match put(doc, alloc, path, value) {
+        Ok(()) => Ok(()),
+        Err(fault) => Err(no_target(number, fault)),
+    }
+}
+
+/// Whether the tokens of the one pointer are the beginning of the other's, and fewer.
+pub fn is_proper_front(front: Pointer<'_>, path: Pointer<'_>) -> bool
+    ensures { IsTrue result ↔ IsProperFront (tokens front.entry) (tokens path.entry) }
+{
+    match path.strip_prefix(front) {
+        Some(rest) => !rest.is_root(),
+        None => false,
+    }
+}

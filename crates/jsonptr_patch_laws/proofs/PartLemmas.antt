@@ -1,0 +1,42 @@
+-- Moving and copying by their parts, and what brings back what is deleted.
+use Rattle.std.proofs.Common.{List, sym, subst}
+use Rattle.serde_json.specs.Data.{null}
+use Rattle.serde_json.specs.View.{view}
+use Rattle.serde_json.specs.declared.value.Value.{Value}
+use Rattle.jsonptr.specs.Text.{Text}
+use Rattle.jsonptr_tree.specs.Node.{NodeMap}
+use Rattle.jsonptr_tree.specs.Following.{Finds}
+use Rattle.jsonptr_tree.specs.Json.{nodes}
+use Rattle.jsonptr_tree.specs.Removing.{Deletes}
+use Rattle.jsonptr_tree.proofs.FollowingLemmas.{Finds_one}
+use Rattle.jsonptr_patch.specs.Adding.{Adds}
+use Rattle.jsonptr_patch.specs.Operating.{IsProperFront, Applies, RestoresAt}
+use Rattle.jsonptr_patch.specs.declared.operation.Operation.{Operation}
+use Rattle.jsonptr_patch.specs.declared.operation.Operation.TheVariants.{Add, Remove, Replace, Move, Copy, Test}
+use Rattle.jsonptr_patch.proofs.RestoringLemmas.{restored}
+
+pub move_parts : (n m : NodeMap) (from path : List Text) (value : Value) → Applies n (Move from path) m → Finds n from (nodes (view value)) → (left : NodeMap) × Applies n (Remove from) left × Applies left (Add path value) m
+move_parts n m from path value a found = (a.left, (a.node, a.taken), subst (λ (q : NodeMap). Adds a.left path q m) (Finds_one n from a.node (nodes (view value)) a.taken.found found) a.added)
+
+pub move_whole : (n left m : NodeMap) (from path : List Text) (value : Value) → (IsProperFront from path → ⊥) → Finds n from (nodes (view value)) → Applies n (Remove from) left → Applies left (Add path value) m → Applies n (Move from path) m
+move_whole n left m from path value apart found removed added = record {
+  node = nodes (view value);
+  left = left;
+  apart = apart;
+  taken = record { found = found; left = removed.1.left };
+  added = added;
+}
+
+pub copy_parts : (n m : NodeMap) (from path : List Text) (value : Value) → Applies n (Copy from path) m → Finds n from (nodes (view value)) → Applies n (Add path value) m
+copy_parts n m from path value a found = subst (λ (q : NodeMap). Adds n path q m) (Finds_one n from a.node (nodes (view value)) a.found found) a.added
+
+pub copy_whole : (n m : NodeMap) (from path : List Text) (value : Value) → Finds n from (nodes (view value)) → Applies n (Add path value) m → Applies n (Copy from path) m
+copy_whole n m from path value found added = record { node = nodes (view value); found = found; added = added }
+
+pub restoring : (n m : NodeMap) (tokens : List Text) (o : Operation) → RestoresAt n tokens o → Deletes n tokens (nodes null) m → Applies m o n
+restoring n m tokens (Add path value) r gone = subst (λ (ts : List Text). Adds m ts (nodes (view value)) n) (sym r.0) (restored n m (nodes (view value)) (nodes null) tokens r.1 gone)
+restoring n m tokens (Remove path) r gone = absurd r
+restoring n m tokens (Replace path value) r gone = absurd r
+restoring n m tokens (Move from path) r gone = absurd r
+restoring n m tokens (Copy from path) r gone = absurd r
+restoring n m tokens (Test path value) r gone = absurd r

@@ -1,0 +1,2 @@
+-- Which operations a patch has.
+pub mod Operations

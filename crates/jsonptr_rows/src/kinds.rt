@@ -1,0 +1,237 @@
+//! What rows do to a document of either kind.
+use crate::row::NoRow;
+use crate::said::Said;
+use jsonptr::{Fault, Pointer, PointerBuf, assign, resolve};
+use jsonptr_session::undo::{Undo, UndoRefused, json, toml_value};
+use jsonptr_session::{Call, Reply, run_json, run_json_with, run_toml, run_toml_with};
+use jsonptr_tabled::TabledPointer;
+use std::alloc::{AllocError, Global};
+use std::fmt::Display;
+use std::mem;
+
+/// A document of one of the two kinds.
+pub trait Document: Display + Drop + Sized {
+    /// The value of a text.
+    fn read(alloc: Global, text: &str) -> anyhow::Result<Self>;
+
+    /// Of a value that was taken out.
+    fn said(self) -> Said<'static>;
+
+    /// Of a value that is lent.
+    fn said_lent(&self) -> Said<'_>;
+
+    /// The value that the pointer names.
+    fn resolve(&self, alloc: Global, ptr: Pointer<'_>) -> Result<&Self, Fault<resolve::Error>>;
+
+    /// What a value took the place of, written by `resolve_mut`.
+    fn write(
+        &mut self,
+        alloc: Global,
+        ptr: Pointer<'_>,
+        value: Self,
+    ) -> Result<Self, Fault<resolve::Error>>;
+
+    /// What stood where a value was assigned.
+    fn assign(
+        &mut self,
+        alloc: Global,
+        ptr: Pointer<'_>,
+        value: Self,
+    ) -> Result<Option<Self>, Fault<assign::Error>>;
+
+    /// What was deleted.
+    fn delete(&mut self, alloc: Global, ptr: Pointer<'_>) -> Result<Option<Self>, AllocError>;
+
+    /// What takes an assignment back.
+    fn assign_with_undo(
+        &mut self,
+        alloc: Global,
+        ptr: Pointer<'_>,
+        value: Self,
+    ) -> Result<Undo<Self>, Fault<assign::Error>>;
+
+    /// Takes an assignment back.
+    fn undo(&mut self, alloc: Global, undo: Undo<Self>) -> Result<(), UndoRefused<Self>>;
+
+    /// The replies to calls on a plain pointer.
+    fn run(
+        &mut self,
+        alloc: Global,
+        ptr: &mut PointerBuf,
+        calls: Vec<Call<Self>>,
+    ) -> Result<Vec<Reply<Self>>, AllocError>;
+
+    /// The replies to calls on a tabled pointer.
+    fn run_tabled(
+        &mut self,
+        alloc: Global,
+        ptr: &mut TabledPointer,
+        calls: Vec<Call<Self>>,
+    ) -> Result<Vec<Reply<Self>>, AllocError>;
+}
+
+impl Document for serde_json::Value {
+    fn read(alloc: Global, text: &str) -> anyhow::Result<serde_json::Value> {
+        Ok(serde_json::Value::from_str(alloc, text)?)
+    }
+
+    fn said(self) -> Said<'static> {
+        Said::Json(self)
+    }
+
+    fn said_lent(&self) -> Said<'_> {
+        Said::JsonLent(self)
+    }
+
+    fn resolve(
+        &self,
+        alloc: Global,
+        ptr: Pointer<'_>,
+    ) -> Result<&serde_json::Value, Fault<resolve::Error>> {
+        ptr.resolve(alloc, self)
+    }
+
+    fn write(
+        &mut self,
+        alloc: Global,
+        ptr: Pointer<'_>,
+        value: serde_json::Value,
+    ) -> Result<serde_json::Value, Fault<resolve::Error>> {
+        Ok(mem::replace(ptr.resolve_mut(alloc, self)?, value))
+    }
+
+    fn assign(
+        &mut self,
+        alloc: Global,
+        ptr: Pointer<'_>,
+        value: serde_json::Value,
+    ) -> Result<Option<serde_json::Value>, Fault<assign::Error>> {
+        ptr.assign(alloc, self, value)
+    }
+
+    fn delete(
+        &mut self,
+        alloc: Global,
+        ptr: Pointer<'_>,
+    ) -> Result<Option<serde_json::Value>, AllocError> {
+        ptr.delete(alloc, self)
+    }
+
+    fn assign_with_undo(
+        &mut self,
+        alloc: Global,
+        ptr: Pointer<'_>,
+        value: serde_json::Value,
+    ) -> Result<Undo<serde_json::Value>, Fault<assign::Error>> {
+        json::assign_with_undo(alloc, self, ptr, value)
+    }
+
+    fn undo(
+        &mut self,
+        alloc: Global,
+        undo: Undo<serde_json::Value>,
+    ) -> Result<(), UndoRefused<serde_json::Value>> {
+        json::undo(alloc, self, undo)
+    }
+
+    fn run(
+        &mut self,
+        alloc: Global,
+        ptr: &mut PointerBuf,
+        calls: Vec<Call<serde_json::Value>>,
+    ) -> Result<Vec<Reply<serde_json::Value>>, AllocError> {
+        run_json(alloc, ptr, self, calls)
+    }
+
+    fn run_tabled(
+        &mut self,
+        alloc: Global,
+        ptr: &mut TabledPointer,
+        calls: Vec<Call<serde_json::Value>>,
+    ) -> Result<Vec<Reply<serde_json::Value>>, AllocError> {
+        run_json_with(alloc, ptr, self, calls)
+    }
+}
+
+impl Document for toml::Value {
+    fn read(alloc: Global, text: &str) -> anyhow::Result<toml::Value> {
+        toml::Value::from_str(alloc, text).map_err(|_| NoRow.into())
+    }
+
+    fn said(self) -> Said<'static> {
+        Said::Toml(self)
+    }
+
+    fn said_lent(&self) -> Said<'_> {
+        Said::TomlLent(self)
+    }
+
+    fn resolve(
+        &self,
+        alloc: Global,
+        ptr: Pointer<'_>,
+    ) -> Result<&toml::Value, Fault<resolve::Error>> {
+        ptr.resolve(alloc, self)
+    }
+
+    fn write(
+        &mut self,
+        alloc: Global,
+        ptr: Pointer<'_>,
+        value: toml::Value,
+    ) -> Result<toml::Value, Fault<resolve::Error>> {
+        Ok(mem::replace(ptr.resolve_mut(alloc, self)?, value))
+    }
+
+    fn assign(
+        &mut self,
+        alloc: Global,
+        ptr: Pointer<'_>,
+        value: toml::Value,
+    ) -> Result<Option<toml::Value>, Fault<assign::Error>> {
+        ptr.assign(alloc, self, value)
+    }
+
+    fn delete(
+        &mut self,
+        alloc: Global,
+        ptr: Pointer<'_>,
+    ) -> Result<Option<toml::Value>, AllocError> {
+        ptr.delete(alloc, self)
+    }
+
+    fn assign_with_undo(
+        &mut self,
+        alloc: Global,
+        ptr: Pointer<'_>,
+        value: toml::Value,
+    ) -> Result<Undo<toml::Value>, Fault<assign::Error>> {
+        toml_value::assign_with_undo(alloc, self, ptr, value)
+    }
+
+    fn undo(
+        &mut self,
+        alloc: Global,
+        undo: Undo<toml::Value>,
+    ) -> Result<(), UndoRefused<toml::Value>> {
+        toml_value::undo(alloc, self, undo)
+    }
+
+    fn run(
+        &mut self,
+        alloc: Global,
+        ptr: &mut PointerBuf,
+        calls: Vec<Call<toml::Value>>,
+    ) -> Result<Vec<Reply<toml::Value>>, AllocError> {
+        run_toml(alloc, ptr, self, calls)
+    }
+
+    fn run_tabled(
+        &mut self,
+        alloc: Global,
+        ptr: &mut TabledPointer,
+        calls: Vec<Call<toml::Value>>,
+    ) -> Result<Vec<Reply<toml::Value>>, AllocError> {
+        run_toml_with(alloc, ptr, self, calls)
+    }
+}

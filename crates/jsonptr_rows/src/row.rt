@@ -1,0 +1,49 @@
+//! What a row is written as.
+use std::error::Error;
+use std::fmt;
+
+/// The lines of a row that are left to read.
+#[derive(Debug, Clone, Copy)]
+pub struct Row<'a> {
+    rest: &'a str,
+}
+
+impl<'a> Row<'a> {
+    /// The row of these lines.
+    pub fn new(lines: &'a str) -> Row<'a> {
+        Row { rest: lines }
+    }
+
+    /// The next line, which is empty where there is none.
+    pub fn next(&mut self) -> &'a str {
+        let (line, rest) = self.rest.split_once('\n').unwrap_or((self.rest, ""));
+        self.rest = rest;
+        line
+    }
+
+    /// The number of the next line.
+    ///
+    /// # Errors
+    ///
+    /// [`NoRow`] where it is none.
+    pub fn number(&mut self) -> Result<usize, NoRow> {
+        self.next().parse().map_err(|_| NoRow)
+    }
+
+    /// Whether no line is left.
+    pub fn is_empty(&self) -> bool {
+        self.rest.is_empty()
+    }
+}
+
+/// The input is no row.
+#[derive(Debug, Clone, Copy)]
+pub struct NoRow;
+
+impl fmt::Display for NoRow {
+    fn fmt<W: fmt::Write>(&self, f: &mut fmt::Formatter<W>) -> fmt::Result {
+        f.write_str("no row")
+    }
+}
+
+impl Error for NoRow {}
