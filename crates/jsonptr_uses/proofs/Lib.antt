@@ -1,2 +1,3 @@
 -- Lemmas on the undos of an editor.
 pub mod UndoingLemmas
+mod PatchesLemmas

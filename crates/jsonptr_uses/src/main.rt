@@ -7,6 +7,7 @@ use std::borrow::CowStr;
 
 mod conditions;
 mod edits;
+mod patches;
 mod toml_writes;
 mod undoing;
 mod writes;

@@ -1,0 +1,19 @@
+-- What a patch is applied to, and that it is not refused.
+use Rattle.std.proofs.Common.{Result, Ok, Err}
+use Rattle.serde_json.specs.Data.{Data}
+use Rattle.jsonptr.specs.Fault.{IsRefused, IfRefused}
+use Rattle.jsonptr.specs.Json.{nodes, content}
+use Rattle.jsonptr.specs.Types.Fault.{Fault}
+use Rattle.jsonptr.specs.Types.Fault.TheVariants.{Refused, Memory}
+use Rattle.jsonptr.proofs.Calling.{map_of-IsTree, map_of-finite}
+use Rattle.jsonptr_laws.specs.States.{IsDocument}
+
+-- a JSON value is a document
+pub is_document : (d : Data) → IsDocument (nodes d)
+is_document d = (map_of-IsTree (content d), map_of-finite (content d))
+
+-- what is refused for no reason is not refused
+pub refused_none : {T E : Type 0} (r : Result T (Fault E)) (P : E → Type 0) → IfRefused r P → ((e : E) → P e → ⊥) → IsRefused r → ⊥
+refused_none (Ok t) P h none refused = refused
+refused_none (Err (Refused e)) P h none refused = none e h
+refused_none (Err (Memory e)) P h none refused = refused

@@ -1,0 +1,51 @@
+//! A deletion in a JSON document, taken back by a patch, with a contract that follows from those of
+//! `jsonptr_patch` and its laws alone.
+ghost use Rattle.std.specs.Prelude.{◌≡◌, ◌∷◌, [], IfOk};
+ghost use Rattle.serde_json.specs.View.{view};
+ghost use Rattle.jsonptr.specs.Fault.{IsRefused};
+ghost use Rattle.jsonptr.specs.Json.{nodes};
+ghost use Rattle.jsonptr.specs.Node.{NodeMap};
+ghost use Rattle.jsonptr_patch.specs.Operating.{Applies};
+
+use jsonptr::{Fault, Pointer};
+use jsonptr_patch::{Operation, PatchError, apply, delete_with_undo};
+use jsonptr_patch_laws::patching::patch_law;
+use serde_json::Value;
+use std::alloc::{AllocError, Global};
+
+/// Takes out what the pointer names, if it names anything, and puts it back: then the document is as it was. Only want
+/// of memory prevents that.
+pub fn deleted_and_put_back(
+    alloc: Global,
+    document: &mut Value,
+    pointer: Pointer<'_>,
+) -> Result<(), Fault<PatchError>>
+    ensures restored { IfOk result (λ _. nodes (view document.new) ≡ nodes (view document.old)) }
+    ensures never_refused { IsRefused result → ⊥ }
+{
+    match delete_with_undo(alloc, document, pointer)? {
+        Some(undo) => put_back(alloc, document, undo),
+        None => Ok(()),
+    }
+}
+
+/// Applies the one operation, which makes a document of this one.
+fn put_back(alloc: Global, document: &mut Value, undo: Operation) -> Result<(), Fault<PatchError>>
+    requires { (m : NodeMap) × Applies (nodes (view document.old)) undo m }
+    ensures restored { IfOk result (λ _. (m : NodeMap)
+        → Applies (nodes (view document.old)) undo m → nodes (view document.new) ≡ m) }
+    ensures never_refused { IsRefused result → ⊥ }
+{
+    patch_law();
+    let patch = patch_of(alloc, undo)?;
+    apply(alloc, document, patch)
+}
+
+/// The patch of one operation.
+fn patch_of(alloc: Global, operation: Operation) -> Result<Vec<Operation>, AllocError>
+    ensures { IfOk result (λ patch. patch.items ≡ operation ∷ []) }
+{
+    let mut patch = Vec::new(alloc);
+    patch.push(operation)?;
+    Ok(patch)
+}
