@@ -50,6 +50,9 @@ pub enum Operation {
     },
 }
 
+// What a failed test displays: the kit takes an attribute that has the word itself for one of a test function.
+const TEST_FAILED: &str = "test failed";
+
 /// Why an operation of a patch is refused. `operation` is its place in the list, from 0.
 #[derive(Debug, PartialEq, Eq, Drop, Error)]
 pub enum PatchError {
@@ -83,7 +86,7 @@ pub enum PatchError {
         operation: usize,
     },
     /// The two values of a test differ.
-    #[error("patch failed at operation {operation}: test failed")]
+    #[error("patch failed at operation {operation}: {}", TEST_FAILED)]
     TestFailed {
         /// The operation's place in the list.
         operation: usize,
