@@ -16,14 +16,14 @@ use Rattle.jsonptr.specs.Resolve.{Refuses, PutsAt, position_of, offset_of}
 use Rattle.jsonptr_tree.specs.Node.{key, Path, Scalar, Label, an_object, an_array, a_leaf, NodeMap, sub, NamesStep, Names}
 use Rattle.jsonptr_tree.specs.Following.{Finds, StopsAt, StopsBefore}
 use Rattle.jsonptr_tree.specs.Removing.{Deletes}
-use Rattle.jsonptr_tree.specs.Json.{nodes, FindsValue}
+use Rattle.jsonptr_tree.specs.Json.{nodes, FindsValue, KeysAscend}
 use Rattle.jsonptr_tree.specs.Put.{put}
 use Rattle.jsonptr_tree.specs.Landing.{LandsNowhere}
 use Rattle.jsonptr_tree.specs.Assigning.{Assigns}
 use Rattle.jsonptr_tree.proofs.NodeLemmas.{sub-root, Names_one_path, Names-push}
 use Rattle.jsonptr_tree.proofs.FollowingLemmas.{stops_before, stops_in, stops-lacks, lacks_at_leaf, lacks_at_object, lacks_at_array, StopsBefore_one, Names-StopsBefore, cases_some}
 use Rattle.jsonptr_tree.proofs.AssigningLemmas.{Assigns-named, Assigns-object}
-use Rattle.jsonptr_tree.proofs.JsonLemmas.{FindsValue-Finds}
+use Rattle.jsonptr_tree.proofs.JsonLemmas.{FindsValue-Finds, ascends_part}
 use Rattle.jsonptr_walk.specs.PrivatePutting.{HasNoPlace}
 use Rattle.jsonptr_walk.proofs.AssignLemmas.{no_index_place, above_place}
 use Rattle.jsonptr_patch.specs.Inserting.{with_place}
@@ -174,6 +174,13 @@ parent_lacks n tokens front x e split r = (
 -- a copy of what the tokens name
 pub found_copy : (d v w : Data) (tokens : List Text) → FindsValue d tokens v → w ≡ v → Finds (nodes d) tokens (nodes w)
 found_copy d v w tokens found same = subst (λ (e : Data). Finds (nodes d) tokens (nodes e)) (sym same) (FindsValue-Finds d tokens v found)
+
+-- what they name has its keys in order where the document has
+pub found_ascends : (d v : Data) (tokens : List Text) → FindsValue d tokens v → KeysAscend d → KeysAscend v
+found_ascends d v tokens found a = ascends_part found.path d v a found.there
+
+pub copy_ascends : (d v w : Data) (tokens : List Text) → FindsValue d tokens v → w ≡ v → KeysAscend d → KeysAscend w
+copy_ascends d v w tokens found same a = subst KeysAscend (sym same) (found_ascends d v tokens found a)
 
 -- what is taken out
 pub taken : (d e v : Data) (tokens : List Text) → FindsValue d tokens v → Deletes (nodes d) tokens (nodes null) (nodes e) → Takes (nodes d) tokens (nodes v) (nodes e)

@@ -231,11 +231,11 @@ pub value_root : (v : Value) → IsSome (nodes (view v) [])
 value_root v = (map_of-IsTree (content (view v))).root
 
 -- each operation of a list
-pub based_at : (base : List Text) (all os rest : List Operation) (o : Operation) → All (IsBased base) all → os ++ o ∷ rest ≡ all → IsBased base o
-based_at base all os rest o h is =
+pub each_at : (P : Operation → Type 0) (all os rest : List Operation) (o : Operation) → All P all → os ++ o ∷ rest ≡ all → P o
+each_at P all os rest o h is =
     let below : length os < length all = omega (arith, ap (λ (l : List Operation). length l) is, length-append os (o ∷ rest)) in
     let here : get_or all (length os) o ≡ o = ap (λ (l : List Operation). get_or l (length os) o) (sym is) ∙ get_or-append_seam os o rest o in
-    subst (IsBased base) here (h (length os) o below)
+    subst P here (h (length os) o below)
 
 pub all_shorter : (base shorter : List Text) (os : List Operation) → All (IsBased base) os → BeginsWith base shorter → All (IsBased shorter) os
 all_shorter base shorter os all begins = λ i d b. based_shorter base shorter (get_or os i d) (all i d b) begins

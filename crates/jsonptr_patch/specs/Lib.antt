@@ -5,6 +5,7 @@ pub mod Adding
 pub mod Testing
 pub mod Operating
 pub mod Patching
+pub mod Order
 pub mod PrivateAdding
 pub mod PrivateTesting
 pub mod PrivateBase

@@ -3,7 +3,7 @@ ghost use Rattle.std.specs.Prelude.{◌≡◌, ◌∷◌, [], ◌++◌, ℕ, ◌
 ghost use Rattle.serde_json.specs.View.{view};
 ghost use Rattle.jsonptr.specs.Fault.{IfRefused};
 ghost use Rattle.jsonptr.specs.Node.{Path, NodeMap, Names, an_array, an_object};
-ghost use Rattle.jsonptr.specs.Json.{nodes};
+ghost use Rattle.jsonptr.specs.Json.{nodes, KeysAscend};
 ghost use Rattle.jsonptr.specs.Pointer.{tokens};
 ghost use Rattle.jsonptr.specs.Text.{Text};
 ghost use Rattle.jsonptr.specs.Resolve.{Refuses};
@@ -96,6 +96,8 @@ fn add_element(
     ensures added { IfOk result (λ _.
         AddsBelow (nodes (view doc.old)) (tokens parent.entry ++ last.now ∷ [])
         (nodes (view value)) (nodes (view doc.new))) }
+    ensures order { IfOk result (λ _.
+        KeysAscend (view value) → KeysAscend (view doc.old) → KeysAscend (view doc.new)) }
     ensures refused { IfRefused result
         (RefusesAdd (nodes (view doc.old)) number (tokens parent.entry ++ last.now ∷ [])) }
 {
@@ -130,8 +132,10 @@ fn add_member(
     requires object { (w : Path) × Names (nodes (view doc.old)) (tokens parent) w
         × (nodes (view doc.old) w ≡ Some an_object) }
     requires child { (x : Text) × (tokens path ≡ tokens parent ++ x ∷ []) }
-    ensures { IfOk result (λ _. AddsBelow (nodes (view doc.old)) (tokens path.entry)
+    ensures added { IfOk result (λ _. AddsBelow (nodes (view doc.old)) (tokens path.entry)
         (nodes (view value)) (nodes (view doc.new))) }
+    ensures order { IfOk result (λ _.
+        KeysAscend (view value) → KeysAscend (view doc.old) → KeysAscend (view doc.new)) }
 {
     match path.assign(alloc, doc, value) {
         Ok(_) => Ok(()),
@@ -155,6 +159,8 @@ pub fn add(
 ) -> Result<(), Fault<PatchError>>
     ensures added { IfOk result (λ _. Adds (nodes (view doc.old)) (tokens path.entry)
         (nodes (view value)) (nodes (view doc.new))) }
+    ensures order { IfOk result (λ _.
+        KeysAscend (view value) → KeysAscend (view doc.old) → KeysAscend (view doc.new)) }
     ensures refused { IfRefused result
         (RefusesAdd (nodes (view doc.old)) number (tokens path.entry)) }
 {

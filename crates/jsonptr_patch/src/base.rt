@@ -2,7 +2,7 @@
 //! common, as far as it names a node of the document.
 ghost use Rattle.std.specs.Prelude.{◌≡◌, ℕ, ◌+◌, ◌<◌, ◌^◌, ◌++◌, length, All, IfOk, OnErr};
 ghost use Rattle.serde_json.specs.View.{view};
-ghost use Rattle.jsonptr.specs.Json.{nodes};
+ghost use Rattle.jsonptr.specs.Json.{nodes, KeysAscend};
 ghost use Rattle.jsonptr.specs.Following.{Finds};
 ghost use Rattle.jsonptr.specs.Node.{Path, Names};
 ghost use Rattle.jsonptr.specs.Parts.{BeginsWith};
@@ -95,8 +95,9 @@ pub fn standing(alloc: Global, doc: &Value, base: Pointer<'_>) -> Result<Pointer
 /// [`AllocError`] where a request for memory is refused.
 pub fn node_at(alloc: Global, doc: &Value, ptr: Pointer<'_>) -> Result<Value, AllocError>
     requires { (w : Path) × Names (nodes (view doc.now)) (tokens ptr) w }
-    ensures { IfOk result (λ node. Finds (nodes (view doc.now)) (tokens ptr.entry)
+    ensures found { IfOk result (λ node. Finds (nodes (view doc.now)) (tokens ptr.entry)
         (nodes (view node))) }
+    ensures order { IfOk result (λ node. KeysAscend (view doc.now) → KeysAscend (view node)) }
 {
     match ptr.resolve(alloc, doc) {
         Ok(node) => Ok(node.clone()?),
@@ -119,6 +120,8 @@ pub fn put_at(
     requires { (w : Path) × Names (nodes (view doc.old)) (tokens ptr) w }
     ensures written { IfOk result (λ _. PutsAt (nodes (view doc.old)) (tokens ptr.entry)
         (nodes (view value)) (nodes (view doc.new))) }
+    ensures order { IfOk result (λ _.
+        KeysAscend (view value) → KeysAscend (view doc.old) → KeysAscend (view doc.new)) }
     ensures unchanged { OnErr result (view doc.new ≡ view doc.old) }
 {
     match put(doc, alloc, ptr, value) {

@@ -10,10 +10,13 @@ use serde_json::Value;
 use std::alloc::{AllocError, Global};
 use std::mem;
 
-/// A value that may be an array. Contracts see it as its map.
+/// A value that may be an array. Contracts see it as its map, and by `in_order` that the keys of each object ascend.
 pub trait Elements: Sized + Drop {
     // the map of the value
     ghost nodes: { Self → NodeMap };
+
+    // in each object of the value the keys ascend
+    ghost in_order: { Self → Type 0 };
 
     /// Puts an element in at a place of the array, or behind its last element.
     ///
@@ -22,14 +25,20 @@ pub trait Elements: Sized + Drop {
     /// [`AllocError`] where there is no memory for it. The array is then as it was, and the element is dropped.
     fn insert_element(&mut self, place: usize, element: Self) -> Result<(), AllocError>
         requires { HasRoomAt (nodes self.old) place }
-        ensures { IfOk result (λ _.
-            Inserts (nodes self.old) place (nodes element) (nodes self.new)) };
+        ensures inserted { IfOk result (λ _.
+            Inserts (nodes self.old) place (nodes element) (nodes self.new)) }
+        ensures order { IfOk result (λ _.
+            in_order element → in_order self.old → in_order self.new) };
 }
 
 impl Elements for Value {
+    ghost use Rattle.serde_json.specs.View.{view};
+    ghost use Rattle.jsonptr.specs.Json.{KeysAscend};
     ghost use Rattle.jsonptr_patch.specs.PrivateAdding.{map_of_value};
 
     ghost nodes = { map_of_value };
+
+    ghost in_order = { λ v. KeysAscend (view v) };
 
     fn insert_element(&mut self, place: usize, element: Value) -> Result<(), AllocError> {
         let Value::Array(mut elements) = mem::replace(self, Value::Null) else {
@@ -62,6 +71,7 @@ where
     ensures inserted { IfOk result (λ _. (e f : D.Value)
         × D.finds document.old (tokens array.entry) e
         × Inserts (D.Value.nodes e) place (D.Value.nodes element) (D.Value.nodes f)
+        × (D.Value.in_order element → D.Value.in_order e → D.Value.in_order f)
         × D.writes document.old (tokens array.entry) f document.new) }
     ensures refused { IfRefused result (D.refuses document.old (tokens array.entry)) }
 {

@@ -2,7 +2,7 @@
 ghost use Rattle.std.specs.Prelude.{IfOk};
 ghost use Rattle.serde_json.specs.View.{view};
 ghost use Rattle.jsonptr.specs.Fault.{IfRefused};
-ghost use Rattle.jsonptr.specs.Json.{nodes};
+ghost use Rattle.jsonptr.specs.Json.{nodes, KeysAscend};
 ghost use Rattle.jsonptr.specs.Pointer.{tokens};
 ghost use Rattle.jsonptr_patch.specs.Operating.{Moves, Copies, RefusesMove, RefusesCopy};
 
@@ -28,6 +28,7 @@ pub fn move_value(
 ) -> Result<(), Fault<PatchError>>
     ensures moved { IfOk result (λ _. Moves (nodes (view doc.old)) (tokens from.entry)
         (tokens path.entry) (nodes (view doc.new))) }
+    ensures order { IfOk result (λ _. KeysAscend (view doc.old) → KeysAscend (view doc.new)) }
     ensures refused { IfRefused result (RefusesMove (nodes (view doc.old)) number
         (tokens from.entry) (tokens path.entry)) }
 {
@@ -53,6 +54,7 @@ pub fn copy_value(
 ) -> Result<(), Fault<PatchError>>
     ensures copied { IfOk result (λ _. Copies (nodes (view doc.old)) (tokens from.entry)
         (tokens path.entry) (nodes (view doc.new))) }
+    ensures order { IfOk result (λ _. KeysAscend (view doc.old) → KeysAscend (view doc.new)) }
     ensures refused { IfRefused result (RefusesCopy (nodes (view doc.old)) number
         (tokens from.entry) (tokens path.entry)) }
 {

@@ -2,8 +2,9 @@
 ghost use Rattle.std.specs.Prelude.{◌≡◌, All, IfOk, OnErr};
 ghost use Rattle.serde_json.specs.View.{view};
 ghost use Rattle.jsonptr.specs.Fault.{IfRefused};
-ghost use Rattle.jsonptr.specs.Json.{nodes};
+ghost use Rattle.jsonptr.specs.Json.{nodes, KeysAscend};
 ghost use Rattle.jsonptr.specs.Pointer.{tokens};
+ghost use Rattle.jsonptr_patch.specs.Order.{IsInOrder};
 ghost use Rattle.jsonptr_patch.specs.Patching.{Patches, RefusesPatch};
 ghost use Rattle.jsonptr_patch.specs.PrivateBase.{IsBased, AppliesBelow, RefusesBelow, PatchesBelow, RefusesPatchBelow, RefusesCut};
 
@@ -21,7 +22,8 @@ use std::alloc::Global;
 /// Applies the operations in their order, each to the document that the one before it left (RFC 6902, section 5).
 /// An empty patch changes nothing. The values of the operations are moved into the document, and all else of the
 /// patch is dropped. Memory is taken for a copy of the one node below which all operations work, and for none where
-/// all of them are tests.
+/// all of them are tests. Where in each object of the document and of the values that are moved into it the keys
+/// ascend, they ascend in the document that is made.
 ///
 /// # Errors
 ///
@@ -30,6 +32,8 @@ use std::alloc::Global;
 pub fn apply(alloc: Global, doc: &mut Value, patch: Vec<Operation>) -> Result<(), Fault<PatchError>>
     ensures applied { IfOk result (λ _.
         Patches (nodes (view doc.old)) patch.items (nodes (view doc.new))) }
+    ensures order { IfOk result (λ _. All IsInOrder patch.items
+        → KeysAscend (view doc.old) → KeysAscend (view doc.new)) }
     ensures refused { IfRefused result (RefusesPatch (nodes (view doc.old)) patch.items) }
     ensures unchanged { OnErr result (view doc.new ≡ view doc.old) }
 {
@@ -61,6 +65,8 @@ fn apply_all(
     requires { All (IsBased (tokens base)) patch.items }
     ensures applied { IfOk result (λ _. PatchesBelow (tokens base.entry) (nodes (view copy.old))
         patch.items (nodes (view copy.new))) }
+    ensures order { IfOk result (λ _. All IsInOrder patch.items
+        → KeysAscend (view copy.old) → KeysAscend (view copy.new)) }
     ensures refused { IfRefused result
         (RefusesPatchBelow (tokens base.entry) (nodes (view copy.old)) patch.items) }
 {
@@ -89,6 +95,8 @@ fn apply_one(
     requires { IsBased (tokens base) operation }
     ensures applied { IfOk result (λ _. AppliesBelow (tokens base.entry) (nodes (view copy.old))
         operation (nodes (view copy.new))) }
+    ensures order { IfOk result (λ _. IsInOrder operation
+        → KeysAscend (view copy.old) → KeysAscend (view copy.new)) }
     ensures refused { IfRefused result
         (RefusesBelow (tokens base.entry) (nodes (view copy.old)) number operation) }
 {
@@ -114,6 +122,8 @@ fn apply_cut(
     requires { IsBased (tokens base) operation }
     ensures applied { IfOk result (λ _. AppliesBelow (tokens base.entry) (nodes (view copy.old))
         operation (nodes (view copy.new))) }
+    ensures order { IfOk result (λ _. IsInOrder operation
+        → KeysAscend (view copy.old) → KeysAscend (view copy.new)) }
     ensures refused { IfRefused result
         (RefusesCut (tokens base.entry) (nodes (view copy.old)) number operation) }
 {

@@ -4,7 +4,7 @@ ghost use Rattle.serde_json.specs.View.{view};
 ghost use Rattle.jsonptr.specs.Delete.{NamesNothing};
 ghost use Rattle.jsonptr.specs.Fault.{IfRefused};
 ghost use Rattle.jsonptr.specs.Following.{Finds};
-ghost use Rattle.jsonptr.specs.Json.{nodes};
+ghost use Rattle.jsonptr.specs.Json.{nodes, KeysAscend};
 ghost use Rattle.jsonptr.specs.Node.{NodeMap};
 ghost use Rattle.jsonptr.specs.Pointer.{tokens};
 ghost use Rattle.jsonptr.specs.Resolve.{Refuses, PutsAt};
@@ -55,6 +55,8 @@ pub fn take(
 ) -> Result<Value, Fault<PatchError>>
     ensures taken { IfOk result (λ v. Takes (nodes (view doc.old)) (tokens from.entry)
         (nodes (view v)) (nodes (view doc.new))) }
+    ensures order { IfOk result (λ _. KeysAscend (view doc.old) → KeysAscend (view doc.new)) }
+    ensures taken_in_order { IfOk result (λ v. KeysAscend (view doc.old) → KeysAscend (view v)) }
     ensures refused { IfRefused result
         (RefusesTarget (nodes (view doc.old)) number (tokens from.entry)) }
 {
@@ -77,6 +79,7 @@ pub fn remove(
 ) -> Result<(), Fault<PatchError>>
     ensures removed { IfOk result (λ _. (v : NodeMap)
         × Takes (nodes (view doc.old)) (tokens path.entry) v (nodes (view doc.new))) }
+    ensures order { IfOk result (λ _. KeysAscend (view doc.old) → KeysAscend (view doc.new)) }
     ensures refused { IfRefused result
         (RefusesTarget (nodes (view doc.old)) number (tokens path.entry)) }
 {
@@ -98,6 +101,7 @@ pub fn copy_of(
 ) -> Result<Value, Fault<PatchError>>
     ensures found { IfOk result (λ v. Finds (nodes (view doc.now)) (tokens from.entry)
         (nodes (view v))) }
+    ensures order { IfOk result (λ v. KeysAscend (view doc.now) → KeysAscend (view v)) }
     ensures refused { IfRefused result
         (RefusesTarget (nodes (view doc.now)) number (tokens from.entry)) }
 {
@@ -143,6 +147,8 @@ pub fn replace(
 ) -> Result<(), Fault<PatchError>>
     ensures replaced { IfOk result (λ _. PutsAt (nodes (view doc.old)) (tokens path.entry)
         (nodes (view value)) (nodes (view doc.new))) }
+    ensures order { IfOk result (λ _.
+        KeysAscend (view value) → KeysAscend (view doc.old) → KeysAscend (view doc.new)) }
     ensures refused { IfRefused result
         (RefusesTarget (nodes (view doc.old)) number (tokens path.entry)) }
 {

@@ -3,11 +3,12 @@ ghost use Rattle.std.specs.Prelude.{◌≡◌, IfOk, IfSome, OnErr, MatchOption}
 ghost use Rattle.serde_json.specs.Data.{null};
 ghost use Rattle.serde_json.specs.View.{view};
 ghost use Rattle.jsonptr.specs.Delete.{NamesNothing};
-ghost use Rattle.jsonptr.specs.Json.{nodes};
+ghost use Rattle.jsonptr.specs.Json.{nodes, KeysAscend};
 ghost use Rattle.jsonptr.specs.Node.{NodeMap};
 ghost use Rattle.jsonptr.specs.Pointer.{tokens};
 ghost use Rattle.jsonptr.specs.Removing.{Deletes};
 ghost use Rattle.jsonptr_patch.specs.Operating.{Applies, RestoresAt};
+ghost use Rattle.jsonptr_patch.specs.Order.{IsInOrder};
 
 use crate::operation::Operation;
 use jsonptr::Pointer;
@@ -16,7 +17,8 @@ use std::alloc::{AllocError, Global};
 
 /// Takes the value that the pointer names out of a document, as [`Pointer::delete`] does, and answers the
 /// [`Operation::Add`] that puts it back; `None` where the pointer names no value, and then the document stays as it
-/// was. The operation owns its pointer, which is made before the document changes, and the value.
+/// was. The operation owns its pointer, which is made before the document changes, and the value. Where in each object
+/// of the document the keys ascend, they ascend in what is left of it and in that value.
 ///
 /// # Errors
 ///
@@ -33,6 +35,9 @@ pub fn delete_with_undo(
         (RestoresAt (nodes (view doc.old)) (tokens ptr.entry))) }
     ensures restores { IfOk result (λ undo. IfSome undo (λ operation.
         Applies (nodes (view doc.new)) operation (nodes (view doc.old)))) }
+    ensures order { IfOk result (λ _. KeysAscend (view doc.old) → KeysAscend (view doc.new)) }
+    ensures undo_in_order { IfOk result (λ undo. IfSome undo (λ operation.
+        KeysAscend (view doc.old) → IsInOrder operation)) }
     ensures unchanged { OnErr result (view doc.new ≡ view doc.old) }
 {
     let path = ptr.to_buf(alloc)?;

@@ -1,4 +1,4 @@
-use Rattle.jsonptr_patch.proofs.AddingLemmas.{room_there, named_refused, element_added}
+use Rattle.jsonptr_patch.proofs.AddingLemmas.{room_there, named_refused, element_added, found_ascends}
 use Rattle.jsonptr_patch.proofs.adding.add_element.Goals as goal
 
 pub insert_at-requires : goal.insert_at-requires
@@ -12,4 +12,9 @@ unreachable-requires c =
 pub returns-in-Ok-insert_at-clause-added : goal.returns-in-Ok-insert_at-clause-added
 returns-in-Ok-insert_at-clause-added c =
     let made = c.in-Ok-insert_at.ensures.inserted in
-    element_added _ _ _ _ c.requires.0 _ _ _ _ _ c.requires.1 c.requires.2 c.in-Ok.ensures.place made.2 made.3 made.4.0
+    element_added _ _ _ _ c.requires.0 _ _ _ _ _ c.requires.1 c.requires.2 c.in-Ok.ensures.place made.2 made.3 made.5.0
+
+pub returns-in-Ok-insert_at-clause-order : goal.returns-in-Ok-insert_at-clause-order
+returns-in-Ok-insert_at-clause-order c = λ h a.
+    let made = c.in-Ok-insert_at.ensures.inserted in
+    made.5.1 (made.4 h (found_ascends _ _ _ made.2 a)) a

@@ -8,8 +8,8 @@ unreachable-requires c =
     let refused = rw c.in-Err-Refused.field-0-is at c.in-Err-Refused.ensures.refused in
     member_not_refused _ _ _ c.requires.child.0 object.0 c.in-Err-Refused.field-0-0 c.requires.child.1 object.1 object.2 refused
 
-pub returns : goal.returns
-returns c = elim c.match-assign.branch [
+pub returns-clause-added : goal.returns-clause-added
+returns-clause-added c = elim c.match-assign.branch [
   | in-Ok w ↦
       let object = c.requires.object in
       rw w.result-is (member_added _ _ _ c.requires.child.0 object.0 _ _ _ c.requires.child.1 object.1 object.2 w.in-Ok.ensures.assigned.assigned)

@@ -10,4 +10,4 @@ pub apply_all-requires : goal.apply_all-requires
 apply_all-requires c = subst (λ (ts : List Text). All (IsBased ts) c.args.patch.items) (sym c.as_ptr-2.ensures.tokens) (all_shorter (tokens c.narrow_all.result) c.in_ok-base.base c.args.patch.items c.narrow_all.ensures c.in_ok-base.ensures.front)
 
 pub returns-clause-applied : goal.returns-clause-applied
-returns-clause-applied c = patches_at _ _ _ _ c.in_ok-base.base _ _ _ _ c.as_ptr.ensures.tokens c.as_ptr-2.ensures.tokens c.as_ptr-3.ensures.tokens c.in_ok-copy.ensures c.in_ok-apply_all.ensures.applied c.in_ok-put_at.ensures.written
+returns-clause-applied c = patches_at _ _ _ _ c.in_ok-base.base _ _ _ _ c.as_ptr.ensures.tokens c.as_ptr-2.ensures.tokens c.as_ptr-3.ensures.tokens c.in_ok-copy.ensures.found c.in_ok-apply_all.ensures.applied c.in_ok-put_at.ensures.written

@@ -1,4 +1,5 @@
 use Rattle.jsonptr_tree.proofs.JsonLemmas.{FindsValue-Finds}
+use Rattle.jsonptr_patch.proofs.AddingLemmas.{found_ascends}
 use Rattle.jsonptr_patch.proofs.RestoringLemmas.{restored_at}
 use Rattle.jsonptr_patch.proofs.undoing.delete_with_undo.Goals as goal
 
@@ -11,3 +12,8 @@ pub returns-in-Some-clause-restores : goal.returns-in-Some-clause-restores
 returns-in-Some-clause-restores c =
     let found = rw c.in-Some.is at c.in_ok-value.ensures.found in
     restored_at _ _ _ _ _ c.in_ok-path.ensures found c.in_ok-value.ensures.deleted
+
+pub returns-in-Some-clause-undo_in_order : goal.returns-in-Some-clause-undo_in_order
+returns-in-Some-clause-undo_in_order c =
+    let found = rw c.in-Some.is at c.in_ok-value.ensures.found in
+    found_ascends _ _ _ found
