@@ -13,10 +13,14 @@ from rows import SECTION_5, VECTORS
 PROGRAM = f"{TOP}/crates/jsonptr_run/out/jsonptr_run"
 SECONDS = 60
 USAGE = (
-    "usage: jsonptr_run resolve POINTER, delete POINTER, tokens POINTER, assign POINTER VALUE, split POINTER POSITION"
+    "usage: jsonptr_run resolve POINTER, delete POINTER, tokens POINTER, assign POINTER VALUE, split POINTER POSITION, "
+    "patch OPERATIONS"
 )
 TOO_FEW = "split failed: position {} is above the token count {}"
 NOT_THERE = "delete failed: json pointer does not resolve"
+FAILED = "patch failed at operation {}: {}"
+IN_ITSELF = "from is a proper prefix of path"
+NO_FLOATS = "a float cannot be tested"
 NO_VALUE = "VALUE is not JSON"
 NO_INPUT = "input is not JSON"
 NO_MEMORY = "out of memory"
@@ -84,6 +88,37 @@ def written():
     yield fails(1, NOT_THERE, "delete", "/-", input="[1]")
 
 
+def patched():
+    """Of `patch`: the examples of RFC 6902, appendix A, that words can have, and others."""
+    two, waldo = '{"baz":"qux","foo":"bar"}', '{"foo":{"bar":"baz","waldo":"fred"},"qux":{"corge":"grault"}}'
+    tested, tildes = '{"baz":"qux","foo":["a",2,"c"]}', '{"/":9,"~1":10}'
+    yield done("patch", "add", "/baz", '"qux"', input='{"foo":"bar"}', line=two)
+    yield done("patch", "add", "/foo/1", '"qux"', input='{"foo":["bar","baz"]}', line='{"foo":["bar","qux","baz"]}')
+    yield done("patch", "remove", "/baz", input=two, line='{"foo":"bar"}')
+    yield done("patch", "remove", "/foo/1", input='{"foo":["bar","qux","baz"]}', line='{"foo":["bar","baz"]}')
+    yield done("patch", "replace", "/baz", '"boo"', input=two, line='{"baz":"boo","foo":"bar"}')
+    moved = '{"foo":{"bar":"baz"},"qux":{"corge":"grault","thud":"fred"}}'
+    yield done("patch", "move", "/foo/waldo", "/qux/thud", input=waldo, line=moved)
+    cows, grass = '{"foo":["all","grass","cows","eat"]}', '{"foo":["all","cows","eat","grass"]}'
+    yield done("patch", "move", "/foo/1", "/foo/3", input=cows, line=grass)
+    yield done("patch", "test", "/baz", '"qux"', "test", "/foo/1", "2", input=tested, line=tested)
+    yield fails(1, FAILED.format(0, "test failed"), "patch", "test", "/baz", '"bar"', input='{"baz":"qux"}')
+    child = '{"child":{"grandchild":{}},"foo":"bar"}'
+    yield done("patch", "add", "/child", '{"grandchild":{}}', input='{"foo":"bar"}', line=child)
+    no_target = FAILED.format(0, NOT_FOUND.format(0))
+    yield fails(1, no_target, "patch", "add", "/baz/bat", '"qux"', input='{"foo":"bar"}')
+    yield done("patch", "test", "/~01", "10", input=tildes, line=tildes)
+    yield fails(1, FAILED.format(0, "test failed"), "patch", "test", "/~01", '"10"', input=tildes)
+    line = '{"foo":["bar",["abc","def"]]}'
+    yield done("patch", "add", "/foo/-", '["abc","def"]', input='{"foo":["bar"]}', line=line)
+    yield done("patch", input='{"a":[1]}', line='{"a":[1]}')
+    yield done("patch", "add", "/a/0", "0", "remove", "/a/1", input='{"a":[1]}', line='{"a":[0]}')
+    yield done("patch", "copy", "/a", "/b", input='{"a":[1]}', line='{"a":[1],"b":[1]}')
+    yield fails(1, FAILED.format(1, "test failed"), "patch", "add", "/b", "1", "test", "/b", "2", input='{"a":[1]}')
+    yield fails(1, FAILED.format(0, IN_ITSELF), "patch", "move", "/a", "/a/b", input='{"a":1}')
+    yield fails(1, FAILED.format(0, NO_FLOATS), "patch", "test", "/a", "1.5", input='{"a":1}')
+
+
 def refused():
     """Of words, pointers, values and inputs that are refused."""
     wrong = [(), ("resolve",), ("tokens",), ("delete",), ("assign", "/a"), ("find", "/a"), ("",), ("Resolve", "/a")]
@@ -98,15 +133,22 @@ def refused():
         ("split", "foo", "01"),
         ("split", "/a", "18446744073709551616"),
         ("split", "/a", "1", "2"),
+        ("patch", "add", "/b"),
+        ("patch", "remove", "/b", "1"),
+        ("patch", "remove", "b", "add", "c"),
+        ("patch", "delete", "/b"),
     ]
     for words in [*wrong, *more, ("resolve", "/\udcff"), ("\udcff", "/a")]:
         yield fails(2, USAGE, *words, input="{}")
     for words in [("resolve", "foo"), ("tokens", "foo"), ("delete", "foo"), ("assign", "foo", "x"), ("split", "foo", "1")]:
         yield fails(1, NO_SLASH, *words, input="{")
         yield fails(1, MALFORMED.format(2), words[0], "/a/~2", *words[2:], input="{")
+    yield fails(1, NO_SLASH, "patch", "add", "/b", "x", "remove", "c", input="{")
+    yield fails(1, MALFORMED.format(2), "patch", "move", "/a/~2", "c", input="{")
     for value in ["x", "", "1 2", nested(128)]:
         yield fails(3, NO_VALUE, "assign", "/a", value, input="{")
-    for words in [("resolve", "/a~1b"), ("delete", "/a~1b"), ("assign", "/a~1b", "2")]:
+        yield fails(3, NO_VALUE, "patch", "remove", "/a", "add", "/a", value, input="{")
+    for words in [("resolve", "/a~1b"), ("delete", "/a~1b"), ("assign", "/a~1b", "2"), ("patch",)]:
         text = '{"a/b":1}'
         for end in range(len(text)):
             yield fails(3, NO_INPUT, *words, input=text[:end])
@@ -156,7 +198,7 @@ def check(case):
     same(case, ran(words, input=bytes_of(case.input), capture_output=True))
 
 
-READING = [("resolve", "/a"), ("delete", "/a"), ("assign", "/a", "1")]
+READING = [("resolve", "/a"), ("delete", "/a"), ("assign", "/a", "1"), ("patch", "add", "/a", "1")]
 NOT_READING = [("tokens", "/a"), ("split", "/a", "1")]
 
 
@@ -217,16 +259,19 @@ def check_memory(case, preload):
 
 def small():
     """The cases that are run with memory refused: each command, done and refused."""
-    for table in [found, written]:
+    for table in [found, written, patched]:
         yield from table()
     yield fails(2, USAGE)
     yield fails(1, NO_SLASH, "resolve", "foo")
     yield fails(3, NO_VALUE, "assign", "/a", "x")
+    yield fails(3, NO_VALUE, "patch", "add", "/a", "1", "add", "/a", "x")
+    yield fails(1, NO_SLASH, "patch", "add", "/a", "1", "add", "a", "1")
+    yield fails(2, USAGE, "patch", "add", "/a", "1", "add", "/a")
     yield fails(3, NO_INPUT, "resolve", "/a", input='{"a":[1,2')
 
 
 def main():
-    cases = [case for table in [found, written, refused, large] for case in table()]
+    cases = [case for table in [found, written, patched, refused, large] for case in table()]
     with tempfile.TemporaryDirectory() as folder, ThreadPoolExecutor(os.cpu_count()) as pool:
         preload = shim(folder)
         streams = pool.submit(check_streams)

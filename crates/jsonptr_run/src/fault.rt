@@ -1,13 +1,14 @@
 //! Why the program ends other than well.
 ghost use Rattle.std.specs.Prelude.{◌≡◌, MatchResult};
 ghost use Rattle.std.specs.Process.{exit_status};
-ghost use Rattle.jsonptr_run.specs.Private.{of_assign_fault, of_input_fault, of_resolve_fault};
+ghost use Rattle.jsonptr_run.specs.Private.{of_assign_fault, of_input_fault, of_patch_fault, of_resolve_fault};
 ghost use Rattle.jsonptr_run.specs.Run.{status_of};
 ghost use Rattle.jsonptr_run.specs.declared.fault.RunFault.TheVariants.{BadPointer, Memory, Write};
 
 use crate::input::InputFault;
 use crate::output::WriteFailed;
 use jsonptr::{Fault, ParseError, assign, resolve};
+use jsonptr_patch::PatchError;
 use std::alloc::AllocError;
 use std::process::ExitCode;
 use thiserror::Error;
@@ -15,13 +16,13 @@ use thiserror::Error;
 /// Why the program ends other than well. Its text is the line on standard error.
 #[derive(Debug, Drop, Error)]
 pub enum RunFault {
-    /// An unknown command, a wrong number of words, or a position to split at that is no number.
-    #[error("usage: jsonptr_run resolve POINTER, delete POINTER, tokens POINTER, assign POINTER VALUE, split POINTER POSITION")]
+    /// An unknown command or operation, a wrong number of words, or a position to split at that is no number.
+    #[error("usage: jsonptr_run resolve POINTER, delete POINTER, tokens POINTER, assign POINTER VALUE, split POINTER POSITION, patch OPERATIONS")]
     Usage,
-    /// The pointer's text is no JSON Pointer.
+    /// A pointer's text is no JSON Pointer.
     #[error(transparent)]
     BadPointer(ParseError),
-    /// The text of the value to assign is no JSON text.
+    /// The text of a value is no JSON text.
     #[error("VALUE is not JSON")]
     ValueNotJson,
     /// The pointer names no value of the input.
@@ -41,6 +42,9 @@ pub enum RunFault {
         /// How many tokens the pointer has.
         count: usize,
     },
+    /// An operation of the patch cannot be applied.
+    #[error(transparent)]
+    BadPatch(PatchError),
     /// The input is no JSON text, or is not UTF-8.
     #[error("input is not JSON")]
     InputNotJson,
@@ -65,7 +69,8 @@ impl RunFault {
             | RunFault::NoValue(_)
             | RunFault::BadPlace(_)
             | RunFault::NotThere
-            | RunFault::BadSplit { .. } => 1,
+            | RunFault::BadSplit { .. }
+            | RunFault::BadPatch(_) => 1,
             RunFault::Usage => 2,
             RunFault::ValueNotJson | RunFault::InputNotJson => 3,
             RunFault::Memory(_) => 4,
@@ -119,6 +124,17 @@ impl From<Fault<assign::Error>> for RunFault {
     fn from(error: Fault<assign::Error>) -> RunFault {
         match error {
             Fault::Refused(error) => RunFault::BadPlace(error),
+            Fault::Memory(error) => RunFault::Memory(error),
+        }
+    }
+}
+
+impl From<Fault<PatchError>> for RunFault {
+    ghost from_gives = { λ error fault. fault ≡ of_patch_fault error };
+
+    fn from(error: Fault<PatchError>) -> RunFault {
+        match error {
+            Fault::Refused(error) => RunFault::BadPatch(error),
             Fault::Memory(error) => RunFault::Memory(error),
         }
     }

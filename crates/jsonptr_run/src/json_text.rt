@@ -5,7 +5,7 @@ ghost use Rattle.serde_json.specs.Read.{max_depth};
 ghost use Rattle.serde_json.specs.View.{view};
 ghost use Rattle.jsonptr_run.specs.JsonText.{json_of, IsJsonLine};
 ghost use Rattle.jsonptr_run.specs.Streams.{ForBytes};
-ghost use Rattle.jsonptr_run.specs.Private.{IsInputFault};
+ghost use Rattle.jsonptr_run.specs.Private.{IsInputFault, RefusesValue};
 
 use crate::fault::RunFault;
 use crate::input::read_all;
@@ -29,6 +29,18 @@ pub fn read_json(alloc: Global, bytes: &[u8]) -> Result<Option<Value>, AllocErro
         Err(e) if e.is_memory() => Err(AllocError),
         Err(_) => Ok(None),
     }
+}
+
+/// The value that the text of a word is.
+///
+/// # Errors
+///
+/// [`RunFault::ValueNotJson`] where it is no JSON text, and [`RunFault::Memory`] where memory is refused.
+pub fn read_value(alloc: Global, text: &str) -> Result<Value, RunFault>
+    ensures ok { IfOk result (λ v. json_of text.now ≡ Some (view v)) }
+    ensures err { IfErr result (RefusesValue text.now) }
+{
+    read_json(alloc, text.as_bytes())?.ok_or(RunFault::ValueNotJson)
 }
 
 /// The document that the reader's bytes are, all of them, as one JSON text.

@@ -13,6 +13,7 @@ mod fakes;
 mod fault;
 mod input;
 mod json_text;
+mod operations;
 mod output;
 mod run;
 #[cfg(test)]

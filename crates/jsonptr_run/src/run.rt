@@ -12,18 +12,22 @@ ghost use Rattle.jsonptr_run.specs.JsonText.{json_of, IsJsonLine};
 ghost use Rattle.jsonptr_run.specs.Streams.{AppendsFront, ForBytes};
 ghost use Rattle.jsonptr_run.specs.declared.fault.RunFault.{RunFault};
 ghost use Rattle.jsonptr_run.specs.declared.fault.RunFault.TheVariants as fault;
-ghost use Rattle.jsonptr_run.specs.Private.{request_of, IsFaultOf, IsLineOf, RefusesPosition, RefusesValue};
+ghost use Rattle.jsonptr_run.specs.Private.{request_of, IsFaultOf, IsLineOf, RefusesCommand, RefusesPosition};
+ghost use Rattle.jsonptr_run.specs.Operations.{meant};
 ghost use Rattle.jsonptr_run.specs.Run as specs;
-ghost use Rattle.jsonptr_run.specs.Run.{AskFor, resolving, listing, assigning, deleting, splitting, Asks, AssignsAt, DeletesAt, ForLine, Gives, IsRefusedSo, IsRequestFault, IsValueMemory, NeedNoInput, NeedsInput, Resolves, SplitsAt, texts_value};
+ghost use Rattle.jsonptr_run.specs.Run.{AskFor, resolving, listing, assigning, deleting, splitting, patching, Asks, AssignsAt, DeletesAt, ForLine, Gives, IsRefusedSo, IsRequestFault, IsWordsMemory, NeedNoInput, NeedsInput, PatchesBy, Resolves, SplitsAt, texts_value};
 
 use crate::fault::RunFault;
-use crate::json_text::{json_line, read_json, read_json_input};
+use crate::json_text::{json_line, read_json_input, read_value};
+use crate::operations::read_operations;
 use crate::output::write_line;
 use jsonptr::Pointer;
 use jsonptr::index::Index;
 use jsonptr::laws::parse_law;
 use jsonptr_laws::assigning::assign_law;
 use jsonptr_laws::resolving::resolve_law;
+use jsonptr_patch::{Operation, apply};
+use jsonptr_patch_laws::patching::patch_law;
 use jsonptr_tree::json::{json_law, json_map_law};
 use jsonptr_tree::writing::deleting_law;
 use serde_json::Value;
@@ -46,12 +50,15 @@ pub enum Request<'w> {
     Delete(Pointer<'w>),
     /// To split the pointer at the position, in tokens.
     Split(Pointer<'w>, usize),
+    /// To apply the operations in their order.
+    Patch(Vec<Operation>),
 }
 
 /// Answers the words, which are those after the program's own name, with one line, or with a fault. The
-/// words come first, and with them the position to split at, then the pointer, the value to assign, the input
-/// to its end as one JSON text, the operation, the line. The line is of the value that the pointer names, of
-/// its tokens, of its text in two, or of the document as an assignment or a deletion leaves it.
+/// words come first, and with them the position to split at, then all pointers from left to right, then all
+/// values, the input to its end as one JSON text, the operation, the line. The line is of the value that the
+/// pointer names, of its tokens, of its text in two, or of the document as an assignment, a deletion or a patch
+/// leaves it.
 ///
 /// # Errors
 ///
@@ -130,13 +137,27 @@ pub fn run_law()
     deleting_law();
     json_law();
     json_map_law();
+    patch_law();
 }
 
 /// What the words ask for.
 fn read_request(alloc: Global, words: &[String]) -> Result<Request<'_>, RunFault>
     ensures ok { IfOk result (λ r. Asks (map string_bytes words.now) (Ok (request_of r))) }
     ensures err { IfErr result (λ e. Asks (map string_bytes words.now) (Err e)
-        ⊎ IsValueMemory (map string_bytes words.now) e) }
+        ⊎ IsWordsMemory (map string_bytes words.now) e) }
+{
+    match words {
+        [command, operations @ ..] if command.as_str() == "patch" => {
+            Ok(Request::Patch(read_operations(alloc, operations)?))
+        }
+        _ => read_command(alloc, words),
+    }
+}
+
+/// The same where the command is another than `patch`, and takes one pointer.
+fn read_command(alloc: Global, words: &[String]) -> Result<Request<'_>, RunFault>
+    ensures ok { IfOk result (λ r. AskFor (map string_bytes words.now) (request_of r)) }
+    ensures err { IfErr result (RefusesCommand (map string_bytes words.now)) }
 {
     match words {
         [command, pointer] if command.as_str() == "resolve" => {
@@ -150,7 +171,7 @@ fn read_request(alloc: Global, words: &[String]) -> Result<Request<'_>, RunFault
         }
         [command, pointer, value] if command.as_str() == "assign" => {
             let pointer = Pointer::parse(pointer.as_str())?;
-            Ok(Request::Assign(pointer, read_value(alloc, value)?))
+            Ok(Request::Assign(pointer, read_value(alloc, value.as_str())?))
         }
         [command, pointer, position] if command.as_str() == "split" => {
             let position = read_position(position)?;
@@ -158,14 +179,6 @@ fn read_request(alloc: Global, words: &[String]) -> Result<Request<'_>, RunFault
         }
         _ => Err(RunFault::Usage),
     }
-}
-
-/// The value to assign, whose JSON text the word is.
-fn read_value(alloc: Global, word: &String) -> Result<Value, RunFault>
-    ensures ok { IfOk result (λ v. json_of (string_bytes word.now) ≡ Some (view v)) }
-    ensures err { IfErr result (RefusesValue (string_bytes word.now)) }
-{
-    read_json(alloc, word.as_bytes())?.ok_or(RunFault::ValueNotJson)
 }
 
 /// The position to split at, whose decimal text the word is.
@@ -194,6 +207,7 @@ fn answer<R: Read>(alloc: Global, request: Request<'_>, input: &mut R) -> Result
         Request::Assign(pointer, value) => assigned_line(alloc, pointer, value, input),
         Request::Delete(pointer) => deleted_line(alloc, pointer, input),
         Request::Split(pointer, position) => split_line(alloc, pointer, position),
+        Request::Patch(patch) => patched_line(alloc, patch, input),
     }
 }
 
@@ -284,6 +298,32 @@ fn line_without(
     if pointer.delete(alloc, &mut document)?.is_none() {
         return Err(RunFault::NotThere);
     }
+    Ok(json_line(alloc, &document)?)
+}
+
+/// The line of the input after the patch.
+fn patched_line<R: Read>(
+    alloc: Global,
+    patch: Vec<Operation>,
+    input: &mut R,
+) -> Result<String, RunFault>
+    ensures ok { IfOk result (λ line. ForBytes (R.remaining input.old)
+        (λ bytes. IsLineOf (Gives (patching (map meant patch.items)) bytes) (string_bytes line))) }
+    ensures err { IfErr result
+        (IsRequestFault (patching (map meant patch.items)) (R.remaining input.old)) }
+{
+    let document = read_json_input(alloc, input)?;
+    line_after(alloc, document, patch)
+}
+
+/// The line of the document after the patch.
+fn line_after(alloc: Global, mut document: Value, patch: Vec<Operation>) -> Result<String, RunFault>
+    ensures ok { IfOk result (λ line.
+        IsLineOf (PatchesBy (view document) (map meant patch.items)) (string_bytes line)) }
+    ensures err { IfErr result
+        (IsFaultOf (PatchesBy (view document) (map meant patch.items))) }
+{
+    apply(alloc, &mut document, patch)?;
     Ok(json_line(alloc, &document)?)
 }
 

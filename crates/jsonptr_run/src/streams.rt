@@ -3,6 +3,7 @@ use crate::fakes::{FailingText, ScriptedReader, ScriptedWriter, Step};
 use crate::fault::RunFault;
 use crate::run::run_program;
 use jsonptr::{ParseError, resolve};
+use jsonptr_patch::PatchError;
 use std::alloc::{AllocError, Global};
 use std::fmt::Write;
 
@@ -13,10 +14,12 @@ const LINE: &[u8] = b"{\"a/b\":1}\n";
 const ALL: &[Step] = &[];
 
 /// The commands that read, and what each writes for `TEXT`.
-const READING: [(&[&str], &[u8]); 3] = [
+const READING: [(&[&str], &[u8]); 5] = [
     (&["resolve", ""], LINE),
     (&["delete", "/a~1b"], b"{}\n"),
     (&["assign", "/a~1b", "2"], b"{\"a/b\":2}\n"),
+    (&["patch"], LINE),
+    (&["patch", "move", "/a~1b", "/c"], b"{\"c\":1}\n"),
 ];
 
 /// What a run left: its status, what was written, the flushes, and how many steps the scripts had left.
@@ -200,6 +203,7 @@ fn faults_are_told_no_further_than_they_can(rt: HostRuntime) {
         RunFault::BadPointer(ParseError::NoLeadingSlash),
         RunFault::NoValue(not_found),
         RunFault::NotThere,
+        RunFault::BadPatch(PatchError::TestFailed { operation: 1 }),
         RunFault::Memory(AllocError),
     ] {
         for calls in 0..10 {

@@ -4,6 +4,7 @@ use crate::fault::RunFault;
 use crate::input::{InputFault, read_all};
 use crate::json_text::{json_line, read_json, read_json_input};
 use crate::output::{WriteFailed, write_line};
+use jsonptr_patch::PatchError;
 use std::alloc::AllocError;
 
 const TEXT: &[u8] = b"{\"a\":1}";
@@ -179,7 +180,7 @@ fn reads_a_document(rt: HostRuntime) {
 #[test]
 fn tells_faults(rt: HostRuntime) -> Result<(), AllocError> {
     let usage =
-        "usage: jsonptr_run resolve POINTER, delete POINTER, tokens POINTER, assign POINTER VALUE, split POINTER POSITION";
+        "usage: jsonptr_run resolve POINTER, delete POINTER, tokens POINTER, assign POINTER VALUE, split POINTER POSITION, patch OPERATIONS";
     for (fault, text) in [
         (RunFault::Usage, usage),
         (RunFault::ValueNotJson, "VALUE is not JSON"),
@@ -193,6 +194,10 @@ fn tells_faults(rt: HostRuntime) -> Result<(), AllocError> {
                 count: 2,
             },
             "split failed: position 3 is above the token count 2",
+        ),
+        (
+            RunFault::BadPatch(PatchError::TestFailed { operation: 1 }),
+            "patch failed at operation 1: test failed",
         ),
         (RunFault::InputNotJson, "input is not JSON"),
         (RunFault::Memory(AllocError), "out of memory"),

@@ -44,6 +44,17 @@ fn run_on(
 
 const ALL: &[Step] = &[];
 
+const USAGE: &str =
+    "usage: jsonptr_run resolve POINTER, delete POINTER, tokens POINTER, assign POINTER VALUE, split POINTER POSITION, patch OPERATIONS";
+
+const NO_SLASH: &str =
+    "json pointer failed to parse; does not start with a slash ('/') and is not empty";
+
+const TILDE: &str =
+    "json pointer failed to parse; the first token in the partial-pointer starting at offset 2 is malformed";
+
+const NO_VALUE: &str = "VALUE is not JSON";
+
 /// Readers and writers that take their time, and fail nowhere.
 const SLOW: [(&[Step], &[Step]); 3] = [
     (ALL, ALL),
@@ -292,46 +303,40 @@ fn refuses_what_cannot_be_assigned_or_deleted(rt: HostRuntime) -> Result<(), All
 
 #[test]
 fn refuses_words_before_it_reads(rt: HostRuntime) -> Result<(), AllocError> {
-    let usage =
-        "usage: jsonptr_run resolve POINTER, delete POINTER, tokens POINTER, assign POINTER VALUE, split POINTER POSITION";
-    let no_slash =
-        "json pointer failed to parse; does not start with a slash ('/') and is not empty";
-    let tilde =
-        "json pointer failed to parse; the first token in the partial-pointer starting at offset 2 is malformed";
-    let no_value = "VALUE is not JSON";
-    let lines: [(&[&str], u8, &str); 32] = [
-        (&[], 2, usage),
-        (&["resolve"], 2, usage),
-        (&["resolve", "/a", "/b"], 2, usage),
-        (&["find", "/a"], 2, usage),
-        (&["Resolve", "/a"], 2, usage),
-        (&["resolve ", "/a"], 2, usage),
-        (&["tokens"], 2, usage),
-        (&["tokens", "/a", "1"], 2, usage),
-        (&["delete"], 2, usage),
-        (&["delete", "/a", "1"], 2, usage),
-        (&["assign", "/a"], 2, usage),
-        (&["assign", "/a", "1", "2"], 2, usage),
-        (&["assigns", "/a", "1"], 2, usage),
-        (&["tokens", "a"], 1, no_slash),
-        (&["delete", "a"], 1, no_slash),
-        (&["assign", "a", "x"], 1, no_slash),
-        (&["assign", "/a", "x"], 3, no_value),
-        (&["assign", "/a", ""], 3, no_value),
-        (&["resolve", "foo"], 1, no_slash),
-        (&["resolve", "/a/~2"], 1, tilde),
-        (&["split"], 2, usage),
-        (&["split", "/a"], 2, usage),
-        (&["split", "/a", "1", "2"], 2, usage),
-        (&["splits", "/a", "1"], 2, usage),
-        (&["split", "/a", "x"], 2, usage),
-        (&["split", "foo", "x"], 2, usage),
-        (&["split", "/a", "-"], 2, usage),
-        (&["split", "/a", "01"], 2, usage),
-        (&["split", "/a", ""], 2, usage),
-        (&["split", "/a", "18446744073709551616"], 2, usage),
-        (&["split", "foo", "1"], 1, no_slash),
-        (&["split", "/a/~2", "0"], 1, tilde),
+    let lines: [(&[&str], u8, &str); 33] = [
+        (&[], 2, USAGE),
+        (&["resolve"], 2, USAGE),
+        (&["resolve", "/a", "/b"], 2, USAGE),
+        (&["find", "/a"], 2, USAGE),
+        (&["Resolve", "/a"], 2, USAGE),
+        (&["resolve ", "/a"], 2, USAGE),
+        (&["tokens"], 2, USAGE),
+        (&["tokens", "/a", "1"], 2, USAGE),
+        (&["delete"], 2, USAGE),
+        (&["delete", "/a", "1"], 2, USAGE),
+        (&["assign", "/a"], 2, USAGE),
+        (&["assign", "/a", "1", "2"], 2, USAGE),
+        (&["assigns", "/a", "1"], 2, USAGE),
+        (&["tokens", "a"], 1, NO_SLASH),
+        (&["delete", "a"], 1, NO_SLASH),
+        (&["assign", "a", "x"], 1, NO_SLASH),
+        (&["assign", "/a", "x"], 3, NO_VALUE),
+        (&["assign", "/a", ""], 3, NO_VALUE),
+        (&["resolve", "foo"], 1, NO_SLASH),
+        (&["resolve", "/a/~2"], 1, TILDE),
+        (&["split"], 2, USAGE),
+        (&["split", "/a"], 2, USAGE),
+        (&["split", "/a", "1", "2"], 2, USAGE),
+        (&["splits", "/a", "1"], 2, USAGE),
+        (&["split", "/a", "x"], 2, USAGE),
+        (&["split", "foo", "x"], 2, USAGE),
+        (&["split", "/a", "-"], 2, USAGE),
+        (&["split", "/a", "01"], 2, USAGE),
+        (&["split", "/a", ""], 2, USAGE),
+        (&["split", "/a", "18446744073709551616"], 2, USAGE),
+        (&["split", "foo", "1"], 1, NO_SLASH),
+        (&["split", "/a/~2", "0"], 1, TILDE),
+        (&["patches"], 2, USAGE),
     ];
     for (line, status, told) in lines {
         let ran = run_on(rt.alloc(), line, "{}", &[Step::Fail], ALL)?;
@@ -344,11 +349,191 @@ fn refuses_words_before_it_reads(rt: HostRuntime) -> Result<(), AllocError> {
 }
 
 #[test]
+fn refuses_words_that_are_no_operations(rt: HostRuntime) -> Result<(), AllocError> {
+    let lines: [(&[&str], u8, &str); 14] = [
+        (&["patch", "add", "/b"], 2, USAGE),
+        (&["patch", "add"], 2, USAGE),
+        (&["patch", "remove"], 2, USAGE),
+        (&["patch", "replace", "/b"], 2, USAGE),
+        (&["patch", "move", "/b"], 2, USAGE),
+        (&["patch", "copy", "/b"], 2, USAGE),
+        (&["patch", "test", "/b"], 2, USAGE),
+        (&["patch", "/b"], 2, USAGE),
+        (&["patch", "delete", "/b"], 2, USAGE),
+        (&["patch", "Remove", "/b"], 2, USAGE),
+        (&["patch", "remove", "/b", ""], 2, USAGE),
+        (&["patch", "remove", "/b", "/c"], 2, USAGE),
+        (&["patch", "remove", "b", "add", "c"], 2, USAGE),
+        (&["patch", "add", "/b", "x", "add", "/c"], 2, USAGE),
+    ];
+    for (line, status, told) in lines {
+        let ran = run_on(rt.alloc(), line, "{}", &[Step::Fail], ALL)?;
+        assert_eq!(rt; ran.status, status, "{line:?}");
+        assert!(rt; ran.told.as_str() == told, "{line:?}");
+        assert!(rt; ran.written.is_empty(), "{line:?}");
+        assert_eq!(rt; ran.left, 2, "{line:?}");
+    }
+    Ok(())
+}
+
+#[test]
+fn refuses_operations_before_it_reads(rt: HostRuntime) -> Result<(), AllocError> {
+    let lines: [(&[&str], u8, &str); 9] = [
+        (&["patch", "add", "/b", "x", "remove", "c"], 1, NO_SLASH),
+        (&["patch", "add", "b", "x"], 1, NO_SLASH),
+        (&["patch", "replace", "b", "1"], 1, NO_SLASH),
+        (&["patch", "test", "b", "1"], 1, NO_SLASH),
+        (&["patch", "move", "/b", "c"], 1, NO_SLASH),
+        (&["patch", "move", "/a/~2", "c"], 1, TILDE),
+        (&["patch", "copy", "c", "/a/~2"], 1, NO_SLASH),
+        (
+            &["patch", "add", "/b", "1", "replace", "/c", "x"],
+            3,
+            NO_VALUE,
+        ),
+        (&["patch", "test", "/b", "", "add", "/c", "1"], 3, NO_VALUE),
+    ];
+    for (line, status, told) in lines {
+        let ran = run_on(rt.alloc(), line, "{}", &[Step::Fail], ALL)?;
+        assert_eq!(rt; ran.status, status, "{line:?}");
+        assert!(rt; ran.told.as_str() == told, "{line:?}");
+        assert!(rt; ran.written.is_empty(), "{line:?}");
+        assert_eq!(rt; ran.left, 2, "{line:?}");
+    }
+    Ok(())
+}
+
+#[test]
+fn applies_the_operations_and_writes_the_document(rt: HostRuntime) -> Result<(), AllocError> {
+    let lines: [(&[&str], &str, &str); 15] = [
+        (&["patch"], "{\"a\":[1]}", "{\"a\":[1]}\n"),
+        (&["patch"], " [ 1, 2 ] ", "[1,2]\n"),
+        (
+            &["patch", "add", "/a/0", "0", "remove", "/a/1"],
+            "{\"a\":[1]}",
+            "{\"a\":[0]}\n",
+        ),
+        (
+            &["patch", "add", "/a/-", " { } "],
+            "{\"a\":[1]}",
+            "{\"a\":[1,{}]}\n",
+        ),
+        (&["patch", "add", "", "[1]"], "null", "[1]\n"),
+        (&["patch", "remove", "/a~1b"], "{\"a/b\":1}", "{}\n"),
+        (
+            &["patch", "replace", "/a", "\"x\""],
+            "{\"a\":[1]}",
+            "{\"a\":\"x\"}\n",
+        ),
+        (
+            &["patch", "move", "/a", "/b"],
+            "{\"a\":[1]}",
+            "{\"b\":[1]}\n",
+        ),
+        (
+            &["patch", "move", "/0", "/1"],
+            "[\"x\",\"y\"]",
+            "[\"y\",\"x\"]\n",
+        ),
+        (
+            &["patch", "copy", "/a", "/b"],
+            "{\"a\":[1]}",
+            "{\"a\":[1],\"b\":[1]}\n",
+        ),
+        (
+            &["patch", "test", "/a/0", "1"],
+            "{\"a\":[1]}",
+            "{\"a\":[1]}\n",
+        ),
+        (
+            &["patch", "test", "", "{\"b\":2,\"a\":1}"],
+            "{\"a\":1,\"b\":2}",
+            "{\"a\":1,\"b\":2}\n",
+        ),
+        (&["patch", "add", "/add", "1"], "{}", "{\"add\":1}\n"),
+        (
+            &["patch", "add", "/z", "1", "add", "/b", "2"],
+            "{\"c\":3}",
+            "{\"b\":2,\"c\":3,\"z\":1}\n",
+        ),
+        (
+            &[
+                "patch", "test", "/a", "1", "add", "/a", "2", "test", "/a", "2",
+            ],
+            "{\"a\":1}",
+            "{\"a\":2}\n",
+        ),
+    ];
+    for (words, input, line) in lines {
+        for (reads, writes) in SLOW {
+            let ran = run_on(rt.alloc(), words, input, reads, writes)?;
+            assert_eq!(rt; ran.status, 0, "{words:?}");
+            assert!(rt; ran.written.as_slice() == line.as_bytes(), "{words:?}");
+            assert_eq!(rt; ran.left, 0, "{words:?}");
+        }
+    }
+    Ok(())
+}
+
+#[test]
+fn refuses_a_patch_whole(rt: HostRuntime) -> Result<(), AllocError> {
+    let lines: [(&[&str], &str, u8, &str); 8] = [
+        (
+            &["patch", "add", "/b", "1", "test", "/b", "2"],
+            "{\"a\":[1]}",
+            1,
+            "patch failed at operation 1: test failed",
+        ),
+        (
+            &["patch", "test", "/a", "1.5"],
+            "{\"a\":1}",
+            1,
+            "patch failed at operation 0: a float cannot be tested",
+        ),
+        (
+            &["patch", "move", "/a", "/a/0"],
+            "{\"a\":[1]}",
+            1,
+            "patch failed at operation 0: from is a proper prefix of path",
+        ),
+        (
+            &["patch", "remove", "/a/0", "remove", "/a/0"],
+            "{\"a\":[1]}",
+            1,
+            "patch failed at operation 1: resolve failed: json pointer token at offset 2 is out of bounds",
+        ),
+        (
+            &["patch", "add", "/a/2", "1"],
+            "{\"a\":[1]}",
+            1,
+            "patch failed at operation 0: assign failed: json pointer token at offset 2 is out of bounds",
+        ),
+        (
+            &["patch", "replace", "/b", "1"],
+            "{\"a\":[1]}",
+            1,
+            "patch failed at operation 0: resolve failed: json pointer token at 0 was not found in value",
+        ),
+        (&["patch"], "{\"a\"", 3, "input is not JSON"),
+        (&["patch", "add", "/a", "1"], "", 3, "input is not JSON"),
+    ];
+    for (words, input, status, told) in lines {
+        let ran = run_on(rt.alloc(), words, input, ALL, ALL)?;
+        assert_eq!(rt; ran.status, status, "{words:?}");
+        assert!(rt; ran.told.as_str() == told, "{words:?}");
+        assert!(rt; ran.written.is_empty(), "{words:?}");
+        assert_eq!(rt; ran.left, 0, "{words:?}");
+    }
+    Ok(())
+}
+
+#[test]
 fn streams_that_fail_are_told(rt: HostRuntime) -> Result<(), AllocError> {
-    let lines: [(&[&str], &str); 3] = [
+    let lines: [(&[&str], &str); 4] = [
         (&["resolve", "/a"], "{\"b\":1}\n"),
         (&["assign", "/a/b", "2"], "{\"a\":{\"b\":2}}\n"),
         (&["delete", "/a/b"], "{\"a\":{}}\n"),
+        (&["patch", "move", "/a/b", "/c"], "{\"a\":{},\"c\":1}\n"),
     ];
     let scripts: [(&[Step], &[Step], &str, usize); 5] = [
         (&[Step::Fail], ALL, "reading failed", 0),

@@ -16,15 +16,15 @@ returns-clause-splits c = splitting_one
 
 pub returns-clause-not_both : goal.returns-clause-not_both
 returns-clause-not_both c =
-    not_both (resolving_one c.resolve_law.ensures.not_both c.resolve_law.ensures.one) c.assign_law.ensures.not_both
+    not_both (resolving_one c.resolve_law.ensures.not_both c.resolve_law.ensures.one) c.assign_law.ensures.not_both c.patch_law.ensures.not_both
 
 pub returns-clause-one_fault : goal.returns-clause-one_fault
 returns-clause-one_fault c =
-    one_fault (resolving_one c.resolve_law.ensures.not_both c.resolve_law.ensures.one) c.assign_law.ensures.one
+    one_fault (resolving_one c.resolve_law.ensures.not_both c.resolve_law.ensures.one) c.assign_law.ensures.one c.patch_law.ensures.one_refusal
 
 pub returns-clause-one_value : goal.returns-clause-one_value
 returns-clause-one_value c =
-    one_value (resolving_one c.resolve_law.ensures.not_both c.resolve_law.ensures.one) c.json_map_law.ensures.one_value c.json_law.ensures.tree c.assign_law.ensures.one_made c.deleting_law.ensures.one_map
+    one_value (resolving_one c.resolve_law.ensures.not_both c.resolve_law.ensures.one) c.json_map_law.ensures.one_value c.json_law.ensures.tree c.assign_law.ensures.one_made c.deleting_law.ensures.one_map c.patch_law.ensures.one_map
 
 pub returns-clause-line : goal.returns-clause-line
 returns-clause-line c = line_one
