@@ -1,5 +1,13 @@
 //! Assigning a value at the place that a pointer names, and growing what the document lacks on the way
 //! (RFC 6901, section 4).
+//!
+//! ```text
+//! let mut document = json!(in alloc; {"unit": "cm"})?;
+//! let unit = Pointer::parse("/unit")?;
+//! let old = unit.assign(alloc, &mut document, json!(in alloc; "mm")?)?;
+//! assert_eq!(rt; old, Some(json!(in alloc; "cm")?));
+//! assert_eq!(rt; document, json!(in alloc; {"unit": "mm"})?);
+//! ```
 ghost use Rattle.std.specs.Prelude.{◌≡◌, ◌↔◌, ℕ, List, IsTrue, Option, Some, IfOk, OnErr};
 ghost use Rattle.jsonptr_grammar.specs.Text.{Text};
 ghost use Rattle.jsonptr_tree.specs.Node.{NodeMap};
@@ -25,6 +33,27 @@ use std::fmt;
 /// pointer's tokens, the value, the document that this makes and what is given back, `refuses`, with the
 /// error, `needs_no_memory`, and `is_same`, with the document that is left where nothing is assigned. By
 /// `in_order` and `value_in_order` they see that the keys of each object ascend.
+///
+/// What the document lacks on the way grows, and what stands in the way is given back:
+///
+/// ```text
+/// let mut document = json!(in alloc; {"page": 7})?;
+/// let place = Pointer::parse("/page/lines/0/text")?;
+/// let old = document.assign(alloc, place, json!(in alloc; "Hello")?)?;
+/// assert_eq!(rt; old, Some(json!(in alloc; 7)?));
+/// let lines = json!(in alloc; [{"text": "Hello"}])?;
+/// assert_eq!(rt; document, json!(in alloc; {"page": {"lines": lines}})?);
+/// ```
+///
+/// An array grows for `-`, too:
+///
+/// ```text
+/// let mut document = json!(in alloc; {})?;
+/// let place = Pointer::parse("/marks/-/at")?;
+/// let old = document.assign(alloc, place, json!(in alloc; 12)?)?;
+/// assert_eq!(rt; old, None);
+/// assert_eq!(rt; document, json!(in alloc; {"marks": [{"at": 12}]})?);
+/// ```
 pub trait Assign {
     /// The type of what is assigned, and of what is given back.
     type Value: Drop;
@@ -54,6 +83,15 @@ pub trait Assign {
     /// place is new. Where the document ends before the pointer does, it grows by what the tokens that are
     /// left name (RFC 6901, section 4): an array for a token that is `-` or `0`, else an object. The value is
     /// owned by the document from then on.
+    ///
+    /// ```text
+    /// let mut document = json!(in alloc; [3, 5])?;
+    /// let old = document.assign(alloc, Pointer::parse("/0")?, json!(in alloc; 4)?)?;
+    /// assert_eq!(rt; old, Some(json!(in alloc; 3)?));
+    /// let old = document.assign(alloc, Pointer::parse("/-")?, json!(in alloc; 6)?)?;
+    /// assert_eq!(rt; old, None);
+    /// assert_eq!(rt; document, json!(in alloc; [4, 5, 6])?);
+    /// ```
     ///
     /// # Errors
     ///
@@ -114,6 +152,14 @@ impl<D: Descend> Assign for D {
 impl<'a> Pointer<'a> {
     /// Assigns a value at the place that the pointer names in a document, as [`Assign::assign`] does.
     ///
+    /// ```text
+    /// let mut document = json!(in alloc; [])?;
+    /// let place = Pointer::parse("/0/unit")?;
+    /// let old = place.assign(alloc, &mut document, json!(in alloc; "cm")?)?;
+    /// assert_eq!(rt; old, None);
+    /// assert_eq!(rt; document, json!(in alloc; [{"unit": "cm"}])?);
+    /// ```
+    ///
     /// # Errors
     ///
     /// Those of [`Assign::assign`].
@@ -138,9 +184,26 @@ impl<'a> Pointer<'a> {
 pub type AssignError = Error;
 
 /// Why no value is assigned at a pointer, and at which token.
+///
+/// ```text
+/// let mut document = json!(in alloc; {"sizes": [3, 5]})?;
+/// let place = Pointer::parse("/sizes/3")?;
+/// match place.assign(alloc, &mut document, json!(in alloc; 8)?) {
+///     Err(Fault::Refused(error)) => assert_eq!(rt; (error.position(), error.offset()), (1, 6)),
+///     _ => return Err("a refusal".into()),
+/// }
+/// ```
 #[derive(Debug, PartialEq, Eq, Drop)]
 pub enum Error {
     /// The value before the token is an array, and the token is no array index.
+    ///
+    /// ```text
+    /// let mut document = json!(in alloc; [3, 5])?;
+    /// let place = Pointer::parse("/01")?;
+    /// let assigned = place.assign(alloc, &mut document, json!(in alloc; 8)?);
+    /// let refused = assigned.err().ok_or("a refusal")?;
+    /// assert!(rt; matches!(refused, Fault::Refused(error) if error.is_failed_to_parse_index()));
+    /// ```
     FailedToParseIndex {
         /// How many tokens stand before the one at fault.
         position: usize,
@@ -150,6 +213,14 @@ pub enum Error {
         source: ParseIndexError,
     },
     /// The value before the token is an array, and the token's index is above its length.
+    ///
+    /// ```text
+    /// let mut document = json!(in alloc; [3, 5])?;
+    /// let place = Pointer::parse("/3")?;
+    /// let assigned = place.assign(alloc, &mut document, json!(in alloc; 8)?);
+    /// let refused = assigned.err().ok_or("a refusal")?;
+    /// assert!(rt; matches!(refused, Fault::Refused(error) if error.is_out_of_bounds()));
+    /// ```
     OutOfBounds {
         /// How many tokens stand before the one at fault.
         position: usize,

@@ -1,4 +1,11 @@
 //! Taking the value that a pointer names out of a document.
+//!
+//! ```text
+//! let mut document = json!(in alloc; {"page": {"title": "Pointers", "lines": 7}})?;
+//! let taken = document.delete(alloc, Pointer::parse("/page/lines")?)?;
+//! assert_eq!(rt; taken, Some(json!(in alloc; 7)?));
+//! assert_eq!(rt; document, json!(in alloc; {"page": {"title": "Pointers"}})?);
+//! ```
 ghost use Rattle.std.specs.Prelude.{◌≢◌, All, List, IsOk, IfOk, OnErr, MatchOption};
 ghost use Rattle.jsonptr_grammar.specs.Text.{Text, text};
 ghost use Rattle.jsonptr_tree.specs.Removing.{Deletes};
@@ -43,6 +50,28 @@ pub trait Delete {
     /// The root takes out the whole document and leaves a blank one in its place: at JSON null, at TOML an empty
     /// table. What memory is taken from `alloc` is given back.
     ///
+    /// A value that is there, then none, then the whole document:
+    ///
+    /// ```text
+    /// let mut document = json!(in alloc; [3, 5, 8])?;
+    /// let taken = document.delete(alloc, Pointer::parse("/0")?)?;
+    /// assert_eq!(rt; taken, Some(json!(in alloc; 3)?));
+    /// assert_eq!(rt; document, json!(in alloc; [5, 8])?);
+    /// ```
+    ///
+    /// ```text
+    /// let mut document = json!(in alloc; [5, 8])?;
+    /// assert_eq!(rt; document.delete(alloc, Pointer::parse("/2")?)?, None);
+    /// assert_eq!(rt; document, json!(in alloc; [5, 8])?);
+    /// ```
+    ///
+    /// ```text
+    /// let mut document = json!(in alloc; {"page": 7})?;
+    /// let taken = document.delete(alloc, Pointer::root())?;
+    /// assert_eq!(rt; taken, Some(json!(in alloc; {"page": 7})?));
+    /// assert!(rt; document.is_null());
+    /// ```
+    ///
     /// # Errors
     ///
     /// [`AllocError`] where a request for memory is refused. The document is then as it was.
@@ -83,6 +112,17 @@ impl<D: Descend> Delete for D {
 
 impl<'a> Pointer<'a> {
     /// Takes the value that the pointer names out of a document, as [`Delete::delete`] does.
+    ///
+    /// ```text
+    /// let mut document = json!(in alloc; {"width/height": 2, "unit": "cm"})?;
+    /// let taken = Pointer::parse("/width~1height")?.delete(alloc, &mut document)?;
+    /// assert_eq!(rt; taken, Some(json!(in alloc; 2)?));
+    /// assert_eq!(rt;
+    ///     Pointer::parse("/colour")?.delete(alloc, &mut document)?,
+    ///     None
+    /// );
+    /// assert_eq!(rt; document, json!(in alloc; {"unit": "cm"})?);
+    /// ```
     ///
     /// # Errors
     ///

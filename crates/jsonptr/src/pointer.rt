@@ -24,6 +24,12 @@ mod tokens;
 ///
 /// Contracts see a pointer as the list of its decoded tokens, `tokens`, and as its text, `text_of`; each
 /// determines the other.
+///
+/// ```text
+/// let document = json!(in alloc; {"window": {"width": 800}})?;
+/// let pointer = Pointer::parse("/window/width")?;
+/// assert_eq!(rt; pointer.resolve(alloc, &document)?.as_u64(), Some(800));
+/// ```
 #[derive(Clone, Copy, Debug, PartialEq, Eq, PartialOrd, Ord, Hash)]
 pub struct Pointer<'a> {
     inner: &'a str,
@@ -38,6 +44,11 @@ impl<'a> Pointer<'a> {
     ghost use Rattle.jsonptr_text.specs.Parts.{BeginsWith, EndsWith, IsSuffix, IsLongestCommonFront};
 
     /// The pointer of no token, which names the whole document.
+    ///
+    /// ```text
+    /// assert_eq!(rt; Pointer::root().as_str(), "");
+    /// assert_eq!(rt; Pointer::root().count(), 0);
+    /// ```
     pub fn root() -> Pointer<'static>
         ensures tokens { tokens result ≡ [] }
         ensures text { text_of result ≡ [] }
@@ -46,6 +57,15 @@ impl<'a> Pointer<'a> {
     }
 
     /// The pointer with this text, which it borrows; no memory is taken.
+    ///
+    /// ```text
+    /// assert_eq!(rt; Pointer::parse("/window/a~1b")?.count(), 2);
+    /// assert_eq!(rt;
+    ///     Pointer::parse("window").err(),
+    ///     Some(ParseError::NoLeadingSlash)
+    /// );
+    /// assert!(rt; Pointer::parse("/window/~b").is_err());
+    /// ```
     ///
     /// # Errors
     ///
@@ -63,6 +83,11 @@ impl<'a> Pointer<'a> {
     }
 
     /// The pointer with this text, which is one of the grammar (RFC 6901, section 3).
+    ///
+    /// ```text
+    /// let pointer = Pointer::from_static("/lines/7");
+    /// assert_eq!(rt; pointer.count(), 2);
+    /// ```
     pub fn from_static(s: &'static str) -> Pointer<'static>
         requires { IsPointer s.now }
         ensures text { text_of result ≡ s.now }
@@ -72,6 +97,11 @@ impl<'a> Pointer<'a> {
     }
 
     /// The pointer with this text, which is one of the grammar (RFC 6901, section 3). Nothing is tested.
+    ///
+    /// ```text
+    /// let pointer = Pointer::new_unchecked("/lines/~0");
+    /// assert_eq!(rt; pointer.as_str(), "/lines/~0");
+    /// ```
     pub fn new_unchecked(s: &'a str) -> Pointer<'a>
         requires { IsPointer s.now }
         ensures text { text_of result ≡ s.now }
@@ -81,6 +111,10 @@ impl<'a> Pointer<'a> {
     }
 
     /// The pointer's text.
+    ///
+    /// ```text
+    /// assert_eq!(rt; Pointer::parse("/a~1b/7")?.as_str(), "/a~1b/7");
+    /// ```
     pub fn as_str(&self) -> &'a str
         ensures text { result.now ≡ text_of self.now }
         ensures tokens { result.now ≡ text (tokens self.now) }
@@ -96,6 +130,10 @@ impl<'a> Pointer<'a> {
     }
 
     /// The length of the pointer's text, in bytes.
+    ///
+    /// ```text
+    /// assert_eq!(rt; Pointer::parse("/né~0")?.len(), 6);
+    /// ```
     pub fn len(&self) -> usize
         ensures { result ≡ length (text_of self.now) }
     {
@@ -103,6 +141,11 @@ impl<'a> Pointer<'a> {
     }
 
     /// Whether the pointer has no token; another name of [`Pointer::is_root`].
+    ///
+    /// ```text
+    /// assert!(rt; Pointer::root().is_empty());
+    /// assert!(rt; !Pointer::parse("/")?.is_empty());
+    /// ```
     pub fn is_empty(&self) -> bool
         ensures { IsTrue result ↔ (tokens self.now ≡ []) }
     {
@@ -110,6 +153,11 @@ impl<'a> Pointer<'a> {
     }
 
     /// Whether the pointer has no token.
+    ///
+    /// ```text
+    /// assert!(rt; Pointer::parse("")?.is_root());
+    /// assert!(rt; !Pointer::parse("/lines")?.is_root());
+    /// ```
     pub fn is_root(&self) -> bool
         ensures { IsTrue result ↔ (tokens self.now ≡ []) }
     {
@@ -117,6 +165,15 @@ impl<'a> Pointer<'a> {
     }
 
     /// The first token and the pointer of the tokens after it, or `None` at the root.
+    ///
+    /// ```text
+    /// let (first, rest) = Pointer::parse("/lines/7/text")?
+    ///     .split_front()
+    ///     .ok_or("a token")?;
+    /// assert_eq!(rt; first.encoded(), "lines");
+    /// assert_eq!(rt; rest.as_str(), "/7/text");
+    /// assert!(rt; Pointer::root().split_front().is_none());
+    /// ```
     pub fn split_front(&self) -> Option<(Token<'a>, Pointer<'a>)>
         ensures { MatchOption result
             (tokens self.now ≡ [])
@@ -127,6 +184,15 @@ impl<'a> Pointer<'a> {
     }
 
     /// The pointer of the tokens before the last one and that token, or `None` at the root.
+    ///
+    /// ```text
+    /// let (front, last) = Pointer::parse("/lines/7/text")?
+    ///     .split_back()
+    ///     .ok_or("a token")?;
+    /// assert_eq!(rt; front.as_str(), "/lines/7");
+    /// assert_eq!(rt; last.encoded(), "text");
+    /// assert!(rt; Pointer::root().split_back().is_none());
+    /// ```
     pub fn split_back(&self) -> Option<(Pointer<'a>, Token<'a>)>
         ensures { MatchOption result
             (tokens self.now ≡ [])
@@ -137,6 +203,14 @@ impl<'a> Pointer<'a> {
     }
 
     /// The first token, or `None` at the root.
+    ///
+    /// ```text
+    /// assert_eq!(rt;
+    ///     Pointer::parse("/7/text")?.front(),
+    ///     Some(Token::from_number(alloc, 7)?)
+    /// );
+    /// assert_eq!(rt; Pointer::root().front(), None);
+    /// ```
     pub fn front(&self) -> Option<Token<'a>>
         ensures { IsFirstOf (tokens self.now) result }
     {
@@ -152,6 +226,14 @@ impl<'a> Pointer<'a> {
     }
 
     /// The last token, or `None` at the root.
+    ///
+    /// ```text
+    /// assert_eq!(rt;
+    ///     Pointer::parse("/lines/7")?.back(),
+    ///     Some(Token::from_number(alloc, 7)?)
+    /// );
+    /// assert_eq!(rt; Pointer::root().back(), None);
+    /// ```
     pub fn back(&self) -> Option<Token<'a>>
         ensures { IsLastOf (tokens self.now) result }
     {
@@ -167,6 +249,15 @@ impl<'a> Pointer<'a> {
     }
 
     /// The pointer of the tokens before the last one, or `None` at the root.
+    ///
+    /// ```text
+    /// assert_eq!(rt;
+    ///     Pointer::parse("/lines/7")?.parent(),
+    ///     Some(Pointer::parse("/lines")?)
+    /// );
+    /// assert_eq!(rt; Pointer::parse("/lines")?.parent(), Some(Pointer::root()));
+    /// assert_eq!(rt; Pointer::root().parent(), None);
+    /// ```
     pub fn parent(&self) -> Option<Pointer<'a>>
         ensures { IsParentOf (tokens self.now) result }
     {
@@ -176,6 +267,14 @@ impl<'a> Pointer<'a> {
 
     /// The pointers of the tokens before a slash and from it on, where byte `offset` of the text is that
     /// slash; elsewhere `None`.
+    ///
+    /// ```text
+    /// let pointer = Pointer::parse("/lines/7/text")?;
+    /// let (front, rest) = pointer.split_at_offset(6).ok_or("a slash")?;
+    /// assert_eq!(rt; front.as_str(), "/lines");
+    /// assert_eq!(rt; rest.as_str(), "/7/text");
+    /// assert!(rt; pointer.split_at_offset(7).is_none());
+    /// ```
     pub fn split_at_offset(&self, offset: usize) -> Option<(Pointer<'a>, Pointer<'a>)>
         ensures slash { IsSome result ↔ (slice_index (text_of self.now) offset ≡ 47) }
         ensures split { IsSplitOf (tokens self.now) offset result }
@@ -185,6 +284,14 @@ impl<'a> Pointer<'a> {
     }
 
     /// The pointers of the first `position` tokens and of those after them; `None` where there are fewer.
+    ///
+    /// ```text
+    /// let pointer = Pointer::parse("/lines/7/text")?;
+    /// let (front, rest) = pointer.split_at(2).ok_or("two tokens")?;
+    /// assert_eq!(rt; front.as_str(), "/lines/7");
+    /// assert_eq!(rt; rest.as_str(), "/text");
+    /// assert!(rt; pointer.split_at(4).is_none());
+    /// ```
     pub fn split_at(&self, position: usize) -> Option<(Pointer<'a>, Pointer<'a>)>
         ensures { IsSplitAt (tokens self.now) position result }
     {
@@ -193,6 +300,12 @@ impl<'a> Pointer<'a> {
     }
 
     /// Whether the pointer's tokens begin with those of another, as they always do with those of the root.
+    ///
+    /// ```text
+    /// let pointer = Pointer::parse("/lines/7")?;
+    /// assert!(rt; pointer.starts_with(Pointer::parse("/lines")?));
+    /// assert!(rt; !pointer.starts_with(Pointer::parse("/line")?));
+    /// ```
     pub fn starts_with(&self, other: Pointer<'_>) -> bool
         ensures { IsTrue result ↔ BeginsWith (tokens self.now) (tokens other.entry) }
     {
@@ -201,6 +314,13 @@ impl<'a> Pointer<'a> {
 
     /// The pointer of what follows the tokens of another, or `None` where the pointer's tokens do not begin
     /// with those.
+    ///
+    /// ```text
+    /// let pointer = Pointer::parse("/lines/7")?;
+    /// let rest = pointer.strip_prefix(Pointer::parse("/lines")?);
+    /// assert_eq!(rt; rest, Some(Pointer::parse("/7")?));
+    /// assert_eq!(rt; pointer.strip_prefix(Pointer::parse("/7")?), None);
+    /// ```
     pub fn strip_prefix(&self, prefix: Pointer<'_>) -> Option<Pointer<'a>>
         ensures { MatchOption result
             (BeginsWith (tokens self.now) (tokens prefix.entry) → ⊥)
@@ -211,6 +331,13 @@ impl<'a> Pointer<'a> {
     }
 
     /// Whether the pointer's tokens end with those of another. The root counts as an end of itself alone.
+    ///
+    /// ```text
+    /// let pointer = Pointer::parse("/lines/17")?;
+    /// assert!(rt; pointer.ends_with(Pointer::parse("/17")?));
+    /// assert!(rt; !pointer.ends_with(Pointer::parse("/7")?));
+    /// assert!(rt; !pointer.ends_with(Pointer::root()));
+    /// ```
     pub fn ends_with(&self, other: Pointer<'_>) -> bool
         ensures { IsTrue result ↔ IsSuffix (tokens self.now) (tokens other.entry) }
     {
@@ -222,6 +349,13 @@ impl<'a> Pointer<'a> {
 
     /// The pointer of what stands before the tokens of another, or `None` where the pointer's tokens do not
     /// end with those. The root is stripped off each pointer, and leaves it as it is.
+    ///
+    /// ```text
+    /// let pointer = Pointer::parse("/lines/7")?;
+    /// let front = pointer.strip_suffix(Pointer::parse("/7")?);
+    /// assert_eq!(rt; front, Some(Pointer::parse("/lines")?));
+    /// assert_eq!(rt; pointer.strip_suffix(Pointer::parse("/lines")?), None);
+    /// ```
     pub fn strip_suffix(&self, suffix: Pointer<'_>) -> Option<Pointer<'a>>
         ensures { MatchOption result
             (EndsWith (tokens self.now) (tokens suffix.entry) → ⊥)
@@ -232,6 +366,12 @@ impl<'a> Pointer<'a> {
     }
 
     /// The pointer of the tokens that two pointers have in common at their front.
+    ///
+    /// ```text
+    /// let pointer = Pointer::parse("/lines/7/text")?;
+    /// let common = pointer.intersection(Pointer::parse("/lines/70")?);
+    /// assert_eq!(rt; common.as_str(), "/lines");
+    /// ```
     pub fn intersection(&self, other: Pointer<'_>) -> Pointer<'a>
         ensures { IsLongestCommonFront (tokens self.now) (tokens other.entry) (tokens result) }
     {
@@ -241,6 +381,12 @@ impl<'a> Pointer<'a> {
     }
 
     /// A pointer that owns a copy of this one's text.
+    ///
+    /// ```text
+    /// let mut owned = Pointer::parse("/lines")?.to_buf(alloc)?;
+    /// owned.push_back(Token::from_number(alloc, 7)?)?;
+    /// assert_eq!(rt; owned.as_ptr().as_str(), "/lines/7");
+    /// ```
     ///
     /// # Errors
     ///
@@ -253,6 +399,11 @@ impl<'a> Pointer<'a> {
     }
 
     /// The pointer of this one's tokens and then those of another, which owns its text.
+    ///
+    /// ```text
+    /// let joined = Pointer::parse("/lines")?.concat(alloc, Pointer::parse("/7/text")?)?;
+    /// assert_eq!(rt; joined.as_ptr().as_str(), "/lines/7/text");
+    /// ```
     ///
     /// # Errors
     ///
@@ -268,6 +419,12 @@ impl<'a> Pointer<'a> {
     }
 
     /// The pointer of a token and then this one's tokens, which owns its text.
+    ///
+    /// ```text
+    /// let page = Token::new(alloc, CowStr::Borrowed("page"))?;
+    /// let leading = Pointer::parse("/lines/7")?.with_leading_token(alloc, page)?;
+    /// assert_eq!(rt; leading.as_ptr().as_str(), "/page/lines/7");
+    /// ```
     ///
     /// # Errors
     ///
@@ -286,6 +443,12 @@ impl<'a> Pointer<'a> {
     }
 
     /// The pointer of this one's tokens and then a token, which owns its text.
+    ///
+    /// ```text
+    /// let ratio = Token::new(alloc, CowStr::Borrowed("width/height"))?;
+    /// let trailing = Pointer::parse("/window")?.with_trailing_token(alloc, ratio)?;
+    /// assert_eq!(rt; trailing.as_ptr().as_str(), "/window/width~1height");
+    /// ```
     ///
     /// # Errors
     ///
@@ -314,6 +477,11 @@ impl<'a> Pointer<'a> {
     }
 
     /// The pointer's text as a JSON string; memory is taken for a copy of it.
+    ///
+    /// ```text
+    /// let value = Pointer::parse("/lines/7")?.to_json_value(alloc)?;
+    /// assert_eq!(rt; value.as_str(), Some("/lines/7"));
+    /// ```
     ///
     /// # Errors
     ///

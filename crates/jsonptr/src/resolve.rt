@@ -1,4 +1,12 @@
 //! Resolving a pointer against a document (RFC 6901, section 4).
+//!
+//! ```text
+//! let mut document = json!(in alloc; {"sizes": [3, 5]})?;
+//! let pointer = Pointer::parse("/sizes/1")?;
+//! assert_eq!(rt; pointer.resolve(alloc, &document)?.as_u64(), Some(5));
+//! *pointer.resolve_mut(alloc, &mut document)? = json!(in alloc; 8)?;
+//! assert_eq!(rt; document, json!(in alloc; {"sizes": [3, 8]})?);
+//! ```
 ghost use Rattle.std.specs.Prelude.{◌≡◌, ◌≢◌, ◌↔◌, ℕ, All, IsTrue, IfOk, List, Some};
 ghost use Rattle.std.specs.Borrow.{sem, LendsSoOk};
 ghost use Rattle.jsonptr_grammar.specs.Text.{Text, text};
@@ -46,6 +54,12 @@ pub trait Resolve {
 
     /// The value that the pointer names, which the document lends; the document is not changed. What memory
     /// is taken from `alloc` is given back.
+    ///
+    /// ```text
+    /// let document = json!(in alloc; {"width/height": [4, 3]})?;
+    /// let width = document.resolve(alloc, Pointer::parse("/width~1height/0")?)?;
+    /// assert_eq!(rt; width.as_u64(), Some(4));
+    /// ```
     ///
     /// # Errors
     ///
@@ -113,7 +127,7 @@ pub trait ResolveMut: Drop {
     /// `is_same` of `Value` give:
     ///
     /// ```text
-    /// fn replace<D: ResolveMut>(
+    /// pub fn replace<D: ResolveMut>(
     ///     document: &mut D,
     ///     alloc: Global,
     ///     pointer: Pointer<'_>,
@@ -126,6 +140,18 @@ pub trait ResolveMut: Drop {
     ///     let place = document.resolve_mut(alloc, pointer)?;
     ///     Ok(mem::replace(place, value))
     /// }
+    /// ```
+    ///
+    /// A value that is written through the loan:
+    ///
+    /// ```text
+    /// let mut document = json!(in alloc; {"title": null, "pages": 9})?;
+    /// let title = document.resolve_mut(alloc, Pointer::parse("/title")?)?;
+    /// *title = json!(in alloc; "Pointers")?;
+    /// assert_eq!(rt;
+    ///     document,
+    ///     json!(in alloc; {"title": "Pointers", "pages": 9})?
+    /// );
     /// ```
     ///
     /// # Errors
@@ -185,6 +211,12 @@ impl<D: Descend> ResolveMut for D {
 impl<'a> Pointer<'a> {
     /// The value that the pointer names in a document, as [`Resolve::resolve`] gives it.
     ///
+    /// ```text
+    /// let document = json!(in alloc; {"title": "Pointers", "pages": 9})?;
+    /// let title = Pointer::parse("/title")?.resolve(alloc, &document)?;
+    /// assert_eq!(rt; title.as_str(), Some("Pointers"));
+    /// ```
+    ///
     /// # Errors
     ///
     /// Those of [`Resolve::resolve`].
@@ -203,6 +235,12 @@ impl<'a> Pointer<'a> {
     /// The value that the pointer names in a document, to be written to, as [`ResolveMut::resolve_mut`] lends
     /// it. The proof of a caller learns what the document becomes once the loan ends where it calls that
     /// method, whose first parameter is the document, and not where it calls this one.
+    ///
+    /// ```text
+    /// let mut document = json!(in alloc; [true, false])?;
+    /// *Pointer::parse("/1")?.resolve_mut(alloc, &mut document)? = json!(in alloc; null)?;
+    /// assert_eq!(rt; document, json!(in alloc; [true, null])?);
+    /// ```
     ///
     /// # Errors
     ///
@@ -270,9 +308,24 @@ fn told(fault: Fault<Stop>) -> Fault<Error>
 pub type ResolveError = Error;
 
 /// Why a pointer names no value of a document (RFC 6901, section 7), and at which token.
+///
+/// ```text
+/// let document = json!(in alloc; {"sizes": [3, 5]})?;
+/// match Pointer::parse("/sizes/2/unit")?.resolve(alloc, &document) {
+///     Err(Fault::Refused(error)) => assert_eq!(rt; (error.position(), error.offset()), (1, 6)),
+///     _ => return Err("a refusal".into()),
+/// }
+/// ```
 #[derive(Debug, PartialEq, Eq, Drop)]
 pub enum Error {
     /// The value before the token is an array, and the token is no array index.
+    ///
+    /// ```text
+    /// let document = json!(in alloc; {"sizes": [3, 5]})?;
+    /// let found = Pointer::parse("/sizes/first")?.resolve(alloc, &document);
+    /// let refused = found.err().ok_or("a refusal")?;
+    /// assert!(rt; matches!(refused, Fault::Refused(error) if error.is_failed_to_parse_index()));
+    /// ```
     FailedToParseIndex {
         /// How many tokens stand before the one at fault.
         position: usize,
@@ -283,6 +336,13 @@ pub enum Error {
     },
     /// The value before the token is an array, and it has no element at the token's index. `-` names the
     /// place after the last element, so it is always out of bounds.
+    ///
+    /// ```text
+    /// let document = json!(in alloc; {"sizes": [3, 5]})?;
+    /// let found = Pointer::parse("/sizes/-")?.resolve(alloc, &document);
+    /// let refused = found.err().ok_or("a refusal")?;
+    /// assert!(rt; matches!(refused, Fault::Refused(error) if error.is_out_of_bounds()));
+    /// ```
     OutOfBounds {
         /// How many tokens stand before the one at fault.
         position: usize,
@@ -292,6 +352,13 @@ pub enum Error {
         source: OutOfBoundsError,
     },
     /// The value before the token is an object, and it has no member with the token as its key.
+    ///
+    /// ```text
+    /// let document = json!(in alloc; {"sizes": [3, 5]})?;
+    /// let found = Pointer::parse("/colours")?.resolve(alloc, &document);
+    /// let refused = found.err().ok_or("a refusal")?;
+    /// assert!(rt; matches!(refused, Fault::Refused(error) if error.is_not_found()));
+    /// ```
     NotFound {
         /// How many tokens stand before the one at fault.
         position: usize,
@@ -299,6 +366,13 @@ pub enum Error {
         offset: usize,
     },
     /// The value before the token is neither an array nor an object, so no token leads below it.
+    ///
+    /// ```text
+    /// let document = json!(in alloc; {"sizes": [3, 5]})?;
+    /// let found = Pointer::parse("/sizes/0/unit")?.resolve(alloc, &document);
+    /// let refused = found.err().ok_or("a refusal")?;
+    /// assert!(rt; matches!(refused, Fault::Refused(error) if error.is_unreachable()));
+    /// ```
     Unreachable {
         /// How many tokens stand before the one at fault.
         position: usize,

@@ -8,6 +8,14 @@ use std::error::Error;
 use std::fmt;
 
 /// Why a call that takes memory did not succeed.
+///
+/// ```text
+/// match PointerBuf::from_text(alloc, "size") {
+///     Ok(_) => return Err("a refusal".into()),
+///     Err(Fault::Refused(error)) => assert_eq!(rt; error, ParseError::NoLeadingSlash),
+///     Err(Fault::Memory(error)) => return Err(error.into()),
+/// }
+/// ```
 #[derive(Debug, Drop)]
 pub enum Fault<E> {
     /// The call was refused; nothing that was lent to it has changed.

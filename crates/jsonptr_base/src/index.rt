@@ -1,5 +1,13 @@
 //! Array indices as reference tokens write them (RFC 6901, section 4): a number without leading zeros,
 //! or `-`, the place after the last element.
+//!
+//! ```text
+//! let index = Token::from_number(alloc, 3)?.to_index()?;
+//! assert_eq!(rt; index.for_len(5), Ok(3));
+//! assert!(rt; index.for_len(3).is_err());
+//! assert_eq!(rt; index.for_len_incl(3), Ok(3));
+//! assert_eq!(rt; Index::Next.for_len_incl(3), Ok(3));
+//! ```
 ghost use Rattle.std.specs.Prelude.{◌≡◌, ◌≢◌, ◌≤◌, ◌<◌, ◌^◌, ◌↔◌, ℕ, [], ◌∷◌, length, slice_index, string_bytes, IsTrue, IsUtf8, Result, Some};
 ghost use Rattle.std.specs.Ordering.{nat_cmp};
 ghost use Rattle.std.specs.declared.cmp.Ordering.TheVariants.{Less, Equal, Greater};
@@ -20,6 +28,12 @@ use std::marker::Model;
 use std::str::FromStr;
 
 /// An index into an array of some length.
+///
+/// ```text
+/// assert_eq!(rt; "12".parse::<Index>(), Ok(Index::Num(12)));
+/// assert_eq!(rt; Index::from(12), Index::Num(12));
+/// assert_eq!(rt; Index::Next.to_string(alloc)?.as_str(), "-");
+/// ```
 #[derive(Clone, Copy, Debug, PartialEq, Eq, PartialOrd, Ord, Hash)]
 pub enum Index {
     /// The place with this number, from 0.
@@ -30,6 +44,16 @@ pub enum Index {
 
 impl Index {
     /// The place of an existing element of an array of `length` elements. `Next` names none.
+    ///
+    /// ```text
+    /// let past = OutOfBoundsError {
+    ///     length: 4,
+    ///     index: 4,
+    /// };
+    /// assert_eq!(rt; Index::Num(3).for_len(4), Ok(3));
+    /// assert!(rt; Index::Num(4).for_len(4).is_err());
+    /// assert_eq!(rt; Index::Next.for_len(4), Err(past));
+    /// ```
     ///
     /// # Errors
     ///
@@ -50,6 +74,12 @@ impl Index {
     /// The place of an element of an array of `length` elements, or the place behind the last one, where a
     /// new element goes; `Next` names that.
     ///
+    /// ```text
+    /// assert_eq!(rt; Index::Num(4).for_len_incl(4), Ok(4));
+    /// assert_eq!(rt; Index::Next.for_len_incl(4), Ok(4));
+    /// assert!(rt; Index::Num(5).for_len_incl(4).is_err());
+    /// ```
+    ///
     /// # Errors
     ///
     /// [`OutOfBoundsError`] where the index is above the length.
@@ -65,6 +95,11 @@ impl Index {
 
     /// The place that the index names where the array has `length` elements, whether it has that place or
     /// not.
+    ///
+    /// ```text
+    /// assert_eq!(rt; Index::Num(9).for_len_unchecked(4), 9);
+    /// assert_eq!(rt; Index::Next.for_len_unchecked(4), 4);
+    /// ```
     pub fn for_len_unchecked(&self, length: usize) -> usize
         ensures { result ≡ place_in length self.now }
     {
@@ -187,6 +222,13 @@ fn first_nondigit(s: &str) -> Option<usize>
 impl<'a> Token<'a> {
     /// The array index that the token's text writes (RFC 6901, section 4).
     ///
+    /// ```text
+    /// let next = Token::new(alloc, CowStr::Borrowed("-"))?;
+    /// assert_eq!(rt; next.to_index(), Ok(Index::Next));
+    /// assert_eq!(rt; Token::from_number(alloc, 7)?.to_index(), Ok(Index::Num(7)));
+    /// assert!(rt; Token::from_number(alloc, -7)?.to_index().is_err());
+    /// ```
+    ///
     /// # Errors
     ///
     /// [`ParseIndexError`] where the text is neither `-` nor a number without leading zeros that fits
@@ -235,6 +277,15 @@ pub fn bounds_law()
 {}
 
 /// An index that is not within the bounds of an array.
+///
+/// ```text
+/// let error = Index::Num(6).for_len(4).err().ok_or("a refusal")?;
+/// assert_eq!(rt; (error.index, error.length), (6, 4));
+/// assert_eq!(rt;
+///     error.to_string(alloc)?.as_str(),
+///     "index 6 out of bounds (len: 4)"
+/// );
+/// ```
 #[derive(Clone, Debug, PartialEq, Eq, Drop)]
 pub struct OutOfBoundsError {
     /// The length of the array.
@@ -260,6 +311,12 @@ impl fmt::Display for OutOfBoundsError {
 impl Error for OutOfBoundsError {}
 
 /// Why a text is no array index.
+///
+/// ```text
+/// let empty = ParseIndexError::InvalidInteger(IntegerCause::Empty);
+/// assert_eq!(rt; "".parse::<Index>(), Err(empty));
+/// assert_eq!(rt; "012".parse::<Index>(), Err(ParseIndexError::LeadingZeros));
+/// ```
 #[derive(Clone, Debug, PartialEq, Eq, Drop)]
 pub enum ParseIndexError {
     /// The text is empty, or a number that does not fit `usize`.
@@ -348,6 +405,11 @@ fn nondigits_from(offset: usize, text: &[u8]) -> usize
 }
 
 /// A text that was to be read as an array index.
+///
+/// ```text
+/// let token = Token::from_encoded(CowStr::Borrowed("7~1"))?.into_owned(alloc)?;
+/// assert_eq!(rt; StringOrToken::from(token).as_str(), "7~1");
+/// ```
 #[derive(Debug, Drop)]
 pub enum StringOrToken {
     /// The text itself.
@@ -397,6 +459,12 @@ impl From<Token<'static>> for StringOrToken {
 }
 
 /// Why a text of digits is no number.
+///
+/// ```text
+/// let refused = "99999999999999999999".parse::<Index>();
+/// let cause = IntegerCause::Overflow;
+/// assert_eq!(rt; refused, Err(ParseIndexError::InvalidInteger(cause)));
+/// ```
 #[derive(Clone, Copy, Debug, PartialEq, Eq)]
 pub enum IntegerCause {
     /// There is no digit.
@@ -408,6 +476,13 @@ pub enum IntegerCause {
 /// A character that no array index has.
 ///
 /// Contracts see it as its offset.
+///
+/// ```text
+/// match "12px".parse::<Index>() {
+///     Err(ParseIndexError::InvalidCharacter(error)) => assert_eq!(rt; error.offset(), 2),
+///     _ => return Err("a refusal".into()),
+/// }
+/// ```
 #[derive(Clone, Debug, PartialEq, Eq, Drop)]
 pub struct InvalidCharacterError {
     offset: usize,

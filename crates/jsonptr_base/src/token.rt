@@ -27,6 +27,12 @@ use std::marker::Model;
 /// A segment of a JSON Pointer, which follows a `/`: a member's key, or an array index.
 ///
 /// Contracts see a token as its decoded text, a list of bytes; its encoded text is the escape of that.
+///
+/// ```text
+/// let token = Token::new(alloc, CowStr::Borrowed("width/height"))?;
+/// assert_eq!(rt; token.encoded(), "width~1height");
+/// assert_eq!(rt; token.to_string(alloc)?.as_str(), "width/height");
+/// ```
 #[derive(Debug, Drop)]
 pub struct Token<'a> {
     inner: CowStr<'a>,
@@ -47,6 +53,13 @@ impl<'a> Model for Token<'a> {
 impl<'a> Token<'a> {
     /// The token with this encoded text, which it keeps as it is; no memory is taken.
     ///
+    /// ```text
+    /// let token = Token::from_encoded(CowStr::Borrowed("m~0n~1"))?;
+    /// assert_eq!(rt; token.decoded(alloc)?.as_str(), "m~n/");
+    /// let refused = Token::from_encoded(CowStr::Borrowed("lines/7"));
+    /// assert_eq!(rt; refused.err().ok_or("a fault")?.offset, 5);
+    /// ```
+    ///
     /// # Errors
     ///
     /// [`EncodingError`] where the text is no token (RFC 6901, section 3), at its first fault; the text
@@ -64,6 +77,11 @@ impl<'a> Token<'a> {
 
     /// The token with this encoded text, which is one of the grammar (RFC 6901, section 3). Nothing is tested, and
     /// no memory is taken.
+    ///
+    /// ```text
+    /// let token = Token::from_encoded_unchecked(CowStr::Borrowed("~0~1"));
+    /// assert_eq!(rt; token.encoded(), "~0~1");
+    /// ```
     pub fn from_encoded_unchecked(s: CowStr<'a>) -> Token<'a>
         requires { IsToken (cow_str_bytes s) }
         ensures { esc result ≡ cow_str_bytes s.entry }
@@ -73,6 +91,12 @@ impl<'a> Token<'a> {
 
     /// The token that stands for this text, which is escaped where it has a `~` or a `/`; any other text is
     /// kept as it is.
+    ///
+    /// ```text
+    /// let docs = Token::new(alloc, CowStr::Borrowed("~/docs"))?;
+    /// assert_eq!(rt; docs.encoded(), "~0~1docs");
+    /// assert_eq!(rt; Token::new(alloc, CowStr::Borrowed("~1"))?.encoded(), "~01");
+    /// ```
     ///
     /// # Errors
     ///
@@ -93,6 +117,11 @@ impl<'a> Token<'a> {
 
     /// The token of a number's decimal text, which needs no escape.
     ///
+    /// ```text
+    /// assert_eq!(rt; Token::from_number(alloc, 250u8)?.encoded(), "250");
+    /// assert_eq!(rt; Token::from_number(alloc, -4i64)?.encoded(), "-4");
+    /// ```
+    ///
     /// # Errors
     ///
     /// [`AllocError`] where there is no memory for the text.
@@ -103,6 +132,12 @@ impl<'a> Token<'a> {
     }
 
     /// A copy of the token that borrows nothing; a text that the token owns is moved.
+    ///
+    /// ```text
+    /// let lent = Token::new(alloc, CowStr::Borrowed("lines"))?;
+    /// let owned: Token<'static> = lent.into_owned(alloc)?;
+    /// assert_eq!(rt; owned.encoded(), "lines");
+    /// ```
     ///
     /// # Errors
     ///
@@ -117,6 +152,11 @@ impl<'a> Token<'a> {
 
     /// The same of a token that is lent; its text is copied.
     ///
+    /// ```text
+    /// let lent = Token::new(alloc, CowStr::Borrowed("lines"))?;
+    /// assert_eq!(rt; lent.to_owned(alloc)?, lent);
+    /// ```
+    ///
     /// # Errors
     ///
     /// [`AllocError`] where there is no memory for the copy.
@@ -127,6 +167,11 @@ impl<'a> Token<'a> {
     }
 
     /// The token's text as it stands in a pointer, without the slash.
+    ///
+    /// ```text
+    /// let token = Token::new(alloc, CowStr::Borrowed("7/~"))?;
+    /// assert_eq!(rt; token.encoded(), "7~1~0");
+    /// ```
     pub fn encoded(&self) -> &str
         ensures { result.now ≡ esc self.now }
     {
@@ -134,6 +179,11 @@ impl<'a> Token<'a> {
     }
 
     /// The same text, handed over as the token keeps it; no memory is taken.
+    ///
+    /// ```text
+    /// let token = Token::new(alloc, CowStr::Borrowed("a/b"))?;
+    /// assert_eq!(rt; token.into_encoded().as_str(), "a~1b");
+    /// ```
     pub fn into_encoded(self) -> CowStr<'a>
         ensures { cow_str_bytes result ≡ esc self.entry }
     {
@@ -142,6 +192,11 @@ impl<'a> Token<'a> {
 
     /// The text that the token stands for: `~1` read as `/` and `~0` as `~`, in one pass from the left
     /// (RFC 6901, section 4). It lends the token's own text where that has no tilde.
+    ///
+    /// ```text
+    /// let token = Token::from_encoded(CowStr::Borrowed("~01"))?;
+    /// assert_eq!(rt; token.decoded(alloc)?.as_str(), "~1");
+    /// ```
     ///
     /// # Errors
     ///
@@ -159,6 +214,11 @@ impl<'a> Token<'a> {
     }
 
     /// Whether the token is `-`, which names the place behind the last element of an array.
+    ///
+    /// ```text
+    /// assert!(rt; Token::new(alloc, CowStr::Borrowed("-"))?.is_next());
+    /// assert!(rt; !Token::from_number(alloc, 7)?.is_next());
+    /// ```
     pub fn is_next(&self) -> bool
         ensures { IsTrue result ↔ (self.now ≡ 45 ∷ []) }
     {
@@ -267,6 +327,14 @@ impl<'a> fmt::Display for Token<'a> {
 pub type InvalidEncodingError = EncodingError;
 
 /// Why a text is no encoded token, and where.
+///
+/// ```text
+/// let error = Token::from_encoded(CowStr::Borrowed("size~x"))
+///     .err()
+///     .ok_or("a fault")?;
+/// let source = InvalidEncoding::Tilde;
+/// assert_eq!(rt; error, EncodingError { offset: 5, source });
+/// ```
 #[derive(Debug, PartialEq, Eq, Drop)]
 pub struct EncodingError {
     /// The place of the fault, in bytes: of the slash, or of what follows the tilde that escapes nothing,
@@ -321,6 +389,14 @@ impl Diagnostic for EncodingError {
 }
 
 /// What is wrong with the text of a token.
+///
+/// ```text
+/// let cause = InvalidEncoding::Slash;
+/// assert_eq!(rt;
+///     cause.to_string(alloc)?.as_str(),
+///     "slash (/) found in token"
+/// );
+/// ```
 #[derive(Clone, Copy, Debug, PartialEq, Eq)]
 pub enum InvalidEncoding {
     /// A `~` is followed neither by `0` nor by `1`.

@@ -1,5 +1,15 @@
 //! Reports of errors: an error together with the value that it speaks of, and labels on the spans of that
 //! value.
+//!
+//! A report is drawn as text by [`Report::render`]:
+//!
+//! ```text
+//! let text = String::from_str(alloc, "/size/~x")?;
+//! let parsed = Pointer::parse("/size/~x").diagnose(text);
+//! let report = parsed.err().ok_or("a report")?;
+//! let drawn = "/size/~x\n      ^^ '~' must be followed by '0' or '1'";
+//! assert_eq!(rt; report.render(alloc)?.as_str(), drawn);
+//! ```
 ghost use Rattle.std.specs.Prelude.{◌≡◌, ◌↔◌, List, Option, None, Result, IsTrue, IsOk, IfOk, OnErr, string_bytes};
 ghost use Rattle.std.proofs.Common.{rules};
 ghost use Rattle.std.specs.Cmp.Rules.{comparing};
@@ -14,6 +24,12 @@ use std::marker::Model;
 /// Words on a span of a text, whose place and length are in bytes.
 ///
 /// Contracts see a label as these three. Nothing ties the span to any text: it may lie past the end.
+///
+/// ```text
+/// let label = Label::new(String::from_str(alloc, "no digits")?, 2, 3);
+/// assert_eq!(rt; label.text(), "no digits");
+/// assert_eq!(rt; (label.offset(), label.len()), (2, 3));
+/// ```
 #[derive(Debug, Drop)]
 pub struct Label {
     text: String,
@@ -92,6 +108,12 @@ impl Eq for Label {
 
 /// Exactly one label, with a copy of these words on the span of `len` bytes from the byte `offset` on.
 ///
+/// ```text
+/// let labels = one_label(alloc, "no digits", 2, 3)?;
+/// let label = Label::new(String::from_str(alloc, "no digits")?, 2, 3);
+/// assert_eq!(rt; labels, Some(vec![in alloc; label]?));
+/// ```
+///
 /// # Errors
 ///
 /// [`AllocError`] where there is no memory for the copy of the words, or for a list of one label.
@@ -120,6 +142,11 @@ pub trait Diagnostic: Sized + Drop {
     ghost labels_gives: { Self → Self.Subject → Option (List Mark) → Type 0 };
 
     /// The error and its subject, kept together; no memory is taken.
+    ///
+    /// ```text
+    /// let report = ParseError::NoLeadingSlash.into_report(String::from_str(alloc, "size")?);
+    /// assert_eq!(rt; report.subject().as_str(), "size");
+    /// ```
     fn into_report(self, subject: Self::Subject) -> Report<Self>
         ensures original { original_of result ≡ self }
         ensures subject { subject_of result ≡ subject }
@@ -137,6 +164,14 @@ pub trait Diagnostic: Sized + Drop {
     /// The labels that the error puts on this subject, or none where it has nothing to point at. The subject
     /// need not be the one that gave the error.
     ///
+    /// ```text
+    /// let subject = String::from_str(alloc, "/size/~")?;
+    /// let error = Pointer::parse("/size/~").err().ok_or("a fault")?;
+    /// let labels = error.labels(alloc, &subject)?.ok_or("labels")?;
+    /// assert_eq!(rt; labels.len(), 1);
+    /// assert_eq!(rt; (labels[0].offset(), labels[0].len()), (6, 1));
+    /// ```
+    ///
     /// # Errors
     ///
     /// [`AllocError`] where there is no memory for the labels; where there are none, no memory is taken.
@@ -151,6 +186,15 @@ pub trait Diagnostic: Sized + Drop {
 }
 
 /// An error and the value that it speaks of, made by [`Diagnostic::into_report`].
+///
+/// ```text
+/// let text = String::from_str(alloc, "size")?;
+/// let report = PointerBuf::parse(text).err().ok_or("a report")?;
+/// assert_eq!(rt; *report.original(), ParseError::NoLeadingSlash);
+/// let (error, subject) = report.decompose();
+/// assert_eq!(rt; error, ParseError::NoLeadingSlash);
+/// assert_eq!(rt; subject.as_str(), "size");
+/// ```
 #[derive(Debug, Drop)]
 pub struct Report<T: Diagnostic> {
     source: T,
@@ -181,6 +225,12 @@ impl<T: Diagnostic> Report<T> {
     }
 
     /// The error; its subject is dropped.
+    ///
+    /// ```text
+    /// let text = String::from_str(alloc, "size")?;
+    /// let report = PointerBuf::parse(text).err().ok_or("a report")?;
+    /// assert_eq!(rt; report.into_original(), ParseError::NoLeadingSlash);
+    /// ```
     pub fn into_original(self) -> T
         ensures { result ≡ original_of self }
     {
@@ -209,6 +259,14 @@ pub trait Diagnose<T>: private::Sealed + Sized {
     /// The value, or the report of the error on this subject. No memory is taken; where there is a value,
     /// the subject is dropped.
     ///
+    /// ```text
+    /// let text = String::from_str(alloc, "size/width")?;
+    /// let parsed = Pointer::parse("size/width").diagnose(text);
+    /// let report = parsed.err().ok_or("a report")?;
+    /// assert_eq!(rt; report.subject().as_str(), "size/width");
+    /// assert_eq!(rt; report.into_original(), ParseError::NoLeadingSlash);
+    /// ```
+    ///
     /// # Errors
     ///
     /// The [`Report`] of the error where there is one.
@@ -220,6 +278,12 @@ pub trait Diagnose<T>: private::Sealed + Sized {
 
     /// The value, or the report of the error on the subject that `f` answers, which is called exactly where
     /// there is an error. No memory is taken but by `f`.
+    ///
+    /// ```text
+    /// let text = String::from_str(alloc, "width")?;
+    /// let parsed = Pointer::parse("width").diagnose_with(move || text);
+    /// assert_eq!(rt; parsed.err().ok_or("a report")?.subject().as_str(), "width");
+    /// ```
     ///
     /// # Errors
     ///

@@ -24,6 +24,13 @@ where
     /// moves a cursor. A character that has a byte of the span is marked whole; a span that has no byte of the text
     /// has one caret, which stands behind the text where the span begins at its end or past it.
     ///
+    /// ```text
+    /// let text = String::from_str(alloc, "width")?;
+    /// let report = PointerBuf::parse(text).err().ok_or("a report")?;
+    /// let drawn = "width\n^ must start with a slash ('/')";
+    /// assert_eq!(rt; report.render(alloc)?.as_str(), drawn);
+    /// ```
+    ///
     /// # Errors
     ///
     /// [`AllocError`] where there is no memory for the labels or for the text.

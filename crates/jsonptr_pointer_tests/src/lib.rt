@@ -7,6 +7,8 @@ mod bounds;
 #[cfg(test)]
 mod edits;
 #[cfg(test)]
+mod examples;
+#[cfg(test)]
 mod faults;
 #[cfg(test)]
 mod parts;

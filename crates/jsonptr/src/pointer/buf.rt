@@ -32,6 +32,12 @@ use std::marker::Model;
 /// A JSON Pointer that owns its text; it is read through [`PointerBuf::as_ptr`].
 ///
 /// Contracts see it as the list of its decoded tokens; its text is the text of that list.
+///
+/// ```text
+/// let mut pointer = PointerBuf::from_text(alloc, "/files")?;
+/// pointer.push_back(Token::new(alloc, CowStr::Borrowed("src/lib.rt"))?)?;
+/// assert_eq!(rt; pointer.as_ptr().as_str(), "/files/src~1lib.rt");
+/// ```
 #[derive(Debug, Drop)]
 pub struct PointerBuf {
     inner: String,
@@ -55,6 +61,11 @@ impl PointerBuf {
     ghost use Rattle.jsonptr_base.specs.Fault.{IsRefused};
 
     /// The pointer of no token, which names the whole document; no memory is taken.
+    ///
+    /// ```text
+    /// let root = PointerBuf::new(rt.alloc());
+    /// assert!(rt; root.as_ptr().is_root());
+    /// ```
     pub fn new(alloc: Global) -> PointerBuf
         ensures { result ≡ [] }
     {
@@ -81,6 +92,12 @@ impl PointerBuf {
 
     /// The pointer with a copy of this text.
     ///
+    /// ```text
+    /// let pointer = PointerBuf::from_text(alloc, "/lines/7")?;
+    /// assert_eq!(rt; pointer.as_ptr().count(), 2);
+    /// assert!(rt; PointerBuf::from_text(alloc, "lines/7").is_err());
+    /// ```
+    ///
     /// # Errors
     ///
     /// [`ParseError`] where the text is no pointer (RFC 6901, section 3), at its first fault; [`AllocError`]
@@ -97,6 +114,12 @@ impl PointerBuf {
     }
 
     /// The pointer with this text, which is one of the grammar (RFC 6901, section 3). Nothing is tested.
+    ///
+    /// ```text
+    /// let text = String::from_str(alloc, "/lines/~1")?;
+    /// let pointer = PointerBuf::new_unchecked(text);
+    /// assert_eq!(rt; pointer.as_ptr().as_str(), "/lines/~1");
+    /// ```
     pub fn new_unchecked(s: String) -> PointerBuf
         requires { IsPointer (string_bytes s) }
         ensures { text result ≡ string_bytes s }
@@ -105,6 +128,13 @@ impl PointerBuf {
     }
 
     /// The pointer with this text, which it keeps; no memory is taken.
+    ///
+    /// ```text
+    /// let text = String::from_str(alloc, "/lines/~7")?;
+    /// let report = PointerBuf::parse(text).err().ok_or("a refusal")?;
+    /// assert_eq!(rt; report.original().pointer_offset(), 6);
+    /// assert_eq!(rt; report.subject().as_str(), "/lines/~7");
+    /// ```
     ///
     /// # Errors
     ///
@@ -124,6 +154,13 @@ impl PointerBuf {
     }
 
     /// The pointer of these tokens, in their order.
+    ///
+    /// ```text
+    /// let (a, b) = (Token::from_number(alloc, 7)?, Token::from_number(alloc, 0)?);
+    /// let tokens = vec![in alloc; a, b]?;
+    /// let pointer = PointerBuf::from_tokens(alloc, tokens.into_iter())?;
+    /// assert_eq!(rt; pointer.as_ptr().as_str(), "/7/0");
+    /// ```
     ///
     /// # Errors
     ///
@@ -145,6 +182,12 @@ impl PointerBuf {
 
     /// The pointer of one token.
     ///
+    /// ```text
+    /// let token = Token::new(alloc, CowStr::Borrowed("~"))?;
+    /// let pointer = PointerBuf::from_token(alloc, token)?;
+    /// assert_eq!(rt; pointer.as_ptr().as_str(), "/~0");
+    /// ```
+    ///
     /// # Errors
     ///
     /// [`AllocError`] where there is no memory for the text.
@@ -158,6 +201,11 @@ impl PointerBuf {
 
     /// The pointer of one token, the decimal text of a number.
     ///
+    /// ```text
+    /// let pointer = PointerBuf::from_usize(alloc, 42)?;
+    /// assert_eq!(rt; pointer.as_ptr().as_str(), "/42");
+    /// ```
+    ///
     /// # Errors
     ///
     /// [`AllocError`] where there is no memory for the text.
@@ -168,6 +216,11 @@ impl PointerBuf {
     }
 
     /// A view of the pointer, which all reading goes through.
+    ///
+    /// ```text
+    /// let pointer = PointerBuf::from_text(alloc, "/lines/7")?;
+    /// assert_eq!(rt; pointer.as_ptr().parent(), Some(Pointer::parse("/lines")?));
+    /// ```
     pub fn as_ptr(&self) -> Pointer<'_>
         ensures tokens { tokens result ≡ self.now }
         ensures text { text_of result ≡ text self.now }
@@ -178,6 +231,12 @@ impl PointerBuf {
     }
 
     /// Puts a token before the others.
+    ///
+    /// ```text
+    /// let mut pointer = PointerBuf::from_text(alloc, "/text")?;
+    /// pointer.push_front(Token::from_number(alloc, 7)?)?;
+    /// assert_eq!(rt; pointer.as_ptr().as_str(), "/7/text");
+    /// ```
     ///
     /// # Errors
     ///
@@ -192,6 +251,12 @@ impl PointerBuf {
 
     /// Puts a token behind the others.
     ///
+    /// ```text
+    /// let mut pointer = PointerBuf::from_text(alloc, "/lines")?;
+    /// pointer.push_back(Token::from_number(alloc, 7)?)?;
+    /// assert_eq!(rt; pointer.as_ptr().as_str(), "/lines/7");
+    /// ```
+    ///
     /// # Errors
     ///
     /// [`AllocError`] where the text has no room and there is no memory for more; the pointer stays.
@@ -204,6 +269,12 @@ impl PointerBuf {
     }
 
     /// Takes the first token off; `None` at the root. The rest of the text moves down in place.
+    ///
+    /// ```text
+    /// let mut pointer = PointerBuf::from_text(alloc, "/7/text")?;
+    /// assert_eq!(rt; pointer.pop_front()?, Some(Token::from_number(alloc, 7)?));
+    /// assert_eq!(rt; pointer.as_ptr().as_str(), "/text");
+    /// ```
     ///
     /// # Errors
     ///
@@ -218,6 +289,12 @@ impl PointerBuf {
 
     /// Takes the last token off; `None` at the root.
     ///
+    /// ```text
+    /// let mut pointer = PointerBuf::from_text(alloc, "/7")?;
+    /// assert_eq!(rt; pointer.pop_back()?, Some(Token::from_number(alloc, 7)?));
+    /// assert_eq!(rt; pointer.pop_back()?, None);
+    /// ```
+    ///
     /// # Errors
     ///
     /// [`AllocError`] where there is no memory for the token; the pointer stays. The root asks for none.
@@ -230,6 +307,13 @@ impl PointerBuf {
     }
 
     /// Puts a token in the place of the one at `index`, and gives that one back: never `Ok(None)`.
+    ///
+    /// ```text
+    /// let mut pointer = PointerBuf::from_text(alloc, "/lines/7/text")?;
+    /// let old = pointer.replace(1, Token::from_number(alloc, 8)?)?;
+    /// assert_eq!(rt; old, Some(Token::from_number(alloc, 7)?));
+    /// assert_eq!(rt; pointer.as_ptr().as_str(), "/lines/8/text");
+    /// ```
     ///
     /// # Errors
     ///
@@ -255,6 +339,12 @@ impl PointerBuf {
 
     /// Puts the tokens of another pointer behind this one's.
     ///
+    /// ```text
+    /// let mut pointer = PointerBuf::from_text(alloc, "/lines")?;
+    /// pointer.append(Pointer::parse("/7/text")?)?;
+    /// assert_eq!(rt; pointer.as_ptr().as_str(), "/lines/7/text");
+    /// ```
+    ///
     /// # Errors
     ///
     /// [`AllocError`] where the text has no room and there is no memory for more; the pointer stays.
@@ -277,6 +367,12 @@ impl PointerBuf {
     }
 
     /// Makes the pointer the root; its room is kept.
+    ///
+    /// ```text
+    /// let mut pointer = PointerBuf::from_text(alloc, "/lines/7")?;
+    /// pointer.clear();
+    /// assert!(rt; pointer.as_ptr().is_root());
+    /// ```
     pub fn clear(&mut self)
         ensures { self.new ≡ [] }
     {
@@ -396,6 +492,14 @@ impl fmt::Display for PointerBuf {
 }
 
 /// Why [`PointerBuf::replace`] replaced nothing: there is no token at that place.
+///
+/// ```text
+/// let mut pointer = PointerBuf::from_text(alloc, "/lines/7")?;
+/// match pointer.replace(2, Token::from_number(alloc, 0)?) {
+///     Err(Fault::Refused(error)) => assert_eq!(rt; error, ReplaceError { index: 2, count: 2 }),
+///     _ => return Err("a refusal".into()),
+/// }
+/// ```
 #[derive(Debug, PartialEq, Eq, Drop)]
 pub struct ReplaceError {
     /// The place that was asked for, in tokens from 0.

@@ -8,6 +8,12 @@ use jsonptr_text::cut;
 use std::ops::{Bound, Range, RangeFrom, RangeFull, RangeInclusive, RangeTo, RangeToInclusive};
 
 /// What [`Pointer::get`] can be asked for: the place of one token, or a range of places.
+///
+/// ```text
+/// let pointer = Pointer::parse("/lines/7/text")?;
+/// let between = (Bound::Excluded(0), Bound::Excluded(2));
+/// assert_eq!(rt; pointer.get(between), Some(Pointer::parse("/7")?));
+/// ```
 pub trait PointerIndex<'p>: private::Sealed {
     ghost use Rattle.jsonptr.specs.Pointer.{tokens};
     ghost use Rattle.jsonptr.specs.Slashes.{slash_offsets};
@@ -232,6 +238,15 @@ impl<'a> Pointer<'a> {
 
     /// The token at a place from 0, or the pointer of the tokens in a range of such places; `None` where the
     /// places are not all in the pointer. A range with a start asks for a token to stand at that start.
+    ///
+    /// ```text
+    /// let pointer = Pointer::parse("/lines/7/text")?;
+    /// assert_eq!(rt; pointer.get(1), Some(Token::from_number(alloc, 7)?));
+    /// assert_eq!(rt; pointer.get(3), None);
+    /// assert_eq!(rt; pointer.get(..2), Some(Pointer::parse("/lines/7")?));
+    /// assert_eq!(rt; pointer.get(1..=2), Some(Pointer::parse("/7/text")?));
+    /// assert_eq!(rt; pointer.get(2..4), None);
+    /// ```
     pub fn get<I: PointerIndex<'a>>(&self, index: I) -> Option<I::Output>
         ensures { I.gives index (tokens self.now) result }
     {

@@ -31,6 +31,16 @@ impl<'a> Iterator for Tokens<'a> {
 
 impl<'a> Pointer<'a> {
     /// The pointer's tokens, from the first.
+    ///
+    /// ```text
+    /// let mut tokens = Pointer::parse("/m~0n/7")?.tokens();
+    /// assert_eq!(rt;
+    ///     tokens.next(),
+    ///     Some(Token::new(alloc, CowStr::Borrowed("m~n"))?)
+    /// );
+    /// assert_eq!(rt; tokens.next(), Some(Token::from_number(alloc, 7)?));
+    /// assert_eq!(rt; tokens.next(), None);
+    /// ```
     pub fn tokens(&self) -> Tokens<'a>
         ensures { rest_of result ≡ tokens self.now }
     {
@@ -38,6 +48,10 @@ impl<'a> Pointer<'a> {
     }
 
     /// How many tokens the pointer has, found in one scan.
+    ///
+    /// ```text
+    /// assert_eq!(rt; Pointer::parse("/lines/7/")?.count(), 3);
+    /// ```
     pub fn count(&self) -> usize
         ensures { result ≡ length (tokens self.now) }
     {
