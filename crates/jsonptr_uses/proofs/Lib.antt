@@ -1,3 +1,9 @@
--- Lemmas on the undos of an editor.
+-- Lemmas on the undos of an editor, on patches, on settings in layers, on references, on checks, on walks and on a cursor.
 pub mod UndoingLemmas
 mod PatchesLemmas
+mod SettingsLemmas
+mod ReferencesLemmas
+mod CheckingLemmas
+mod OverlayLemmas
+mod EditingLemmas
+mod WalkingLemmas

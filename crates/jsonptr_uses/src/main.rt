@@ -5,11 +5,18 @@ use jsonptr::{Pointer, Token};
 use serde_json::Value;
 use std::borrow::CowStr;
 
+mod checking;
 mod conditions;
+mod editing;
 mod edits;
+mod overlay;
 mod patches;
+mod references;
+mod settings;
+mod toml_settings;
 mod toml_writes;
 mod undoing;
+mod walking;
 mod writes;
 
 fn main(rt: HostRuntime) -> anyhow::Result<()> {

@@ -2,8 +2,10 @@
 ghost use Rattle.std.specs.Prelude.{◌≡◌, IfOk, OnErr, MatchOption, option_map};
 ghost use Rattle.toml.specs.Data.{table, no_members};
 ghost use Rattle.toml.specs.View.{view};
+ghost use Rattle.jsonptr.specs.Assign.{RefusesAssign};
 ghost use Rattle.jsonptr.specs.Assigning.{Assigns};
 ghost use Rattle.jsonptr.specs.Delete.{NamesNothing};
+ghost use Rattle.jsonptr.specs.Fault.{IfRefused};
 ghost use Rattle.jsonptr.specs.Pointer.{tokens};
 ghost use Rattle.jsonptr.specs.Removing.{Deletes};
 ghost use Rattle.jsonptr.specs.Resolve.{PutsAt};
@@ -44,6 +46,8 @@ pub fn assign_toml(
         (nodes (view document.new)) (option_map (λ v. nodes (view v)) old)) }
     ensures order { IfOk result (λ _.
         KeysAscend (view value) → KeysAscend (view document.old) → KeysAscend (view document.new)) }
+    ensures refused { IfRefused result
+        (RefusesAssign (nodes (view document.old)) (tokens pointer.entry)) }
     ensures stays { OnErr result (view document.new ≡ view document.old) }
 {
     pointer.assign(alloc, document, value)

@@ -1,10 +1,14 @@
 //! An editor of a JSON document that takes back what it assigned, with contracts that follow from those of
 //! `jsonptr_session` alone.
-ghost use Rattle.std.specs.Prelude.{◌≡◌, ◌-◌, length, IfOk};
+ghost use Rattle.std.specs.Prelude.{◌≡◌, ◌-◌, length, Option, IfOk, OnErr};
 ghost use Rattle.serde_json.specs.Data.{Data};
 ghost use Rattle.serde_json.specs.View.{view};
-ghost use Rattle.jsonptr.specs.Fault.{IsRefused};
-ghost use Rattle.jsonptr.specs.Json.{KeysAscend};
+ghost use Rattle.jsonptr.specs.Assign.{RefusesAssign};
+ghost use Rattle.jsonptr.specs.Assigning.{Assigns};
+ghost use Rattle.jsonptr.specs.Fault.{IfRefused, IsRefused};
+ghost use Rattle.jsonptr.specs.Json.{nodes, KeysAscend};
+ghost use Rattle.jsonptr.specs.Node.{NodeMap};
+ghost use Rattle.jsonptr.specs.Pointer.{tokens};
 ghost use Rattle.jsonptr_uses.specs.Undoing.{IsOpenedOn};
 
 use jsonptr::{Fault, Pointer, assign, resolve};
@@ -31,6 +35,13 @@ impl Editor {
         }
     }
 
+    /// The document, with all assignments in it that were not taken back.
+    pub fn document(&self) -> &Value
+        ensures { result.now ≡ self.now.document }
+    {
+        &self.document
+    }
+
     /// Assigns a value where a pointer leads. After a refusal, want of memory included, the editor is as it was.
     pub fn assign(
         &mut self,
@@ -38,8 +49,15 @@ impl Editor {
         pointer: Pointer<'_>,
         value: Value,
     ) -> Result<(), Fault<assign::Error>>
+        ensures assigned { IfOk result (λ _. (was : Option NodeMap)
+            × Assigns (nodes (view self.old.document)) (tokens pointer.entry) (nodes (view value))
+            (nodes (view self.new.document)) was) }
         ensures opened { (start : Data) → KeysAscend (view value)
             → IsOpenedOn start self.old → IsOpenedOn start self.new }
+        ensures refused { IfRefused result
+            (RefusesAssign (nodes (view self.old.document)) (tokens pointer.entry)) }
+        ensures stays { OnErr result (view self.new.document ≡ view self.old.document) }
+        ensures undos_stay { OnErr result (self.new.undos.items ≡ self.old.undos.items) }
     {
         self.undos.reserve(1)?;
         let last = assign_with_undo(alloc, &mut self.document, pointer, value)?;

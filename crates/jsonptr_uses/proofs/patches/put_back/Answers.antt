@@ -1,7 +1,10 @@
-use Rattle.std.proofs.Common.{List, [], ◌∷◌, refl, subst}
+use Rattle.std.proofs.Common.{List, [], ◌∷◌, refl, sym, subst}
+use Rattle.std.specs.Prelude.{All}
+use Rattle.std.proofs.lemmas.List.Elements.{All-nil, All-cons}
 use Rattle.std.proofs.lemmas.Result.{IfOk-weaker}
 use Rattle.serde_json.specs.View.{view}
 use Rattle.jsonptr.specs.Json.{nodes}
+use Rattle.jsonptr_patch.specs.Order.{IsInOrder}
 use Rattle.jsonptr_patch.specs.Patching.{Patches, RefusesPatch}
 use Rattle.jsonptr_patch.specs.declared.operation.Operation.{Operation}
 use Rattle.jsonptr_uses.proofs.PatchesLemmas.{is_document, refused_none}
@@ -21,3 +24,9 @@ returns-clause-never_refused c =
     (λ e refused. c.patch_law.ensures.not_both (nodes (view c.args.document.now)) c.requires.0 (c.args.undo ∷ []) e (is_document (view c.args.document.now))
     (c.requires.0, c.requires.1, refl)
     (subst (λ (os : List Operation). RefusesPatch (nodes (view c.args.document.now)) os e) c.in_ok-patch.ensures refused))
+
+pub returns-clause-order : goal.returns-clause-order
+returns-clause-order c =
+    IfOk-weaker c.apply.result _ _
+    (λ _ kept ordered. kept (subst (λ (os : List Operation). All IsInOrder os) (sym c.in_ok-patch.ensures) (All-cons IsInOrder c.args.undo [] ordered (All-nil IsInOrder))))
+    c.apply.ensures.order

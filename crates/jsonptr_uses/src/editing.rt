@@ -1,0 +1,110 @@
+//! An editor of a JSON document with a cursor, which always names a value of the document, and which takes back what
+//! it assigned. The contracts follow from those of `jsonptr`, of `jsonptr_session` and of the editor below it.
+ghost use Rattle.std.specs.Prelude.{◌≡◌, [], ◌∷◌, ◌++◌, IfOk, OnErr};
+ghost use Rattle.serde_json.specs.Data.{Data};
+ghost use Rattle.serde_json.specs.View.{view};
+ghost use Rattle.jsonptr.specs.Ends.{PopsBack};
+ghost use Rattle.jsonptr.specs.Fault.{IfRefused, IsRefused};
+ghost use Rattle.jsonptr.specs.Json.{nodes, FindsValue, KeysAscend};
+ghost use Rattle.jsonptr.specs.Resolve.{PutsAt, Refuses};
+ghost use Rattle.jsonptr_uses.specs.Editing.{StandsAtValue};
+ghost use Rattle.jsonptr_uses.specs.Undoing.{IsOpenedOn};
+
+use crate::undoing::Editor;
+use jsonptr::tree::json::json_law;
+use jsonptr::{Fault, PointerBuf, Token, assign, resolve};
+use serde_json::Value;
+use std::alloc::{AllocError, Global};
+
+/// A JSON document, the place in it that is looked at, and what takes each assignment back.
+#[derive(Drop)]
+pub struct CursorEditor {
+    editor: Editor,
+    cursor: PointerBuf,
+}
+
+impl CursorEditor {
+    /// An editor of this document, which it owns, with the cursor at the root.
+    pub fn open(alloc: Global, document: Value) -> CursorEditor
+        ensures opened { KeysAscend (view document) → IsOpenedOn (view document) result.editor }
+        ensures at_root { result.cursor ≡ [] }
+        ensures stands { StandsAtValue result }
+    {
+        json_law();
+        CursorEditor {
+            editor: Editor::open(alloc, document),
+            cursor: PointerBuf::new(alloc),
+        }
+    }
+
+    /// The value at the cursor. Only want of memory refuses it.
+    pub fn current(&self, alloc: Global) -> Result<&Value, Fault<resolve::Error>>
+        ensures found { IfOk result (λ value.
+            FindsValue (view self.now.editor.document) self.now.cursor (view value.now)) }
+        ensures never_refused { StandsAtValue self.now → IsRefused result → ⊥ }
+    {
+        self.cursor.as_ptr().resolve(alloc, self.editor.document())
+    }
+
+    /// Moves the cursor to a child of the value at which it stands. Where there is none, and where memory is
+    /// wanted, it stays.
+    pub fn down(&mut self, alloc: Global, token: Token<'_>) -> Result<(), Fault<resolve::Error>>
+        ensures moved { IfOk result (λ _. self.new.cursor ≡ self.old.cursor ++ token.entry ∷ []) }
+        ensures stands { IfOk result (λ _. StandsAtValue self.new) }
+        ensures refused { IfRefused result (Refuses (nodes (view self.old.editor.document))
+            (self.old.cursor ++ token.entry ∷ [])) }
+        ensures stays { OnErr result (self.new.cursor ≡ self.old.cursor) }
+        ensures kept { self.new.editor ≡ self.old.editor }
+    {
+        let below = self.cursor.as_ptr().with_trailing_token(alloc, token)?;
+        let _child = below.as_ptr().resolve(alloc, self.editor.document())?;
+        self.cursor = below;
+        Ok(())
+    }
+
+    /// Moves the cursor to the parent, and answers the token that leads back down; at the root it stays, and the
+    /// answer is `None`. Where memory is wanted it stays too.
+    pub fn up(&mut self) -> Result<Option<Token<'static>>, AllocError>
+        ensures moved { IfOk result (λ t. PopsBack self.old.cursor t self.new.cursor) }
+        ensures stands { StandsAtValue self.old → StandsAtValue self.new }
+        ensures stays { OnErr result (self.new.cursor ≡ self.old.cursor) }
+        ensures kept { self.new.editor ≡ self.old.editor }
+    {
+        self.cursor.pop_back()
+    }
+
+    /// Puts a value in the place of the one at the cursor. Only want of memory refuses that, and then the
+    /// document is as it was.
+    pub fn set(&mut self, alloc: Global, value: Value) -> Result<(), Fault<assign::Error>>
+        ensures written { IfOk result (λ _. StandsAtValue self.old
+            → PutsAt (nodes (view self.old.editor.document)) self.old.cursor (nodes (view value))
+            (nodes (view self.new.editor.document))) }
+        ensures opened { (start : Data) → KeysAscend (view value)
+            → IsOpenedOn start self.old.editor → IsOpenedOn start self.new.editor }
+        ensures stands { StandsAtValue self.old → StandsAtValue self.new }
+        ensures never_refused { StandsAtValue self.old → IsRefused result → ⊥ }
+        ensures stays { OnErr result
+            (view self.new.editor.document ≡ view self.old.editor.document) }
+        ensures kept { self.new.cursor ≡ self.old.cursor }
+    {
+        json_law();
+        self.editor.assign(alloc, self.cursor.as_ptr(), value)
+    }
+
+    /// Moves the cursor to the root and takes all assignments back: the document is the one that the editor was
+    /// opened on. Where memory is wanted, which is the only refusal, the rest can be taken back by another call.
+    pub fn undo_all(&mut self, alloc: Global) -> Result<(), Fault<resolve::Error>>
+        ensures restored { IfOk result (λ _. (start : Data)
+            → IsOpenedOn start self.old.editor → view self.new.editor.document ≡ start) }
+        ensures opened { (start : Data)
+            → IsOpenedOn start self.old.editor → IsOpenedOn start self.new.editor }
+        ensures never_refused { (start : Data)
+            → IsOpenedOn start self.old.editor → IsRefused result → ⊥ }
+        ensures at_root { self.new.cursor ≡ [] }
+        ensures stands { StandsAtValue self.new }
+    {
+        json_law();
+        self.cursor.clear();
+        self.editor.take_all_back(alloc)
+    }
+}

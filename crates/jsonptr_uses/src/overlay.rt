@@ -1,0 +1,66 @@
+//! A type of one's own as a document: a value laid over another one.
+ghost use Rattle.std.specs.Prelude.{◌≡◌, ◌≢◌, All, IfOk};
+ghost use Rattle.serde_json.specs.View.{view};
+ghost use Rattle.jsonptr.specs.Fault.{IfRefused};
+ghost use Rattle.jsonptr.specs.Pointer.{tokens};
+ghost use Rattle.jsonptr.specs.Text.{text};
+ghost use Rattle.jsonptr_uses.specs.Overlay.{FindsIn, RefusesIn};
+
+use jsonptr::{Fault, Pointer, Resolve, resolve};
+use serde_json::Value;
+use std::alloc::Global;
+
+/// Two JSON documents that are read as one: what a pointer names in the upper one hides what it names in the lower
+/// one.
+#[derive(Drop)]
+pub struct Overlay {
+    upper: Value,
+    lower: Value,
+}
+
+impl Overlay {
+    /// The first document laid over the second; it owns both.
+    pub fn new(upper: Value, lower: Value) -> Overlay
+        ensures upper { view result.upper ≡ view upper }
+        ensures lower { view result.lower ≡ view lower }
+    {
+        Overlay { upper, lower }
+    }
+}
+
+/// With this `Pointer::resolve` takes an [`Overlay`] as any other document.
+impl Resolve for Overlay {
+    type Value = Value;
+
+    type Error = resolve::Error;
+
+    ghost finds = { λ o ts value. FindsIn (view o.upper) (view o.lower) ts (view value) };
+
+    ghost refuses = { λ o ts e. RefusesIn (view o.upper) (view o.lower) ts e };
+
+    ghost needs_no_memory = { λ o ts. All (λ b. b ≢ 126) (text ts) };
+
+    fn resolve(&self, alloc: Global, ptr: Pointer<'_>) -> Result<&Value, Fault<resolve::Error>> {
+        match ptr.resolve(alloc, &self.upper) {
+            Ok(value) => Ok(value),
+            Err(Fault::Refused(_)) => ptr.resolve(alloc, &self.lower),
+            Err(Fault::Memory(error)) => Err(Fault::Memory(error)),
+        }
+    }
+}
+
+/// What a pointer names in the overlay of two documents, as a pointer's own call: its contract is what [`Overlay`]
+/// promises.
+pub fn found_in<'o>(
+    overlay: &'o Overlay,
+    alloc: Global,
+    pointer: Pointer<'_>,
+) -> Result<&'o Value, Fault<resolve::Error>>
+    ensures found { IfOk result (λ value.
+        FindsIn (view overlay.now.upper) (view overlay.now.lower) (tokens pointer.entry)
+        (view value.now)) }
+    ensures refused { IfRefused result
+        (RefusesIn (view overlay.now.upper) (view overlay.now.lower) (tokens pointer.entry)) }
+{
+    pointer.resolve(alloc, overlay)
+}
