@@ -70,6 +70,40 @@ const SLOW: [(&[Step], &[Step]); 3] = [
     ),
 ];
 
+/// Whether the program writes this line and reads all of the input, whatever time reader and writer take.
+fn writes_line(alloc: Global, words: &[&str], input: &str, line: &str) -> Result<bool, AllocError> {
+    for (reads, writes) in SLOW {
+        let ran = run_on(alloc, words, input, reads, writes)?;
+        if ran.status != 0 || ran.written.as_slice() != line.as_bytes() || ran.left != 0 {
+            return Ok(false);
+        }
+    }
+    Ok(true)
+}
+
+/// Whether the program ends so and writes nothing, where a read would fail; so it reads nothing.
+fn is_refused_unread(
+    alloc: Global,
+    words: &[&str],
+    status: u8,
+    told: &str,
+) -> Result<bool, AllocError> {
+    let ran = run_on(alloc, words, "{}", &[Step::Fail], ALL)?;
+    Ok(ran.status == status && ran.told.as_str() == told && ran.written.is_empty() && ran.left == 2)
+}
+
+/// Whether the program reads all of the input, ends so and writes nothing.
+fn is_refused(
+    alloc: Global,
+    words: &[&str],
+    input: &str,
+    status: u8,
+    told: &str,
+) -> Result<bool, AllocError> {
+    let ran = run_on(alloc, words, input, ALL, ALL)?;
+    Ok(ran.status == status && ran.told.as_str() == told && ran.written.is_empty() && ran.left == 0)
+}
+
 #[test]
 fn writes_the_value_that_the_pointer_names(rt: HostRuntime) -> Result<(), AllocError> {
     for (pointer, input, line) in [
@@ -79,12 +113,8 @@ fn writes_the_value_that_the_pointer_names(rt: HostRuntime) -> Result<(), AllocE
         ("/~01", "{\"~1\":\"\u{e9}\"}", "\"\u{e9}\"\n"),
         ("/", "{\"\":true}", "true\n"),
     ] {
-        for (reads, writes) in SLOW {
-            let ran = run_on(rt.alloc(), &["resolve", pointer], input, reads, writes)?;
-            assert_eq!(rt; ran.status, 0, "{pointer}");
-            assert!(rt; ran.written.as_slice() == line.as_bytes(), "{pointer}");
-            assert_eq!(rt; ran.left, 0, "{pointer}");
-        }
+        let is_so = writes_line(rt.alloc(), &["resolve", pointer], input, line)?;
+        assert!(rt; is_so, "{pointer}");
     }
     Ok(())
 }
@@ -109,13 +139,8 @@ fn assigns_the_value_and_writes_the_document(rt: HostRuntime) -> Result<(), Allo
         ("", "[1, 2]", "{\"a\":1}", "[1,2]\n"),
         ("/0", "null", " [ true ] ", "[null]\n"),
     ] {
-        for (reads, writes) in SLOW {
-            let words = &["assign", pointer, value];
-            let ran = run_on(rt.alloc(), words, input, reads, writes)?;
-            assert_eq!(rt; ran.status, 0, "{pointer}");
-            assert!(rt; ran.written.as_slice() == line.as_bytes(), "{pointer}");
-            assert_eq!(rt; ran.left, 0, "{pointer}");
-        }
+        let is_so = writes_line(rt.alloc(), &["assign", pointer, value], input, line)?;
+        assert!(rt; is_so, "{pointer}");
     }
     Ok(())
 }
@@ -129,12 +154,8 @@ fn deletes_and_writes_the_document(rt: HostRuntime) -> Result<(), AllocError> {
         ("/a~1b", "{\"a/b\":1, \"c\" : 2}", "{\"c\":2}\n"),
         ("/", "{\"\":{}}", "{}\n"),
     ] {
-        for (reads, writes) in SLOW {
-            let ran = run_on(rt.alloc(), &["delete", pointer], input, reads, writes)?;
-            assert_eq!(rt; ran.status, 0, "{pointer}");
-            assert!(rt; ran.written.as_slice() == line.as_bytes(), "{pointer}");
-            assert_eq!(rt; ran.left, 0, "{pointer}");
-        }
+        let is_so = writes_line(rt.alloc(), &["delete", pointer], input, line)?;
+        assert!(rt; is_so, "{pointer}");
     }
     Ok(())
 }
@@ -194,11 +215,8 @@ fn refuses_positions_above_the_count(rt: HostRuntime) -> Result<(), AllocError> 
         ),
     ] {
         let words = &["split", pointer, position];
-        let ran = run_on(rt.alloc(), words, "{}", &[Step::Fail], ALL)?;
-        assert_eq!(rt; ran.status, 1, "{pointer}");
-        assert!(rt; ran.told.as_str() == told, "{pointer}");
-        assert!(rt; ran.written.is_empty(), "{pointer}");
-        assert_eq!(rt; ran.left, 2, "{pointer}");
+        let is_so = is_refused_unread(rt.alloc(), &["split", pointer, position], 1, told)?;
+        assert!(rt; is_so, "{pointer}");
     }
     Ok(())
 }
@@ -252,10 +270,8 @@ fn refuses_what_names_no_value(rt: HostRuntime) -> Result<(), AllocError> {
         ("/a", "{\"a\"", 3, "input is not JSON"),
         ("/a", "", 3, "input is not JSON"),
     ] {
-        let ran = run_on(rt.alloc(), &["resolve", pointer], input, ALL, ALL)?;
-        assert_eq!(rt; ran.status, status, "{pointer}");
-        assert!(rt; ran.told.as_str() == told, "{pointer}");
-        assert!(rt; ran.written.is_empty(), "{pointer}");
+        let is_so = is_refused(rt.alloc(), &["resolve", pointer], input, status, told)?;
+        assert!(rt; is_so, "{pointer}");
     }
     Ok(())
 }
@@ -292,11 +308,8 @@ fn refuses_what_cannot_be_assigned_or_deleted(rt: HostRuntime) -> Result<(), All
         (&["delete", "/x"], "1 1", 3, "input is not JSON"),
     ];
     for (words, input, status, told) in lines {
-        let ran = run_on(rt.alloc(), words, input, ALL, ALL)?;
-        assert_eq!(rt; ran.status, status, "{words:?}");
-        assert!(rt; ran.told.as_str() == told, "{words:?}");
-        assert!(rt; ran.written.is_empty(), "{words:?}");
-        assert_eq!(rt; ran.left, 0, "{words:?}");
+        let is_so = is_refused(rt.alloc(), words, input, status, told)?;
+        assert!(rt; is_so, "{words:?}");
     }
     Ok(())
 }
@@ -339,11 +352,8 @@ fn refuses_words_before_it_reads(rt: HostRuntime) -> Result<(), AllocError> {
         (&["patches"], 2, USAGE),
     ];
     for (line, status, told) in lines {
-        let ran = run_on(rt.alloc(), line, "{}", &[Step::Fail], ALL)?;
-        assert_eq!(rt; ran.status, status, "{line:?}");
-        assert!(rt; ran.told.as_str() == told, "{line:?}");
-        assert!(rt; ran.written.is_empty(), "{line:?}");
-        assert_eq!(rt; ran.left, 2, "{line:?}");
+        let is_so = is_refused_unread(rt.alloc(), line, status, told)?;
+        assert!(rt; is_so, "{line:?}");
     }
     Ok(())
 }
@@ -367,11 +377,8 @@ fn refuses_words_that_are_no_operations(rt: HostRuntime) -> Result<(), AllocErro
         (&["patch", "add", "/b", "x", "add", "/c"], 2, USAGE),
     ];
     for (line, status, told) in lines {
-        let ran = run_on(rt.alloc(), line, "{}", &[Step::Fail], ALL)?;
-        assert_eq!(rt; ran.status, status, "{line:?}");
-        assert!(rt; ran.told.as_str() == told, "{line:?}");
-        assert!(rt; ran.written.is_empty(), "{line:?}");
-        assert_eq!(rt; ran.left, 2, "{line:?}");
+        let is_so = is_refused_unread(rt.alloc(), line, status, told)?;
+        assert!(rt; is_so, "{line:?}");
     }
     Ok(())
 }
@@ -394,11 +401,8 @@ fn refuses_operations_before_it_reads(rt: HostRuntime) -> Result<(), AllocError>
         (&["patch", "test", "/b", "", "add", "/c", "1"], 3, NO_VALUE),
     ];
     for (line, status, told) in lines {
-        let ran = run_on(rt.alloc(), line, "{}", &[Step::Fail], ALL)?;
-        assert_eq!(rt; ran.status, status, "{line:?}");
-        assert!(rt; ran.told.as_str() == told, "{line:?}");
-        assert!(rt; ran.written.is_empty(), "{line:?}");
-        assert_eq!(rt; ran.left, 2, "{line:?}");
+        let is_so = is_refused_unread(rt.alloc(), line, status, told)?;
+        assert!(rt; is_so, "{line:?}");
     }
     Ok(())
 }
@@ -465,12 +469,8 @@ fn applies_the_operations_and_writes_the_document(rt: HostRuntime) -> Result<(),
         ),
     ];
     for (words, input, line) in lines {
-        for (reads, writes) in SLOW {
-            let ran = run_on(rt.alloc(), words, input, reads, writes)?;
-            assert_eq!(rt; ran.status, 0, "{words:?}");
-            assert!(rt; ran.written.as_slice() == line.as_bytes(), "{words:?}");
-            assert_eq!(rt; ran.left, 0, "{words:?}");
-        }
+        let is_so = writes_line(rt.alloc(), words, input, line)?;
+        assert!(rt; is_so, "{words:?}");
     }
     Ok(())
 }
@@ -518,11 +518,8 @@ fn refuses_a_patch_whole(rt: HostRuntime) -> Result<(), AllocError> {
         (&["patch", "add", "/a", "1"], "", 3, "input is not JSON"),
     ];
     for (words, input, status, told) in lines {
-        let ran = run_on(rt.alloc(), words, input, ALL, ALL)?;
-        assert_eq!(rt; ran.status, status, "{words:?}");
-        assert!(rt; ran.told.as_str() == told, "{words:?}");
-        assert!(rt; ran.written.is_empty(), "{words:?}");
-        assert_eq!(rt; ran.left, 0, "{words:?}");
+        let is_so = is_refused(rt.alloc(), words, input, status, told)?;
+        assert!(rt; is_so, "{words:?}");
     }
     Ok(())
 }
