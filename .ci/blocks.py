@@ -52,7 +52,7 @@ def check(blocks, sources):
 
 
 def main():
-    callers = [lines(read(f)) for f in files("jsonptr_uses", "rt", "antt")]
+    callers = [lines(read(f)) for f in files("jsonptr_uses", "rt", "antt") + files("jsonptr_example", "rt")]
     tests = [lines(read(f)) for f in files("*_tests", "rt")]
     guide = check(BLOCK.findall(read(f"{TOP}/docs/CALLING.md")) + PROGRAM.findall(read(f"{TOP}/README.md")), callers)
     libraries = [f for f in files("*", "rt") if "_tests/" not in f]

@@ -1,25 +1,12 @@
 //! The program: a pointer and a JSON document in, one line out.
 #![tactic(auto)]
 
-use fault::{RunFault, exit_code};
-use run::run_program;
+use jsonptr_command::fault::{RunFault, exit_code};
+use jsonptr_command::run::run_program;
 use std::alloc::AllocError;
 use std::env;
 use std::io::ErrorKind;
 use std::process::ExitCode;
-
-#[cfg(test)]
-mod fakes;
-mod fault;
-mod input;
-mod json_text;
-mod operations;
-mod output;
-mod run;
-#[cfg(test)]
-mod streams;
-#[cfg(test)]
-mod tests;
 
 fn main(rt: HostRuntime) -> ExitCode {
     let outcome = run_on_streams(&rt);

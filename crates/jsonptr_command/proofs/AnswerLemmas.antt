@@ -1,0 +1,53 @@
+-- From what is known of the document to what is known of the input's bytes.
+use Rattle.std.proofs.Common.{◌≡◌, ℕ, List, Option, Some, None, Result, Ok, Err, MatchOption, sym, ap, subst, inl, inr}
+use Rattle.serde_json.specs.Data.{Data}
+use Rattle.jsonptr.specs.Text.{Text}
+use Rattle.jsonptr_command.specs.JsonText.{json_of}
+use Rattle.jsonptr_command.specs.Streams.{ForBytes}
+use Rattle.jsonptr_command.specs.Run.{Request, Gives, IsRequestFault, NeedsInput, OnDocument}
+use Rattle.jsonptr_command.specs.Private.{IsInputFault, IsFaultOf, IsLineOf}
+use Rattle.jsonptr_command.specs.declared.fault.RunFault.{RunFault}
+use Rattle.jsonptr_command.specs.declared.fault.RunFault.TheVariants.{InputNotJson}
+
+-- what holds of the bytes gives what follows from it
+pub ForBytes-map : (known : Option (List ℕ)) (P Q : List ℕ → Type 0) → ((bytes : List ℕ) → P bytes → Q bytes) → ForBytes known P → ForBytes known Q
+ForBytes-map None P Q f h = (h.0, f h.0 h.1)
+ForBytes-map (Some bytes) P Q f h = f bytes h
+
+abbrev refusal : RunFault → Result Data RunFault
+refusal e = Err e
+
+-- what a document gives, its bytes give
+on_document : (bytes : List ℕ) (d : Data) (r : Result Data RunFault) (P : Data → Type 0) → json_of bytes ≡ Some d → P d → OnDocument bytes r P
+on_document bytes d r P is h = subst (λ (o : Option Data). MatchOption o (r ≡ Err InputNotJson) P) (sym is) h
+
+-- bytes that are no document give that refusal
+no_document : (bytes : List ℕ) (e : RunFault) (P : Data → Type 0) → json_of bytes ≡ None → e ≡ InputNotJson → OnDocument bytes (Err e) P
+no_document bytes e P none is =
+    subst (λ (o : Option Data). MatchOption o (refusal e ≡ refusal InputNotJson) P) (sym none) (ap refusal is)
+
+-- a request that needs the input and gives what its document gives
+module _ (known : Option (List ℕ)) (request : Request) (P : Data → Result Data RunFault → Type 0) (needs : NeedsInput request) (gives : (bytes : List ℕ) (r : Result Data RunFault) → OnDocument bytes r (λ d. P d r) → Gives request bytes r) where
+  -- a fault of the input is one of the request
+  pub input_fault_given : (e : RunFault) → IsInputFault known e → IsRequestFault request known e
+  input_fault_given e (inl memory) = inr (inl memory)
+  input_fault_given e (inr (inl read)) = inr (inr (needs, read))
+  input_fault_given e (inr (inr h)) =
+      inl
+      (ForBytes-map known (λ bytes. json_of bytes ≡ None) (λ bytes. Gives request bytes (Err e))
+      (λ bytes none. gives bytes (Err e) (no_document bytes e (λ d. P d (Err e)) none h.1)) h.0)
+
+  module _ (d : Data) (read : ForBytes known (λ bytes. json_of bytes ≡ Some d)) where
+    -- a line of what the document gives is one of what its bytes give
+    pub line_given : (line : Text) → IsLineOf (P d) line → ForBytes known (λ bytes. IsLineOf (Gives request bytes) line)
+    line_given line h =
+        ForBytes-map known (λ bytes. json_of bytes ≡ Some d) (λ bytes. IsLineOf (Gives request bytes) line)
+        (λ bytes is. (h.0, gives bytes (Ok h.0) (on_document bytes d (Ok h.0) (λ d. P d (Ok h.0)) is h.1), h.2)) read
+
+    -- and so is a fault
+    pub fault_given : (e : RunFault) → IsFaultOf (P d) e → IsRequestFault request known e
+    fault_given e (inl h) =
+        inl
+        (ForBytes-map known (λ bytes. json_of bytes ≡ Some d) (λ bytes. Gives request bytes (Err e))
+        (λ bytes is. gives bytes (Err e) (on_document bytes d (Err e) (λ d. P d (Err e)) is h)) read)
+    fault_given e (inr memory) = inr (inl memory)

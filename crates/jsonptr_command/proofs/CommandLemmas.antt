@@ -1,0 +1,191 @@
+-- What two and three words are, how their pointer is refused, and what words of a patch are.
+use Rattle.std.proofs.Common.{◌≡◌, ◌<◌, ◌≤◌, ◌⊎◌, inl, inr, Bool, true, false, nat_eq, ℕ, List, [], ◌∷◌, map, length, get_or, take, drop, ◌-◌, codes, Result, Ok, Err, IfErr, refl, sym, ap, ◌∙◌, subst, arith}
+use Rattle.std.specs.Str.{bytes_eq}
+use Rattle.std.proofs.lemmas.List.Elements.{All-nil, Contains-push}
+use Rattle.std.specs.Result.{IsErrAnd}
+use Rattle.std.proofs.lemmas.List.{length-map, take_all}
+use Rattle.std.proofs.lemmas.Result.{err_from_is_err_and}
+use Rattle.std.proofs.lemmas.Slice.Eq.{slice_eq-Decides}
+use Rattle.std.proofs.lemmas.Bool.Decides.{Decides-eqb}
+use lib.Pointwise.{pointwise}
+use Rattle.jsonptr.specs.Text.{Text}
+use Rattle.jsonptr.specs.Grammar.{IsPointer}
+use Rattle.jsonptr.specs.ParseError.{TellsPointerFault}
+use Rattle.jsonptr.specs.Types.ParseError.{ParseError}
+use Rattle.jsonptr.specs.Index.{Reads}
+use Rattle.jsonptr.specs.Types.Index.{Index}
+use Rattle.jsonptr.specs.Types.Index.TheVariants.{Num, Next}
+use Rattle.jsonptr.specs.Types.ParseIndexError.{ParseIndexError}
+use Rattle.jsonptr.proofs.Calling.{Reads_one}
+use Rattle.jsonptr_command.specs.Operations.{Form, words_of, values_of}
+use Rattle.jsonptr_command.specs.PrivateOperations.{RefusesOperations}
+use Rattle.jsonptr_command.specs.Run.{Asks, HaveForms, HaveValue, IsWordsMemory, TakePointer, TakePointers}
+use Rattle.jsonptr_command.specs.Private.{IsNoPatch, RefusesCommand, RefusesValue}
+use Rattle.jsonptr_command.specs.declared.fault.RunFault.{RunFault}
+use Rattle.jsonptr_command.specs.declared.fault.RunFault.TheVariants.{BadPointer}
+
+-- a comparison that says so shows that the text is the word
+is_word : (first shown word : Text) → first ≡ shown → true ≡ pointwise nat_eq first word → shown ≡ word
+is_word first shown word is same =
+    let first_is : first ≡ word = (slice_eq-Decides Decides-eqb first word true same).0 refl in
+    sym is ∙ first_is
+
+is_other : (first shown word : Text) → first ≡ shown → false ≡ pointwise nat_eq first word → shown ≡ word → ⊥
+is_other first shown word is other same =
+    let both : false ≡ true = (slice_eq-Decides Decides-eqb first word false other).1 (is ∙ same) in
+    cc
+
+two_words : {A : Type 0} (f : A → Text) (ws : List A) (a b : A) → 2 ≤ length ws → length ws < 3 → a ≡ get_or ws 0 a → b ≡ get_or ws 1 b → map f ws ≡ f a ∷ f b ∷ []
+two_words f [] a b low high e h = absurd (omega arith)
+two_words f (x ∷ []) a b low high e h = absurd (omega arith)
+two_words f (x ∷ y ∷ []) a b low high e h = rw (e, h) refl
+two_words f (x ∷ y ∷ z ∷ ws) a b low high e h = absurd (omega arith)
+
+-- the first of two words is this text, if a comparison says so
+pub two_words_are : {A : Type 0} (f : A → Text) (ws : List A) (a b : A) (first word : Text) → 2 ≤ length ws → length ws < 3 → a ≡ get_or ws 0 a → b ≡ get_or ws 1 b
+    → first ≡ f a → true ≡ pointwise nat_eq first word → map f ws ≡ word ∷ f b ∷ []
+two_words_are f ws a b first word low high e h shown same =
+    two_words f ws a b low high e h ∙ ap (λ (x : Text). x ∷ f b ∷ []) (is_word first (f a) word shown same)
+
+first_of_two : (c d p q : Text) → c ∷ p ∷ [] ≡ d ∷ q ∷ [] → c ≡ d
+first_of_two c d p q e = cc
+
+-- and is another one, if it says so
+pub two_words_are_not : {A : Type 0} (f : A → Text) (ws : List A) (a b : A) (first word : Text) → 2 ≤ length ws → length ws < 3 → a ≡ get_or ws 0 a → b ≡ get_or ws 1 b
+    → first ≡ f a → false ≡ pointwise nat_eq first word → (pointer : Text) → map f ws ≡ word ∷ pointer ∷ [] → ⊥
+two_words_are_not f ws a b first word low high e h shown other pointer are =
+    is_other first (f a) word shown other (first_of_two (f a) word (f b) pointer (sym (two_words f ws a b low high e h) ∙ are))
+
+three_words : {A : Type 0} (f : A → Text) (ws : List A) (a b d : A) → 3 ≤ length ws → length ws < 4 → a ≡ get_or ws 0 a → b ≡ get_or ws 1 b → d ≡ get_or ws 2 d
+    → map f ws ≡ f a ∷ f b ∷ f d ∷ []
+three_words f [] a b d low high e h k = absurd (omega arith)
+three_words f (x ∷ []) a b d low high e h k = absurd (omega arith)
+three_words f (x ∷ y ∷ []) a b d low high e h k = absurd (omega arith)
+three_words f (x ∷ y ∷ z ∷ []) a b d low high e h k = rw (e, h, k) refl
+three_words f (x ∷ y ∷ z ∷ u ∷ ws) a b d low high e h k = absurd (omega arith)
+
+-- the first of three words is this text, if a comparison says so
+pub three_words_are : {A : Type 0} (f : A → Text) (ws : List A) (a b d : A) (first word : Text) → 3 ≤ length ws → length ws < 4 → a ≡ get_or ws 0 a → b ≡ get_or ws 1 b → d ≡ get_or ws 2 d
+    → first ≡ f a → true ≡ pointwise nat_eq first word → map f ws ≡ word ∷ f b ∷ f d ∷ []
+three_words_are f ws a b d first word low high e h k shown same =
+    three_words f ws a b d low high e h k ∙ ap (λ (x : Text). x ∷ f b ∷ f d ∷ []) (is_word first (f a) word shown same)
+
+first_of_three : (c d p q v w : Text) → c ∷ p ∷ v ∷ [] ≡ d ∷ q ∷ w ∷ [] → c ≡ d
+first_of_three c d p q v w e = cc
+
+-- and is another one, if it says so
+pub three_words_are_not : {A : Type 0} (f : A → Text) (ws : List A) (a b d : A) (first word : Text) → 3 ≤ length ws → length ws < 4 → a ≡ get_or ws 0 a → b ≡ get_or ws 1 b → d ≡ get_or ws 2 d
+    → first ≡ f a → false ≡ pointwise nat_eq first word → (pointer value : Text) → map f ws ≡ word ∷ pointer ∷ value ∷ [] → ⊥
+three_words_are_not f ws a b d first word low high e h k shown other pointer value are =
+    is_other first (f a) word shown other (first_of_three (f a) word (f b) pointer (f d) value (sym (three_words f ws a b d low high e h k) ∙ are))
+
+-- words are as many as the texts that they are
+pub as_many : {A : Type 0} (f : A → Text) (ws : List A) (words : List Text) → map f ws ≡ words → length ws ≡ length words
+as_many f ws words are = sym (length-map ws f) ∙ ap length are
+
+-- words are refused as their pointer is
+pub pointer_refused : {T : Type 0} (words : List Text) (r : Result T RunFault) (pointer read : Text) (f : ParseError) → IsErrAnd r (λ e. e ≡ BadPointer f) → TakePointer words pointer
+    → read ≡ pointer → TellsPointerFault read f → IfErr r (RefusesCommand words)
+pointer_refused words r pointer read f refused take is tells =
+    let p = err_from_is_err_and r refused in
+    rw p.1 (inr (inl (pointer, f, take, subst (λ (t : Text). TellsPointerFault t f) is tells, p.2)))
+
+-- and as the value to assign
+pub value_refused : {T : Type 0} (words : List Text) (r : Result T RunFault) (ts : List Text) (value : Text) (e : RunFault) → IsErrAnd r (λ f. f ≡ e) → HaveValue words ts value → RefusesValue value e → IfErr r (RefusesCommand words)
+value_refused words r ts value e refused have none =
+    let p = err_from_is_err_and r refused in
+    rw (p.1, p.2) (inr (inr (ts, value, have, none)))
+
+-- ---- words of a patch, and others
+
+-- whether the words begin with `patch`
+unfoldable pub begins : List Text → Bool
+begins [] = false
+begins (c ∷ ws) = bytes_eq c (codes "patch")
+
+pub begins_so : (words : List Text) (forms : List Form) → HaveForms words forms → begins words ≡ true
+unfolding begins
+begins_so words forms h = rw h refl
+
+pub begins_otherwise : (words : List Text) (pointer : Text) → TakePointer words pointer → begins words ≡ false
+unfolding begins
+begins_otherwise words p (inl h) = rw h refl
+begins_otherwise words p (inr (inl h)) = rw h refl
+begins_otherwise words p (inr (inr (inl h))) = rw h.1 refl
+begins_otherwise words p (inr (inr (inr (inl h)))) = rw h refl
+begins_otherwise words p (inr (inr (inr (inr h)))) = rw h.1.1 refl
+
+pub no_both : (words : List Text) → begins words ≡ true → begins words ≡ false → ⊥
+no_both words h k = let both : true ≡ false = sym h ∙ k in cc
+
+-- what stands behind the first word
+pub behind_first : List Text → List Text
+behind_first [] = []
+behind_first (c ∷ ws) = ws
+
+pub same_behind : (words rest more : List Text) → words ≡ codes "patch" ∷ rest → words ≡ codes "patch" ∷ more → rest ≡ more
+unfolding behind_first
+same_behind words rest more h k = ap behind_first (sym h ∙ k)
+
+-- words of another command are refused as its pointer or value is
+pub command_refused : (words : List Text) (e : RunFault) → IsNoPatch words → RefusesCommand words e → Asks words (Err e) ⊎ IsWordsMemory words e
+command_refused words e other (inl h) = inl (inl (none, h.1))
+  where
+    none : (pointers : List Text) → TakePointers words pointers → ⊥
+    none pointers (inl t) = h.0 t.0 t.1
+    none pointers (inr t) = other (words_of t.0) t.1
+command_refused words e other (inr (inl h)) =
+    inl (inr (inl ([], h.0, [], h.1, inl (h.0, h.2, refl), All-nil IsPointer, h.3, h.4)))
+command_refused words e other (inr (inr h)) = by_value h.3
+  where
+    by_value : RefusesValue h.1 e → Asks words (Err e) ⊎ IsWordsMemory words e
+    by_value (inl none) = inl (inr (inr (h.1 ∷ [], h.1, inl (h.0, h.1, h.2, refl), Contains-push [] h.1, none.0, none.1)))
+    by_value (inr memory) = inr (inl (h.0, h.1, h.2), memory)
+
+-- and those of a patch as its operations are
+pub patch_refused : (words rest : List Text) (e : RunFault) → words ≡ codes "patch" ∷ rest → RefusesOperations rest e → Asks words (Err e) ⊎ IsWordsMemory words e
+unfolding begins
+patch_refused words rest e are (inl h) = inl (inl (none, h.1))
+  where
+    none : (pointers : List Text) → TakePointers words pointers → ⊥
+    none pointers (inl t) = no_both words (rw are refl) (begins_otherwise words t.0 t.1)
+    none pointers (inr t) = h.0 t.0 (same_behind words rest (words_of t.0) are t.1)
+patch_refused words rest e are (inr (inl h)) =
+    let have : HaveForms words h.0 = are ∙ ap (λ (l : List Text). codes "patch" ∷ l) h.2 in
+    inl (inr (inl (h.3.0, h.3.1, h.3.2, h.1, inr (h.0, have, sym h.3.3), h.3.4, h.3.5, h.4)))
+patch_refused words rest e are (inr (inr (inl h))) =
+    let have : HaveForms words h.0 = are ∙ ap (λ (l : List Text). codes "patch" ∷ l) h.1 in
+    inl (inr (inr (values_of h.0, h.3.0, inr (h.0, have, h.2, refl), h.3.1, h.3.2, h.3.3)))
+patch_refused words rest e are (inr (inr (inr memory))) = inr (inr (rest, are), memory)
+
+-- words of which the first is `patch` are those of a patch
+pub patch_words : {A : Type 0} (f : A → Text) (ws : List A) (a : A) (first : Text) → 1 ≤ length ws → a ≡ get_or ws 0 a → first ≡ f a → true ≡ pointwise nat_eq first (codes "patch")
+    → map f ws ≡ codes "patch" ∷ map f (take (length ws - 1) (drop 1 ws))
+patch_words f [] a first low h shown same = absurd (omega arith)
+patch_words f (x ∷ ws) a first low h shown same =
+    let count : length (x ∷ ws) - 1 ≡ length ws = omega arith in
+    let rest : map f (take (length (x ∷ ws) - 1) ws) ≡ map f ws = ap (λ (n : ℕ). map f (take n ws)) count ∙ ap (map f) (take_all (length ws) ws (omega arith)) in
+    let word : f x ≡ codes "patch" = ap f (sym h) ∙ is_word first (f a) (codes "patch") shown same in
+    ap (λ (t : Text). t ∷ map f ws) word ∙ ap (λ (l : List Text). codes "patch" ∷ l) (sym rest)
+
+-- words of which the first is another are no patch
+pub no_patch_first : {A : Type 0} (f : A → Text) (ws : List A) (a : A) (first : Text) → 1 ≤ length ws → a ≡ get_or ws 0 a → first ≡ f a → false ≡ pointwise nat_eq first (codes "patch") → IsNoPatch (map f ws)
+no_patch_first f [] a first low h shown other = absurd (omega arith)
+no_patch_first f (x ∷ ws) a first low h shown other =
+    λ rest are. is_other first (f a) (codes "patch") shown other (let same : f x ≡ codes "patch" = cc in ap f h ∙ same)
+
+-- a text has one number as an index, and none where it reads otherwise
+abbrev index_of_number : ℕ → Result Index ParseIndexError
+index_of_number n = Ok (Num n)
+
+pub number_one : (s : Text) (n m : ℕ) → Reads s (Ok (Num n)) → Reads s (Ok (Num m)) → n ≡ m
+number_one s n m h k = let same : index_of_number n ≡ index_of_number m = Reads_one s (Ok (Num n)) (Ok (Num m)) h k in cc
+
+pub no_number : (s read : Text) (r : Result Index ParseIndexError) → read ≡ s → Reads read r → ((n : ℕ) → r ≡ Ok (Num n) → ⊥) → (n : ℕ) → Reads s (Ok (Num n)) → ⊥
+no_number s read r is h other n k = other n (Reads_one s r (Ok (Num n)) (subst (λ (t : Text). Reads t r) is h) k)
+
+pub next_is_no_number : (r : Result Index ParseIndexError) (i : Index) → r ≡ Ok i → i ≡ Next → (n : ℕ) → r ≡ Ok (Num n) → ⊥
+next_is_no_number r i is next n e = cc
+
+pub fault_is_no_number : (r : Result Index ParseIndexError) (f : ParseIndexError) → r ≡ Err f → (n : ℕ) → r ≡ Ok (Num n) → ⊥
+fault_is_no_number r f is n e = cc

@@ -1,0 +1,209 @@
+-- What operations make of a document depends on what they are to do alone, and words mean one thing.
+use Rattle.std.proofs.Common.{◌≡◌, ℕ, List, [], ◌∷◌, ◌++◌, map, length, Option, Some, None, option_map, refl, sym, ap, ap₂, ◌∙◌, subst}
+use Rattle.std.specs.Prelude.{All}
+use Rattle.std.proofs.lemmas.List.{length-map}
+use Rattle.std.proofs.lemmas.List.Elements.{All-nil, All-cons, All-append}
+use Rattle.serde_json.specs.Data.{Data}
+use Rattle.serde_json.specs.View.{view}
+use Rattle.jsonptr.specs.Text.{Text, text, tokens_of}
+use Rattle.jsonptr.specs.Grammar.{IsPointer}
+use Rattle.jsonptr.specs.Json.{nodes}
+use Rattle.jsonptr.specs.Node.{NodeMap}
+use Rattle.jsonptr.specs.Resolve.{PutsAt}
+use Rattle.jsonptr.proofs.Calling.{tokens_of-text, IsPointer-text}
+use Rattle.jsonptr_patch.specs.Adding.{Adds}
+use Rattle.jsonptr_patch.specs.Operating.{Applies, Takes, Moves, Copies, Passes, RefusesOperation, RefusesAdd, RefusesTarget, RefusesMove, RefusesCopy, RefusesTest}
+use Rattle.jsonptr_patch.specs.Order.{IsInOrder}
+use Rattle.jsonptr_patch.specs.Patching.{Patches, RefusesPatch}
+use Rattle.jsonptr_patch.specs.declared.operation.Operation.{Operation}
+use Rattle.jsonptr_patch.specs.declared.operation.Operation.TheVariants as operation
+use Rattle.jsonptr_patch.specs.declared.operation.PatchError.{PatchError}
+use Rattle.jsonptr_command.proofs.OrderLemmas.{ascends_json}
+use Rattle.jsonptr_command.specs.JsonText.{json_of}
+use Rattle.jsonptr_command.specs.Operations.{Form, add, remove, replace, move, copy, test, form_pointers, form_values, pointers_of, values_of, Meant, adding, removing, replacing, moving, copying, testing, meant, Means, MeanAll}
+
+-- ---- what is applied
+
+applies : NodeMap → Meant → NodeMap → Type 0
+applies n (adding ts v) m = Adds n ts (nodes v) m
+applies n (removing ts) m = (v : NodeMap) × Takes n ts v m
+applies n (replacing ts v) m = PutsAt n ts (nodes v) m
+applies n (moving us ts) m = Moves n us ts m
+applies n (copying us ts) m = Copies n us ts m
+applies n (testing ts v) m = Passes n ts (nodes v) × (m ≡ n)
+
+refuses : NodeMap → ℕ → Meant → PatchError → Type 0
+refuses n k (adding ts v) e = RefusesAdd n k ts e
+refuses n k (removing ts) e = RefusesTarget n k ts e
+refuses n k (replacing ts v) e = RefusesTarget n k ts e
+refuses n k (moving us ts) e = RefusesMove n k us ts e
+refuses n k (copying us ts) e = RefusesCopy n k us ts e
+refuses n k (testing ts v) e = RefusesTest n k ts (nodes v) e
+
+applies_meant : (n m : NodeMap) (o : Operation) → Applies n o m ≡ applies n (meant o) m
+unfolding applies
+applies_meant n m (operation.Add path value) = refl
+applies_meant n m (operation.Remove path) = refl
+applies_meant n m (operation.Replace path value) = refl
+applies_meant n m (operation.Move from path) = refl
+applies_meant n m (operation.Copy from path) = refl
+applies_meant n m (operation.Test path value) = refl
+
+refuses_meant : (n : NodeMap) (k : ℕ) (o : Operation) (e : PatchError) → RefusesOperation n k o e ≡ refuses n k (meant o) e
+unfolding refuses
+refuses_meant n k (operation.Add path value) e = refl
+refuses_meant n k (operation.Remove path) e = refl
+refuses_meant n k (operation.Replace path value) e = refl
+refuses_meant n k (operation.Move from path) e = refl
+refuses_meant n k (operation.Copy from path) e = refl
+refuses_meant n k (operation.Test path value) e = refl
+
+applies_same : (n m : NodeMap) (o p : Operation) → meant o ≡ meant p → Applies n o m → Applies n p m
+applies_same n m o p same h =
+    let is : Applies n o m ≡ Applies n p m = applies_meant n m o ∙ ap (λ (x : Meant). applies n x m) same ∙ sym (applies_meant n m p) in
+    subst (λ (T : Type 0). T) is h
+
+refuses_same : (n : NodeMap) (k : ℕ) (o p : Operation) (e : PatchError) → meant o ≡ meant p → RefusesOperation n k o e → RefusesOperation n k p e
+refuses_same n k o p e same h =
+    let is : RefusesOperation n k o e ≡ RefusesOperation n k p e = refuses_meant n k o e ∙ ap (λ (x : Meant). refuses n k x e) same ∙ sym (refuses_meant n k p e) in
+    subst (λ (T : Type 0). T) is h
+
+-- lists that mean the same make the same
+pub patches_same : (n m : NodeMap) (os ps : List Operation) → map meant os ≡ map meant ps → Patches n os m → Patches n ps m
+patches_same n m [] [] same h = h
+patches_same n m [] (p ∷ ps) same h = let no : ⊥ = cc in absurd no
+patches_same n m (o ∷ os) [] same h = let no : ⊥ = cc in absurd no
+patches_same n m (o ∷ os) (p ∷ ps) same h =
+    let first : meant o ≡ meant p = cc in
+    let rest : map meant os ≡ map meant ps = cc in
+    (h.0, applies_same n h.0 o p first h.1, patches_same h.0 m os ps rest h.2)
+
+-- a list that means what one in two parts does has two such parts
+split_same : (ps done : List Operation) (o : Operation) (rest : List Operation) → map meant (done ++ o ∷ rest) ≡ map meant ps → (before : List Operation) × (p : Operation) × (after : List Operation)
+    × (ps ≡ before ++ p ∷ after)
+    × (map meant done ≡ map meant before)
+    × (meant o ≡ meant p)
+split_same [] [] o rest same = let no : ⊥ = cc in absurd no
+split_same [] (d ∷ done) o rest same = let no : ⊥ = cc in absurd no
+split_same (p ∷ ps) [] o rest same =
+    let first : meant o ≡ meant p = cc in
+    ([], p, ps, refl, refl, first)
+split_same (p ∷ ps) (d ∷ done) o rest same =
+    let first : meant d ≡ meant p = cc in
+    let r = split_same ps done o rest (let tail : map meant (done ++ o ∷ rest) ≡ map meant ps = cc in tail) in
+    (p ∷ r.0, r.1, r.2, ap (λ (l : List Operation). p ∷ l) r.3, ap₂ (λ (x : Meant) (l : List Meant). x ∷ l) first r.4, r.5)
+
+-- and are refused alike
+pub refused_same : (n : NodeMap) (os ps : List Operation) (e : PatchError) → map meant os ≡ map meant ps → RefusesPatch n os e → RefusesPatch n ps e
+refused_same n os ps e same h =
+    let r = split_same ps h.done h.fails h.rest (ap (map meant) (sym h.split) ∙ same) in
+    let long : length h.done ≡ length r.0 = sym (length-map h.done meant) ∙ ap (λ (l : List Meant). length l) r.4 ∙ length-map r.0 meant in
+    record {
+      done = r.0;
+      fails = r.1;
+      rest = r.2;
+      left = h.left;
+      split = r.3;
+      applied = patches_same n h.left h.done r.0 r.4 h.applied;
+      refused = refuses_same h.left (length r.0) h.fails r.1 e r.5 (subst (λ (k : ℕ). RefusesOperation h.left k h.fails e) long h.refused);
+    }
+
+-- ---- what words mean
+
+-- what a form means, computed
+meaning : Form → Option Meant
+meaning (add pointer value) = option_map (λ v. adding (tokens_of pointer) v) (json_of value)
+meaning (remove pointer) = Some (removing (tokens_of pointer))
+meaning (replace pointer value) = option_map (λ v. replacing (tokens_of pointer) v) (json_of value)
+meaning (move from pointer) = Some (moving (tokens_of from) (tokens_of pointer))
+meaning (copy from pointer) = Some (copying (tokens_of from) (tokens_of pointer))
+meaning (test pointer value) = option_map (λ v. testing (tokens_of pointer) v) (json_of value)
+
+is_meant : (form : Form) (o : Meant) → Means form o → meaning form ≡ Some o
+unfolding meaning
+is_meant form (adding ts v) h = rw (h.1, h.2) (ap (λ (us : List Text). Some (adding us v)) (tokens_of-text ts))
+is_meant form (removing ts) h = rw h (ap (λ (us : List Text). Some (removing us)) (tokens_of-text ts))
+is_meant form (replacing ts v) h = rw (h.1, h.2) (ap (λ (us : List Text). Some (replacing us v)) (tokens_of-text ts))
+is_meant form (moving vs ts) h = rw h (ap₂ (λ (us xs : List Text). Some (moving us xs)) (tokens_of-text vs) (tokens_of-text ts))
+is_meant form (copying vs ts) h = rw h (ap₂ (λ (us xs : List Text). Some (copying us xs)) (tokens_of-text vs) (tokens_of-text ts))
+is_meant form (testing ts v) h = rw (h.1, h.2) (ap (λ (us : List Text). Some (testing us v)) (tokens_of-text ts))
+
+means_one : (form : Form) (o p : Meant) → Means form o → Means form p → o ≡ p
+means_one form o p h k =
+    let both : Some o ≡ Some p = sym (is_meant form o h) ∙ is_meant form p k in
+    cc
+
+pub mean_one : (forms : List Form) (os ps : List Meant) → MeanAll forms os → MeanAll forms ps → os ≡ ps
+mean_one [] [] [] h k = refl
+mean_one [] [] (p ∷ ps) h k = absurd k
+mean_one [] (o ∷ os) ps h k = absurd h
+mean_one (form ∷ forms) [] ps h k = absurd h
+mean_one (form ∷ forms) (o ∷ os) [] h k = absurd k
+mean_one (form ∷ forms) (o ∷ os) (p ∷ ps) h k =
+    ap₂ (λ (x : Meant) (l : List Meant). x ∷ l) (means_one form o p h.0 k.0) (mean_one forms os ps h.1 k.1)
+
+-- their pointers are pointers
+
+abbrev AllPointers : List Text → Type 0
+AllPointers pointers = All IsPointer pointers
+
+one_pointer : (ts : List Text) → AllPointers (text ts ∷ [])
+one_pointer ts = All-cons IsPointer (text ts) [] (IsPointer-text ts) (All-nil IsPointer)
+
+two_pointers : (us ts : List Text) → AllPointers (text us ∷ text ts ∷ [])
+two_pointers us ts = All-cons IsPointer (text us) (text ts ∷ []) (IsPointer-text us) (one_pointer ts)
+
+means_pointers : (form : Form) (o : Meant) → Means form o → AllPointers (form_pointers form)
+means_pointers form (adding ts v) h = rw h.1 (one_pointer ts)
+means_pointers form (removing ts) h = rw h (one_pointer ts)
+means_pointers form (replacing ts v) h = rw h.1 (one_pointer ts)
+means_pointers form (moving us ts) h = rw h (two_pointers us ts)
+means_pointers form (copying us ts) h = rw h (two_pointers us ts)
+means_pointers form (testing ts v) h = rw h.1 (one_pointer ts)
+
+pub mean_pointers : (forms : List Form) (os : List Meant) → MeanAll forms os → AllPointers (pointers_of forms)
+mean_pointers [] os h = All-nil IsPointer
+mean_pointers (form ∷ forms) [] h = absurd h
+mean_pointers (form ∷ forms) (o ∷ os) h =
+    All-append IsPointer (form_pointers form) (pointers_of forms) (means_pointers form o h.0) (mean_pointers forms os h.1)
+
+-- and their values are JSON texts
+
+abbrev pub IsJson : Text → Type 0
+IsJson value = json_of value ≡ None → ⊥
+
+is_json : (value : Text) (v : Data) → json_of value ≡ Some v → IsJson value
+is_json value v h none = let both : Some v ≡ None = sym h ∙ none in cc
+
+pub one_value_json : (value : Text) (v : Data) → json_of value ≡ Some v → All IsJson (value ∷ [])
+one_value_json value v h = All-cons IsJson value [] (is_json value v h) (All-nil IsJson)
+
+means_values : (form : Form) (o : Meant) → Means form o → All IsJson (form_values form)
+means_values form (adding ts v) h = rw h.1 (one_value_json h.0 v h.2)
+means_values form (removing ts) h = rw h (All-nil IsJson)
+means_values form (replacing ts v) h = rw h.1 (one_value_json h.0 v h.2)
+means_values form (moving us ts) h = rw h (All-nil IsJson)
+means_values form (copying us ts) h = rw h (All-nil IsJson)
+means_values form (testing ts v) h = rw h.1 (one_value_json h.0 v h.2)
+
+pub mean_values : (forms : List Form) (os : List Meant) → MeanAll forms os → All IsJson (values_of forms)
+mean_values [] os h = All-nil IsJson
+mean_values (form ∷ forms) [] h = absurd h
+mean_values (form ∷ forms) (o ∷ os) h =
+    All-append IsJson (form_values form) (values_of forms) (means_values form o h.0) (mean_values forms os h.1)
+
+-- in which the keys ascend
+
+means_in_order : (form : Form) (o : Operation) → Means form (meant o) → IsInOrder o
+means_in_order form (operation.Add path value) h = ascends_json h.0 (view value) h.2
+means_in_order form (operation.Remove path) h = tt
+means_in_order form (operation.Replace path value) h = ascends_json h.0 (view value) h.2
+means_in_order form (operation.Move from path) h = tt
+means_in_order form (operation.Copy from path) h = tt
+means_in_order form (operation.Test path value) h = tt
+
+pub mean_in_order : (forms : List Form) (patch : List Operation) → MeanAll forms (map meant patch) → All IsInOrder patch
+mean_in_order forms [] h = All-nil IsInOrder
+mean_in_order [] (o ∷ os) h = absurd h
+mean_in_order (form ∷ forms) (o ∷ os) h =
+    All-cons IsInOrder o os (means_in_order form o h.0) (mean_in_order forms os h.1)

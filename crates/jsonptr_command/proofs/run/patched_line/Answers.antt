@@ -1,0 +1,22 @@
+use Rattle.std.proofs.Common.{map, string_bytes}
+use Rattle.std.proofs.lemmas.Result.{IfOk-weaker, IfErr-weaker, err_from_is_err_and}
+use Rattle.serde_json.specs.View.{view}
+use Rattle.jsonptr_command.specs.Operations.{meant}
+use Rattle.jsonptr_command.specs.Run.{patching, PatchesBy}
+use Rattle.jsonptr_command.proofs.AnswerLemmas.{line_given, fault_given, input_fault_given}
+use Rattle.jsonptr_command.proofs.run.patched_line.Goals as goal
+
+pub returns-in_err-document-clause-err : goal.returns-in_err-document-clause-err
+returns-in_err-document-clause-err g c =
+    let p = err_from_is_err_and c.from_residual.result c.from_residual.ensures.1 in
+    rw (p.1, p.2) (input_fault_given _ (patching (map meant c.args.patch.items)) (λ d. PatchesBy d (map meant c.args.patch.items)) tt (λ bytes r h. h) _ c.in_err-document.ensures.err)
+
+pub returns-clause-ok : goal.returns-clause-ok
+returns-clause-ok g c =
+    IfOk-weaker c.line_after.result _ _
+    (λ line h. line_given _ (patching (map meant c.args.patch.items)) (λ d. PatchesBy d (map meant c.args.patch.items)) tt (λ bytes r h. h) (view c.in_ok-document.document) c.in_ok-document.ensures.value (string_bytes line) h) c.line_after.ensures.ok
+
+pub returns-clause-err : goal.returns-clause-err
+returns-clause-err g c =
+    IfErr-weaker c.line_after.result _ _
+    (λ e h. fault_given _ (patching (map meant c.args.patch.items)) (λ d. PatchesBy d (map meant c.args.patch.items)) tt (λ bytes r h. h) (view c.in_ok-document.document) c.in_ok-document.ensures.value e h) c.line_after.ensures.err

@@ -1,0 +1,160 @@
+//! Why the program ends other than well.
+ghost use Rattle.std.specs.Prelude.{◌≡◌, MatchResult};
+ghost use Rattle.std.specs.Process.{exit_status};
+ghost use Rattle.jsonptr_command.specs.Private.{of_assign_fault, of_input_fault, of_patch_fault, of_resolve_fault};
+ghost use Rattle.jsonptr_command.specs.Run.{status_of};
+ghost use Rattle.jsonptr_command.specs.declared.fault.RunFault.TheVariants.{BadPointer, Memory, Write};
+
+use crate::input::InputFault;
+use crate::output::WriteFailed;
+use jsonptr::{Fault, ParseError, assign, resolve};
+use jsonptr_patch::PatchError;
+use std::alloc::AllocError;
+use std::process::ExitCode;
+use thiserror::Error;
+
+/// Why the program ends other than well. Its text is the line on standard error.
+#[derive(Debug, Drop, Error)]
+pub enum RunFault {
+    /// An unknown command or operation, a wrong number of words, or a position to split at that is no number.
+    #[error("usage: jsonptr_run resolve POINTER, delete POINTER, tokens POINTER, assign POINTER VALUE, split POINTER POSITION, patch OPERATIONS")]
+    Usage,
+    /// A pointer's text is no JSON Pointer.
+    #[error(transparent)]
+    BadPointer(ParseError),
+    /// The text of a value is no JSON text.
+    #[error("VALUE is not JSON")]
+    ValueNotJson,
+    /// The pointer names no value of the input.
+    #[error(transparent)]
+    NoValue(resolve::Error),
+    /// No value can be assigned at the pointer in the input.
+    #[error(transparent)]
+    BadPlace(assign::Error),
+    /// The pointer of what is to be deleted names no value of the input.
+    #[error("delete failed: json pointer does not resolve")]
+    NotThere,
+    /// The position to split at is above the count of the pointer's tokens.
+    #[error("split failed: position {position} is above the token count {count}")]
+    BadSplit {
+        /// The position that was asked for, in tokens.
+        position: usize,
+        /// How many tokens the pointer has.
+        count: usize,
+    },
+    /// An operation of the patch cannot be applied.
+    #[error(transparent)]
+    BadPatch(PatchError),
+    /// The input is no JSON text, or is not UTF-8.
+    #[error("input is not JSON")]
+    InputNotJson,
+    /// Memory was refused.
+    #[error("out of memory")]
+    Memory(AllocError),
+    /// A read failed.
+    #[error("reading failed")]
+    Read,
+    /// A write failed.
+    #[error("writing failed")]
+    Write,
+}
+
+impl RunFault {
+    /// The status that the program ends with.
+    pub fn status(&self) -> u8
+        ensures { result ≡ status_of self.now }
+    {
+        match self {
+            RunFault::BadPointer(_)
+            | RunFault::NoValue(_)
+            | RunFault::BadPlace(_)
+            | RunFault::NotThere
+            | RunFault::BadSplit { .. }
+            | RunFault::BadPatch(_) => 1,
+            RunFault::Usage => 2,
+            RunFault::ValueNotJson | RunFault::InputNotJson => 3,
+            RunFault::Memory(_) => 4,
+            RunFault::Read | RunFault::Write => 5,
+        }
+    }
+}
+
+/// The code that the program ends with: 0 where the run was done.
+pub fn exit_code(outcome: &Result<(), RunFault>) -> ExitCode
+    ensures { MatchResult outcome.now
+        (λ _. exit_status result ≡ 0)
+        (λ fault. exit_status result ≡ status_of fault) }
+{
+    match outcome {
+        Ok(()) => ExitCode::SUCCESS,
+        Err(fault) => ExitCode::from(fault.status()),
+    }
+}
+
+impl From<AllocError> for RunFault {
+    ghost from_gives = { λ error fault. fault ≡ Memory error };
+
+    fn from(error: AllocError) -> RunFault {
+        RunFault::Memory(error)
+    }
+}
+
+impl From<ParseError> for RunFault {
+    ghost from_gives = { λ error fault. fault ≡ BadPointer error };
+
+    fn from(error: ParseError) -> RunFault {
+        RunFault::BadPointer(error)
+    }
+}
+
+impl From<Fault<resolve::Error>> for RunFault {
+    ghost from_gives = { λ error fault. fault ≡ of_resolve_fault error };
+
+    fn from(error: Fault<resolve::Error>) -> RunFault {
+        match error {
+            Fault::Refused(error) => RunFault::NoValue(error),
+            Fault::Memory(error) => RunFault::Memory(error),
+        }
+    }
+}
+
+impl From<Fault<assign::Error>> for RunFault {
+    ghost from_gives = { λ error fault. fault ≡ of_assign_fault error };
+
+    fn from(error: Fault<assign::Error>) -> RunFault {
+        match error {
+            Fault::Refused(error) => RunFault::BadPlace(error),
+            Fault::Memory(error) => RunFault::Memory(error),
+        }
+    }
+}
+
+impl From<Fault<PatchError>> for RunFault {
+    ghost from_gives = { λ error fault. fault ≡ of_patch_fault error };
+
+    fn from(error: Fault<PatchError>) -> RunFault {
+        match error {
+            Fault::Refused(error) => RunFault::BadPatch(error),
+            Fault::Memory(error) => RunFault::Memory(error),
+        }
+    }
+}
+
+impl From<InputFault> for RunFault {
+    ghost from_gives = { λ error fault. fault ≡ of_input_fault error };
+
+    fn from(error: InputFault) -> RunFault {
+        match error {
+            InputFault::Memory(error) => RunFault::Memory(error),
+            InputFault::Read => RunFault::Read,
+        }
+    }
+}
+
+impl From<WriteFailed> for RunFault {
+    ghost from_gives = { λ _ fault. fault ≡ Write };
+
+    fn from(_error: WriteFailed) -> RunFault {
+        RunFault::Write
+    }
+}

@@ -1,0 +1,371 @@
+//! One run of the program.
+ghost use Rattle.std.specs.Prelude.{◌≡◌, ◌≢◌, ◌⊎◌, ◌++◌, ◌∷◌, [], ℕ, List, Result, map, Some, Ok, Err, OnOk, IfOk, IfErr, IsErrOf, false, string_bytes};
+ghost use Rattle.std.specs.Io.KnownBytes.{Appends};
+ghost use Rattle.serde_json.specs.Data.{Data, string};
+ghost use Rattle.serde_json.specs.View.{view};
+ghost use Rattle.serde_json.specs.Written.{has_float, compact_text};
+ghost use Rattle.jsonptr.specs.Text.{Text, text};
+ghost use Rattle.jsonptr.specs.Index.{Reads};
+ghost use Rattle.jsonptr.specs.Types.Index.TheVariants.{Num};
+ghost use Rattle.jsonptr.specs.Pointer.{tokens};
+ghost use Rattle.jsonptr_command.specs.JsonText.{json_of, IsJsonLine};
+ghost use Rattle.jsonptr_command.specs.Streams.{AppendsFront, ForBytes};
+ghost use Rattle.jsonptr_command.specs.declared.fault.RunFault.{RunFault};
+ghost use Rattle.jsonptr_command.specs.declared.fault.RunFault.TheVariants as fault;
+ghost use Rattle.jsonptr_command.specs.Private.{request_of, IsFaultOf, IsLineOf, RefusesCommand, RefusesPosition};
+ghost use Rattle.jsonptr_command.specs.Operations.{meant};
+ghost use Rattle.jsonptr_command.specs.Run as specs;
+ghost use Rattle.jsonptr_command.specs.Run.{AskFor, resolving, listing, assigning, deleting, splitting, patching, Asks, AssignsAt, DeletesAt, ForLine, Gives, IsRefusedSo, IsRequestFault, IsWordsMemory, NeedNoInput, NeedsInput, PatchesBy, Resolves, SplitsAt, texts_value};
+
+use crate::fault::RunFault;
+use crate::json_text::{json_line, read_json_input, read_value};
+use crate::operations::read_operations;
+use crate::output::write_line;
+use jsonptr::Pointer;
+use jsonptr::index::Index;
+use jsonptr::laws::parse_law;
+use jsonptr_laws::assigning::assign_law;
+use jsonptr_laws::resolving::resolve_law;
+use jsonptr_patch::{Operation, apply};
+use jsonptr_patch_laws::patching::patch_law;
+use jsonptr_tree::json::{json_law, json_map_law};
+use jsonptr_tree::writing::deleting_law;
+use serde_json::Value;
+use std::alloc::{AllocError, Global};
+use std::io::{Read, Write};
+
+/// What the words ask for, as far as it is known without the input.
+#[derive(Debug, Drop)]
+pub enum Request<'w> {
+    /// To find the value that the pointer names.
+    Resolve(Pointer<'w>),
+    /// To list the pointer's tokens, decoded.
+    Tokens(Pointer<'w>),
+    /// To assign the value at the pointer.
+    Assign(Pointer<'w>, Value),
+    /// To delete what the pointer names.
+    Delete(Pointer<'w>),
+    /// To split the pointer at the position, in tokens.
+    Split(Pointer<'w>, usize),
+    /// To apply the operations in their order.
+    Patch(Vec<Operation>),
+}
+
+/// Answers the words, which are those after the program's own name, with one line, or with a fault. The
+/// words come first, and with them the position to split at, then all pointers from left to right, then all
+/// values, the input to its end as one JSON text, the operation, the line. The line is of the value that the
+/// pointer names, of its tokens, of its text in two, or of the document as an assignment, a deletion or a patch
+/// leaves it.
+///
+/// # Errors
+///
+/// [`RunFault::Usage`] for other words than a known command takes, and then the cases of [`RunFault`] in
+/// that order; [`RunFault::Memory`] wherever memory is refused. Words that are refused, and a command that
+/// needs no input, leave it unread, and nothing is written before the whole line is known.
+pub fn run_program<R: Read, W: Write>(
+    alloc: Global,
+    words: &[String],
+    input: &mut R,
+    output: &mut W,
+) -> Result<(), RunFault>
+    ensures done { OnOk result (ForLine (map string_bytes words.now) (R.remaining input.old)
+        (Appends (W.contents output.old) (W.contents output.new))) }
+    ensures refused { IfErr result
+        (IsRefusedSo (map string_bytes words.now) (R.remaining input.old)) }
+    ensures front { IsErrOf result RunFault.Write
+        → ForLine (map string_bytes words.now) (R.remaining input.old)
+        (AppendsFront (W.contents output.old) (W.contents output.new)) }
+    ensures unwritten { IfErr result (λ e. e ≢ RunFault.Write → output.new ≡ output.old) }
+    ensures unread { NeedNoInput (map string_bytes words.now) → input.new ≡ input.old }
+{
+    let request = read_request(alloc, words)?;
+    let line = answer(alloc, request, input)?;
+    write_line(output, line.as_bytes())?;
+    Ok(())
+}
+
+/// What [`run_program`] is to answer is one: words ask for one thing or are refused in one way, a request
+/// gives one value or one fault on an input, and never both, and a value has one line, but for the digits of
+/// its floats. Lists of texts have no float. In a value that is read the keys of each object ascend, so they do
+/// in what an assignment or a deletion makes of it, and that is one value for its map.
+pub fn run_law()
+    ensures asks { (words : List Text) (r q : Result specs.Request RunFault)
+        → Asks words r
+        → Asks words q
+        → r ≡ q }
+    ensures resolves { (ts : List Text) (bytes : List ℕ) (r q : Result Data RunFault)
+        → Gives (resolving ts) bytes r
+        → Gives (resolving ts) bytes q
+        → r ≡ q }
+    ensures lists { (ts : List Text) (bytes : List ℕ) (r q : Result Data RunFault)
+        → Gives (listing ts) bytes r
+        → Gives (listing ts) bytes q
+        → r ≡ q }
+    ensures splits { (ts : List Text) (n : ℕ) (bytes : List ℕ) (r q : Result Data RunFault)
+        → Gives (splitting ts n) bytes r
+        → Gives (splitting ts n) bytes q
+        → r ≡ q }
+    ensures not_both { (request : specs.Request) (bytes : List ℕ) (value : Data) (e : RunFault)
+        → Gives request bytes (Ok value)
+        → Gives request bytes (Err e)
+        → ⊥ }
+    ensures one_fault { (request : specs.Request) (bytes : List ℕ) (e f : RunFault)
+        → Gives request bytes (Err e)
+        → Gives request bytes (Err f)
+        → e ≡ f }
+    ensures one_value { (words : List Text) (request : specs.Request) (bytes : List ℕ)
+        (value other : Data)
+        → AskFor words request
+        → Gives request bytes (Ok value)
+        → Gives request bytes (Ok other)
+        → value ≡ other }
+    ensures line { (value : Data) (line other : Text)
+        → has_float value ≡ false
+        → IsJsonLine value line
+        → IsJsonLine value other
+        → line ≡ other }
+    ensures texts { (ts : List Text) (line : Text)
+        → IsJsonLine (texts_value ts) line
+        → line ≡ compact_text (texts_value ts) ++ 10 ∷ [] }
+{
+    parse_law();
+    resolve_law();
+    assign_law();
+    deleting_law();
+    json_law();
+    json_map_law();
+    patch_law();
+}
+
+/// What the words ask for.
+fn read_request(alloc: Global, words: &[String]) -> Result<Request<'_>, RunFault>
+    ensures ok { IfOk result (λ r. Asks (map string_bytes words.now) (Ok (request_of r))) }
+    ensures err { IfErr result (λ e. Asks (map string_bytes words.now) (Err e)
+        ⊎ IsWordsMemory (map string_bytes words.now) e) }
+{
+    match words {
+        [command, operations @ ..] if command.as_str() == "patch" => {
+            Ok(Request::Patch(read_operations(alloc, operations)?))
+        }
+        _ => read_command(alloc, words),
+    }
+}
+
+/// The same where the command is another than `patch`, and takes one pointer.
+fn read_command(alloc: Global, words: &[String]) -> Result<Request<'_>, RunFault>
+    ensures ok { IfOk result (λ r. AskFor (map string_bytes words.now) (request_of r)) }
+    ensures err { IfErr result (RefusesCommand (map string_bytes words.now)) }
+{
+    match words {
+        [command, pointer] if command.as_str() == "resolve" => {
+            Ok(Request::Resolve(Pointer::parse(pointer.as_str())?))
+        }
+        [command, pointer] if command.as_str() == "tokens" => {
+            Ok(Request::Tokens(Pointer::parse(pointer.as_str())?))
+        }
+        [command, pointer] if command.as_str() == "delete" => {
+            Ok(Request::Delete(Pointer::parse(pointer.as_str())?))
+        }
+        [command, pointer, value] if command.as_str() == "assign" => {
+            let pointer = Pointer::parse(pointer.as_str())?;
+            Ok(Request::Assign(pointer, read_value(alloc, value.as_str())?))
+        }
+        [command, pointer, position] if command.as_str() == "split" => {
+            let position = read_position(position)?;
+            Ok(Request::Split(Pointer::parse(pointer.as_str())?, position))
+        }
+        _ => Err(RunFault::Usage),
+    }
+}
+
+/// The position to split at, whose decimal text the word is.
+fn read_position(word: &String) -> Result<usize, RunFault>
+    ensures ok { IfOk result (λ n. Reads (string_bytes word.now) (Ok (Num n))) }
+    ensures err { IfErr result (RefusesPosition (string_bytes word.now)) }
+{
+    match word.as_str().parse() {
+        Ok(Index::Num(position)) => Ok(position),
+        Ok(Index::Next) => Err(RunFault::Usage),
+        Err(_) => Err(RunFault::Usage),
+    }
+}
+
+/// The line that is asked for, from the input if it is needed.
+fn answer<R: Read>(alloc: Global, request: Request<'_>, input: &mut R) -> Result<String, RunFault>
+    ensures ok { IfOk result (λ line. ForBytes (R.remaining input.old)
+        (λ bytes. IsLineOf (Gives (request_of request.entry) bytes) (string_bytes line))) }
+    ensures err { IfErr result
+        (IsRequestFault (request_of request.entry) (R.remaining input.old)) }
+    ensures unread { (NeedsInput (request_of request.entry) → ⊥) → input.new ≡ input.old }
+{
+    match request {
+        Request::Resolve(pointer) => resolved_line(alloc, pointer, input),
+        Request::Tokens(pointer) => Ok(tokens_line(alloc, pointer)?),
+        Request::Assign(pointer, value) => assigned_line(alloc, pointer, value, input),
+        Request::Delete(pointer) => deleted_line(alloc, pointer, input),
+        Request::Split(pointer, position) => split_line(alloc, pointer, position),
+        Request::Patch(patch) => patched_line(alloc, patch, input),
+    }
+}
+
+/// The line of the value that the pointer names in the input.
+fn resolved_line<R: Read>(
+    alloc: Global,
+    pointer: Pointer<'_>,
+    input: &mut R,
+) -> Result<String, RunFault>
+    ensures ok { IfOk result (λ line. ForBytes (R.remaining input.old)
+        (λ bytes. IsLineOf (Gives (resolving (tokens pointer.entry)) bytes) (string_bytes line))) }
+    ensures err { IfErr result
+        (IsRequestFault (resolving (tokens pointer.entry)) (R.remaining input.old)) }
+{
+    let document = read_json_input(alloc, input)?;
+    line_in(alloc, &document, pointer)
+}
+
+/// The line of the value that the pointer names in the document.
+fn line_in(alloc: Global, document: &Value, pointer: Pointer<'_>) -> Result<String, RunFault>
+    ensures ok { IfOk result (λ line.
+        IsLineOf (Resolves (view document.now) (tokens pointer.entry)) (string_bytes line)) }
+    ensures err { IfErr result (IsFaultOf (Resolves (view document.now) (tokens pointer.entry))) }
+{
+    let value = pointer.resolve(alloc, document)?;
+    Ok(json_line(alloc, value)?)
+}
+
+/// The line of the input with the value assigned at the pointer.
+fn assigned_line<R: Read>(
+    alloc: Global,
+    pointer: Pointer<'_>,
+    value: Value,
+    input: &mut R,
+) -> Result<String, RunFault>
+    ensures ok { IfOk result (λ line. ForBytes (R.remaining input.old)
+        (λ bytes. IsLineOf (Gives (assigning (tokens pointer.entry) (view value)) bytes)
+        (string_bytes line))) }
+    ensures err { IfErr result
+        (IsRequestFault (assigning (tokens pointer.entry) (view value)) (R.remaining input.old)) }
+{
+    let document = read_json_input(alloc, input)?;
+    line_with(alloc, document, pointer, value)
+}
+
+/// The line of the document with the value assigned at the pointer.
+fn line_with(
+    alloc: Global,
+    mut document: Value,
+    pointer: Pointer<'_>,
+    value: Value,
+) -> Result<String, RunFault>
+    ensures ok { IfOk result (λ line.
+        IsLineOf (AssignsAt (view document) (tokens pointer.entry) (view value))
+        (string_bytes line)) }
+    ensures err { IfErr result
+        (IsFaultOf (AssignsAt (view document) (tokens pointer.entry) (view value))) }
+{
+    pointer.assign(alloc, &mut document, value)?;
+    Ok(json_line(alloc, &document)?)
+}
+
+/// The line of the input without what the pointer names.
+fn deleted_line<R: Read>(
+    alloc: Global,
+    pointer: Pointer<'_>,
+    input: &mut R,
+) -> Result<String, RunFault>
+    ensures ok { IfOk result (λ line. ForBytes (R.remaining input.old)
+        (λ bytes. IsLineOf (Gives (deleting (tokens pointer.entry)) bytes) (string_bytes line))) }
+    ensures err { IfErr result
+        (IsRequestFault (deleting (tokens pointer.entry)) (R.remaining input.old)) }
+{
+    let document = read_json_input(alloc, input)?;
+    line_without(alloc, document, pointer)
+}
+
+/// The line of the document without what the pointer names.
+fn line_without(
+    alloc: Global,
+    mut document: Value,
+    pointer: Pointer<'_>,
+) -> Result<String, RunFault>
+    ensures ok { IfOk result (λ line.
+        IsLineOf (DeletesAt (view document) (tokens pointer.entry)) (string_bytes line)) }
+    ensures err { IfErr result (IsFaultOf (DeletesAt (view document) (tokens pointer.entry))) }
+{
+    if pointer.delete(alloc, &mut document)?.is_none() {
+        return Err(RunFault::NotThere);
+    }
+    Ok(json_line(alloc, &document)?)
+}
+
+/// The line of the input after the patch.
+fn patched_line<R: Read>(
+    alloc: Global,
+    patch: Vec<Operation>,
+    input: &mut R,
+) -> Result<String, RunFault>
+    ensures ok { IfOk result (λ line. ForBytes (R.remaining input.old)
+        (λ bytes. IsLineOf (Gives (patching (map meant patch.items)) bytes) (string_bytes line))) }
+    ensures err { IfErr result
+        (IsRequestFault (patching (map meant patch.items)) (R.remaining input.old)) }
+{
+    let document = read_json_input(alloc, input)?;
+    line_after(alloc, document, patch)
+}
+
+/// The line of the document after the patch.
+fn line_after(alloc: Global, mut document: Value, patch: Vec<Operation>) -> Result<String, RunFault>
+    ensures ok { IfOk result (λ line.
+        IsLineOf (PatchesBy (view document) (map meant patch.items)) (string_bytes line)) }
+    ensures err { IfErr result
+        (IsFaultOf (PatchesBy (view document) (map meant patch.items))) }
+{
+    apply(alloc, &mut document, patch)?;
+    Ok(json_line(alloc, &document)?)
+}
+
+/// The line of the texts of the pointer's first tokens and of the rest, as a JSON array.
+fn split_line(alloc: Global, pointer: Pointer<'_>, position: usize) -> Result<String, RunFault>
+    ensures ok { IfOk result
+        (λ line. IsLineOf (SplitsAt (tokens pointer.entry) position) (string_bytes line)) }
+    ensures err { IfErr result (IsFaultOf (SplitsAt (tokens pointer.entry) position)) }
+{
+    let Some((front, rest)) = pointer.split_at(position) else {
+        let count = pointer.count();
+        return Err(RunFault::BadSplit { position, count });
+    };
+    Ok(texts_line(alloc, front, rest)?)
+}
+
+/// The line of the texts of two pointers, as a JSON array.
+fn texts_line(alloc: Global, front: Pointer<'_>, rest: Pointer<'_>) -> Result<String, AllocError>
+    ensures { IfOk result (λ line. IsJsonLine
+        (texts_value (text (tokens front.entry) ∷ text (tokens rest.entry) ∷ []))
+        (string_bytes line)) }
+{
+    let mut parts = Vec::new(alloc);
+    parts.push(front.to_json_value(alloc)?)?;
+    parts.push(rest.to_json_value(alloc)?)?;
+    json_line(alloc, &Value::Array(parts))
+}
+
+/// The line of the pointer's tokens, decoded, as a JSON array.
+fn tokens_line(alloc: Global, pointer: Pointer<'_>) -> Result<String, AllocError>
+    ensures { IfOk result
+        (λ line. IsJsonLine (texts_value (tokens pointer.entry)) (string_bytes line)) }
+{
+    let texts = token_texts(alloc, pointer)?;
+    json_line(alloc, &Value::Array(texts))
+}
+
+/// The pointer's tokens, decoded, as JSON strings.
+fn token_texts(alloc: Global, pointer: Pointer<'_>) -> Result<Vec<Value>, AllocError>
+    ensures { IfOk result (λ v. map view v.items ≡ map string (tokens pointer.entry)) }
+{
+    let mut texts = Vec::new(alloc);
+    for token in pointer.tokens() {
+        let text = token.decoded(alloc)?.into_owned(alloc)?;
+        texts.push(Value::String(text))?;
+    }
+    Ok(texts)
+}
