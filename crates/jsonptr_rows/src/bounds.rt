@@ -1,10 +1,11 @@
 //! Rows of numbers: where indices lie in an array, and errors whose fields no reading gave.
-use crate::row::{NoRow, Row};
-use crate::said::Said;
-use crate::{reports, stage};
+use crate::reports;
 use jsonptr::diagnostic::Diagnostic;
 use jsonptr::index::{Index, OutOfBoundsError};
 use jsonptr::{EncodingError, InvalidEncoding, ParseError, Pointer, resolve};
+use jsonptr_row::row::{NoRow, Row};
+use jsonptr_row::said::Said;
+use jsonptr_row::stage;
 use std::cmp::Ordering;
 
 /// Runs a row: the call, the index as a token reads, and the length of an array.

@@ -1,9 +1,9 @@
 //! Rows of a document that is as deep as a pointer has tokens.
 use crate::documents::{resolve, written};
-use crate::kinds::Document;
-use crate::row::{NoRow, Row};
-use crate::stage;
 use jsonptr::Pointer;
+use jsonptr_row::kinds::Document;
+use jsonptr_row::row::{NoRow, Row};
+use jsonptr_row::stage;
 
 /// A document that can be taken apart without a recursion.
 trait Nested: Document {

@@ -1,9 +1,9 @@
 //! Rows of the calls on a document at a pointer.
-use crate::kinds::Document;
-use crate::row::{NoRow, Row};
-use crate::said::Said;
-use crate::stage;
 use jsonptr::Pointer;
+use jsonptr_row::kinds::Document;
+use jsonptr_row::row::{NoRow, Row};
+use jsonptr_row::said::Said;
+use jsonptr_row::stage;
 use std::alloc::Global;
 
 /// Runs a row: the kind of document, the call, the document, the pointer, and a value.

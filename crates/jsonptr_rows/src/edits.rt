@@ -1,9 +1,9 @@
 //! Rows of the calls that change a pointer of its own.
-use crate::row::{NoRow, Row};
-use crate::said::Said;
-use crate::stage;
 use crate::tabled::tabled;
 use jsonptr::{Pointer, Token};
+use jsonptr_row::row::{NoRow, Row};
+use jsonptr_row::said::Said;
+use jsonptr_row::stage;
 use jsonptr_tabled::EditPointer;
 use std::borrow::CowStr;
 

@@ -2,23 +2,19 @@
 //! document are then. The gate runs it with requests for memory refused.
 #![tactic(auto)]
 
-use row::{NoRow, Row};
+use jsonptr_row::row::{NoRow, Row};
 use std::io;
 
 mod bounds;
 mod deep;
 mod documents;
 mod edits;
-mod kinds;
 mod patches;
 mod pointers;
 mod ranges;
 mod reports;
-mod row;
-mod said;
 mod sessions;
 mod shows;
-mod stage;
 mod tabled;
 mod texts;
 mod tokens;

@@ -1,9 +1,9 @@
 //! Rows of patches.
-use crate::row::{NoRow, Row};
-use crate::said::Said;
-use crate::stage;
 use jsonptr::{Fault, Pointer, PointerBuf};
 use jsonptr_patch::{Operation, apply, delete_with_undo};
+use jsonptr_row::row::{NoRow, Row};
+use jsonptr_row::said::Said;
+use jsonptr_row::stage;
 use serde_json::Value;
 use std::alloc::Global;
 

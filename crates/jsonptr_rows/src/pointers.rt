@@ -1,8 +1,9 @@
 //! Rows of the calls of a borrowed pointer.
-use crate::row::Row;
-use crate::said::Said;
-use crate::{ranges, stage};
+use crate::ranges;
 use jsonptr::{Component, Pointer, PointerBuf, Token};
+use jsonptr_row::row::Row;
+use jsonptr_row::said::Said;
+use jsonptr_row::stage;
 use std::alloc::Global;
 use std::borrow::CowStr;
 

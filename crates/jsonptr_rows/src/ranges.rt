@@ -1,6 +1,6 @@
 //! The parts of a pointer between two places.
-use crate::said::Said;
 use jsonptr::Pointer;
+use jsonptr_row::said::Said;
 use jsonptr_tabled::TabledPointer;
 use std::ops::Bound;
 

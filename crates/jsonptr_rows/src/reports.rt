@@ -1,12 +1,12 @@
 //! Rows of the reports of errors.
-use crate::kinds::Document;
-use crate::row::{NoRow, Row};
-use crate::said::Said;
 use crate::shows::{show, show_failing};
-use crate::stage;
 use jsonptr::diagnostic::{Diagnostic, Label};
 use jsonptr::index::{Index, StringOrToken};
 use jsonptr::{Diagnose, Fault, Pointer, PointerBuf, Report, Token};
+use jsonptr_row::kinds::Document;
+use jsonptr_row::row::{NoRow, Row};
+use jsonptr_row::said::Said;
+use jsonptr_row::stage;
 use std::alloc::AllocError;
 use std::borrow::CowStr;
 use std::convert::AsStr;

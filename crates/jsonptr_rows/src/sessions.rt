@@ -1,10 +1,10 @@
 //! Rows of sessions: lists of calls on a pointer and a document of each kind.
-use crate::kinds::Document;
-use crate::row::{NoRow, Row};
-use crate::said::Said;
-use crate::stage;
 use crate::tabled::tabled;
 use jsonptr::Pointer;
+use jsonptr_row::kinds::Document;
+use jsonptr_row::row::{NoRow, Row};
+use jsonptr_row::said::Said;
+use jsonptr_row::stage;
 use jsonptr_session::{Call, Reply};
 use std::alloc::{AllocError, Global};
 use std::fmt::Display;

@@ -1,10 +1,10 @@
 //! Rows of what displays and what is hashed, neither of which takes memory.
-use crate::row::{NoRow, Row};
-use crate::said::Said;
-use crate::stage;
 use crate::tabled::tabled;
 use jsonptr::index::{Index, OutOfBoundsError, ParseIndexError};
 use jsonptr::{Fault, InvalidEncoding, Pointer, ReplaceError, Token};
+use jsonptr_row::row::{NoRow, Row};
+use jsonptr_row::said::Said;
+use jsonptr_row::stage;
 use std::alloc::AllocError;
 use std::borrow::CowStr;
 use std::fmt;

@@ -1,8 +1,9 @@
 //! Rows of the calls that read a tabled pointer.
-use crate::row::Row;
-use crate::said::Said;
-use crate::{ranges, stage};
+use crate::ranges;
 use jsonptr::{Pointer, PointerBuf};
+use jsonptr_row::row::Row;
+use jsonptr_row::said::Said;
+use jsonptr_row::stage;
 use jsonptr_tabled::TabledPointer;
 use std::alloc::{AllocError, Global};
 

@@ -1,9 +1,9 @@
 //! Rows of the calls that make something of a text.
-use crate::row::Row;
-use crate::said::Said;
-use crate::stage;
 use jsonptr::index::Index;
 use jsonptr::{Fault, Pointer, PointerBuf, Token};
+use jsonptr_row::row::Row;
+use jsonptr_row::said::Said;
+use jsonptr_row::stage;
 use jsonptr_tabled::TabledPointer;
 use std::alloc::Global;
 use std::borrow::CowStr;

@@ -1,9 +1,9 @@
 //! Rows of the calls of a token, and of those that make one of a number.
-use crate::row::Row;
-use crate::said::Said;
-use crate::stage;
 use jsonptr::index::Index;
 use jsonptr::{PointerBuf, Token};
+use jsonptr_row::row::Row;
+use jsonptr_row::said::Said;
+use jsonptr_row::stage;
 use std::alloc::Global;
 use std::borrow::CowStr;
 

@@ -1,9 +1,9 @@
 //! Rows of the calls that take an assignment back.
-use crate::kinds::Document;
-use crate::row::{NoRow, Row};
-use crate::said::Said;
-use crate::stage;
 use jsonptr::{Fault, Pointer};
+use jsonptr_row::kinds::Document;
+use jsonptr_row::row::{NoRow, Row};
+use jsonptr_row::said::Said;
+use jsonptr_row::stage;
 use jsonptr_session::undo::{Undo, UndoRefused};
 use std::fmt::Display;
 
