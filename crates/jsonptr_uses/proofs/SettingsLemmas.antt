@@ -1,17 +1,23 @@
 -- What the highest of some layers has, and which tokens an assignment does not touch.
-use Rattle.std.proofs.Common.{◌≡◌, ℕ, ◌<◌, ◌+◌, ◌⊎◌, inl, inr, List, [], ◌∷◌, ◌++◌, Option, Some, None, IsSome, length, get_or, take, drop, take-append-drop, refl, sym, ap, subst, ◌∙◌, arith, append_assoc, append-nil}
+use Rattle.std.proofs.Common.{◌≡◌, ℕ, zero, suc, ◌<◌, ◌+◌, max, ◌⊎◌, inl, inr, Bool, true, false, cond, ◌||◌, bytes_eq, codes, List, [], ◌∷◌, ◌++◌, Option, Some, None, IsSome, length, get_or, take, drop, take-append-drop, refl, sym, ap, ap₂, subst, ◌∙◌, arith, append_assoc, append-nil, true≢false}
+use mathlib.Core.Path.{fun_ext}
 use Rattle.std.specs.List.{All}
 use Rattle.std.proofs.lemmas.List.{drop_more}
 use Rattle.std.proofs.lemmas.List.Elements.{All-weaker}
-use Rattle.jsonptr.specs.Text.{Text}
+use Rattle.std.proofs.lemmas.Slice.Eq.{bytes_eq-Decides}
+use Rattle.jsonptr.specs.Text.{Text, dec}
 use Rattle.jsonptr.specs.Parts.{BeginsWith}
-use Rattle.jsonptr.specs.Node.{Step, key, place, Path, Label, an_object, an_array, a_leaf, NodeMap, sub, NamesStep, Names}
+use Rattle.jsonptr.specs.Node.{Step, key, place, Path, Label, an_object, an_array, a_leaf, NodeMap, sub, NamesStep, Names, MayHave, IsTree}
 use Rattle.jsonptr.specs.Following.{Finds, StopsAt, LacksStep}
-use Rattle.jsonptr.specs.Put.{GoesThrough}
+use Rattle.jsonptr.specs.Put.{GoesThrough, same_step, rest_after}
+use Rattle.jsonptr.specs.Growing.{means_end, with_one, grown, LacksDash}
 use Rattle.jsonptr.specs.Landing.{LandsFrom}
-use Rattle.jsonptr.specs.Assigning.{Assigns}
-use Rattle.jsonptr.proofs.Calling.{Names-root, Names_one_list, stops-lacks, Assigns-frame}
-use Rattle.jsonptr_uses.specs.Settings.{IsHighest, IsAnswer, IsApart}
+use Rattle.jsonptr.specs.Assigning.{long_enough, with_room, Assigns}
+use Rattle.jsonptr.specs.Delete.{NamesNothing}
+use Rattle.jsonptr.proofs.Calling.{Names-root, Names-here, Names_one_list, stops-lacks, Assigns-frame}
+use Rattle.jsonptr_uses.specs.Settings.{IsHighest, IsAnswer, IsApart, IsPlaceOf, IsSetAt}
+use Rattle.jsonptr_uses.specs.PrivateWalking.{token_of, tokens_to}
+use Rattle.jsonptr_uses.proofs.WalkingLemmas.{tokens_are, named}
 
 -- layers
 
@@ -128,33 +134,244 @@ clear_of_there n tokens front rest others w q split named ends there apart = (no
           | inr none ↦ apart.not_above (rest, split ∙ ap (λ l. l ++ rest) (sym (r.1 ∙ ap (λ l. front ++ l) none ∙ append-nil front)))
         ]
 
-clear_from : (n : NodeMap) (tokens front rest others : List Text) (w p q : Path) (left : List Text) (o : Option Label) → n w ≡ o → StopsAt n tokens front w rest → LandsFrom w o rest p left → Names n others q → IsApart others tokens → Clear p q
-clear_from n tokens front [] others w p q left o label stops lands there apart =
-    subst (λ (v : Path). Clear v q) (sym lands.0) (clear_of_there n tokens front [] others w q stops.split stops.named (λ ys u h. inl refl) there apart)
-clear_from n tokens front (x ∷ rest) others w p q left None label stops lands there apart = absurd lands
-clear_from n tokens front (x ∷ rest) others w p q left (Some an_object) label stops lands there apart =
+clear_from : (n : NodeMap) (tokens at front rest more others : List Text) (w p q : Path) (left : List Text) (o : Option Label) → n w ≡ o → StopsAt n tokens front w rest → at ≡ front ++ more → (rest ≡ [] → more ≡ []) → LandsFrom w o rest p left → Names n others q → IsApart others at → Clear p q
+clear_from n tokens at front [] more others w p q left o label stops split none lands there apart =
+    subst (λ (v : Path). Clear v q) (sym lands.0) (clear_of_there n at front more others w q split stops.named (λ ys u h. inl (none refl)) there apart)
+clear_from n tokens at front (x ∷ rest) more others w p q left None label stops split none lands there apart = absurd lands
+clear_from n tokens at front (x ∷ rest) more others w p q left (Some an_object) label stops split none lands there apart =
     let lacks : LacksStep n w x = stops-lacks n tokens front x rest w stops in
     let taken : NamesStep (n w) x (key x) = subst (λ (l : Option Label). NamesStep l x (key x)) (sym label) refl in
-    subst (λ (v : Path). Clear v q) (sym lands.0) (clear_of_new n tokens front (x ∷ rest) others w q (key x) stops.split stops.named (λ y step some. lacks (key x) taken some) there apart)
-clear_from n tokens front (x ∷ rest) others w p q left (Some (an_array len)) label stops lands there apart =
-    subst (λ (v : Path). Clear v q) (sym lands.1) (clear_of_new n tokens front (x ∷ rest) others w q (place len) stops.split stops.named (λ y step some. beyond y step) there apart)
+    subst (λ (v : Path). Clear v q) (sym lands.0) (clear_of_new n at front more others w q (key x) split stops.named (λ y step some. lacks (key x) taken some) there apart)
+clear_from n tokens at front (x ∷ rest) more others w p q left (Some (an_array len)) label stops split none lands there apart =
+    subst (λ (v : Path). Clear v q) (sym lands.1) (clear_of_new n at front more others w q (place len) split stops.named (λ y step some. beyond y step) there apart)
   where
     beyond : (y : Text) → NamesStep (n w) y (place len) → ⊥
     beyond y step =
-        let at : NamesStep (Some (an_array len)) y (place len) = subst (λ (l : Option Label). NamesStep l y (place len)) label step in
-        let inside : len < len = at.0 in
+        let taken : NamesStep (Some (an_array len)) y (place len) = subst (λ (l : Option Label). NamesStep l y (place len)) label step in
+        let inside : len < len = taken.0 in
         absurd (omega arith)
-clear_from n tokens front (x ∷ rest) others w p q left (Some (a_leaf v)) label stops lands there apart =
-    subst (λ (v : Path). Clear v q) (sym lands.0) (clear_of_there n tokens front (x ∷ rest) others w q stops.split stops.named (λ ys u h. inr (ends_at_leaf (Some (a_leaf v)) (sub n w) ys u (sym label ∙ ap n (sym (append-nil w))) (λ y s step. step) h)) there apart)
+clear_from n tokens at front (x ∷ rest) more others w p q left (Some (a_leaf v)) label stops split none lands there apart =
+    subst (λ (v : Path). Clear v q) (sym lands.0) (clear_of_there n at front more others w q split stops.named (λ ys u h. inr (ends_at_leaf (Some (a_leaf v)) (sub n w) ys u (sym label ∙ ap n (sym (append-nil w))) (λ y s step. step) h)) there apart)
 
--- tokens that found something, and are apart from those of an assignment, find it still
-pub assigned_apart : (n : NodeMap) (tokens : List Text) (v m : NodeMap) (old : Option NodeMap) → Assigns n tokens v m old → (others : List Text) (k : NodeMap) → IsApart others tokens → Finds n others k → Finds m others k
-assigned_apart n tokens v m old r others k apart found =
+-- tokens that found something, and are apart from a list that goes on from where following stops, find it still
+kept_apart : (n : NodeMap) (tokens : List Text) (v m : NodeMap) (old : Option NodeMap) (r : Assigns n tokens v m old) (at more : List Text) → at ≡ r.lands.front ++ more → (r.lands.rest ≡ [] → more ≡ []) → (others : List Text) (k : NodeMap) → IsApart others at → Finds n others k → Finds m others k
+kept_apart n tokens v m old r at more split none others k apart found =
     let lands = r.lands in
-    let clear = clear_from n tokens lands.front lands.rest others lands.path r.path found.path r.left (n lands.path) refl lands.stops lands.lands found.named apart in
+    let clear = clear_from n tokens at lands.front lands.rest more others lands.path r.path found.path r.left (n lands.path) refl lands.stops split none lands.lands found.named apart in
     let kept = Assigns-frame n tokens v m old r others found.path found.named clear.0 clear.1 in
     record {
       path = found.path;
       named = kept.0;
       below = found.below ∙ sym kept.1;
     }
+
+-- so do those that are apart from the tokens of the assignment
+pub assigned_apart : (n : NodeMap) (tokens : List Text) (v m : NodeMap) (old : Option NodeMap) → Assigns n tokens v m old → (others : List Text) (k : NodeMap) → IsApart others tokens → Finds n others k → Finds m others k
+assigned_apart n tokens v m old r = kept_apart n tokens v m old r tokens r.lands.rest r.lands.stops.split (λ e. e)
+
+-- the place as tokens
+
+-- that of no tokens is no tokens
+no_place : (ys : List Text) → IsPlaceOf [] ys → ys ≡ []
+no_place [] h = refl
+no_place (y ∷ ys) h = absurd h
+
+-- behind one front
+place_behind : (front rest more : List Text) → IsPlaceOf rest more → IsPlaceOf (front ++ rest) (front ++ more)
+place_behind [] rest more h = h
+place_behind (x ∷ front) rest more h = (inl refl, place_behind front rest more h)
+
+-- tokens of which none is `-` are their own place
+plain_place : (xs ys : List Text) → LacksDash xs → IsPlaceOf xs ys → ys ≡ xs
+plain_place [] [] dash h = refl
+plain_place [] (y ∷ ys) dash h = absurd h
+plain_place (x ∷ xs) [] dash h = absurd h
+plain_place (x ∷ xs) (y ∷ ys) dash h =
+    let rest : ys ≡ xs = plain_place xs ys (λ front more e. dash (x ∷ front) more (ap (λ l. x ∷ l) e)) h.1 in
+    let first : y ≡ x = elim h.0 [
+      | inl e ↦ e
+      | inr e ↦ absurd (dash [] xs (ap (λ t. t ∷ xs) e.0))
+    ] in
+    ap₂ (λ t ts. t ∷ ts) first rest
+
+-- the token that means the end of an array stands for the place there
+end_place : (len : ℕ) (x : Text) → means_end len x ≡ true → (dec len ≡ x) ⊎ ((x ≡ codes "-") × (i : ℕ) × (dec len ≡ dec i))
+end_place len x = by (bytes_eq x (codes "-")) refl
+  where
+    by : (b : Bool) → bytes_eq x (codes "-") ≡ b → (b || bytes_eq x (dec len)) ≡ true → (dec len ≡ x) ⊎ ((x ≡ codes "-") × (i : ℕ) × (dec len ≡ dec i))
+    by true e h = inr ((bytes_eq-Decides x (codes "-")).0 e, len, refl)
+    by false e h = inl (sym ((bytes_eq-Decides x (dec len)).0 h))
+
+tokens_append : (w u : Path) → tokens_to (w ++ u) ≡ tokens_to w ++ tokens_to u
+tokens_append [] u = refl
+tokens_append (s ∷ w) u = ap (λ l. token_of s ∷ l) (tokens_append w u)
+
+-- what tokens grow
+
+-- v stands in g where the tokens lead, and each node of g is on the way there or behind it
+record Grows (xs : List Text) (g v : NodeMap) : Type 0 where
+  path : Path
+  reads : IsPlaceOf xs (tokens_to path)
+  below : sub g path ≡ v
+  all : (u : Path) → IsSome (g u) → Clear path u → ⊥
+
+-- round it stands a node with one child
+grows_one : (l : Label) (s : Step) (x : Text) (xs : List Text) (g v : NodeMap) → (token_of s ≡ x) ⊎ ((x ≡ codes "-") × (i : ℕ) × (token_of s ≡ dec i)) → same_step s s ≡ true → ((t : Step) → same_step s t ≡ true → s ≡ t) → Grows xs g v → Grows (x ∷ xs) (with_one l s g) v
+grows_one l s x xs g v read same one r = record {
+  path = s ∷ r.path;
+  reads = (read, r.reads);
+  below = ap (λ (k : NodeMap). sub k r.path) here ∙ r.below;
+  all = all;
+}
+  where
+    here : sub (with_one l s g) (s ∷ []) ≡ g
+    here = fun_ext (λ (p : Path). ap (λ (b : Bool). cond b (g p) None) same)
+
+    on : (t : Step) (p q : Path) → s ≡ t → GoesThrough p q → GoesThrough (s ∷ p) (t ∷ q)
+    on t p q e c = (c.0, ap₂ (λ a w. a ∷ w) e c.1)
+
+    back : (t : Step) (p q : Path) → s ≡ t → GoesThrough p q → GoesThrough (t ∷ p) (s ∷ q)
+    back t p q e c = (c.0, ap₂ (λ a w. a ∷ w) (sym e) c.1)
+
+    child : (t : Step) (u : Path) (b : Bool) → same_step s t ≡ b → IsSome (cond b (g u) None) → Clear (s ∷ r.path) (t ∷ u) → ⊥
+    child t u true e some clear = r.all u some (λ c. clear.0 (on t r.path u (one t e) c), λ c. clear.1 (back t u r.path (one t e) c))
+    child t u false e some clear = true≢false (sym some)
+
+    all : (u : Path) → IsSome (with_one l s g u) → Clear (s ∷ r.path) u → ⊥
+    all [] some clear = clear.0 (s ∷ r.path, refl)
+    all (t ∷ u) some clear = child t u (same_step s t) refl some clear
+
+first_place : (t : Step) → same_step (place 0) t ≡ true → place 0 ≡ t
+first_place (key k) e = absurd (true≢false (sym e))
+first_place (place zero) e = refl
+first_place (place (suc j)) e = absurd (true≢false (sym e))
+
+one_key : (x : Text) (t : Step) → same_step (key x) t ≡ true → key x ≡ t
+one_key x (key k) e = ap key ((bytes_eq-Decides x k).0 e)
+one_key x (place j) e = absurd (true≢false (sym e))
+
+grows : (xs : List Text) (v : NodeMap) → Grows xs (grown xs v) v
+grows [] v = record { path = []; reads = tt; below = refl; all = λ u some clear. clear.1 (u, refl) }
+grows (x ∷ xs) v = by (means_end 0 x) refl (grows xs v)
+  where
+    by : (b : Bool) → means_end 0 x ≡ b → Grows xs (grown xs v) v → Grows (x ∷ xs) (cond b (with_one (an_array 1) (place 0) (grown xs v)) (with_one an_object (key x) (grown xs v))) v
+    by true e r = grows_one (an_array 1) (place 0) x xs (grown xs v) v (end_place 0 x e) refl first_place r
+    by false e r = grows_one an_object (key x) x xs (grown xs v) v (inl refl) ((bytes_eq-Decides x x).1 refl) (one_key x) r
+
+-- from where following stops the tokens that are left lead to the place
+landing : (w : Path) (o : Option Label) (rest : List Text) (p : Path) (left : List Text) → LandsFrom w o rest p left → (g : Path) → IsPlaceOf left (tokens_to g) → (u : Path) × (p ++ g ≡ w ++ u) × IsPlaceOf rest (tokens_to u)
+landing w o [] p left lands g reads = (g, ap (λ a. a ++ g) lands.0, subst (λ (ts : List Text). IsPlaceOf ts (tokens_to g)) lands.1 reads)
+landing w None (x ∷ rest) p left lands g reads = absurd lands
+landing w (Some an_object) (x ∷ rest) p left lands g reads = (key x ∷ g, ap (λ a. a ++ g) lands.0 ∙ append_assoc w (key x ∷ []) g, (inl refl, subst (λ (ts : List Text). IsPlaceOf ts (tokens_to g)) lands.1 reads))
+landing w (Some (an_array len)) (x ∷ rest) p left lands g reads = (place len ∷ g, ap (λ a. a ++ g) lands.1 ∙ append_assoc w (place len ∷ []) g, (end_place len x lands.0, subst (λ (ts : List Text). IsPlaceOf ts (tokens_to g)) lands.2 reads))
+landing w (Some (a_leaf v)) (x ∷ rest) p left lands g reads = (g, ap (λ a. a ++ g) lands.0, subst (λ (ts : List Text). IsPlaceOf ts (tokens_to g)) lands.1 reads)
+
+-- what is named afterwards
+
+-- tokens that name a path name it in another map, where each step to a node is taken there too
+along : (n m : NodeMap) (xs : List Text) (q : Path) → ((u : Path) (t : Step) (v : Path) (x : Text) → q ≡ u ++ t ∷ v → NamesStep (n u) x t → IsSome (n (u ++ t ∷ [])) → NamesStep (m u) x t) → (IsSome (n q) → IsSome (m q)) → Names n xs q → Names m xs q
+along n m [] [] step here h = here h
+along n m [] (t ∷ q) step here h = absurd h
+along n m (x ∷ xs) [] step here h = absurd h
+along n m (x ∷ xs) (t ∷ q) step here h = (
+  step [] t q x refl h.0 (Names-root (sub n (t ∷ [])) xs q h.1),
+  along (sub n (t ∷ [])) (sub m (t ∷ [])) xs q (λ u s v y e. step (t ∷ u) s v y (ap (λ p. t ∷ p) e)) here h.1,
+)
+
+-- where there is room an array may be longer, and all else is as it was
+room : (r : Option Path) (o : Option Label) → (long_enough r o ≡ o) ⊎ ((len more : ℕ) × (o ≡ Some (an_array len)) × (long_enough r o ≡ Some (an_array more)))
+room None o = inl refl
+room (Some []) o = inl refl
+room (Some (key k ∷ p)) o = inl refl
+room (Some (place i ∷ p)) None = inl refl
+room (Some (place i ∷ p)) (Some an_object) = inl refl
+room (Some (place i ∷ p)) (Some (an_array len)) = inr (len, max len (suc i), refl, refl)
+room (Some (place i ∷ p)) (Some (a_leaf v)) = inl refl
+
+-- so no node is new
+old_node : (r : Option Path) (o : Option Label) → IsSome (long_enough r o) → IsSome o
+old_node r o some = elim (room r o) [
+  | inl e ↦ subst (λ (l : Option Label). IsSome l) e some
+  | inr a ↦ subst (λ (l : Option Label). IsSome l) (sym a.2) refl
+]
+
+array_step : (len more : ℕ) (x : Text) (t : Step) → NamesStep (Some (an_array more)) x t → MayHave (Some (an_array len)) t → NamesStep (Some (an_array len)) x t
+array_step len more x (key k) h may = absurd h
+array_step len more x (place i) h may = (may, h.1)
+
+-- and a step to a child that may be there was taken before
+old_step : (r : Option Path) (o : Option Label) (x : Text) (t : Step) → NamesStep (long_enough r o) x t → MayHave o t → NamesStep o x t
+old_step r o x t h may = elim (room r o) [
+  | inl e ↦ subst (λ (l : Option Label). NamesStep l x t) e h
+  | inr a ↦ subst (λ (l : Option Label). NamesStep l x t) (sym a.2) (array_step a.0 a.1 x t (subst (λ (l : Option Label). NamesStep l x t) a.3 h) (subst (λ (l : Option Label). MayHave l t) a.2 may))
+]
+
+-- tokens that name a path afterwards, but not one behind p, which alone is new, named it before
+was_named : (n m : NodeMap) (p : Path) → IsTree n → ((u : Path) → (GoesThrough u p → ⊥) → m u ≡ with_room n p u) → (others : List Text) (q : Path) → Names m others q → (GoesThrough q p → ⊥) → Names n others q
+was_named n m p tree outside others q named away = along m n others q step (there q away) named
+  where
+    there : (u : Path) → (GoesThrough u p → ⊥) → IsSome (m u) → IsSome (n u)
+    there u h some = old_node (rest_after u p) (n u) (subst (λ (l : Option Label). IsSome l) (outside u h) some)
+
+    above : (u v : Path) → q ≡ u ++ v → GoesThrough u p → ⊥
+    above u v e h = away (h.0 ++ v, e ∙ ap (λ w. w ++ v) h.1 ∙ append_assoc p h.0 v)
+
+    step : (u : Path) (t : Step) (v : Path) (x : Text) → q ≡ u ++ t ∷ v → NamesStep (m u) x t → IsSome (m (u ++ t ∷ [])) → NamesStep (n u) x t
+    step u t v x e h some =
+        let child = there (u ++ t ∷ []) (above (u ++ t ∷ []) v (e ∙ sym (append_assoc u (t ∷ []) v))) some in
+        old_step (rest_after u p) (n u) x t (subst (λ (l : Option Label). NamesStep l x t) (outside u (above u (t ∷ v) e)) h) (tree.parent u t child)
+
+-- the place
+
+-- tokens that name a path afterwards, and are apart from those of the place: the path is not on the way to where the
+-- value landed nor behind it
+clear_after : (m : NodeMap) (p : Path) (left : List Text) (v : NodeMap) (g : Grows left (grown left v) v) (at others : List Text) (q : Path) → ((u : Path) → m (p ++ u) ≡ grown left v u) → Names m at (p ++ g.path) → Names m others q → IsApart others at → Clear p q
+clear_after m p left v g at others q inside there named apart = (above, below)
+  where
+    -- q is not on the way to the place, however that goes on from p
+    on_the_way : (u : Path) → p ++ g.path ≡ q ++ u → ⊥
+    on_the_way u e = apart.not_above (is_begun m at others q u named (subst (λ (w : Path). Names m at w) e there))
+
+    above : GoesThrough p q → ⊥
+    above h = on_the_way (h.0 ++ g.path) (ap (λ w. w ++ g.path) h.1 ∙ append_assoc q h.0 g.path)
+
+    below : GoesThrough q p → ⊥
+    below h = g.all h.0 (subst (λ (l : Option Label). IsSome l) (ap m h.1 ∙ inside h.0) (Names-here m others q named)) (
+      λ c. on_the_way c.0 (ap (λ w. p ++ w) c.1 ∙ sym (append_assoc p h.0 c.0) ∙ ap (λ w. w ++ c.0) (sym h.1)),
+      λ c. apart.not_below (is_begun m others at (p ++ g.path) c.0 there (subst (λ (w : Path). Names m others w) (h.1 ∙ ap (λ w. p ++ w) c.1 ∙ sym (append_assoc p g.path c.0)) named)),
+    )
+
+-- one list of tokens finds the value afterwards, and each list apart from it finds the same before and afterwards
+pub set_at : (n : NodeMap) (tokens : List Text) (v m : NodeMap) (old : Option NodeMap) (r : Assigns n tokens v m old) → IsTree n → IsTree m → IsSome (v []) → ((u : Path) → m (r.path ++ u) ≡ grown r.left v u) × ((u : Path) → (GoesThrough u r.path → ⊥) → m u ≡ with_room n r.path u) → (at : List Text) × IsPlaceOf tokens at × IsSetAt n at v m
+set_at n tokens v m old r tree after some made =
+    let lands = r.lands in
+    let g = grows r.left v in
+    let goal : Path = r.path ++ g.path in
+    let down = landing lands.path (n lands.path) lands.rest r.path r.left lands.lands g.path g.reads in
+    let more : List Text = tokens_to down.0 in
+    let at : List Text = lands.front ++ more in
+    let below : sub m goal ≡ v = fun_ext (λ (u : Path). ap m (append_assoc r.path g.path u) ∙ made.0 (g.path ++ u)) ∙ g.below in
+    let there : IsSome (m goal) = subst (λ (l : Option Label). IsSome l) (sym (ap (λ (k : NodeMap). k []) below) ∙ ap m (append-nil goal)) some in
+    let reads : tokens_to goal ≡ at = ap tokens_to down.1 ∙ tokens_append lands.path down.0 ∙ ap (λ ts. ts ++ more) (sym (tokens_are n lands.front lands.path lands.stops.named)) in
+    let names : Names m at goal = subst (λ (ts : List Text). Names m ts goal) reads (named m after goal there) in (
+      at,
+      subst (λ (ts : List Text). IsPlaceOf ts at) (sym lands.stops.split) (place_behind lands.front lands.rest more down.2),
+      record {
+        there = record { path = goal; named = names; below = sym below };
+        others = λ others k apart. (
+          kept_apart n tokens v m old r at more refl (λ none. no_place more (subst (λ (ts : List Text). IsPlaceOf ts more) none down.2)) others k apart,
+          λ found.
+              let clear = clear_after m r.path r.left v g at others found.path made.0 names found.named apart in
+              let before = was_named n m r.path tree made.1 others found.path found.named clear.1 in
+              let kept = Assigns-frame n tokens v m old r others found.path before clear.0 clear.1 in
+              record { path = found.path; named = before; below = found.below ∙ kept.1 },
+        );
+      },
+    )
+
+-- so what was not found is not found afterwards
+pub nothing_apart : (n : NodeMap) (tokens at : List Text) (v m : NodeMap) → IsPlaceOf tokens at → IsSetAt n at v m → LacksDash tokens → (others : List Text) → IsApart others tokens → NamesNothing n others → NamesNothing m others
+nothing_apart n tokens at v m reads is dash others apart none w there =
+    let away : IsApart others at = subst (λ (ts : List Text). IsApart others ts) (sym (plain_place tokens at dash reads)) apart in
+    let found = (is.others others (sub m w) away).1 (record { path = w; named = there; below = refl }) in
+    none found.path found.named

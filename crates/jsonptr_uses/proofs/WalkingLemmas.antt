@@ -430,7 +430,7 @@ token_is (Some (an_array len)) x (key k) h = absurd h
 token_is (Some (an_array len)) x (place i) h = h.1
 token_is (Some (a_leaf v)) x s h = absurd h
 
-tokens_are : (n : NodeMap) (ts : List Text) (w : Path) → Names n ts w → ts ≡ tokens_to w
+pub tokens_are : (n : NodeMap) (ts : List Text) (w : Path) → Names n ts w → ts ≡ tokens_to w
 tokens_are n [] [] h = refl
 tokens_are n [] (s ∷ w) h = absurd h
 tokens_are n (x ∷ ts) [] h = absurd h
@@ -439,7 +439,7 @@ tokens_are n (x ∷ ts) (s ∷ w) h =
     let others : ts ≡ tokens_to w = tokens_are (sub n (s ∷ [])) ts w h.1 in
     cc
 
-named : (n : NodeMap) → IsTree n → (w : Path) → IsSome (n w) → Names n (tokens_to w) w
+pub named : (n : NodeMap) → IsTree n → (w : Path) → IsSome (n w) → Names n (tokens_to w) w
 named n tree w some =
     let r = IsTree-named n tree w some in
     subst (λ (ts : List Text). Names n ts w) (tokens_are n r.0 w r.1) r.1

@@ -13,9 +13,10 @@ ghost use Rattle.jsonptr.specs.Delete.{NamesNothing};
 ghost use Rattle.jsonptr.specs.Fault.{IfRefused};
 ghost use Rattle.jsonptr.specs.Json.{nodes, FindsValue, KeysAscend};
 ghost use Rattle.jsonptr.specs.Pointer.{tokens};
-ghost use Rattle.jsonptr_uses.specs.Settings.{IsAnswer, IsHighest, IsApart};
+ghost use Rattle.jsonptr_uses.specs.Settings.{IsAnswer, IsHighest, IsApart, IsPlaceOf, IsSetAt};
 
 use crate::writes::assign_json;
+use jsonptr::tree::writing::put_law;
 use jsonptr::{Fault, Pointer, Resolve, assign};
 use serde_json::Value;
 use std::alloc::{AllocError, Global};
@@ -85,8 +86,8 @@ pub fn get_json<'v>(
 }
 
 /// Assigns a value where the pointer leads in the highest layer, a JSON document, and gives back what stood there.
-/// Tokens without `-` find the value there. All other tokens that found something find that still, but for those
-/// that lead to the place or beyond it.
+/// One list of tokens finds the value then: the pointer's own, but that an index may stand for `-`. All others find
+/// what they found before, and nothing where they found nothing, but for those that lead to the place or beyond it.
 pub fn set(
     top: &mut Value,
     alloc: Global,
@@ -102,11 +103,18 @@ pub fn set(
         → IsApart others (tokens pointer.entry)
         → Finds (nodes (view top.old)) others m
         → Finds (nodes (view top.new)) others m) }
+    ensures nothing { IfOk result (λ _. LacksDash (tokens pointer.entry) → (others : List Text)
+        → IsApart others (tokens pointer.entry)
+        → NamesNothing (nodes (view top.old)) others
+        → NamesNothing (nodes (view top.new)) others) }
+    ensures place { IfOk result (λ _. (place : List Text) × IsPlaceOf (tokens pointer.entry) place
+        × IsSetAt (nodes (view top.old)) place (nodes (view value)) (nodes (view top.new))) }
     ensures order { IfOk result (λ _.
         KeysAscend (view value) → KeysAscend (view top.old) → KeysAscend (view top.new)) }
     ensures refused { IfRefused result
         (RefusesAssign (nodes (view top.old)) (tokens pointer.entry)) }
     ensures stays { OnErr result (view top.new ≡ view top.old) }
 {
+    put_law();
     assign_json(top, alloc, pointer, value)
 }
