@@ -1,5 +1,6 @@
--- Lemmas on the undos of an editor, on patches, on settings in layers, on references, on checks, on walks and on a cursor.
+-- Lemmas on the undos of an editor, on removals, on patches, on settings in layers, on references, on checks, on walks and on a cursor.
 pub mod UndoingLemmas
+mod RemovingLemmas
 mod PatchesLemmas
 mod SettingsLemmas
 mod ReferencesLemmas

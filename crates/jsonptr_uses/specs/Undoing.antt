@@ -1,14 +1,20 @@
 -- What the undos of an editor lead back to.
-use Rattle.std.specs.Prelude.{◌≡◌, List, [], ◌∷◌}
+use Rattle.std.specs.Prelude.{◌≡◌, List, [], ◌∷◌, Option}
 use Rattle.serde_json.specs.Data.{Data}
 use Rattle.serde_json.specs.View.{view}
 use Rattle.serde_json.specs.declared.value.Value.{Value}
+use Rattle.jsonptr.specs.Text.{Text}
+use Rattle.jsonptr.specs.Ends.{PopsBack}
 use Rattle.jsonptr.specs.Json.{nodes, KeysAscend}
 use Rattle.jsonptr.specs.Node.{Path, Names}
 use Rattle.jsonptr_session.specs.Documents.{json_map, json_blank}
 use Rattle.jsonptr_session.specs.Undo.{tokens_at, IfPut, Undoes}
 use Rattle.jsonptr_session.specs.declared.undo.Undo.{Undo}
 use Rattle.jsonptr_uses.specs.declared.undoing.Editor.{Editor}
+
+-- the tokens us are ts without the last one, which lead to the parent; where ts has none, us has none either
+abbrev pub IsAbove : List Text → List Text → Type 0
+IsAbove ts us = (t : Option Text) × PopsBack ts t us
 
 -- the undo leads from the value `new` back to `old`: its tokens name something in `new`, and what it makes of that
 -- is `old`, with the keys in order

@@ -1,22 +1,24 @@
 //! An editor of a JSON document with a cursor, which always names a value of the document, and which takes back what
-//! it assigned. The contracts follow from those of `jsonptr`, of `jsonptr_session` and of the editor below it.
+//! it assigned and removed. The contracts follow from those of `jsonptr`, of `jsonptr_session` and of the editor below
+//! it.
 ghost use Rattle.std.specs.Prelude.{◌≡◌, [], ◌∷◌, ◌++◌, IfOk, OnErr};
-ghost use Rattle.serde_json.specs.Data.{Data};
+ghost use Rattle.serde_json.specs.Data.{Data, null};
 ghost use Rattle.serde_json.specs.View.{view};
 ghost use Rattle.jsonptr.specs.Ends.{PopsBack};
 ghost use Rattle.jsonptr.specs.Fault.{IfRefused, IsRefused};
 ghost use Rattle.jsonptr.specs.Json.{nodes, FindsValue, KeysAscend};
+ghost use Rattle.jsonptr.specs.Removing.{Deletes};
 ghost use Rattle.jsonptr.specs.Resolve.{PutsAt, Refuses};
 ghost use Rattle.jsonptr_uses.specs.Editing.{StandsAtValue};
-ghost use Rattle.jsonptr_uses.specs.Undoing.{IsOpenedOn};
+ghost use Rattle.jsonptr_uses.specs.Undoing.{IsAbove, IsOpenedOn};
 
-use crate::undoing::Editor;
+use crate::undoing::{Editor, above};
 use jsonptr::tree::json::json_law;
 use jsonptr::{Fault, PointerBuf, Token, assign, resolve};
 use serde_json::Value;
 use std::alloc::{AllocError, Global};
 
-/// A JSON document, the place in it that is looked at, and what takes each assignment back.
+/// A JSON document, the place in it that is looked at, and what takes each change back.
 #[derive(Drop)]
 pub struct CursorEditor {
     editor: Editor,
@@ -91,8 +93,33 @@ impl CursorEditor {
         self.editor.assign(alloc, self.cursor.as_ptr(), value)
     }
 
-    /// Moves the cursor to the root and takes all assignments back: the document is the one that the editor was
-    /// opened on. Where memory is wanted, which is the only refusal, the rest can be taken back by another call.
+    /// Takes the value at the cursor out of the document, and moves the cursor to its parent; of the whole document
+    /// null is left, and the cursor stays at the root. Only want of memory refuses that, and then nothing has changed.
+    /// A removal takes time and memory as the parent is large, of which a copy is kept to take that back.
+    pub fn remove(&mut self, alloc: Global) -> Result<(), Fault<resolve::Error>>
+        ensures removed { IfOk result (λ _.
+            Deletes (nodes (view self.old.editor.document)) self.old.cursor (nodes null)
+            (nodes (view self.new.editor.document))) }
+        ensures moved { IfOk result (λ _. IsAbove self.old.cursor self.new.cursor) }
+        ensures opened { (start : Data)
+            → IsOpenedOn start self.old.editor → IsOpenedOn start self.new.editor }
+        ensures stands { StandsAtValue self.old → StandsAtValue self.new }
+        ensures never_refused { StandsAtValue self.old → IsRefused result → ⊥ }
+        ensures stays { OnErr result
+            (view self.new.editor.document ≡ view self.old.editor.document) }
+        ensures cursor_stays { OnErr result (self.new.cursor ≡ self.old.cursor) }
+        ensures undos_stay { OnErr result
+            (self.new.editor.undos.items ≡ self.old.editor.undos.items) }
+    {
+        json_law();
+        let parent = above(self.cursor.as_ptr()).to_buf(alloc)?;
+        self.editor.remove(alloc, self.cursor.as_ptr())?;
+        self.cursor = parent;
+        Ok(())
+    }
+
+    /// Moves the cursor to the root and takes all changes back: the document is the one that the editor was opened
+    /// on. Where memory is wanted, which is the only refusal, the rest can be taken back by another call.
     pub fn undo_all(&mut self, alloc: Global) -> Result<(), Fault<resolve::Error>>
         ensures restored { IfOk result (λ _. (start : Data)
             → IsOpenedOn start self.old.editor → view self.new.editor.document ≡ start) }
