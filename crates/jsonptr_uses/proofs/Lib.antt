@@ -1,4 +1,4 @@
--- Lemmas on the undos of an editor, on removals, on patches, on settings in layers, on references, on checks, on walks and on a cursor.
+-- Lemmas on the undos of an editor, on removals, on patches, on settings in layers, on references, on checks, on walks, on a cursor and on the next element.
 pub mod UndoingLemmas
 mod RemovingLemmas
 mod PatchesLemmas
@@ -8,3 +8,4 @@ mod CheckingLemmas
 mod OverlayLemmas
 mod EditingLemmas
 mod WalkingLemmas
+mod NextLemmas

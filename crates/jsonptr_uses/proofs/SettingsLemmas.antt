@@ -17,7 +17,7 @@ use Rattle.jsonptr.specs.Delete.{NamesNothing}
 use Rattle.jsonptr.proofs.Calling.{Names-root, Names-here, Names_one_list, stops-lacks, Assigns-frame}
 use Rattle.jsonptr_uses.specs.Settings.{IsHighest, IsAnswer, IsApart, IsPlaceOf, IsSetAt}
 use Rattle.jsonptr_uses.specs.PrivateWalking.{token_of, tokens_to}
-use Rattle.jsonptr_uses.proofs.WalkingLemmas.{tokens_are, named}
+use Rattle.jsonptr_uses.proofs.WalkingLemmas.{tokens_are, named_by_steps}
 
 -- layers
 
@@ -353,7 +353,7 @@ set_at n tokens v m old r tree after some made =
     let below : sub m goal ≡ v = fun_ext (λ (u : Path). ap m (append_assoc r.path g.path u) ∙ made.0 (g.path ++ u)) ∙ g.below in
     let there : IsSome (m goal) = subst (λ (l : Option Label). IsSome l) (sym (ap (λ (k : NodeMap). k []) below) ∙ ap m (append-nil goal)) some in
     let reads : tokens_to goal ≡ at = ap tokens_to down.1 ∙ tokens_append lands.path down.0 ∙ ap (λ ts. ts ++ more) (sym (tokens_are n lands.front lands.path lands.stops.named)) in
-    let names : Names m at goal = subst (λ (ts : List Text). Names m ts goal) reads (named m after goal there) in (
+    let names : Names m at goal = subst (λ (ts : List Text). Names m ts goal) reads (named_by_steps m after goal there) in (
       at,
       subst (λ (ts : List Text). IsPlaceOf ts at) (sym lands.stops.split) (place_behind lands.front lands.rest more down.2),
       record {

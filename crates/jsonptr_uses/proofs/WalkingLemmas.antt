@@ -439,8 +439,8 @@ tokens_are n (x ∷ ts) (s ∷ w) h =
     let others : ts ≡ tokens_to w = tokens_are (sub n (s ∷ [])) ts w h.1 in
     cc
 
-pub named : (n : NodeMap) → IsTree n → (w : Path) → IsSome (n w) → Names n (tokens_to w) w
-named n tree w some =
+pub named_by_steps : (n : NodeMap) → IsTree n → (w : Path) → IsSome (n w) → Names n (tokens_to w) w
+named_by_steps n tree w some =
     let r = IsTree-named n tree w some in
     subst (λ (ts : List Text). Names n ts w) (tokens_are n r.0 w r.1) r.1
 
@@ -475,7 +475,7 @@ walk_whole n lists through none root empty tree a = record {
     listed = a.listed ∙ ap (λ l. l ++ map (λ w. through ++ tokens_to w) a.paths) empty ∙ ap (λ (l : List Text). map (λ w. l ++ tokens_to w) a.paths) root
 
     path_of : (w : Path) (ts : List Text) → Among a.paths w → ts ≡ tokens_to w → Names n ts w
-    path_of w ts h e = subst (λ (us : List Text). Names n us w) (sym e) (named n tree w (a.there w h).1)
+    path_of w ts h e = subst (λ (us : List Text). Names n us w) (sym e) (named_by_steps n tree w (a.there w h).1)
 
     one : (ts : List Text) → Among lists ts → (w : Path) × Names n ts w
     one ts h =

@@ -1,20 +1,24 @@
 //! An editor of a JSON document with a cursor, which always names a value of the document, and which takes back what
 //! it assigned and removed. The contracts follow from those of `jsonptr`, of `jsonptr_session` and of the editor below
 //! it.
-ghost use Rattle.std.specs.Prelude.{◌≡◌, [], ◌∷◌, ◌++◌, IfOk, OnErr};
+ghost use Rattle.std.specs.Prelude.{◌≡◌, ℕ, ◌+◌, ◌<◌, [], ◌∷◌, ◌++◌, Some, IfOk, OnErr, MatchOption};
 ghost use Rattle.serde_json.specs.Data.{Data, null};
 ghost use Rattle.serde_json.specs.View.{view};
 ghost use Rattle.jsonptr.specs.Ends.{PopsBack};
 ghost use Rattle.jsonptr.specs.Fault.{IfRefused, IsRefused};
 ghost use Rattle.jsonptr.specs.Json.{nodes, FindsValue, KeysAscend};
+ghost use Rattle.jsonptr.specs.Node.{an_array};
+ghost use Rattle.jsonptr.specs.Pointer.{tokens};
 ghost use Rattle.jsonptr.specs.Removing.{Deletes};
 ghost use Rattle.jsonptr.specs.Resolve.{PutsAt, Refuses};
-ghost use Rattle.jsonptr_uses.specs.Editing.{StandsAtValue};
+ghost use Rattle.jsonptr.specs.Text.{dec};
+ghost use Rattle.jsonptr_uses.specs.Editing.{StandsAtValue, NamesArray, IsNext, LacksNext, MovesOn};
 ghost use Rattle.jsonptr_uses.specs.Undoing.{IsAbove, IsOpenedOn};
 
 use crate::undoing::{Editor, above};
+use jsonptr::index::Index;
 use jsonptr::tree::json::json_law;
-use jsonptr::{Fault, PointerBuf, Token, assign, resolve};
+use jsonptr::{Fault, Pointer, PointerBuf, Token, assign, resolve};
 use serde_json::Value;
 use std::alloc::{AllocError, Global};
 
@@ -75,6 +79,26 @@ impl CursorEditor {
         self.cursor.pop_back()
     }
 
+    /// Moves the cursor to the next element of the array in which it stands, and answers whether there is one. Where
+    /// there is none, as at the last element, at a member of an object and at the root, it stays, and where memory is
+    /// wanted too.
+    pub fn next(&mut self, alloc: Global) -> Result<bool, AllocError>
+        ensures moved { IfOk result (λ there. MovesOn (nodes (view self.old.editor.document))
+            self.old.cursor there self.new.cursor) }
+        ensures stands { StandsAtValue self.old → StandsAtValue self.new }
+        ensures stays { OnErr result (self.new.cursor ≡ self.old.cursor) }
+        ensures kept { self.new.editor ≡ self.old.editor }
+    {
+        json_law();
+        match next_element(alloc, self.editor.document(), self.cursor.as_ptr())? {
+            Some(next) => {
+                self.cursor = next;
+                Ok(true)
+            }
+            None => Ok(false),
+        }
+    }
+
     /// Puts a value in the place of the one at the cursor. Only want of memory refuses that, and then the
     /// document is as it was.
     pub fn set(&mut self, alloc: Global, value: Value) -> Result<(), Fault<assign::Error>>
@@ -133,5 +157,78 @@ impl CursorEditor {
         json_law();
         self.cursor.clear();
         self.editor.take_all_back(alloc)
+    }
+}
+
+/// The pointer of the next element of the array in which the pointer leads to an element, if there is one.
+fn next_element(
+    alloc: Global,
+    document: &Value,
+    pointer: Pointer<'_>,
+) -> Result<Option<PointerBuf>, AllocError>
+    ensures { IfOk result (λ next. MatchOption next
+        (LacksNext (nodes (view document.now)) (tokens pointer.entry))
+        (λ us. IsNext (nodes (view document.now)) (tokens pointer.entry) us)) }
+{
+    let Some((front, last)) = pointer.split_back() else {
+        return Ok(None);
+    };
+    let Some(len) = array_len(alloc, document, front)? else {
+        return Ok(None);
+    };
+    let Some(place) = place_after(&last, len) else {
+        return Ok(None);
+    };
+    let token = Token::from_number(alloc, place)?;
+    Ok(Some(front.with_trailing_token(alloc, token)?))
+}
+
+/// The length of the array that the pointer names, if it names one.
+fn array_len(
+    alloc: Global,
+    document: &Value,
+    pointer: Pointer<'_>,
+) -> Result<Option<usize>, AllocError>
+    ensures { IfOk result (λ len. MatchOption len
+        ((k : ℕ) → NamesArray (nodes (view document.now)) (tokens pointer.entry) k → ⊥)
+        (λ k. NamesArray (nodes (view document.now)) (tokens pointer.entry) k)) }
+{
+    match pointer.resolve(alloc, document) {
+        Ok(value) => Ok(len_of(value)),
+        Err(Fault::Refused(_error)) => Ok(None),
+        Err(Fault::Memory(error)) => Err(error),
+    }
+}
+
+/// The length of a value, if it is an array.
+fn len_of(value: &Value) -> Option<usize>
+    ensures { MatchOption result
+        ((k : ℕ) → nodes (view value.now) [] ≡ Some (an_array k) → ⊥)
+        (λ k. nodes (view value.now) [] ≡ Some (an_array k)) }
+{
+    json_law();
+    match value {
+        Value::Null => None,
+        Value::Bool(_) => None,
+        Value::Number(_) => None,
+        Value::String(_) => None,
+        Value::Array(elements) => Some(elements.len()),
+        Value::Object(_) => None,
+    }
+}
+
+/// The place behind the one that a token tells, if an array of this length has it.
+fn place_after(token: &Token<'_>, len: usize) -> Option<usize>
+    ensures { MatchOption result
+        ((i : ℕ) → token.now ≡ dec i → i + 1 < len → ⊥)
+        (λ next. (i : ℕ) × (token.now ≡ dec i) × (next ≡ i + 1) × (next < len)) }
+{
+    match token.to_index() {
+        Ok(Index::Num(place)) => {
+            let next = place.saturating_add(1);
+            if next < len { Some(next) } else { None }
+        }
+        Ok(Index::Next) => None,
+        Err(_) => None,
     }
 }
