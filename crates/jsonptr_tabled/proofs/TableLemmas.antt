@@ -1,7 +1,8 @@
 -- Tables of places, filled and moved.
 use Rattle.std.proofs.Common.{◌≡◌, ◌≢◌, ℕ, suc, zero, ◌+◌, ◌-◌, ◌^◌, ◌<◌, ◌≤◌, List, [], ◌∷◌, ◌++◌, Some, None, Option, length, take, set, slice_index, slice_set, refl, sym, ap, ap₂, ◌∙◌, subst, ⊎_elim, arith, length-append, append_assoc, drop}
-use Rattle.std.proofs.lemmas.List.{length-set, length-drop, get_or-set_same, get_or-set_other, get_or-drop, take_at, take_more, take_more_set, drop_more, drop-set-lt, map-append}
+use Rattle.std.proofs.lemmas.List.{length-set, length-drop, length-take-le, length-map, get_or-set_same, get_or-set_other, get_or-drop, get_or-take, get_or-map, take_at, take_more, take_more_set, drop_more, drop-set-lt, map-append}
 use Rattle.std.proofs.lemmas.Bool.{cases_eq}
+use Rattle.std.proofs.lemmas.Grind.{same_number_lists}
 use Rattle.jsonptr.specs.Text.{Text, esc, text}
 use Rattle.jsonptr.specs.Ends.{PopsFront, PopsBack}
 use Rattle.jsonptr.proofs.Calling.{text-append}
@@ -56,38 +57,75 @@ moved_all old now from before after i so_far end = record {
   moved = λ k a b. so_far.done k a (omega (arith, b, so_far.len, end)) b;
 }
 
--- ---- 0 and the places moved up, written up to i over the places; behind stands what they were
+-- ---- the places moved up, written behind i over the places; up to i stands what they were
 
-pub record ShiftedUp (old now : List ℕ) (by i carried : ℕ) : Type 0 where
+pub record ShiftedUp (old now : List ℕ) (by i : ℕ) : Type 0 where
   pub len : length now ≡ length old
-  pub ahead : drop i now ≡ drop i old
-  pub so_far : take i now ++ carried ∷ [] ≡ 0 ∷ moved_up by (take i old)
+  pub inside : i < length old
+  pub ahead : (k : ℕ) → k ≤ i → slice_index now k ≡ slice_index old k
+  pub done : (k : ℕ) → i ≤ k → k + 1 < length old → slice_index now (k + 1) ≡ slice_index old k + by
+
+pub shifted_none : (old : List ℕ) (by i : ℕ) → 0 < length old → i ≡ length old - 1 → ShiftedUp old old by i
+shifted_none old by i some e = record {
+  len = refl;
+  inside = omega (arith, some, e);
+  ahead = λ k h. refl;
+  done = λ k a b. absurd (omega (arith, a, b, e));
+}
+
+-- the place before i may be moved up
+pub can_shift_up : (old now : List ℕ) (by i : ℕ) → CanMoveUp (take (length old - 1) old) by → ShiftedUp old now by i → 0 < i → slice_index now (i - 1) + by < 2 ^ 64
+can_shift_up old now by i can so_far low =
+    let within : i - 1 < length old - 1 = omega (arith, low, so_far.inside) in
+    let same = so_far.ahead (i - 1) (omega arith) in
+    let read = get_or-take (length old - 1) old (i - 1) 0 within in
+    let here = can (i - 1) (omega (arith, within, length-take-le (length old - 1) old (omega arith))) in
+    omega (arith, same, read, here)
+
+pub shifted_up_more : (old now : List ℕ) (by i x : ℕ) → ShiftedUp old now by i → 0 < i → x ≡ slice_index now (i - 1) + by → ShiftedUp old (set now i x) by (i - 1)
+shifted_up_more old now by i x so_far low e =
+    let was = so_far.ahead (i - 1) (omega arith) in
+    let high : i < length now = omega (arith, so_far.inside, so_far.len) in
+    record {
+      len = length-set now i x ∙ so_far.len;
+      inside = omega (arith, so_far.inside);
+      ahead = λ k h. get_or-set_other now i k x 0 (λ at. omega (arith, h, at, low)) ∙ so_far.ahead k (omega (arith, h));
+      done = λ k a b.
+          ⊎_elim
+          (λ (at : k ≡ i - 1). let put = get_or-set_same now i x 0 high in let here : k + 1 ≡ i = omega (arith, at, low) in rw (here, at) (put ∙ e ∙ ap (λ (n : ℕ). n + by) was))
+          (λ (other : k ≢ i - 1). get_or-set_other now i (k + 1) x 0 (λ at. other (omega (arith, at))) ∙ so_far.done k (omega (arith, a, other)) b)
+          (cases_eq k (i - 1));
+    }
+
+place_same : (l : List ℕ) (i j : ℕ) → i ≡ j → slice_index l i ≡ slice_index l j
+place_same l i j e = ap (slice_index l) e
+
+sums_turned : (a b : ℕ) → a + b ≡ b + a
+sums_turned a b = omega arith
+
+shifted_at : (old now : List ℕ) (by : ℕ) → ShiftedUp old now by 0 → (k : ℕ) → k < length (set now 0 0) → slice_index (set now 0 0) k ≡ slice_index (0 ∷ moved_up by (take (length old - 1) old)) k
+shifted_at old now by so_far zero h = get_or-set_same now 0 0 0 (omega (arith, so_far.inside, so_far.len))
+shifted_at old now by so_far (suc k) h =
+    let within : k < length old - 1 = omega (arith, h, length-set now 0 0, so_far.len) in
+    get_or-set_other now 0 (suc k) 0 0 (λ at. omega (arith, at))
+    ∙ place_same now (suc k) (k + 1) (omega arith)
+    ∙ so_far.done k (omega arith) (omega (arith, within))
+    ∙ sums_turned (slice_index old k) by
+    ∙ ap (λ (n : ℕ). by + n) (sym (get_or-take (length old - 1) old k 0 within))
+    ∙ sym (get_or-map (λ (o : ℕ). by + o) (take (length old - 1) old) k 0 0 (omega (arith, within, length-take-le (length old - 1) old (omega arith))))
+
+pub shifted_up_all : (old now : List ℕ) (by i : ℕ) → ShiftedUp old now by i → i ≤ 0 → set now 0 0 ≡ 0 ∷ moved_up by (take (length old - 1) old)
+shifted_up_all old now by i so_far end =
+    let last : i ≡ 0 = omega (arith, end) in
+    let done : ShiftedUp old now by 0 = subst (ShiftedUp old now by) last so_far in
+    same_number_lists (set now 0 0) (0 ∷ moved_up by (take (length old - 1) old))
+    (omega (arith, length-set now 0 0, done.len, done.inside, length-take-le (length old - 1) old (omega arith), length-map (take (length old - 1) old) (λ (o : ℕ). by + o)))
+    (shifted_at old now by done)
 
 same_tail : (now old : List ℕ) (i : ℕ) → length now ≡ length old → drop i now ≡ drop i old → i < length now → (slice_index now i ≡ slice_index old i) × (drop (i + 1) now ≡ drop (i + 1) old)
 same_tail now old i len e high =
     let both : slice_index now i ∷ drop (i + 1) now ≡ slice_index old i ∷ drop (i + 1) old = sym (drop_more now i 0 high) ∙ e ∙ drop_more old i 0 (omega (arith, high, len)) in
     (cc, cc)
-
--- the place at i may be moved up
-pub can_shift_up : (old now : List ℕ) (by i carried : ℕ) → CanMoveUp old by → ShiftedUp old now by i carried → i < length now → slice_index now i + by < 2 ^ 64
-can_shift_up old now by i carried can so_far high =
-    let same = same_tail now old i so_far.len so_far.ahead high in
-    let here = can i (omega (arith, high, so_far.len)) in
-    omega (arith, same.0, here)
-
-pub shifted_up_more : (old now : List ℕ) (by i carried next : ℕ) → ShiftedUp old now by i carried → i < length now → next ≡ slice_index now i + by → ShiftedUp old (set now i carried) by (i + 1) next
-shifted_up_more old now by i carried next so_far high e =
-    let same = same_tail now old i so_far.len so_far.ahead high in
-    let next_is : next ≡ by + slice_index old i = omega (arith, e, same.0) in
-    record {
-      len = length-set now i carried ∙ so_far.len;
-      ahead = drop-set-lt (i + 1) now i carried (omega arith) ∙ same.1;
-      so_far =
-          ap (λ (l : List ℕ). l ++ next ∷ []) (take_more_set now i carried high ∙ so_far.so_far)
-          ∙ ap (λ (n : ℕ). 0 ∷ moved_up by (take i old) ++ n ∷ []) next_is
-          ∙ ap (λ (l : List ℕ). 0 ∷ l) (sym (map-append (λ (o : ℕ). by + o) (take i old) (slice_index old i ∷ [])))
-          ∙ ap (λ (l : List ℕ). 0 ∷ moved_up by l) (sym (take_more old i 0 (omega (arith, high, so_far.len))));
-    }
 
 -- ---- the places behind the first moved down, written up to i - 1 from the first place on; at i and behind stands
 -- what they were

@@ -1,10 +1,31 @@
 //! A table of the places of a pointer's slashes, apart from the pointer.
-ghost use Rattle.std.specs.Prelude.{◌≡◌, ◌+◌, ◌-◌, ◌<◌, ◌≤◌, [], ◌∷◌, ◌++◌, length, drop, take, vec_len, vec_capacity};
+ghost use Rattle.std.specs.Prelude.{◌≡◌, ◌+◌, ◌-◌, ◌<◌, ◌≤◌, [], ◌∷◌, ◌++◌, length, drop, take, vec_len, vec_capacity, IfOk};
 ghost use Rattle.jsonptr.specs.Text.{text};
 ghost use Rattle.jsonptr.specs.Pointer.{tokens};
 ghost use Rattle.jsonptr_tabled.specs.Private.{offsets_up_to, moved_up, moved_down, CanMoveUp, CanMoveDown, CanMove, Moves};
 
 use jsonptr::Pointer;
+use std::alloc::AllocError;
+
+/// How many places more a full table asks for at least, so that a short one grows once.
+const ROOM: usize = 32;
+
+/// Makes room for one more place.
+///
+/// # Errors
+///
+/// [`AllocError`] where there is none and no memory for more; the places stay.
+#[inline(always)]
+pub(crate) fn make_room(offsets: &mut Vec<usize>) -> Result<(), AllocError>
+    ensures items { offsets.new.items ≡ offsets.old.items }
+    ensures len { vec_len offsets.new ≡ vec_len offsets.old }
+    ensures room { IfOk result (λ _. vec_len offsets.new < vec_capacity offsets.new) }
+{
+    if offsets.len() == offsets.capacity() {
+        offsets.reserve(ROOM)?;
+    }
+    Ok(())
+}
 
 /// Puts the places of a pointer's slashes behind the others, where its text ends at `end`. There is room for them.
 pub(crate) fn extend(offsets: &mut Vec<usize>, end: usize, pointer: Pointer<'_>)
@@ -25,23 +46,22 @@ pub(crate) fn push_front(offsets: &mut Vec<usize>, by: usize)
     requires room { vec_len offsets.old < vec_capacity offsets.old }
     ensures { offsets.new.items ≡ 0 ∷ moved_up by offsets.old.items }
 {
-    let last = shift_up(offsets, by);
-    offsets.push_reserved(last);
+    offsets.push_reserved(0);
+    shift_up(offsets, by);
 }
 
-/// Puts 0 and then the places, each moved up by this many bytes, in the place of the places; what has no place
-/// there is given back.
-fn shift_up(offsets: &mut [usize], by: usize) -> usize
-    requires { CanMoveUp offsets.old by }
-    ensures { offsets.new ++ result ∷ [] ≡ 0 ∷ moved_up by offsets.old }
+/// Puts 0 and then all places but the last, each moved up by this many bytes, in the place of the places.
+fn shift_up(offsets: &mut [usize], by: usize)
+    requires some { 0 < length offsets.old }
+    requires places { CanMoveUp (take (length offsets.old - 1) offsets.old) by }
+    ensures { offsets.new ≡ 0 ∷ moved_up by (take (length offsets.old - 1) offsets.old) }
 {
-    let mut carried = 0;
-    for i in 0..offsets.len() {
-        let next = offsets[i] + by;
-        offsets[i] = carried;
-        carried = next;
+    let mut i = offsets.len() - 1;
+    while 0 < i {
+        offsets[i] = offsets[i - 1] + by;
+        i -= 1;
     }
-    carried
+    offsets[0] = 0;
 }
 
 /// Takes the first place off, and moves the others down by this many bytes.

@@ -178,11 +178,12 @@ impl TabledPointer {
     /// # Errors
     ///
     /// [`AllocError`] where text or table has no room and there is no memory for more; the pointer stays.
+    #[inline(always)]
     pub fn push_front(&mut self, token: Token<'_>) -> Result<(), AllocError>
         ensures pushed { IfOk result (λ _. PushesFront self.old token.entry self.new) }
         ensures unchanged { IfErr result (λ _. self.new ≡ self.old) }
     {
-        self.offsets.reserve(1)?;
+        table::make_room(&mut self.offsets)?;
         let before = len_of(&self.plain);
         self.plain.push_front(token)?;
         table::push_front(&mut self.offsets, len_of(&self.plain) - before);
@@ -194,11 +195,12 @@ impl TabledPointer {
     /// # Errors
     ///
     /// [`AllocError`] where text or table has no room and there is no memory for more; the pointer stays.
+    #[inline(always)]
     pub fn push_back(&mut self, token: Token<'_>) -> Result<(), AllocError>
         ensures pushed { IfOk result (λ _. PushesBack self.old token.entry self.new) }
         ensures unchanged { IfErr result (λ _. self.new ≡ self.old) }
     {
-        self.offsets.reserve(1)?;
+        table::make_room(&mut self.offsets)?;
         let before = len_of(&self.plain);
         self.plain.push_back(token)?;
         self.offsets.push_reserved(before);
@@ -210,6 +212,7 @@ impl TabledPointer {
     /// # Errors
     ///
     /// [`AllocError`] where there is no memory for the token; the pointer stays. The root asks for none.
+    #[inline(always)]
     pub fn pop_front(&mut self) -> Result<Option<Token<'static>>, AllocError>
         ensures popped { IfOk result (λ r. PopsFront self.old r self.new) }
         ensures unchanged { IfErr result (λ _. self.new ≡ self.old) }
@@ -226,6 +229,7 @@ impl TabledPointer {
     /// # Errors
     ///
     /// [`AllocError`] where there is no memory for the token; the pointer stays. The root asks for none.
+    #[inline(always)]
     pub fn pop_back(&mut self) -> Result<Option<Token<'static>>, AllocError>
         ensures popped { IfOk result (λ r. PopsBack self.old r self.new) }
         ensures unchanged { IfErr result (λ _. self.new ≡ self.old) }
