@@ -1,5 +1,5 @@
 -- Taking an assignment back.
-use Rattle.std.specs.Prelude.{◌≡◌, List, Option, Some, None, option_map, ⊤}
+use Rattle.std.specs.Prelude.{List, Option, Some, None, option_map, ⊤}
 use Rattle.jsonptr.specs.Text.{Text}
 use Rattle.jsonptr.specs.Node.{Path, NodeMap, Names}
 use Rattle.jsonptr.specs.Assigning.{Assigns}

@@ -1,5 +1,4 @@
 use Rattle.std.proofs.Common.{ap, ◌∙◌, ◌++◌, ◌∷◌, []}
-use Rattle.jsonptr.specs.Pointer.{tokens}
 use Rattle.jsonptr.specs.Text.{Text}
 use Rattle.jsonptr_session.proofs.UndoLemmas.{landing_unreachable, landing_not_found, landing_no_index, landing_out_of_bounds}
 use Rattle.jsonptr_session.proofs.landing.landing_before.Goals as goal
