@@ -1,12 +1,15 @@
 //! The calls of a session, in turn.
-ghost use Rattle.std.specs.Prelude.{◌≡◌, IfOk, OnErr, map, option_and_then};
+ghost use Rattle.std.specs.Prelude.{◌≡◌, IfOk, OnErr, map, option_and_then, string_bytes};
 ghost use Rattle.std.specs.Result.{result_ok};
+ghost use Rattle.jsonptr.specs.Node.{NodeMap};
+ghost use Rattle.jsonptr.specs.Pointer.{tokens};
 ghost use Rattle.jsonptr_session.specs.Machine.{State, Steps, Runs};
+ghost use Rattle.jsonptr_session.specs.Machine as machine;
 ghost use Rattle.jsonptr_session.specs.Session.{tells, says};
 
 use crate::document::Document;
 use crate::session::{Call, Reply};
-use jsonptr::{Fault, Token};
+use jsonptr::{Fault, Pointer, PointerBuf, Token};
 use jsonptr_tabled::EditPointer;
 use std::alloc::{AllocError, Global};
 use std::borrow::CowStr;
@@ -69,55 +72,143 @@ fn answer<P: EditPointer, D: Document>(
         (record { tokens = P.list ptr.new; nodes = D.nodes doc.new }) }
 {
     match call {
-        Call::Parse(text) => match ptr.set_text(text) {
-            Ok(()) => Ok(Reply::Done),
-            Err(Fault::Refused(report)) => Ok(Reply::BadPointer(report)),
-            Err(Fault::Memory(error)) => Err(error),
-        },
-        Call::PushBack(text) => {
-            ptr.push_back(Token::new(alloc, CowStr::Owned(text))?)?;
-            Ok(Reply::Done)
-        }
-        Call::PushFront(text) => {
-            ptr.push_front(Token::new(alloc, CowStr::Owned(text))?)?;
-            Ok(Reply::Done)
-        }
+        Call::Parse(text) => parse(ptr, text),
+        Call::PushBack(text) => push_back(alloc, ptr, text),
+        Call::PushFront(text) => push_front(alloc, ptr, text),
         Call::PopBack => Ok(Reply::Token(ptr.pop_back()?)),
         Call::PopFront => Ok(Reply::Token(ptr.pop_front()?)),
-        Call::Replace(index, text) => {
-            let token = Token::new(alloc, CowStr::Owned(text))?;
-            match ptr.replace(index, token) {
-                Ok(old) => Ok(Reply::Token(old)),
-                Err(Fault::Refused(error)) => Ok(Reply::BadPosition(error)),
-                Err(Fault::Memory(error)) => Err(error),
-            }
-        }
-        Call::Append(other) => {
-            ptr.append(other.as_ptr())?;
-            Ok(Reply::Done)
-        }
+        Call::Replace(index, text) => replace(alloc, ptr, index, text),
+        Call::Append(other) => append(ptr, other),
         Call::Clear => {
             ptr.clear();
             Ok(Reply::Done)
         }
-        Call::Resolve => match doc.copy_at(alloc, ptr.as_ptr()) {
-            Ok(value) => Ok(Reply::Value(value)),
-            Err(Fault::Refused(error)) => Ok(Reply::NoValue(error)),
-            Err(Fault::Memory(error)) => Err(error),
-        },
-        Call::Write(value) => {
-            let mut value = value;
-            match doc.swap_at(alloc, ptr.as_ptr(), &mut value) {
-                Ok(()) => Ok(Reply::Value(value)),
-                Err(Fault::Refused(error)) => Ok(Reply::NoValue(error)),
-                Err(Fault::Memory(error)) => Err(error),
-            }
-        }
-        Call::Assign(value) => match doc.assign_at(alloc, ptr.as_ptr(), value) {
-            Ok(old) => Ok(Reply::Assigned(old)),
-            Err(Fault::Refused(error)) => Ok(Reply::BadPlace(error)),
-            Err(Fault::Memory(error)) => Err(error),
-        },
+        Call::Resolve => resolve(alloc, ptr.as_ptr(), doc),
+        Call::Write(value) => write(alloc, ptr.as_ptr(), doc, value),
+        Call::Assign(value) => assign(alloc, ptr.as_ptr(), doc, value),
         Call::Delete => Ok(Reply::Deleted(doc.delete_at(alloc, ptr.as_ptr())?)),
+    }
+}
+
+/// The answer to `Call::Parse`.
+fn parse<P: EditPointer, D: Document>(ptr: &mut P, text: String) -> Result<Reply<D>, AllocError>
+    ensures { (nodes : NodeMap) → Steps D.blank (record { tokens = P.list ptr.old; nodes = nodes })
+        (machine.parse (string_bytes text)) (option_and_then (says D.nodes) (result_ok result))
+        (record { tokens = P.list ptr.new; nodes = nodes }) }
+{
+    match ptr.set_text(text) {
+        Ok(()) => Ok(Reply::Done),
+        Err(Fault::Refused(report)) => Ok(Reply::BadPointer(report)),
+        Err(Fault::Memory(error)) => Err(error),
+    }
+}
+
+/// The answer to `Call::PushBack`.
+fn push_back<P: EditPointer, D: Document>(
+    alloc: Global,
+    ptr: &mut P,
+    text: String,
+) -> Result<Reply<D>, AllocError>
+    ensures { (nodes : NodeMap) → Steps D.blank (record { tokens = P.list ptr.old; nodes = nodes })
+        (machine.push_back (string_bytes text)) (option_and_then (says D.nodes) (result_ok result))
+        (record { tokens = P.list ptr.new; nodes = nodes }) }
+{
+    ptr.push_back(Token::new(alloc, CowStr::Owned(text))?)?;
+    Ok(Reply::Done)
+}
+
+/// The answer to `Call::PushFront`.
+fn push_front<P: EditPointer, D: Document>(
+    alloc: Global,
+    ptr: &mut P,
+    text: String,
+) -> Result<Reply<D>, AllocError>
+    ensures { (nodes : NodeMap) → Steps D.blank (record { tokens = P.list ptr.old; nodes = nodes })
+        (machine.push_front (string_bytes text)) (option_and_then (says D.nodes) (result_ok result))
+        (record { tokens = P.list ptr.new; nodes = nodes }) }
+{
+    ptr.push_front(Token::new(alloc, CowStr::Owned(text))?)?;
+    Ok(Reply::Done)
+}
+
+/// The answer to `Call::Replace`.
+fn replace<P: EditPointer, D: Document>(
+    alloc: Global,
+    ptr: &mut P,
+    index: usize,
+    text: String,
+) -> Result<Reply<D>, AllocError>
+    ensures { (nodes : NodeMap) → Steps D.blank (record { tokens = P.list ptr.old; nodes = nodes })
+        (machine.replace index (string_bytes text)) (option_and_then (says D.nodes) (result_ok result))
+        (record { tokens = P.list ptr.new; nodes = nodes }) }
+{
+    let token = Token::new(alloc, CowStr::Owned(text))?;
+    match ptr.replace(index, token) {
+        Ok(old) => Ok(Reply::Token(old)),
+        Err(Fault::Refused(error)) => Ok(Reply::BadPosition(error)),
+        Err(Fault::Memory(error)) => Err(error),
+    }
+}
+
+/// The answer to `Call::Append`.
+fn append<P: EditPointer, D: Document>(
+    ptr: &mut P,
+    other: PointerBuf,
+) -> Result<Reply<D>, AllocError>
+    ensures { (nodes : NodeMap) → Steps D.blank (record { tokens = P.list ptr.old; nodes = nodes })
+        (machine.append other) (option_and_then (says D.nodes) (result_ok result))
+        (record { tokens = P.list ptr.new; nodes = nodes }) }
+{
+    ptr.append(other.as_ptr())?;
+    Ok(Reply::Done)
+}
+
+/// The answer to `Call::Resolve`.
+fn resolve<D: Document>(alloc: Global, ptr: Pointer<'_>, doc: &D) -> Result<Reply<D>, AllocError>
+    ensures { Steps D.blank (record { tokens = tokens ptr.entry; nodes = D.nodes doc.now })
+        machine.resolve (option_and_then (says D.nodes) (result_ok result))
+        (record { tokens = tokens ptr.entry; nodes = D.nodes doc.now }) }
+{
+    match doc.copy_at(alloc, ptr) {
+        Ok(value) => Ok(Reply::Value(value)),
+        Err(Fault::Refused(error)) => Ok(Reply::NoValue(error)),
+        Err(Fault::Memory(error)) => Err(error),
+    }
+}
+
+/// The answer to `Call::Write`.
+fn write<D: Document>(
+    alloc: Global,
+    ptr: Pointer<'_>,
+    doc: &mut D,
+    value: D,
+) -> Result<Reply<D>, AllocError>
+    ensures { Steps D.blank (record { tokens = tokens ptr.entry; nodes = D.nodes doc.old })
+        (machine.write (D.nodes value)) (option_and_then (says D.nodes) (result_ok result))
+        (record { tokens = tokens ptr.entry; nodes = D.nodes doc.new }) }
+{
+    let mut value = value;
+    match doc.swap_at(alloc, ptr, &mut value) {
+        Ok(()) => Ok(Reply::Value(value)),
+        Err(Fault::Refused(error)) => Ok(Reply::NoValue(error)),
+        Err(Fault::Memory(error)) => Err(error),
+    }
+}
+
+/// The answer to `Call::Assign`.
+fn assign<D: Document>(
+    alloc: Global,
+    ptr: Pointer<'_>,
+    doc: &mut D,
+    value: D,
+) -> Result<Reply<D>, AllocError>
+    ensures { Steps D.blank (record { tokens = tokens ptr.entry; nodes = D.nodes doc.old })
+        (machine.assign (D.nodes value)) (option_and_then (says D.nodes) (result_ok result))
+        (record { tokens = tokens ptr.entry; nodes = D.nodes doc.new }) }
+{
+    match doc.assign_at(alloc, ptr, value) {
+        Ok(old) => Ok(Reply::Assigned(old)),
+        Err(Fault::Refused(error)) => Ok(Reply::BadPlace(error)),
+        Err(Fault::Memory(error)) => Err(error),
     }
 }
