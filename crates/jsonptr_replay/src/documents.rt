@@ -38,24 +38,17 @@ where
         }
         [document, pointer, value] if name == "write" => {
             let mut document = read::<D>(answer.alloc(), document)?;
-            let value = read::<D>(answer.alloc(), value)?;
             write(answer, &mut document, pointer, value)?;
             document_left(answer, &document)
         }
         [document, pointer, value] if name == "assign" => {
             let mut document = read::<D>(answer.alloc(), document)?;
-            let value = read::<D>(answer.alloc(), value)?;
             set(answer, &mut document, pointer, value)?;
             document_left(answer, &document)
         }
         [document, pointer] if name == "delete" => {
             let mut document = read::<D>(answer.alloc(), document)?;
-            let old = Delete::delete(
-                &mut document,
-                answer.alloc(),
-                Pointer::parse(pointer.as_str())?,
-            )?;
-            given_back(answer, old)?;
+            take_out(answer, &mut document, pointer)?;
             document_left(answer, &document)
         }
         _ => Err(Halt::Unknown),
@@ -102,10 +95,16 @@ where
     }
 }
 
-fn write<D>(answer: &mut Answer, document: &mut D, pointer: &String, value: D) -> Result<(), Halt>
+fn write<D>(
+    answer: &mut Answer,
+    document: &mut D,
+    pointer: &String,
+    value: &String,
+) -> Result<(), Halt>
 where
     D: Shown + Drop + ResolveMut<Value = D, Error = resolve::Error>,
 {
+    let value = read::<D>(answer.alloc(), value)?;
     match swapped(
         document,
         answer.alloc(),
@@ -134,10 +133,25 @@ where
     Ok(mem::replace(document.resolve_mut(alloc, pointer)?, value))
 }
 
-fn set<D>(answer: &mut Answer, document: &mut D, pointer: &String, value: D) -> Result<(), Halt>
+fn take_out<D>(answer: &mut Answer, document: &mut D, pointer: &String) -> Result<(), Halt>
+where
+    D: Shown + Drop + Delete<Value = D>,
+{
+    let pointer = Pointer::parse(pointer.as_str())?;
+    let old = document.delete(answer.alloc(), pointer)?;
+    given_back(answer, old)
+}
+
+fn set<D>(
+    answer: &mut Answer,
+    document: &mut D,
+    pointer: &String,
+    value: &String,
+) -> Result<(), Halt>
 where
     D: Shown + Drop + Assign<Value = D, Error = assign::Error>,
 {
+    let value = read::<D>(answer.alloc(), value)?;
     match document.assign(answer.alloc(), Pointer::parse(pointer.as_str())?, value) {
         Ok(old) => given_back(answer, old),
         Err(Fault::Refused(error)) => labels::assign(answer, &error, pointer),

@@ -15,9 +15,7 @@ pub fn answer(answer: &mut Answer, name: &str, arguments: &[String]) -> Result<(
             let source = encoding_error(source_offset.as_str(), source.as_str())?;
             let offset = offset.as_str().parse()?;
             let error = ParseError::InvalidEncoding { offset, source };
-            answer.shown("display", &error)?;
-            answer.shown("len", &error.invalid_encoding_len(subject.as_str()))?;
-            Ok(label(answer, &error, subject)?)
+            Ok(pointer_text(answer, &error, subject)?)
         }
         [offset, source, subject] if name == "encoding error" => {
             let error = encoding_error(offset.as_str(), source.as_str())?;
@@ -39,6 +37,17 @@ pub fn answer(answer: &mut Answer, name: &str, arguments: &[String]) -> Result<(
         }
         _ => Err(Halt::Unknown),
     }
+}
+
+/// Fields of the error of a text that is no pointer, on a subject.
+fn pointer_text(
+    answer: &mut Answer,
+    error: &ParseError,
+    subject: &String,
+) -> Result<(), AllocError> {
+    answer.shown("display", error)?;
+    answer.shown("len", &error.invalid_encoding_len(subject.as_str()))?;
+    label(answer, error, subject)
 }
 
 /// Why a text is no index.

@@ -18,20 +18,7 @@ pub fn answer(answer: &mut Answer, name: &str, arguments: &[String]) -> Result<(
     let pointer = Pointer::parse(first.as_str())?;
     match rest {
         [] if name == "reads" => Ok(reads(answer, pointer)?),
-        [kind, start, end] if name == "get" && kind.as_str() == "bounds" => {
-            let pair = (bound(start.as_str())?, bound(end.as_str())?);
-            Ok(part(answer, "got", pointer.get(pair))?)
-        }
-        [kind] if name == "get" && kind.as_str() == "all" => {
-            Ok(part(answer, "got", pointer.get(..))?)
-        }
-        [kind, place] if name == "get" => {
-            get_one(answer, pointer, kind.as_str(), place.as_str().parse()?)
-        }
-        [kind, start, end] if name == "get" => {
-            let (start, end) = (start.as_str().parse()?, end.as_str().parse()?);
-            get_two(answer, pointer, kind.as_str(), start, end)
-        }
+        range if name == "get" => get(answer, pointer, range),
         [offset] if name == "split at offset" => {
             Ok(split_at_offset(answer, pointer, offset.as_str().parse()?)?)
         }
@@ -73,19 +60,44 @@ fn halves(answer: &mut Answer, name: &str, halves: Option<(&str, &str)>) -> Resu
 }
 
 fn reads(answer: &mut Answer, pointer: Pointer<'_>) -> Result<(), AllocError> {
-    let alloc = answer.alloc();
+    whole(answer, pointer)?;
+    sizes(answer, pointer)?;
+    tokens(answer, pointer)?;
+    components(answer, pointer)?;
+    answer.shown("json", &pointer.to_json_value(answer.alloc())?)?;
+    ends(answer, pointer)?;
+    split_front(answer, pointer)?;
+    split_back(answer, pointer)
+}
+
+/// Fields of a pointer's text, as it is given, displayed and owned.
+fn whole(answer: &mut Answer, pointer: Pointer<'_>) -> Result<(), AllocError> {
     answer.text("text", pointer.as_str())?;
     answer.shown("display", &pointer)?;
-    answer.text("owned", pointer.to_buf(alloc)?.as_ptr().as_str())?;
+    let owned = pointer.to_buf(answer.alloc())?;
+    answer.text("owned", owned.as_ptr().as_str())
+}
+
+/// Fields of a pointer's count and length, and of whether it is the root.
+fn sizes(answer: &mut Answer, pointer: Pointer<'_>) -> Result<(), AllocError> {
     answer.shown("count", &pointer.count())?;
     answer.shown("len", &pointer.len())?;
     answer.shown("is_empty", &pointer.is_empty())?;
-    answer.shown("is_root", &pointer.is_root())?;
-    let mut tokens = List::new(alloc);
+    answer.shown("is_root", &pointer.is_root())
+}
+
+/// A field of a pointer's tokens, encoded.
+fn tokens(answer: &mut Answer, pointer: Pointer<'_>) -> Result<(), AllocError> {
+    let mut tokens = List::new(answer.alloc());
     for token in pointer.tokens() {
         tokens.item(token.encoded())?;
     }
-    answer.field("tokens", tokens.as_str())?;
+    answer.field("tokens", tokens.as_str())
+}
+
+/// A field of a pointer's components, the tokens decoded.
+fn components(answer: &mut Answer, pointer: Pointer<'_>) -> Result<(), AllocError> {
+    let alloc = answer.alloc();
     let mut components = List::new(alloc);
     for component in pointer.components() {
         match component {
@@ -95,23 +107,32 @@ fn reads(answer: &mut Answer, pointer: Pointer<'_>) -> Result<(), AllocError> {
             }
         }
     }
-    answer.field("components", components.as_str())?;
-    answer.shown("json", &pointer.to_json_value(alloc)?)?;
+    answer.field("components", components.as_str())
+}
+
+/// Fields of a pointer's tokens at either end, and of its parent.
+fn ends(answer: &mut Answer, pointer: Pointer<'_>) -> Result<(), AllocError> {
     encoded(answer, "front", pointer.front())?;
     encoded(answer, "first", pointer.first())?;
     encoded(answer, "back", pointer.back())?;
     encoded(answer, "last", pointer.last())?;
-    part(answer, "parent", pointer.parent())?;
+    part(answer, "parent", pointer.parent())
+}
+
+fn split_front(answer: &mut Answer, pointer: Pointer<'_>) -> Result<(), AllocError> {
     match pointer.split_front() {
         Some((token, rest)) => {
             halves(
                 answer,
                 "split_front",
                 Some((token.encoded(), rest.as_str())),
-            )?;
+            )
         }
-        None => halves(answer, "split_front", None)?,
+        None => halves(answer, "split_front", None),
     }
+}
+
+fn split_back(answer: &mut Answer, pointer: Pointer<'_>) -> Result<(), AllocError> {
     match pointer.split_back() {
         Some((front, token)) => {
             halves(
@@ -121,6 +142,22 @@ fn reads(answer: &mut Answer, pointer: Pointer<'_>) -> Result<(), AllocError> {
             )
         }
         None => halves(answer, "split_back", None),
+    }
+}
+
+fn get(answer: &mut Answer, pointer: Pointer<'_>, range: &[String]) -> Result<(), Halt> {
+    match range {
+        [kind] if kind.as_str() == "all" => Ok(part(answer, "got", pointer.get(..))?),
+        [kind, place] => get_one(answer, pointer, kind.as_str(), place.as_str().parse()?),
+        [kind, start, end] if kind.as_str() == "bounds" => {
+            let pair = (bound(start.as_str())?, bound(end.as_str())?);
+            Ok(part(answer, "got", pointer.get(pair))?)
+        }
+        [kind, start, end] => {
+            let (start, end) = (start.as_str().parse()?, end.as_str().parse()?);
+            get_two(answer, pointer, kind.as_str(), start, end)
+        }
+        _ => Err(Halt::Unknown),
     }
 }
 
@@ -188,9 +225,13 @@ fn two_pointers(answer: &mut Answer, a: Pointer<'_>, b: Pointer<'_>) -> Result<(
     answer.text("concat", a.concat(alloc, b)?.as_ptr().as_str())?;
     answer.shown("eq", &(a == b))?;
     answer.field("cmp", order_name(a.cmp(&b)))?;
-    let (a, b) = (a.to_buf(alloc)?, b.to_buf(alloc)?);
+    owned_pointers(answer, &a.to_buf(alloc)?, &b.to_buf(alloc)?)
+}
+
+/// Fields of how two owned pointers compare.
+fn owned_pointers(answer: &mut Answer, a: &PointerBuf, b: &PointerBuf) -> Result<(), AllocError> {
     answer.shown("owned_eq", &(a == b))?;
-    answer.field("owned_cmp", order_name(a.cmp(&b)))
+    answer.field("owned_cmp", order_name(a.cmp(b)))
 }
 
 fn from_tokens(answer: &mut Answer, texts: &[String]) -> Result<(), AllocError> {

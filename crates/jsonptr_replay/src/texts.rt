@@ -3,7 +3,7 @@ use crate::answer::{Answer, List};
 use crate::halt::Halt;
 use crate::labels::{cause, label};
 use jsonptr::index::{Index, OutOfBoundsError, ParseIndexError, StringOrToken};
-use jsonptr::{Pointer, PointerBuf, Token};
+use jsonptr::{ParseError, Pointer, PointerBuf, RichParseError, Token};
 use std::alloc::{AllocError, Global};
 use std::borrow::CowStr;
 use std::cmp::Ordering;
@@ -27,33 +27,52 @@ pub fn answer(answer: &mut Answer, name: &str, arguments: &[String]) -> Result<(
 
 fn parse(answer: &mut Answer, text: &String) -> Result<(), AllocError> {
     match Pointer::parse(text.as_str()) {
-        Ok(pointer) => {
-            let mut decoded = List::new(answer.alloc());
-            for token in pointer.tokens() {
-                decoded.item(token.decoded(answer.alloc())?.as_str())?;
-            }
-            answer.text("text", pointer.as_str())?;
-            answer.shown("count", &pointer.count())?;
-            answer.field("tokens", decoded.as_str())?;
-        }
+        Ok(pointer) => parsed(answer, pointer)?,
         Err(error) => {
-            answer.shown("offset", &error.offset())?;
-            answer.shown("pointer_offset", &error.pointer_offset())?;
-            answer.shown("source_offset", &error.source_offset())?;
-            answer.shown("complete_offset", &error.complete_offset())?;
-            answer.shown("is_no_leading_slash", &error.is_no_leading_slash())?;
-            answer.shown("is_invalid_encoding", &error.is_invalid_encoding())?;
-            answer.shown("display", &error)?;
-            answer.shown("len", &error.invalid_encoding_len(text.as_str()))?;
+            offsets(answer, &error, error.complete_offset())?;
+            refused(answer, &error, text.as_str())?;
         }
     }
-    if let Err(report) = PointerBuf::parse(text.clone()?) {
-        answer.text("subject", report.subject().as_str())?;
-        answer.shown("report", &report)?;
-        let (error, subject) = report.decompose();
-        label(answer, &error, &subject)?;
+    match PointerBuf::parse(text.clone()?) {
+        Ok(_) => Ok(()),
+        Err(report) => reported(answer, report),
     }
-    Ok(())
+}
+
+/// Fields of a pointer's text, and of its tokens, decoded.
+fn parsed(answer: &mut Answer, pointer: Pointer<'_>) -> Result<(), AllocError> {
+    let mut decoded = List::new(answer.alloc());
+    for token in pointer.tokens() {
+        decoded.item(token.decoded(answer.alloc())?.as_str())?;
+    }
+    answer.text("text", pointer.as_str())?;
+    answer.shown("count", &pointer.count())?;
+    answer.field("tokens", decoded.as_str())
+}
+
+/// Fields of where a text ceases to be a pointer. That a sum is no greater than `usize::MAX`, as `complete_offset`
+/// asks for, is known of the error of a text, and not of any error, so the sum is given.
+fn offsets(answer: &mut Answer, error: &ParseError, complete: usize) -> Result<(), AllocError> {
+    answer.shown("offset", &error.offset())?;
+    answer.shown("pointer_offset", &error.pointer_offset())?;
+    answer.shown("source_offset", &error.source_offset())?;
+    answer.shown("complete_offset", &complete)
+}
+
+/// Fields of why a text is no pointer.
+fn refused(answer: &mut Answer, error: &ParseError, text: &str) -> Result<(), AllocError> {
+    answer.shown("is_no_leading_slash", &error.is_no_leading_slash())?;
+    answer.shown("is_invalid_encoding", &error.is_invalid_encoding())?;
+    answer.shown("display", error)?;
+    answer.shown("len", &error.invalid_encoding_len(text))
+}
+
+/// Fields of the report that hands a text back which is no pointer.
+fn reported(answer: &mut Answer, report: RichParseError) -> Result<(), AllocError> {
+    answer.text("subject", report.subject().as_str())?;
+    answer.shown("report", &report)?;
+    let (error, subject) = report.decompose();
+    label(answer, &error, &subject)
 }
 
 fn token(answer: &mut Answer, text: &str) -> Result<(), AllocError> {

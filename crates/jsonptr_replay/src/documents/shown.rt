@@ -1,6 +1,6 @@
 //! How the documents of the protocol are read and shown.
 use std::alloc::{AllocError, Global};
-use toml::Value as TomlValue;
+use toml::{Table, Value as TomlValue};
 
 /// A kind of document: how one is read and shown.
 pub trait Shown: Sized {
@@ -64,6 +64,35 @@ enum Part<'v> {
     Value(&'v TomlValue),
 }
 
+/// Leaves the members of a table to be shown, the first of them next.
+fn leave_members<'v>(members: &'v Table, left: &mut Vec<Part<'v>>) -> Result<(), AllocError> {
+    left.push(Part::Text("}"))?;
+    let mut is_last = true;
+    for (key, member) in members.iter().rev() {
+        if !is_last {
+            left.push(Part::Text(", "))?;
+        }
+        is_last = false;
+        left.push(Part::Value(member))?;
+        left.push(Part::Key(key.as_str()))?;
+    }
+    Ok(())
+}
+
+/// Leaves the elements of an array to be shown, the first of them next.
+fn leave_items<'v>(items: &'v [TomlValue], left: &mut Vec<Part<'v>>) -> Result<(), AllocError> {
+    left.push(Part::Text("]"))?;
+    let mut is_last = true;
+    for item in items.iter().rev() {
+        if !is_last {
+            left.push(Part::Text(", "))?;
+        }
+        is_last = false;
+        left.push(Part::Value(item))?;
+    }
+    Ok(())
+}
+
 /// Shows a value, and leaves to be shown what it holds.
 fn show<'v>(
     alloc: Global,
@@ -74,28 +103,11 @@ fn show<'v>(
     match value {
         TomlValue::Table(members) => {
             text.push('{')?;
-            left.push(Part::Text("}"))?;
-            let mut is_last = true;
-            for (key, member) in members.iter().rev() {
-                if !is_last {
-                    left.push(Part::Text(", "))?;
-                }
-                is_last = false;
-                left.push(Part::Value(member))?;
-                left.push(Part::Key(key.as_str()))?;
-            }
+            leave_members(members, left)?;
         }
         TomlValue::Array(items) => {
             text.push('[')?;
-            left.push(Part::Text("]"))?;
-            let mut is_last = true;
-            for item in items.iter().rev() {
-                if !is_last {
-                    left.push(Part::Text(", "))?;
-                }
-                is_last = false;
-                left.push(Part::Value(item))?;
-            }
+            leave_items(items, left)?;
         }
         TomlValue::String(string) => {
             text.push('\'')?;
