@@ -27,29 +27,68 @@ fn encoded<'a>(token: &'a Option<Token<'static>>) -> Option<&'a str> {
     }
 }
 
+/// Whether a pointer has no tokens and no text.
+fn is_root(pointer: PointerBuf) -> bool {
+    pointer.as_ptr().is_root() && pointer.as_ptr().as_str() == ""
+}
+
 #[test]
-fn new_pointers(rt: HostRuntime) -> Result<(), Fail> {
-    for root in [PointerBuf::new(rt.alloc()), PointerBuf::root(rt.alloc())] {
-        assert!(rt; root.as_ptr().is_root());
-        assert_eq!(rt; root.as_ptr().as_str(), "");
-    }
+fn new_roots(rt: HostRuntime) {
+    assert!(rt; is_root(PointerBuf::new(rt.alloc())));
+    assert!(rt; is_root(PointerBuf::root(rt.alloc())));
+}
+
+#[test]
+fn texts_that_are_not_checked(rt: HostRuntime) -> Result<(), Fail> {
     let text = String::from_str(rt.alloc(), "/a~1b/~0")?;
     assert_eq!(rt;
         PointerBuf::new_unchecked(text).as_ptr().as_str(),
         "/a~1b/~0"
     );
+    Ok(())
+}
+
+#[test]
+fn pointers_of_a_token(rt: HostRuntime) -> Result<(), Fail> {
     let one = PointerBuf::from_token(rt.alloc(), token(&rt, "a/b")?)?;
     assert_eq!(rt; one.as_ptr().as_str(), "/a~1b");
+    Ok(())
+}
+
+#[test]
+fn pointers_of_numbers(rt: HostRuntime) -> Result<(), Fail> {
     for (n, want) in [(0, "/0"), (usize::MAX, "/18446744073709551615")] {
         let number = PointerBuf::from_usize(rt.alloc(), n)?;
         assert_eq!(rt; number.as_ptr().as_str(), want);
     }
+    Ok(())
+}
+
+#[test]
+fn pointers_of_tokens(rt: HostRuntime) -> Result<(), Fail> {
     for text in ["", "/", "/foo/~0~1//"] {
         let tokens = Pointer::parse(text)?.tokens();
         let copy = PointerBuf::from_tokens(rt.alloc(), tokens)?;
         assert_eq!(rt; copy.as_ptr().as_str(), text);
     }
     Ok(())
+}
+
+/// Whether `from_text` reads a text as it is, or refuses it as `Pointer::parse` does.
+fn is_read(rt: &HostRuntime, text: &str, reads: bool) -> Result<bool, Fail> {
+    match PointerBuf::from_text(rt.alloc(), text) {
+        Ok(pointer) => Ok(reads && pointer.as_ptr().as_str() == text),
+        Err(Fault::Refused(fault)) => Ok(!reads && Pointer::parse(text) == Err(fault)),
+        Err(Fault::Memory(_)) => Err("no memory".into()),
+    }
+}
+
+/// The same of `try_from`, which keeps the text.
+fn is_taken(rt: &HostRuntime, text: &str, reads: bool) -> Result<bool, Fail> {
+    match PointerBuf::try_from(String::from_str(rt.alloc(), text)?) {
+        Ok(pointer) => Ok(reads && pointer.as_ptr().as_str() == text),
+        Err(fault) => Ok(!reads && Pointer::parse(text) == Err(fault)),
+    }
 }
 
 #[test]
@@ -60,46 +99,61 @@ fn texts_that_are_read(rt: HostRuntime) -> Result<(), Fail> {
         ("foo", false),
         ("/a~2", false),
     ] {
-        match PointerBuf::from_text(rt.alloc(), text) {
-            Ok(pointer) => assert_eq!(rt; pointer.as_ptr().as_str(), text),
-            Err(Fault::Refused(fault)) => {
-                assert!(rt; !reads, "at {text}");
-                assert!(rt; Pointer::parse(text) == Err(fault), "at {text}");
-            }
-            Err(Fault::Memory(_)) => return Err("no memory".into()),
-        }
-        match PointerBuf::try_from(String::from_str(rt.alloc(), text)?) {
-            Ok(pointer) => assert_eq!(rt; pointer.as_ptr().as_str(), text),
-            Err(fault) => {
-                assert!(rt; !reads, "at {text}");
-                assert!(rt; Pointer::parse(text) == Err(fault), "at {text}");
-            }
-        }
+        assert!(rt; is_read(&rt, text, reads)?, "at {text}");
+        assert!(rt; is_taken(&rt, text, reads)?, "at {text}");
     }
     Ok(())
 }
 
+/// Whether the first token has this encoded text, and taking it off leaves that text.
+fn pops_front(pointer: &mut PointerBuf, want: Option<&str>, left: &str) -> Result<bool, Fail> {
+    let token = pointer.pop_front()?;
+    Ok(encoded(&token) == want && pointer.as_ptr().as_str() == left)
+}
+
+/// The same of the last token.
+fn pops_back(pointer: &mut PointerBuf, want: Option<&str>, left: &str) -> Result<bool, Fail> {
+    let token = pointer.pop_back()?;
+    Ok(encoded(&token) == want && pointer.as_ptr().as_str() == left)
+}
+
 #[test]
-fn pushes_and_pops(rt: HostRuntime) -> Result<(), Fail> {
+fn pops_down_to_the_root(rt: HostRuntime) -> Result<(), Fail> {
     let mut pointer = buf(&rt, "//a")?;
-    assert_eq!(rt; encoded(&pointer.pop_front()?), Some(""));
-    assert_eq!(rt; pointer.as_ptr().as_str(), "/a");
-    assert_eq!(rt; encoded(&pointer.pop_front()?), Some("a"));
-    assert_eq!(rt; encoded(&pointer.pop_front()?), None);
-    assert_eq!(rt; encoded(&pointer.pop_back()?), None);
-    assert!(rt; pointer.as_ptr().is_root());
+    for (want, left) in [(Some(""), "/a"), (Some("a"), ""), (None, "")] {
+        assert!(rt; pops_front(&mut pointer, want, left)?, "to {left}");
+    }
+    assert!(rt; pops_back(&mut pointer, None, "")? && pointer.as_ptr().is_root());
+    Ok(())
+}
+
+/// Whether the token of a decoded text, pushed on the back, gives this text, of this length.
+fn pushes_back(
+    rt: &HostRuntime,
+    pointer: &mut PointerBuf,
+    decoded: &str,
+    want: (&str, usize),
+) -> Result<bool, Fail> {
+    pointer.push_back(token(rt, decoded)?)?;
+    let pushed = pointer.as_ptr();
+    Ok((pushed.as_str(), pushed.len()) == want)
+}
+
+#[test]
+fn pushes_on_the_back(rt: HostRuntime) -> Result<(), Fail> {
     let mut pointer = buf(&rt, "/foo/bar")?;
     assert_eq!(rt; pointer.as_ptr().len(), 8);
-    pointer.push_back(token(&rt, "~")?)?;
-    assert_eq!(rt; pointer.as_ptr().as_str(), "/foo/bar/~0");
-    assert_eq!(rt; pointer.as_ptr().len(), 11);
-    assert_eq!(rt; encoded(&pointer.pop_back()?), Some("~0"));
-    assert_eq!(rt; pointer.as_ptr().as_str(), "/foo/bar");
+    assert!(rt; pushes_back(&rt, &mut pointer, "~", ("/foo/bar/~0", 11))?);
+    assert!(rt; pops_back(&mut pointer, Some("~0"), "/foo/bar")?);
+    Ok(())
+}
+
+#[test]
+fn pushes_on_the_front(rt: HostRuntime) -> Result<(), Fail> {
     let mut pointer = buf(&rt, "/")?;
     pointer.push_front(token(&rt, "x")?)?;
     assert_eq!(rt; pointer.as_ptr().as_str(), "/x/");
-    assert_eq!(rt; encoded(&pointer.pop_back()?), Some(""));
-    assert_eq!(rt; pointer.as_ptr().as_str(), "/x");
+    assert!(rt; pops_back(&mut pointer, Some(""), "/x")?);
     Ok(())
 }
 
@@ -112,38 +166,57 @@ fn refused(rt: &HostRuntime, text: &str, index: usize) -> Result<ReplaceError, F
     }
 }
 
+/// Whether `replace` takes out the token with this encoded text and leaves that text.
+fn is_replaced(
+    pointer: &mut PointerBuf,
+    index: usize,
+    token: Token<'_>,
+    want: (&str, &str),
+) -> Result<bool, Fail> {
+    match pointer.replace(index, token) {
+        Ok(Some(old)) => Ok((old.encoded(), pointer.as_ptr().as_str()) == want),
+        _ => Err("a token".into()),
+    }
+}
+
 #[test]
 fn replaced_tokens(rt: HostRuntime) -> Result<(), Fail> {
     let mut pointer = buf(&rt, "/a/b")?;
-    match pointer.replace(1, token(&rt, "~/")?) {
-        Ok(old) => assert_eq!(rt; encoded(&old), Some("b")),
-        Err(_) => return Err("a token".into()),
+    for (index, text, want) in [(1, "~/", ("b", "/a/~0~1")), (0, "é", ("a", "/é/~0~1"))] {
+        assert!(rt;
+            is_replaced(&mut pointer, index, token(&rt, text)?, want)?,
+            "at {index}"
+        );
     }
-    assert_eq!(rt; pointer.as_ptr().as_str(), "/a/~0~1");
-    match pointer.replace(0, token(&rt, "é")?) {
-        Ok(old) => assert_eq!(rt; encoded(&old), Some("a")),
-        Err(_) => return Err("a token".into()),
+    Ok(())
+}
+
+#[test]
+fn places_that_are_not_replaced(rt: HostRuntime) -> Result<(), Fail> {
+    for (text, index, count) in [("", 0, 0), ("/a/b", 2, 2), ("//", usize::MAX, 2)] {
+        assert_eq!(rt; refused(&rt, text, index)?, ReplaceError { index, count });
     }
-    assert_eq!(rt; pointer.as_ptr().as_str(), "/é/~0~1");
-    assert_eq!(rt; refused(&rt, "", 0)?, ReplaceError { index: 0, count: 0 });
-    assert_eq!(rt;
-        refused(&rt, "/a/b", 2)?,
-        ReplaceError { index: 2, count: 2 }
-    );
-    let last = usize::MAX;
-    assert_eq!(rt;
-        refused(&rt, "//", last)?,
-        ReplaceError {
-            index: last,
-            count: 2
-        }
-    );
     let fault = ReplaceError { index: 3, count: 2 };
     assert_eq!(rt;
         shown(&rt, &fault)?.as_str(),
         "index 3 is out of bounds (2)"
     );
     Ok(())
+}
+
+/// Whether `append` joins two texts to this one, which it gives and leaves, and `clear` empties it.
+fn is_appended(rt: &HostRuntime, text: &str, other: &str, want: &str) -> Result<bool, Fail> {
+    let mut pointer = buf(rt, text)?;
+    let gives = pointer.append(Pointer::parse(other)?)?.as_ptr().as_str() == want;
+    let leaves = pointer.as_ptr().as_str() == want;
+    pointer.clear();
+    Ok(gives && leaves && pointer.as_ptr().as_str() == "")
+}
+
+/// Whether `concat` joins two texts to this one.
+fn is_joined(rt: &HostRuntime, text: &str, other: &str, want: &str) -> Result<bool, Fail> {
+    let joined = Pointer::parse(text)?.concat(rt.alloc(), Pointer::parse(other)?)?;
+    Ok(joined.as_ptr().as_str() == want)
 }
 
 #[test]
@@ -154,21 +227,27 @@ fn joined_pointers(rt: HostRuntime) -> Result<(), Fail> {
         ("/a", "/b/~0", "/a/b/~0"),
         ("", "", ""),
     ] {
-        let other = Pointer::parse(other)?;
-        let mut pointer = buf(&rt, text)?;
-        assert_eq!(rt; pointer.append(other)?.as_ptr().as_str(), want);
-        assert_eq!(rt; pointer.as_ptr().as_str(), want);
-        let joined = Pointer::parse(text)?.concat(rt.alloc(), other)?;
-        assert_eq!(rt; joined.as_ptr().as_str(), want);
-        pointer.clear();
-        assert_eq!(rt; pointer.as_ptr().as_str(), "");
+        assert!(rt; is_appended(&rt, text, other, want)?, "to {want}");
+        assert!(rt; is_joined(&rt, text, other, want)?, "to {want}");
     }
+    Ok(())
+}
+
+#[test]
+fn leading_tokens(rt: HostRuntime) -> Result<(), Fail> {
     let pointer = Pointer::parse("/a")?;
     let leading = pointer.with_leading_token(rt.alloc(), token(&rt, "~")?)?;
-    assert_eq!(rt; leading.as_ptr().as_str(), "/~0/a");
+    let texts = (leading.as_ptr().as_str(), pointer.as_str());
+    assert_eq!(rt; texts, ("/~0/a", "/a"));
+    Ok(())
+}
+
+#[test]
+fn trailing_tokens(rt: HostRuntime) -> Result<(), Fail> {
+    let pointer = Pointer::parse("/a")?;
     let trailing = pointer.with_trailing_token(rt.alloc(), token(&rt, "/")?)?;
-    assert_eq!(rt; trailing.as_ptr().as_str(), "/a/~1");
-    assert_eq!(rt; pointer.as_str(), "/a");
+    let texts = (trailing.as_ptr().as_str(), pointer.as_str());
+    assert_eq!(rt; texts, ("/a/~1", "/a"));
     Ok(())
 }
 
@@ -180,20 +259,55 @@ fn copied<T: Clone>(value: &T) -> Result<T, AllocError> {
     value.clone()
 }
 
+/// Whether the pointer of a text is less than that of another, through the bounds and by the operators.
+fn is_less(rt: &HostRuntime, less: &str, more: &str) -> Result<bool, Fail> {
+    let (less, more) = (buf(rt, less)?, buf(rt, more)?);
+    let bounds = comes_before(&less, &more) && !same(&less, &more);
+    Ok(bounds && less < more && less != more)
+}
+
 #[test]
-fn through_their_bounds(rt: HostRuntime) -> Result<(), Fail> {
-    let (short, long) = (buf(&rt, "/foo")?, buf(&rt, "/foo/a")?);
-    assert!(rt; comes_before(&short, &long) && short < long && short != long);
-    assert!(rt; comes_before(&buf(&rt, "/foo!")?, &long));
-    assert!(rt; same(&short, &copied(&short)?) && !same(&short, &long));
-    assert!(rt; hash_of(&short) == hash_of(&copied(&short)?));
-    assert_eq!(rt; shown(&rt, &long)?.as_str(), "/foo/a");
+fn orders_through_their_bounds(rt: HostRuntime) -> Result<(), Fail> {
+    for less in ["/foo", "/foo!"] {
+        assert!(rt; is_less(&rt, less, "/foo/a")?, "of {less}");
+    }
+    Ok(())
+}
+
+/// Whether the copy of a pointer is equal to it and has its hash.
+fn is_copied(pointer: &PointerBuf) -> Result<bool, Fail> {
+    let copy = copied(pointer)?;
+    Ok(same(pointer, &copy) && hash_of(pointer) == hash_of(&copy))
+}
+
+#[test]
+fn copies_through_their_bounds(rt: HostRuntime) -> Result<(), Fail> {
+    for text in ["/foo", "/foo/a"] {
+        assert!(rt; is_copied(&buf(&rt, text)?)?, "of {text}");
+    }
+    Ok(())
+}
+
+#[test]
+fn texts_through_their_bounds(rt: HostRuntime) -> Result<(), Fail> {
     let read: PointerBuf = match read(String::from_str(rt.alloc(), "/foo/a")?) {
         Ok(pointer) => pointer,
         Err(_) => return Err("a pointer".into()),
     };
-    assert!(rt; same(&read, &long));
-    assert!(rt; gives(&long, &["foo", "a"]) && gives(&PointerBuf::new(rt.alloc()), &[]));
+    assert!(rt; same(&read, &buf(&rt, "/foo/a")?));
+    Ok(())
+}
+
+#[test]
+fn displays_through_their_bound(rt: HostRuntime) -> Result<(), Fail> {
+    assert_eq!(rt; shown(&rt, &buf(&rt, "/foo/a")?)?.as_str(), "/foo/a");
+    Ok(())
+}
+
+#[test]
+fn tokens_through_their_bound(rt: HostRuntime) -> Result<(), Fail> {
+    assert!(rt; gives(&buf(&rt, "/foo/a")?, &["foo", "a"]));
+    assert!(rt; gives(&PointerBuf::new(rt.alloc()), &[]));
     Ok(())
 }
 
@@ -247,54 +361,89 @@ fn is_labelled(
     }
 }
 
+/// Whether an error puts no label on the subject.
+fn is_unlabelled(rt: &HostRuntime, error: &ParseError, subject: &str) -> Result<bool, Fail> {
+    let subject = String::from_str(rt.alloc(), subject)?;
+    Ok(error.labels(rt.alloc(), &subject)?.is_none())
+}
+
+/// Whether the fault of a text puts exactly one label on the subject, and it says this.
+fn labels(
+    rt: &HostRuntime,
+    text: &str,
+    subject: &str,
+    want: (&str, usize, usize),
+) -> Result<bool, Fail> {
+    let fault = report_of(rt, text)?.into_original();
+    is_labelled(rt, &fault, subject, want)
+}
+
+const SLASH: &str = "must start with a slash ('/')";
+
+const TILDE: &str = "'~' must be followed by '0' or '1'";
+
 #[test]
-fn reports_of_faults(rt: HostRuntime) -> Result<(), Fail> {
+fn texts_that_have_no_fault(rt: HostRuntime) -> Result<(), Fail> {
     let text = String::from_str(rt.alloc(), "/a~1b/")?;
     match PointerBuf::parse(text) {
         Ok(pointer) => assert_eq!(rt; pointer.as_ptr().as_str(), "/a~1b/"),
         Err(_) => return Err("a pointer".into()),
     }
-    let slash = "must start with a slash ('/')";
-    let tilde = "'~' must be followed by '0' or '1'";
+    Ok(())
+}
+
+#[test]
+fn reports_of_faults(rt: HostRuntime) -> Result<(), Fail> {
     for (text, want) in [
-        ("foo", (slash, 0, 0)),
-        ("/foo~", (tilde, 4, 1)),
-        ("/é~", (tilde, 3, 1)),
-        ("/a~2", (tilde, 2, 2)),
-        ("/foo/invalid~tilde/invalid", (tilde, 12, 2)),
+        ("foo", (SLASH, 0, 0)),
+        ("/foo~", (TILDE, 4, 1)),
+        ("/é~", (TILDE, 3, 1)),
+        ("/a~2", (TILDE, 2, 2)),
+        ("/foo/invalid~tilde/invalid", (TILDE, 12, 2)),
     ] {
         assert!(rt; is_handed_back(&rt, text)?, "at {text}");
-        let fault = report_of(&rt, text)?.into_original();
-        assert!(rt; is_labelled(&rt, &fault, text, want)?, "at {text}");
+        assert!(rt; labels(&rt, text, text, want)?, "at {text}");
     }
-    let fault = report_of(&rt, "/a~2")?.into_original();
+    Ok(())
+}
+
+#[test]
+fn labels_on_other_texts(rt: HostRuntime) -> Result<(), Fail> {
     for (subject, want) in [
-        ("", (tilde, 2, 1)),
-        ("abc", (tilde, 2, 1)),
-        ("/foo", (tilde, 2, 2)),
+        ("", (TILDE, 2, 1)),
+        ("abc", (TILDE, 2, 1)),
+        ("/foo", (TILDE, 2, 2)),
     ] {
-        assert!(rt; is_labelled(&rt, &fault, subject, want)?, "on {subject}");
+        assert!(rt; labels(&rt, "/a~2", subject, want)?, "on {subject}");
     }
-    assert!(rt; is_labelled(&rt, &ParseError::NoLeadingSlash, "/a", (slash, 0, 0))?);
-    let near = ParseError::InvalidEncoding {
-        offset: 0,
+    Ok(())
+}
+
+/// The fault of a tilde at an offset within the token that stands at an offset of the text.
+fn tilde_at(offset: usize, within: usize) -> ParseError {
+    ParseError::InvalidEncoding {
+        offset,
         source: EncodingError {
-            offset: 0,
+            offset: within,
             source: InvalidEncoding::Tilde,
         },
-    };
-    assert!(rt; is_labelled(&rt, &near, "/~", (tilde, 0, 2))?);
-    let far = ParseError::InvalidEncoding {
-        offset: usize::MAX,
-        source: EncodingError {
-            offset: 1,
-            source: InvalidEncoding::Tilde,
-        },
-    };
-    assert!(rt; far.labels(rt.alloc(), &String::new(rt.alloc()))?.is_none());
-    let subject = String::from_str(rt.alloc(), "/a~2")?;
-    assert!(rt; far.labels(rt.alloc(), &subject)?.is_none());
-    let report: Report<ParseError> = far.into_report(subject);
+    }
+}
+
+#[test]
+fn labels_of_near_faults(rt: HostRuntime) -> Result<(), Fail> {
+    assert!(rt; is_labelled(&rt, &ParseError::NoLeadingSlash, "/a", (SLASH, 0, 0))?);
+    assert!(rt; is_labelled(&rt, &tilde_at(0, 0), "/~", (TILDE, 0, 2))?);
+    Ok(())
+}
+
+#[test]
+fn reports_of_far_faults(rt: HostRuntime) -> Result<(), Fail> {
+    let far = tilde_at(usize::MAX, 1);
+    for subject in ["", "/a~2"] {
+        assert!(rt; is_unlabelled(&rt, &far, subject)?, "on {subject}");
+    }
+    let report: Report<ParseError> = far.into_report(String::from_str(rt.alloc(), "/a~2")?);
     assert_eq!(rt; report.subject().as_str(), "/a~2");
     Ok(())
 }

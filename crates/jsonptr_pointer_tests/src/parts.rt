@@ -1,6 +1,6 @@
 //! Rows of the calls that take a pointer apart.
 use crate::bounds::{comes_before, gives, hash_of, made, made_from, next_of, same, shown};
-use jsonptr::{Component, Components, Pointer};
+use jsonptr::{Component, Components, Pointer, Token};
 use std::ops::Bound;
 use std::test::Fail;
 
@@ -20,26 +20,54 @@ fn texts_of<'a>(split: Option<(Pointer<'a>, Pointer<'a>)>) -> Option<(&'a str, &
     }
 }
 
+/// Whether a token is there and has this encoded text, or is missing where none is wanted.
+fn is_token(token: Option<Token<'_>>, want: Option<&str>) -> bool {
+    match (token, want) {
+        (Some(token), Some(want)) => token.encoded() == want,
+        (None, None) => true,
+        _ => false,
+    }
+}
+
+/// Whether the first and the last token of a pointer have these encoded texts.
+fn has_ends(pointer: Pointer<'_>, first: &str, last: &str) -> bool {
+    is_token(pointer.front(), Some(first))
+        && is_token(pointer.first(), Some(first))
+        && is_token(pointer.back(), Some(last))
+        && is_token(pointer.last(), Some(last))
+}
+
 #[test]
 fn both_ends(rt: HostRuntime) -> Result<(), Fail> {
+    for (text, first, last) in [("/foo/b~1r/", "foo", ""), ("/foo/b~1r", "foo", "b~1r")] {
+        assert!(rt; has_ends(Pointer::parse(text)?, first, last), "of {text}");
+    }
+    Ok(())
+}
+
+#[test]
+fn fronts(rt: HostRuntime) -> Result<(), Fail> {
     let pointer = Pointer::parse("/foo/b~1r/")?;
     let (front, last) = pointer.split_back().ok_or("a token")?;
-    assert_eq!(rt; front.as_str(), "/foo/b~1r");
-    assert_eq!(rt; last.encoded(), "");
-    for token in [pointer.front(), pointer.first()] {
-        assert_eq!(rt; token.ok_or("a token")?.encoded(), "foo");
-    }
-    for token in [front.back(), front.last()] {
-        assert_eq!(rt; token.ok_or("a token")?.encoded(), "b~1r");
-    }
+    assert_eq!(rt; (front.as_str(), last.encoded()), ("/foo/b~1r", ""));
     assert_eq!(rt; text_of(pointer.parent()), Some("/foo/b~1r"));
-    assert_eq!(rt; pointer.len(), 10);
-    assert!(rt; !pointer.is_empty());
-    let root: Pointer = Default::default();
-    assert!(rt; root.is_empty() && root.len() == 0);
-    assert!(rt; root.split_back().is_none() && root.parent().is_none());
-    assert!(rt; root.front().is_none() && root.back().is_none());
     Ok(())
+}
+
+#[test]
+fn lengths(rt: HostRuntime) -> Result<(), Fail> {
+    let pointer = Pointer::parse("/foo/b~1r/")?;
+    let root: Pointer = Default::default();
+    assert_eq!(rt; (pointer.len(), pointer.is_empty()), (10, false));
+    assert_eq!(rt; (root.len(), root.is_empty()), (0, true));
+    Ok(())
+}
+
+#[test]
+fn ends_of_the_root(rt: HostRuntime) {
+    let root: Pointer = Default::default();
+    assert!(rt; root.split_back().is_none() && root.parent().is_none());
+    assert!(rt; is_token(root.front(), None) && is_token(root.back(), None));
 }
 
 #[test]
@@ -77,8 +105,15 @@ fn splits_at_positions(rt: HostRuntime) -> Result<(), Fail> {
     Ok(())
 }
 
+/// Whether this is left of a text without a prefix, which the text starts with where something is left.
+fn leaves_of_prefix(text: &str, prefix: &str, want: Option<&str>) -> Result<bool, Fail> {
+    let (pointer, prefix) = (Pointer::parse(text)?, Pointer::parse(prefix)?);
+    let left = text_of(pointer.strip_prefix(prefix));
+    Ok(left == want && pointer.starts_with(prefix) == want.is_some())
+}
+
 #[test]
-fn prefixes_and_suffixes(rt: HostRuntime) -> Result<(), Fail> {
+fn prefixes(rt: HostRuntime) -> Result<(), Fail> {
     for (text, prefix, want) in [
         ("/foobar", "/foo", None),
         ("/foo/bar", "/foo", Some("/bar")),
@@ -88,20 +123,23 @@ fn prefixes_and_suffixes(rt: HostRuntime) -> Result<(), Fail> {
         ("//a", "/", Some("/a")),
         ("", "/", None),
     ] {
-        let pointer = Pointer::parse(text)?;
-        let prefix = Pointer::parse(prefix)?;
-        assert_eq!(rt;
-            text_of(pointer.strip_prefix(prefix)),
-            want,
-            "{pointer} {prefix}"
-        );
-        assert_eq!(rt;
-            pointer.starts_with(prefix),
-            want.is_some(),
-            "{pointer} {prefix}"
-        );
+        assert!(rt; leaves_of_prefix(text, prefix, want)?, "{text} {prefix}");
     }
-    for (text, suffix, want, ends) in [
+    Ok(())
+}
+
+/// What is left of a text without a suffix, and whether the text ends with it.
+fn without_suffix<'a>(text: &'a str, suffix: &str) -> Result<(Option<&'a str>, bool), Fail> {
+    let (pointer, suffix) = (Pointer::parse(text)?, Pointer::parse(suffix)?);
+    Ok((
+        text_of(pointer.strip_suffix(suffix)),
+        pointer.ends_with(suffix),
+    ))
+}
+
+#[test]
+fn suffixes(rt: HostRuntime) -> Result<(), Fail> {
+    for (text, suffix, left, ends) in [
         ("/foo", "", Some("/foo"), false),
         ("", "", Some(""), true),
         ("/foo/bar", "/bar", Some("/foo"), true),
@@ -109,21 +147,24 @@ fn prefixes_and_suffixes(rt: HostRuntime) -> Result<(), Fail> {
         ("/foo/bar", "/foo", None, false),
         ("/a//", "/", Some("/a/"), true),
     ] {
-        let pointer = Pointer::parse(text)?;
-        let suffix = Pointer::parse(suffix)?;
-        assert_eq!(rt;
-            text_of(pointer.strip_suffix(suffix)),
-            want,
-            "{pointer} {suffix}"
+        assert!(rt;
+            without_suffix(text, suffix)? == (left, ends),
+            "{text} {suffix}"
         );
-        assert_eq!(rt; pointer.ends_with(suffix), ends, "{pointer} {suffix}");
     }
     Ok(())
 }
 
+/// Whether two texts, in either order, have this text in common at the front.
+fn have_in_common(first: &str, second: &str, want: &str) -> Result<bool, Fail> {
+    let (first, second) = (Pointer::parse(first)?, Pointer::parse(second)?);
+    let (one, other) = (first.intersection(second), second.intersection(first));
+    Ok(one.as_str() == want && other.as_str() == want)
+}
+
 #[test]
 fn common_fronts(rt: HostRuntime) -> Result<(), Fail> {
-    for (a, b, want) in [
+    for (first, second, want) in [
         ("/foo", "/fob", ""),
         ("/foo", "/foobar", ""),
         ("/foo/bar", "/foo/baz", "/foo"),
@@ -132,43 +173,74 @@ fn common_fronts(rt: HostRuntime) -> Result<(), Fail> {
         ("/foo//a", "/foo//b", "/foo/"),
         ("", "/a", ""),
     ] {
-        let (first, second) = (Pointer::parse(a)?, Pointer::parse(b)?);
-        assert_eq!(rt; first.intersection(second).as_str(), want, "{a} {b}");
-        assert_eq!(rt; second.intersection(first).as_str(), want, "{b} {a}");
+        assert!(rt; have_in_common(first, second, want)?, "{first} {second}");
     }
     Ok(())
 }
 
 #[test]
-fn places_and_ranges(rt: HostRuntime) -> Result<(), Fail> {
+fn tokens_at_places(rt: HostRuntime) -> Result<(), Fail> {
     let pointer = Pointer::parse("/foo/bar/qux")?;
-    assert_eq!(rt; pointer.get(0).ok_or("a token")?.encoded(), "foo");
-    assert_eq!(rt; pointer.get(2).ok_or("a token")?.encoded(), "qux");
-    assert!(rt; pointer.get(3).is_none() && pointer.get(usize::MAX).is_none());
-    assert_eq!(rt; text_of(pointer.get(..1)), Some("/foo"));
-    assert_eq!(rt; text_of(pointer.get(..4)), None);
-    assert_eq!(rt; text_of(pointer.get(1..3)), Some("/bar/qux"));
-    assert_eq!(rt; text_of(pointer.get(1..4)), None);
-    assert_eq!(rt; text_of(pointer.get(2..1)), None);
-    assert_eq!(rt; text_of(pointer.get(1..)), Some("/bar/qux"));
-    assert_eq!(rt; text_of(pointer.get(3..)), None);
-    assert_eq!(rt; text_of(pointer.get(..)), Some("/foo/bar/qux"));
-    assert_eq!(rt; text_of(pointer.get(1..=2)), Some("/bar/qux"));
-    assert_eq!(rt; text_of(pointer.get(2..=1)), None);
-    assert_eq!(rt; text_of(pointer.get(0..=usize::MAX)), None);
-    assert_eq!(rt; text_of(pointer.get(..=1)), Some("/foo/bar"));
-    assert_eq!(rt; text_of(pointer.get(..=3)), None);
-    let one = Pointer::parse("/foo")?;
-    assert_eq!(rt; text_of(one.get(0..0)), Some(""));
-    assert_eq!(rt; text_of(one.get(1..1)), None);
+    for (index, want) in [
+        (0, Some("foo")),
+        (2, Some("qux")),
+        (3, None),
+        (usize::MAX, None),
+    ] {
+        assert!(rt; is_token(pointer.get(index), want), "at {index}");
+    }
+    Ok(())
+}
+
+#[test]
+fn ranges_of_three(rt: HostRuntime) -> Result<(), Fail> {
+    let three = Pointer::parse("/foo/bar/qux")?;
+    for (part, want) in [
+        (three.get(..1), Some("/foo")),
+        (three.get(..4), None),
+        (three.get(1..3), Some("/bar/qux")),
+        (three.get(1..4), None),
+        (three.get(2..1), None),
+        (three.get(1..), Some("/bar/qux")),
+        (three.get(3..), None),
+        (three.get(..), Some("/foo/bar/qux")),
+    ] {
+        assert_eq!(rt; text_of(part), want);
+    }
+    Ok(())
+}
+
+#[test]
+fn ranges_with_their_end(rt: HostRuntime) -> Result<(), Fail> {
+    let three = Pointer::parse("/foo/bar/qux")?;
+    for (part, want) in [
+        (three.get(1..=2), Some("/bar/qux")),
+        (three.get(2..=1), None),
+        (three.get(0..=usize::MAX), None),
+        (three.get(..=1), Some("/foo/bar")),
+        (three.get(..=3), None),
+    ] {
+        assert_eq!(rt; text_of(part), want);
+    }
+    Ok(())
+}
+
+#[test]
+fn ranges_at_ends(rt: HostRuntime) -> Result<(), Fail> {
+    let (one, root) = (Pointer::parse("/foo")?, Pointer::root());
     let most = usize::MAX;
-    assert_eq!(rt; text_of(one.get(most..most)), None);
-    assert_eq!(rt; text_of(one.get(..most)), None);
-    assert_eq!(rt; text_of(one.get(..=most)), None);
-    assert_eq!(rt; text_of(one.get(0..=most)), None);
-    let root = Pointer::root();
-    assert_eq!(rt; text_of(root.get(0..)), None);
-    assert_eq!(rt; text_of(root.get(..0)), Some(""));
+    for (part, want) in [
+        (one.get(0..0), Some("")),
+        (one.get(1..1), None),
+        (one.get(most..most), None),
+        (one.get(..most), None),
+        (one.get(..=most), None),
+        (one.get(0..=most), None),
+        (root.get(0..), None),
+        (root.get(..0), Some("")),
+    ] {
+        assert_eq!(rt; text_of(part), want);
+    }
     Ok(())
 }
 
@@ -197,30 +269,58 @@ fn token_of<'a>(pointer: &'a str) -> Result<Component<'a>, Fail> {
     Ok(Component::from(token))
 }
 
+/// Whether the next component is the token with this encoded text.
+fn next_is(components: &mut Components<'_>, want: &str) -> bool {
+    match components.next() {
+        Some(Component::Token(token)) => token.encoded() == want,
+        _ => false,
+    }
+}
+
 #[test]
 fn components_in_order(rt: HostRuntime) -> Result<(), Fail> {
     let mut components = Pointer::parse("/a/b")?.components();
     assert!(rt; matches!(components.next(), Some(Component::Root)));
-    for want in ["a", "b"] {
-        match components.next() {
-            Some(Component::Token(token)) => assert_eq!(rt; token.encoded(), want),
-            _ => return Err("a token".into()),
-        }
-    }
+    assert!(rt; next_is(&mut components, "a") && next_is(&mut components, "b"));
     assert!(rt; components.next().is_none() && components.next().is_none());
-    let (first, second) = (token_of("/x")?, token_of("/y")?);
-    assert!(rt; matches!(first, Component::Token(_)));
-    assert!(rt; Component::Root < first && first < second && first != second);
-    assert!(rt; first == token_of("/x")? && Component::Root == Component::Root);
+    Ok(())
+}
+
+/// Whether a component is a token, after the root and before another component, which it is not equal to.
+fn is_between(component: &Component<'_>, other: &Component<'_>) -> bool {
+    matches!(component, Component::Token(_))
+        && Component::Root < *component
+        && *component < *other
+        && *component != *other
+}
+
+#[test]
+fn components_that_differ(rt: HostRuntime) -> Result<(), Fail> {
+    assert!(rt; is_between(&token_of("/x")?, &token_of("/y")?));
     Ok(())
 }
 
 #[test]
-fn texts_and_comparisons(rt: HostRuntime) -> Result<(), Fail> {
-    let pointer = Pointer::new_unchecked("/a~1b/~0");
-    assert_eq!(rt; shown(&rt, &pointer)?.as_str(), "/a~1b/~0");
+fn components_that_are_equal(rt: HostRuntime) -> Result<(), Fail> {
+    assert!(rt; token_of("/x")? == token_of("/x")? && Component::Root == Component::Root);
+    Ok(())
+}
+
+/// Whether a pointer displays this text, and is the string of it as a value.
+fn has_text(rt: &HostRuntime, pointer: Pointer<'_>, text: &str) -> Result<bool, Fail> {
     let value = pointer.to_json_value(rt.alloc())?;
-    assert_eq!(rt; value.as_str(), Some("/a~1b/~0"));
+    Ok(shown(rt, &pointer)?.as_str() == text && value.as_str() == Some(text))
+}
+
+#[test]
+fn texts(rt: HostRuntime) -> Result<(), Fail> {
+    let pointer = Pointer::new_unchecked("/a~1b/~0");
+    assert!(rt; has_text(&rt, pointer, "/a~1b/~0")?);
+    Ok(())
+}
+
+#[test]
+fn comparisons(rt: HostRuntime) -> Result<(), Fail> {
     let (less, more) = (Pointer::parse("/foo")?, Pointer::parse("/foo/a")?);
     assert!(rt; less < more && less != more && less == Pointer::from_static("/foo"));
     assert!(rt; Pointer::parse("/foo!")? < more);
@@ -228,24 +328,45 @@ fn texts_and_comparisons(rt: HostRuntime) -> Result<(), Fail> {
 }
 
 #[test]
-fn through_their_bounds(rt: HostRuntime) -> Result<(), Fail> {
-    let (short, long) = (Pointer::parse("/a")?, Pointer::parse("/a/b")?);
+fn next_through_its_bound(rt: HostRuntime) -> Result<(), Fail> {
+    let pointer = Pointer::parse("/a/b")?;
+    let want = Pointer::parse("/a")?.front();
     assert!(rt;
-        next_of(&mut long.tokens()) == short.front()
-            && next_of(&mut long.into_iter()) == short.front()
+        next_of(&mut pointer.tokens()) == want && next_of(&mut pointer.into_iter()) == want
     );
+    Ok(())
+}
+
+#[test]
+fn tokens_through_their_bound(rt: HostRuntime) -> Result<(), Fail> {
     for (text, want) in [("", &[] as &[&str]), ("/a~1b//~0c", &["a~1b", "", "~0c"])] {
         assert!(rt; gives(Pointer::parse(text)?, want), "{text}");
     }
-    let mut components: Components<'_> = made_from(long);
+    Ok(())
+}
+
+#[test]
+fn components_through_their_bounds(rt: HostRuntime) -> Result<(), Fail> {
+    let mut components: Components<'_> = made_from(Pointer::parse("/a/b")?);
     assert!(rt; next_of(&mut components) == Some(Component::Root));
-    assert!(rt; next_of(&mut components) == short.front().map(made_from));
+    let first = Pointer::parse("/a")?.front();
+    assert!(rt; next_of(&mut components) == first.map(made_from));
+    Ok(())
+}
+
+#[test]
+fn comparisons_through_their_bounds(rt: HostRuntime) -> Result<(), Fail> {
+    let (short, long) = (Pointer::parse("/a")?, Pointer::parse("/a/b")?);
     let root: Pointer<'_> = made();
     assert!(rt; same(&root, &Pointer::root()) && !same(&root, &short));
     assert!(rt; comes_before(&root, &short) && comes_before(&short, &long));
-    assert!(rt;
-        comes_before(&Component::Root, &token_of("/")?) && same(&token_of("/")?, &token_of("/")?)
-    );
     assert!(rt; hash_of(&short) == hash_of(&Pointer::from_static("/a")));
+    Ok(())
+}
+
+#[test]
+fn components_compared_through_their_bounds(rt: HostRuntime) -> Result<(), Fail> {
+    let token = token_of("/")?;
+    assert!(rt; comes_before(&Component::Root, &token) && same(&token, &token_of("/")?));
     Ok(())
 }
