@@ -16,22 +16,37 @@ fn given(alloc: Global, token: Option<Token<'static>>) -> Result<String, Fail> {
     }
 }
 
-/// What an edit answers, in words; of a refusal what its error displays.
-pub fn edit<P: EditPointer>(rt: &HostRuntime, pointer: &mut P, line: &str) -> Result<String, Fail> {
-    let alloc = rt.alloc();
-    let (name, with) = line.split_once(' ').unwrap_or((line, ""));
+/// Makes an edit that gives nothing.
+fn change<P: EditPointer>(
+    rt: &HostRuntime,
+    pointer: &mut P,
+    name: &str,
+    with: &str,
+) -> Result<(), Fail> {
     match name {
         "push_front" => pointer.push_front(token(rt, with)?)?,
         "push_back" => pointer.push_back(token(rt, with)?)?,
         "append" => pointer.append(plain(rt, with)?.as_ptr())?,
         "clear" => pointer.clear(),
-        "pop_front" => return given(alloc, pointer.pop_front()?),
-        "pop_back" => return given(alloc, pointer.pop_back()?),
-        "replace" => return replace(rt, pointer, with),
-        "set" => return set(alloc, pointer, with),
         _ => return Err("an edit".into()),
     }
-    Ok(String::from_str(alloc, "done")?)
+    Ok(())
+}
+
+/// What an edit answers, in words; of a refusal what its error displays.
+pub fn edit<P: EditPointer>(rt: &HostRuntime, pointer: &mut P, line: &str) -> Result<String, Fail> {
+    let alloc = rt.alloc();
+    let (name, with) = line.split_once(' ').unwrap_or((line, ""));
+    match name {
+        "pop_front" => given(alloc, pointer.pop_front()?),
+        "pop_back" => given(alloc, pointer.pop_back()?),
+        "replace" => replace(rt, pointer, with),
+        "set" => set(alloc, pointer, with),
+        _ => {
+            change(rt, pointer, name, with)?;
+            Ok(String::from_str(alloc, "done")?)
+        }
+    }
 }
 
 /// What `replace` answers of a place and a decoded text.
@@ -56,28 +71,42 @@ fn set<P: EditPointer>(alloc: Global, pointer: &mut P, with: &str) -> Result<Str
     }
 }
 
-/// What the edits of these lines answer, and the pointer's text after each.
+/// What the edit of a line answers, and the pointer's text after it.
+fn step<P: EditPointer>(rt: &HostRuntime, pointer: &mut P, line: &str) -> Result<String, Fail> {
+    let answer = edit(rt, pointer, line)?;
+    let text = pointer.as_ptr().as_str();
+    Ok(format!(in rt.alloc(); "{line}: {answer}: {text}\n")?)
+}
+
+/// The same of each of these lines.
 fn steps<P: EditPointer>(
     rt: &HostRuntime,
     pointer: &mut P,
     lines: &[&str],
 ) -> Result<String, Fail> {
-    let alloc = rt.alloc();
-    let mut steps = String::new(alloc);
+    let mut steps = String::new(rt.alloc());
     for line in lines {
-        let answer = edit(rt, pointer, line)?;
-        let text = pointer.as_ptr().as_str();
-        steps.push_str(format!(in alloc; "{line}: {answer}: {text}\n")?.as_str())?;
+        steps.push_str(step(rt, pointer, line)?.as_str())?;
     }
     Ok(steps)
 }
 
+/// Whether a plain pointer answers so.
+fn plain_answers(rt: &HostRuntime, text: &str, lines: &[&str], want: &str) -> Result<bool, Fail> {
+    let mut pointer = plain(rt, text)?;
+    Ok(steps(rt, &mut pointer, lines)?.as_str() == want)
+}
+
+/// Whether a tabled pointer answers so, and has the table of its text then.
+fn tabled_answers(rt: &HostRuntime, text: &str, lines: &[&str], want: &str) -> Result<bool, Fail> {
+    let mut pointer = tabled(rt, text)?;
+    let same = steps(rt, &mut pointer, lines)?.as_str() == want;
+    Ok(same && is_table(&pointer))
+}
+
 /// Whether both kinds of pointer answer so.
 fn both(rt: &HostRuntime, text: &str, lines: &[&str], want: &str) -> Result<bool, Fail> {
-    let mut table = tabled(rt, text)?;
-    let mut text = plain(rt, text)?;
-    let same = steps(rt, &mut table, lines)?.as_str() == want;
-    Ok(same && is_table(&table) && steps(rt, &mut text, lines)?.as_str() == want)
+    Ok(tabled_answers(rt, text, lines, want)? && plain_answers(rt, text, lines, want)?)
 }
 
 #[test]
@@ -123,20 +152,45 @@ fn texts_that_are_set(rt: HostRuntime) -> Result<(), Fail> {
     Ok(())
 }
 
-#[test]
-fn edits_by_name(rt: HostRuntime) -> Result<(), Fail> {
+/// The tabled pointer `/a/b/c/d`, of pushes and of an append by their names.
+fn pushed(rt: &HostRuntime) -> Result<TabledPointer, Fail> {
     let mut pointer = TabledPointer::new(rt.alloc());
-    pointer.push_back(token(&rt, "b")?)?;
-    pointer.push_front(token(&rt, "a")?)?;
-    pointer.append(plain(&rt, "/c/d")?.as_ptr())?;
-    let Ok(Some(old)) = pointer.replace(2, token(&rt, "e")?) else {
+    pointer.push_back(token(rt, "b")?)?;
+    pointer.push_front(token(rt, "a")?)?;
+    pointer.append(plain(rt, "/c/d")?.as_ptr())?;
+    Ok(pointer)
+}
+
+/// Whether `replace` puts a token in the place of the one with this encoded text.
+fn is_replaced(
+    pointer: &mut TabledPointer,
+    index: usize,
+    token: Token<'_>,
+    want: &str,
+) -> Result<bool, Fail> {
+    let Ok(Some(old)) = pointer.replace(index, token) else {
         return Err("a token".into());
     };
-    assert_eq!(rt; old.encoded(), "c");
-    assert_eq!(rt; pointer.pop_back()?.ok_or("a token")?.encoded(), "d");
-    assert_eq!(rt; pointer.pop_front()?.ok_or("a token")?.encoded(), "a");
-    assert_eq!(rt; pointer.as_ptr().as_str(), "/b/e");
-    assert!(rt; pointer.offsets() == [0, 2].as_slice());
+    Ok(old.encoded() == want)
+}
+
+/// Whether the last and then the first token that are taken off have these encoded texts.
+fn are_popped(pointer: &mut TabledPointer, last: &str, first: &str) -> Result<bool, Fail> {
+    let back = pointer.pop_back()?.ok_or("a token")?;
+    let front = pointer.pop_front()?.ok_or("a token")?;
+    Ok((back.encoded(), front.encoded()) == (last, first))
+}
+
+/// Whether a pointer has this text and this table.
+fn has(pointer: &TabledPointer, text: &str, offsets: &[usize]) -> bool {
+    pointer.as_ptr().as_str() == text && pointer.offsets() == offsets
+}
+
+#[test]
+fn edits_by_name(rt: HostRuntime) -> Result<(), Fail> {
+    let mut pointer = pushed(&rt)?;
+    assert!(rt; is_replaced(&mut pointer, 2, token(&rt, "e")?, "c")?);
+    assert!(rt; are_popped(&mut pointer, "d", "a")? && has(&pointer, "/b/e", &[0, 2]));
     pointer.clear();
     assert!(rt; pointer.as_ptr().is_root() && pointer.offsets().is_empty());
     Ok(())

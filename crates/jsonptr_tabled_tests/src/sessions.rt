@@ -160,22 +160,58 @@ fn all_same<D: Display>(alloc: Global, a: &[Reply<D>], b: &[Reply<D>]) -> Result
     Ok(true)
 }
 
+/// What a session leaves, and what it replied.
+#[derive(Drop)]
+struct Session<D> {
+    pointer: PointerBuf,
+    document: String,
+    replies: Vec<Reply<D>>,
+}
+
+/// The session of these calls on a plain pointer.
+fn on_plain<D: Document>(rt: &HostRuntime, doc: &str, lines: &[&str]) -> Result<Session<D>, Fail> {
+    let alloc = rt.alloc();
+    let (mut pointer, mut doc) = (plain(rt, "/x")?, D::read(alloc, doc)?);
+    let replies = D::run(alloc, &mut pointer, &mut doc, calls(rt, lines)?)?;
+    let document = doc.to_string(alloc)?;
+    Ok(Session {
+        pointer,
+        document,
+        replies,
+    })
+}
+
+/// The same on a tabled pointer, which has the table of its text then.
+fn on_tabled<D: Document>(rt: &HostRuntime, doc: &str, lines: &[&str]) -> Result<Session<D>, Fail> {
+    let alloc = rt.alloc();
+    let (mut pointer, mut doc) = (tabled(rt, "/x")?, D::read(alloc, doc)?);
+    let replies = D::run_tabled(alloc, &mut pointer, &mut doc, calls(rt, lines)?)?;
+    let document = doc.to_string(alloc)?;
+    if !is_table(&pointer) {
+        return Err("a table".into());
+    }
+    Ok(Session {
+        pointer: pointer.into_plain(),
+        document,
+        replies,
+    })
+}
+
+/// Whether two sessions leave and replied the same.
+fn agree<D: Document>(alloc: Global, a: &Session<D>, b: &Session<D>) -> Result<bool, Fail> {
+    let left = a.pointer.as_ptr() == b.pointer.as_ptr() && a.document == b.document;
+    Ok(left && all_same(alloc, &a.replies, &b.replies)?)
+}
+
 /// What pointer and document are after these calls, where both kinds of pointer give the same replies.
 fn after<D: Document>(rt: &HostRuntime, doc: &str, lines: &[&str]) -> Result<String, Fail> {
-    let alloc = rt.alloc();
-    let (mut plain, mut table) = (plain(rt, "/x")?, tabled(rt, "/x")?);
-    let (mut first, mut second) = (D::read(alloc, doc)?, D::read(alloc, doc)?);
-    let replies = D::run(alloc, &mut plain, &mut first, calls(rt, lines)?)?;
-    let others = D::run_tabled(alloc, &mut table, &mut second, calls(rt, lines)?)?;
-    let (a, b) = (first.to_string(alloc)?, second.to_string(alloc)?);
-    if !all_same(alloc, &replies, &others)? || a != b || !is_table(&table) {
+    let first = on_plain::<D>(rt, doc, lines)?;
+    let second = on_tabled::<D>(rt, doc, lines)?;
+    if !agree(rt.alloc(), &first, &second)? {
         return Err("one session".into());
     }
-    let (text, same) = (plain.as_ptr(), table.as_ptr());
-    if text != same {
-        return Err("one pointer".into());
-    }
-    Ok(format!(in alloc; "{text} {a}")?)
+    let (pointer, document) = (first.pointer.as_ptr(), first.document.as_str());
+    Ok(format!(in rt.alloc(); "{pointer} {document}")?)
 }
 
 const LINES: [&str; 24] = [
