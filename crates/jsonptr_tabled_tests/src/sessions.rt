@@ -82,23 +82,30 @@ fn text(rt: &HostRuntime, text: &str) -> Result<String, Fail> {
     Ok(String::from_str(rt.alloc(), text)?)
 }
 
-/// The call of a line: its name, and what it is made with, as text.
-fn call<D: Document>(rt: &HostRuntime, line: &str) -> Result<Call<D>, Fail> {
-    let (name, with) = line.split_once(' ').unwrap_or((line, ""));
+/// The call of this name, made with what is told as text.
+fn call_with<D: Document>(rt: &HostRuntime, name: &str, with: &str) -> Result<Call<D>, Fail> {
     match name {
         "parse" => Ok(Call::Parse(text(rt, with)?)),
         "push_back" => Ok(Call::PushBack(text(rt, with)?)),
         "push_front" => Ok(Call::PushFront(text(rt, with)?)),
-        "pop_back" => Ok(Call::PopBack),
-        "pop_front" => Ok(Call::PopFront),
         "replace" => Ok(Call::Replace(1, text(rt, with)?)),
         "append" => Ok(Call::Append(plain(rt, with)?)),
-        "clear" => Ok(Call::Clear),
-        "resolve" => Ok(Call::Resolve),
         "write" => Ok(Call::Write(D::read(rt.alloc(), with)?)),
         "assign" => Ok(Call::Assign(D::read(rt.alloc(), with)?)),
-        "delete" => Ok(Call::Delete),
         _ => Err("a call".into()),
+    }
+}
+
+/// The call of a line: its name, and what it is made with, as text.
+fn call<D: Document>(rt: &HostRuntime, line: &str) -> Result<Call<D>, Fail> {
+    let (name, with) = line.split_once(' ').unwrap_or((line, ""));
+    match name {
+        "pop_back" => Ok(Call::PopBack),
+        "pop_front" => Ok(Call::PopFront),
+        "clear" => Ok(Call::Clear),
+        "resolve" => Ok(Call::Resolve),
+        "delete" => Ok(Call::Delete),
+        _ => call_with(rt, name, with),
     }
 }
 
@@ -120,10 +127,15 @@ fn same_token(a: &Option<Token<'static>>, b: &Option<Token<'static>>) -> bool {
     }
 }
 
+/// Whether two values display one text.
+fn same_text<D: Display>(alloc: Global, a: &D, b: &D) -> Result<bool, Fail> {
+    Ok(a.to_string(alloc)? == b.to_string(alloc)?)
+}
+
 /// Whether two values display one text, or are both missing.
 fn same_value<D: Display>(alloc: Global, a: &Option<D>, b: &Option<D>) -> Result<bool, Fail> {
     match (a, b) {
-        (Some(a), Some(b)) => Ok(a.to_string(alloc)? == b.to_string(alloc)?),
+        (Some(a), Some(b)) => same_text(alloc, a, b),
         (None, None) => Ok(true),
         _ => Ok(false),
     }
@@ -138,7 +150,7 @@ fn same<D: Display>(alloc: Global, a: &Reply<D>, b: &Reply<D>) -> Result<bool, F
         }
         (Reply::Token(a), Reply::Token(b)) => Ok(same_token(a, b)),
         (Reply::BadPosition(a), Reply::BadPosition(b)) => Ok(a == b),
-        (Reply::Value(a), Reply::Value(b)) => Ok(a.to_string(alloc)? == b.to_string(alloc)?),
+        (Reply::Value(a), Reply::Value(b)) => same_text(alloc, a, b),
         (Reply::NoValue(a), Reply::NoValue(b)) => Ok(a == b),
         (Reply::Assigned(a), Reply::Assigned(b)) => same_value(alloc, a, b),
         (Reply::BadPlace(a), Reply::BadPlace(b)) => Ok(a == b),
@@ -181,37 +193,42 @@ fn on_plain<D: Document>(rt: &HostRuntime, doc: &str, lines: &[&str]) -> Result<
     })
 }
 
-/// The same on a tabled pointer, which has the table of its text then.
+/// The plain pointer of a tabled one that has the table of its text.
+fn without_table(pointer: TabledPointer) -> Result<PointerBuf, Fail> {
+    if !is_table(&pointer) {
+        return Err("a table".into());
+    }
+    Ok(pointer.into_plain())
+}
+
+/// The session of these calls on a tabled pointer, which has the table of its text then.
 fn on_tabled<D: Document>(rt: &HostRuntime, doc: &str, lines: &[&str]) -> Result<Session<D>, Fail> {
     let alloc = rt.alloc();
     let (mut pointer, mut doc) = (tabled(rt, "/x")?, D::read(alloc, doc)?);
     let replies = D::run_tabled(alloc, &mut pointer, &mut doc, calls(rt, lines)?)?;
     let document = doc.to_string(alloc)?;
-    if !is_table(&pointer) {
-        return Err("a table".into());
-    }
     Ok(Session {
-        pointer: pointer.into_plain(),
+        pointer: without_table(pointer)?,
         document,
         replies,
     })
 }
 
-/// Whether two sessions leave and replied the same.
-fn agree<D: Document>(alloc: Global, a: &Session<D>, b: &Session<D>) -> Result<bool, Fail> {
-    let left = a.pointer.as_ptr() == b.pointer.as_ptr() && a.document == b.document;
-    Ok(left && all_same(alloc, &a.replies, &b.replies)?)
+/// What two sessions leave, where they leave and replied the same: the pointer's text and the document's.
+fn left<D: Document>(alloc: Global, a: &Session<D>, b: &Session<D>) -> Result<String, Fail> {
+    let same = a.pointer.as_ptr() == b.pointer.as_ptr() && a.document == b.document;
+    if !same || !all_same(alloc, &a.replies, &b.replies)? {
+        return Err("one session".into());
+    }
+    let (pointer, document) = (a.pointer.as_ptr(), a.document.as_str());
+    Ok(format!(in alloc; "{pointer} {document}")?)
 }
 
 /// What pointer and document are after these calls, where both kinds of pointer give the same replies.
 fn after<D: Document>(rt: &HostRuntime, doc: &str, lines: &[&str]) -> Result<String, Fail> {
     let first = on_plain::<D>(rt, doc, lines)?;
     let second = on_tabled::<D>(rt, doc, lines)?;
-    if !agree(rt.alloc(), &first, &second)? {
-        return Err("one session".into());
-    }
-    let (pointer, document) = (first.pointer.as_ptr(), first.document.as_str());
-    Ok(format!(in rt.alloc(); "{pointer} {document}")?)
+    left(rt.alloc(), &first, &second)
 }
 
 const LINES: [&str; 24] = [
