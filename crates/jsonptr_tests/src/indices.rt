@@ -1,7 +1,7 @@
 //! Rows of index texts, and of indices within arrays.
 use jsonptr::Token;
 use jsonptr::index::{Index, IntegerCause, OutOfBoundsError, ParseIndexError};
-use std::alloc::Global;
+use std::alloc::{AllocError, Global};
 use std::borrow::CowStr;
 use std::str::FromStr;
 use std::test::Fail;
@@ -27,6 +27,12 @@ fn told(answer: Result<Index, ParseIndexError>) -> Result<Index, Refusal> {
     }
 }
 
+/// Whether a text reads so, by itself and as a token's.
+fn is_read(text: &str, want: Result<Index, Refusal>) -> Result<bool, Fail> {
+    let token = Token::from_encoded(CowStr::Borrowed(text))?;
+    Ok(told(text.parse::<Index>()) == want && told(token.to_index()) == want)
+}
+
 #[test]
 fn readings(rt: HostRuntime) -> Result<(), Fail> {
     for (text, want) in [
@@ -45,9 +51,7 @@ fn readings(rt: HostRuntime) -> Result<(), Fail> {
         ("éé", Err(Refusal::Character(0))),
         ("12é", Err(Refusal::Character(2))),
     ] {
-        assert_eq!(rt; told(text.parse::<Index>()), want, "at {text}");
-        let token = Token::from_encoded(CowStr::Borrowed(text))?;
-        assert_eq!(rt; told(token.to_index()), want, "at {text}");
+        assert!(rt; is_read(text, want)?, "at {text}");
     }
     Ok(())
 }
@@ -110,6 +114,10 @@ fn bounds_with_the_next_place(rt: HostRuntime) {
     ] {
         assert_eq!(rt; index.for_len_incl(length), want, "at {length}");
     }
+}
+
+#[test]
+fn numbers_without_bounds(rt: HostRuntime) {
     for (index, length, want) in [
         (Index::Num(42), 30, 42),
         (Index::Next, 30, 30),
@@ -120,19 +128,23 @@ fn bounds_with_the_next_place(rt: HostRuntime) {
     }
 }
 
-/// Whether a text reads as this index, in each form that it can be handed over in.
+/// Whether a text reads as this index, lent, and as a string that is lent or handed over.
 fn reads(alloc: Global, text: &str, index: Index) -> Result<bool, Fail> {
     let string = String::from_str(alloc, text)?;
     let lent = Index::try_from(&string)?;
+    Ok(Index::try_from(text)? == index && lent == index && Index::try_from(string)? == index)
+}
+
+/// Whether the token with this encoded text reads as this index, lent and handed over.
+fn token_reads(text: &str, index: Index) -> Result<bool, Fail> {
     let token = Token::from_encoded(CowStr::Borrowed(text))?;
-    let lent_token = Index::try_from(&token)?;
-    Ok(
-        Index::try_from(text)? == index
-            && lent == index
-            && Index::try_from(string)? == index
-            && lent_token == index
-            && Index::try_from(token)? == index,
-    )
+    let lent = Index::try_from(&token)?;
+    Ok(lent == index && Index::try_from(token)? == index)
+}
+
+/// Whether an index displays this text.
+fn displays(alloc: Global, index: Index, text: &str) -> Result<bool, AllocError> {
+    Ok(index.to_string(alloc)?.as_str() == text)
 }
 
 #[test]
@@ -143,8 +155,8 @@ fn texts_of_indices(rt: HostRuntime) -> Result<(), Fail> {
         ("18446744073709551615", Index::from(usize::MAX)),
         ("-", Index::Next),
     ] {
-        assert!(rt; reads(rt.alloc(), text, index)?, "at {text}");
-        assert_eq!(rt; index.to_string(rt.alloc())?.as_str(), text);
+        let is_read = reads(rt.alloc(), text, index)? && token_reads(text, index)?;
+        assert!(rt; is_read && displays(rt.alloc(), index, text)?, "at {text}");
     }
     Ok(())
 }
@@ -170,6 +182,23 @@ fn made<S, T: From<S>>(value: S) -> T {
     T::from(value)
 }
 
+/// Whether a text reads so through the bounds, lent, and as a string that is lent or handed over.
+fn is_read_as(alloc: Global, text: &str, want: Result<Index, Refusal>) -> Result<bool, AllocError> {
+    let string = String::from_str(alloc, text)?;
+    Ok(
+        told(parsed::<Index>(text)) == want
+            && told(read::<&str, Index>(text)) == want
+            && told(read::<&String, Index>(&string)) == want
+            && told(read::<String, Index>(string)) == want,
+    )
+}
+
+/// Whether the token with this encoded text reads so through the bound, lent and handed over.
+fn token_is_read_as(text: &str, want: Result<Index, Refusal>) -> Result<bool, Fail> {
+    let token = Token::from_encoded(CowStr::Borrowed(text))?;
+    Ok(told(read::<&Token, Index>(&token)) == want && told(read::<Token, Index>(token)) == want)
+}
+
 #[test]
 fn readings_through_bounds(rt: HostRuntime) -> Result<(), Fail> {
     for (text, want) in [
@@ -179,14 +208,8 @@ fn readings_through_bounds(rt: HostRuntime) -> Result<(), Fail> {
         ("", Err(Refusal::Empty)),
         ("1a", Err(Refusal::Character(1))),
     ] {
-        let string = String::from_str(rt.alloc(), text)?;
-        let token = Token::from_encoded(CowStr::Borrowed(text))?;
-        assert_eq!(rt; told(parsed::<Index>(text)), want, "at {text}");
-        assert_eq!(rt; told(read::<&str, Index>(text)), want, "at {text}");
-        assert_eq!(rt; told(read::<&String, Index>(&string)), want, "at {text}");
-        assert_eq!(rt; told(read::<String, Index>(string)), want, "at {text}");
-        assert_eq!(rt; told(read::<&Token, Index>(&token)), want, "at {text}");
-        assert_eq!(rt; told(read::<Token, Index>(token)), want, "at {text}");
+        assert!(rt; is_read_as(rt.alloc(), text, want)?, "at {text}");
+        assert!(rt; token_is_read_as(text, want)?, "at {text}");
     }
     Ok(())
 }

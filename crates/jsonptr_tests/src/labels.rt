@@ -1,7 +1,7 @@
 //! Texts, addresses and labels of the errors of tokens and indices, on any subject, and reports of results.
-use crate::reports::{address_of, are_equal, debug_of, labels_of, reported, text_of};
-use jsonptr::diagnostic::Label;
-use jsonptr::index::{Index, IntegerCause, OutOfBoundsError, ParseIndexError, StringOrToken};
+use crate::reports::{address_of, are_equal, debug_of, is_label, labels_of, reported, text_of};
+use jsonptr::diagnostic::Diagnostic;
+use jsonptr::index::{Index, OutOfBoundsError, ParseIndexError, StringOrToken};
 use jsonptr::{Diagnose, EncodingError, InvalidEncoding, Pointer, Report, Token};
 use std::alloc::{AllocError, Global};
 use std::borrow::CowStr;
@@ -9,16 +9,46 @@ use std::error::Error;
 use std::fmt;
 use std::test::Fail;
 
-/// Whether these are the words, the place and the length of the only label; with no words, whether there is
-/// no label.
-fn is_label(labels: Option<Vec<Label>>, words: &str, offset: usize, len: usize) -> bool {
-    match labels {
-        Some(labels) => match labels.as_slice() {
-            [label] => label.text() == words && label.offset() == offset && label.len() == len,
-            _ => false,
-        },
-        None => words.is_empty(),
-    }
+/// Whether the only label of a report, through the bound, has these words, this place and this length; with no
+/// words, whether it has no label.
+fn is_labelled<E: Diagnostic>(
+    alloc: Global,
+    report: Report<E>,
+    words: &str,
+    offset: usize,
+    len: usize,
+) -> Result<bool, AllocError> {
+    let labels = labels_of(alloc, &report)?;
+    Ok(is_label(labels, words, offset, len))
+}
+
+/// Whether the only label of a token's fault on a text is this; with no words, whether there is no label.
+fn labels_text(
+    alloc: Global,
+    error: EncodingError,
+    text: &str,
+    words: &str,
+    offset: usize,
+    len: usize,
+) -> Result<bool, AllocError> {
+    let report = reported(error, String::from_str(alloc, text)?);
+    is_labelled(alloc, report, words, offset, len)
+}
+
+/// Whether the only label of what a text lacks to be an index, on a subject, is this; with no words, whether
+/// there is no label.
+fn labels_index(
+    alloc: Global,
+    text: &str,
+    subject: &str,
+    words: &str,
+    offset: usize,
+    len: usize,
+) -> Result<bool, Fail> {
+    let error = text.parse::<Index>().err().ok_or("a fault")?;
+    let subject = StringOrToken::from(String::from_str(alloc, subject)?);
+    let report = reported(error, subject);
+    Ok(is_labelled(alloc, report, words, offset, len)?)
 }
 
 /// What an error displays, through the bound.
@@ -44,10 +74,8 @@ fn labels_of_encodings(rt: HostRuntime) -> Result<(), Fail> {
         ("", usize::MAX, slash, "invalid character", usize::MAX, 1),
     ] {
         let error = EncodingError { offset, source };
-        let report = reported(error, String::from_str(rt.alloc(), subject)?);
-        let labels = labels_of(rt.alloc(), &report)?;
         assert!(rt;
-            is_label(labels, words, place, len),
+            labels_text(rt.alloc(), error, subject, words, place, len)?,
             "at {subject} {offset}"
         );
     }
@@ -67,13 +95,10 @@ fn labels_of_indices(rt: HostRuntime) -> Result<(), Fail> {
         ("", "", "", 0, 0),
         ("18446744073709551616", "00", "", 0, 0),
     ] {
-        let Err(error) = text.parse::<Index>() else {
-            assert!(rt; false, "{text} is an index");
-            return Ok(());
-        };
-        let subject = StringOrToken::from(String::from_str(rt.alloc(), subject)?);
-        let labels = labels_of(rt.alloc(), &reported(error, subject))?;
-        assert!(rt; is_label(labels, words, place, len), "at {text}");
+        assert!(rt;
+            labels_index(rt.alloc(), text, subject, words, place, len)?,
+            "at {text}"
+        );
     }
     Ok(())
 }
@@ -81,19 +106,27 @@ fn labels_of_indices(rt: HostRuntime) -> Result<(), Fail> {
 #[test]
 fn labels_on_a_token(rt: HostRuntime) -> Result<(), Fail> {
     let token = Token::new(rt.alloc(), CowStr::Borrowed("a/b"))?.into_owned(rt.alloc())?;
-    let Err(error) = token.to_index() else {
-        assert!(rt; false, "an index");
-        return Ok(());
-    };
+    let error = token.to_index().err().ok_or("a fault")?;
     let subject = StringOrToken::from(token);
     assert_eq!(rt; subject.as_str(), "a~1b");
-    let labels = labels_of(rt.alloc(), &reported(error, subject))?;
-    assert!(rt; is_label(labels, "invalid character(s)", 0, 2));
+    let report = reported(error, subject);
+    assert!(rt; is_labelled(rt.alloc(), report, "invalid character(s)", 0, 2)?);
     Ok(())
 }
 
 #[test]
-fn texts_of_errors(rt: HostRuntime) -> Result<(), Fail> {
+fn texts_of_encodings(rt: HostRuntime) -> Result<(), Fail> {
+    for (source, want) in [
+        (InvalidEncoding::Tilde, "tilde (~) not followed by 0 or 1"),
+        (InvalidEncoding::Slash, "slash (/) found in token"),
+    ] {
+        assert_eq!(rt; shown(rt.alloc(), &source)?.as_str(), want);
+    }
+    Ok(())
+}
+
+#[test]
+fn text_of_a_place_in_a_token(rt: HostRuntime) -> Result<(), Fail> {
     let encoding = EncodingError {
         offset: usize::MAX,
         source: InvalidEncoding::Slash,
@@ -102,14 +135,11 @@ fn texts_of_errors(rt: HostRuntime) -> Result<(), Fail> {
         shown(rt.alloc(), &encoding)?.as_str(),
         "token contains invalid encoding at offset 18446744073709551615"
     );
-    assert_eq!(rt;
-        shown(rt.alloc(), &InvalidEncoding::Tilde)?.as_str(),
-        "tilde (~) not followed by 0 or 1"
-    );
-    assert_eq!(rt;
-        shown(rt.alloc(), &InvalidEncoding::Slash)?.as_str(),
-        "slash (/) found in token"
-    );
+    Ok(())
+}
+
+#[test]
+fn text_of_a_place_out_of_bounds(rt: HostRuntime) -> Result<(), Fail> {
     let bounds = OutOfBoundsError {
         length: usize::MAX,
         index: 3,
@@ -118,6 +148,17 @@ fn texts_of_errors(rt: HostRuntime) -> Result<(), Fail> {
         shown(rt.alloc(), &bounds)?.as_str(),
         "index 3 out of bounds (len: 18446744073709551615)"
     );
+    Ok(())
+}
+
+/// What is displayed of the error of a text that is no index.
+fn shown_of_index(alloc: Global, text: &str) -> Result<String, Fail> {
+    let error = text.parse::<Index>().err().ok_or("a fault")?;
+    Ok(shown(alloc, &error)?)
+}
+
+#[test]
+fn texts_of_indices(rt: HostRuntime) -> Result<(), Fail> {
     for (text, want) in [
         ("", "failed to parse token as an integer"),
         (
@@ -126,17 +167,20 @@ fn texts_of_errors(rt: HostRuntime) -> Result<(), Fail> {
         ),
         ("x", "failed to parse token as an index"),
     ] {
-        match text.parse::<Index>() {
-            Ok(_) => assert!(rt; false, "{text} is an index"),
-            Err(error) => assert_eq!(rt; shown(rt.alloc(), &error)?.as_str(), want),
-        }
+        assert_eq!(rt; shown_of_index(rt.alloc(), text)?.as_str(), want);
     }
-    if let Err(ParseIndexError::InvalidCharacter(error)) = "x".parse::<Index>() {
-        assert_eq!(rt;
-            shown(rt.alloc(), &error)?.as_str(),
-            "token contains a non-digit character, which is disallowed by RFC 6901"
-        );
-    }
+    Ok(())
+}
+
+#[test]
+fn text_of_a_character(rt: HostRuntime) -> Result<(), Fail> {
+    let Err(ParseIndexError::InvalidCharacter(error)) = "x".parse::<Index>() else {
+        return Err("a character that is no digit".into());
+    };
+    assert_eq!(rt;
+        shown(rt.alloc(), &error)?.as_str(),
+        "token contains a non-digit character, which is disallowed by RFC 6901"
+    );
     Ok(())
 }
 
@@ -155,48 +199,68 @@ fn addresses_of_errors(rt: HostRuntime) {
 /// A result with its error reported, through the bound.
 fn diagnosed<T, D: Diagnose<T>>(
     answer: D,
-    subject: <<D as Diagnose<T>>::Error as jsonptr::diagnostic::Diagnostic>::Subject,
+    subject: <<D as Diagnose<T>>::Error as Diagnostic>::Subject,
 ) -> Result<T, Report<<D as Diagnose<T>>::Error>> {
     answer.diagnose(subject)
 }
 
 #[test]
-fn reports_of_results(rt: HostRuntime) -> Result<(), Fail> {
+fn a_fault_on_its_text(rt: HostRuntime) -> Result<(), Fail> {
     let subject = String::from_str(rt.alloc(), "foo")?;
-    match diagnosed(Pointer::parse("foo"), subject) {
-        Ok(_) => assert!(rt; false, "a pointer"),
-        Err(report) => {
-            assert_eq!(rt; report.subject().as_str(), "foo");
-            assert!(rt; report.original().is_no_leading_slash());
-            let labels = labels_of(rt.alloc(), &report)?;
-            assert!(rt; is_label(labels, "must start with a slash ('/')", 0, 0));
-        }
-    }
+    let parsed = diagnosed(Pointer::parse("foo"), subject);
+    let report = parsed.err().ok_or("a report")?;
+    let original = report.original();
+    assert!(rt; report.subject().as_str() == "foo" && original.is_no_leading_slash());
+    let words = "must start with a slash ('/')";
+    assert!(rt; is_labelled(rt.alloc(), report, words, 0, 0)?);
+    Ok(())
+}
+
+#[test]
+fn a_pointer_without_report(rt: HostRuntime) -> Result<(), Fail> {
     let subject = String::from_str(rt.alloc(), "foo")?;
-    match diagnosed(Pointer::parse("/foo"), subject) {
-        Ok(pointer) => assert_eq!(rt; pointer.as_str(), "/foo"),
-        Err(_) => assert!(rt; false, "no pointer"),
-    }
-    let subject = StringOrToken::from(String::from_str(rt.alloc(), "00")?);
-    match "00".parse::<Index>().diagnose_with(move || subject) {
-        Ok(_) => assert!(rt; false, "an index"),
-        Err(report) => {
-            assert_eq!(rt; report.subject().as_str(), "00");
-            assert!(rt; are_equal(report.original(), &ParseIndexError::LeadingZeros));
-            assert_eq!(rt;
-                text_of(rt.alloc(), &report)?.as_str(),
-                "token contained leading zeros, which are disallowed by RFC 6901"
-            );
-            assert_eq!(rt;
-                debug_of(rt.alloc(), &report)?.as_str(),
-                r#"Report { source: LeadingZeros, subject: String("00") }"#
-            );
-        }
-    }
-    let subject = StringOrToken::from(String::from_str(rt.alloc(), "")?);
-    match "1".parse::<Index>().diagnose_with(move || subject) {
-        Ok(index) => assert_eq!(rt; index, Index::Num(1)),
-        Err(_) => assert!(rt; false, "no index"),
-    }
+    let parsed = diagnosed(Pointer::parse("/foo"), subject);
+    assert_eq!(rt; parsed.ok().ok_or("a pointer")?.as_str(), "/foo");
+    Ok(())
+}
+
+/// The result of a text that is read as an index, with a subject that is made for an error alone.
+fn diagnosed_index(
+    alloc: Global,
+    text: &str,
+    subject: &str,
+) -> Result<Result<Index, Report<ParseIndexError>>, AllocError> {
+    let subject = StringOrToken::from(String::from_str(alloc, subject)?);
+    Ok(text.parse::<Index>().diagnose_with(move || subject))
+}
+
+#[test]
+fn a_fault_on_a_subject_made_for_it(rt: HostRuntime) -> Result<(), Fail> {
+    let parsed = diagnosed_index(rt.alloc(), "00", "00")?;
+    let report = parsed.err().ok_or("a report")?;
+    let is_zeros = are_equal(report.original(), &ParseIndexError::LeadingZeros);
+    assert!(rt; report.subject().as_str() == "00" && is_zeros);
+    Ok(())
+}
+
+/// Whether the report of a text that is no index displays this, and is shown to a programmer so.
+fn report_tells(alloc: Global, text: &str, display: &str, debug: &str) -> Result<bool, Fail> {
+    let parsed = diagnosed_index(alloc, text, text)?;
+    let report = parsed.err().ok_or("a report")?;
+    Ok(text_of(alloc, &report)?.as_str() == display && debug_of(alloc, &report)?.as_str() == debug)
+}
+
+#[test]
+fn texts_of_a_report(rt: HostRuntime) -> Result<(), Fail> {
+    let display = "token contained leading zeros, which are disallowed by RFC 6901";
+    let debug = r#"Report { source: LeadingZeros, subject: String("00") }"#;
+    assert!(rt; report_tells(rt.alloc(), "00", display, debug)?);
+    Ok(())
+}
+
+#[test]
+fn an_index_without_report(rt: HostRuntime) -> Result<(), Fail> {
+    let parsed = diagnosed_index(rt.alloc(), "1", "")?;
+    assert_eq!(rt; parsed.ok().ok_or("an index")?, Index::Num(1));
     Ok(())
 }

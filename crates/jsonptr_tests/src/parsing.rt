@@ -1,30 +1,53 @@
 use jsonptr::{EncodingError, InvalidEncoding, ParseError, Pointer};
+use std::alloc::Global;
 use std::test::Fail;
+
+/// Whether a text is read as a pointer with this text, from whose front exactly so many tokens can be cut.
+fn is_read(text: &str, count: usize) -> Result<bool, Fail> {
+    let pointer = Pointer::parse(text)?;
+    let mut rest = pointer;
+    for _ in 0..count {
+        let (_, after) = rest.split_front().ok_or("a token more")?;
+        rest = after;
+    }
+    Ok(
+        pointer.as_str() == text
+            && pointer.is_root() == (count == 0)
+            && rest.split_front().is_none(),
+    )
+}
 
 #[test]
 fn parses_texts_of_the_grammar(rt: HostRuntime) -> Result<(), Fail> {
     for (text, count) in [("", 0), ("/", 1), ("/foo", 1), ("//", 2), ("/a~1b/~0/é", 3)] {
-        let mut rest = Pointer::parse(text)?;
-        assert_eq!(rt; rest.as_str(), text);
-        assert_eq!(rt; rest.is_root(), count == 0, "{text}");
-        for _ in 0..count {
-            let (_, after) = rest.split_front().ok_or("a token more")?;
-            rest = after;
-        }
-        assert!(rt; rest.split_front().is_none(), "{text}");
+        assert!(rt; is_read(text, count)?, "{text}");
     }
     Ok(())
 }
 
+/// Whether a pointer's first token has this encoded and this decoded text, and what is left has this text.
+fn cuts_off(
+    alloc: Global,
+    text: &str,
+    encoded: &str,
+    decoded: &str,
+    left: &str,
+) -> Result<bool, Fail> {
+    let (first, rest) = Pointer::parse(text)?.split_front().ok_or("a token")?;
+    let plain = first.decoded(alloc)?;
+    Ok(first.encoded() == encoded && plain.as_str() == decoded && rest.as_str() == left)
+}
+
 #[test]
 fn cuts_off_the_first_token(rt: HostRuntime) -> Result<(), Fail> {
-    let (first, rest) = Pointer::parse("/a~1b/c")?.split_front().ok_or("a token")?;
-    assert_eq!(rt; first.encoded(), "a~1b");
-    assert_eq!(rt; first.decoded(rt.alloc())?.as_str(), "a/b");
-    assert_eq!(rt; rest.as_str(), "/c");
+    assert!(rt; cuts_off(rt.alloc(), "/a~1b/c", "a~1b", "a/b", "/c")?);
+    Ok(())
+}
+
+#[test]
+fn leaves_the_root_behind_the_only_token(rt: HostRuntime) -> Result<(), Fail> {
     let (first, rest) = Pointer::parse("/")?.split_front().ok_or("a token")?;
-    assert_eq!(rt; first.encoded(), "");
-    assert!(rt; rest == Pointer::root());
+    assert!(rt; first.encoded() == "" && rest == Pointer::root());
     Ok(())
 }
 
@@ -55,20 +78,47 @@ fn refuses_other_texts_at_their_first_fault(rt: HostRuntime) {
     }
 }
 
+/// Whether the fault of a text displays this.
+fn tells(alloc: Global, text: &str, want: &str) -> Result<bool, Fail> {
+    let fault = Pointer::parse(text).err().ok_or("a fault")?;
+    Ok(format!(in alloc; "{fault}")?.as_str() == want)
+}
+
 #[test]
 fn faults_tell_themselves(rt: HostRuntime) -> Result<(), Fail> {
-    let alloc = rt.alloc();
-    let no_slash = Pointer::parse("foo").err().ok_or("a fault")?;
-    assert_eq!(rt;
-        format!(in alloc; "{no_slash}")?.as_str(),
-        "json pointer failed to parse; does not start with a slash ('/') and is not empty"
-    );
-    let tilde = Pointer::parse("/foo/invalid~tilde").err().ok_or("a fault")?;
-    assert_eq!(rt;
-        format!(in alloc; "{tilde}")?.as_str(),
-        "json pointer failed to parse; the first token in the partial-pointer starting at offset 4 is malformed"
-    );
+    for (text, want) in [
+        (
+            "foo",
+            "json pointer failed to parse; does not start with a slash ('/') and is not empty",
+        ),
+        (
+            "/foo/invalid~tilde",
+            "json pointer failed to parse; the first token in the partial-pointer starting at offset 4 is malformed",
+        ),
+    ] {
+        assert!(rt; tells(rt.alloc(), text, want)?, "{text}");
+    }
     Ok(())
+}
+
+/// Whether the fault of a text is one of encoding, with these offsets and this length.
+fn is_placed(
+    text: &str,
+    pointer: usize,
+    source: usize,
+    complete: usize,
+    len: usize,
+) -> Result<bool, Fail> {
+    let fault = Pointer::parse(text).err().ok_or("a fault")?;
+    Ok(
+        fault.offset() == pointer
+            && fault.pointer_offset() == pointer
+            && fault.source_offset() == source
+            && fault.complete_offset() == complete
+            && fault.invalid_encoding_len(text) == len
+            && fault.is_invalid_encoding()
+            && !fault.is_no_leading_slash(),
+    )
 }
 
 #[test]
@@ -79,21 +129,16 @@ fn tells_the_places_of_a_fault(rt: HostRuntime) -> Result<(), Fail> {
         ("/foo~", 0, 4, 4, 1),
         ("/é~", 0, 3, 3, 1),
     ] {
-        let fault = Pointer::parse(text).err().ok_or("a fault")?;
-        assert_eq!(rt; fault.offset(), pointer, "{text}");
-        assert_eq!(rt; fault.pointer_offset(), pointer, "{text}");
-        assert_eq!(rt; fault.source_offset(), source, "{text}");
-        assert_eq!(rt; fault.complete_offset(), complete, "{text}");
-        assert_eq!(rt; fault.invalid_encoding_len(text), len, "{text}");
-        assert!(rt;
-            fault.is_invalid_encoding() && !fault.is_no_leading_slash(),
-            "{text}"
-        );
+        assert!(rt; is_placed(text, pointer, source, complete, len)?, "{text}");
     }
+    Ok(())
+}
+
+#[test]
+fn a_missing_slash_has_no_place(rt: HostRuntime) -> Result<(), Fail> {
     let fault = Pointer::parse("foo").err().ok_or("a fault")?;
-    assert_eq!(rt; fault.offset(), 0);
-    assert_eq!(rt; fault.source_offset(), 0);
-    assert_eq!(rt; fault.invalid_encoding_len("foo"), 0);
+    let places = (fault.offset(), fault.source_offset());
+    assert_eq!(rt; (places, fault.invalid_encoding_len("foo")), ((0, 0), 0));
     assert!(rt; fault.is_no_leading_slash() && fault.is_no_leading_backslash());
     Ok(())
 }
@@ -120,19 +165,30 @@ fn a_fault_takes_up_no_byte_past_any_subject(rt: HostRuntime) {
 }
 
 #[test]
+fn counts_its_tokens(rt: HostRuntime) -> Result<(), Fail> {
+    let counts = (
+        Pointer::parse("/a~1b//~0")?.count(),
+        Pointer::root().count(),
+    );
+    assert_eq!(rt; counts, (3, 0));
+    Ok(())
+}
+
+#[test]
 fn gives_the_tokens_in_order(rt: HostRuntime) -> Result<(), Fail> {
-    let pointer = Pointer::parse("/a~1b//~0")?;
-    assert_eq!(rt; pointer.count(), 3);
-    let mut tokens = pointer.tokens();
+    let mut tokens = Pointer::parse("/a~1b//~0")?.tokens();
     for text in ["a~1b", "", "~0"] {
         let token = tokens.next().ok_or("a token more")?;
-        assert_eq!(rt; token.encoded(), text);
+        assert!(rt; token.encoded() == text, "{text}");
     }
-    assert!(rt; tokens.next().is_none());
-    assert!(rt; tokens.next().is_none());
-    assert_eq!(rt; Pointer::root().count(), 0);
+    assert!(rt; tokens.next().is_none() && tokens.next().is_none());
+    Ok(())
+}
+
+#[test]
+fn is_gone_over_token_by_token(rt: HostRuntime) -> Result<(), Fail> {
     let mut count = 0u8;
-    for token in pointer {
+    for token in Pointer::parse("/a~1b//~0")? {
         assert!(rt; token.encoded().len() < 5);
         count = count.saturating_add(1);
     }

@@ -2,20 +2,56 @@
 ghost use Rattle.std.specs.Prelude.{IsSome, codes};
 
 use crate::reports::reported;
-use jsonptr::diagnostic::{Diagnostic, Label, Report};
+use jsonptr::diagnostic::{Diagnostic, Label};
 use jsonptr::index::{Index, OutOfBoundsError, StringOrToken};
-use jsonptr::{EncodingError, InvalidEncoding, ParseError, Pointer, Token, assign, resolve};
+use jsonptr::{
+    EncodingError, InvalidEncoding, ParseError, Pointer, PointerBuf, Token, assign, resolve,
+};
 use std::alloc::{AllocError, Global};
 use std::borrow::CowStr;
 use std::convert::AsStr;
 use std::test::Fail;
 
-/// What a report draws, through the bounds.
-fn rendered<E: Diagnostic>(alloc: Global, report: &Report<E>) -> Result<String, AllocError>
+/// Whether an error draws this below its subject, through the bounds.
+fn draws<E: Diagnostic>(
+    alloc: Global,
+    error: E,
+    subject: E::Subject,
+    want: &str,
+) -> Result<bool, AllocError>
 where
     E::Subject: AsStr,
 {
-    report.render(alloc)
+    let drawn = reported(error, subject).render(alloc)?;
+    Ok(drawn.as_str() == want)
+}
+
+/// Whether an error draws this below a text.
+fn draws_below<E: Diagnostic<Subject = String>>(
+    alloc: Global,
+    text: &str,
+    error: E,
+    want: &str,
+) -> Result<bool, AllocError> {
+    draws(alloc, error, String::from_str(alloc, text)?, want)
+}
+
+/// Whether an error draws this below a pointer.
+fn draws_below_pointer<E: Diagnostic<Subject = PointerBuf>>(
+    alloc: Global,
+    pointer: &str,
+    error: E,
+    want: &str,
+) -> Result<bool, Fail> {
+    let subject = Pointer::parse(pointer)?.to_buf(alloc)?;
+    Ok(draws(alloc, error, subject, want)?)
+}
+
+/// Whether a text that is no index draws this below itself.
+fn draws_below_index(alloc: Global, text: &str, want: &str) -> Result<bool, Fail> {
+    let error = text.parse::<Index>().err().ok_or("a fault")?;
+    let subject = StringOrToken::from(String::from_str(alloc, text)?);
+    Ok(draws(alloc, error, subject, want)?)
 }
 
 /// Labels on any text.
@@ -38,17 +74,23 @@ impl Diagnostic for Labels {
     }
 }
 
-/// What is drawn of one label on a text.
-fn with_label(
+/// Whether one label on a text draws this.
+fn draws_label(
     alloc: Global,
     subject: &str,
     words: &str,
     offset: usize,
     len: usize,
-) -> Result<String, AllocError> {
+    want: &str,
+) -> Result<bool, AllocError> {
     let label = Label::new(String::from_str(alloc, words)?, offset, len);
-    let error = Labels(vec![in alloc; label]?);
-    rendered(alloc, &reported(error, String::from_str(alloc, subject)?))
+    draws_below(alloc, subject, Labels(vec![in alloc; label]?), want)
+}
+
+/// Whether a text is shown so, above a label and as the label's own words.
+fn is_shown(alloc: Global, text: &str, shown: &str) -> Result<bool, AllocError> {
+    let want = format!(in alloc; "{shown}\n^ {shown}")?;
+    draws_label(alloc, text, text, 0, 0, want.as_str())
 }
 
 #[test]
@@ -61,18 +103,17 @@ fn faults_of_pointers(rt: HostRuntime) -> Result<(), Fail> {
         ("/é~", "/é~\n  ^ '~' must be followed by '0' or '1'"),
         ("foo", "foo\n^ must start with a slash ('/')"),
     ] {
-        let Err(error) = Pointer::parse(text) else {
-            assert!(rt; false, "{text} is a pointer");
-            return Ok(());
-        };
-        let report = reported(error, String::from_str(rt.alloc(), text)?);
-        assert_eq!(rt; rendered(rt.alloc(), &report)?.as_str(), want);
+        let error = Pointer::parse(text).err().ok_or("a fault")?;
+        assert!(rt; draws_below(rt.alloc(), text, error, want)?, "at {text}");
     }
-    let empty = reported(ParseError::NoLeadingSlash, String::new(rt.alloc()));
-    assert_eq!(rt;
-        rendered(rt.alloc(), &empty)?.as_str(),
-        "\n^ must start with a slash ('/')"
-    );
+    Ok(())
+}
+
+#[test]
+fn a_fault_below_no_text(rt: HostRuntime) -> Result<(), Fail> {
+    let error = ParseError::NoLeadingSlash;
+    let want = "\n^ must start with a slash ('/')";
+    assert!(rt; draws(rt.alloc(), error, String::new(rt.alloc()), want)?);
     Ok(())
 }
 
@@ -99,8 +140,10 @@ fn faults_of_tokens(rt: HostRuntime) -> Result<(), Fail> {
         ("", 0, tilde, ""),
     ] {
         let error = EncodingError { offset, source };
-        let report = reported(error, String::from_str(rt.alloc(), subject)?);
-        assert_eq!(rt; rendered(rt.alloc(), &report)?.as_str(), want);
+        assert!(rt;
+            draws_below(rt.alloc(), subject, error, want)?,
+            "at {subject} {offset}"
+        );
     }
     Ok(())
 }
@@ -112,40 +155,33 @@ fn faults_of_indices(rt: HostRuntime) -> Result<(), Fail> {
         ("", ""),
         ("18446744073709551616", "18446744073709551616"),
     ] {
-        let Err(error) = text.parse::<Index>() else {
-            assert!(rt; false, "{text} is an index");
-            return Ok(());
-        };
-        let subject = StringOrToken::from(String::from_str(rt.alloc(), text)?);
-        assert_eq!(rt;
-            rendered(rt.alloc(), &reported(error, subject))?.as_str(),
-            want
-        );
+        assert!(rt; draws_below_index(rt.alloc(), text, want)?, "at {text}");
     }
-    let token = Token::new(rt.alloc(), CowStr::Borrowed("a/b"))?.into_owned(rt.alloc())?;
-    let Err(error) = token.to_index() else {
-        assert!(rt; false, "an index");
-        return Ok(());
-    };
-    let report = reported(error, StringOrToken::from(token));
-    assert_eq!(rt;
-        rendered(rt.alloc(), &report)?.as_str(),
-        "a~1b\n^^ invalid character(s)"
-    );
     Ok(())
 }
 
 #[test]
-fn faults_of_documents(rt: HostRuntime) -> Result<(), Fail> {
+fn a_fault_of_a_token_as_an_index(rt: HostRuntime) -> Result<(), Fail> {
+    let token = Token::new(rt.alloc(), CowStr::Borrowed("a/b"))?.into_owned(rt.alloc())?;
+    let error = token.to_index().err().ok_or("a fault")?;
+    let want = "a~1b\n^^ invalid character(s)";
+    assert!(rt; draws(rt.alloc(), error, StringOrToken::from(token), want)?);
+    Ok(())
+}
+
+#[test]
+fn a_fault_of_resolving(rt: HostRuntime) -> Result<(), Fail> {
     let missing = resolve::Error::NotFound {
         position: 1,
         offset: 4,
     };
-    let subject = Pointer::parse("/foo/bär/x")?.to_buf(rt.alloc())?;
-    assert_eq!(rt;
-        rendered(rt.alloc(), &reported(missing, subject))?.as_str(),
-        "/foo/bär/x\n     ^^^ not found in value"
-    );
+    let want = "/foo/bär/x\n     ^^^ not found in value";
+    assert!(rt; draws_below_pointer(rt.alloc(), "/foo/bär/x", missing, want)?);
+    Ok(())
+}
+
+#[test]
+fn a_fault_of_assigning(rt: HostRuntime) -> Result<(), Fail> {
     let above = assign::Error::OutOfBounds {
         position: 0,
         offset: 0,
@@ -154,11 +190,8 @@ fn faults_of_documents(rt: HostRuntime) -> Result<(), Fail> {
             index: 3,
         },
     };
-    let subject = Pointer::parse("/3")?.to_buf(rt.alloc())?;
-    assert_eq!(rt;
-        rendered(rt.alloc(), &reported(above, subject))?.as_str(),
-        "/3\n ^ 3 is out of bounds (len: 1)"
-    );
+    let want = "/3\n ^ 3 is out of bounds (len: 1)";
+    assert!(rt; draws_below_pointer(rt.alloc(), "/3", above, want)?);
     Ok(())
 }
 
@@ -171,16 +204,30 @@ fn spans_of_any_place_and_length(rt: HostRuntime) -> Result<(), Fail> {
         ("abc", 3, 0, "abc\n   ^ here"),
         ("abc", 1, usize::MAX, "abc\n ^^ here"),
         ("abc", usize::MAX, usize::MAX, "abc\n   ^ here"),
+        ("", 0, 1, "\n^ here"),
+    ] {
+        assert!(rt;
+            draws_label(rt.alloc(), subject, "here", offset, len, want)?,
+            "at {subject} {offset} {len}"
+        );
+    }
+    Ok(())
+}
+
+#[test]
+fn spans_about_characters_of_two_bytes(rt: HostRuntime) -> Result<(), Fail> {
+    for (subject, offset, len, want) in [
         ("aéb", 1, 2, "aéb\n ^ here"),
         ("aéb", 2, 1, "aéb\n ^ here"),
         ("aéb", 2, 2, "aéb\n ^^ here"),
         ("aéb", 2, 0, "aéb\n ^ here"),
         ("a\u{85}b", 2, 1, "a\\u{85}b\n ^^^^^^ here"),
         ("a\u{85}b", 2, 0, "a\\u{85}b\n ^ here"),
-        ("", 0, 1, "\n^ here"),
     ] {
-        let drawn = with_label(rt.alloc(), subject, "here", offset, len)?;
-        assert_eq!(rt; drawn.as_str(), want);
+        assert!(rt;
+            draws_label(rt.alloc(), subject, "here", offset, len, want)?,
+            "at {subject} {offset} {len}"
+        );
     }
     Ok(())
 }
@@ -196,22 +243,23 @@ fn characters_that_are_not_shown_as_they_are(rt: HostRuntime) -> Result<(), Fail
         ("\u{2069}\u{206a}", "\\u{2069}\u{206a}"),
         ("\\\"é\u{10ffff}", "\\\"é\u{10ffff}"),
     ] {
-        let drawn = with_label(rt.alloc(), text, text, 0, 0)?;
-        let want = format!(in rt.alloc(); "{shown}\n^ {shown}")?;
-        assert_eq!(rt; drawn.as_str(), want.as_str());
+        assert!(rt; is_shown(rt.alloc(), text, shown)?, "at {shown}");
     }
     Ok(())
 }
 
 #[test]
-fn a_line_for_each_label(rt: HostRuntime) -> Result<(), Fail> {
+fn no_line_for_no_label(rt: HostRuntime) -> Result<(), Fail> {
     let none = Labels(Vec::new(rt.alloc()));
-    let report = reported(none, String::from_str(rt.alloc(), "ab")?);
-    assert_eq!(rt; rendered(rt.alloc(), &report)?.as_str(), "ab");
+    assert!(rt; draws_below(rt.alloc(), "ab", none, "ab")?);
+    Ok(())
+}
+
+#[test]
+fn a_line_for_each_label(rt: HostRuntime) -> Result<(), Fail> {
     let first = Label::new(String::from_str(rt.alloc(), "one")?, 1, 1);
     let second = Label::new(String::from_str(rt.alloc(), "")?, 0, 2);
     let both = Labels(vec![in rt.alloc(); first, second]?);
-    let report = reported(both, String::from_str(rt.alloc(), "ab")?);
-    assert_eq!(rt; rendered(rt.alloc(), &report)?.as_str(), "ab\n ^ one\n^^ ");
+    assert!(rt; draws_below(rt.alloc(), "ab", both, "ab\n ^ one\n^^ ")?);
     Ok(())
 }

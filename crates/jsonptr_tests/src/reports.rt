@@ -71,6 +71,18 @@ pub(crate) fn labels_of<E: Diagnostic>(
     report.original().labels(alloc, report.subject())
 }
 
+/// Whether these are the words, the place and the length of the only label; with no words, whether there is
+/// no label.
+pub(crate) fn is_label(labels: Option<Vec<Label>>, words: &str, offset: usize, len: usize) -> bool {
+    match labels {
+        Some(labels) => match labels.as_slice() {
+            [label] => label.text() == words && label.offset() == offset && label.len() == len,
+            _ => false,
+        },
+        None => words.is_empty(),
+    }
+}
+
 /// What a report displays, through the bound.
 pub(crate) fn text_of<E: Diagnostic + fmt::Display>(
     alloc: Global,
@@ -99,12 +111,22 @@ fn on_a_text(alloc: Global, error: Misspelt) -> Result<Report<Misspelt>, AllocEr
     Ok(reported(error, String::from_str(alloc, "teh cat")?))
 }
 
+/// A label with these words.
+fn label(alloc: Global, words: &str, offset: usize, len: usize) -> Result<Label, AllocError> {
+    Ok(Label::new(String::from_str(alloc, words)?, offset, len))
+}
+
 #[test]
 fn parts_of_a_label(rt: HostRuntime) -> Result<(), Fail> {
-    let label = Label::new(String::from_str(rt.alloc(), "é is no digit")?, 3, 2);
-    assert_eq!(rt; label.text(), "é is no digit");
-    assert_eq!(rt; label.offset(), 3);
-    assert_eq!(rt; label.len(), 2);
+    let label = label(rt.alloc(), "é is no digit", 3, 2)?;
+    let parts = (label.text(), label.offset(), label.len());
+    assert_eq!(rt; parts, ("é is no digit", 3, 2));
+    Ok(())
+}
+
+#[test]
+fn a_label_as_a_programmer_sees_it(rt: HostRuntime) -> Result<(), Fail> {
+    let label = label(rt.alloc(), "é is no digit", 3, 2)?;
     assert_eq!(rt;
         debug_of(rt.alloc(), &label)?.as_str(),
         r#"Label { text: "é is no digit", offset: 3, len: 2 }"#
@@ -114,56 +136,62 @@ fn parts_of_a_label(rt: HostRuntime) -> Result<(), Fail> {
 
 #[test]
 fn copies_of_a_label(rt: HostRuntime) -> Result<(), Fail> {
-    let label = Label::new(String::from_str(rt.alloc(), "here")?, 3, 2);
+    let label = label(rt.alloc(), "here", 3, 2)?;
     let copy = copy_of(&label)?;
-    assert_eq!(rt; copy.text(), "here");
-    assert!(rt; are_equal(&copy, &label));
-    for (text, offset, len) in [
+    assert!(rt; copy.text() == "here" && are_equal(&copy, &label));
+    Ok(())
+}
+
+/// Whether a label is equal to `here` on the two bytes at 3.
+fn is_here(alloc: Global, words: &str, offset: usize, len: usize) -> Result<bool, AllocError> {
+    let here = label(alloc, "here", 3, 2)?;
+    Ok(are_equal(&label(alloc, words, offset, len)?, &here))
+}
+
+#[test]
+fn labels_that_differ(rt: HostRuntime) -> Result<(), Fail> {
+    for (words, offset, len) in [
         ("there", 3, 2),
         ("here", 2, 3),
         ("here", 4, 2),
         ("here", 3, 1),
     ] {
-        let other = Label::new(String::from_str(rt.alloc(), text)?, offset, len);
-        assert!(rt; !are_equal(&other, &label), "at {text} {offset} {len}");
+        assert!(rt;
+            !is_here(rt.alloc(), words, offset, len)?,
+            "at {words} {offset} {len}"
+        );
     }
     Ok(())
 }
 
 #[test]
 fn one_label_alone(rt: HostRuntime) -> Result<(), Fail> {
-    match one_label(rt.alloc(), "here", 3, 2)? {
-        Some(labels) => {
-            assert_eq!(rt; labels.len(), 1);
-            for label in &labels {
-                assert_eq!(rt; label.text(), "here");
-                assert_eq!(rt; label.offset(), 3);
-                assert_eq!(rt; label.len(), 2);
-            }
-        }
-        None => assert!(rt; false, "no label"),
-    }
+    assert!(rt; is_label(one_label(rt.alloc(), "here", 3, 2)?, "here", 3, 2));
     Ok(())
+}
+
+/// Whether an error puts one label, with these words, on the text `teh cat`.
+fn labels_it(
+    alloc: Global,
+    error: Misspelt,
+    words: &str,
+    offset: usize,
+    len: usize,
+) -> Result<bool, AllocError> {
+    let want = vec![in alloc; label(alloc, words, offset, len)?]?;
+    Ok(labels_of(alloc, &on_a_text(alloc, error)?)? == Some(want))
 }
 
 #[test]
 fn labels_of_errors(rt: HostRuntime) -> Result<(), Fail> {
-    for (error, text, offset, len) in [
-        (Misspelt::Empty, "a word is wanted", 0, 0),
-        (
-            Misspelt::Within { word: 4, letter: 2 },
-            "wrong letter",
-            6,
-            1,
-        ),
-    ] {
-        let report = on_a_text(rt.alloc(), error)?;
-        let want = Label::new(String::from_str(rt.alloc(), text)?, offset, len);
-        assert_eq!(rt;
-            labels_of(rt.alloc(), &report)?,
-            Some(vec![in rt.alloc(); want]?)
-        );
-    }
+    let letter = Misspelt::Within { word: 4, letter: 2 };
+    assert!(rt; labels_it(rt.alloc(), Misspelt::Empty, "a word is wanted", 0, 0)?);
+    assert!(rt; labels_it(rt.alloc(), letter, "wrong letter", 6, 1)?);
+    Ok(())
+}
+
+#[test]
+fn no_label_at_a_place_past_any(rt: HostRuntime) -> Result<(), Fail> {
     let far = Misspelt::Within {
         word: usize::MAX,
         letter: 1,
@@ -175,23 +203,43 @@ fn labels_of_errors(rt: HostRuntime) -> Result<(), Fail> {
 #[test]
 fn parts_of_a_report(rt: HostRuntime) -> Result<(), Fail> {
     let report = on_a_text(rt.alloc(), Misspelt::Within { word: 0, letter: 1 })?;
-    assert_eq!(rt; report.subject().as_str(), "teh cat");
-    assert_eq!(rt; *report.original(), Misspelt::Within { word: 0, letter: 1 });
-    assert_eq!(rt;
-        text_of(rt.alloc(), &report)?.as_str(),
-        "the word at 0 is misspelt"
-    );
-    assert_eq!(rt;
-        debug_of(rt.alloc(), &report)?.as_str(),
-        r#"Report { source: Within { word: 0, letter: 1 }, subject: "teh cat" }"#
-    );
+    let within = Misspelt::Within { word: 0, letter: 1 };
+    assert!(rt; report.subject().as_str() == "teh cat" && *report.original() == within);
+    Ok(())
+}
+
+/// Whether a report displays this text, and is shown to a programmer so.
+fn tells(
+    alloc: Global,
+    report: &Report<Misspelt>,
+    text: &str,
+    debug: &str,
+) -> Result<bool, AllocError> {
+    Ok(text_of(alloc, report)?.as_str() == text && debug_of(alloc, report)?.as_str() == debug)
+}
+
+#[test]
+fn texts_of_a_report(rt: HostRuntime) -> Result<(), Fail> {
+    let report = on_a_text(rt.alloc(), Misspelt::Within { word: 0, letter: 1 })?;
+    let text = "the word at 0 is misspelt";
+    let debug = r#"Report { source: Within { word: 0, letter: 1 }, subject: "teh cat" }"#;
+    assert!(rt; tells(rt.alloc(), &report, text, debug)?);
+    Ok(())
+}
+
+#[test]
+fn a_report_taken_apart(rt: HostRuntime) -> Result<(), Fail> {
+    let report = on_a_text(rt.alloc(), Misspelt::Within { word: 0, letter: 1 })?;
     let (error, subject) = report.decompose();
-    assert_eq!(rt; error, Misspelt::Within { word: 0, letter: 1 });
-    assert_eq!(rt; subject.as_str(), "teh cat");
-    assert_eq!(rt;
-        on_a_text(rt.alloc(), Misspelt::Empty)?.into_original(),
-        Misspelt::Empty
-    );
+    let within = Misspelt::Within { word: 0, letter: 1 };
+    assert!(rt; error == within && subject.as_str() == "teh cat");
+    Ok(())
+}
+
+#[test]
+fn the_error_of_a_report(rt: HostRuntime) -> Result<(), Fail> {
+    let report = on_a_text(rt.alloc(), Misspelt::Empty)?;
+    assert_eq!(rt; report.into_original(), Misspelt::Empty);
     Ok(())
 }
 

@@ -16,13 +16,8 @@ fn faults(rt: HostRuntime) {
         ("~", 1, InvalidEncoding::Tilde),
         ("é~x", 3, InvalidEncoding::Tilde),
     ] {
-        match Token::from_encoded(CowStr::Borrowed(text)) {
-            Ok(token) => assert_eq!(rt; token.encoded(), "refused", "at {text}"),
-            Err(fault) => {
-                let fault: InvalidEncodingError = fault;
-                assert_eq!(rt; fault, EncodingError { offset, source }, "at {text}")
-            }
-        }
+        let fault: Option<InvalidEncodingError> = Token::from_encoded(CowStr::Borrowed(text)).err();
+        assert_eq!(rt; fault, Some(EncodingError { offset, source }), "at {text}");
     }
 }
 
@@ -64,13 +59,17 @@ fn encodes(alloc: Global, text: &str, encoded: &str) -> Result<bool, AllocError>
     Ok(token.encoded() == encoded && decoded.as_str() == text && printed.as_str() == text)
 }
 
+/// Whether a token, which is dropped, has this encoded text.
+fn is_encoded(token: Token<'_>, encoded: &str) -> bool {
+    token.encoded() == encoded
+}
+
 /// Whether the copies of the token of a text, and what it hands over, have this encoded text.
 fn copies(alloc: Global, text: &str, encoded: &str) -> Result<bool, AllocError> {
     let token = Token::new(alloc, CowStr::Borrowed(text))?;
-    let lent = token.to_owned(alloc)?;
-    let moved = token.clone()?.into_owned(alloc)?;
-    let kept = token.into_encoded();
-    Ok(lent.encoded() == encoded && moved.encoded() == encoded && kept.as_str() == encoded)
+    let lent = is_encoded(token.to_owned(alloc)?, encoded);
+    let moved = is_encoded(token.clone()?.into_owned(alloc)?, encoded);
+    Ok(lent && moved && token.into_encoded().as_str() == encoded)
 }
 
 #[test]
@@ -113,18 +112,31 @@ fn hash_of<T: Hash>(value: &T) -> u64 {
     state.finish()
 }
 
+/// Whether the token of a text is the one with this encoded text, by each comparison and by the hash.
+fn is_same(alloc: Global, text: &str, encoded: &str) -> Result<bool, Fail> {
+    let token = Token::new(alloc, CowStr::Borrowed(text))?;
+    let same = Token::from_encoded(CowStr::Borrowed(encoded))?;
+    let hash = hash_of(&token);
+    Ok(
+        token == same
+            && token.cmp(&same) == Ordering::Equal
+            && hash == hash_of(&same)
+            && hash == hash_of(&encoded),
+    )
+}
+
+/// Whether the token of one text is below that of another, and is not equal to it.
+fn is_below(alloc: Global, low: &str, high: &str) -> Result<bool, AllocError> {
+    let low = Token::new(alloc, CowStr::Borrowed(low))?;
+    let high = Token::new(alloc, CowStr::Borrowed(high))?;
+    Ok(low < high && high != low)
+}
+
 #[test]
 fn comparisons(rt: HostRuntime) -> Result<(), Fail> {
-    let slash = Token::new(rt.alloc(), CowStr::Borrowed("/"))?;
-    let tilde = Token::new(rt.alloc(), CowStr::Borrowed("~"))?;
-    let same = Token::from_encoded(CowStr::Borrowed("~1"))?;
-    assert!(rt; slash == same);
-    assert!(rt; slash != tilde);
+    assert!(rt; is_same(rt.alloc(), "/", "~1")?);
     // `/` is below `~`, and `~1` is above `~0`.
-    assert!(rt; tilde < slash);
-    assert_eq!(rt; slash.cmp(&same), Ordering::Equal);
-    assert_eq!(rt; hash_of(&slash), hash_of(&same));
-    assert_eq!(rt; hash_of(&slash), hash_of(&"~1"));
+    assert!(rt; is_below(rt.alloc(), "~", "/")?);
     Ok(())
 }
 
@@ -133,13 +145,27 @@ fn writes<N: Number>(alloc: Global, n: N, text: &str) -> Result<bool, AllocError
     Ok(Token::from_number(alloc, n)?.encoded() == text)
 }
 
+/// Whether the tokens of the least and of the greatest number of a type are these texts.
+fn writes_ends<N: Number>(
+    alloc: Global,
+    ends: (N, N),
+    texts: (&str, &str),
+) -> Result<bool, AllocError> {
+    Ok(writes(alloc, ends.0, texts.0)? && writes(alloc, ends.1, texts.1)?)
+}
+
 #[test]
 fn unsigned_numbers(rt: HostRuntime) -> Result<(), Fail> {
     let alloc = rt.alloc();
-    assert!(rt; writes(alloc, u8::MIN, "0")?);
-    assert!(rt; writes(alloc, u8::MAX, "255")?);
+    assert!(rt; writes_ends(alloc, (u8::MIN, u8::MAX), ("0", "255"))?);
     assert!(rt; writes(alloc, u16::MAX, "65535")?);
     assert!(rt; writes(alloc, u32::MAX, "4294967295")?);
+    Ok(())
+}
+
+#[test]
+fn wide_unsigned_numbers(rt: HostRuntime) -> Result<(), Fail> {
+    let alloc = rt.alloc();
     assert!(rt; writes(alloc, u64::MAX, "18446744073709551615")?);
     assert!(rt; writes(alloc, usize::MAX, "18446744073709551615")?);
     assert!(rt; writes(alloc, u128::MAX, "340282366920938463463374607431768211455")?);
@@ -149,18 +175,23 @@ fn unsigned_numbers(rt: HostRuntime) -> Result<(), Fail> {
 #[test]
 fn signed_numbers(rt: HostRuntime) -> Result<(), Fail> {
     let alloc = rt.alloc();
-    assert!(rt; writes(alloc, i8::MIN, "-128")?);
-    assert!(rt; writes(alloc, i8::MAX, "127")?);
-    assert!(rt; writes(alloc, i16::MIN, "-32768")?);
-    assert!(rt; writes(alloc, i16::MAX, "32767")?);
-    assert!(rt; writes(alloc, i32::MIN, "-2147483648")?);
-    assert!(rt; writes(alloc, i32::MAX, "2147483647")?);
-    assert!(rt; writes(alloc, i64::MIN, "-9223372036854775808")?);
-    assert!(rt; writes(alloc, i64::MAX, "9223372036854775807")?);
-    assert!(rt; writes(alloc, isize::MIN, "-9223372036854775808")?);
-    assert!(rt; writes(alloc, isize::MAX, "9223372036854775807")?);
-    assert!(rt; writes(alloc, i128::MIN, "-170141183460469231731687303715884105728")?);
-    assert!(rt; writes(alloc, i128::MAX, "170141183460469231731687303715884105727")?);
+    assert!(rt; writes_ends(alloc, (i8::MIN, i8::MAX), ("-128", "127"))?);
+    assert!(rt; writes_ends(alloc, (i16::MIN, i16::MAX), ("-32768", "32767"))?);
+    assert!(rt; writes_ends(alloc, (i32::MIN, i32::MAX), ("-2147483648", "2147483647"))?);
     assert!(rt; writes(alloc, -1, "-1")?);
+    Ok(())
+}
+
+#[test]
+fn wide_signed_numbers(rt: HostRuntime) -> Result<(), Fail> {
+    let alloc = rt.alloc();
+    let texts = ("-9223372036854775808", "9223372036854775807");
+    assert!(rt; writes_ends(alloc, (i64::MIN, i64::MAX), texts)?);
+    assert!(rt; writes_ends(alloc, (isize::MIN, isize::MAX), texts)?);
+    let texts = (
+        "-170141183460469231731687303715884105728",
+        "170141183460469231731687303715884105727",
+    );
+    assert!(rt; writes_ends(alloc, (i128::MIN, i128::MAX), texts)?);
     Ok(())
 }
