@@ -1,6 +1,12 @@
 //! Patches that are applied.
 use crate::patches::patched;
+use std::alloc::Global;
 use std::test::Fail;
+
+/// Whether a patch makes this of a document.
+fn makes(alloc: Global, document: &str, lines: &str, want: &str) -> Result<bool, Fail> {
+    Ok(patched(alloc, document, lines)?.as_str() == want)
+}
 
 /// The examples of RFC 6902, appendix A, that succeed; keys are printed in order.
 #[test]
@@ -58,17 +64,13 @@ fn appendix(rt: HostRuntime) -> Result<(), Fail> {
             r#"{"foo":["bar",["abc","def"]]}"#,
         ),
     ] {
-        assert_eq!(rt;
-            patched(rt.alloc(), document, lines)?.as_str(),
-            want,
-            "by {lines}"
-        );
+        assert!(rt; makes(rt.alloc(), document, lines, want)?, "by {lines}");
     }
     Ok(())
 }
 
 #[test]
-fn each_operation(rt: HostRuntime) -> Result<(), Fail> {
+fn additions(rt: HostRuntime) -> Result<(), Fail> {
     for (document, lines, want) in [
         (r#"{"a":1}"#, "", r#"{"a":1}"#),
         (r#"{"a":[1,2]}"#, "add /a/1 9", r#"{"a":[1,9,2]}"#),
@@ -76,6 +78,15 @@ fn each_operation(rt: HostRuntime) -> Result<(), Fail> {
         ("[]", "add /0 9", "[9]"),
         (r#"{"a":1}"#, "add /a [2]", r#"{"a":[2]}"#),
         ("[1]", "add  {}", "{}"),
+    ] {
+        assert!(rt; makes(rt.alloc(), document, lines, want)?, "by {lines}");
+    }
+    Ok(())
+}
+
+#[test]
+fn removals_and_replacements(rt: HostRuntime) -> Result<(), Fail> {
+    for (document, lines, want) in [
         ("[1,2]", "remove ", "null"),
         (
             r#"{"a":[1,{"b":2}]}"#,
@@ -83,12 +94,30 @@ fn each_operation(rt: HostRuntime) -> Result<(), Fail> {
             r#"{"a":[1,{"b":3}]}"#,
         ),
         ("[1]", "replace  2", "2"),
+    ] {
+        assert!(rt; makes(rt.alloc(), document, lines, want)?, "by {lines}");
+    }
+    Ok(())
+}
+
+#[test]
+fn moves(rt: HostRuntime) -> Result<(), Fail> {
+    for (document, lines, want) in [
         ("[1,2]", "move /0 /1", "[2,1]"),
         ("[1,2]", "move /0 /0", "[1,2]"),
         ("[1,2]", "move  ", "[1,2]"),
         (r#"{"a":1}"#, "move /a /ab", r#"{"ab":1}"#),
         (r#"{"a":{"b":1}}"#, "move /a/b /a", r#"{"a":1}"#),
         (r#"{"a":{"b":1}}"#, "move /a/b ", "1"),
+    ] {
+        assert!(rt; makes(rt.alloc(), document, lines, want)?, "by {lines}");
+    }
+    Ok(())
+}
+
+#[test]
+fn copies(rt: HostRuntime) -> Result<(), Fail> {
+    for (document, lines, want) in [
         (r#"{"a":[1]}"#, "copy /a /b", r#"{"a":[1],"b":[1]}"#),
         ("[1]", "copy  /0", "[[1],1]"),
         (
@@ -96,6 +125,15 @@ fn each_operation(rt: HostRuntime) -> Result<(), Fail> {
             "copy /a/1/0 /a/1/-",
             r#"{"a":[1,[2,2]]}"#,
         ),
+    ] {
+        assert!(rt; makes(rt.alloc(), document, lines, want)?, "by {lines}");
+    }
+    Ok(())
+}
+
+#[test]
+fn tests_and_longer_patches(rt: HostRuntime) -> Result<(), Fail> {
+    for (document, lines, want) in [
         (r#"{"a":1}"#, "test /a 1", r#"{"a":1}"#),
         (
             r#"{"~":{"/":1}}"#,
@@ -108,13 +146,21 @@ fn each_operation(rt: HostRuntime) -> Result<(), Fail> {
             r#"{"y":[0]}"#,
         ),
     ] {
-        assert_eq!(rt;
-            patched(rt.alloc(), document, lines)?.as_str(),
-            want,
-            "by {lines}"
-        );
+        assert!(rt; makes(rt.alloc(), document, lines, want)?, "by {lines}");
     }
     Ok(())
+}
+
+/// The text of a document to which a value was added.
+fn added(alloc: Global, value: &str) -> Result<String, Fail> {
+    let lines = format!(in alloc; "add / {value}")?;
+    patched(alloc, r#"{"":null}"#, lines.as_str())
+}
+
+/// The text of a document to which a value was added, and in which it was tested.
+fn added_and_tested(alloc: Global, value: &str) -> Result<String, Fail> {
+    let lines = format!(in alloc; "add / {value}\ntest / {value}")?;
+    patched(alloc, r#"{"":null}"#, lines.as_str())
 }
 
 #[test]
@@ -133,14 +179,9 @@ fn values_that_a_test_calls_equal(rt: HostRuntime) -> Result<(), Fail> {
         r#"[[],[1,[null]],{"a":true}]"#,
         r#"{"b":[1,2],"a":{"":{}}}"#,
     ] {
-        let document = r#"{"":null}"#;
-        let lines = format!(in rt.alloc(); "add / {value}\ntest / {value}")?;
-        let want = format!(in rt.alloc(); "add / {value}")?;
-        let left = patched(rt.alloc(), document, lines.as_str())?;
-        assert_eq!(rt;
-            left.as_str(),
-            patched(rt.alloc(), document, want.as_str())?.as_str()
-        );
+        let want = added(rt.alloc(), value)?;
+        let left = added_and_tested(rt.alloc(), value)?;
+        assert!(rt; left.as_str() == want.as_str(), "of {value}");
     }
     Ok(())
 }

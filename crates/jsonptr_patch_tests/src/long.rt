@@ -1,38 +1,43 @@
 //! A long patch.
-use crate::patches::{operation, refusal};
-use jsonptr_patch::{PatchError, apply};
-use serde_json::Value;
+use crate::patches::{patch, patched, refusal};
+use jsonptr_patch::PatchError;
+use std::alloc::{AllocError, Global};
 use std::test::Fail;
 
-/// In each of 250 rounds two numbers are added before the others, the first of them is tested, and one is moved to the
-/// end.
-#[test]
-fn a_thousand_operations(rt: HostRuntime) -> Result<(), Fail> {
-    let alloc = rt.alloc();
-    let mut patch = Vec::new(alloc);
-    let mut want = String::from_str(alloc, r#"{"a":["#)?;
+/// The lines of 250 rounds. In each two numbers are added before the others, the first of them is tested, and one is
+/// moved to the end.
+fn rounds(alloc: Global) -> Result<String, AllocError> {
+    let mut lines = String::new(alloc);
     for i in 0..250_u64 {
         let (first, second) = (2 * i, 2 * i + 1);
-        for line in [
-            format!(in alloc; "add /a/0 {first}")?,
-            format!(in alloc; "add /a/0 {second}")?,
-            format!(in alloc; "test /a/1 {first}")?,
-            String::from_str(alloc, "move /a/1 /a/-")?,
-        ] {
-            patch.push(operation(alloc, line.as_str())?)?;
-        }
+        let additions = format!(in alloc; "add /a/0 {first}\nadd /a/0 {second}\n")?;
+        lines.push_str(additions.as_str())?;
+        let others = format!(in alloc; "test /a/1 {first}\nmove /a/1 /a/-\n")?;
+        lines.push_str(others.as_str())?;
     }
+    Ok(lines)
+}
+
+/// The document that the rounds make of an empty array.
+fn document(alloc: Global) -> Result<String, AllocError> {
+    let mut text = String::from_str(alloc, r#"{"a":["#)?;
     for i in 0..250_u64 {
-        want.push_str(format!(in alloc; "{},", 499 - 2 * i)?.as_str())?;
+        text.push_str(format!(in alloc; "{},", 499 - 2 * i)?.as_str())?;
     }
     for i in 0..250_u64 {
         let end = if i < 249 { "," } else { "]}" };
-        want.push_str(format!(in alloc; "{}{end}", 2 * i)?.as_str())?;
+        text.push_str(format!(in alloc; "{}{end}", 2 * i)?.as_str())?;
     }
-    assert_eq!(rt; patch.len(), 1000);
-    let mut document = Value::from_str(alloc, r#"{"a":[]}"#)?;
-    apply(alloc, &mut document, patch)?;
-    assert_eq!(rt; document.to_string(alloc)?.as_str(), want.as_str());
+    Ok(text)
+}
+
+#[test]
+fn a_thousand_operations(rt: HostRuntime) -> Result<(), Fail> {
+    let lines = rounds(rt.alloc())?;
+    assert_eq!(rt; patch(rt.alloc(), lines.as_str())?.len(), 1000);
+    let left = patched(rt.alloc(), r#"{"a":[]}"#, lines.as_str())?;
+    let want = document(rt.alloc())?;
+    assert!(rt; left.as_str() == want.as_str());
     Ok(())
 }
 

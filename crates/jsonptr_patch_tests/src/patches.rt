@@ -10,36 +10,50 @@ pub fn pointer(alloc: Global, text: &str) -> Result<PointerBuf, Fail> {
     Ok(PointerBuf::from_text(alloc, text)?)
 }
 
+/// An operation with a value.
+fn operation_with_value(
+    alloc: Global,
+    name: &str,
+    path: &str,
+    value: &str,
+) -> Result<Operation, Fail> {
+    let path = pointer(alloc, path)?;
+    let value = Value::from_str(alloc, value)?;
+    match name {
+        "add" => Ok(Operation::Add { path, value }),
+        "replace" => Ok(Operation::Replace { path, value }),
+        "test" => Ok(Operation::Test { path, value }),
+        _ => Err("the name of an operation".into()),
+    }
+}
+
+/// An operation with a second pointer.
+fn operation_with_source(
+    alloc: Global,
+    name: &str,
+    from: &str,
+    path: &str,
+) -> Result<Operation, Fail> {
+    let from = pointer(alloc, from)?;
+    let path = pointer(alloc, path)?;
+    match name {
+        "move" => Ok(Operation::Move { from, path }),
+        "copy" => Ok(Operation::Copy { from, path }),
+        _ => Err("the name of an operation".into()),
+    }
+}
+
 /// An operation written as its name and its words, as in `add /a 1` or `move /a /b`. What follows the second space is
 /// one word.
-pub fn operation(alloc: Global, line: &str) -> Result<Operation, Fail> {
+fn operation(alloc: Global, line: &str) -> Result<Operation, Fail> {
     let (name, words) = line.split_once(' ').ok_or("words")?;
     let (first, second) = words.split_once(' ').unwrap_or((words, ""));
     match name {
-        "add" => Ok(Operation::Add {
-            path: pointer(alloc, first)?,
-            value: Value::from_str(alloc, second)?,
-        }),
         "remove" => Ok(Operation::Remove {
             path: pointer(alloc, first)?,
         }),
-        "replace" => Ok(Operation::Replace {
-            path: pointer(alloc, first)?,
-            value: Value::from_str(alloc, second)?,
-        }),
-        "move" => Ok(Operation::Move {
-            from: pointer(alloc, first)?,
-            path: pointer(alloc, second)?,
-        }),
-        "copy" => Ok(Operation::Copy {
-            from: pointer(alloc, first)?,
-            path: pointer(alloc, second)?,
-        }),
-        "test" => Ok(Operation::Test {
-            path: pointer(alloc, first)?,
-            value: Value::from_str(alloc, second)?,
-        }),
-        _ => Err("the name of an operation".into()),
+        "move" | "copy" => operation_with_source(alloc, name, first, second),
+        _ => operation_with_value(alloc, name, first, second),
     }
 }
 

@@ -12,116 +12,89 @@ fn shown<E: Error>(alloc: Global, error: &E) -> Result<String, Fail> {
     Ok(format!(in alloc; "{error}")?)
 }
 
+/// Whether a patch of a document is refused so.
+fn is_refused(alloc: Global, document: &str, lines: &str, want: PatchError) -> Result<bool, Fail> {
+    Ok(refusal(alloc, document, lines)? == want)
+}
+
+/// Whether a patch of a document is refused, since what this operation speaks of is not there, for this cause.
+fn has_no_target(
+    alloc: Global,
+    document: &str,
+    lines: &str,
+    operation: usize,
+    cause: resolve::Error,
+) -> Result<bool, Fail> {
+    let want = PatchError::NoTarget { operation, cause };
+    is_refused(alloc, document, lines, want)
+}
+
 #[test]
-fn no_target(rt: HostRuntime) -> Result<(), Fail> {
-    for (document, lines, operation, cause) in [
-        (
-            "{}",
-            "add /a/b 1",
-            0,
-            resolve::Error::NotFound {
-                position: 0,
-                offset: 0,
-            },
-        ),
-        (
-            r#"{"a":5}"#,
-            "add /a/b 1",
-            0,
-            resolve::Error::Unreachable {
-                position: 1,
-                offset: 2,
-            },
-        ),
-        (
-            "[1]",
-            "remove /-",
-            0,
-            resolve::Error::OutOfBounds {
-                position: 0,
-                offset: 0,
-                source: OutOfBoundsError {
-                    length: 1,
-                    index: 1,
-                },
-            },
-        ),
-        (
-            r#"{"foo":"bar"}"#,
-            r#"add /baz/bat "qux""#,
-            0,
-            resolve::Error::NotFound {
-                position: 0,
-                offset: 0,
-            },
-        ),
+fn no_target_of_that_name(rt: HostRuntime) -> Result<(), Fail> {
+    for (document, lines, operation, position, offset) in [
+        ("{}", "add /a/b 1", 0, 0, 0),
+        (r#"{"foo":"bar"}"#, r#"add /baz/bat "qux""#, 0, 0, 0),
         (
             r#"{"a":[{"b":1}]}"#,
             "add /a/0/c 2\nremove /a/0/c\nreplace /a/0/c 3",
             2,
-            resolve::Error::NotFound {
-                position: 2,
-                offset: 4,
-            },
-        ),
-        (
-            r#"{"a":1}"#,
-            "copy /a /b\nmove /b /c\nmove /b /d",
             2,
-            resolve::Error::NotFound {
-                position: 0,
-                offset: 0,
-            },
+            4,
         ),
-        (
-            r#"{"a":1}"#,
-            "move /a /b/c",
-            0,
-            resolve::Error::NotFound {
-                position: 0,
-                offset: 0,
-            },
-        ),
-        (
-            "[[1]]",
-            "copy /0/1 /0/0",
-            0,
-            resolve::Error::OutOfBounds {
-                position: 1,
-                offset: 2,
-                source: OutOfBoundsError {
-                    length: 1,
-                    index: 1,
-                },
-            },
-        ),
-        (
-            "[[1]]",
-            "copy /0 /1/0",
-            0,
-            resolve::Error::OutOfBounds {
-                position: 0,
-                offset: 0,
-                source: OutOfBoundsError {
-                    length: 1,
-                    index: 1,
-                },
-            },
-        ),
-        (
-            "[1]",
-            "test /0 1\ntest /00 1",
-            1,
-            resolve::Error::FailedToParseIndex {
-                position: 0,
-                offset: 0,
-                source: ParseIndexError::LeadingZeros,
-            },
-        ),
+        (r#"{"a":1}"#, "copy /a /b\nmove /b /c\nmove /b /d", 2, 0, 0),
+        (r#"{"a":1}"#, "move /a /b/c", 0, 0, 0),
     ] {
-        let want = PatchError::NoTarget { operation, cause };
-        assert!(rt; refusal(rt.alloc(), document, lines)? == want, "by {lines}");
+        let cause = resolve::Error::NotFound { position, offset };
+        assert!(rt;
+            has_no_target(rt.alloc(), document, lines, operation, cause)?,
+            "by {lines}"
+        );
     }
+    Ok(())
+}
+
+#[test]
+fn no_target_past_the_end(rt: HostRuntime) -> Result<(), Fail> {
+    for (document, lines, position, offset) in [
+        ("[1]", "remove /-", 0, 0),
+        ("[[1]]", "copy /0/1 /0/0", 1, 2),
+        ("[[1]]", "copy /0 /1/0", 0, 0),
+    ] {
+        let cause = resolve::Error::OutOfBounds {
+            position,
+            offset,
+            source: OutOfBoundsError {
+                length: 1,
+                index: 1,
+            },
+        };
+        assert!(rt;
+            has_no_target(rt.alloc(), document, lines, 0, cause)?,
+            "by {lines}"
+        );
+    }
+    Ok(())
+}
+
+#[test]
+fn no_target_below_a_number(rt: HostRuntime) -> Result<(), Fail> {
+    let cause = resolve::Error::Unreachable {
+        position: 1,
+        offset: 2,
+    };
+    assert!(rt; has_no_target(rt.alloc(), r#"{"a":5}"#, "add /a/b 1", 0, cause)?);
+    Ok(())
+}
+
+#[test]
+fn no_target_by_a_text_that_is_no_index(rt: HostRuntime) -> Result<(), Fail> {
+    let cause = resolve::Error::FailedToParseIndex {
+        position: 0,
+        offset: 0,
+        source: ParseIndexError::LeadingZeros,
+    };
+    let lines = "test /0 1\ntest /00 1";
+    assert!(rt; has_no_target(rt.alloc(), "[1]", lines, 1, cause)?);
     Ok(())
 }
 
@@ -139,8 +112,16 @@ fn bad_place(rt: HostRuntime) -> Result<(), Fail> {
             source,
         };
         let want = PatchError::BadPlace { operation, cause };
-        assert!(rt; refusal(rt.alloc(), document, lines)? == want, "by {lines}");
+        assert!(rt;
+            is_refused(rt.alloc(), document, lines, want)?,
+            "by {lines}"
+        );
     }
+    Ok(())
+}
+
+#[test]
+fn bad_place_by_a_text_that_is_no_index(rt: HostRuntime) -> Result<(), Fail> {
     let want = PatchError::BadPlace {
         operation: 0,
         cause: assign::Error::FailedToParseIndex {
@@ -149,7 +130,7 @@ fn bad_place(rt: HostRuntime) -> Result<(), Fail> {
             source: ParseIndexError::LeadingZeros,
         },
     };
-    assert!(rt; refusal(rt.alloc(), r#"{"a":[1,2]}"#, "add /a/01 9")? == want);
+    assert!(rt; is_refused(rt.alloc(), r#"{"a":[1,2]}"#, "add /a/01 9", want)?);
     Ok(())
 }
 
@@ -161,7 +142,10 @@ fn move_into_self(rt: HostRuntime) -> Result<(), Fail> {
         ("[1]", "test /0 1\nmove  /0", 1),
     ] {
         let want = PatchError::MoveIntoSelf { operation };
-        assert!(rt; refusal(rt.alloc(), document, lines)? == want, "by {lines}");
+        assert!(rt;
+            is_refused(rt.alloc(), document, lines, want)?,
+            "by {lines}"
+        );
     }
     Ok(())
 }
@@ -176,13 +160,14 @@ fn test_float(rt: HostRuntime) -> Result<(), Fail> {
             "test /a/0 1\ntest  [{\"a\":[1.5]}]",
             1,
         ),
+        ("{}", "add /a {\"b\":[0,1.5]}\ntest /a true", 1),
     ] {
         let want = PatchError::TestFloat { operation };
-        assert!(rt; refusal(rt.alloc(), document, lines)? == want, "by {lines}");
+        assert!(rt;
+            is_refused(rt.alloc(), document, lines, want)?,
+            "by {lines}"
+        );
     }
-    let float = "add /a {\"b\":[0,1.5]}\ntest /a true";
-    let want = PatchError::TestFloat { operation: 1 };
-    assert!(rt; refusal(rt.alloc(), "{}", float)? == want);
     Ok(())
 }
 
@@ -206,9 +191,20 @@ fn test_failed(rt: HostRuntime) -> Result<(), Fail> {
         (r#"{"a":[{"b":[]}]}"#, r#"test  {"a":[{"b":{}}]}"#, 0),
     ] {
         let want = PatchError::TestFailed { operation };
-        assert!(rt; refusal(rt.alloc(), document, lines)? == want, "by {lines}");
+        assert!(rt;
+            is_refused(rt.alloc(), document, lines, want)?,
+            "by {lines}"
+        );
     }
     Ok(())
+}
+
+/// Whether the error of a patch of a document displays this, by itself and as a fault.
+fn tells(alloc: Global, document: &str, lines: &str, want: &str) -> Result<bool, Fail> {
+    let error = refusal(alloc, document, lines)?;
+    let alone = shown(alloc, &error)?;
+    let fault = shown(alloc, &Fault::Refused(error))?;
+    Ok(alone.as_str() == want && fault.as_str() == want)
 }
 
 #[test]
@@ -240,9 +236,7 @@ fn texts(rt: HostRuntime) -> Result<(), Fail> {
             "patch failed at operation 1: test failed",
         ),
     ] {
-        let error = refusal(rt.alloc(), document, lines)?;
-        assert_eq!(rt; shown(rt.alloc(), &error)?.as_str(), want);
-        assert_eq!(rt; shown(rt.alloc(), &Fault::Refused(error))?.as_str(), want);
+        assert!(rt; tells(rt.alloc(), document, lines, want)?, "by {lines}");
     }
     Ok(())
 }
