@@ -5,18 +5,35 @@ use serde_json::Value;
 use std::alloc::Global;
 use std::test::Fail;
 
+/// Deletes at a pointer, and gives the operation that takes that back, if any.
+fn deleted(alloc: Global, document: &mut Value, pointer: &str) -> Result<Option<Operation>, Fail> {
+    let pointer = Pointer::parse(pointer)?;
+    Ok(delete_with_undo(alloc, document, pointer)?)
+}
+
+/// What an addition adds, and where.
+fn told(alloc: Global, operation: &Operation) -> Result<String, Fail> {
+    match operation {
+        Operation::Add { path, value } => Ok(format!(in alloc; "add {value} at '{path}'")?),
+        _ => Err("an addition".into()),
+    }
+}
+
+/// Applies a patch of one operation.
+fn apply_one(alloc: Global, document: &mut Value, operation: Operation) -> Result<(), Fail> {
+    let mut patch = Vec::new(alloc);
+    patch.push(operation)?;
+    Ok(apply(alloc, document, patch)?)
+}
+
 /// The document after a deletion, the operation that is answered, and the document after that is applied.
 fn there_and_back(alloc: Global, text: &str, pointer: &str) -> Result<String, Fail> {
     let mut document = Value::from_str(alloc, text)?;
-    let undo = delete_with_undo(alloc, &mut document, Pointer::parse(pointer)?)?;
-    let left = document.to_string(alloc)?;
-    let Some(Operation::Add { path, value }) = undo else {
-        return Err("an addition".into());
-    };
-    let said = format!(in alloc; "{left}; add {value} at '{path}'")?;
-    let mut patch = Vec::new(alloc);
-    patch.push(Operation::Add { path, value })?;
-    apply(alloc, &mut document, patch)?;
+    let undo = deleted(alloc, &mut document, pointer)?.ok_or("an operation")?;
+    let mut said = document.to_string(alloc)?;
+    said.push_str("; ")?;
+    said.push_str(told(alloc, &undo)?.as_str())?;
+    apply_one(alloc, &mut document, undo)?;
     Ok(format!(in alloc; "{said}; {document}")?)
 }
 
@@ -45,11 +62,16 @@ fn what_is_deleted_comes_back(rt: HostRuntime) -> Result<(), Fail> {
     Ok(())
 }
 
+/// Whether a deletion answers no operation.
+fn answers_none(alloc: Global, document: &mut Value, pointer: &str) -> Result<bool, Fail> {
+    Ok(deleted(alloc, document, pointer)?.is_none())
+}
+
 /// Whether a deletion answers no operation and leaves the document as it was.
 fn deletes_nothing(alloc: Global, text: &str, pointer: &str) -> Result<bool, Fail> {
     let mut document = Value::from_str(alloc, text)?;
-    let undo = delete_with_undo(alloc, &mut document, Pointer::parse(pointer)?)?;
-    Ok(undo.is_none() && document.to_string(alloc)?.as_str() == text)
+    let is_none = answers_none(alloc, &mut document, pointer)?;
+    Ok(is_none && document.to_string(alloc)?.as_str() == text)
 }
 
 #[test]
