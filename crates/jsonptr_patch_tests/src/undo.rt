@@ -19,6 +19,12 @@ fn told(alloc: Global, operation: &Operation) -> Result<String, Fail> {
     }
 }
 
+/// The text of a document, and what an addition adds to it, and where.
+fn told_after(alloc: Global, document: &Value, operation: &Operation) -> Result<String, Fail> {
+    let addition = told(alloc, operation)?;
+    Ok(format!(in alloc; "{document}; {addition}")?)
+}
+
 /// Applies a patch of one operation.
 fn apply_one(alloc: Global, document: &mut Value, operation: Operation) -> Result<(), Fail> {
     let mut patch = Vec::new(alloc);
@@ -30,9 +36,7 @@ fn apply_one(alloc: Global, document: &mut Value, operation: Operation) -> Resul
 fn there_and_back(alloc: Global, text: &str, pointer: &str) -> Result<String, Fail> {
     let mut document = Value::from_str(alloc, text)?;
     let undo = deleted(alloc, &mut document, pointer)?.ok_or("an operation")?;
-    let mut said = document.to_string(alloc)?;
-    said.push_str("; ")?;
-    said.push_str(told(alloc, &undo)?.as_str())?;
+    let said = told_after(alloc, &document, &undo)?;
     apply_one(alloc, &mut document, undo)?;
     Ok(format!(in alloc; "{said}; {document}")?)
 }
