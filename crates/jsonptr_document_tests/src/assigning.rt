@@ -3,61 +3,70 @@ use jsonptr::assign::Error;
 use jsonptr::index::{IntegerCause, OutOfBoundsError, ParseIndexError};
 use jsonptr::{Assign, Fault, Pointer};
 use serde_json::Value;
-use std::alloc::Global;
+use std::alloc::{AllocError, Global};
 use std::test::Fail;
 
-/// A document in which a value was assigned, and what was given back, as texts.
-#[derive(Drop)]
-struct Made {
-    document: String,
-    old: Option<String>,
-}
+/// A document, a pointer and the value that is assigned there, the document that this makes, and what is given
+/// back, each by its text.
+type Row<'a> = (&'a str, &'a str, &'a str, &'a str, Option<&'a str>);
 
-/// What a value makes of a document where it is assigned at a pointer, each given by its text; or the refusal,
-/// after which the document has its old text.
+/// Assigns the value of a text at a pointer, and gives back what stood there, or the refusal.
 fn assigned(
     alloc: Global,
-    document: &str,
+    root: &mut Value,
     pointer: &str,
     value: &str,
-) -> Result<Result<Made, Error>, Fail> {
-    let mut root = Value::from_str(alloc, document)?;
-    let value = Value::from_str(alloc, value)?;
-    match root.assign(alloc, Pointer::parse(pointer)?, value) {
-        Ok(old) => Ok(Ok(Made {
-            document: root.to_string(alloc)?,
-            old: match old {
-                Some(old) => Some(old.to_string(alloc)?),
-                None => None,
-            },
-        })),
+) -> Result<Result<Option<Value>, Error>, Fail> {
+    let pointer = Pointer::parse(pointer)?;
+    match root.assign(alloc, pointer, Value::from_str(alloc, value)?) {
+        Ok(old) => Ok(Ok(old)),
+        Err(Fault::Refused(error)) => Ok(Err(error)),
         Err(Fault::Memory(error)) => Err(Fail::from(error)),
-        Err(Fault::Refused(error)) => {
-            if root.to_string(alloc)?.as_str() != document {
-                return Err("the document as it was".into());
-            }
-            Ok(Err(error))
-        }
     }
 }
 
-/// What a value makes of a document that takes it at a pointer.
-fn taken(alloc: Global, document: &str, pointer: &str, value: &str) -> Result<Made, Fail> {
-    let taken = assigned(alloc, document, pointer, value)?.ok();
-    Ok(taken.ok_or("a document")?)
+/// Whether this is the text of a value.
+fn is_text(alloc: Global, value: &Value, want: &str) -> Result<bool, AllocError> {
+    Ok(value.to_string(alloc)?.as_str() == want)
 }
 
-/// The refusal of a value at a pointer in a document.
+/// Whether this is the text of the old value, if there is one.
+fn is_old(alloc: Global, old: Option<Value>, want: Option<&str>) -> Result<bool, AllocError> {
+    match old {
+        Some(old) => Ok(want == Some(old.to_string(alloc)?.as_str())),
+        None => Ok(want.is_none()),
+    }
+}
+
+/// Whether a document takes the value, becomes what the row says, and gives back what it says.
+fn is_made(alloc: Global, (document, pointer, value, want, old): Row<'_>) -> Result<bool, Fail> {
+    let mut root = Value::from_str(alloc, document)?;
+    let taken = assigned(alloc, &mut root, pointer, value)?.ok();
+    Ok(is_old(alloc, taken.ok_or("a document")?, old)? && is_text(alloc, &root, want)?)
+}
+
+/// The refusal of a value at a pointer in a document, after which the document has its old text.
 fn refusal(alloc: Global, document: &str, pointer: &str) -> Result<Error, Fail> {
-    let refused = assigned(alloc, document, pointer, "true")?.err();
+    let mut root = Value::from_str(alloc, document)?;
+    let refused = assigned(alloc, &mut root, pointer, "true")?.err();
+    if !is_text(alloc, &root, document)? {
+        return Err("the document as it was".into());
+    }
     Ok(refused.ok_or("a refusal")?)
+}
+
+#[test]
+fn replaces_the_whole(rt: HostRuntime) -> Result<(), Fail> {
+    for (document, value) in [(r#"{"a":[1]}"#, "2"), ("null", r#"{"a":1}"#)] {
+        let row = (document, "", value, value, Some(document));
+        assert!(rt; is_made(rt.alloc(), row)?, "by {value}");
+    }
+    Ok(())
 }
 
 #[test]
 fn replaces_what_the_pointer_names(rt: HostRuntime) -> Result<(), Fail> {
     for (document, pointer, value, want, old) in [
-        (r#"{"a":[1]}"#, "", "2", "2", r#"{"a":[1]}"#),
-        ("null", "", r#"{"a":1}"#, r#"{"a":1}"#, "null"),
         (r#"{"a":[1,2]}"#, "/a", "3", r#"{"a":3}"#, "[1,2]"),
         (r#"{"a":[1,2]}"#, "/a/1", "3", r#"{"a":[1,3]}"#, "2"),
         (r#"{"a":[1,2]}"#, "/a/0", "[]", r#"{"a":[[],2]}"#, "1"),
@@ -70,15 +79,29 @@ fn replaces_what_the_pointer_names(rt: HostRuntime) -> Result<(), Fail> {
             "1",
         ),
     ] {
-        let made = taken(rt.alloc(), document, pointer, value)?;
-        assert_eq!(rt; made.document.as_str(), want, "at {pointer}");
-        assert_eq!(rt; made.old.as_deref(), Some(old), "at {pointer}");
+        let row = (document, pointer, value, want, Some(old));
+        assert!(rt; is_made(rt.alloc(), row)?, "at {pointer}");
     }
     Ok(())
 }
 
 #[test]
-fn replaces_leaves_by_what_grows(rt: HostRuntime) -> Result<(), Fail> {
+fn null_gives_way_to_what_grows(rt: HostRuntime) -> Result<(), Fail> {
+    for (pointer, value, want) in [
+        ("/1", r#""x""#, r#"{"1":"x"}"#),
+        ("/0", "1", "[1]"),
+        ("/-", "1", "[1]"),
+        ("/", "1", r#"{"":1}"#),
+        ("/00", "1", r#"{"00":1}"#),
+    ] {
+        let row = ("null", pointer, value, want, Some("null"));
+        assert!(rt; is_made(rt.alloc(), row)?, "at {pointer}");
+    }
+    Ok(())
+}
+
+#[test]
+fn other_leaves_give_way_to_what_grows(rt: HostRuntime) -> Result<(), Fail> {
     for (document, pointer, value, want, old) in [
         (
             r#"{"foo":"bar"}"#,
@@ -87,11 +110,6 @@ fn replaces_leaves_by_what_grows(rt: HostRuntime) -> Result<(), Fail> {
             r#"{"foo":{"bar":[{"baz":"qux"}]}}"#,
             r#""bar""#,
         ),
-        ("null", "/1", r#""x""#, r#"{"1":"x"}"#, "null"),
-        ("null", "/0", "1", "[1]", "null"),
-        ("null", "/-", "1", "[1]", "null"),
-        ("null", "/", "1", r#"{"":1}"#, "null"),
-        ("null", "/00", "1", r#"{"00":1}"#, "null"),
         ("true", "/a~1b/0", "1", r#"{"a/b":[1]}"#, "true"),
         (r#"{"a":[1]}"#, "/a/0/b/-", "2", r#"{"a":[{"b":[2]}]}"#, "1"),
         (
@@ -102,15 +120,14 @@ fn replaces_leaves_by_what_grows(rt: HostRuntime) -> Result<(), Fail> {
             r#""b""#,
         ),
     ] {
-        let made = taken(rt.alloc(), document, pointer, value)?;
-        assert_eq!(rt; made.document.as_str(), want, "at {pointer}");
-        assert_eq!(rt; made.old.as_deref(), Some(old), "at {pointer}");
+        let row = (document, pointer, value, want, Some(old));
+        assert!(rt; is_made(rt.alloc(), row)?, "at {pointer}");
     }
     Ok(())
 }
 
 #[test]
-fn adds_members_and_elements(rt: HostRuntime) -> Result<(), Fail> {
+fn adds_members(rt: HostRuntime) -> Result<(), Fail> {
     for (document, pointer, value, want) in [
         ("{}", "/", "1", r#"{"":1}"#),
         (r#"{"a":1}"#, "/b", "2", r#"{"a":1,"b":2}"#),
@@ -122,21 +139,35 @@ fn adds_members_and_elements(rt: HostRuntime) -> Result<(), Fail> {
         ),
         (r#"{"a":{}}"#, "/a/0", "1", r#"{"a":{"0":1}}"#),
         (r#"{"a":{}}"#, "/a/-/-", "1", r#"{"a":{"-":[1]}}"#),
+    ] {
+        let row = (document, pointer, value, want, None);
+        assert!(rt; is_made(rt.alloc(), row)?, "at {pointer}");
+    }
+    Ok(())
+}
+
+#[test]
+fn adds_elements(rt: HostRuntime) -> Result<(), Fail> {
+    for (document, pointer, value, want) in [
         (r#"["a"]"#, "/-", r#""b""#, r#"["a","b"]"#),
         (r#"["a"]"#, "/1", r#""b""#, r#"["a","b"]"#),
         ("[]", "/0", "1", "[1]"),
         ("[[1,2]]", "/0/2/a/-", "3", r#"[[1,2,{"a":[3]}]]"#),
         (r#"{"a":[1]}"#, "/a/-/0", "2", r#"{"a":[1,[2]]}"#),
     ] {
-        let made = taken(rt.alloc(), document, pointer, value)?;
-        assert_eq!(rt; made.document.as_str(), want, "at {pointer}");
-        assert!(rt; made.old.is_none(), "at {pointer}");
+        let row = (document, pointer, value, want, None);
+        assert!(rt; is_made(rt.alloc(), row)?, "at {pointer}");
     }
     Ok(())
 }
 
+/// Whether a value is refused at a pointer in a document with this error.
+fn is_refusal(alloc: Global, document: &str, pointer: &str, want: Error) -> Result<bool, Fail> {
+    Ok(refusal(alloc, document, pointer)? == want)
+}
+
 #[test]
-fn refuses_what_is_no_place_of_an_array(rt: HostRuntime) -> Result<(), Fail> {
+fn refuses_what_is_past_an_array(rt: HostRuntime) -> Result<(), Fail> {
     for (document, pointer, position, offset, index, length) in [
         ("[]", "/1", 0, 0, 1, 0),
         (r#"["a"]"#, "/2", 0, 0, 2, 1),
@@ -148,12 +179,16 @@ fn refuses_what_is_no_place_of_an_array(rt: HostRuntime) -> Result<(), Fail> {
             offset,
             source: OutOfBoundsError { length, index },
         };
-        assert_eq!(rt;
-            refusal(rt.alloc(), document, pointer)?,
-            want,
+        assert!(rt;
+            is_refusal(rt.alloc(), document, pointer, want)?,
             "at {pointer}"
         );
     }
+    Ok(())
+}
+
+#[test]
+fn refuses_what_is_no_index(rt: HostRuntime) -> Result<(), Fail> {
     for (document, pointer, position, offset, source) in [
         ("[1]", "/01", 0, 0, ParseIndexError::LeadingZeros),
         (
@@ -176,9 +211,8 @@ fn refuses_what_is_no_place_of_an_array(rt: HostRuntime) -> Result<(), Fail> {
             offset,
             source,
         };
-        assert_eq!(rt;
-            refusal(rt.alloc(), document, pointer)?,
-            want,
+        assert!(rt;
+            is_refusal(rt.alloc(), document, pointer, want)?,
             "at {pointer}"
         );
     }
@@ -203,21 +237,35 @@ fn refuses_a_token_at_its_first_character_that_is_no_digit(rt: HostRuntime) -> R
     Ok(())
 }
 
+/// A text again and again.
+fn many(alloc: Global, text: &str) -> Result<String, AllocError> {
+    let mut made = String::new(alloc);
+    for _ in 0..127 {
+        made.push_str(text)?;
+    }
+    Ok(made)
+}
+
+/// One in many arrays, each in the one before.
+fn nested(alloc: Global) -> Result<String, AllocError> {
+    let mut made = many(alloc, "[")?;
+    made.push('1')?;
+    made.push_str(many(alloc, "]")?.as_str())?;
+    Ok(made)
+}
+
+/// Whether null gives way to many arrays, and is given back.
+fn grows(alloc: Global) -> Result<bool, Fail> {
+    let (pointer, want) = (many(alloc, "/0")?, nested(alloc)?);
+    is_made(
+        alloc,
+        ("null", pointer.as_str(), "1", want.as_str(), Some("null")),
+    )
+}
+
 #[test]
 fn grows_many_arrays(rt: HostRuntime) -> Result<(), Fail> {
-    let mut pointer = String::new(rt.alloc());
-    let mut want = String::new(rt.alloc());
-    for _ in 0..127 {
-        pointer.push_str("/0")?;
-        want.push('[')?;
-    }
-    want.push('1')?;
-    for _ in 0..127 {
-        want.push(']')?;
-    }
-    let made = taken(rt.alloc(), "null", pointer.as_str(), "1")?;
-    assert_eq!(rt; made.document.as_str(), want.as_str());
-    assert_eq!(rt; made.old.as_deref(), Some("null"));
+    assert!(rt; grows(rt.alloc())?);
     Ok(())
 }
 
@@ -243,10 +291,13 @@ fn errors_display(rt: HostRuntime) -> Result<(), Fail> {
 fn errors_tell_their_case(rt: HostRuntime) -> Result<(), Fail> {
     for (pointer, no_index) in [("/0/a", true), ("/0/1", false)] {
         let error = refusal(rt.alloc(), "[[],{},1]", pointer)?;
-        assert_eq!(rt; error.position(), 1, "at {pointer}");
-        assert_eq!(rt; error.offset(), 2, "at {pointer}");
-        assert_eq!(rt; error.is_failed_to_parse_index(), no_index, "at {pointer}");
-        assert_eq!(rt; error.is_out_of_bounds(), !no_index, "at {pointer}");
+        let place = (error.position(), error.offset());
+        let case = (error.is_failed_to_parse_index(), error.is_out_of_bounds());
+        assert_eq!(rt;
+            (place, case),
+            ((1, 2), (no_index, !no_index)),
+            "at {pointer}"
+        );
     }
     Ok(())
 }
@@ -267,6 +318,20 @@ where
         && pointer.assign(alloc, document, second).is_ok()
 }
 
+/// What a document becomes where values are assigned through the bound, as text, and whether both are taken.
+fn through_the_bound(alloc: Global, pointer: &str) -> Result<(bool, String), Fail> {
+    let pointer = Pointer::parse(pointer)?;
+    let mut root = Value::from_str(alloc, r#"{"a":[1]}"#)?;
+    let both = takes(
+        &mut root,
+        alloc,
+        pointer,
+        Value::Bool(true),
+        Value::Bool(false),
+    );
+    Ok((both, root.to_string(alloc)?))
+}
+
 #[test]
 fn assigns_through_the_bound(rt: HostRuntime) -> Result<(), Fail> {
     for (pointer, want, made) in [
@@ -275,21 +340,8 @@ fn assigns_through_the_bound(rt: HostRuntime) -> Result<(), Fail> {
         ("/a/2", false, r#"{"a":[1]}"#),
         ("/a/x", false, r#"{"a":[1]}"#),
     ] {
-        let mut document = Value::from_str(rt.alloc(), r#"{"a":[1]}"#)?;
-        let pointer = Pointer::parse(pointer)?;
-        let both = takes(
-            &mut document,
-            rt.alloc(),
-            pointer,
-            Value::Bool(true),
-            Value::Bool(false),
-        );
-        assert_eq!(rt; both, want, "at {pointer}");
-        assert_eq!(rt;
-            document.to_string(rt.alloc())?.as_str(),
-            made,
-            "at {pointer}"
-        );
+        let (both, text) = through_the_bound(rt.alloc(), pointer)?;
+        assert_eq!(rt; (both, text.as_str()), (want, made), "at {pointer}");
     }
     Ok(())
 }
