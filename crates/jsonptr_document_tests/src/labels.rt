@@ -37,6 +37,18 @@ fn is_label(labels: Option<Vec<Label>>, (words, offset, len): Span) -> bool {
     }
 }
 
+/// Whether the label of an error on the pointer of a text has these words, this place and this length; with
+/// no words, whether there is none.
+fn is_labelled<E: Diagnostic<Subject = PointerBuf>>(
+    alloc: Global,
+    error: &E,
+    text: &str,
+    want: Span,
+) -> Result<bool, Fail> {
+    let subject = PointerBuf::from_text(alloc, text)?;
+    Ok(is_label(labels_of(alloc, error, &subject)?, want))
+}
+
 /// Why a pointer names nothing in a document, both given by their text.
 fn unresolved(alloc: Global, document: &str, text: &str) -> Result<Option<ResolveError>, Fail> {
     let document = Value::from_str(alloc, document)?;
@@ -58,7 +70,7 @@ fn unassigned(alloc: Global, document: &str, text: &str) -> Result<Option<Assign
 }
 
 #[test]
-fn labels_of_refusals(rt: HostRuntime) -> Result<(), Fail> {
+fn labels_of_refusals_to_resolve(rt: HostRuntime) -> Result<(), Fail> {
     for (document, text, want) in [
         (
             r#"{"foo":["bar"]}"#,
@@ -69,15 +81,14 @@ fn labels_of_refusals(rt: HostRuntime) -> Result<(), Fail> {
         ("[]", "/é~1", ("not an array index", 1, 4)),
         ("7", "/é~1/x", ("unreachable", 1, 4)),
     ] {
-        let subject = PointerBuf::from_text(rt.alloc(), text)?;
-        match unresolved(rt.alloc(), document, text)? {
-            Some(error) => {
-                let labels = labels_of(rt.alloc(), &error, &subject)?;
-                assert!(rt; is_label(labels, want), "at {text}");
-            }
-            None => assert!(rt; false, "no refusal at {text}"),
-        }
+        let error = unresolved(rt.alloc(), document, text)?.ok_or("a refusal")?;
+        assert!(rt; is_labelled(rt.alloc(), &error, text, want)?, "at {text}");
     }
+    Ok(())
+}
+
+#[test]
+fn labels_of_refusals_to_assign(rt: HostRuntime) -> Result<(), Fail> {
     for (document, text, want) in [
         ("[]", "/1", ("1 is out of bounds (len: 0)", 1, 1)),
         (
@@ -86,16 +97,34 @@ fn labels_of_refusals(rt: HostRuntime) -> Result<(), Fail> {
             ("expected array index or '-'", 3, 1),
         ),
     ] {
-        let subject = PointerBuf::from_text(rt.alloc(), text)?;
-        match unassigned(rt.alloc(), document, text)? {
-            Some(error) => {
-                let labels = labels_of(rt.alloc(), &error, &subject)?;
-                assert!(rt; is_label(labels, want), "at {text}");
-            }
-            None => assert!(rt; false, "no refusal at {text}"),
-        }
+        let error = unassigned(rt.alloc(), document, text)?.ok_or("a refusal")?;
+        assert!(rt; is_labelled(rt.alloc(), &error, text, want)?, "at {text}");
     }
     Ok(())
+}
+
+/// Whether the labels of what was not found, and of what is past an array, have the place and the length on
+/// the pointer of a text, where the errors tell of this position and offset.
+fn are_at(
+    alloc: Global,
+    text: &str,
+    (position, offset): (usize, usize),
+    (place, len): (usize, usize),
+) -> Result<bool, Fail> {
+    let missing = ResolveError::NotFound { position, offset };
+    let past = AssignError::OutOfBounds {
+        position,
+        offset,
+        source: OutOfBoundsError {
+            length: usize::MAX,
+            index: usize::MAX,
+        },
+    };
+    let words = "18446744073709551615 is out of bounds (len: 18446744073709551615)";
+    Ok(
+        is_labelled(alloc, &missing, text, ("not found in value", place, len))?
+            && is_labelled(alloc, &past, text, (words, place, len))?,
+    )
 }
 
 #[test]
@@ -107,27 +136,25 @@ fn labels_on_other_pointers(rt: HostRuntime) -> Result<(), Fail> {
         ("/a/bcd", 0, usize::MAX - 1, usize::MAX - 1, 1),
         ("//", 1, 7, 7, 0),
     ] {
-        let subject = PointerBuf::from_text(rt.alloc(), text)?;
-        let found = ResolveError::NotFound { position, offset };
-        let labels = labels_of(rt.alloc(), &found, &subject)?;
-        assert!(rt;
-            is_label(labels, ("not found in value", place, len)),
-            "at {text} {offset}"
-        );
-        let source = OutOfBoundsError {
-            length: usize::MAX,
-            index: usize::MAX,
-        };
-        let past = AssignError::OutOfBounds {
-            position,
-            offset,
-            source,
-        };
-        let words = "18446744073709551615 is out of bounds (len: 18446744073709551615)";
-        let labels = labels_of(rt.alloc(), &past, &subject)?;
-        assert!(rt; is_label(labels, (words, place, len)), "at {text} {offset}");
+        let labelled = are_at(rt.alloc(), text, (position, offset), (place, len))?;
+        assert!(rt; labelled, "at {text} {offset}");
     }
     Ok(())
+}
+
+/// Whether errors that tell of this position and offset have no label on the pointer of a text.
+fn are_nowhere(alloc: Global, text: &str, position: usize, offset: usize) -> Result<bool, Fail> {
+    let unreachable = ResolveError::Unreachable { position, offset };
+    let no_index = AssignError::FailedToParseIndex {
+        position,
+        offset,
+        source: ParseIndexError::InvalidInteger(IntegerCause::Empty),
+    };
+    let subject = PointerBuf::from_text(alloc, text)?;
+    Ok(
+        labels_of(alloc, &unreachable, &subject)?.is_none()
+            && labels_of(alloc, &no_index, &subject)?.is_none(),
+    )
 }
 
 #[test]
@@ -138,19 +165,8 @@ fn no_labels(rt: HostRuntime) -> Result<(), Fail> {
         ("/a", usize::MAX, 0),
         ("/a", 0, usize::MAX),
     ] {
-        let subject = PointerBuf::from_text(rt.alloc(), text)?;
-        let unreachable = ResolveError::Unreachable { position, offset };
         assert!(rt;
-            labels_of(rt.alloc(), &unreachable, &subject)?.is_none(),
-            "at {text}"
-        );
-        let no_index = AssignError::FailedToParseIndex {
-            position,
-            offset,
-            source: ParseIndexError::InvalidInteger(IntegerCause::Empty),
-        };
-        assert!(rt;
-            labels_of(rt.alloc(), &no_index, &subject)?.is_none(),
+            are_nowhere(rt.alloc(), text, position, offset)?,
             "at {text}"
         );
     }
