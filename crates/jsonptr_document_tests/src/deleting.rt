@@ -1,34 +1,67 @@
 //! Rows of documents and pointers, what is taken out there, and the document that is left.
 use jsonptr::{Delete, Pointer, Resolve};
 use serde_json::Value;
-use std::alloc::Global;
+use std::alloc::{AllocError, Global};
 use std::test::Fail;
 
-/// What a pointer takes out of the document of a text, and what is left, both as text.
-fn deleted(alloc: Global, document: &str, pointer: &str) -> Result<(Option<String>, String), Fail> {
+/// Whether this is the text of what was taken out, if there is something.
+fn is_taken(alloc: Global, taken: Option<Value>, want: Option<&str>) -> Result<bool, AllocError> {
+    match taken {
+        Some(value) => Ok(want == Some(value.to_string(alloc)?.as_str())),
+        None => Ok(want.is_none()),
+    }
+}
+
+/// Whether a pointer takes a value out of a document and leaves another, each given by its text; with no value,
+/// whether it takes out nothing.
+fn takes_out(
+    alloc: Global,
+    document: &str,
+    pointer: &str,
+    want: Option<&str>,
+    left: &str,
+) -> Result<bool, Fail> {
     let mut root = Value::from_str(alloc, document)?;
-    let taken = match Pointer::parse(pointer)?.delete(alloc, &mut root)? {
-        Some(value) => Some(value.to_string(alloc)?),
-        None => None,
-    };
-    Ok((taken, root.to_string(alloc)?))
+    let taken = Pointer::parse(pointer)?.delete(alloc, &mut root)?;
+    Ok(is_taken(alloc, taken, want)? && root.to_string(alloc)?.as_str() == left)
 }
 
 #[test]
-fn takes_out_what_a_pointer_names(rt: HostRuntime) -> Result<(), Fail> {
+fn takes_out_the_whole(rt: HostRuntime) -> Result<(), Fail> {
+    for whole in ["[1]", "null"] {
+        assert!(rt;
+            takes_out(rt.alloc(), whole, "", Some(whole), "null")?,
+            "of {whole}"
+        );
+    }
+    Ok(())
+}
+
+#[test]
+fn takes_out_elements(rt: HostRuntime) -> Result<(), Fail> {
     for (document, pointer, taken, left) in [
         ("[1,2,3]", "/0", "1", "[2,3]"),
         ("[1,2,3]", "/2", "3", "[1,2]"),
-        ("[1]", "", "[1]", "null"),
-        ("null", "", "null", "null"),
-        (r#"{"a/b":1,"m~n":2}"#, "/a~1b", "1", r#"{"m~n":2}"#),
-        (r#"{"a/b":1,"m~n":2}"#, "/m~0n", "2", r#"{"a/b":1}"#),
         (
             r#"{"foo":["bar","baz"]}"#,
             "/foo/1",
             r#""baz""#,
             r#"{"foo":["bar"]}"#,
         ),
+    ] {
+        assert!(rt;
+            takes_out(rt.alloc(), document, pointer, Some(taken), left)?,
+            "at {pointer}"
+        );
+    }
+    Ok(())
+}
+
+#[test]
+fn takes_out_members(rt: HostRuntime) -> Result<(), Fail> {
+    for (document, pointer, taken, left) in [
+        (r#"{"a/b":1,"m~n":2}"#, "/a~1b", "1", r#"{"m~n":2}"#),
+        (r#"{"a/b":1,"m~n":2}"#, "/m~0n", "2", r#"{"a/b":1}"#),
         (
             r#"{"a":[{"b":[true]},0]}"#,
             "/a/0/b",
@@ -38,10 +71,10 @@ fn takes_out_what_a_pointer_names(rt: HostRuntime) -> Result<(), Fail> {
         (r#"{"":1}"#, "/", "1", "{}"),
         (r#"{"é":{"":{"":2}}}"#, "/é//", "2", r#"{"é":{"":{}}}"#),
     ] {
-        let (value, rest) = deleted(rt.alloc(), document, pointer)?;
-        let value = value.ok_or("a value")?;
-        assert_eq!(rt; value.as_str(), taken, "at {pointer}");
-        assert_eq!(rt; rest.as_str(), left, "at {pointer}");
+        assert!(rt;
+            takes_out(rt.alloc(), document, pointer, Some(taken), left)?,
+            "at {pointer}"
+        );
     }
     Ok(())
 }
@@ -61,32 +94,48 @@ fn takes_out_nothing_else(rt: HostRuntime) -> Result<(), Fail> {
         (r#"{"y":1}"#, "/x/y"),
         (r#"{"a~1b":1}"#, "/a~1b"),
     ] {
-        let (value, rest) = deleted(rt.alloc(), document, pointer)?;
-        assert!(rt; value.is_none(), "at {pointer}");
-        assert_eq!(rt; rest.as_str(), document, "at {pointer}");
+        assert!(rt;
+            takes_out(rt.alloc(), document, pointer, None, document)?,
+            "at {pointer}"
+        );
     }
     Ok(())
+}
+
+/// Whether a pointer takes something out of a document.
+fn goes(alloc: Global, document: &mut Value, pointer: &str) -> Result<bool, Fail> {
+    let gone = Pointer::parse(pointer)?.delete(alloc, document)?;
+    Ok(gone.is_some())
+}
+
+/// Whether a document has the value of a text at a pointer.
+fn is_at(alloc: Global, document: &Value, pointer: &str, want: &str) -> Result<bool, Fail> {
+    let place = Pointer::parse(pointer)?;
+    let printed = place.resolve(alloc, document)?.to_string(alloc)?;
+    Ok(printed.as_str() == want)
+}
+
+/// Whether a document has something at a pointer.
+fn has(alloc: Global, document: &Value, pointer: &str) -> Result<bool, Fail> {
+    let place = Pointer::parse(pointer)?;
+    Ok(document.resolve(alloc, place).is_ok())
 }
 
 #[test]
 fn later_elements_move_down(rt: HostRuntime) -> Result<(), Fail> {
     let mut document = Value::from_str(rt.alloc(), "[1,2,3]")?;
-    let first = Pointer::parse("/0")?.delete(rt.alloc(), &mut document)?;
-    assert!(rt; first.is_some());
-    let printed = Pointer::parse("/1")?
-        .resolve(rt.alloc(), &document)?
-        .to_string(rt.alloc())?;
-    assert_eq!(rt; printed.as_str(), "3");
-    assert!(rt; document.resolve(rt.alloc(), Pointer::parse("/2")?).is_err());
+    let steps = (
+        goes(rt.alloc(), &mut document, "/0")?,
+        is_at(rt.alloc(), &document, "/1", "3")?,
+        has(rt.alloc(), &document, "/2")?,
+    );
+    assert_eq!(rt; steps, (true, true, false));
     Ok(())
 }
 
 /// Whether a pointer takes something out of a document of any kind, and then, called anew, nothing.
-fn goes_once<D: Delete>(
-    document: &mut D,
-    alloc: Global,
-    pointer: Pointer<'_>,
-) -> Result<bool, Fail> {
+fn goes_once<D: Delete>(document: &mut D, alloc: Global, pointer: &str) -> Result<bool, Fail> {
+    let pointer = Pointer::parse(pointer)?;
     let first = document.delete(alloc, pointer)?.is_some();
     let second = pointer.delete(alloc, document)?.is_some();
     Ok(first && !second)
@@ -96,8 +145,8 @@ fn goes_once<D: Delete>(
 fn documents_of_any_kind(rt: HostRuntime) -> Result<(), Fail> {
     let mut document = Value::from_str(rt.alloc(), r#"{"a":[1],"b":2}"#)?;
     for (pointer, want) in [("/a/0", true), ("/a/0", false), ("/b", true), ("", false)] {
-        let once = goes_once(&mut document, rt.alloc(), Pointer::parse(pointer)?)?;
-        assert_eq!(rt; once, want, "at {pointer}");
+        let once = goes_once(&mut document, rt.alloc(), pointer)?;
+        assert!(rt; once == want, "at {pointer}");
     }
     Ok(())
 }
