@@ -10,9 +10,15 @@ use std::test::Fail;
 const EXAMPLE: &str =
     r#"{"foo":["bar","baz"],"":0,"a/b":1,"c%d":2,"e^f":3,"g|h":4,"i\\j":5,"k\"l":6," ":7,"m~n":8}"#;
 
+/// What the document of RFC 6901 has at a pointer, as text.
+fn example_at(alloc: Global, pointer: &str) -> Result<String, Fail> {
+    let pointer = Pointer::parse(pointer)?;
+    let document = Value::from_str(alloc, EXAMPLE)?;
+    Ok(pointer.resolve(alloc, &document)?.to_string(alloc)?)
+}
+
 #[test]
 fn examples_of_the_rfc(rt: HostRuntime) -> Result<(), Fail> {
-    let document = Value::from_str(rt.alloc(), EXAMPLE)?;
     for (text, want) in [
         (
             "",
@@ -30,11 +36,8 @@ fn examples_of_the_rfc(rt: HostRuntime) -> Result<(), Fail> {
         ("/ ", "7"),
         ("/m~0n", "8"),
     ] {
-        let pointer = Pointer::parse(text)?;
-        let printed = pointer
-            .resolve(rt.alloc(), &document)?
-            .to_string(rt.alloc())?;
-        assert_eq!(rt; printed.as_str(), want, "at {text}");
+        let printed = example_at(rt.alloc(), text)?;
+        assert!(rt; printed.as_str() == want, "at {text}");
     }
     Ok(())
 }
@@ -49,66 +52,87 @@ fn refusal(alloc: Global, document: &str, pointer: &str) -> Result<Option<Error>
     }
 }
 
+/// Whether a pointer names nothing in a document for this reason.
+fn is_refusal(alloc: Global, document: &str, pointer: &str, want: Error) -> Result<bool, Fail> {
+    Ok(refusal(alloc, document, pointer)? == Some(want))
+}
+
 #[test]
-fn refusals(rt: HostRuntime) -> Result<(), Fail> {
-    let past = OutOfBoundsError {
+fn refusals_past_an_array(rt: HostRuntime) -> Result<(), Fail> {
+    let source = OutOfBoundsError {
         length: 1,
         index: 1,
     };
-    let dash = Error::OutOfBounds {
-        position: 1,
-        offset: 4,
-        source: past.clone()?,
-    };
-    assert_eq!(rt;
-        refusal(rt.alloc(), r#"{"foo":["bar"]}"#, "/foo/-")?,
-        Some(dash)
-    );
-    let one = Error::OutOfBounds {
-        position: 1,
-        offset: 6,
-        source: past,
-    };
-    assert_eq!(rt;
-        refusal(rt.alloc(), r#"{"a/~":[true]}"#, "/a~1~0/1")?,
-        Some(one)
-    );
-    let empty = Error::NotFound {
-        position: 1,
-        offset: 2,
-    };
-    assert_eq!(rt; refusal(rt.alloc(), r#"{"a":{}}"#, "/a/")?, Some(empty));
-    let encoded = Error::NotFound {
-        position: 0,
-        offset: 0,
-    };
-    assert_eq!(rt;
-        refusal(rt.alloc(), r#"{"a~1b":1}"#, "/a~1b")?,
-        Some(encoded)
-    );
-    let zeros = Error::FailedToParseIndex {
-        position: 1,
-        offset: 3,
-        source: ParseIndexError::LeadingZeros,
-    };
-    assert_eq!(rt;
-        refusal(rt.alloc(), r#"{"é":[1,2]}"#, "/é/01")?,
-        Some(zeros)
-    );
-    let nothing = Error::FailedToParseIndex {
-        position: 0,
-        offset: 0,
-        source: ParseIndexError::InvalidInteger(IntegerCause::Empty),
-    };
-    assert_eq!(rt; refusal(rt.alloc(), "[1,2]", "/")?, Some(nothing));
+    for (document, pointer, offset) in [
+        (r#"{"foo":["bar"]}"#, "/foo/-", 4),
+        (r#"{"a/~":[true]}"#, "/a~1~0/1", 6),
+    ] {
+        let past = Error::OutOfBounds {
+            position: 1,
+            offset,
+            source: source.clone()?,
+        };
+        assert!(rt;
+            is_refusal(rt.alloc(), document, pointer, past)?,
+            "at {pointer}"
+        );
+    }
+    Ok(())
+}
+
+#[test]
+fn refusals_of_what_is_missing(rt: HostRuntime) -> Result<(), Fail> {
+    for (document, pointer, position, offset) in [
+        (r#"{"a":{}}"#, "/a/", 1, 2),
+        (r#"{"a~1b":1}"#, "/a~1b", 0, 0),
+    ] {
+        let missing = Error::NotFound { position, offset };
+        assert!(rt;
+            is_refusal(rt.alloc(), document, pointer, missing)?,
+            "at {pointer}"
+        );
+    }
+    Ok(())
+}
+
+#[test]
+fn refusals_of_what_is_no_index(rt: HostRuntime) -> Result<(), Fail> {
+    for (document, pointer, position, offset, source) in [
+        (
+            r#"{"é":[1,2]}"#,
+            "/é/01",
+            1,
+            3,
+            ParseIndexError::LeadingZeros,
+        ),
+        (
+            "[1,2]",
+            "/",
+            0,
+            0,
+            ParseIndexError::InvalidInteger(IntegerCause::Empty),
+        ),
+    ] {
+        let no_index = Error::FailedToParseIndex {
+            position,
+            offset,
+            source,
+        };
+        assert!(rt;
+            is_refusal(rt.alloc(), document, pointer, no_index)?,
+            "at {pointer}"
+        );
+    }
+    Ok(())
+}
+
+#[test]
+fn refusals_below_a_scalar(rt: HostRuntime) -> Result<(), Fail> {
     let below = Error::Unreachable {
         position: 2,
         offset: 5,
     };
-    assert_eq!(rt;
-        refusal(rt.alloc(), r#"{"é":[null]}"#, "/é/0/a")?,
-        Some(below)
-    );
+    assert!(rt; is_refusal(rt.alloc(), r#"{"é":[null]}"#, "/é/0/a", below)?);
     Ok(())
 }
 
@@ -172,39 +196,36 @@ fn errors_tell_their_case(rt: HostRuntime) -> Result<(), Fail> {
         ("/2/a", [false, false, false, true]),
     ] {
         let error = refusal(rt.alloc(), "[[],{},1]", pointer)?.ok_or("a refusal")?;
-        assert_eq!(rt; error.position(), 1, "at {pointer}");
-        assert_eq!(rt; error.offset(), 2, "at {pointer}");
         let told = [
             error.is_failed_to_parse_index(),
             error.is_out_of_bounds(),
             error.is_not_found(),
             error.is_unreachable(),
         ];
-        assert_eq!(rt; told, case, "at {pointer}");
+        let place = (error.position(), error.offset());
+        assert_eq!(rt; (place, told), ((1, 2), case), "at {pointer}");
     }
     Ok(())
 }
 
-/// The document of a text after a value was written where a pointer leads in it, as text; or the refusal, after
-/// which the document has its old text.
-fn written(
-    alloc: Global,
-    document: &str,
-    pointer: &str,
-    value: Value,
-) -> Result<Result<String, Error>, Fail> {
-    let mut root = Value::from_str(alloc, document)?;
-    match Pointer::parse(pointer)?.resolve_mut(alloc, &mut root) {
-        Ok(place) => *place = value,
-        Err(Fault::Memory(error)) => return Err(Fail::from(error)),
-        Err(Fault::Refused(error)) => {
-            if root.to_string(alloc)?.as_str() != document {
-                return Err("the document as it was".into());
-            }
-            return Ok(Err(error));
+/// Writes `true` where a pointer leads in a document, and gives the refusal back if it leads nowhere.
+fn written(alloc: Global, root: &mut Value, pointer: &str) -> Result<Option<Error>, Fail> {
+    match Pointer::parse(pointer)?.resolve_mut(alloc, root) {
+        Ok(place) => {
+            *place = Value::Bool(true);
+            Ok(None)
         }
+        Err(Fault::Refused(error)) => Ok(Some(error)),
+        Err(Fault::Memory(error)) => Err(Fail::from(error)),
     }
-    Ok(Ok(root.to_string(alloc)?))
+}
+
+/// The document of a text after `true` was written where a pointer leads in it, as text, and the refusal, if
+/// there is one.
+fn after(alloc: Global, document: &str, pointer: &str) -> Result<(String, Option<Error>), Fail> {
+    let mut root = Value::from_str(alloc, document)?;
+    let refused = written(alloc, &mut root, pointer)?;
+    Ok((root.to_string(alloc)?, refused))
 }
 
 #[test]
@@ -224,12 +245,18 @@ fn writes_where_a_pointer_leads(rt: HostRuntime) -> Result<(), Fail> {
         ),
         ("[1,2]", "", "true"),
     ] {
-        match written(rt.alloc(), document, pointer, Value::Bool(true))? {
-            Ok(text) => assert_eq!(rt; text.as_str(), want, "at {pointer}"),
-            Err(_) => return Err("a value".into()),
-        }
+        let (text, refused) = after(rt.alloc(), document, pointer)?;
+        assert!(rt; refused.is_none() && text.as_str() == want, "at {pointer}");
     }
     Ok(())
+}
+
+/// Whether a pointer refuses to lead to a place for the reason for which it names nothing, and the document is
+/// as it was.
+fn leads_nowhere(alloc: Global, document: &str, pointer: &str) -> Result<bool, Fail> {
+    let (text, refused) = after(alloc, document, pointer)?;
+    let same = refused == Some(refusal(alloc, document, pointer)?.ok_or("a refusal")?);
+    Ok(same && text.as_str() == document)
 }
 
 #[test]
@@ -242,11 +269,10 @@ fn writes_nowhere_else(rt: HostRuntime) -> Result<(), Fail> {
         (r#"{"a":1}"#, "/a/b"),
         (r#"{"a":{}}"#, "/a/"),
     ] {
-        let refused = written(rt.alloc(), document, pointer, Value::Bool(true))?;
-        match (refused, refusal(rt.alloc(), document, pointer)?) {
-            (Err(error), Some(want)) => assert_eq!(rt; error, want, "at {pointer}"),
-            _ => return Err("a refusal".into()),
-        }
+        assert!(rt;
+            leads_nowhere(rt.alloc(), document, pointer)?,
+            "at {pointer}"
+        );
     }
     Ok(())
 }
