@@ -1,5 +1,5 @@
 //! A pointer and a document of either kind, calls on them, and what is replied, in words.
-use jsonptr::{Pointer, PointerBuf};
+use jsonptr::{ParseError, Pointer, PointerBuf, ReplaceError, assign, resolve};
 use jsonptr_session::session::{Call, Reply, run_json, run_toml};
 use std::alloc::{AllocError, Global};
 use std::fmt::Display;
@@ -92,15 +92,115 @@ impl<D: Document> Session<D> {
         Ok(format!(in rt.alloc(); "{ptr} {doc}")?)
     }
 
+    /// Whether pointer and document are what these texts say.
+    fn is_in(&self, rt: &HostRuntime, ptr: &str, doc: &str) -> Result<bool, Fail> {
+        Ok(self.state(rt)? == format!(in rt.alloc(); "{ptr} {doc}")?)
+    }
+
+    /// What the call of a line is replied, in words.
+    fn answer(&mut self, rt: &HostRuntime, line: &str) -> Result<String, Fail> {
+        let reply = self.reply(rt, call(rt, line)?)?;
+        said(rt.alloc(), &reply)
+    }
+
+    /// What the call of a line is replied, and what pointer and document are then.
+    fn step(&mut self, rt: &HostRuntime, line: &str) -> Result<String, Fail> {
+        let says = self.answer(rt, line)?;
+        let state = self.state(rt)?;
+        Ok(format!(in rt.alloc(); "{line}: {says}: {state}\n")?)
+    }
+
     /// What the calls of these lines are each replied, and what pointer and document are then.
     pub fn steps(&mut self, rt: &HostRuntime, lines: &[&str]) -> Result<String, Fail> {
         let mut steps = String::new(rt.alloc());
         for line in lines {
-            let reply = self.reply(rt, call(rt, line)?)?;
-            let (says, state) = (said(rt.alloc(), &reply)?, self.state(rt)?);
-            steps.push_str(format!(in rt.alloc(); "{line}: {says}: {state}\n")?.as_str())?;
+            steps.push_str(self.step(rt, line)?.as_str())?;
         }
         Ok(steps)
+    }
+}
+
+/// What the calls of these lines are each replied on the pointer and the document of these texts, and what both
+/// are then.
+pub fn steps<D: Document>(
+    rt: &HostRuntime,
+    ptr: &str,
+    doc: &str,
+    lines: &[&str],
+) -> Result<String, Fail> {
+    let mut session: Session<D> = Session::new(rt, ptr, doc)?;
+    session.steps(rt, lines)
+}
+
+/// The reply to a call that leaves the pointer and the document as these texts say.
+pub fn refusal<D: Document>(
+    rt: &HostRuntime,
+    ptr: &str,
+    doc: &str,
+    call: Call<D>,
+) -> Result<Reply<D>, Fail> {
+    let mut session: Session<D> = Session::new(rt, ptr, doc)?;
+    let reply = session.reply(rt, call)?;
+    if !session.is_in(rt, ptr, doc)? {
+        return Err("no change".into());
+    }
+    Ok(reply)
+}
+
+/// Why a call on the pointer and the document of these texts finds no value, and changes nothing.
+pub fn no_value<D: Document>(
+    rt: &HostRuntime,
+    ptr: &str,
+    doc: &str,
+    call: Call<D>,
+) -> Result<resolve::Error, Fail> {
+    match refusal(rt, ptr, doc, call)? {
+        Reply::NoValue(error) => Ok(error),
+        _other => Err("no value".into()),
+    }
+}
+
+/// Why a call on the pointer and the document of these texts assigns nothing, and changes nothing.
+pub fn no_place<D: Document>(
+    rt: &HostRuntime,
+    ptr: &str,
+    doc: &str,
+    call: Call<D>,
+) -> Result<assign::Error, Fail> {
+    match refusal(rt, ptr, doc, call)? {
+        Reply::BadPlace(error) => Ok(error),
+        _other => Err("no place".into()),
+    }
+}
+
+/// Why a call on the pointer and the document of these texts replaces no token, and changes nothing.
+pub fn no_position<D: Document>(
+    rt: &HostRuntime,
+    ptr: &str,
+    doc: &str,
+    call: Call<D>,
+) -> Result<ReplaceError, Fail> {
+    match refusal(rt, ptr, doc, call)? {
+        Reply::BadPosition(error) => Ok(error),
+        _ => Err("no position".into()),
+    }
+}
+
+/// Whether a text is no pointer for this reason, which a call on the pointer and the document of these texts
+/// replies together with the text, and changes nothing.
+pub fn is_no_pointer<D: Document>(
+    rt: &HostRuntime,
+    ptr: &str,
+    doc: &str,
+    wrong: &str,
+    want: ParseError,
+) -> Result<bool, Fail> {
+    let call: Call<D> = Call::Parse(text(rt, wrong)?);
+    match refusal(rt, ptr, doc, call)? {
+        Reply::BadPointer(report) => {
+            Ok(*report.original() == want && report.subject().as_str() == wrong)
+        }
+        _ => Err("no pointer".into()),
     }
 }
 
@@ -114,6 +214,12 @@ pub fn text(rt: &HostRuntime, text: &str) -> Result<String, Fail> {
     Ok(String::from_str(rt.alloc(), text)?)
 }
 
+/// The call that replaces a token: its position, and the new token.
+fn replacing<D: Document>(rt: &HostRuntime, with: &str) -> Result<Call<D>, Fail> {
+    let (index, token) = with.split_once(' ').unwrap_or((with, ""));
+    Ok(Call::Replace(index.parse()?, text(rt, token)?))
+}
+
 /// The call of a line: its name, and what it is made with, as text.
 pub fn call<D: Document>(rt: &HostRuntime, line: &str) -> Result<Call<D>, Fail> {
     let (name, with) = line.split_once(' ').unwrap_or((line, ""));
@@ -123,10 +229,7 @@ pub fn call<D: Document>(rt: &HostRuntime, line: &str) -> Result<Call<D>, Fail> 
         "push_front" => Ok(Call::PushFront(text(rt, with)?)),
         "pop_back" => Ok(Call::PopBack),
         "pop_front" => Ok(Call::PopFront),
-        "replace" => {
-            let (index, token) = with.split_once(' ').unwrap_or((with, ""));
-            Ok(Call::Replace(index.parse()?, text(rt, token)?))
-        }
+        "replace" => replacing(rt, with),
         "append" => Ok(Call::Append(buf(rt, with)?)),
         "clear" => Ok(Call::Clear),
         "resolve" => Ok(Call::Resolve),

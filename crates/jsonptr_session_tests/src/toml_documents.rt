@@ -1,14 +1,12 @@
 //! Sessions over TOML documents: rows of calls, what each is replied, and what pointer and document are then.
-use crate::calls::{Session, call};
+use crate::calls::{call, is_no_pointer, no_place, no_position, no_value, steps};
 use jsonptr::index::{OutOfBoundsError, ParseIndexError};
 use jsonptr::{ParseError, ReplaceError, assign, resolve};
-use jsonptr_session::session::Reply;
 use std::test::Fail;
 use toml::Value;
 
 #[test]
 fn every_call(rt: HostRuntime) -> Result<(), Fail> {
-    let mut session: Session<Value> = Session::new(&rt, "/x", "{ a = [1, 2] }")?;
     let lines = [
         "parse /a",
         "push_back ~",
@@ -32,8 +30,9 @@ fn every_call(rt: HostRuntime) -> Result<(), Fail> {
         "push_back b",
         "assign 3",
     ];
+    let said = steps::<Value>(&rt, "/x", "{ a = [1, 2] }", &lines)?;
     assert_eq!(rt;
-        session.steps(&rt, &lines)?.as_str(),
+        said.as_str(),
         "parse /a: done: /a { a = [1, 2] }\n\
          push_back ~: done: /a/~0 { a = [1, 2] }\n\
          push_front b/c: done: /b~1c/a/~0 { a = [1, 2] }\n\
@@ -59,65 +58,57 @@ fn every_call(rt: HostRuntime) -> Result<(), Fail> {
     Ok(())
 }
 
+/// The document of the refusals.
+const DATE: &str = "{ d = 1979-05-27 }";
+
 #[test]
-fn every_refusal(rt: HostRuntime) -> Result<(), Fail> {
-    let mut session: Session<Value> = Session::new(&rt, "/d/x", "{ d = 1979-05-27 }")?;
-    let state = session.state(&rt)?;
-    let Reply::NoValue(error) = session.reply(&rt, call(&rt, "resolve")?)? else {
-        return Err("no value".into());
-    };
-    let below = resolve::Error::Unreachable {
-        position: 1,
-        offset: 2,
-    };
-    assert_eq!(rt; error, below);
-    let Reply::NoValue(error) = session.reply(&rt, call(&rt, "write 1")?)? else {
-        return Err("no value".into());
-    };
-    assert_eq!(rt; error, below);
-    let Reply::BadPointer(report) = session.reply(&rt, call(&rt, "parse d")?)? else {
-        return Err("no pointer".into());
-    };
-    assert_eq!(rt; *report.original(), ParseError::NoLeadingSlash);
-    assert_eq!(rt; report.subject().as_str(), "d");
-    let Reply::BadPosition(error) = session.reply(&rt, call(&rt, "replace 2 x")?)? else {
-        return Err("no position".into());
-    };
-    assert_eq!(rt; error, ReplaceError { index: 2, count: 2 });
-    assert_eq!(rt; session.state(&rt)?.as_str(), state.as_str());
+fn pointers_that_name_no_value(rt: HostRuntime) -> Result<(), Fail> {
+    for line in ["resolve", "write 1"] {
+        let below = resolve::Error::Unreachable {
+            position: 1,
+            offset: 2,
+        };
+        let error = no_value::<Value>(&rt, "/d/x", DATE, call(&rt, line)?)?;
+        assert!(rt; error == below, "at {line}");
+    }
     Ok(())
 }
 
 #[test]
+fn a_text_that_is_no_pointer(rt: HostRuntime) -> Result<(), Fail> {
+    let slash = ParseError::NoLeadingSlash;
+    assert!(rt; is_no_pointer::<Value>(&rt, "/d/x", DATE, "d", slash)?);
+    Ok(())
+}
+
+#[test]
+fn a_position_that_no_token_has(rt: HostRuntime) -> Result<(), Fail> {
+    let error = no_position::<Value>(&rt, "/d/x", DATE, call(&rt, "replace 2 x")?)?;
+    assert_eq!(rt; error, ReplaceError { index: 2, count: 2 });
+    Ok(())
+}
+
+/// Whether one is not assigned at a pointer in `{ a = [1] }` for this reason.
+fn is_no_place(rt: &HostRuntime, ptr: &str, want: assign::Error) -> Result<bool, Fail> {
+    Ok(no_place::<Value>(rt, ptr, "{ a = [1] }", call(rt, "assign 1")?)? == want)
+}
+
+#[test]
 fn places_where_nothing_is_assigned(rt: HostRuntime) -> Result<(), Fail> {
-    for (ptr, error) in [
-        (
-            "/a/2",
-            assign::Error::OutOfBounds {
-                position: 1,
-                offset: 2,
-                source: OutOfBoundsError {
-                    length: 1,
-                    index: 2,
-                },
-            },
-        ),
-        (
-            "/a/01",
-            assign::Error::FailedToParseIndex {
-                position: 1,
-                offset: 2,
-                source: ParseIndexError::LeadingZeros,
-            },
-        ),
-    ] {
-        let mut session: Session<Value> = Session::new(&rt, ptr, "{ a = [1] }")?;
-        let state = session.state(&rt)?;
-        let Reply::BadPlace(refused) = session.reply(&rt, call(&rt, "assign 1")?)? else {
-            return Err("no place".into());
-        };
-        assert_eq!(rt; refused, error);
-        assert_eq!(rt; session.state(&rt)?.as_str(), state.as_str());
-    }
+    let past = assign::Error::OutOfBounds {
+        position: 1,
+        offset: 2,
+        source: OutOfBoundsError {
+            length: 1,
+            index: 2,
+        },
+    };
+    assert!(rt; is_no_place(&rt, "/a/2", past)?);
+    let zeros = assign::Error::FailedToParseIndex {
+        position: 1,
+        offset: 2,
+        source: ParseIndexError::LeadingZeros,
+    };
+    assert!(rt; is_no_place(&rt, "/a/01", zeros)?);
     Ok(())
 }

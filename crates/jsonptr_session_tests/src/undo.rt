@@ -32,15 +32,27 @@ pub fn refusal<V: Display + Drop>(
     }
 }
 
+/// A document and what takes an assignment in it back, in words.
+pub fn there<V: Display>(alloc: Global, doc: &V, undo: &Undo<V>) -> Result<String, Fail> {
+    let says = said(alloc, undo)?;
+    Ok(format!(in alloc; "{doc}; {says}")?)
+}
+
+/// Assigns the value of a text, and answers what takes that back.
+fn assigned(alloc: Global, doc: &mut Value, ptr: &str, value: &str) -> Result<Undo<Value>, Fail> {
+    let pointer = Pointer::parse(ptr)?;
+    let value = Value::from_str(alloc, value)?;
+    Ok(assign_with_undo(alloc, doc, pointer, value)?)
+}
+
 /// The document after an assignment, what is answered, and the document after that is done.
 fn there_and_back(rt: &HostRuntime, doc: &str, ptr: &str, value: &str) -> Result<String, Fail> {
     let alloc = rt.alloc();
     let mut doc = Value::from_str(alloc, doc)?;
-    let value = Value::from_str(alloc, value)?;
-    let answer = assign_with_undo(alloc, &mut doc, Pointer::parse(ptr)?, value)?;
-    let (there, says) = (format!(in alloc; "{doc}")?, said(alloc, &answer)?);
+    let answer = assigned(alloc, &mut doc, ptr, value)?;
+    let there = there(alloc, &doc, &answer)?;
     undo(alloc, &mut doc, answer)?;
-    Ok(format!(in alloc; "{there}; {says}; {doc}")?)
+    Ok(format!(in alloc; "{there}; {doc}")?)
 }
 
 #[test]
@@ -54,7 +66,8 @@ fn what_was_replaced(rt: HostRuntime) -> Result<(), Fail> {
         ([r#"{"a":3}"#, "", "7"], r#"7; put {"a":3} at ''; {"a":3}"#),
     ];
     for ([doc, ptr, value], want) in rows {
-        assert_eq!(rt; there_and_back(&rt, doc, ptr, value)?.as_str(), want);
+        let said = there_and_back(&rt, doc, ptr, value)?;
+        assert_eq!(rt; said.as_str(), want);
     }
     Ok(())
 }
@@ -75,78 +88,74 @@ fn what_is_new(rt: HostRuntime) -> Result<(), Fail> {
         ),
     ];
     for ([doc, ptr, value], want) in rows {
-        assert_eq!(rt; there_and_back(&rt, doc, ptr, value)?.as_str(), want);
+        let said = there_and_back(&rt, doc, ptr, value)?;
+        assert_eq!(rt; said.as_str(), want);
     }
     Ok(())
 }
 
+/// Why two can't be assigned at a pointer in the document of a text, and the document after that, as text.
+fn refused(alloc: Global, doc: &str, ptr: &str) -> Result<(assign::Error, String), Fail> {
+    let pointer = Pointer::parse(ptr)?;
+    let mut doc = Value::from_str(alloc, doc)?;
+    match assign_with_undo(alloc, &mut doc, pointer, Value::from_str(alloc, "2")?) {
+        Err(Fault::Refused(error)) => Ok((error, format!(in alloc; "{doc}")?)),
+        _ => Err("refused".into()),
+    }
+}
+
 #[test]
 fn an_assignment_refused(rt: HostRuntime) -> Result<(), Fail> {
-    let alloc = rt.alloc();
-    let mut doc = Value::from_str(alloc, r#"{"a":[1]}"#)?;
-    let value = Value::from_str(alloc, "2")?;
-    let Err(Fault::Refused(error)) = assign_with_undo(
-        alloc,
-        &mut doc,
-        Pointer::parse("/a/b")?,
-        value,
-    ) else {
-        return Err("refused".into());
-    };
-    let assign::Error::FailedToParseIndex {
-        position,
-        offset,
-        source: ParseIndexError::InvalidCharacter(cause),
-    } = error
-    else {
-        return Err("no index".into());
-    };
-    assert_eq!(rt; (position, offset, cause.offset()), (1, 2, 0));
-    assert_eq!(rt; format!(in alloc; "{doc}")?.as_str(), r#"{"a":[1]}"#);
+    let (error, doc) = refused(rt.alloc(), r#"{"a":[1]}"#, "/a/b")?;
+    assert!(rt; doc.as_str() == r#"{"a":[1]}"#);
+    match error {
+        assign::Error::FailedToParseIndex {
+            position,
+            offset,
+            source: ParseIndexError::InvalidCharacter(cause),
+        } => assert_eq!(rt; (position, offset, cause.offset()), (1, 2, 0)),
+        _ => return Err("no index".into()),
+    }
     Ok(())
+}
+
+/// Whether what is to be taken back in a document is refused for this reason, and what is handed back and the
+/// document are, in words, as it is said.
+fn is_refused(
+    alloc: Global,
+    doc: &str,
+    back: Undo<Value>,
+    want: resolve::Error,
+    says: &str,
+) -> Result<bool, Fail> {
+    let mut doc = Value::from_str(alloc, doc)?;
+    let (error, back) = refusal(alloc, undo(alloc, &mut doc, back))?;
+    Ok(error == want && format!(in alloc; "{back}; {doc}")?.as_str() == says)
 }
 
 #[test]
 fn nothing_to_remove(rt: HostRuntime) -> Result<(), Fail> {
-    let alloc = rt.alloc();
-    let mut doc = Value::from_str(alloc, "[1]")?;
-    let undone = undo(alloc, &mut doc, Undo::Remove(buf(&rt, "/1")?));
-    let (error, back) = refusal(alloc, undone)?;
-    assert_eq!(rt;
-        error,
-        resolve::Error::OutOfBounds {
-            position: 0,
-            offset: 0,
-            source: OutOfBoundsError {
-                length: 1,
-                index: 1
-            }
-        }
-    );
-    assert_eq!(rt;
-        format!(in alloc; "{back}; {doc}")?.as_str(),
-        "remove at '/1'; [1]"
-    );
+    let past = resolve::Error::OutOfBounds {
+        position: 0,
+        offset: 0,
+        source: OutOfBoundsError {
+            length: 1,
+            index: 1,
+        },
+    };
+    let remove = Undo::Remove(buf(&rt, "/1")?);
+    assert!(rt; is_refused(rt.alloc(), "[1]", remove, past, "remove at '/1'; [1]")?);
     Ok(())
 }
 
 #[test]
 fn nothing_to_replace(rt: HostRuntime) -> Result<(), Fail> {
-    let alloc = rt.alloc();
-    let mut doc = Value::from_str(alloc, r#"{"a":1}"#)?;
-    let value = Value::from_str(alloc, "[7]")?;
-    let undone = undo(alloc, &mut doc, Undo::Put(buf(&rt, "/a/b")?, value));
-    let (error, back) = refusal(alloc, undone)?;
-    assert_eq!(rt;
-        error,
-        resolve::Error::Unreachable {
-            position: 1,
-            offset: 2
-        }
-    );
-    assert_eq!(rt;
-        format!(in alloc; "{back}; {doc}")?.as_str(),
-        r#"put [7] at '/a/b'; {"a":1}"#
-    );
+    let below = resolve::Error::Unreachable {
+        position: 1,
+        offset: 2,
+    };
+    let put = Undo::Put(buf(&rt, "/a/b")?, Value::from_str(rt.alloc(), "[7]")?);
+    let says = r#"put [7] at '/a/b'; {"a":1}"#;
+    assert!(rt; is_refused(rt.alloc(), r#"{"a":1}"#, put, below, says)?);
     Ok(())
 }

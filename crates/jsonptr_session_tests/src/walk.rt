@@ -3,6 +3,7 @@ use jsonptr::{Fault, Pointer};
 use jsonptr_session::undo::Undo;
 use jsonptr_session::undo::json::{assign_with_undo, undo};
 use serde_json::Value;
+use std::alloc::{AllocError, Global};
 use std::test::Fail;
 
 const TOKENS: [&str; 8] = ["/a", "/b~1c", "/-", "/0", "/1", "/2", "/~0", "/"];
@@ -38,18 +39,22 @@ impl Numbers {
     }
 }
 
-/// A value assigned at a pointer of up to seven tokens, and what takes that back; `None` where no value can be
-/// assigned there.
-fn step(
-    rt: &HostRuntime,
-    numbers: &mut Numbers,
-    doc: &mut Value,
-) -> Result<Option<Undo<Value>>, Fail> {
-    let alloc = rt.alloc();
+/// The text of a pointer of up to seven tokens.
+fn pointer(alloc: Global, numbers: &mut Numbers) -> Result<String, Fail> {
     let mut text = String::new(alloc);
     for _token in 0..numbers.below_8() {
         text.push_str(numbers.pick(&TOKENS)?)?;
     }
+    Ok(text)
+}
+
+/// A value assigned at a pointer, and what takes that back; `None` where no value can be assigned there.
+fn step(
+    alloc: Global,
+    numbers: &mut Numbers,
+    doc: &mut Value,
+) -> Result<Option<Undo<Value>>, Fail> {
+    let text = pointer(alloc, numbers)?;
     let value = Value::from_str(alloc, numbers.pick(&VALUES)?)?;
     match assign_with_undo(alloc, doc, Pointer::parse(text.as_str())?, value) {
         Ok(answer) => Ok(Some(answer)),
@@ -58,26 +63,48 @@ fn step(
     }
 }
 
-#[test]
-fn five_hundred_assignments(rt: HostRuntime) -> Result<(), Fail> {
-    let alloc = rt.alloc();
+/// A document as text.
+fn printed(alloc: Global, doc: &Value) -> Result<String, AllocError> {
+    format!(in alloc; "{doc}")
+}
+
+/// Five hundred assignments: for each the document before it, and what takes it back.
+fn assignments(alloc: Global, doc: &mut Value) -> Result<Vec<(String, Undo<Value>)>, Fail> {
     let mut numbers = Numbers(6901);
-    let mut doc = Value::from_str(alloc, r#"{"a":[1,{"b/c":null}]}"#)?;
     let mut undos = Vec::new(alloc);
     for _attempt in 0..2000 {
         if undos.len() == 500 {
             break;
         }
-        let before = format!(in alloc; "{doc}")?;
-        if let Some(answer) = step(&rt, &mut numbers, &mut doc)? {
+        let before = printed(alloc, doc)?;
+        if let Some(answer) = step(alloc, &mut numbers, doc)? {
             undos.push((before, answer))?;
         }
     }
+    Ok(undos)
+}
+
+/// Whether a document is what it was before the last of these assignments where that is taken back.
+fn goes_back(
+    alloc: Global,
+    doc: &mut Value,
+    undos: &mut Vec<(String, Undo<Value>)>,
+) -> Result<bool, Fail> {
+    let (before, answer) = undos.pop().ok_or("an undo")?;
+    undo(alloc, doc, answer)?;
+    Ok(printed(alloc, doc)? == before)
+}
+
+#[test]
+fn five_hundred_assignments(rt: HostRuntime) -> Result<(), Fail> {
+    let mut doc = Value::from_str(rt.alloc(), r#"{"a":[1,{"b/c":null}]}"#)?;
+    let mut undos = assignments(rt.alloc(), &mut doc)?;
     assert_eq!(rt; undos.len(), 500);
-    for _undo in 0..500 {
-        let (before, answer) = undos.pop().ok_or("an undo")?;
-        undo(alloc, &mut doc, answer)?;
-        assert_eq!(rt; format!(in alloc; "{doc}")?.as_str(), before.as_str());
+    for undone in 0..500 {
+        assert!(rt;
+            goes_back(rt.alloc(), &mut doc, &mut undos)?,
+            "after {undone}"
+        );
     }
     Ok(())
 }
