@@ -1,33 +1,44 @@
 //! Rows of patches.
 use jsonptr::{Fault, Pointer, PointerBuf};
-use jsonptr_patch::{Operation, apply, delete_with_undo};
+use jsonptr_patch::{Operation, PatchError, apply, delete_with_undo};
 use jsonptr_row::row::{NoRow, Row};
 use jsonptr_row::said::Said;
 use jsonptr_row::stage;
 use serde_json::Value;
-use std::alloc::Global;
+use std::alloc::{AllocError, Global};
 
 /// Runs a row: the document, and the lines of operations, each a command and what it takes.
 pub fn run(rt: &HostRuntime, mut row: Row<'_>) -> anyhow::Result<()> {
     let mut document = Value::from_str(rt.alloc(), row.next())?;
-    let mut patch = Vec::new(rt.alloc());
-    for _ in 0..u64::MAX {
-        if row.is_empty() {
-            break;
-        }
-        patch.push(operation(rt.alloc(), &mut row)?)?;
-    }
+    let patch = operations(rt.alloc(), &mut row)?;
     println!(rt; "{document}")?;
     stage::begin(rt)?;
     let applied = apply(rt.alloc(), &mut document, patch);
     stage::end(rt)?;
-    match applied {
-        Ok(()) => println!(rt; "done")?,
-        Err(Fault::Refused(error)) => println!(rt; "{error}")?,
-        Err(Fault::Memory(_)) => println!(rt; "{}", Said::Memory)?,
-    }
+    show_applied(rt, applied)?;
     stage::state(rt)?;
     Ok(println!(rt; "{document}")?)
+}
+
+/// Writes what a patch is answered.
+fn show_applied(rt: &HostRuntime, applied: Result<(), Fault<PatchError>>) -> anyhow::Result<()> {
+    match applied {
+        Ok(()) => Ok(println!(rt; "done")?),
+        Err(Fault::Refused(error)) => Ok(println!(rt; "{error}")?),
+        Err(Fault::Memory(_)) => Ok(println!(rt; "{}", Said::Memory)?),
+    }
+}
+
+/// The operations of the lines that are left.
+fn operations(alloc: Global, row: &mut Row<'_>) -> anyhow::Result<Vec<Operation>> {
+    let mut patch = Vec::new(alloc);
+    for _ in 0..u64::MAX {
+        if row.is_empty() {
+            break;
+        }
+        patch.push(operation(alloc, row)?)?;
+    }
+    Ok(patch)
 }
 
 /// The operation of the next lines.
@@ -78,12 +89,27 @@ pub fn run_deletion(rt: &HostRuntime, mut row: Row<'_>) -> anyhow::Result<()> {
     stage::begin(rt)?;
     let back = delete_with_undo(rt.alloc(), &mut document, pointer);
     stage::end(rt)?;
-    match &back {
-        Ok(Some(Operation::Add { path, value })) => println!(rt; "add {value} at {path}")?,
-        Ok(Some(_)) => println!(rt; "another operation")?,
-        Ok(None) => println!(rt; "nothing")?,
-        Err(_) => println!(rt; "{}", Said::Memory)?,
-    }
+    show_deleted(rt, back)?;
     stage::state(rt)?;
     Ok(println!(rt; "{document}")?)
+}
+
+/// Writes what a deletion is answered.
+fn show_deleted(
+    rt: &HostRuntime,
+    back: Result<Option<Operation>, AllocError>,
+) -> anyhow::Result<()> {
+    match back {
+        Ok(back) => show_back(rt, &back),
+        Err(_) => Ok(println!(rt; "{}", Said::Memory)?),
+    }
+}
+
+/// Writes what takes a deletion back.
+fn show_back(rt: &HostRuntime, back: &Option<Operation>) -> anyhow::Result<()> {
+    match back {
+        Some(Operation::Add { path, value }) => Ok(println!(rt; "add {value} at {path}")?),
+        Some(_) => Ok(println!(rt; "another operation")?),
+        None => Ok(println!(rt; "nothing")?),
+    }
 }

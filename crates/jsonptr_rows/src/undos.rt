@@ -1,5 +1,5 @@
 //! Rows of the calls that take an assignment back.
-use jsonptr::{Fault, Pointer};
+use jsonptr::{Fault, Pointer, assign};
 use jsonptr_row::kinds::Document;
 use jsonptr_row::row::{NoRow, Row};
 use jsonptr_row::said::Said;
@@ -44,13 +44,21 @@ fn assign<D: Document>(
     stage::begin(rt)?;
     let back = document.assign_with_undo(rt.alloc(), pointer, value);
     stage::end(rt)?;
-    match &back {
-        Ok(back) => show(rt, back)?,
-        Err(Fault::Refused(error)) => println!(rt; "{error}")?,
-        Err(Fault::Memory(_)) => println!(rt; "{}", Said::Memory)?,
-    }
+    show_made(rt, &back)?;
     stage::state(rt)?;
     Ok(println!(rt; "{document}")?)
+}
+
+/// Writes what an assignment is answered.
+fn show_made<D: Display>(
+    rt: &HostRuntime,
+    back: &Result<Undo<D>, Fault<assign::Error>>,
+) -> anyhow::Result<()> {
+    match back {
+        Ok(back) => show(rt, back),
+        Err(Fault::Refused(error)) => Ok(println!(rt; "{error}")?),
+        Err(Fault::Memory(_)) => Ok(println!(rt; "{}", Said::Memory)?),
+    }
 }
 
 /// Takes an assignment back in the document. Both are written before, and after as far as they are left.
@@ -66,13 +74,21 @@ fn undo<D: Document>(rt: &HostRuntime, mut document: D, back: Undo<D>) -> anyhow
             stage::state(rt)?;
             Ok(println!(rt; "{document}")?)
         }
-        Err(UndoRefused { undo, cause }) => {
-            println!(rt; "{}", Said::of_no_value(cause))?;
-            stage::state(rt)?;
-            println!(rt; "{document}")?;
-            show(rt, &undo)
-        }
+        Err(refused) => show_refused(rt, &document, refused),
     }
+}
+
+/// Writes why nothing was taken back, the document, and what would take the assignment back.
+fn show_refused<D: Display + Drop>(
+    rt: &HostRuntime,
+    document: &D,
+    refused: UndoRefused<D>,
+) -> anyhow::Result<()> {
+    let UndoRefused { undo, cause } = refused;
+    println!(rt; "{}", Said::of_no_value(cause))?;
+    stage::state(rt)?;
+    println!(rt; "{document}")?;
+    show(rt, &undo)
 }
 
 /// Writes what takes an assignment back.
