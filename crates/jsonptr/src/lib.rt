@@ -3,15 +3,20 @@
 //!
 //! A pointer is a text of zero or more tokens, each behind a `/`, and each token is a member's key or an array
 //! index. A document is a `serde_json::Value` or a `toml::Value`, or any type that implements the traits below.
-//! Here a pointer is built, and the value that it names in a document is found, replaced and taken out:
+//! Here a pointer is built:
 //!
 //! ```text
-//! let mut document = json!(in alloc; {"window": {"a/b": [1, 2]}})?;
 //! let mut pointer = Pointer::parse("/window")?.to_buf(alloc)?;
 //! pointer.push_back(Token::new(alloc, CowStr::Borrowed("a/b"))?)?;
 //! pointer.push_back(Token::from_number(alloc, 1)?)?;
 //! assert_eq!(rt; pointer.to_string(alloc)?.as_str(), "/window/a~1b/1");
-//! let place = pointer.as_ptr();
+//! ```
+//!
+//! And here the value that it names in a document is found, replaced and taken out:
+//!
+//! ```text
+//! let mut document = json!(in alloc; {"window": {"a/b": [1, 2]}})?;
+//! let place = Pointer::parse("/window/a~1b/1")?;
 //! assert_eq!(rt; place.resolve(alloc, &document)?.as_u64(), Some(2));
 //! place.assign(alloc, &mut document, json!(in alloc; 3)?)?;
 //! let taken = place.delete(alloc, &mut document)?;
@@ -19,7 +24,7 @@
 //! assert_eq!(rt; document, json!(in alloc; {"window": {"a/b": [1]}})?);
 //! ```
 //!
-//! In this example, and in those of the items, `rt` is the runtime that `main` and each test are handed, and
+//! In these examples, and in those of the items, `rt` is the runtime that `main` and each test are handed, and
 //! `alloc` is `rt.alloc()`, the allocator. A call that takes memory answers a `Result`; it is handed the
 //! allocator, or takes that of the value that it edits or copies.
 //!

@@ -1,18 +1,24 @@
-//! The example of the crate's own page.
+//! The examples of the crate's own page.
 use jsonptr::{Pointer, Token};
 use serde_json::json;
 use std::borrow::CowStr;
 use std::test::Fail;
 
 #[test]
-fn crate_page(rt: HostRuntime) -> Result<(), Fail> {
+fn a_pointer_is_built(rt: HostRuntime) -> Result<(), Fail> {
     let alloc = rt.alloc();
-    let mut document = json!(in alloc; {"window": {"a/b": [1, 2]}})?;
     let mut pointer = Pointer::parse("/window")?.to_buf(alloc)?;
     pointer.push_back(Token::new(alloc, CowStr::Borrowed("a/b"))?)?;
     pointer.push_back(Token::from_number(alloc, 1)?)?;
     assert_eq!(rt; pointer.to_string(alloc)?.as_str(), "/window/a~1b/1");
-    let place = pointer.as_ptr();
+    Ok(())
+}
+
+#[test]
+fn the_value_that_it_names(rt: HostRuntime) -> Result<(), Fail> {
+    let alloc = rt.alloc();
+    let mut document = json!(in alloc; {"window": {"a/b": [1, 2]}})?;
+    let place = Pointer::parse("/window/a~1b/1")?;
     assert_eq!(rt; place.resolve(alloc, &document)?.as_u64(), Some(2));
     place.assign(alloc, &mut document, json!(in alloc; 3)?)?;
     let taken = place.delete(alloc, &mut document)?;
