@@ -1,4 +1,4 @@
--- Words of the private clauses on drawing a report.
+-- Words of private clauses alone: drawing a report. No public clause cites them, so nothing here has to be believed.
 use Rattle.std.specs.Prelude.{◌≡◌, ℕ, ◌+◌, ◌++◌, Bool, min, max, nat_le, nat_lt, List, encode_utf8_all}
 use Rattle.jsonptr_grammar.specs.Text.{Text}
 use Rattle.jsonptr_diagnostic.specs.declared.rendering.Part.{Part}

@@ -10,7 +10,7 @@ ghost use Rattle.jsonptr_tree.specs.Following.{Finds, StopsAt, LacksStep, StopsB
 /// path is in the document, and each token takes the step at its place from the node that the steps
 /// before it lead to. One list names at most one path, one path is named by at most one list, and
 /// in a document each path is named by some list: the lists that find something and the paths of
-/// the document are in bijection, so that each node has one pointer.
+/// the document are in bijection.
 pub fn naming_law()
     ensures whole { (n : NodeMap) (xs : List Text) (w : Path) → Names n xs w ↔ IsNaming n xs w }
     ensures one_path { (n : NodeMap) (xs : List Text) (w v : Path)

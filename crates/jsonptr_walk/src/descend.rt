@@ -7,8 +7,8 @@ ghost use Rattle.jsonptr_tree.specs.Node.{Step, Path, Names};
 ghost use Rattle.jsonptr_base.specs.Fault.{IfRefused, HasMemory};
 ghost use Rattle.jsonptr_document.specs.PrivateJson.{nodes_of, stands_in, ordered};
 ghost use Rattle.jsonptr_walk.specs.Route.{tokens};
-ghost use Rattle.jsonptr_walk.specs.Follow.{IsStop, PutsAt};
-ghost use Rattle.jsonptr_walk.specs.PrivateDescend.{Begins, MovesTo, LendsMove, StopsMove, LeadsTo};
+ghost use Rattle.jsonptr_walk.specs.Follow.{IsStop, PutsAt, LeadsTo};
+ghost use Rattle.jsonptr_walk.specs.PrivateDescend.{Begins, MovesTo, LendsMove, StopsMove};
 
 use crate::route::Route;
 use crate::stop::Stop;
@@ -55,7 +55,8 @@ pub trait Descend: Document {
     // the second document is the first
     ghost is_same: { Self → Self → Type 0 };
 
-    /// Goes down as the route's tokens lead, and lends the document that they name.
+    /// Goes down as the route's tokens lead, and lends the document that they name. Each of the two clauses says
+    /// several things, which the proof of the loop, written by hand, gives together.
     ///
     /// # Errors
     ///

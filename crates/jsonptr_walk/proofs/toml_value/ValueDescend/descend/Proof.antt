@@ -38,7 +38,7 @@ use Rattle.jsonptr_base.specs.Fault.{IfRefused, HasMemory}
 use Rattle.jsonptr_walk.specs.declared.stop.Stop.{Stop}
 use Rattle.jsonptr_walk.specs.contracts.stop.Stop as error_row
 use Rattle.jsonptr_walk.proofs.stop.Stop.TheLaws as error_laws
-use Rattle.jsonptr_walk.specs.Follow.{IsStop, PutsAt}
+use Rattle.jsonptr_walk.specs.Follow.{IsStop, PutsAt, LeadsTo}
 use Rattle.toml.specs.contracts.value.Value.{the_row as R}
 use Rattle.toml.specs.declared.value.Value.{Value}
 use Rattle.jsonptr_grammar.specs.Text.{Text, text}
@@ -49,7 +49,7 @@ use Rattle.jsonptr_walk.specs.contracts.descend.Guide as guide_row
 use Rattle.jsonptr_walk.specs.declared.descend.Guide.{Guide}
 use Rattle.jsonptr_walk.proofs.descend.Guide.TheLaws as guide_laws
 use Rattle.jsonptr_walk.specs.Route.{tokens}
-use Rattle.jsonptr_walk.specs.PrivateDescend.{Begins, MovesTo, MovesBack, LendsMove, StopsMove, LeadsTo}
+use Rattle.jsonptr_walk.specs.PrivateDescend.{Begins, MovesTo, MovesBack, LendsMove, StopsMove}
 use Rattle.jsonptr_walk.proofs.Follows.{follows_self}
 use Rattle.jsonptr_walk.proofs.Outcome.{by_result, and_tt, ok_of, err_of, ok_out, err_out, moved_val, on, off}
 use Rattle.jsonptr_walk.proofs.DescendLemmas.{move_fits, kept_within, kept_farther, kept_puts, kept_here}
