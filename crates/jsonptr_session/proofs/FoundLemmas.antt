@@ -35,7 +35,36 @@ module _ {V D : Type 0} (view : V → D) (content : D → Content) where
   found_deleted d e tokens blank (Ok None) made found = (found.0, ap (λ (f : D). map_of (content f)) found.1)
   found_deleted d e tokens blank (Err error) made found = tt
 
-  -- where the keys of a document ascend, those of what an assignment gives back do
+  -- where the keys of a document ascend, those of what is found in it do
+  part_ordered : (d e : D) (tokens : List Text)
+      → FindsContent (content d) tokens (content e)
+      → InOrder (content d) → InOrder (content e)
+  part_ordered d e tokens found ordered = part_in_order found.path (content d) (content e) ordered found.there
+
+  -- of what was swapped out
+  pub found_ordered : {T E : Type 0} (d : D) (tokens : List Text) (v : V) (r : Result T E)
+      → IfOk r (λ _. FindsContent (content d) tokens (content (view v)))
+      → IfOk r (λ _. InOrder (content d) → InOrder (content (view v)))
+  found_ordered d tokens v (Ok t) found = part_ordered d (view v) tokens found
+  found_ordered d tokens v (Err e) found = tt
+
+  -- of a copy
+  pub copy_ordered : (d : D) (tokens : List Text) (v w : V)
+      → FindsContent (content d) tokens (content (view v))
+      → view w ≡ view v
+      → InOrder (content d) → InOrder (content (view w))
+  copy_ordered d tokens v w found same ordered =
+      subst (λ (e : D). InOrder (content e)) (sym same) (part_ordered d (view v) tokens found ordered)
+
+  -- of what a deletion takes out
+  pub deleted_ordered : {E : Type 0} (d e : D) (tokens : List Text) (r : Result (Option V) E)
+      → IfOk r (λ o. MatchOption o (NamesNothing (map_of (content d)) tokens × (e ≡ d)) (λ v. FindsContent (content d) tokens (content (view v))))
+      → IfOk r (λ o. IfSome o (λ v. InOrder (content d) → InOrder (content (view v))))
+  deleted_ordered d e tokens (Ok (Some v)) found = part_ordered d (view v) tokens found
+  deleted_ordered d e tokens (Ok None) found = tt
+  deleted_ordered d e tokens (Err error) found = tt
+
+  -- and of what an assignment gives back
   pub given_ordered : {E : Type 0} (d : D) (tokens : List Text) (v m : NodeMap) (r : Result (Option V) E)
       → IfOk r (AssignsValue (map_of (content d)) tokens v m (λ w. map_of (content (view w))) (λ ts e. FindsContent (content d) ts (content (view e))))
       → IfOk r (λ o. IfSome o (λ e. InOrder (content d) → InOrder (content (view e))))

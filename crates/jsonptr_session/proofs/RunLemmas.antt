@@ -1,5 +1,7 @@
--- A run goes on by one step.
-use Rattle.std.proofs.Common.{List, [], ◌∷◌, ◌++◌, Option, refl, subst}
+-- A run goes on by one step, and what holds of all calls holds of the next.
+use Rattle.std.proofs.Common.{◌≡◌, List, [], ◌∷◌, ◌++◌, Option, refl, sym, subst}
+use Rattle.std.specs.Prelude.{All}
+use Rattle.std.proofs.lemmas.List.Elements.{All-head, All-tail}
 use Rattle.jsonptr.specs.Node.{NodeMap}
 use Rattle.jsonptr_session.specs.Machine.{State, Command, Answer, Steps, Runs}
 
@@ -12,3 +14,8 @@ module _ (blank : NodeMap) where
   run_on old mid new (d ∷ cs) (b ∷ answers) c a run step = (run.0, run.1, run_on run.0 mid new cs answers c a run.2 step)
   run_on old mid new [] (b ∷ answers) c a run step = absurd run
   run_on old mid new (d ∷ cs) [] c a run step = absurd run
+
+pub each_at : {X : Type 0} (P : X → Type 0) (xs rest all : List X) (x : X)
+    → xs ++ x ∷ rest ≡ all → All P all → P x
+each_at P [] rest all x is h = All-head P x rest (subst (All P) (sym is) h)
+each_at P (y ∷ xs) rest all x is h = each_at P xs rest (xs ++ x ∷ rest) x refl (All-tail P y (xs ++ x ∷ rest) (subst (All P) (sym is) h))

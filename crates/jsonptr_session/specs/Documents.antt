@@ -1,4 +1,4 @@
--- The maps of the documents of sessions.
+-- The maps of the documents of sessions, and the order of their keys.
 use Rattle.serde_json.specs.Data.{null}
 use Rattle.serde_json.specs.View.{view as json_view}
 use Rattle.serde_json.specs.declared.value.Value.{Value as JsonValue}
@@ -6,21 +6,29 @@ use Rattle.toml.specs.Data.{table, no_members}
 use Rattle.toml.specs.View.{view as toml_view}
 use Rattle.toml.specs.declared.value.Value.{Value as TomlValue}
 use Rattle.jsonptr.specs.Node.{NodeMap}
-use Rattle.jsonptr.specs.Json.{nodes as json_nodes}
-use Rattle.jsonptr.specs.TomlValue.{nodes as toml_nodes}
+use Rattle.jsonptr.specs.Json as json
+use Rattle.jsonptr.specs.TomlValue as toml
 
 -- the map of a JSON value
 abbrev pub json_map : JsonValue → NodeMap
-json_map v = json_nodes (json_view v)
+json_map v = json.nodes (json_view v)
 
 -- the map of null, which is left of a JSON document of which the whole is deleted
 abbrev pub json_blank : NodeMap
-json_blank = json_nodes null
+json_blank = json.nodes null
+
+-- in each object of a JSON value the keys ascend
+abbrev pub JsonKeysAscend : JsonValue → Type 0
+JsonKeysAscend v = json.KeysAscend (json_view v)
 
 -- the map of a TOML value
 abbrev pub toml_map : TomlValue → NodeMap
-toml_map v = toml_nodes (toml_view v)
+toml_map v = toml.nodes (toml_view v)
 
 -- the map of the empty table, which is left of a TOML document of which the whole is deleted
 abbrev pub toml_blank : NodeMap
-toml_blank = toml_nodes (table no_members)
+toml_blank = toml.nodes (table no_members)
+
+-- in each table of a TOML value the keys ascend
+abbrev pub TomlKeysAscend : TomlValue → Type 0
+TomlKeysAscend v = toml.KeysAscend (toml_view v)

@@ -49,6 +49,7 @@ pub trait Document: Sized + Drop {
     /// is refused.
     fn copy_at(&self, alloc: Global, ptr: Pointer<'_>) -> Result<Self, Fault<resolve::Error>>
         ensures found { IfOk result (λ v. Finds (nodes self.now) (tokens ptr.entry) (nodes v)) }
+        ensures given_in_order { IfOk result (λ v. in_order self.now → in_order v) }
         ensures refused { IfRefused result (Refuses (nodes self.now) (tokens ptr.entry)) };
 
     /// Swaps a value and the one that the pointer names.
@@ -69,6 +70,7 @@ pub trait Document: Sized + Drop {
             PutsAt (nodes self.old) (tokens ptr.entry) (nodes value.old) (nodes self.new)) }
         ensures order { IfOk result (λ _.
             in_order value.old → in_order self.old → in_order self.new) }
+        ensures given_in_order { IfOk result (λ _. in_order self.old → in_order value.new) }
         ensures refused { IfRefused result (Refuses (nodes self.old) (tokens ptr.entry)) }
         ensures unchanged { OnErr result (nodes self.new ≡ nodes self.old) }
         ensures same { OnErr result (is_same self.old self.new) }
@@ -107,6 +109,8 @@ pub trait Document: Sized + Drop {
             (λ v. Finds (nodes self.old) (tokens ptr.entry) (nodes v)
             × Deletes (nodes self.old) (tokens ptr.entry) blank (nodes self.new))) }
         ensures order { IfOk result (λ _. in_order self.old → in_order self.new) }
+        ensures given_in_order { IfOk result (λ r.
+            IfSome r (λ v. in_order self.old → in_order v)) }
         ensures stays { IfOk result (λ r. MatchOption r (is_same self.old self.new) (λ _. ⊤)) }
         ensures unchanged { OnErr result (nodes self.new ≡ nodes self.old) }
         ensures same { OnErr result (is_same self.old self.new) };
@@ -116,6 +120,9 @@ pub trait Document: Sized + Drop {
 
     // a document is the same as itself
     ghost same_self: { (d : Self) → is_same d d };
+
+    // and in order as the same document is
+    ghost same_order: { (d e : Self) → is_same d e → in_order d → in_order e };
 }
 
 /// Swaps a value and the one that a pointer names in a document of any kind.

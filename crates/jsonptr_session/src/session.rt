@@ -1,8 +1,9 @@
 //! Sessions: lists of calls on a pointer and a document, and what each is replied.
-ghost use Rattle.std.specs.Prelude.{◌≡◌, IfOk, OnErr, map};
+ghost use Rattle.std.specs.Prelude.{◌≡◌, All, IfOk, OnErr, map};
 ghost use Rattle.jsonptr_session.specs.Machine.{State, Runs};
 ghost use Rattle.jsonptr_session.specs.Session.{tells, says};
-ghost use Rattle.jsonptr_session.specs.Documents.{json_map, json_blank, toml_map, toml_blank};
+ghost use Rattle.jsonptr_session.specs.Order.{Brings, Gives};
+ghost use Rattle.jsonptr_session.specs.Documents.{json_map, json_blank, JsonKeysAscend, toml_map, toml_blank, TomlKeysAscend};
 
 use crate::turn::run;
 use jsonptr::{PointerBuf, ReplaceError, RichParseError, Token, assign, resolve};
@@ -64,7 +65,9 @@ pub enum Reply<V> {
 }
 
 /// Makes the calls in their order on a pointer and a JSON document, and gives one reply to each. After a
-/// refusal, want of memory included, the next call is made. Deletion of the whole document leaves null.
+/// refusal, want of memory included, the next call is made. Deletion of the whole document leaves null. Where the
+/// keys of the document and of the values that the calls bring ascend, as they do in what is read, those of the
+/// document and of the values in the replies do afterwards.
 ///
 /// # Errors
 ///
@@ -80,6 +83,10 @@ pub fn run_json(
         (record { tokens = ptr.old; nodes = json_map doc.old })
         (map (tells json_map) calls.items) (map (says json_map) replies.items)
         (record { tokens = ptr.new; nodes = json_map doc.new })) }
+    ensures order { IfOk result (λ _. All (Brings JsonKeysAscend) calls.items
+        → JsonKeysAscend doc.old → JsonKeysAscend doc.new) }
+    ensures given_in_order { IfOk result (λ replies. All (Brings JsonKeysAscend) calls.items
+        → JsonKeysAscend doc.old → All (Gives JsonKeysAscend) replies.items) }
     ensures unchanged { OnErr result ((ptr.new ≡ ptr.old) × (doc.new ≡ doc.old)) }
 {
     run_json_with(alloc, ptr, doc, calls)
@@ -101,6 +108,10 @@ pub fn run_json_with<P: EditPointer>(
         (record { tokens = P.list ptr.old; nodes = json_map doc.old })
         (map (tells json_map) calls.items) (map (says json_map) replies.items)
         (record { tokens = P.list ptr.new; nodes = json_map doc.new })) }
+    ensures order { IfOk result (λ _. All (Brings JsonKeysAscend) calls.items
+        → JsonKeysAscend doc.old → JsonKeysAscend doc.new) }
+    ensures given_in_order { IfOk result (λ replies. All (Brings JsonKeysAscend) calls.items
+        → JsonKeysAscend doc.old → All (Gives JsonKeysAscend) replies.items) }
     ensures unchanged { OnErr result ((ptr.new ≡ ptr.old) × (doc.new ≡ doc.old)) }
 {
     run(alloc, ptr, doc, calls)
@@ -122,6 +133,10 @@ pub fn run_toml(
         (record { tokens = ptr.old; nodes = toml_map doc.old })
         (map (tells toml_map) calls.items) (map (says toml_map) replies.items)
         (record { tokens = ptr.new; nodes = toml_map doc.new })) }
+    ensures order { IfOk result (λ _. All (Brings TomlKeysAscend) calls.items
+        → TomlKeysAscend doc.old → TomlKeysAscend doc.new) }
+    ensures given_in_order { IfOk result (λ replies. All (Brings TomlKeysAscend) calls.items
+        → TomlKeysAscend doc.old → All (Gives TomlKeysAscend) replies.items) }
     ensures unchanged { OnErr result ((ptr.new ≡ ptr.old) × (doc.new ≡ doc.old)) }
 {
     run_toml_with(alloc, ptr, doc, calls)
@@ -143,6 +158,10 @@ pub fn run_toml_with<P: EditPointer>(
         (record { tokens = P.list ptr.old; nodes = toml_map doc.old })
         (map (tells toml_map) calls.items) (map (says toml_map) replies.items)
         (record { tokens = P.list ptr.new; nodes = toml_map doc.new })) }
+    ensures order { IfOk result (λ _. All (Brings TomlKeysAscend) calls.items
+        → TomlKeysAscend doc.old → TomlKeysAscend doc.new) }
+    ensures given_in_order { IfOk result (λ replies. All (Brings TomlKeysAscend) calls.items
+        → TomlKeysAscend doc.old → All (Gives TomlKeysAscend) replies.items) }
     ensures unchanged { OnErr result ((ptr.new ≡ ptr.old) × (doc.new ≡ doc.old)) }
 {
     run(alloc, ptr, doc, calls)

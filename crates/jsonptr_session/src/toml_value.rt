@@ -7,6 +7,7 @@ use toml::Value;
 
 impl Document for Value {
     ghost use Rattle.std.specs.Prelude.{◌≡◌, refl};
+    ghost use Rattle.std.proofs.Common.{sym, subst};
     ghost use Rattle.toml.specs.View.{view};
     ghost use Rattle.jsonptr.specs.TomlValue.{content, KeysAscend};
     ghost use Rattle.jsonptr.proofs.Calling.{map_of-IsTree};
@@ -54,4 +55,6 @@ impl Document for Value {
     ghost is_tree = { λ d. map_of-IsTree (content (view d)) };
 
     ghost same_self = { λ d. refl };
+
+    ghost same_order = { λ d e same ordered. subst KeysAscend (sym same) ordered };
 }

@@ -1,11 +1,12 @@
 //! The calls of a session, in turn.
-ghost use Rattle.std.specs.Prelude.{◌≡◌, IfOk, OnErr, map, option_and_then, string_bytes};
+ghost use Rattle.std.specs.Prelude.{◌≡◌, All, IfOk, OnErr, map, option_and_then, string_bytes};
 ghost use Rattle.std.specs.Result.{result_ok};
 ghost use Rattle.jsonptr.specs.Node.{NodeMap};
 ghost use Rattle.jsonptr.specs.Pointer.{tokens};
 ghost use Rattle.jsonptr_session.specs.Machine.{State, Steps, Runs};
 ghost use Rattle.jsonptr_session.specs.Machine as machine;
 ghost use Rattle.jsonptr_session.specs.Session.{tells, says};
+ghost use Rattle.jsonptr_session.specs.Order.{Brings, Gives};
 
 use crate::document::Document;
 use crate::session::{Call, Reply};
@@ -29,6 +30,11 @@ pub fn run<P: EditPointer, D: Document>(
         (record { tokens = P.list ptr.old; nodes = D.nodes doc.old })
         (map (tells D.nodes) calls.items) (map (says D.nodes) replies.items)
         (record { tokens = P.list ptr.new; nodes = D.nodes doc.new })) }
+    ensures order { IfOk result (λ _.
+        All (Brings D.in_order) calls.items → D.in_order doc.old → D.in_order doc.new) }
+    ensures given_in_order { IfOk result (λ replies.
+        All (Brings D.in_order) calls.items → D.in_order doc.old
+        → All (Gives D.in_order) replies.items) }
     ensures unchanged { OnErr result ((ptr.new ≡ ptr.old) × (doc.new ≡ doc.old)) }
 {
     let mut replies = Vec::with_capacity(alloc, calls.len())?;
@@ -46,9 +52,11 @@ fn turn<P: EditPointer, D: Document>(
     doc: &mut D,
     call: Call<D>,
 ) -> Reply<D>
-    ensures { Steps D.blank (record { tokens = P.list ptr.old; nodes = D.nodes doc.old })
+    ensures steps { Steps D.blank (record { tokens = P.list ptr.old; nodes = D.nodes doc.old })
         (tells D.nodes call) (says D.nodes result)
         (record { tokens = P.list ptr.new; nodes = D.nodes doc.new }) }
+    ensures order { Brings D.in_order call → D.in_order doc.old → D.in_order doc.new }
+    ensures given_in_order { D.in_order doc.old → Gives D.in_order result }
 {
     match answer(alloc, ptr, doc, call) {
         Ok(reply) => reply,
@@ -67,9 +75,11 @@ fn answer<P: EditPointer, D: Document>(
     doc: &mut D,
     call: Call<D>,
 ) -> Result<Reply<D>, AllocError>
-    ensures { Steps D.blank (record { tokens = P.list ptr.old; nodes = D.nodes doc.old })
+    ensures steps { Steps D.blank (record { tokens = P.list ptr.old; nodes = D.nodes doc.old })
         (tells D.nodes call) (option_and_then (says D.nodes) (result_ok result))
         (record { tokens = P.list ptr.new; nodes = D.nodes doc.new }) }
+    ensures order { Brings D.in_order call → D.in_order doc.old → D.in_order doc.new }
+    ensures given_in_order { IfOk result (λ reply. D.in_order doc.old → Gives D.in_order reply) }
 {
     match call {
         Call::Parse(text) => parse(ptr, text),
@@ -92,9 +102,11 @@ fn answer<P: EditPointer, D: Document>(
 
 /// The answer to `Call::Parse`.
 fn parse<P: EditPointer, D: Document>(ptr: &mut P, text: String) -> Result<Reply<D>, AllocError>
-    ensures { (nodes : NodeMap) → Steps D.blank (record { tokens = P.list ptr.old; nodes = nodes })
+    ensures steps { (nodes : NodeMap) → Steps D.blank
+        (record { tokens = P.list ptr.old; nodes = nodes })
         (machine.parse (string_bytes text)) (option_and_then (says D.nodes) (result_ok result))
         (record { tokens = P.list ptr.new; nodes = nodes }) }
+    ensures given_in_order { IfOk result (Gives D.in_order) }
 {
     match ptr.set_text(text) {
         Ok(()) => Ok(Reply::Done),
@@ -109,9 +121,11 @@ fn push_back<P: EditPointer, D: Document>(
     ptr: &mut P,
     text: String,
 ) -> Result<Reply<D>, AllocError>
-    ensures { (nodes : NodeMap) → Steps D.blank (record { tokens = P.list ptr.old; nodes = nodes })
+    ensures steps { (nodes : NodeMap) → Steps D.blank
+        (record { tokens = P.list ptr.old; nodes = nodes })
         (machine.push_back (string_bytes text)) (option_and_then (says D.nodes) (result_ok result))
         (record { tokens = P.list ptr.new; nodes = nodes }) }
+    ensures given_in_order { IfOk result (Gives D.in_order) }
 {
     ptr.push_back(Token::new(alloc, CowStr::Owned(text))?)?;
     Ok(Reply::Done)
@@ -123,9 +137,11 @@ fn push_front<P: EditPointer, D: Document>(
     ptr: &mut P,
     text: String,
 ) -> Result<Reply<D>, AllocError>
-    ensures { (nodes : NodeMap) → Steps D.blank (record { tokens = P.list ptr.old; nodes = nodes })
+    ensures steps { (nodes : NodeMap) → Steps D.blank
+        (record { tokens = P.list ptr.old; nodes = nodes })
         (machine.push_front (string_bytes text)) (option_and_then (says D.nodes) (result_ok result))
         (record { tokens = P.list ptr.new; nodes = nodes }) }
+    ensures given_in_order { IfOk result (Gives D.in_order) }
 {
     ptr.push_front(Token::new(alloc, CowStr::Owned(text))?)?;
     Ok(Reply::Done)
@@ -138,9 +154,11 @@ fn replace<P: EditPointer, D: Document>(
     index: usize,
     text: String,
 ) -> Result<Reply<D>, AllocError>
-    ensures { (nodes : NodeMap) → Steps D.blank (record { tokens = P.list ptr.old; nodes = nodes })
+    ensures steps { (nodes : NodeMap) → Steps D.blank
+        (record { tokens = P.list ptr.old; nodes = nodes })
         (machine.replace index (string_bytes text)) (option_and_then (says D.nodes) (result_ok result))
         (record { tokens = P.list ptr.new; nodes = nodes }) }
+    ensures given_in_order { IfOk result (Gives D.in_order) }
 {
     let token = Token::new(alloc, CowStr::Owned(text))?;
     match ptr.replace(index, token) {
@@ -155,9 +173,11 @@ fn append<P: EditPointer, D: Document>(
     ptr: &mut P,
     other: PointerBuf,
 ) -> Result<Reply<D>, AllocError>
-    ensures { (nodes : NodeMap) → Steps D.blank (record { tokens = P.list ptr.old; nodes = nodes })
+    ensures steps { (nodes : NodeMap) → Steps D.blank
+        (record { tokens = P.list ptr.old; nodes = nodes })
         (machine.append other) (option_and_then (says D.nodes) (result_ok result))
         (record { tokens = P.list ptr.new; nodes = nodes }) }
+    ensures given_in_order { IfOk result (Gives D.in_order) }
 {
     ptr.append(other.as_ptr())?;
     Ok(Reply::Done)
@@ -165,9 +185,10 @@ fn append<P: EditPointer, D: Document>(
 
 /// The answer to `Call::Resolve`.
 fn resolve<D: Document>(alloc: Global, ptr: Pointer<'_>, doc: &D) -> Result<Reply<D>, AllocError>
-    ensures { Steps D.blank (record { tokens = tokens ptr.entry; nodes = D.nodes doc.now })
+    ensures steps { Steps D.blank (record { tokens = tokens ptr.entry; nodes = D.nodes doc.now })
         machine.resolve (option_and_then (says D.nodes) (result_ok result))
         (record { tokens = tokens ptr.entry; nodes = D.nodes doc.now }) }
+    ensures given_in_order { IfOk result (λ reply. D.in_order doc.now → Gives D.in_order reply) }
 {
     match doc.copy_at(alloc, ptr) {
         Ok(value) => Ok(Reply::Value(value)),
@@ -183,9 +204,11 @@ fn write<D: Document>(
     doc: &mut D,
     value: D,
 ) -> Result<Reply<D>, AllocError>
-    ensures { Steps D.blank (record { tokens = tokens ptr.entry; nodes = D.nodes doc.old })
+    ensures steps { Steps D.blank (record { tokens = tokens ptr.entry; nodes = D.nodes doc.old })
         (machine.write (D.nodes value)) (option_and_then (says D.nodes) (result_ok result))
         (record { tokens = tokens ptr.entry; nodes = D.nodes doc.new }) }
+    ensures order { D.in_order value → D.in_order doc.old → D.in_order doc.new }
+    ensures given_in_order { IfOk result (λ reply. D.in_order doc.old → Gives D.in_order reply) }
 {
     let mut value = value;
     match doc.swap_at(alloc, ptr, &mut value) {
@@ -202,9 +225,11 @@ fn assign<D: Document>(
     doc: &mut D,
     value: D,
 ) -> Result<Reply<D>, AllocError>
-    ensures { Steps D.blank (record { tokens = tokens ptr.entry; nodes = D.nodes doc.old })
+    ensures steps { Steps D.blank (record { tokens = tokens ptr.entry; nodes = D.nodes doc.old })
         (machine.assign (D.nodes value)) (option_and_then (says D.nodes) (result_ok result))
         (record { tokens = tokens ptr.entry; nodes = D.nodes doc.new }) }
+    ensures order { D.in_order value → D.in_order doc.old → D.in_order doc.new }
+    ensures given_in_order { IfOk result (λ reply. D.in_order doc.old → Gives D.in_order reply) }
 {
     match doc.assign_at(alloc, ptr, value) {
         Ok(old) => Ok(Reply::Assigned(old)),
