@@ -1,5 +1,5 @@
 //! Applying a patch: a list of operations, whole or not at all (RFC 6902, section 5).
-ghost use Rattle.std.specs.Prelude.{◌≡◌, All, IfOk, OnErr};
+ghost use Rattle.std.specs.Prelude.{◌≡◌, [], All, IfOk, IsOk, OnErr};
 ghost use Rattle.serde_json.specs.View.{view};
 ghost use Rattle.jsonptr.specs.Fault.{IfRefused};
 ghost use Rattle.jsonptr.specs.Json.{nodes, KeysAscend};
@@ -21,7 +21,7 @@ use std::alloc::Global;
 
 /// Applies the operations in their order, each to the document that the one before it left (RFC 6902, section 5).
 /// An empty patch changes nothing. The values of the operations are moved into the document, and all else of the
-/// patch is dropped. Memory is taken for a copy of the one node below which all operations work, and for none where
+/// patch is dropped. Memory is taken for a copy of the one node below which all operations work; none is copied where
 /// all of them are tests. Where in each object of the document and of the values that are moved into it the keys
 /// ascend, they ascend in the document that is made.
 ///
@@ -34,6 +34,7 @@ pub fn apply(alloc: Global, doc: &mut Value, patch: Vec<Operation>) -> Result<()
         Patches (nodes (view doc.old)) patch.items (nodes (view doc.new))) }
     ensures order { IfOk result (λ _. All IsInOrder patch.items
         → KeysAscend (view doc.old) → KeysAscend (view doc.new)) }
+    ensures empty { patch.items ≡ [] → IsOk result }
     ensures refused { IfRefused result (RefusesPatch (nodes (view doc.old)) patch.items) }
     ensures unchanged { OnErr result (view doc.new ≡ view doc.old) }
 {

@@ -3,3 +3,4 @@ pub mod OneLemmas
 pub mod PartLemmas
 pub mod SomeLemmas
 pub mod PatchLemmas
+pub mod EqualityLemmas
