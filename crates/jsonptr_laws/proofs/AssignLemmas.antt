@@ -13,7 +13,7 @@ use Rattle.jsonptr.specs.Types.Index.TheVariants.{Num, Next}
 use Rattle.jsonptr.specs.Types.OutOfBoundsError.{OutOfBoundsError}
 use Rattle.jsonptr.specs.Types.ParseIndexError.{ParseIndexError}
 use Rattle.jsonptr.specs.Index.{Reads, IsWithinOrNext}
-use Rattle.jsonptr.specs.Assign.{position_of, offset_of, IsNoPlace, RefusesAssign}
+use Rattle.jsonptr.specs.Assign.{position_of, offset_of, cause_of, IsNoPlace, RefusesAssign}
 use Rattle.jsonptr_laws.proofs.ResolveLemmas.{next_utf8}
 use Rattle.jsonptr.specs.declared.assign.Error.{Error}
 use Rattle.jsonptr.specs.declared.assign.Error.TheVariants.{FailedToParseIndex, OutOfBounds}
@@ -32,7 +32,7 @@ ReadsOnce = (s : Text) (r q : Result Index ParseIndexError) → Reads s r → Re
 
 module _ (reads_one : ReadsOnce) where
   -- the errors for one token in an array of one length, at one place
-  one_reason : (len : ℕ) (x : Text) (e f : Error) → position_of e ≡ position_of f → offset_of e ≡ offset_of f → IsNoPlace len x e → IsNoPlace len x f → e ≡ f
+  one_reason : (len : ℕ) (x : Text) (e f : Error) → position_of e ≡ position_of f → offset_of e ≡ offset_of f → IsNoPlace len x (cause_of e) → IsNoPlace len x (cause_of f) → e ≡ f
   one_reason len x (FailedToParseIndex p o s) (FailedToParseIndex q u t) here there h k =
       let read = reads_one x (Err s) (Err t) h k in
       let same : s ≡ t = cc in
@@ -54,7 +54,7 @@ module _ (reads_one : ReadsOnce) where
       let s = StopsBefore_one n tokens (position_of e) (position_of f) (offset_of e) (offset_of f) (an_array h.len) (an_array k.len) h.token k.token h.nowhere.stops k.nowhere.stops in
       let label : an_array h.len ≡ an_array k.len = s.2 in
       let long : h.len ≡ k.len = cc in
-      one_reason k.len k.token e f s.0 s.1 (subst (λ (t : Text). IsNoPlace k.len t e) s.3 (subst (λ (len : ℕ). IsNoPlace len h.token e) long h.why)) k.why
+      one_reason k.len k.token e f s.0 s.1 (subst (λ (t : Text). IsNoPlace k.len t (cause_of e)) s.3 (subst (λ (len : ℕ). IsNoPlace len h.token (cause_of e)) long h.why)) k.why
 
 pub refused_not_assigned : (n : NodeMap) (tokens : List Text) (v m : NodeMap) (old : Option NodeMap) (e : Error) → Assigns n tokens v m old → RefusesAssign n tokens e → ⊥
 refused_not_assigned n tokens v m old e a r = Assigns-LandsNowhere n tokens v m old (position_of e) (offset_of e) r.len r.token a r.nowhere

@@ -1,6 +1,7 @@
 -- Lemmas that the laws cite.
 pub mod AssignLemmas
 pub mod MachineLemmas
+pub mod OnePointerLemmas
 pub mod OrderLemmas
 pub mod PartLemmas
 pub mod ResolveLemmas

@@ -16,7 +16,6 @@ ghost use Rattle.jsonptr_laws.specs.States.{IsDocument, IsState, IsCommand};
 
 use crate::assigning::assign_law;
 use crate::resolving::{resolve_law, tokens_law};
-use jsonptr::PointerBuf;
 use jsonptr::laws::parse_law;
 use jsonptr_session::session::Call;
 use jsonptr_tabled::EditPointer;
@@ -70,7 +69,8 @@ pub fn text_law()
 }
 
 /// Each node of the machine's document has exactly one list of tokens, with which it finds the map of that
-/// node (RFC 6901, section 4).
+/// node (RFC 6901, section 4). In the document of a Rust value that is the list of a pointer
+/// ([`crate::resolving::one_pointer_law`]).
 pub fn node_law()
     ensures { (blank : NodeMap) (old : State) → IsTree old.nodes
         → (w : Path) → IsSome (old.nodes w)
@@ -140,9 +140,10 @@ pub fn document_law()
     toml_law();
 }
 
-/// A pointer's tokens and the map of a document are a state of a session.
-pub fn state_law(ptr: &PointerBuf)
-    ensures { (n : NodeMap) → IsDocument n → IsState (record { tokens = ptr.now; nodes = n }) }
+/// A pointer's tokens, whichever kind of pointer it is, and the map of a document are a state of a session.
+pub fn state_law<P: EditPointer>(ptr: &P)
+    ensures { (n : NodeMap) → IsDocument n
+        → IsState (record { tokens = P.list ptr.now; nodes = n }) }
 {
     tokens_law(ptr.as_ptr());
 }

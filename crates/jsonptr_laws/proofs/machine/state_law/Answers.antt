@@ -4,7 +4,7 @@ use Rattle.jsonptr.specs.Text.{Text}
 use Rattle.jsonptr_laws.proofs.machine.state_law.Goals as goal
 
 pub returns : goal.returns
-returns c = λ n document. record {
-  tokens = subst (λ (ts : List Text). All IsUtf8 ts) c.as_ptr.ensures.tokens c.tokens_law.ensures;
+returns g c = λ n document. record {
+  tokens = subst (λ (ts : List Text). All IsUtf8 ts) c.as_ptr.ensures c.tokens_law.ensures;
   nodes = document;
 }
