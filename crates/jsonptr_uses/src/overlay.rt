@@ -2,13 +2,14 @@
 ghost use Rattle.std.specs.Prelude.{◌≡◌, ◌≢◌, All, IfOk};
 ghost use Rattle.serde_json.specs.View.{view};
 ghost use Rattle.jsonptr.specs.Fault.{IfRefused};
+ghost use Rattle.jsonptr.specs.Json.{KeysAscend};
 ghost use Rattle.jsonptr.specs.Pointer.{tokens};
 ghost use Rattle.jsonptr.specs.Text.{text};
 ghost use Rattle.jsonptr_uses.specs.Overlay.{FindsIn, RefusesIn};
 
-use jsonptr::{Fault, Pointer, Resolve, resolve};
+use jsonptr::{Assign, Delete, Fault, Pointer, Resolve, assign, resolve};
 use serde_json::Value;
-use std::alloc::Global;
+use std::alloc::{AllocError, Global};
 
 /// Two JSON documents that are read as one: what a pointer names in the upper one hides what it names in the lower
 /// one.
@@ -46,6 +47,57 @@ impl Resolve for Overlay {
             Err(Fault::Refused(_)) => ptr.resolve(alloc, &self.lower),
             Err(Fault::Memory(error)) => Err(Fault::Memory(error)),
         }
+    }
+}
+
+/// What is assigned to an [`Overlay`] goes to the upper document. The lower one stays.
+impl Assign for Overlay {
+    type Value = Value;
+
+    type Error = assign::Error;
+
+    ghost assigns = { λ o ts value m was.
+        ⟦<Value as Assign>⟧.assigns o.upper ts value m.upper was × (m.lower ≡ o.lower) };
+
+    ghost refuses = { λ o ts e. ⟦<Value as Assign>⟧.refuses o.upper ts e };
+
+    ghost needs_no_memory = { λ o ts. ⟦<Value as Assign>⟧.needs_no_memory o.upper ts };
+
+    ghost is_same = { λ o m. ⟦<Value as Assign>⟧.is_same o.upper m.upper × (m.lower ≡ o.lower) };
+
+    ghost in_order = { λ o. KeysAscend (view o.upper) × KeysAscend (view o.lower) };
+
+    ghost value_in_order = { λ value. KeysAscend (view value) };
+
+    fn assign(
+        &mut self,
+        alloc: Global,
+        ptr: Pointer<'_>,
+        value: Value,
+    ) -> Result<Option<Value>, Fault<assign::Error>> {
+        self.upper.assign(alloc, ptr, value)
+    }
+}
+
+/// What is deleted from an [`Overlay`] is taken out of the upper document. The lower one stays, and shows there.
+impl Delete for Overlay {
+    type Value = Value;
+
+    ghost finds = { λ o ts value. ⟦<Value as Delete>⟧.finds o.upper ts value };
+
+    ghost lacks = { λ o ts. ⟦<Value as Delete>⟧.lacks o.upper ts };
+
+    ghost deletes = { λ o ts m.
+        ⟦<Value as Delete>⟧.deletes o.upper ts m.upper × (m.lower ≡ o.lower) };
+
+    ghost is_same = { λ o m. ⟦<Value as Delete>⟧.is_same o.upper m.upper × (m.lower ≡ o.lower) };
+
+    ghost needs_no_memory = { λ o ts. ⟦<Value as Delete>⟧.needs_no_memory o.upper ts };
+
+    ghost in_order = { λ o. KeysAscend (view o.upper) × KeysAscend (view o.lower) };
+
+    fn delete(&mut self, alloc: Global, ptr: Pointer<'_>) -> Result<Option<Value>, AllocError> {
+        self.upper.delete(alloc, ptr)
     }
 }
 

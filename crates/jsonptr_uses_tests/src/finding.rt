@@ -122,6 +122,42 @@ fn the_upper_document_hides_the_lower(rt: HostRuntime) -> Result<(), Fail> {
     Ok(())
 }
 
+/// What stood in the upper document of an overlay where a value is assigned, or deleted where none is given, and what
+/// the overlay has there afterwards.
+fn written_over(
+    alloc: Global,
+    pointer: &str,
+    value: Option<u64>,
+) -> Result<(String, String), Fail> {
+    let mut overlay = Overlay::new(
+        Value::from_str(alloc, UPPER)?,
+        Value::from_str(alloc, LOWER)?,
+    );
+    let pointer = Pointer::parse(pointer)?;
+    let was = match value {
+        Some(value) => pointer.assign(alloc, &mut overlay, Value::from(value))?,
+        None => pointer.delete(alloc, &mut overlay)?,
+    };
+    let found = found_in(&overlay, alloc, pointer).ok();
+    Ok((shown(alloc, was.as_ref())?, shown(alloc, found)?))
+}
+
+#[test]
+fn what_is_written_goes_to_the_upper_document(rt: HostRuntime) -> Result<(), Fail> {
+    let alloc = rt.alloc();
+    for (pointer, value, was, found) in [
+        ("/color", Some(1), r#""red""#, "1"),
+        ("/size/h", Some(3), "none", "3"),
+        ("/color", None, r#""red""#, r#""blue""#),
+        ("/a~1b", None, "none", "[true]"),
+    ] {
+        let answer = written_over(alloc, pointer, value)?;
+        assert_eq!(rt; answer.0.as_str(), was);
+        assert_eq!(rt; answer.1.as_str(), found);
+    }
+    Ok(())
+}
+
 /// Where a pointer leads through so many references, or why it does not.
 fn led(alloc: Global, pointer: &str, steps: usize) -> Result<String, Fail> {
     let text =
