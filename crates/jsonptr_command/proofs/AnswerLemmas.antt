@@ -5,7 +5,8 @@ use Rattle.jsonptr.specs.Text.{Text}
 use Rattle.jsonptr_command.specs.JsonText.{json_of}
 use Rattle.jsonptr_command.specs.Streams.{ForBytes}
 use Rattle.jsonptr_command.specs.Run.{Request, Gives, IsRequestFault, NeedsInput, OnDocument}
-use Rattle.jsonptr_command.specs.Private.{IsInputFault, IsFaultOf, IsLineOf}
+use Rattle.jsonptr_command.specs.Faults.{IsInputFault}
+use Rattle.jsonptr_command.specs.Private.{IsFaultOf, IsLineOf}
 use Rattle.jsonptr_command.specs.declared.fault.RunFault.{RunFault}
 use Rattle.jsonptr_command.specs.declared.fault.RunFault.TheVariants.{InputNotJson}
 

@@ -20,7 +20,8 @@ use Rattle.jsonptr.proofs.Calling.{Reads_one}
 use Rattle.jsonptr_command.specs.Operations.{Form, words_of, values_of}
 use Rattle.jsonptr_command.specs.PrivateOperations.{RefusesOperations}
 use Rattle.jsonptr_command.specs.Run.{Asks, HaveForms, HaveValue, IsWordsMemory, TakePointer, TakePointers}
-use Rattle.jsonptr_command.specs.Private.{IsNoPatch, RefusesCommand, RefusesValue}
+use Rattle.jsonptr_command.specs.Faults.{RefusesValue}
+use Rattle.jsonptr_command.specs.Private.{IsNoPatch, RefusesCommand}
 use Rattle.jsonptr_command.specs.declared.fault.RunFault.{RunFault}
 use Rattle.jsonptr_command.specs.declared.fault.RunFault.TheVariants.{BadPointer}
 

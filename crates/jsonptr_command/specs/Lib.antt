@@ -1,6 +1,7 @@
 -- The words of the program's contracts.
 pub mod Streams
 pub mod JsonText
+pub mod Faults
 pub mod Operations
 pub mod Run
 pub mod Private

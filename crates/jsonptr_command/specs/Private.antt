@@ -1,27 +1,20 @@
--- Words of private clauses alone: what the program's enums stand for, which fault a callee's fault becomes,
--- and the faults and lines of single stages. No public clause cites them, so nothing here has to be believed.
-use Rattle.std.specs.Prelude.{◌≡◌, ◌⊎◌, ℕ, List, ◌∷◌, map, codes, Option, None, Result, Ok, Err, alloc_error}
+-- Words of private clauses alone: what the program's enums stand for, and the faults and lines of single stages. No
+-- public clause cites them, so nothing here has to be believed.
+use Rattle.std.specs.Prelude.{◌≡◌, ◌⊎◌, ℕ, List, ◌∷◌, map, codes, Result, Ok, Err, alloc_error}
 use Rattle.serde_json.specs.Data.{Data}
 use Rattle.serde_json.specs.View.{view}
 use Rattle.jsonptr.specs.Text.{Text}
-use Rattle.jsonptr.specs.Types.Fault.{Fault}
-use Rattle.jsonptr.specs.Types.Fault.TheVariants as fault
 use Rattle.jsonptr.specs.Pointer.{tokens}
 use Rattle.jsonptr.specs.ParseError.{TellsPointerFault}
 use Rattle.jsonptr.specs.Types.ParseError.{ParseError}
 use Rattle.jsonptr.specs.Index.{Reads}
 use Rattle.jsonptr.specs.Types.Index.TheVariants.{Num}
-use Rattle.jsonptr.specs.declared.resolve.Error as resolve
-use Rattle.jsonptr.specs.declared.assign.Error as assign
-use Rattle.jsonptr_patch.specs.declared.operation.PatchError.{PatchError}
 use Rattle.jsonptr_command.specs.declared.fault.RunFault.{RunFault}
-use Rattle.jsonptr_command.specs.declared.fault.RunFault.TheVariants.{Usage, BadPointer, ValueNotJson, NoValue, BadPlace, BadPatch, InputNotJson, Memory, Read}
-use Rattle.jsonptr_command.specs.declared.input.InputFault.{InputFault}
-use Rattle.jsonptr_command.specs.declared.input.InputFault.TheVariants as input
+use Rattle.jsonptr_command.specs.declared.fault.RunFault.TheVariants.{Usage, BadPointer, Memory}
 use Rattle.jsonptr_command.specs.declared.run.Request as code
 use Rattle.jsonptr_command.specs.declared.run.Request.TheVariants.{Resolve, Tokens, Assign, Delete, Split, Patch}
-use Rattle.jsonptr_command.specs.Streams.{ForBytes}
-use Rattle.jsonptr_command.specs.JsonText.{json_of, IsJsonLine}
+use Rattle.jsonptr_command.specs.JsonText.{IsJsonLine}
+use Rattle.jsonptr_command.specs.Faults.{RefusesValue}
 use Rattle.jsonptr_command.specs.Operations.{meant}
 use Rattle.jsonptr_command.specs.Run.{Request, resolving, listing, assigning, deleting, splitting, patching, HaveValue, TakePointer}
 
@@ -34,33 +27,6 @@ request_of (Delete p) = deleting (tokens p)
 request_of (Split p n) = splitting (tokens p) n
 request_of (Patch patch) = patching (map meant patch.items)
 
--- the fault of the run where the input could not be read
-abbrev pub of_input_fault : InputFault → RunFault
-of_input_fault (input.Memory e) = Memory e
-of_input_fault input.Read = Read
-
--- the fault of the run where a pointer was not resolved
-abbrev pub of_resolve_fault : Fault resolve.Error → RunFault
-of_resolve_fault (fault.Refused e) = NoValue e
-of_resolve_fault (fault.Memory e) = Memory e
-
--- the fault of the run where a value was not assigned
-abbrev pub of_assign_fault : Fault assign.Error → RunFault
-of_assign_fault (fault.Refused e) = BadPlace e
-of_assign_fault (fault.Memory e) = Memory e
-
--- the fault of the run where a patch was not applied
-abbrev pub of_patch_fault : Fault PatchError → RunFault
-of_patch_fault (fault.Refused e) = BadPatch e
-of_patch_fault (fault.Memory e) = Memory e
-
--- a fault of reading the input as a document: memory, a read, or that the bytes are no JSON
-abbrev pub IsInputFault : Option (List ℕ) → RunFault → Type 0
-IsInputFault known e =
-    (e ≡ Memory alloc_error)
-    ⊎ (e ≡ Read)
-    ⊎ (ForBytes known (λ bytes. json_of bytes ≡ None) × (e ≡ InputNotJson))
-
 -- of an operation that gives these values and refusals: a line of such a value
 abbrev pub IsLineOf : (Result Data RunFault → Type 0) → Text → Type 0
 IsLineOf P line = (value : Data) × P (Ok value) × IsJsonLine value line
@@ -68,10 +34,6 @@ IsLineOf P line = (value : Data) × P (Ok value) × IsJsonLine value line
 -- and such a refusal, or want of memory
 abbrev pub IsFaultOf : (Result Data RunFault → Type 0) → RunFault → Type 0
 IsFaultOf P e = P (Err e) ⊎ (e ≡ Memory alloc_error)
-
--- the text is no value to assign, or memory for it is refused
-abbrev pub RefusesValue : Text → RunFault → Type 0
-RefusesValue text e = ((json_of text ≡ None) × (e ≡ ValueNotJson)) ⊎ (e ≡ Memory alloc_error)
 
 -- the text is no position to split at
 abbrev pub RefusesPosition : Text → RunFault → Type 0

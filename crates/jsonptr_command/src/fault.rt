@@ -1,7 +1,7 @@
 //! Why the program ends other than well.
 ghost use Rattle.std.specs.Prelude.{◌≡◌, MatchResult};
 ghost use Rattle.std.specs.Process.{exit_status};
-ghost use Rattle.jsonptr_command.specs.Private.{of_assign_fault, of_input_fault, of_patch_fault, of_resolve_fault};
+ghost use Rattle.jsonptr_command.specs.Faults.{of_assign_fault, of_input_fault, of_patch_fault, of_resolve_fault};
 ghost use Rattle.jsonptr_command.specs.Run.{status_of};
 ghost use Rattle.jsonptr_command.specs.declared.fault.RunFault.TheVariants.{BadPointer, Memory, Write};
 

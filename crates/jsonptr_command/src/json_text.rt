@@ -5,7 +5,7 @@ ghost use Rattle.serde_json.specs.Read.{max_depth};
 ghost use Rattle.serde_json.specs.View.{view};
 ghost use Rattle.jsonptr_command.specs.JsonText.{json_of, IsJsonLine};
 ghost use Rattle.jsonptr_command.specs.Streams.{ForBytes};
-ghost use Rattle.jsonptr_command.specs.Private.{IsInputFault, RefusesValue};
+ghost use Rattle.jsonptr_command.specs.Faults.{IsInputFault, RefusesValue};
 
 use crate::fault::RunFault;
 use crate::input::read_all;

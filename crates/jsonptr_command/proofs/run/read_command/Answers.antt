@@ -3,7 +3,7 @@ use borrow.Author.Tests.{ltb-true, ltb-false}
 use Rattle.jsonptr.specs.Text.{Text}
 use Rattle.jsonptr.specs.Pointer.{tokens}
 use Rattle.jsonptr_command.specs.JsonText.{json_of}
-use Rattle.jsonptr_command.specs.Private.{RefusesValue}
+use Rattle.jsonptr_command.specs.Faults.{RefusesValue}
 use Rattle.jsonptr_command.specs.Run.{HaveValue, TakePointer}
 use Rattle.jsonptr_command.proofs.CommandLemmas.{two_words_are, two_words_are_not, three_words_are, three_words_are_not, as_many, pointer_refused, value_refused}
 use Rattle.jsonptr_command.proofs.run.read_command.Goals as goal
