@@ -5,9 +5,22 @@ use jsonptr_command::input::{InputFault, read_all};
 use jsonptr_command::json_text::{json_line, read_json, read_json_input};
 use jsonptr_command::output::{WriteFailed, write_line};
 use jsonptr_patch::PatchError;
-use std::alloc::AllocError;
+use std::alloc::{AllocError, Global};
 
 const TEXT: &[u8] = b"{\"a\":1}";
+
+/// Whether a reader of these bytes and this script is read to its end.
+fn is_read_whole(alloc: Global, bytes: &[u8], script: &[Step]) -> bool {
+    let mut reader = ScriptedReader {
+        rest: bytes,
+        script,
+    };
+    let is_all = match read_all(alloc, &mut reader) {
+        Ok(read) => read.as_slice() == bytes,
+        Err(_) => false,
+    };
+    is_all && reader.rest.is_empty()
+}
 
 #[test]
 fn reads_to_the_end(rt: HostRuntime) {
@@ -25,13 +38,7 @@ fn reads_to_the_end(rt: HostRuntime) {
         &[Step::Move(6), Step::Move(1)],
     ];
     for script in scripts {
-        let mut reader = ScriptedReader { rest: TEXT, script };
-        let read = read_all(rt.alloc(), &mut reader);
-        assert!(rt;
-            matches!(&read, Ok(bytes) if bytes.as_slice() == TEXT),
-            "{script:?}"
-        );
-        assert!(rt; reader.rest.is_empty(), "{script:?}");
+        assert!(rt; is_read_whole(rt.alloc(), TEXT, script), "{script:?}");
     }
 }
 
@@ -42,17 +49,17 @@ fn reads_more_than_one_chunk(rt: HostRuntime) -> Result<(), AllocError> {
         long.push((i % 251) as u8)?;
     }
     for most in [1, 4095, 4096, 4097] {
-        let mut reader = ScriptedReader {
-            rest: long.as_slice(),
-            script: &[Step::Move(most)],
-        };
-        let read = read_all(rt.alloc(), &mut reader);
-        assert!(rt;
-            matches!(&read, Ok(bytes) if bytes.as_slice() == long.as_slice()),
-            "{most}"
-        );
+        let is_so = is_read_whole(rt.alloc(), long.as_slice(), &[Step::Move(most)]);
+        assert!(rt; is_so, "{most}");
     }
     Ok(())
+}
+
+/// Whether reading `TEXT` fails by this script, and leaves these bytes.
+fn fails_before(alloc: Global, script: &[Step], left: &[u8]) -> bool {
+    let mut reader = ScriptedReader { rest: TEXT, script };
+    let read = read_all(alloc, &mut reader);
+    matches!(read, Err(InputFault::Read)) && reader.rest == left
 }
 
 #[test]
@@ -66,23 +73,30 @@ fn a_read_that_fails_ends_it(rt: HostRuntime) {
         ),
     ];
     for (script, left) in scripts {
-        let mut reader = ScriptedReader { rest: TEXT, script };
-        let read = read_all(rt.alloc(), &mut reader);
-        assert!(rt; matches!(read, Err(InputFault::Read)), "{script:?}");
-        assert!(rt; reader.rest == left, "{script:?}");
+        assert!(rt; fails_before(rt.alloc(), script, left), "{script:?}");
     }
+}
+
+/// Whether writing `TEXT` by this script flushes once and succeeds.
+fn is_written(alloc: Global, script: &[Step]) -> bool {
+    let mut writer = ScriptedWriter::new(alloc, script);
+    let written = write_line(&mut writer, TEXT);
+    written == Ok(()) && writer.taken.as_slice() == TEXT && writer.flushes == 1
 }
 
 #[test]
 fn writes_the_line(rt: HostRuntime) {
     let scripts: [&[Step]; 3] = [&[], &[Step::Move(1)], &[Step::Move(3), Step::Move(2)]];
     for script in scripts {
-        let mut writer = ScriptedWriter::new(rt.alloc(), script);
-        let written = write_line(&mut writer, TEXT);
-        assert!(rt; written == Ok(()), "{script:?}");
-        assert!(rt; writer.taken.as_slice() == TEXT, "{script:?}");
-        assert_eq!(rt; writer.flushes, 1, "{script:?}");
+        assert!(rt; is_written(rt.alloc(), script), "{script:?}");
     }
+}
+
+/// Whether writing `TEXT` by this script fails with no flush, and leaves this front.
+fn fails_behind(alloc: Global, script: &[Step], front: &[u8]) -> bool {
+    let mut writer = ScriptedWriter::new(alloc, script);
+    let written = write_line(&mut writer, TEXT);
+    written == Err(WriteFailed) && writer.taken.as_slice() == front && writer.flushes == 0
 }
 
 #[test]
@@ -101,80 +115,126 @@ fn a_write_that_fails_leaves_the_front(rt: HostRuntime) {
         (&[Step::Move(1), Step::Move(1), Step::Fail], b"{\""),
     ];
     for (script, taken) in scripts {
-        let mut writer = ScriptedWriter::new(rt.alloc(), script);
-        let written = write_line(&mut writer, TEXT);
-        assert!(rt; written == Err(WriteFailed), "{script:?}");
-        assert!(rt; writer.taken.as_slice() == taken, "{script:?}");
-        assert_eq!(rt; writer.flushes, 0, "{script:?}");
+        assert!(rt; fails_behind(rt.alloc(), script, taken), "{script:?}");
     }
+}
+
+/// Whether writing `TEXT` fails by its flush alone.
+fn fails_to_flush(alloc: Global) -> bool {
+    let mut writer = ScriptedWriter::new(alloc, &[]);
+    writer.flush_fails = true;
+    let written = write_line(&mut writer, TEXT);
+    written == Err(WriteFailed) && writer.taken.as_slice() == TEXT
 }
 
 #[test]
 fn a_flush_that_fails_is_told(rt: HostRuntime) {
-    let mut writer = ScriptedWriter::new(rt.alloc(), &[]);
-    writer.flush_fails = true;
-    let written = write_line(&mut writer, TEXT);
-    assert!(rt; written == Err(WriteFailed));
-    assert!(rt; writer.taken.as_slice() == TEXT);
+    assert!(rt; fails_to_flush(rt.alloc()));
+}
+
+/// Whether these bytes are no JSON.
+fn is_no_json(alloc: Global, bytes: &[u8]) -> bool {
+    matches!(read_json(alloc, bytes), Ok(None))
+}
+
+/// Whether a text is JSON that is written as this line.
+fn is_written_as(alloc: Global, text: &str, line: &str) -> Result<bool, AllocError> {
+    match read_json(alloc, text.as_bytes())? {
+        Some(value) => Ok(json_line(alloc, &value)?.as_str() == line),
+        None => Ok(false),
+    }
 }
 
 #[test]
 fn reads_json(rt: HostRuntime) -> Result<(), AllocError> {
     let others: [&[u8]; 6] = [b"", b" ", b"{\"a\"", b"\x22\xff\x22", b"1 1", b"01"];
     for bytes in others {
-        let read = read_json(rt.alloc(), bytes);
-        assert!(rt; matches!(&read, Ok(None)), "{bytes:?}");
+        assert!(rt; is_no_json(rt.alloc(), bytes), "{bytes:?}");
     }
     for (text, line) in [
         ("{\"a/b\":1}", "{\"a/b\":1}\n"),
         (" [ \"\u{e9}\\u0041\" , -2 ] ", "[\"\u{e9}A\",-2]\n"),
         ("null", "null\n"),
     ] {
-        let read = read_json(rt.alloc(), text.as_bytes());
-        assert!(rt; matches!(&read, Ok(Some(_))), "{text}");
-        if let Ok(Some(value)) = read {
-            let written = json_line(rt.alloc(), &value)?;
-            assert!(rt; written.as_str() == line, "{text}");
-        }
+        let is_so = is_written_as(rt.alloc(), text, line)?;
+        assert!(rt; is_so, "{text}");
     }
     Ok(())
+}
+
+/// The text of so many arrays, one in the other, around a number.
+fn nested(alloc: Global, depth: usize) -> Result<Vec<u8>, AllocError> {
+    let mut text = Vec::new(alloc);
+    for _ in 0..depth {
+        text.push(b'[')?;
+    }
+    text.push(b'1')?;
+    for _ in 0..depth {
+        text.push(b']')?;
+    }
+    Ok(text)
+}
+
+/// Whether so many arrays are JSON that is read.
+fn is_read_at(alloc: Global, depth: usize) -> Result<bool, AllocError> {
+    let text = nested(alloc, depth)?;
+    Ok(read_json(alloc, text.as_slice())?.is_some())
 }
 
 #[test]
 fn reads_json_to_a_depth(rt: HostRuntime) -> Result<(), AllocError> {
     for (depth, is_json) in [(127, true), (128, false)] {
-        let mut text = Vec::new(rt.alloc());
-        for _ in 0..depth {
-            text.push(b'[')?;
-        }
-        text.push(b'1')?;
-        for _ in 0..depth {
-            text.push(b']')?;
-        }
-        assert_eq!(rt; read_json(rt.alloc(), &text)?.is_some(), is_json, "{depth}");
+        assert_eq!(rt; is_read_at(rt.alloc(), depth)?, is_json, "{depth}");
     }
     Ok(())
 }
 
-#[test]
-fn reads_a_document(rt: HostRuntime) {
-    let script: &[Step] = &[Step::Move(2), Step::Interrupt, Step::Move(1)];
-    for len in 0..TEXT.len() {
-        let mut reader = ScriptedReader {
-            rest: &TEXT[..len],
-            script,
-        };
-        let read = read_json_input(rt.alloc(), &mut reader);
-        assert!(rt; matches!(&read, Err(RunFault::InputNotJson)), "{len}");
-    }
-    let mut reader = ScriptedReader { rest: TEXT, script };
-    assert!(rt; read_json_input(rt.alloc(), &mut reader).is_ok());
+/// Reads slowly, and is interrupted.
+const SLOWLY: &[Step] = &[Step::Move(2), Step::Interrupt, Step::Move(1)];
+
+/// Whether a reader of these bytes gives a document.
+fn is_document(alloc: Global, bytes: &[u8]) -> bool {
+    let mut reader = ScriptedReader {
+        rest: bytes,
+        script: SLOWLY,
+    };
+    read_json_input(alloc, &mut reader).is_ok()
+}
+
+/// Whether a reader of these bytes is told that they are no JSON.
+fn is_no_document(alloc: Global, bytes: &[u8]) -> bool {
+    let mut reader = ScriptedReader {
+        rest: bytes,
+        script: SLOWLY,
+    };
+    matches!(
+        read_json_input(alloc, &mut reader),
+        Err(RunFault::InputNotJson)
+    )
+}
+
+/// Whether a reader that fails behind `TEXT` is told that reading failed.
+fn is_document_unread(alloc: Global) -> bool {
     let mut reader = ScriptedReader {
         rest: TEXT,
         script: &[Step::Move(7), Step::Fail],
     };
-    let read = read_json_input(rt.alloc(), &mut reader);
-    assert!(rt; matches!(&read, Err(RunFault::Read)));
+    matches!(read_json_input(alloc, &mut reader), Err(RunFault::Read))
+}
+
+#[test]
+fn reads_a_document(rt: HostRuntime) {
+    for len in 0..TEXT.len() {
+        assert!(rt; is_no_document(rt.alloc(), &TEXT[..len]), "{len}");
+    }
+    assert!(rt; is_document(rt.alloc(), TEXT));
+    assert!(rt; is_document_unread(rt.alloc()));
+}
+
+/// Whether a fault displays as this text.
+fn is_told(alloc: Global, fault: &RunFault, text: &str) -> Result<bool, AllocError> {
+    let told = format!(in alloc; "{fault}")?;
+    Ok(told.as_str() == text)
 }
 
 #[test]
@@ -204,8 +264,8 @@ fn tells_faults(rt: HostRuntime) -> Result<(), AllocError> {
         (RunFault::Read, "reading failed"),
         (RunFault::Write, "writing failed"),
     ] {
-        let told = format!(in rt.alloc(); "{fault}")?;
-        assert!(rt; told.as_str() == text);
+        let is_so = is_told(rt.alloc(), &fault, text)?;
+        assert!(rt; is_so, "{text}");
     }
     Ok(())
 }

@@ -13,6 +13,15 @@ struct Outcome {
     left: usize,
 }
 
+/// The words of a line, as the program is given them.
+pub fn words_of(alloc: Global, line: &[&str]) -> Result<Vec<String>, AllocError> {
+    let mut words = Vec::new(alloc);
+    for word in line {
+        words.push(String::from_str(alloc, word)?)?;
+    }
+    Ok(words)
+}
+
 /// Runs the program over a reader and a writer with these scripts.
 fn run_on(
     alloc: Global,
@@ -21,10 +30,7 @@ fn run_on(
     reads: &[Step],
     writes: &[Step],
 ) -> Result<Outcome, AllocError> {
-    let mut words = Vec::new(alloc);
-    for word in line {
-        words.push(String::from_str(alloc, word)?)?;
-    }
+    let words = words_of(alloc, line)?;
     let mut reader = ScriptedReader {
         rest: input.as_bytes(),
         script: reads,
@@ -90,6 +96,17 @@ fn is_refused_unread(
 ) -> Result<bool, AllocError> {
     let ran = run_on(alloc, words, "{}", &[Step::Fail], ALL)?;
     Ok(ran.status == status && ran.told.as_str() == told && ran.written.is_empty() && ran.left == 2)
+}
+
+/// Whether the program writes this line, where a read would fail; so it reads nothing.
+fn writes_unread(
+    alloc: Global,
+    words: &[&str],
+    writes: &[Step],
+    line: &str,
+) -> Result<bool, AllocError> {
+    let ran = run_on(alloc, words, "{", &[Step::Fail], writes)?;
+    Ok(ran.status == 0 && ran.written.as_slice() == line.as_bytes() && ran.left == 1)
 }
 
 /// Whether the program reads all of the input, ends so and writes nothing.
@@ -167,10 +184,8 @@ fn lists_the_tokens_and_reads_nothing(rt: HostRuntime) -> Result<(), AllocError>
         ("", "[]\n"),
         ("/~01/\u{e9}\"", "[\"~1\",\"\u{e9}\\\"\"]\n"),
     ] {
-        let ran = run_on(rt.alloc(), &["tokens", pointer], "{", &[Step::Fail], ALL)?;
-        assert_eq!(rt; ran.status, 0, "{pointer}");
-        assert!(rt; ran.written.as_slice() == line.as_bytes(), "{pointer}");
-        assert_eq!(rt; ran.left, 1, "{pointer}");
+        let is_so = writes_unread(rt.alloc(), &["tokens", pointer], ALL, line)?;
+        assert!(rt; is_so, "{pointer}");
     }
     Ok(())
 }
@@ -186,10 +201,8 @@ fn splits_the_pointer_and_reads_nothing(rt: HostRuntime) -> Result<(), AllocErro
     ] {
         for writes in [ALL, &[Step::Move(1)]] {
             let words = &["split", pointer, position];
-            let ran = run_on(rt.alloc(), words, "{", &[Step::Fail], writes)?;
-            assert_eq!(rt; ran.status, 0, "{pointer}");
-            assert!(rt; ran.written.as_slice() == line.as_bytes(), "{pointer}");
-            assert_eq!(rt; ran.left, 1, "{pointer}");
+            let is_so = writes_unread(rt.alloc(), words, writes, line)?;
+            assert!(rt; is_so, "{pointer}");
         }
     }
     Ok(())
@@ -214,28 +227,31 @@ fn refuses_positions_above_the_count(rt: HostRuntime) -> Result<(), AllocError> 
             "split failed: position 18446744073709551615 is above the token count 1",
         ),
     ] {
-        let words = &["split", pointer, position];
         let is_so = is_refused_unread(rt.alloc(), &["split", pointer, position], 1, told)?;
         assert!(rt; is_so, "{pointer}");
     }
     Ok(())
 }
 
+/// Whether a split writes so many bytes of its line and tells that writing failed, where the next write fails.
+fn splits_in_part(alloc: Global, len: usize, line: &str) -> Result<bool, AllocError> {
+    let taken = if len == 0 {
+        Step::Fail
+    } else {
+        Step::Move(len)
+    };
+    let words = &["split", "/foo/bar", "1"];
+    let ran = run_on(alloc, words, "{}", &[Step::Fail], &[taken, Step::Fail])?;
+    let is_front = line.as_bytes().get(..len) == Some(ran.written.as_slice());
+    Ok(ran.status == 5 && ran.told.as_str() == "writing failed" && is_front && ran.left == 2)
+}
+
 #[test]
 fn a_split_that_is_written_in_part_is_told(rt: HostRuntime) -> Result<(), AllocError> {
-    let line = "[\"/foo\",\"/bar\"]\n".as_bytes();
+    let line = "[\"/foo\",\"/bar\"]\n";
     for len in 0..line.len() {
-        let taken = if len == 0 {
-            Step::Fail
-        } else {
-            Step::Move(len)
-        };
-        let words = &["split", "/foo/bar", "1"];
-        let ran = run_on(rt.alloc(), words, "{}", &[Step::Fail], &[taken, Step::Fail])?;
-        assert_eq!(rt; ran.status, 5, "{len}");
-        assert!(rt; ran.told.as_str() == "writing failed", "{len}");
-        assert!(rt; line.get(..len) == Some(ran.written.as_slice()), "{len}");
-        assert_eq!(rt; ran.left, 2, "{len}");
+        let is_so = splits_in_part(rt.alloc(), len, line)?;
+        assert!(rt; is_so, "{len}");
     }
     Ok(())
 }
@@ -314,45 +330,69 @@ fn refuses_what_cannot_be_assigned_or_deleted(rt: HostRuntime) -> Result<(), All
     Ok(())
 }
 
+/// Lines that are no command with its words.
+const NO_COMMANDS: [&[&str]; 14] = [
+    &[],
+    &["resolve"],
+    &["resolve", "/a", "/b"],
+    &["find", "/a"],
+    &["Resolve", "/a"],
+    &["resolve ", "/a"],
+    &["tokens"],
+    &["tokens", "/a", "1"],
+    &["delete"],
+    &["delete", "/a", "1"],
+    &["assign", "/a"],
+    &["assign", "/a", "1", "2"],
+    &["assigns", "/a", "1"],
+    &["patches"],
+];
+
+/// Lines that are no split, where the pointer may be none as well.
+const NO_SPLITS: [&[&str]; 10] = [
+    &["split"],
+    &["split", "/a"],
+    &["split", "/a", "1", "2"],
+    &["splits", "/a", "1"],
+    &["split", "/a", "x"],
+    &["split", "foo", "x"],
+    &["split", "/a", "-"],
+    &["split", "/a", "01"],
+    &["split", "/a", ""],
+    &["split", "/a", "18446744073709551616"],
+];
+
+/// Lines that are no operations.
+const NO_OPERATIONS: [&[&str]; 14] = [
+    &["patch", "add", "/b"],
+    &["patch", "add"],
+    &["patch", "remove"],
+    &["patch", "replace", "/b"],
+    &["patch", "move", "/b"],
+    &["patch", "copy", "/b"],
+    &["patch", "test", "/b"],
+    &["patch", "/b"],
+    &["patch", "delete", "/b"],
+    &["patch", "Remove", "/b"],
+    &["patch", "remove", "/b", ""],
+    &["patch", "remove", "/b", "/c"],
+    &["patch", "remove", "b", "add", "c"],
+    &["patch", "add", "/b", "x", "add", "/c"],
+];
+
 #[test]
-fn refuses_words_before_it_reads(rt: HostRuntime) -> Result<(), AllocError> {
-    let lines: [(&[&str], u8, &str); 33] = [
-        (&[], 2, USAGE),
-        (&["resolve"], 2, USAGE),
-        (&["resolve", "/a", "/b"], 2, USAGE),
-        (&["find", "/a"], 2, USAGE),
-        (&["Resolve", "/a"], 2, USAGE),
-        (&["resolve ", "/a"], 2, USAGE),
-        (&["tokens"], 2, USAGE),
-        (&["tokens", "/a", "1"], 2, USAGE),
-        (&["delete"], 2, USAGE),
-        (&["delete", "/a", "1"], 2, USAGE),
-        (&["assign", "/a"], 2, USAGE),
-        (&["assign", "/a", "1", "2"], 2, USAGE),
-        (&["assigns", "/a", "1"], 2, USAGE),
-        (&["tokens", "a"], 1, NO_SLASH),
-        (&["delete", "a"], 1, NO_SLASH),
-        (&["assign", "a", "x"], 1, NO_SLASH),
-        (&["assign", "/a", "x"], 3, NO_VALUE),
-        (&["assign", "/a", ""], 3, NO_VALUE),
-        (&["resolve", "foo"], 1, NO_SLASH),
-        (&["resolve", "/a/~2"], 1, TILDE),
-        (&["split"], 2, USAGE),
-        (&["split", "/a"], 2, USAGE),
-        (&["split", "/a", "1", "2"], 2, USAGE),
-        (&["splits", "/a", "1"], 2, USAGE),
-        (&["split", "/a", "x"], 2, USAGE),
-        (&["split", "foo", "x"], 2, USAGE),
-        (&["split", "/a", "-"], 2, USAGE),
-        (&["split", "/a", "01"], 2, USAGE),
-        (&["split", "/a", ""], 2, USAGE),
-        (&["split", "/a", "18446744073709551616"], 2, USAGE),
-        (&["split", "foo", "1"], 1, NO_SLASH),
-        (&["split", "/a/~2", "0"], 1, TILDE),
-        (&["patches"], 2, USAGE),
-    ];
-    for (line, status, told) in lines {
-        let is_so = is_refused_unread(rt.alloc(), line, status, told)?;
+fn refuses_words_that_are_no_command(rt: HostRuntime) -> Result<(), AllocError> {
+    for line in NO_COMMANDS {
+        let is_so = is_refused_unread(rt.alloc(), line, 2, USAGE)?;
+        assert!(rt; is_so, "{line:?}");
+    }
+    Ok(())
+}
+
+#[test]
+fn refuses_words_that_are_no_split(rt: HostRuntime) -> Result<(), AllocError> {
+    for line in NO_SPLITS {
+        let is_so = is_refused_unread(rt.alloc(), line, 2, USAGE)?;
         assert!(rt; is_so, "{line:?}");
     }
     Ok(())
@@ -360,21 +400,25 @@ fn refuses_words_before_it_reads(rt: HostRuntime) -> Result<(), AllocError> {
 
 #[test]
 fn refuses_words_that_are_no_operations(rt: HostRuntime) -> Result<(), AllocError> {
-    let lines: [(&[&str], u8, &str); 14] = [
-        (&["patch", "add", "/b"], 2, USAGE),
-        (&["patch", "add"], 2, USAGE),
-        (&["patch", "remove"], 2, USAGE),
-        (&["patch", "replace", "/b"], 2, USAGE),
-        (&["patch", "move", "/b"], 2, USAGE),
-        (&["patch", "copy", "/b"], 2, USAGE),
-        (&["patch", "test", "/b"], 2, USAGE),
-        (&["patch", "/b"], 2, USAGE),
-        (&["patch", "delete", "/b"], 2, USAGE),
-        (&["patch", "Remove", "/b"], 2, USAGE),
-        (&["patch", "remove", "/b", ""], 2, USAGE),
-        (&["patch", "remove", "/b", "/c"], 2, USAGE),
-        (&["patch", "remove", "b", "add", "c"], 2, USAGE),
-        (&["patch", "add", "/b", "x", "add", "/c"], 2, USAGE),
+    for line in NO_OPERATIONS {
+        let is_so = is_refused_unread(rt.alloc(), line, 2, USAGE)?;
+        assert!(rt; is_so, "{line:?}");
+    }
+    Ok(())
+}
+
+#[test]
+fn refuses_words_before_it_reads(rt: HostRuntime) -> Result<(), AllocError> {
+    let lines: [(&[&str], u8, &str); 9] = [
+        (&["tokens", "a"], 1, NO_SLASH),
+        (&["delete", "a"], 1, NO_SLASH),
+        (&["assign", "a", "x"], 1, NO_SLASH),
+        (&["assign", "/a", "x"], 3, NO_VALUE),
+        (&["assign", "/a", ""], 3, NO_VALUE),
+        (&["resolve", "foo"], 1, NO_SLASH),
+        (&["resolve", "/a/~2"], 1, TILDE),
+        (&["split", "foo", "1"], 1, NO_SLASH),
+        (&["split", "/a/~2", "0"], 1, TILDE),
     ];
     for (line, status, told) in lines {
         let is_so = is_refused_unread(rt.alloc(), line, status, told)?;
@@ -524,6 +568,33 @@ fn refuses_a_patch_whole(rt: HostRuntime) -> Result<(), AllocError> {
     Ok(())
 }
 
+/// What a stream does that fails: what the reader does, what the writer does, what is told, and how many bytes are
+/// written.
+const FAILING: [(&[Step], &[Step], &str, usize); 5] = [
+    (&[Step::Fail], ALL, "reading failed", 0),
+    (&[Step::Move(3), Step::Fail], ALL, "reading failed", 0),
+    (ALL, &[Step::Move(2), Step::Fail], "writing failed", 2),
+    (
+        ALL,
+        &[Step::Move(2), Step::Interrupt, Step::Move(9)],
+        "writing failed",
+        2,
+    ),
+    (ALL, &[Step::Move(1), Step::Move(0)], "writing failed", 1),
+];
+
+/// Whether the program tells each failure of a stream, having written the front of this line.
+fn tells_failures(alloc: Global, words: &[&str], line: &str) -> Result<bool, AllocError> {
+    for (reads, writes, told, written) in FAILING {
+        let ran = run_on(alloc, words, "{\"a\":{\"b\":1}}", reads, writes)?;
+        let is_front = line.as_bytes().get(..written) == Some(ran.written.as_slice());
+        if ran.status != 5 || ran.told.as_str() != told || !is_front {
+            return Ok(false);
+        }
+    }
+    Ok(true)
+}
+
 #[test]
 fn streams_that_fail_are_told(rt: HostRuntime) -> Result<(), AllocError> {
     let lines: [(&[&str], &str); 4] = [
@@ -532,45 +603,28 @@ fn streams_that_fail_are_told(rt: HostRuntime) -> Result<(), AllocError> {
         (&["delete", "/a/b"], "{\"a\":{}}\n"),
         (&["patch", "move", "/a/b", "/c"], "{\"a\":{},\"c\":1}\n"),
     ];
-    let scripts: [(&[Step], &[Step], &str, usize); 5] = [
-        (&[Step::Fail], ALL, "reading failed", 0),
-        (&[Step::Move(3), Step::Fail], ALL, "reading failed", 0),
-        (ALL, &[Step::Move(2), Step::Fail], "writing failed", 2),
-        (
-            ALL,
-            &[Step::Move(2), Step::Interrupt, Step::Move(9)],
-            "writing failed",
-            2,
-        ),
-        (ALL, &[Step::Move(1), Step::Move(0)], "writing failed", 1),
-    ];
     for (words, line) in lines {
-        for (reads, writes, told, written) in scripts {
-            let ran = run_on(rt.alloc(), words, "{\"a\":{\"b\":1}}", reads, writes)?;
-            assert_eq!(rt; ran.status, 5, "{reads:?} {writes:?}");
-            assert!(rt; ran.told.as_str() == told, "{reads:?} {writes:?}");
-            assert!(rt;
-                line.as_bytes().get(..written) == Some(ran.written.as_slice()),
-                "{reads:?} {writes:?}"
-            );
-        }
+        let is_so = tells_failures(rt.alloc(), words, line)?;
+        assert!(rt; is_so, "{words:?}");
     }
     Ok(())
 }
 
-#[test]
-fn a_flush_that_fails_is_a_failed_write(rt: HostRuntime) -> Result<(), AllocError> {
-    let mut words = Vec::new(rt.alloc());
-    words.push(String::from_str(rt.alloc(), "resolve")?)?;
-    words.push(String::new(rt.alloc()))?;
+/// Whether a run over a writer whose flushes fail tells that writing failed, having written the line.
+fn fails_to_flush(alloc: Global) -> Result<bool, AllocError> {
+    let words = words_of(alloc, &["resolve", ""])?;
     let mut reader = ScriptedReader {
         rest: "1".as_bytes(),
         script: ALL,
     };
-    let mut writer = ScriptedWriter::new(rt.alloc(), ALL);
+    let mut writer = ScriptedWriter::new(alloc, ALL);
     writer.flush_fails = true;
-    let ran = run_program(rt.alloc(), words.as_slice(), &mut reader, &mut writer);
-    assert!(rt; matches!(ran, Err(RunFault::Write)));
-    assert!(rt; writer.taken.as_slice() == "1\n".as_bytes());
+    let ran = run_program(alloc, words.as_slice(), &mut reader, &mut writer);
+    Ok(matches!(ran, Err(RunFault::Write)) && writer.taken.as_slice() == "1\n".as_bytes())
+}
+
+#[test]
+fn a_flush_that_fails_is_a_failed_write(rt: HostRuntime) -> Result<(), AllocError> {
+    assert!(rt; fails_to_flush(rt.alloc())?);
     Ok(())
 }

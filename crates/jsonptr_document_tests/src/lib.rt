@@ -7,6 +7,8 @@ mod assigning;
 #[cfg(test)]
 mod deleting;
 #[cfg(test)]
+mod drawing;
+#[cfg(test)]
 mod examples;
 #[cfg(test)]
 mod labels;

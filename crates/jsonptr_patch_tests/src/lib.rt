@@ -3,6 +3,8 @@
 #![tactic(auto)]
 
 #[cfg(test)]
+mod documented;
+#[cfg(test)]
 mod examples;
 #[cfg(test)]
 mod long;

@@ -5,6 +5,8 @@
 #[cfg(test)]
 mod calls;
 #[cfg(test)]
+mod documented;
+#[cfg(test)]
 mod json;
 #[cfg(test)]
 mod long;

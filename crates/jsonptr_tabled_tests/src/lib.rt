@@ -5,6 +5,8 @@
 #[cfg(test)]
 mod bounds;
 #[cfg(test)]
+mod documented;
+#[cfg(test)]
 mod edits;
 #[cfg(test)]
 mod parts;

@@ -1,6 +1,6 @@
 //! Examples of finding a value in a document.
 use jsonptr::{Fault, Pointer, Resolve, ResolveMut};
-use serde_json::json;
+use serde_json::{Value, json};
 use std::test::Fail;
 
 #[test]
@@ -9,8 +9,8 @@ fn module(rt: HostRuntime) -> Result<(), Fail> {
     let mut document = json!(in alloc; {"sizes": [3, 5]})?;
     let pointer = Pointer::parse("/sizes/1")?;
     assert_eq!(rt; pointer.resolve(alloc, &document)?.as_u64(), Some(5));
-    *pointer.resolve_mut(alloc, &mut document)? = json!(in alloc; 8)?;
-    assert_eq!(rt; document, json!(in alloc; {"sizes": [3, 8]})?);
+    *pointer.resolve_mut(alloc, &mut document)? = Value::from(8);
+    assert_eq!(rt; document.to_string(alloc)?.as_str(), r#"{"sizes":[3,8]}"#);
     Ok(())
 }
 
@@ -29,10 +29,8 @@ fn resolve_mut(rt: HostRuntime) -> Result<(), Fail> {
     let mut document = json!(in alloc; {"title": null, "pages": 9})?;
     let title = document.resolve_mut(alloc, Pointer::parse("/title")?)?;
     *title = json!(in alloc; "Pointers")?;
-    assert_eq!(rt;
-        document,
-        json!(in alloc; {"title": "Pointers", "pages": 9})?
-    );
+    let written = r#"{"pages":9,"title":"Pointers"}"#;
+    assert_eq!(rt; document.to_string(alloc)?.as_str(), written);
     Ok(())
 }
 
@@ -49,8 +47,8 @@ fn resolve_by_pointer(rt: HostRuntime) -> Result<(), Fail> {
 fn resolve_mut_by_pointer(rt: HostRuntime) -> Result<(), Fail> {
     let alloc = rt.alloc();
     let mut document = json!(in alloc; [true, false])?;
-    *Pointer::parse("/1")?.resolve_mut(alloc, &mut document)? = json!(in alloc; null)?;
-    assert_eq!(rt; document, json!(in alloc; [true, null])?);
+    *Pointer::parse("/1")?.resolve_mut(alloc, &mut document)? = Value::Null;
+    assert_eq!(rt; document.to_string(alloc)?.as_str(), "[true,null]");
     Ok(())
 }
 
