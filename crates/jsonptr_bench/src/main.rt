@@ -16,24 +16,38 @@ use stopwatch::Stopwatch;
 
 fn main(rt: HostRuntime) -> io::Result<()> {
     let alloc = rt.alloc();
-    let mut zero = None;
-    for word in env::args(&rt)?.skip(1) {
-        zero = word.as_str().parse::<usize>().ok();
-    }
-    let stopwatch = Stopwatch::new(&rt, zero);
+    let stopwatch = Stopwatch::new(&rt, zero_of(&rt)?);
     for line in BufReader::new(alloc, rt.reader())?.lines(alloc) {
-        let line = line?;
-        let words = words_of(alloc, line.as_str())?;
-        let Some((name, case)) = words.split_first() else {
-            continue;
-        };
-        match least_of(&stopwatch, case)? {
-            Some(0) => println!(rt; "{name}\tdone")?,
-            Some(least) => println!(rt; "{name}\t{least}")?,
-            None => println!(rt; "{name}\tno case")?,
-        }
+        time_line(&rt, &stopwatch, line?.as_str())?;
     }
     io::writer(&rt).flush()
+}
+
+/// The number that the program's word is.
+fn zero_of(rt: &HostRuntime) -> io::Result<Option<usize>> {
+    let mut zero = None;
+    for word in env::args(rt)?.skip(1) {
+        zero = word.as_str().parse::<usize>().ok();
+    }
+    Ok(zero)
+}
+
+/// Times the case of a line, and writes its name and its time.
+fn time_line(rt: &HostRuntime, stopwatch: &Stopwatch<'_>, line: &str) -> io::Result<()> {
+    let words = words_of(rt.alloc(), line)?;
+    match words.split_first() {
+        Some((name, case)) => write_least(rt, name, least_of(stopwatch, case)?),
+        None => Ok(()),
+    }
+}
+
+/// Writes the name of a case, and its least time, if there is such a case.
+fn write_least(rt: &HostRuntime, name: &str, least: Option<u64>) -> io::Result<()> {
+    match least {
+        Some(0) => println!(rt; "{name}\tdone"),
+        Some(least) => println!(rt; "{name}\t{least}"),
+        None => println!(rt; "{name}\tno case"),
+    }
 }
 
 /// The words of a line, which have tabs between them.

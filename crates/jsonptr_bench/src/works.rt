@@ -1,32 +1,240 @@
 //! Calls that can be made again and again.
-use crate::stopwatch::Stopwatch;
+use crate::stopwatch::{Stopwatch, Work};
 use jsonptr::index::Index;
 use jsonptr::{Pointer, Token};
+use std::alloc::Global;
 use std::borrow::CowStr;
 use std::io;
+
+/// Parses a text as a pointer.
+struct Parse;
+
+impl<'a> Work<&'a str> for Parse {
+    fn run(&self, _alloc: Global, text: &'a str) -> usize {
+        usize::from(Pointer::parse(text).is_ok())
+    }
+}
+
+/// Takes a text as that of a token.
+struct FromEncoded;
+
+impl<'a> Work<&'a str> for FromEncoded {
+    fn run(&self, _alloc: Global, text: &'a str) -> usize {
+        usize::from(Token::from_encoded(CowStr::Borrowed(text)).is_ok())
+    }
+}
+
+/// Parses a text as an index.
+struct ParseIndex;
+
+impl<'a> Work<&'a str> for ParseIndex {
+    fn run(&self, _alloc: Global, text: &'a str) -> usize {
+        usize::from(text.parse::<Index>().is_ok())
+    }
+}
+
+/// Makes the token of a text.
+struct NewToken;
+
+impl<'a> Work<&'a str> for NewToken {
+    fn run(&self, alloc: Global, text: &'a str) -> usize {
+        len_of_new(alloc, text)
+    }
+}
+
+/// Decodes a token.
+struct DecodedText;
+
+impl<'a> Work<&'a Token<'a>> for DecodedText {
+    fn run(&self, alloc: Global, token: &'a Token<'a>) -> usize {
+        len_of_decoded(alloc, token)
+    }
+}
+
+/// Goes over the tokens of a pointer.
+struct Tokens;
+
+impl<'a> Work<Pointer<'a>> for Tokens {
+    fn run(&self, _alloc: Global, pointer: Pointer<'a>) -> usize {
+        len_of_tokens(pointer)
+    }
+}
+
+/// Decodes each token of a pointer.
+struct DecodedTokens;
+
+impl<'a> Work<Pointer<'a>> for DecodedTokens {
+    fn run(&self, alloc: Global, pointer: Pointer<'a>) -> usize {
+        len_of_decoded_tokens(alloc, pointer)
+    }
+}
+
+/// Splits off the first token until there is none.
+struct SplitFronts;
+
+impl<'a> Work<Pointer<'a>> for SplitFronts {
+    fn run(&self, _alloc: Global, pointer: Pointer<'a>) -> usize {
+        split_fronts(pointer)
+    }
+}
+
+/// Splits off the last token until there is none.
+struct SplitBacks;
+
+impl<'a> Work<Pointer<'a>> for SplitBacks {
+    fn run(&self, _alloc: Global, pointer: Pointer<'a>) -> usize {
+        split_backs(pointer)
+    }
+}
+
+/// Counts the tokens.
+struct Count;
+
+impl<'a> Work<Pointer<'a>> for Count {
+    fn run(&self, _alloc: Global, pointer: Pointer<'a>) -> usize {
+        pointer.count()
+    }
+}
+
+/// Takes the first token.
+struct Front;
+
+impl<'a> Work<Pointer<'a>> for Front {
+    fn run(&self, _alloc: Global, pointer: Pointer<'a>) -> usize {
+        usize::from(pointer.front().is_some())
+    }
+}
+
+/// Takes the last token.
+struct Back;
+
+impl<'a> Work<Pointer<'a>> for Back {
+    fn run(&self, _alloc: Global, pointer: Pointer<'a>) -> usize {
+        usize::from(pointer.back().is_some())
+    }
+}
+
+/// Leaves out the last token.
+struct Parent;
+
+impl<'a> Work<Pointer<'a>> for Parent {
+    fn run(&self, _alloc: Global, pointer: Pointer<'a>) -> usize {
+        usize::from(pointer.parent().is_some())
+    }
+}
+
+/// Copies the pointer.
+struct ToBuf;
+
+impl<'a> Work<Pointer<'a>> for ToBuf {
+    fn run(&self, alloc: Global, pointer: Pointer<'a>) -> usize {
+        usize::from(pointer.to_buf(alloc).is_ok())
+    }
+}
+
+/// Takes the token at a position.
+struct Get;
+
+impl<'a> Work<(Pointer<'a>, usize)> for Get {
+    fn run(&self, _alloc: Global, it: (Pointer<'a>, usize)) -> usize {
+        usize::from(it.0.get(it.1).is_some())
+    }
+}
+
+/// Splits at an offset in bytes.
+struct SplitAtOffset;
+
+impl<'a> Work<(Pointer<'a>, usize)> for SplitAtOffset {
+    fn run(&self, _alloc: Global, it: (Pointer<'a>, usize)) -> usize {
+        usize::from(it.0.split_at_offset(it.1).is_some())
+    }
+}
+
+/// Takes the tokens of a range of positions.
+struct GetRange;
+
+impl<'a> Work<(Pointer<'a>, usize, usize)> for GetRange {
+    fn run(&self, _alloc: Global, it: (Pointer<'a>, usize, usize)) -> usize {
+        usize::from(it.0.get(it.1..it.2).is_some())
+    }
+}
+
+/// Tells whether the first begins with the second.
+struct StartsWith;
+
+impl<'a> Work<(Pointer<'a>, Pointer<'a>)> for StartsWith {
+    fn run(&self, _alloc: Global, it: (Pointer<'a>, Pointer<'a>)) -> usize {
+        usize::from(it.0.starts_with(it.1))
+    }
+}
+
+/// Tells whether the first ends with the second.
+struct EndsWith;
+
+impl<'a> Work<(Pointer<'a>, Pointer<'a>)> for EndsWith {
+    fn run(&self, _alloc: Global, it: (Pointer<'a>, Pointer<'a>)) -> usize {
+        usize::from(it.0.ends_with(it.1))
+    }
+}
+
+/// Leaves out the second where the first begins with it.
+struct StripPrefix;
+
+impl<'a> Work<(Pointer<'a>, Pointer<'a>)> for StripPrefix {
+    fn run(&self, _alloc: Global, it: (Pointer<'a>, Pointer<'a>)) -> usize {
+        usize::from(it.0.strip_prefix(it.1).is_some())
+    }
+}
+
+/// Leaves out the second where the first ends with it.
+struct StripSuffix;
+
+impl<'a> Work<(Pointer<'a>, Pointer<'a>)> for StripSuffix {
+    fn run(&self, _alloc: Global, it: (Pointer<'a>, Pointer<'a>)) -> usize {
+        usize::from(it.0.strip_suffix(it.1).is_some())
+    }
+}
+
+/// Takes what both begin with.
+struct Intersection;
+
+impl<'a> Work<(Pointer<'a>, Pointer<'a>)> for Intersection {
+    fn run(&self, _alloc: Global, it: (Pointer<'a>, Pointer<'a>)) -> usize {
+        it.0.intersection(it.1).len()
+    }
+}
+
+/// Tells whether both are equal.
+struct Equal;
+
+impl<'a> Work<(Pointer<'a>, Pointer<'a>)> for Equal {
+    fn run(&self, _alloc: Global, it: (Pointer<'a>, Pointer<'a>)) -> usize {
+        usize::from(it.0 == it.1)
+    }
+}
+
+/// Puts both in order.
+struct Compare;
+
+impl<'a> Work<(Pointer<'a>, Pointer<'a>)> for Compare {
+    fn run(&self, _alloc: Global, it: (Pointer<'a>, Pointer<'a>)) -> usize {
+        usize::from(it.0.cmp(&it.1).is_lt())
+    }
+}
+
+/// Puts the second behind the first.
+struct Concat;
+
+impl<'a> Work<(Pointer<'a>, Pointer<'a>)> for Concat {
+    fn run(&self, alloc: Global, it: (Pointer<'a>, Pointer<'a>)) -> usize {
+        usize::from(it.0.concat(alloc, it.1).is_ok())
+    }
+}
 
 /// The least time of a case of these, if it is one.
 pub fn least_of(stopwatch: &Stopwatch<'_>, case: &[&str]) -> io::Result<Option<u64>> {
     match case {
-        [call, text] if *call == "parse" => least(stopwatch.turns(
-            1,
-            *text,
-            |text: &str| usize::from(Pointer::parse(text).is_ok()),
-        )),
-        [call, text] if *call == "from_encoded" => least(stopwatch.turns(1, *text, |text: &str| {
-            usize::from(Token::from_encoded(CowStr::Borrowed(text)).is_ok())
-        })),
-        [call, text] if *call == "index" => least(stopwatch.turns(
-            1,
-            *text,
-            |text: &str| usize::from(text.parse::<Index>().is_ok()),
-        )),
-        [call, text] if *call == "new" => new(stopwatch, text),
-        [call, text] if *call == "decoded" => decoded(stopwatch, text),
-        [call, text] => match Pointer::parse(text) {
-            Ok(pointer) => reading(stopwatch, call, pointer),
-            Err(_) => Ok(None),
-        },
+        [call, text] => of_text(stopwatch, call, text),
         [call, text, other] => match Pointer::parse(text) {
             Ok(pointer) => with_other(stopwatch, call, pointer, other),
             Err(_) => Ok(None),
@@ -40,55 +248,67 @@ pub fn least_of(stopwatch: &Stopwatch<'_>, case: &[&str]) -> io::Result<Option<u
 }
 
 /// A time that was taken.
-fn least(least: io::Result<u64>) -> io::Result<Option<u64>> {
+pub(crate) fn least(least: io::Result<u64>) -> io::Result<Option<u64>> {
     Ok(Some(least?))
 }
 
-fn new(stopwatch: &Stopwatch<'_>, text: &str) -> io::Result<Option<u64>> {
-    let alloc = stopwatch.alloc();
-    least(stopwatch.turns(1, text, |text: &str| {
-        match Token::new(alloc, CowStr::Borrowed(text)) {
-            Ok(token) => token.encoded().len(),
-            Err(_) => 0,
-        }
-    }))
+/// Calls on a text, or on the pointer that it is.
+fn of_text(stopwatch: &Stopwatch<'_>, call: &str, text: &str) -> io::Result<Option<u64>> {
+    match call {
+        "parse" => least(stopwatch.turns(1, text, &Parse)),
+        "from_encoded" => least(stopwatch.turns(1, text, &FromEncoded)),
+        "index" => least(stopwatch.turns(1, text, &ParseIndex)),
+        "new" => least(stopwatch.turns(1, text, &NewToken)),
+        "decoded" => decoded(stopwatch, text),
+        _ => match Pointer::parse(text) {
+            Ok(pointer) => reading(stopwatch, call, pointer),
+            Err(_) => Ok(None),
+        },
+    }
+}
+
+fn len_of_new(alloc: Global, text: &str) -> usize {
+    match Token::new(alloc, CowStr::Borrowed(text)) {
+        Ok(token) => token.encoded().len(),
+        Err(_) => 0,
+    }
 }
 
 fn decoded(stopwatch: &Stopwatch<'_>, text: &str) -> io::Result<Option<u64>> {
-    let alloc = stopwatch.alloc();
-    let token = Token::new(alloc, CowStr::Borrowed(text))?;
-    least(stopwatch.turns(1, &token, |token: &Token<'_>| {
-        match token.decoded(alloc) {
-            Ok(text) => text.as_str().len(),
-            Err(_) => 0,
-        }
-    }))
+    let token = Token::new(stopwatch.alloc(), CowStr::Borrowed(text))?;
+    least(stopwatch.turns(1, &token, &DecodedText))
+}
+
+fn len_of_decoded(alloc: Global, token: &Token<'_>) -> usize {
+    match token.decoded(alloc) {
+        Ok(text) => text.as_str().len(),
+        Err(_) => 0,
+    }
 }
 
 fn reading(stopwatch: &Stopwatch<'_>, call: &str, pointer: Pointer<'_>) -> io::Result<Option<u64>> {
+    match call {
+        "count" => least(stopwatch.turns(1, pointer, &Count)),
+        "front" => least(stopwatch.turns(1, pointer, &Front)),
+        "back" => least(stopwatch.turns(1, pointer, &Back)),
+        "parent" => least(stopwatch.turns(1, pointer, &Parent)),
+        "to_buf" => least(stopwatch.turns(1, pointer, &ToBuf)),
+        _ => reading_all(stopwatch, call, pointer),
+    }
+}
+
+/// Calls that read each token of a pointer.
+fn reading_all(
+    stopwatch: &Stopwatch<'_>,
+    call: &str,
+    pointer: Pointer<'_>,
+) -> io::Result<Option<u64>> {
     let count = pointer.count().max(1) as u64;
     match call {
-        "tokens" => least(stopwatch.turns(count, pointer, len_of_tokens)),
-        "decoded tokens" => decoded_tokens(stopwatch, pointer, count),
-        "split_front" => least(stopwatch.turns(count, pointer, split_fronts)),
-        "split_back" => least(stopwatch.turns(count, pointer, split_backs)),
-        "count" => least(stopwatch.turns(1, pointer, |it: Pointer<'_>| it.count())),
-        "front" => least(stopwatch.turns(
-            1,
-            pointer,
-            |it: Pointer<'_>| usize::from(it.front().is_some()),
-        )),
-        "back" => least(stopwatch.turns(
-            1,
-            pointer,
-            |it: Pointer<'_>| usize::from(it.back().is_some()),
-        )),
-        "parent" => least(stopwatch.turns(
-            1,
-            pointer,
-            |it: Pointer<'_>| usize::from(it.parent().is_some()),
-        )),
-        "to_buf" => to_buf(stopwatch, pointer),
+        "tokens" => least(stopwatch.turns(count, pointer, &Tokens)),
+        "decoded tokens" => least(stopwatch.turns(count, pointer, &DecodedTokens)),
+        "split_front" => least(stopwatch.turns(count, pointer, &SplitFronts)),
+        "split_back" => least(stopwatch.turns(count, pointer, &SplitBacks)),
         _ => Ok(None),
     }
 }
@@ -101,21 +321,12 @@ fn len_of_tokens(pointer: Pointer<'_>) -> usize {
     sum
 }
 
-fn decoded_tokens(
-    stopwatch: &Stopwatch<'_>,
-    pointer: Pointer<'_>,
-    count: u64,
-) -> io::Result<Option<u64>> {
-    let alloc = stopwatch.alloc();
-    least(stopwatch.turns(count, pointer, |pointer: Pointer<'_>| {
-        let mut sum = 0usize;
-        for token in pointer.tokens() {
-            if let Ok(text) = token.decoded(alloc) {
-                sum = sum.wrapping_add(text.as_str().len());
-            }
-        }
-        sum
-    }))
+fn len_of_decoded_tokens(alloc: Global, pointer: Pointer<'_>) -> usize {
+    let mut sum = 0usize;
+    for token in pointer.tokens() {
+        sum = sum.wrapping_add(len_of_decoded(alloc, &token));
+    }
+    sum
 }
 
 fn split_fronts(pointer: Pointer<'_>) -> usize {
@@ -144,13 +355,6 @@ fn split_backs(pointer: Pointer<'_>) -> usize {
     sum
 }
 
-fn to_buf(stopwatch: &Stopwatch<'_>, pointer: Pointer<'_>) -> io::Result<Option<u64>> {
-    let alloc = stopwatch.alloc();
-    least(stopwatch.turns(1, pointer, |pointer: Pointer<'_>| {
-        usize::from(pointer.to_buf(alloc).is_ok())
-    }))
-}
-
 fn with_other(
     stopwatch: &Stopwatch<'_>,
     call: &str,
@@ -158,10 +362,10 @@ fn with_other(
     other: &str,
 ) -> io::Result<Option<u64>> {
     if let Ok(place) = other.parse::<usize>() {
-        return at_place(stopwatch, call, pointer, place);
+        return at_place(stopwatch, call, (pointer, place));
     }
     match Pointer::parse(other) {
-        Ok(other) => two_pointers(stopwatch, call, pointer, other),
+        Ok(other) => two_pointers(stopwatch, call, (pointer, other)),
         Err(_) => Ok(None),
     }
 }
@@ -169,17 +373,11 @@ fn with_other(
 fn at_place(
     stopwatch: &Stopwatch<'_>,
     call: &str,
-    pointer: Pointer<'_>,
-    place: usize,
+    input: (Pointer<'_>, usize),
 ) -> io::Result<Option<u64>> {
-    let input = (pointer, place);
     match call {
-        "get" => least(stopwatch.turns(1, input, |it: (Pointer<'_>, usize)| {
-            usize::from(it.0.get(it.1).is_some())
-        })),
-        "split_at_offset" => least(stopwatch.turns(1, input, |it: (Pointer<'_>, usize)| {
-            usize::from(it.0.split_at_offset(it.1).is_some())
-        })),
+        "get" => least(stopwatch.turns(1, input, &Get)),
+        "split_at_offset" => least(stopwatch.turns(1, input, &SplitAtOffset)),
         _ => Ok(None),
     }
 }
@@ -193,49 +391,23 @@ fn range(
     let (Ok(start), Ok(end)) = (start.parse::<usize>(), end.parse::<usize>()) else {
         return Ok(None);
     };
-    let input = (pointer, start, end);
-    least(stopwatch.turns(1, input, |it: (Pointer<'_>, usize, usize)| {
-        usize::from(it.0.get(it.1..it.2).is_some())
-    }))
+    least(stopwatch.turns(1, (pointer, start, end), &GetRange))
 }
 
-fn two_pointers(
+fn two_pointers<'a>(
     stopwatch: &Stopwatch<'_>,
     call: &str,
-    pointer: Pointer<'_>,
-    other: Pointer<'_>,
+    input: (Pointer<'a>, Pointer<'a>),
 ) -> io::Result<Option<u64>> {
-    let input = (pointer, other);
     match call {
-        "starts_with" => least(stopwatch.turns(1, input, |it: (Pointer<'_>, Pointer<'_>)| {
-            usize::from(it.0.starts_with(it.1))
-        })),
-        "ends_with" => least(stopwatch.turns(1, input, |it: (Pointer<'_>, Pointer<'_>)| {
-            usize::from(it.0.ends_with(it.1))
-        })),
-        "strip_prefix" => least(stopwatch.turns(1, input, |it: (Pointer<'_>, Pointer<'_>)| {
-            usize::from(it.0.strip_prefix(it.1).is_some())
-        })),
-        "strip_suffix" => least(stopwatch.turns(1, input, |it: (Pointer<'_>, Pointer<'_>)| {
-            usize::from(it.0.strip_suffix(it.1).is_some())
-        })),
-        "intersection" => least(stopwatch.turns(1, input, |it: (Pointer<'_>, Pointer<'_>)| {
-            it.0.intersection(it.1).len()
-        })),
-        "eq" => least(stopwatch.turns(1, input, |it: (Pointer<'_>, Pointer<'_>)| {
-            usize::from(it.0 == it.1)
-        })),
-        "cmp" => least(stopwatch.turns(1, input, |it: (Pointer<'_>, Pointer<'_>)| {
-            usize::from(it.0.cmp(&it.1).is_lt())
-        })),
-        "concat" => concat(stopwatch, input),
+        "starts_with" => least(stopwatch.turns(1, input, &StartsWith)),
+        "ends_with" => least(stopwatch.turns(1, input, &EndsWith)),
+        "strip_prefix" => least(stopwatch.turns(1, input, &StripPrefix)),
+        "strip_suffix" => least(stopwatch.turns(1, input, &StripSuffix)),
+        "intersection" => least(stopwatch.turns(1, input, &Intersection)),
+        "eq" => least(stopwatch.turns(1, input, &Equal)),
+        "cmp" => least(stopwatch.turns(1, input, &Compare)),
+        "concat" => least(stopwatch.turns(1, input, &Concat)),
         _ => Ok(None),
     }
-}
-
-fn concat(stopwatch: &Stopwatch<'_>, input: (Pointer<'_>, Pointer<'_>)) -> io::Result<Option<u64>> {
-    let alloc = stopwatch.alloc();
-    least(stopwatch.turns(1, input, |it: (Pointer<'_>, Pointer<'_>)| {
-        usize::from(it.0.concat(alloc, it.1).is_ok())
-    }))
 }
