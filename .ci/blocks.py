@@ -1,4 +1,4 @@
-"""Sees that the code that readers copy is code that was proved: each block in the guide, the program in the README, and each
+"""Sees that the code that readers copy is code that was proved: each block in the guide, the code in the README, and each
 example in the documentation of the libraries stands, line by line, in a caller or a test."""
 import glob
 import os
@@ -7,7 +7,7 @@ import sys
 
 TOP = os.path.dirname(os.path.dirname(os.path.abspath(__file__)))
 BLOCK = re.compile(r"^```(?:rust|text)\n(.*?)^```$", re.MULTILINE | re.DOTALL)
-PROGRAM = re.compile(r"^```rust\n(//! .*?)^```$", re.MULTILINE | re.DOTALL)
+CODE = re.compile(r"^```rust\n(.*?)^```$", re.MULTILINE | re.DOTALL)
 MODULE = re.compile(r"mod \w+;")
 COMMENT = re.compile(r"^\s*//[/!] ?", re.MULTILINE)
 COMMENTS = re.compile(r"(?:^[ ]*//[/!].*\n)+", re.MULTILINE)
@@ -54,7 +54,7 @@ def check(blocks, sources):
 def main():
     callers = [lines(read(f)) for f in files("jsonptr_uses", "rt", "antt") + files("jsonptr_example", "rt")]
     tests = [lines(read(f)) for f in files("*_tests", "rt")]
-    guide = check(BLOCK.findall(read(f"{TOP}/docs/CALLING.md")) + PROGRAM.findall(read(f"{TOP}/README.md")), callers)
+    guide = check(BLOCK.findall(read(f"{TOP}/docs/CALLING.md")), callers) + check(CODE.findall(read(f"{TOP}/README.md")), callers + tests)
     libraries = [f for f in files("*", "rt") if "_tests/" not in f]
     told = check([block for f in libraries for block in examples(f)], callers + tests)
     print(f"blocks: {guide} of the guide and the README and {told} of the documentation stand in a caller or a test")
