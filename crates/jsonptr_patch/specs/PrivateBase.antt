@@ -32,6 +32,15 @@ IsBased base (Move from path) = IsBelow base from × IsBelow base path
 IsBased base (Copy from path) = IsBelow base from × IsBelow base path
 IsBased base (Test path value) = IsBelow base path
 
+-- the tokens at which the operation ends
+abbrev pub path_of : Operation → List Text
+path_of (Add path value) = path
+path_of (Remove path) = path
+path_of (Replace path value) = path
+path_of (Move from path) = path
+path_of (Copy from path) = path
+path_of (Test path value) = path
+
 -- the same error, told of tokens that stand behind this many others, whose text has this many bytes
 abbrev pub resolve_behind : ℕ → ℕ → resolve.Error → resolve.Error
 resolve_behind p o (resolving.FailedToParseIndex position offset source) =

@@ -11,6 +11,7 @@ ghost use Rattle.jsonptr.specs.Resolve as resolve_words;
 ghost use Rattle.jsonptr.specs.Assign as assign_words;
 ghost use Rattle.jsonptr.specs.Resolve.{PutsAt};
 ghost use Rattle.jsonptr.specs.Text.{text};
+ghost use Rattle.jsonptr_patch.specs.PrivateBase as base_words;
 ghost use Rattle.jsonptr_patch.specs.PrivateBase.{IsBelow, IsBased, FitsBehind, behind, resolve_behind, assign_behind};
 
 use crate::operation::{Operation, PatchError};
@@ -20,7 +21,9 @@ use serde_json::Value;
 use std::alloc::{AllocError, Global};
 
 /// The pointer at which an operation ends.
-pub fn path_of(operation: &Operation) -> Pointer<'_> {
+pub fn path_of(operation: &Operation) -> Pointer<'_>
+    ensures { tokens result ≡ base_words.path_of operation.now }
+{
     match operation {
         Operation::Add { path, .. } => path.as_ptr(),
         Operation::Remove { path } => path.as_ptr(),
