@@ -13,8 +13,8 @@ use Rattle.jsonptr_grammar.specs.Text.{Text, esc, text, tokens_of}
 use Rattle.jsonptr_grammar.proofs.DecLemmas.{IsUtf8-dec}
 use Rattle.jsonptr_grammar.proofs.EscapeLemmas.{IsUtf8-esc}
 use Rattle.jsonptr_grammar.proofs.PointerLemmas.{IsPointer-text, tokens_of-text, text-tokens_of}
-use Rattle.jsonptr_tree.specs.Node.{Step, key, place, Path, Label, an_object, an_array, a_leaf, NodeMap, sub, NamesStep, Names, IsTree}
-use Rattle.jsonptr_tree.specs.Content.{Content, array, object, get_item, get_member, label_of, child, content_at, map_of}
+use Rattle.jsonptr_tree.specs.Node.{Step, key, place, Path, Scalar, Label, an_object, an_array, a_leaf, NodeMap, sub, NamesStep, Names, IsTree}
+use Rattle.jsonptr_tree.specs.Content.{Content, scalar, array, object, get_item, get_member, label_of, child, content_at, map_of}
 use Rattle.jsonptr_tree.proofs.NodeLemmas.{Names_one_list, IsTree-named}
 use Rattle.jsonptr_tree.proofs.LevelLemmas.{items_by, members_by}
 use Rattle.jsonptr_tree.proofs.JsonLemmas as of_json
@@ -91,14 +91,18 @@ module _ {V : Type 0} (see : V → Content) where
           (subst IsUtf8 (sym ((bytes_eq-Decides k (string_bytes e.0)).0 is)) (IsUtf8-string_bytes e.0), (e.1, same))
       by_key later false is g = later g
 
-  -- each child of an array, and of an object
-  pub array_within : (vs : List V) (s : Step) (c : Content) → child s (array (items_by see vs)) ≡ Some c → IsWithin s c
-  array_within vs (key k) c h = no_child (key k) c h
-  array_within vs (place i) c h = (tt, item_within vs i c h)
+  -- a scalar has no child, and those of an array and of an object are so
+  pub scalar_within : (v : V) (x : Scalar) → see v ≡ scalar x → (s : Step) (c : Content) → child s (see v) ≡ Some c → IsWithin s c
+  scalar_within v x is s c h = no_child s c (sym (ap (child s) is) ∙ h)
 
-  pub object_within : (es : List (String Global × V)) (s : Step) (c : Content) → child s (object (members_by see es)) ≡ Some c → IsWithin s c
-  object_within es (key k) c h = let r = member_within es k c h in ((r.0, tt), r.1)
-  object_within es (place i) c h = no_child (place i) c h
+  pub array_within : (v : V) (vs : List V) → see v ≡ array (items_by see vs) → (s : Step) (c : Content) → child s (see v) ≡ Some c → IsWithin s c
+  array_within v vs is (key k) c h = no_child (key k) c (sym (ap (child (key k)) is) ∙ h)
+  array_within v vs is (place i) c h = (tt, item_within vs i c (sym (ap (child (place i)) is) ∙ h))
+
+  pub object_within : (v : V) (es : List (String Global × V)) → see v ≡ object (members_by see es) → (s : Step) (c : Content) → child s (see v) ≡ Some c → IsWithin s c
+  object_within v es is (key k) c h =
+      let r = member_within es k c (sym (ap (child (key k)) is) ∙ h) in ((r.0, tt), r.1)
+  object_within v es is (place i) c h = no_child (place i) c (sym (ap (child (place i)) is) ∙ h)
 
   -- where each child is so, the keys on each path are UTF-8
   pub keys_utf8 : ((v : V) (s : Step) (c : Content) → child s (see v) ≡ Some c → IsWithin s c) → (w : Path) (v : V) → IsSome (map_of (see v) w) → HasUtf8Keys w
@@ -113,50 +117,50 @@ module _ {V : Type 0} (see : V → Content) where
 
 -- by what it holds
 json_within : (v : json.Value) (o : Json-F json.Value) → json.out-Value v ≡ o → (s : Step) (c : Content) → child s (of_json.content_of v) ≡ Some c → IsWithin of_json.content_of s c
-json_within v Json-F.Null is s c h =
+json_within v Json-F.Null is =
     let same : v ≡ json.Null = search (rules, json.the_lemmas) in
-    no_child of_json.content_of s c (sym (ap (child s) (ap of_json.content_of same ∙ of_json.null_is)) ∙ h)
-json_within v (Json-F.Bool x) is s c h =
+    scalar_within of_json.content_of v _ (ap of_json.content_of same ∙ of_json.null_is)
+json_within v (Json-F.Bool x) is =
     let same : v ≡ json.Bool x = search (rules, json.the_lemmas) in
-    no_child of_json.content_of s c (sym (ap (child s) (ap of_json.content_of same ∙ of_json.bool_is x)) ∙ h)
-json_within v (Json-F.Number x) is s c h =
+    scalar_within of_json.content_of v _ (ap of_json.content_of same ∙ of_json.bool_is x)
+json_within v (Json-F.Number x) is =
     let same : v ≡ json.Number x = search (rules, json.the_lemmas) in
-    no_child of_json.content_of s c (sym (ap (child s) (ap of_json.content_of same ∙ of_json.number_is x)) ∙ h)
-json_within v (Json-F.String x) is s c h =
+    scalar_within of_json.content_of v _ (ap of_json.content_of same ∙ of_json.number_is x)
+json_within v (Json-F.String x) is =
     let same : v ≡ json.String x = search (rules, json.the_lemmas) in
-    no_child of_json.content_of s c (sym (ap (child s) (ap of_json.content_of same ∙ of_json.string_is x)) ∙ h)
-json_within v (Json-F.Array x) is s c h =
+    scalar_within of_json.content_of v _ (ap of_json.content_of same ∙ of_json.string_is x)
+json_within v (Json-F.Array x) is =
     let same : v ≡ json.Array x = search (rules, json.the_lemmas) in
-    array_within of_json.content_of x.items s c (sym (ap (child s) (ap of_json.content_of same ∙ of_json.array_is x)) ∙ h)
-json_within v (Json-F.Object x) is s c h =
+    array_within of_json.content_of v x.items (ap of_json.content_of same ∙ of_json.array_is x)
+json_within v (Json-F.Object x) is =
     let same : v ≡ json.Object x = search (rules, json.the_lemmas) in
-    object_within of_json.content_of x.entries s c (sym (ap (child s) (ap of_json.content_of same ∙ of_json.object_is x)) ∙ h)
+    object_within of_json.content_of v x.entries (ap of_json.content_of same ∙ of_json.object_is x)
 
 pub json_keys : (v : json.Value) (w : Path) → IsSome (map_of (of_json.content_of v) w) → HasUtf8Keys w
 json_keys v w = keys_utf8 of_json.content_of (λ u. json_within u (json.out-Value u) refl) w v
 
 toml_within : (v : toml.Value) (o : Toml-F toml.Value) → toml.out-Value v ≡ o → (s : Step) (c : Content) → child s (of_toml.content_of v) ≡ Some c → IsWithin of_toml.content_of s c
-toml_within v (Toml-F.String x) is s c h =
+toml_within v (Toml-F.String x) is =
     let same : v ≡ toml.String x = search (rules, toml.the_lemmas) in
-    no_child of_toml.content_of s c (sym (ap (child s) (ap of_toml.content_of same ∙ of_toml.string_is x)) ∙ h)
-toml_within v (Toml-F.Integer x) is s c h =
+    scalar_within of_toml.content_of v _ (ap of_toml.content_of same ∙ of_toml.string_is x)
+toml_within v (Toml-F.Integer x) is =
     let same : v ≡ toml.Integer x = search (rules, toml.the_lemmas) in
-    no_child of_toml.content_of s c (sym (ap (child s) (ap of_toml.content_of same ∙ of_toml.integer_is x)) ∙ h)
-toml_within v (Toml-F.Float x) is s c h =
+    scalar_within of_toml.content_of v _ (ap of_toml.content_of same ∙ of_toml.integer_is x)
+toml_within v (Toml-F.Float x) is =
     let same : v ≡ toml.Float x = search (rules, toml.the_lemmas) in
-    no_child of_toml.content_of s c (sym (ap (child s) (ap of_toml.content_of same ∙ of_toml.float_is x)) ∙ h)
-toml_within v (Toml-F.Boolean x) is s c h =
+    scalar_within of_toml.content_of v _ (ap of_toml.content_of same ∙ of_toml.float_is x)
+toml_within v (Toml-F.Boolean x) is =
     let same : v ≡ toml.Boolean x = search (rules, toml.the_lemmas) in
-    no_child of_toml.content_of s c (sym (ap (child s) (ap of_toml.content_of same ∙ of_toml.boolean_is x)) ∙ h)
-toml_within v (Toml-F.Datetime x) is s c h =
+    scalar_within of_toml.content_of v _ (ap of_toml.content_of same ∙ of_toml.boolean_is x)
+toml_within v (Toml-F.Datetime x) is =
     let same : v ≡ toml.Datetime x = search (rules, toml.the_lemmas) in
-    no_child of_toml.content_of s c (sym (ap (child s) (ap of_toml.content_of same ∙ of_toml.datetime_is x)) ∙ h)
-toml_within v (Toml-F.Array x) is s c h =
+    scalar_within of_toml.content_of v _ (ap of_toml.content_of same ∙ of_toml.datetime_is x)
+toml_within v (Toml-F.Array x) is =
     let same : v ≡ toml.Array x = search (rules, toml.the_lemmas) in
-    array_within of_toml.content_of x.items s c (sym (ap (child s) (ap of_toml.content_of same ∙ of_toml.array_is x)) ∙ h)
-toml_within v (Toml-F.Table x) is s c h =
+    array_within of_toml.content_of v x.items (ap of_toml.content_of same ∙ of_toml.array_is x)
+toml_within v (Toml-F.Table x) is =
     let same : v ≡ toml.Table x = search (rules, toml.the_lemmas) in
-    object_within of_toml.content_of x.entries s c (sym (ap (child s) (ap of_toml.content_of same ∙ of_toml.object_is x)) ∙ h)
+    object_within of_toml.content_of v x.entries (ap of_toml.content_of same ∙ of_toml.object_is x)
 
 pub toml_keys : (v : toml.Value) (w : Path) → IsSome (map_of (of_toml.content_of v) w) → HasUtf8Keys w
 toml_keys v w = keys_utf8 of_toml.content_of (λ u. toml_within u (toml.out-Value u) refl) w v
