@@ -157,33 +157,57 @@ fn read_command(alloc: Global, words: &[String]) -> Result<Request<'_>, RunFault
     ensures err { IfErr result (RefusesCommand (map string_bytes words.now)) }
 {
     match words {
-        [command, pointer] if command.as_str() == "resolve" => {
-            Ok(Request::Resolve(Pointer::parse(pointer.as_str())?))
+        [command, pointer] => read_two(command.as_str(), pointer.as_str()),
+        [command, pointer, third] => {
+            read_three(alloc, command.as_str(), pointer.as_str(), third.as_str())
         }
-        [command, pointer] if command.as_str() == "tokens" => {
-            Ok(Request::Tokens(Pointer::parse(pointer.as_str())?))
+        _ => Err(RunFault::Usage),
+    }
+}
+
+/// The same of two words.
+fn read_two<'w>(command: &str, pointer: &'w str) -> Result<Request<'w>, RunFault>
+    ensures ok { IfOk result (λ r. AskFor (command.now ∷ pointer.now ∷ []) (request_of r)) }
+    ensures err { IfErr result (RefusesCommand (command.now ∷ pointer.now ∷ [])) }
+{
+    match command {
+        "resolve" => Ok(Request::Resolve(Pointer::parse(pointer)?)),
+        "tokens" => Ok(Request::Tokens(Pointer::parse(pointer)?)),
+        "delete" => Ok(Request::Delete(Pointer::parse(pointer)?)),
+        _ => Err(RunFault::Usage),
+    }
+}
+
+/// The same of three.
+fn read_three<'w>(
+    alloc: Global,
+    command: &str,
+    pointer: &'w str,
+    third: &str,
+) -> Result<Request<'w>, RunFault>
+    ensures ok { IfOk result
+        (λ r. AskFor (command.now ∷ pointer.now ∷ third.now ∷ []) (request_of r)) }
+    ensures err { IfErr result (RefusesCommand (command.now ∷ pointer.now ∷ third.now ∷ [])) }
+{
+    match command {
+        "assign" => {
+            let pointer = Pointer::parse(pointer)?;
+            Ok(Request::Assign(pointer, read_value(alloc, third)?))
         }
-        [command, pointer] if command.as_str() == "delete" => {
-            Ok(Request::Delete(Pointer::parse(pointer.as_str())?))
-        }
-        [command, pointer, value] if command.as_str() == "assign" => {
-            let pointer = Pointer::parse(pointer.as_str())?;
-            Ok(Request::Assign(pointer, read_value(alloc, value.as_str())?))
-        }
-        [command, pointer, position] if command.as_str() == "split" => {
-            let position = read_position(position)?;
-            Ok(Request::Split(Pointer::parse(pointer.as_str())?, position))
+        "split" => {
+            let position = read_position(third)?;
+            Ok(Request::Split(Pointer::parse(pointer)?, position))
         }
         _ => Err(RunFault::Usage),
     }
 }
 
 /// The position to split at, whose decimal text the word is.
-fn read_position(word: &String) -> Result<usize, RunFault>
-    ensures ok { IfOk result (λ n. Reads (string_bytes word.now) (Ok (Num n))) }
-    ensures err { IfErr result (RefusesPosition (string_bytes word.now)) }
+fn read_position(word: &str) -> Result<usize, RunFault>
+    ensures ok { IfOk result (λ n. Reads word.now (Ok (Num n))) }
+    ensures err { IfErr result (RefusesPosition word.now) }
 {
-    match word.as_str().parse() {
+    match word.parse() {
         Ok(Index::Num(position)) => Ok(position),
         Ok(Index::Next) => Err(RunFault::Usage),
         Err(_) => Err(RunFault::Usage),

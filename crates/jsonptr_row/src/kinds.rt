@@ -1,4 +1,4 @@
-//! What rows do to a document of either kind.
+//! What rows do to a document of either kind, and on pointers of either.
 use crate::row::NoRow;
 use crate::said::Said;
 use jsonptr::{Fault, Pointer, PointerBuf, assign, resolve};
@@ -8,6 +8,11 @@ use jsonptr_tabled::TabledPointer;
 use std::alloc::{AllocError, Global};
 use std::fmt::Display;
 use std::mem;
+
+/// The tabled pointer of a plain one.
+pub fn tabled(alloc: Global, pointer: Pointer<'_>) -> Result<TabledPointer, AllocError> {
+    TabledPointer::from_plain(alloc, pointer.to_buf(alloc)?)
+}
 
 /// A document of one of the two kinds.
 pub trait Document: Display + Drop + Sized {
@@ -19,6 +24,9 @@ pub trait Document: Display + Drop + Sized {
 
     /// Of a value that is lent.
     fn said_lent(&self) -> Said<'_>;
+
+    /// The last value in an array or an object, taken out, so that a deep one is taken apart without a recursion.
+    fn last(self) -> Option<Self>;
 
     /// The value that the pointer names.
     fn resolve(&self, alloc: Global, ptr: Pointer<'_>) -> Result<&Self, Fault<resolve::Error>>;
@@ -81,6 +89,14 @@ impl Document for serde_json::Value {
 
     fn said_lent(&self) -> Said<'_> {
         Said::JsonLent(self)
+    }
+
+    fn last(self) -> Option<serde_json::Value> {
+        match self {
+            serde_json::Value::Array(mut elements) => elements.pop(),
+            serde_json::Value::Object(members) => Some(members.into_iter().last()?.1),
+            _ => None,
+        }
     }
 
     fn resolve(
@@ -164,6 +180,14 @@ impl Document for toml::Value {
 
     fn said_lent(&self) -> Said<'_> {
         Said::TomlLent(self)
+    }
+
+    fn last(self) -> Option<toml::Value> {
+        match self {
+            toml::Value::Array(mut elements) => elements.pop(),
+            toml::Value::Table(members) => Some(members.into_iter().last()?.1),
+            _ => None,
+        }
     }
 
     fn resolve(

@@ -5,32 +5,6 @@ use jsonptr_row::kinds::Document;
 use jsonptr_row::row::{NoRow, Row};
 use jsonptr_row::stage;
 
-/// A document that can be taken apart without a recursion.
-trait Nested: Document {
-    /// The last value in an array or object, taken out.
-    fn last(self) -> Option<Self>;
-}
-
-impl Nested for serde_json::Value {
-    fn last(self) -> Option<serde_json::Value> {
-        match self {
-            serde_json::Value::Array(mut elements) => elements.pop(),
-            serde_json::Value::Object(members) => Some(members.into_iter().last()?.1),
-            _ => None,
-        }
-    }
-}
-
-impl Nested for toml::Value {
-    fn last(self) -> Option<toml::Value> {
-        match self {
-            toml::Value::Array(mut elements) => elements.pop(),
-            toml::Value::Table(members) => Some(members.into_iter().last()?.1),
-            _ => None,
-        }
-    }
-}
-
 /// Runs a row: the kind of document, the pointer, and the calls to make in turn, on a scalar.
 pub fn run(rt: &HostRuntime, mut row: Row<'_>) -> anyhow::Result<()> {
     match row.next() {
@@ -41,7 +15,7 @@ pub fn run(rt: &HostRuntime, mut row: Row<'_>) -> anyhow::Result<()> {
 }
 
 /// Runs the calls on a document, and then takes it apart where the row says so, or lets it go as it is.
-fn run_on<D: Nested>(rt: &HostRuntime, mut document: D, mut row: Row<'_>) -> anyhow::Result<()> {
+fn run_on<D: Document>(rt: &HostRuntime, mut document: D, mut row: Row<'_>) -> anyhow::Result<()> {
     let pointer = Pointer::parse(row.next())?;
     for _turn in 0..u64::MAX {
         match row.next() {
@@ -63,7 +37,7 @@ fn run_on<D: Nested>(rt: &HostRuntime, mut document: D, mut row: Row<'_>) -> any
 }
 
 /// Lets a document go of at most so many values within one another, from the outermost on.
-fn take_apart<D: Nested>(document: D, depth: usize) {
+fn take_apart<D: Document>(document: D, depth: usize) {
     let mut rest = Some(document);
     for _turn in 0..=depth {
         rest = match rest {

@@ -1,6 +1,6 @@
 //! Rows of the calls that change a pointer of its own.
-use crate::tabled::tabled;
 use jsonptr::{Pointer, Token};
+use jsonptr_row::kinds::tabled;
 use jsonptr_row::row::{NoRow, Row};
 use jsonptr_row::said::Said;
 use jsonptr_row::stage;

@@ -1,12 +1,12 @@
 //! Rows of sessions: lists of calls on a pointer and a document of each kind.
-use crate::tabled::tabled;
 use jsonptr::Pointer;
-use jsonptr_row::kinds::Document;
+use jsonptr_row::calls::calls;
+use jsonptr_row::kinds::{Document, tabled};
 use jsonptr_row::row::{NoRow, Row};
 use jsonptr_row::said::Said;
 use jsonptr_row::stage;
 use jsonptr_session::{Call, Reply};
-use std::alloc::{AllocError, Global};
+use std::alloc::AllocError;
 use std::fmt::Display;
 
 /// Runs a row: the kind of document, the document, the kind of pointer, the pointer, and the calls.
@@ -62,45 +62,6 @@ fn on_table<D: Document>(
     show(rt, &replies)?;
     stage::state(rt)?;
     Ok(println!(rt; "{pointer} {document}")?)
-}
-
-/// The calls of the lines that are left.
-fn calls<D: Document>(alloc: Global, mut row: Row<'_>) -> anyhow::Result<Vec<Call<D>>> {
-    let mut calls = Vec::new(alloc);
-    for _turn in 0..u64::MAX {
-        if row.is_empty() {
-            break;
-        }
-        calls.push(call(alloc, row.next())?)?;
-    }
-    Ok(calls)
-}
-
-/// The call of a line: its name, and what it is made with, as text.
-fn call<D: Document>(alloc: Global, line: &str) -> anyhow::Result<Call<D>> {
-    let (name, with) = line.split_once(' ').unwrap_or((line, ""));
-    match name {
-        "pop_back" => Ok(Call::PopBack),
-        "pop_front" => Ok(Call::PopFront),
-        "clear" => Ok(Call::Clear),
-        "resolve" => Ok(Call::Resolve),
-        "delete" => Ok(Call::Delete),
-        "write" => Ok(Call::Write(D::read(alloc, with)?)),
-        "assign" => Ok(Call::Assign(D::read(alloc, with)?)),
-        "append" => Ok(Call::Append(Pointer::parse(with)?.to_buf(alloc)?)),
-        _ => call_with(name, String::from_str(alloc, with)?),
-    }
-}
-
-/// The call of a name and a text.
-fn call_with<D: Document>(name: &str, text: String) -> anyhow::Result<Call<D>> {
-    match name {
-        "parse" => Ok(Call::Parse(text)),
-        "push_back" => Ok(Call::PushBack(text)),
-        "push_front" => Ok(Call::PushFront(text)),
-        "replace" => Ok(Call::Replace(0, text)),
-        _ => Err(NoRow.into()),
-    }
 }
 
 /// Writes what is replied, a line each.

@@ -1,14 +1,14 @@
 //! Rows of what displays and what is hashed, neither of which takes memory.
-use crate::tabled::tabled;
 use jsonptr::index::{Index, OutOfBoundsError, ParseIndexError};
 use jsonptr::{Fault, InvalidEncoding, Pointer, ReplaceError, Token};
+use jsonptr_row::failing::faults_told;
+use jsonptr_row::kinds::tabled;
 use jsonptr_row::row::{NoRow, Row};
 use jsonptr_row::said::Said;
 use jsonptr_row::stage;
 use std::alloc::AllocError;
 use std::borrow::CowStr;
-use std::fmt;
-use std::fmt::{Display, Write};
+use std::fmt::Display;
 use std::hash::{DefaultHasher, Hash, Hasher};
 
 /// Runs a row: the kind of thing, and its text, which is displayed while requests are counted.
@@ -78,45 +78,11 @@ fn memory() -> Fault<InvalidEncoding> {
     Fault::Memory(AllocError)
 }
 
-/// Displays a thing to a writer that fails at its first call, to one that fails at its second, and so on, up to the
-/// one that does not fail: whether each fault was answered, and nothing was written after it.
+/// Displays a thing to writers that fail: whether it answers each fault, and writes nothing after it.
 pub fn show_failing<D: Display>(rt: &HostRuntime, thing: &D) -> anyhow::Result<()> {
     stage::begin(rt)?;
-    let mut said = Said::Nothing;
-    for calls in 0..1000 {
-        let mut writer = Failing { calls, faults: 0 };
-        match write!(&mut writer, "{thing}") {
-            Ok(()) if writer.faults == 0 => {
-                said = Said::Truth(calls > 0);
-                break;
-            }
-            Err(_) if writer.faults == 1 => {}
-            _ => break,
-        }
-    }
+    let said = faults_told(thing);
     stage::answer(rt, Some(said))
-}
-
-/// A writer that fails once it has taken so many calls, and says how often it failed.
-#[derive(Debug, Drop)]
-struct Failing {
-    calls: usize,
-    faults: usize,
-}
-
-impl fmt::Write for Failing {
-    fn write_str(&mut self, _text: &str) -> fmt::Result {
-        match self.calls.checked_sub(1) {
-            Some(calls) => {
-                self.calls = calls;
-                Ok(())
-            }
-            None => {
-                self.faults = self.faults.saturating_add(1);
-                Err(fmt::Error)
-            }
-        }
-    }
 }
 
 /// Runs a row: the kind of thing, and two texts, whose hashes are compared.

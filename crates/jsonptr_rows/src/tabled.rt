@@ -1,16 +1,12 @@
 //! Rows of the calls that read a tabled pointer.
 use crate::ranges;
 use jsonptr::{Pointer, PointerBuf};
+use jsonptr_row::kinds::tabled;
 use jsonptr_row::row::Row;
 use jsonptr_row::said::Said;
 use jsonptr_row::stage;
 use jsonptr_tabled::TabledPointer;
-use std::alloc::{AllocError, Global};
-
-/// The tabled pointer of a plain one.
-pub fn tabled(alloc: Global, pointer: Pointer<'_>) -> Result<TabledPointer, AllocError> {
-    TabledPointer::from_plain(alloc, pointer.to_buf(alloc)?)
-}
+use std::alloc::Global;
 
 /// Runs a row: the call, the pointer, and two numbers.
 pub fn run(rt: &HostRuntime, mut row: Row<'_>) -> anyhow::Result<()> {

@@ -5,3 +5,4 @@ pub mod Session
 pub mod Order
 pub mod Documents
 pub mod Undo
+pub mod PrivateTurn

@@ -1,12 +1,11 @@
 //! The calls of a session, in turn.
-ghost use Rattle.std.specs.Prelude.{◌≡◌, All, IfOk, OnErr, map, option_and_then, string_bytes};
-ghost use Rattle.std.specs.Result.{result_ok};
-ghost use Rattle.jsonptr.specs.Node.{NodeMap};
+ghost use Rattle.std.specs.Prelude.{◌≡◌, All, IfOk, OnErr, map, string_bytes};
 ghost use Rattle.jsonptr.specs.Pointer.{tokens};
 ghost use Rattle.jsonptr_session.specs.Machine.{State, Steps, Runs};
 ghost use Rattle.jsonptr_session.specs.Machine as machine;
 ghost use Rattle.jsonptr_session.specs.Session.{tells, says};
 ghost use Rattle.jsonptr_session.specs.Order.{Brings, Gives};
+ghost use Rattle.jsonptr_session.specs.PrivateTurn.{answered, StepsOnNodes, StepsOnTokens};
 
 use crate::document::Document;
 use crate::session::{Call, Reply};
@@ -76,7 +75,7 @@ fn answer<P: EditPointer, D: Document>(
     call: Call<D>,
 ) -> Result<Reply<D>, AllocError>
     ensures steps { Steps D.blank (record { tokens = P.list ptr.old; nodes = D.nodes doc.old })
-        (tells D.nodes call) (option_and_then (says D.nodes) (result_ok result))
+        (tells D.nodes call) (answered D.nodes result)
         (record { tokens = P.list ptr.new; nodes = D.nodes doc.new }) }
     ensures order { Brings D.in_order call → D.in_order doc.old → D.in_order doc.new }
     ensures given_in_order { IfOk result (λ reply. D.in_order doc.old → Gives D.in_order reply) }
@@ -85,27 +84,22 @@ fn answer<P: EditPointer, D: Document>(
         Call::Parse(text) => parse(ptr, text),
         Call::PushBack(text) => push_back(alloc, ptr, text),
         Call::PushFront(text) => push_front(alloc, ptr, text),
-        Call::PopBack => Ok(Reply::Token(ptr.pop_back()?)),
-        Call::PopFront => Ok(Reply::Token(ptr.pop_front()?)),
+        Call::PopBack => pop_back(ptr),
+        Call::PopFront => pop_front(ptr),
         Call::Replace(index, text) => replace(alloc, ptr, index, text),
         Call::Append(other) => append(ptr, other),
-        Call::Clear => {
-            ptr.clear();
-            Ok(Reply::Done)
-        }
+        Call::Clear => clear(ptr),
         Call::Resolve => resolve(alloc, ptr.as_ptr(), doc),
         Call::Write(value) => write(alloc, ptr.as_ptr(), doc, value),
         Call::Assign(value) => assign(alloc, ptr.as_ptr(), doc, value),
-        Call::Delete => Ok(Reply::Deleted(doc.delete_at(alloc, ptr.as_ptr())?)),
+        Call::Delete => delete(alloc, ptr.as_ptr(), doc),
     }
 }
 
 /// The answer to `Call::Parse`.
 fn parse<P: EditPointer, D: Document>(ptr: &mut P, text: String) -> Result<Reply<D>, AllocError>
-    ensures steps { (nodes : NodeMap) → Steps D.blank
-        (record { tokens = P.list ptr.old; nodes = nodes })
-        (machine.parse (string_bytes text)) (option_and_then (says D.nodes) (result_ok result))
-        (record { tokens = P.list ptr.new; nodes = nodes }) }
+    ensures steps { StepsOnTokens D.blank (P.list ptr.old) (machine.parse (string_bytes text))
+        (answered D.nodes result) (P.list ptr.new) }
     ensures given_in_order { IfOk result (Gives D.in_order) }
 {
     match ptr.set_text(text) {
@@ -121,10 +115,8 @@ fn push_back<P: EditPointer, D: Document>(
     ptr: &mut P,
     text: String,
 ) -> Result<Reply<D>, AllocError>
-    ensures steps { (nodes : NodeMap) → Steps D.blank
-        (record { tokens = P.list ptr.old; nodes = nodes })
-        (machine.push_back (string_bytes text)) (option_and_then (says D.nodes) (result_ok result))
-        (record { tokens = P.list ptr.new; nodes = nodes }) }
+    ensures steps { StepsOnTokens D.blank (P.list ptr.old) (machine.push_back (string_bytes text))
+        (answered D.nodes result) (P.list ptr.new) }
     ensures given_in_order { IfOk result (Gives D.in_order) }
 {
     ptr.push_back(Token::new(alloc, CowStr::Owned(text))?)?;
@@ -137,14 +129,30 @@ fn push_front<P: EditPointer, D: Document>(
     ptr: &mut P,
     text: String,
 ) -> Result<Reply<D>, AllocError>
-    ensures steps { (nodes : NodeMap) → Steps D.blank
-        (record { tokens = P.list ptr.old; nodes = nodes })
-        (machine.push_front (string_bytes text)) (option_and_then (says D.nodes) (result_ok result))
-        (record { tokens = P.list ptr.new; nodes = nodes }) }
+    ensures steps { StepsOnTokens D.blank (P.list ptr.old) (machine.push_front (string_bytes text))
+        (answered D.nodes result) (P.list ptr.new) }
     ensures given_in_order { IfOk result (Gives D.in_order) }
 {
     ptr.push_front(Token::new(alloc, CowStr::Owned(text))?)?;
     Ok(Reply::Done)
+}
+
+/// The answer to `Call::PopBack`.
+fn pop_back<P: EditPointer, D: Document>(ptr: &mut P) -> Result<Reply<D>, AllocError>
+    ensures steps { StepsOnTokens D.blank (P.list ptr.old) machine.pop_back
+        (answered D.nodes result) (P.list ptr.new) }
+    ensures given_in_order { IfOk result (Gives D.in_order) }
+{
+    Ok(Reply::Token(ptr.pop_back()?))
+}
+
+/// The answer to `Call::PopFront`.
+fn pop_front<P: EditPointer, D: Document>(ptr: &mut P) -> Result<Reply<D>, AllocError>
+    ensures steps { StepsOnTokens D.blank (P.list ptr.old) machine.pop_front
+        (answered D.nodes result) (P.list ptr.new) }
+    ensures given_in_order { IfOk result (Gives D.in_order) }
+{
+    Ok(Reply::Token(ptr.pop_front()?))
 }
 
 /// The answer to `Call::Replace`.
@@ -154,10 +162,8 @@ fn replace<P: EditPointer, D: Document>(
     index: usize,
     text: String,
 ) -> Result<Reply<D>, AllocError>
-    ensures steps { (nodes : NodeMap) → Steps D.blank
-        (record { tokens = P.list ptr.old; nodes = nodes })
-        (machine.replace index (string_bytes text)) (option_and_then (says D.nodes) (result_ok result))
-        (record { tokens = P.list ptr.new; nodes = nodes }) }
+    ensures steps { StepsOnTokens D.blank (P.list ptr.old) (machine.replace index (string_bytes text))
+        (answered D.nodes result) (P.list ptr.new) }
     ensures given_in_order { IfOk result (Gives D.in_order) }
 {
     let token = Token::new(alloc, CowStr::Owned(text))?;
@@ -173,21 +179,28 @@ fn append<P: EditPointer, D: Document>(
     ptr: &mut P,
     other: PointerBuf,
 ) -> Result<Reply<D>, AllocError>
-    ensures steps { (nodes : NodeMap) → Steps D.blank
-        (record { tokens = P.list ptr.old; nodes = nodes })
-        (machine.append other) (option_and_then (says D.nodes) (result_ok result))
-        (record { tokens = P.list ptr.new; nodes = nodes }) }
+    ensures steps { StepsOnTokens D.blank (P.list ptr.old) (machine.append other)
+        (answered D.nodes result) (P.list ptr.new) }
     ensures given_in_order { IfOk result (Gives D.in_order) }
 {
     ptr.append(other.as_ptr())?;
     Ok(Reply::Done)
 }
 
+/// The answer to `Call::Clear`, which takes no memory.
+fn clear<P: EditPointer, D: Document>(ptr: &mut P) -> Result<Reply<D>, AllocError>
+    ensures steps { StepsOnTokens D.blank (P.list ptr.old) machine.clear
+        (answered D.nodes result) (P.list ptr.new) }
+    ensures given_in_order { IfOk result (Gives D.in_order) }
+{
+    ptr.clear();
+    Ok(Reply::Done)
+}
+
 /// The answer to `Call::Resolve`.
 fn resolve<D: Document>(alloc: Global, ptr: Pointer<'_>, doc: &D) -> Result<Reply<D>, AllocError>
-    ensures steps { Steps D.blank (record { tokens = tokens ptr.entry; nodes = D.nodes doc.now })
-        machine.resolve (option_and_then (says D.nodes) (result_ok result))
-        (record { tokens = tokens ptr.entry; nodes = D.nodes doc.now }) }
+    ensures steps { StepsOnNodes D.blank (tokens ptr.entry) (D.nodes doc.now) machine.resolve
+        (answered D.nodes result) (D.nodes doc.now) }
     ensures given_in_order { IfOk result (λ reply. D.in_order doc.now → Gives D.in_order reply) }
 {
     match doc.copy_at(alloc, ptr) {
@@ -204,9 +217,8 @@ fn write<D: Document>(
     doc: &mut D,
     value: D,
 ) -> Result<Reply<D>, AllocError>
-    ensures steps { Steps D.blank (record { tokens = tokens ptr.entry; nodes = D.nodes doc.old })
-        (machine.write (D.nodes value)) (option_and_then (says D.nodes) (result_ok result))
-        (record { tokens = tokens ptr.entry; nodes = D.nodes doc.new }) }
+    ensures steps { StepsOnNodes D.blank (tokens ptr.entry) (D.nodes doc.old) (machine.write (D.nodes value))
+        (answered D.nodes result) (D.nodes doc.new) }
     ensures order { D.in_order value → D.in_order doc.old → D.in_order doc.new }
     ensures given_in_order { IfOk result (λ reply. D.in_order doc.old → Gives D.in_order reply) }
 {
@@ -225,9 +237,8 @@ fn assign<D: Document>(
     doc: &mut D,
     value: D,
 ) -> Result<Reply<D>, AllocError>
-    ensures steps { Steps D.blank (record { tokens = tokens ptr.entry; nodes = D.nodes doc.old })
-        (machine.assign (D.nodes value)) (option_and_then (says D.nodes) (result_ok result))
-        (record { tokens = tokens ptr.entry; nodes = D.nodes doc.new }) }
+    ensures steps { StepsOnNodes D.blank (tokens ptr.entry) (D.nodes doc.old) (machine.assign (D.nodes value))
+        (answered D.nodes result) (D.nodes doc.new) }
     ensures order { D.in_order value → D.in_order doc.old → D.in_order doc.new }
     ensures given_in_order { IfOk result (λ reply. D.in_order doc.old → Gives D.in_order reply) }
 {
@@ -236,4 +247,14 @@ fn assign<D: Document>(
         Err(Fault::Refused(error)) => Ok(Reply::BadPlace(error)),
         Err(Fault::Memory(error)) => Err(error),
     }
+}
+
+/// The answer to `Call::Delete`.
+fn delete<D: Document>(alloc: Global, ptr: Pointer<'_>, doc: &mut D) -> Result<Reply<D>, AllocError>
+    ensures steps { StepsOnNodes D.blank (tokens ptr.entry) (D.nodes doc.old) machine.delete
+        (answered D.nodes result) (D.nodes doc.new) }
+    ensures order { D.in_order doc.old → D.in_order doc.new }
+    ensures given_in_order { IfOk result (λ reply. D.in_order doc.old → Gives D.in_order reply) }
+{
+    Ok(Reply::Deleted(doc.delete_at(alloc, ptr)?))
 }

@@ -4,8 +4,8 @@ use Rattle.jsonptr_command.proofs.run.read_position.Goals as goal
 
 pub returns-in-Ok-Next-clause-err : goal.returns-in-Ok-Next-clause-err
 returns-in-Ok-Next-clause-err c =
-    (no_number _ c.as_str.result.now c.parse.result c.as_str.ensures.value c.parse.ensures.value (next_is_no_number c.parse.result c.in-Ok-Next.field-0 c.in-Ok-Next.is c.in-Ok-Next.field-0-is), refl)
+    (no_number c.args.word.now c.parse.result c.parse.ensures.value (next_is_no_number c.parse.result c.in-Ok-Next.field-0 c.in-Ok-Next.is c.in-Ok-Next.field-0-is), refl)
 
 pub returns-in-Err-clause-err : goal.returns-in-Err-clause-err
 returns-in-Err-clause-err c =
-    (no_number _ c.as_str.result.now c.parse.result c.as_str.ensures.value c.parse.ensures.value (fault_is_no_number c.parse.result c.in-Err.field-0 c.in-Err.is), refl)
+    (no_number c.args.word.now c.parse.result c.parse.ensures.value (fault_is_no_number c.parse.result c.in-Err.field-0 c.in-Err.is), refl)

@@ -15,3 +15,12 @@ returns-in-Replace-clause-steps g c = rw c.in-Replace.is (c.replace.ensures.step
 
 pub returns-in-Append-clause-steps : goal.returns-in-Append-clause-steps
 returns-in-Append-clause-steps g c = rw c.in-Append.is (c.append.ensures.steps (g.D.Document.nodes c.args.doc.now))
+
+pub returns-in-PopBack-clause-steps : goal.returns-in-PopBack-clause-steps
+returns-in-PopBack-clause-steps g c = rw c.in-PopBack.is (c.pop_back.ensures.steps (g.D.Document.nodes c.args.doc.now))
+
+pub returns-in-PopFront-clause-steps : goal.returns-in-PopFront-clause-steps
+returns-in-PopFront-clause-steps g c = rw c.in-PopFront.is (c.pop_front.ensures.steps (g.D.Document.nodes c.args.doc.now))
+
+pub returns-in-Clear-clause-steps : goal.returns-in-Clear-clause-steps
+returns-in-Clear-clause-steps g c = rw c.in-Clear.is (c.clear.ensures.steps (g.D.Document.nodes c.args.doc.now))

@@ -1,0 +1,40 @@
+//! Writers that fail.
+use crate::said::Said;
+use std::fmt;
+use std::fmt::{Display, Write};
+
+/// What is said of a thing that is displayed to a writer that fails at its first call, to one that fails at its second,
+/// and so on, up to the one that does not fail: whether each fault was answered, and nothing was written after it.
+pub fn faults_told<D: Display>(thing: &D) -> Said<'static> {
+    for calls in 0..1000 {
+        let mut writer = Failing { calls, faults: 0 };
+        match write!(&mut writer, "{thing}") {
+            Ok(()) if writer.faults == 0 => return Said::Truth(calls > 0),
+            Err(_) if writer.faults == 1 => {}
+            _ => break,
+        }
+    }
+    Said::Nothing
+}
+
+/// A writer that fails once it has taken so many calls, and says how often it failed.
+#[derive(Debug, Drop)]
+struct Failing {
+    calls: usize,
+    faults: usize,
+}
+
+impl fmt::Write for Failing {
+    fn write_str(&mut self, _text: &str) -> fmt::Result {
+        match self.calls.checked_sub(1) {
+            Some(calls) => {
+                self.calls = calls;
+                Ok(())
+            }
+            None => {
+                self.faults = self.faults.saturating_add(1);
+                Err(fmt::Error)
+            }
+        }
+    }
+}
