@@ -4,9 +4,11 @@ use Rattle.serde_json.specs.Data.{Data}
 use Rattle.jsonptr.specs.Text.{Text}
 use Rattle.jsonptr_command.specs.JsonText.{json_of}
 use Rattle.jsonptr_command.specs.Streams.{ForBytes}
-use Rattle.jsonptr_command.specs.Run.{Request, Gives, IsRequestFault, NeedsInput, OnDocument}
+use Rattle.jsonptr_command.specs.Run.{Gives, IsRequestFault, NeedsInput, OnDocument}
 use Rattle.jsonptr_command.specs.Faults.{IsInputFault}
-use Rattle.jsonptr_command.specs.Private.{IsFaultOf, IsLineOf}
+use Rattle.jsonptr_command.specs.Private.{task_of, Does, IsFaultOf, IsLineOf}
+use Rattle.jsonptr_command.specs.declared.run.Task.{Task}
+use Rattle.jsonptr_command.specs.declared.run.Task.TheVariants.{Resolve, Assign, Delete, Patch}
 use Rattle.jsonptr_command.specs.declared.fault.RunFault.{RunFault}
 use Rattle.jsonptr_command.specs.declared.fault.RunFault.TheVariants.{InputNotJson}
 
@@ -27,28 +29,41 @@ no_document : (bytes : List ℕ) (e : RunFault) (P : Data → Type 0) → json_o
 no_document bytes e P none is =
     subst (λ (o : Option Data). MatchOption o (refusal e ≡ refusal InputNotJson) P) (sym none) (ap refusal is)
 
--- a request that needs the input and gives what its document gives
-module _ (known : Option (List ℕ)) (request : Request) (P : Data → Result Data RunFault → Type 0) (needs : NeedsInput request) (gives : (bytes : List ℕ) (r : Result Data RunFault) → OnDocument bytes r (λ d. P d r) → Gives request bytes r) where
-  -- a fault of the input is one of the request
-  pub input_fault_given : (e : RunFault) → IsInputFault known e → IsRequestFault request known e
+-- a task needs the input
+needs : (task : Task) → NeedsInput (task_of task)
+needs (Resolve p) = tt
+needs (Assign p v) = tt
+needs (Delete p) = tt
+needs (Patch patch) = tt
+
+-- and gives what it gives on the document
+gives : (task : Task) (bytes : List ℕ) (r : Result Data RunFault) → OnDocument bytes r (λ d. Does task d r) → Gives (task_of task) bytes r
+gives (Resolve p) bytes r h = h
+gives (Assign p v) bytes r h = h
+gives (Delete p) bytes r h = h
+gives (Patch patch) bytes r h = h
+
+module _ (task : Task) (known : Option (List ℕ)) where
+  -- a fault of the input is one of the task's request
+  pub input_fault_given : (e : RunFault) → IsInputFault known e → IsRequestFault (task_of task) known e
   input_fault_given e (inl memory) = inr (inl memory)
-  input_fault_given e (inr (inl read)) = inr (inr (needs, read))
+  input_fault_given e (inr (inl read)) = inr (inr (needs task, read))
   input_fault_given e (inr (inr h)) =
       inl
-      (ForBytes-map known (λ bytes. json_of bytes ≡ None) (λ bytes. Gives request bytes (Err e))
-      (λ bytes none. gives bytes (Err e) (no_document bytes e (λ d. P d (Err e)) none h.1)) h.0)
+      (ForBytes-map known (λ bytes. json_of bytes ≡ None) (λ bytes. Gives (task_of task) bytes (Err e))
+      (λ bytes none. gives task bytes (Err e) (no_document bytes e (λ d. Does task d (Err e)) none h.1)) h.0)
 
   module _ (d : Data) (read : ForBytes known (λ bytes. json_of bytes ≡ Some d)) where
     -- a line of what the document gives is one of what its bytes give
-    pub line_given : (line : Text) → IsLineOf (P d) line → ForBytes known (λ bytes. IsLineOf (Gives request bytes) line)
+    pub line_given : (line : Text) → IsLineOf (Does task d) line → ForBytes known (λ bytes. IsLineOf (Gives (task_of task) bytes) line)
     line_given line h =
-        ForBytes-map known (λ bytes. json_of bytes ≡ Some d) (λ bytes. IsLineOf (Gives request bytes) line)
-        (λ bytes is. (h.0, gives bytes (Ok h.0) (on_document bytes d (Ok h.0) (λ d. P d (Ok h.0)) is h.1), h.2)) read
+        ForBytes-map known (λ bytes. json_of bytes ≡ Some d) (λ bytes. IsLineOf (Gives (task_of task) bytes) line)
+        (λ bytes is. (h.0, gives task bytes (Ok h.0) (on_document bytes d (Ok h.0) (λ d. Does task d (Ok h.0)) is h.1), h.2)) read
 
     -- and so is a fault
-    pub fault_given : (e : RunFault) → IsFaultOf (P d) e → IsRequestFault request known e
+    pub fault_given : (e : RunFault) → IsFaultOf (Does task d) e → IsRequestFault (task_of task) known e
     fault_given e (inl h) =
         inl
-        (ForBytes-map known (λ bytes. json_of bytes ≡ Some d) (λ bytes. Gives request bytes (Err e))
-        (λ bytes is. gives bytes (Err e) (on_document bytes d (Err e) (λ d. P d (Err e)) is h)) read)
+        (ForBytes-map known (λ bytes. json_of bytes ≡ Some d) (λ bytes. Gives (task_of task) bytes (Err e))
+        (λ bytes is. gives task bytes (Err e) (on_document bytes d (Err e) (λ d. Does task d (Err e)) is h)) read)
     fault_given e (inr memory) = inr (inl memory)

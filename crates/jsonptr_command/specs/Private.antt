@@ -12,20 +12,33 @@ use Rattle.jsonptr.specs.Types.Index.TheVariants.{Num}
 use Rattle.jsonptr_command.specs.declared.fault.RunFault.{RunFault}
 use Rattle.jsonptr_command.specs.declared.fault.RunFault.TheVariants.{Usage, BadPointer, Memory}
 use Rattle.jsonptr_command.specs.declared.run.Request as code
-use Rattle.jsonptr_command.specs.declared.run.Request.TheVariants.{Resolve, Tokens, Assign, Delete, Split, Patch}
+use Rattle.jsonptr_command.specs.declared.run.Request.TheVariants.{Tokens, Split, Document}
+use Rattle.jsonptr_command.specs.declared.run.Task.{Task}
+use Rattle.jsonptr_command.specs.declared.run.Task.TheVariants.{Resolve, Assign, Delete, Patch}
 use Rattle.jsonptr_command.specs.JsonText.{IsJsonLine}
 use Rattle.jsonptr_command.specs.Faults.{RefusesValue}
 use Rattle.jsonptr_command.specs.Operations.{meant}
-use Rattle.jsonptr_command.specs.Run.{Request, resolving, listing, assigning, deleting, splitting, patching, HaveValue, TakePointer}
+use Rattle.jsonptr_command.specs.Run.{Request, resolving, listing, assigning, deleting, splitting, patching, AssignsAt, DeletesAt, HaveValue, PatchesBy, Resolves, TakePointer}
+
+-- what contracts see of the program's `Task`
+abbrev pub task_of : Task → Request
+task_of (Resolve p) = resolving (tokens p)
+task_of (Assign p v) = assigning (tokens p) (view v)
+task_of (Delete p) = deleting (tokens p)
+task_of (Patch patch) = patching (map meant patch.items)
+
+-- what it gives on a document
+abbrev pub Does : Task → Data → Result Data RunFault → Type 0
+Does (Resolve p) d = Resolves d (tokens p)
+Does (Assign p v) d = AssignsAt d (tokens p) (view v)
+Does (Delete p) d = DeletesAt d (tokens p)
+Does (Patch patch) d = PatchesBy d (map meant patch.items)
 
 -- what contracts see of the program's `Request`
 abbrev pub request_of : code.Request → Request
-request_of (Resolve p) = resolving (tokens p)
 request_of (Tokens p) = listing (tokens p)
-request_of (Assign p v) = assigning (tokens p) (view v)
-request_of (Delete p) = deleting (tokens p)
 request_of (Split p n) = splitting (tokens p) n
-request_of (Patch patch) = patching (map meant patch.items)
+request_of (Document task) = task_of task
 
 -- of an operation that gives these values and refusals: a line of such a value
 abbrev pub IsLineOf : (Result Data RunFault → Type 0) → Text → Type 0

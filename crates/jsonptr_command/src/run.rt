@@ -12,7 +12,7 @@ ghost use Rattle.jsonptr_command.specs.JsonText.{json_of, IsJsonLine};
 ghost use Rattle.jsonptr_command.specs.Streams.{AppendsFront, ForBytes};
 ghost use Rattle.jsonptr_command.specs.declared.fault.RunFault.{RunFault};
 ghost use Rattle.jsonptr_command.specs.declared.fault.RunFault.TheVariants as fault;
-ghost use Rattle.jsonptr_command.specs.Private.{request_of, IsFaultOf, IsLineOf, RefusesCommand, RefusesPosition};
+ghost use Rattle.jsonptr_command.specs.Private.{request_of, task_of, Does, IsFaultOf, IsLineOf, RefusesCommand, RefusesPosition};
 ghost use Rattle.jsonptr_command.specs.Operations.{meant};
 ghost use Rattle.jsonptr_command.specs.Run as specs;
 ghost use Rattle.jsonptr_command.specs.Run.{AskFor, resolving, listing, assigning, deleting, splitting, patching, Asks, AssignsAt, DeletesAt, ForLine, Gives, IsRefusedSo, IsRequestFault, IsWordsMemory, NeedNoInput, NeedsInput, PatchesBy, Resolves, SplitsAt, texts_value};
@@ -37,16 +37,23 @@ use std::io::{Read, Write};
 /// What the words ask for, as far as it is known without the input.
 #[derive(Debug, Drop)]
 pub enum Request<'w> {
-    /// To find the value that the pointer names.
-    Resolve(Pointer<'w>),
     /// To list the pointer's tokens, decoded.
     Tokens(Pointer<'w>),
+    /// To split the pointer at the position, in tokens.
+    Split(Pointer<'w>, usize),
+    /// To do something with the document that the input is.
+    Document(Task<'w>),
+}
+
+/// What is done with a document.
+#[derive(Debug, Drop)]
+pub enum Task<'w> {
+    /// To find the value that the pointer names.
+    Resolve(Pointer<'w>),
     /// To assign the value at the pointer.
     Assign(Pointer<'w>, Value),
     /// To delete what the pointer names.
     Delete(Pointer<'w>),
-    /// To split the pointer at the position, in tokens.
-    Split(Pointer<'w>, usize),
     /// To apply the operations in their order.
     Patch(Vec<Operation>),
 }
@@ -145,7 +152,8 @@ fn read_request(alloc: Global, words: &[String]) -> Result<Request<'_>, RunFault
 {
     match words {
         [command, operations @ ..] if command.as_str() == "patch" => {
-            Ok(Request::Patch(read_operations(alloc, operations)?))
+            let patch = read_operations(alloc, operations)?;
+            Ok(Request::Document(Task::Patch(patch)))
         }
         _ => read_command(alloc, words),
     }
@@ -171,9 +179,9 @@ fn read_two<'w>(command: &str, pointer: &'w str) -> Result<Request<'w>, RunFault
     ensures err { IfErr result (RefusesCommand (command.now ∷ pointer.now ∷ [])) }
 {
     match command {
-        "resolve" => Ok(Request::Resolve(Pointer::parse(pointer)?)),
+        "resolve" => Ok(Request::Document(Task::Resolve(Pointer::parse(pointer)?))),
         "tokens" => Ok(Request::Tokens(Pointer::parse(pointer)?)),
-        "delete" => Ok(Request::Delete(Pointer::parse(pointer)?)),
+        "delete" => Ok(Request::Document(Task::Delete(Pointer::parse(pointer)?))),
         _ => Err(RunFault::Usage),
     }
 }
@@ -192,7 +200,8 @@ fn read_three<'w>(
     match command {
         "assign" => {
             let pointer = Pointer::parse(pointer)?;
-            Ok(Request::Assign(pointer, read_value(alloc, third)?))
+            let value = read_value(alloc, third)?;
+            Ok(Request::Document(Task::Assign(pointer, value)))
         }
         "split" => {
             let position = read_position(third)?;
@@ -223,28 +232,34 @@ fn answer<R: Read>(alloc: Global, request: Request<'_>, input: &mut R) -> Result
     ensures unread { (NeedsInput (request_of request.entry) → ⊥) → input.new ≡ input.old }
 {
     match request {
-        Request::Resolve(pointer) => resolved_line(alloc, pointer, input),
         Request::Tokens(pointer) => Ok(tokens_line(alloc, pointer)?),
-        Request::Assign(pointer, value) => assigned_line(alloc, pointer, value, input),
-        Request::Delete(pointer) => deleted_line(alloc, pointer, input),
         Request::Split(pointer, position) => split_line(alloc, pointer, position),
-        Request::Patch(patch) => patched_line(alloc, patch, input),
+        Request::Document(task) => document_line(alloc, task, input),
     }
 }
 
-/// The line of the value that the pointer names in the input.
-fn resolved_line<R: Read>(
-    alloc: Global,
-    pointer: Pointer<'_>,
-    input: &mut R,
-) -> Result<String, RunFault>
+/// The line of what the task gives on the input.
+fn document_line<R: Read>(alloc: Global, task: Task<'_>, input: &mut R) -> Result<String, RunFault>
     ensures ok { IfOk result (λ line. ForBytes (R.remaining input.old)
-        (λ bytes. IsLineOf (Gives (resolving (tokens pointer.entry)) bytes) (string_bytes line))) }
-    ensures err { IfErr result
-        (IsRequestFault (resolving (tokens pointer.entry)) (R.remaining input.old)) }
+        (λ bytes. IsLineOf (Gives (task_of task.entry) bytes) (string_bytes line))) }
+    ensures err { IfErr result (IsRequestFault (task_of task.entry) (R.remaining input.old)) }
 {
     let document = read_json_input(alloc, input)?;
-    line_in(alloc, &document, pointer)
+    task_line(alloc, document, task)
+}
+
+/// The line of what the task gives on the document.
+fn task_line(alloc: Global, document: Value, task: Task<'_>) -> Result<String, RunFault>
+    ensures ok { IfOk result
+        (λ line. IsLineOf (Does task.entry (view document)) (string_bytes line)) }
+    ensures err { IfErr result (IsFaultOf (Does task.entry (view document))) }
+{
+    match task {
+        Task::Resolve(pointer) => line_in(alloc, &document, pointer),
+        Task::Assign(pointer, value) => line_with(alloc, document, pointer, value),
+        Task::Delete(pointer) => line_without(alloc, document, pointer),
+        Task::Patch(patch) => line_after(alloc, document, patch),
+    }
 }
 
 /// The line of the value that the pointer names in the document.
@@ -255,23 +270,6 @@ fn line_in(alloc: Global, document: &Value, pointer: Pointer<'_>) -> Result<Stri
 {
     let value = pointer.resolve(alloc, document)?;
     Ok(json_line(alloc, value)?)
-}
-
-/// The line of the input with the value assigned at the pointer.
-fn assigned_line<R: Read>(
-    alloc: Global,
-    pointer: Pointer<'_>,
-    value: Value,
-    input: &mut R,
-) -> Result<String, RunFault>
-    ensures ok { IfOk result (λ line. ForBytes (R.remaining input.old)
-        (λ bytes. IsLineOf (Gives (assigning (tokens pointer.entry) (view value)) bytes)
-        (string_bytes line))) }
-    ensures err { IfErr result
-        (IsRequestFault (assigning (tokens pointer.entry) (view value)) (R.remaining input.old)) }
-{
-    let document = read_json_input(alloc, input)?;
-    line_with(alloc, document, pointer, value)
 }
 
 /// The line of the document with the value assigned at the pointer.
@@ -291,21 +289,6 @@ fn line_with(
     Ok(json_line(alloc, &document)?)
 }
 
-/// The line of the input without what the pointer names.
-fn deleted_line<R: Read>(
-    alloc: Global,
-    pointer: Pointer<'_>,
-    input: &mut R,
-) -> Result<String, RunFault>
-    ensures ok { IfOk result (λ line. ForBytes (R.remaining input.old)
-        (λ bytes. IsLineOf (Gives (deleting (tokens pointer.entry)) bytes) (string_bytes line))) }
-    ensures err { IfErr result
-        (IsRequestFault (deleting (tokens pointer.entry)) (R.remaining input.old)) }
-{
-    let document = read_json_input(alloc, input)?;
-    line_without(alloc, document, pointer)
-}
-
 /// The line of the document without what the pointer names.
 fn line_without(
     alloc: Global,
@@ -320,21 +303,6 @@ fn line_without(
         return Err(RunFault::NotThere);
     }
     Ok(json_line(alloc, &document)?)
-}
-
-/// The line of the input after the patch.
-fn patched_line<R: Read>(
-    alloc: Global,
-    patch: Vec<Operation>,
-    input: &mut R,
-) -> Result<String, RunFault>
-    ensures ok { IfOk result (λ line. ForBytes (R.remaining input.old)
-        (λ bytes. IsLineOf (Gives (patching (map meant patch.items)) bytes) (string_bytes line))) }
-    ensures err { IfErr result
-        (IsRequestFault (patching (map meant patch.items)) (R.remaining input.old)) }
-{
-    let document = read_json_input(alloc, input)?;
-    line_after(alloc, document, patch)
 }
 
 /// The line of the document after the patch.

@@ -11,11 +11,11 @@ returns-in_err-pointer-in-assign-clause-err c =
     (inr (inr (inl (c.args.third.now, ap (λ (x : Text). x ∷ c.args.pointer.now ∷ c.args.third.now ∷ []) c.in-assign.is))))
     c.in_err-pointer-in-assign.ensures.fault
 
-pub returns-in_err-read_value-in-assign-clause-err : goal.returns-in_err-read_value-in-assign-clause-err
-returns-in_err-read_value-in-assign-clause-err c =
-    value_refused _ c.from_residual-in_err-read_value-in-assign.result (tokens c.in_ok-pointer-in-assign.pointer) c.args.third.now
-    c.in_err-read_value-in-assign.field-0.0 c.from_residual-in_err-read_value-in-assign.ensures.1
-    (three_words _ _ _ _ _ c.in-assign.is c.in_ok-pointer-in-assign.ensures.tokens) c.in_err-read_value-in-assign.ensures.err
+pub returns-in_err-value-in-assign-clause-err : goal.returns-in_err-value-in-assign-clause-err
+returns-in_err-value-in-assign-clause-err c =
+    value_refused _ c.from_residual-in_err-value-in-assign.result (tokens c.in_ok-pointer-in-assign.pointer) c.args.third.now
+    c.in_err-value-in-assign.field-0.0 c.from_residual-in_err-value-in-assign.ensures.1
+    (three_words _ _ _ _ _ c.in-assign.is c.in_ok-pointer-in-assign.ensures.tokens) c.in_err-value-in-assign.ensures.err
 
 pub returns-in_err-parse-in-split-clause-err : goal.returns-in_err-parse-in-split-clause-err
 returns-in_err-parse-in-split-clause-err c =
