@@ -524,6 +524,7 @@ def patches():
     yield patched('{"a":5}', ("add", "/a/b", "1"), answer=failed(0, UNREACHABLE.format(2)))
     yield patched("[1,2]", ("move", "/0", "/1"), after="[2,1]")
     yield patched("[1,2]", ("move", "/0", "/2"), answer=failed(0, NO_ROOM.format(0)))
+    yield patched("[1,3]", ("add", "/1", "2"), after="[1,2,3]")
     yield patched('{"a":1}', ("move", "/a", "/a/b"), answer=failed(0, "from is a proper prefix of path"))
     yield patched('{"a":1}', ("move", "/a", "/ab"), after='{"ab":1}')
     yield patched('{"a":[1]}', ("copy", "/a", "/b"), after='{"a":[1],"b":[1]}')
@@ -635,7 +636,21 @@ def reports():
             "foo/oops~bar\n   ^ invalid character",
         ),
         (("index", "00"), ZEROS, "leading zeros at 0, length 2", "00\n^^ leading zeros"),
+        (("index", "0a"), ZEROS, "leading zeros at 0, length 1", "0a\n^ leading zeros"),
         (("index", "1a"), NO_INDEX, "invalid character(s) at 1, length 1", "1a\n ^ invalid character(s)"),
+        (("index on", "00", "12"), ZEROS, "leading zeros at 0, length 0", "12\n^ leading zeros"),
+        (
+            ("index on", "123x", "abcdé1"),
+            NO_INDEX,
+            "invalid character(s) at 3, length 3",
+            "abcdé1\n   ^^ invalid character(s)",
+        ),
+        (
+            ("index on", "123x", "1"),
+            NO_INDEX,
+            "invalid character(s) at 3, length 0",
+            "1\n ^ invalid character(s)",
+        ),
         (
             ("resolve", '{"foo":["bar"]}', "/foo/-"),
             PAST_THE_END.format(4),

@@ -1,4 +1,4 @@
-//! What rows do to a document of either kind, and on pointers of either.
+//! What rows do to a document of either kind, and how a tabled pointer is made.
 use crate::row::NoRow;
 use crate::said::Said;
 use jsonptr::{Fault, Pointer, PointerBuf, assign, resolve};

@@ -18,6 +18,8 @@ pub fn run(rt: &HostRuntime, mut row: Row<'_>) -> anyhow::Result<()> {
     match kind {
         "resolve" => of_resolve(rt, call, row),
         "assign" => of_assign(rt, call, row),
+        "index" => of_index(rt, call, row.next(), None),
+        "index on" => of_index(rt, call, row.next(), Some(row.next())),
         _ => of_text(rt, call, kind, row.next()),
     }
 }
@@ -34,11 +36,16 @@ fn of_text(rt: &HostRuntime, call: &str, kind: &str, text: &str) -> anyhow::Resu
             Ok(_) => Err(NoRow.into()),
             Err(error) => run_on(rt, call, &error.into_report(subject)),
         },
-        "index" => match Index::try_from(text) {
-            Ok(_) => Err(NoRow.into()),
-            Err(error) => run_on(rt, call, &error.into_report(StringOrToken::from(subject))),
-        },
         _ => Err(NoRow.into()),
+    }
+}
+
+/// Of the error of reading a text as an index, on another subject or on the text itself.
+fn of_index(rt: &HostRuntime, call: &str, text: &str, subject: Option<&str>) -> anyhow::Result<()> {
+    let subject = String::from_str(rt.alloc(), subject.unwrap_or(text))?;
+    match Index::try_from(text) {
+        Ok(_) => Err(NoRow.into()),
+        Err(error) => run_on(rt, call, &error.into_report(StringOrToken::from(subject))),
     }
 }
 

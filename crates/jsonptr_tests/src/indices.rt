@@ -56,6 +56,36 @@ fn readings(rt: HostRuntime) -> Result<(), Fail> {
     Ok(())
 }
 
+/// Whether a copy of the refusal of a text says so, too.
+fn is_copied(text: &str, want: Refusal) -> Result<bool, Fail> {
+    match text.parse::<Index>() {
+        Ok(_) => Ok(false),
+        Err(error) => Ok(told(Err(error.clone()?)) == Err(want)),
+    }
+}
+
+#[test]
+fn copies_of_refusals(rt: HostRuntime) -> Result<(), Fail> {
+    for (text, want) in [
+        ("", Refusal::Empty),
+        ("18446744073709551616", Refusal::Overflow),
+        ("00", Refusal::LeadingZeros),
+        ("12é", Refusal::Character(2)),
+    ] {
+        assert!(rt; is_copied(text, want)?, "at {text}");
+    }
+    Ok(())
+}
+
+#[test]
+fn copy_of_a_character_at_fault(rt: HostRuntime) -> Result<(), Fail> {
+    let Err(ParseIndexError::InvalidCharacter(error)) = "12é".parse::<Index>() else {
+        return Err("a refusal".into());
+    };
+    assert!(rt; error.clone()?.offset() == 2);
+    Ok(())
+}
+
 #[test]
 fn bounds(rt: HostRuntime) {
     for (index, length, want) in [
