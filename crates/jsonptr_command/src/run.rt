@@ -94,7 +94,7 @@ pub fn run_program<R: Read, W: Write>(
 /// What [`run_program`] is to answer is one: words ask for one thing or are refused in one way, a request
 /// gives one value or one fault on an input, and never both, and a value has one line, but for the digits of
 /// its floats. Lists of texts have no float. In a value that is read the keys of each object ascend, so they do
-/// in what an assignment or a deletion makes of it, and that is one value for its map.
+/// in what an assignment, a deletion or a patch makes of it, and that is one value for its map.
 pub fn run_law()
     ensures asks { (words : List Text) (r q : Result specs.Request RunFault)
         → Asks words r

@@ -12,13 +12,13 @@ use Rattle.jsonptr_session.specs.declared.session.Reply.{Reply}
 abbrev pub answered : {V E : Type 0} → (V → NodeMap) → Result (Reply V) E → Option Answer
 answered nodes result = option_and_then (says nodes) (result_ok result)
 
--- a call of the pointer alone is such a step, whatever the map of the document is
+-- a call of the pointer alone is a step of the machine, whatever the map of the document is
 abbrev pub StepsOnTokens : NodeMap → List Text → Command → Option Answer → List Text → Type 0
 StepsOnTokens blank old c a new =
     (nodes : NodeMap)
     → Steps blank (record { tokens = old; nodes = nodes }) c a (record { tokens = new; nodes = nodes })
 
--- a call that leaves the pointer is such a step
+-- a call that leaves the pointer as it was is a step of the machine
 abbrev pub StepsOnNodes : NodeMap → List Text → NodeMap → Command → Option Answer → NodeMap → Type 0
 StepsOnNodes blank tokens old c a new =
     Steps blank (record { tokens = tokens; nodes = old }) c a (record { tokens = tokens; nodes = new })

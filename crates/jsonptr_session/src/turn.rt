@@ -162,8 +162,8 @@ fn replace<P: EditPointer, D: Document>(
     index: usize,
     text: String,
 ) -> Result<Reply<D>, AllocError>
-    ensures steps { StepsOnTokens D.blank (P.list ptr.old) (machine.replace index (string_bytes text))
-        (answered D.nodes result) (P.list ptr.new) }
+    ensures steps { StepsOnTokens D.blank (P.list ptr.old)
+        (machine.replace index (string_bytes text)) (answered D.nodes result) (P.list ptr.new) }
     ensures given_in_order { IfOk result (Gives D.in_order) }
 {
     let token = Token::new(alloc, CowStr::Owned(text))?;
@@ -217,8 +217,8 @@ fn write<D: Document>(
     doc: &mut D,
     value: D,
 ) -> Result<Reply<D>, AllocError>
-    ensures steps { StepsOnNodes D.blank (tokens ptr.entry) (D.nodes doc.old) (machine.write (D.nodes value))
-        (answered D.nodes result) (D.nodes doc.new) }
+    ensures steps { StepsOnNodes D.blank (tokens ptr.entry) (D.nodes doc.old)
+        (machine.write (D.nodes value)) (answered D.nodes result) (D.nodes doc.new) }
     ensures order { D.in_order value → D.in_order doc.old → D.in_order doc.new }
     ensures given_in_order { IfOk result (λ reply. D.in_order doc.old → Gives D.in_order reply) }
 {
@@ -237,8 +237,8 @@ fn assign<D: Document>(
     doc: &mut D,
     value: D,
 ) -> Result<Reply<D>, AllocError>
-    ensures steps { StepsOnNodes D.blank (tokens ptr.entry) (D.nodes doc.old) (machine.assign (D.nodes value))
-        (answered D.nodes result) (D.nodes doc.new) }
+    ensures steps { StepsOnNodes D.blank (tokens ptr.entry) (D.nodes doc.old)
+        (machine.assign (D.nodes value)) (answered D.nodes result) (D.nodes doc.new) }
     ensures order { D.in_order value → D.in_order doc.old → D.in_order doc.new }
     ensures given_in_order { IfOk result (λ reply. D.in_order doc.old → Gives D.in_order reply) }
 {
