@@ -55,12 +55,15 @@ def texts():
     for text, token in [
         ("/foo/~bar", "~1foo~1~0bar"),
         ("~1", "~01"),
+        ("~bar", "~0bar"),
+        ("a/b", "a~1b"),
+        ("a~b", "a~0b"),
         (SLASHES, "~1" * 100_000),
         (LONG + "~", LONG + "~0"),
     ]:
         yield takes("text", "Token::new", text, answer=token)
         yield takes("text kept", "Token::new", text, answer=token)
-    for text in ["abc", "", "-", "é", LONG]:
+    for text in ["abc", "", "-", "é", "plain é", LONG]:
         for call in ["Token::new", "Token::from_encoded"]:
             yield free("text", call, text, answer=text)
             yield free("text kept", call, text, answer=text)
@@ -80,7 +83,7 @@ def texts():
 
 def pointers_of_texts():
     """Of what a pointer is parsed from."""
-    for text in ["", "/", "//", "/a~1b", "/foo/bar", "/é", MANY, SLASHES, "/" + ENCODED]:
+    for text in ["", "/", "//", "/foo", "/a~1b", "/a~1b/~0/é", "/foo/bar", "/é", MANY, SLASHES, "/" + ENCODED]:
         yield free("text", "Pointer::parse", text, answer=text)
         yield free("text kept", "PointerBuf::parse", text, answer=text)
         yield free("text kept", "PointerBuf::try_from", text, answer=text)
@@ -88,6 +91,11 @@ def pointers_of_texts():
         yield takes("text kept", "TabledPointer::parse", text, answer=text)
     wrong = [
         ("foo", NO_SLASH),
+        ("~/", NO_SLASH),
+        ("é/a", NO_SLASH),
+        ("/~0/~~0", MALFORMED.format(3)),
+        ("/~1/~/x", MALFORMED.format(3)),
+        ("/foo/invalid~tilde", MALFORMED.format(4)),
         ("/foo/invalid~tilde/invalid", MALFORMED.format(4)),
         ("/a~2", MALFORMED.format(0)),
         ("/foo~", MALFORMED.format(0)),
@@ -103,12 +111,26 @@ def pointers_of_texts():
             yield free("text kept", call, text, answer=f"{fault}: {text}")
 
 
+def cut():
+    """Of pointers that are cut behind their first token, and of how many tokens there are."""
+    rows = [
+        ("is_root", "//", "false"), ("is_root", "/a~1b/~0/é", "false"),
+        ("split_front", "//", " and /"), ("split_front", "/a~1b/~0/é", "a/b and /~0/é"),
+        ("split_front", "/~0/é", "~ and /é"), ("split_front", "/é", "é and "),
+        ("front", "/a~1b/c", "a~1b"), ("split_front", "/a~1b/c", "a/b and /c"),
+        ("count", "/a~1b//~0", 3),
+    ]
+    for call, text, answer in rows:
+        yield free("pointer", call, text, answer=answer)
+
+
 def indices():
     """Of reading an index."""
     rows = [
         ("0", "0"), ("-", "-"), ("10", "10"), (str(MOST), str(MOST)),
         ("00", ZEROS), ("0a", ZEROS), ("0" * 100_000, ZEROS),
         ("+1", NO_INDEX), ("1a", NO_INDEX), ("1" * 99_999 + "a", NO_INDEX),
+        ("-1", NO_INDEX), ("x", NO_INDEX), ("é", NO_INDEX), ("éé", NO_INDEX), ("1é2", NO_INDEX), ("12é", NO_INDEX),
         ("", NO_INTEGER), (str(MOST + 1), NO_INTEGER), ("1" * 100_000, NO_INTEGER),
     ]
     for text, answer in rows:
@@ -127,13 +149,15 @@ def tokens():
         ("a~1b", "a/b"),
         ("~01", "~1"),
         ("m~0n", "m~n"),
+        ("~0bar", "~bar"),
+        ("~1foo~1~0bar", "/foo/~bar"),
         (ENCODED, DECODED),
         (LONG + "~0", LONG + "~"),
     ]:
         yield takes("token", "decoded", token, "", answer=text)
-    for token in ["abc", "", LONG]:
+    for token in ["abc", "", "é", LONG]:
         yield free("token", "decoded", token, "", answer=token)
-    for token in ["abc", "a~1b", LONG, ENCODED]:
+    for token in ["abc", "a~1b", "", "é", "~01", "~0bar", "~1foo~1~0bar", LONG, ENCODED]:
         yield free("token", "encoded", token, "", answer=token)
         yield free("token kept", "into_encoded", token, answer=token)
         yield takes("token", "to_owned", token, "", answer=token)
@@ -147,6 +171,8 @@ def tokens():
         yield free("token", "cmp", token, token + "0", answer="<")
         yield free("token", "is_next", token, "", answer="false")
     yield free("token", "is_next", "-", "", answer="true")
+    for token in ["--", "0"]:
+        yield free("token", "is_next", token, "", answer="false")
 
 
 def numbers():
@@ -161,8 +187,8 @@ def numbers():
 
 def measures():
     """Of what a pointer is, as one and at its ends."""
-    pointers = ["", "/", "/foo", "/foo/bar/qux", "//a", "/a~1b/~0", MANY, SLASHES, "/" + LONG, "/x/" + ENCODED]
-    for text in pointers:
+    pointers = ["", "/", "/foo", "/foo/bar/qux", "//a", "/a~1b/~0", "/foo/~0~1//", "/foo/b~1r", "/foo/b~1r/"]
+    for text in [*pointers, MANY, SLASHES, "/" + LONG, "/x/" + ENCODED]:
         parts = text.split("/")[1:]
         front, last = text.rpartition("/")[::2]
         first, rest = parts[0] if parts else "none", text[len(parts[0]) + 1 :] if parts else ""
@@ -186,6 +212,11 @@ def measures():
         for call in ["to_buf", "PointerBuf::from_tokens"]:
             yield takes("pointer", call, text, answer=text)
         yield takes("pointer", "to_json_value", text, answer=f'"{text}"')
+    for text, length in [("/foo/bar", 8), ("/foo/bar/~0", 11)]:
+        yield free("pointer", "len", text, answer=length)
+    tables = [("/a", "0 "), ("//", "0 1 "), ("/foo/bar/baz", "0 4 8 "), ("/é~0/~1/日本/", "0 5 8 15 ")]
+    for text, table in tables:
+        yield free("tabled", "offsets", text, 0, 0, answer=table)
 
 
 def pairs():
@@ -202,6 +233,37 @@ def pairs():
     ]
     for call, one, other, answer in rows:
         yield free("pointers", call, one, other, answer=answer)
+    prefixes = [
+        ("/foo/bar", "", "/foo/bar"),
+        ("/foo", "/foo", ""),
+        ("/foo", "/foo/", "none"),
+        ("//a", "/", "/a"),
+        ("", "/", "none"),
+    ]
+    for one, other, left in prefixes:
+        yield free("pointers", "strip_prefix", one, other, answer=left)
+        yield free("pointers", "starts_with", one, other, answer=str(left != "none").lower())
+    suffixes = [
+        ("", "", ""),
+        ("/foo/bar", "/foo/bar", ""),
+        ("/foo/bar", "/foo", "none"),
+        ("/a//", "/", "/a/"),
+    ]
+    for one, other, left in suffixes:
+        yield free("pointers", "strip_suffix", one, other, answer=left)
+        yield free("pointers", "ends_with", one, other, answer=str(left != "none").lower())
+    common = [
+        ("/foo", "/foobar", ""),
+        ("/foo/bar", "/foo/baz", "/foo"),
+        ("/foo/bar", "/foo", "/foo"),
+        ("/foo//a", "/foo//b", "/foo/"),
+        ("", "/a", ""),
+    ]
+    for one, other, front in common:
+        yield free("pointers", "intersection", one, other, answer=front)
+        yield free("pointers", "intersection", other, one, answer=front)
+    yield free("pointers", "intersection", "/fob", "/foo", answer="")
+    yield free("pointers", "intersection", "/foo/bar", "/foo/bar", answer="/foo/bar")
     orders = [
         ("/a", "/a", "="),
         ("/a", "/b", "<"),
@@ -222,6 +284,8 @@ def pairs():
         ("/a", "/b"),
         ("", "/"),
         ("/a", ""),
+        ("", ""),
+        ("/a", "/b/~0"),
         ("/a~1b", "/~0"),
         (MANY, MANY),
         ("/" + LONG, "/" + ENCODED),
@@ -230,6 +294,8 @@ def pairs():
     for token in ["x", "", "~0~1", LONG, ENCODED]:
         yield takes("pointer with", "with_leading_token", "/a/b", token, answer=f"/{token}/a/b")
         yield takes("pointer with", "with_trailing_token", "/a/b", token, answer=f"/a/b/{token}")
+    yield takes("pointer with", "with_leading_token", "/a", "~0", answer="/~0/a")
+    yield takes("pointer with", "with_trailing_token", "/a", "~1", answer="/a/~1")
 
 
 def ranges():
@@ -238,17 +304,39 @@ def ranges():
     rows = [
         ("get i", three, 0, 0, "foo"),
         ("get i", three, 3, 0, "none"),
+        ("get i", three, 2, 0, "qux"),
+        ("get i", three, MOST, 0, "none"),
         ("get i", "/a~1b", 0, 0, "a~1b"),
+        ("get i", "/foo/b~1r/", 0, 0, "foo"),
+        ("get i", "/foo/b~1r/", 1, 0, "b~1r"),
+        ("get i", "/foo/b~1r/", 2, 0, ""),
+        ("get i", "/foo/b~1r/", 3, 0, "none"),
+        ("get i", "/foo/b~1r/", MOST, 0, "none"),
         ("get ..i", three, 1, 0, "/foo"),
         ("get i..j", three, 1, 3, "/bar/qux"),
         ("get i..=j", three, 1, 2, "/bar/qux"),
         ("get i..", three, 2, 0, "/qux"),
         ("get ..=i", three, 1, 0, "/foo/bar"),
         ("get ..", three, 0, 0, three),
+        ("get ..i", three, 4, 0, "none"),
+        ("get i..j", three, 1, 1, ""),
+        ("get i..j", three, 1, 4, "none"),
+        ("get i..j", three, 2, 1, "none"),
+        ("get i..j", three, 3, 3, "none"),
+        ("get i..", three, 1, 0, "/bar/qux"),
+        ("get i..", three, 3, 0, "none"),
+        ("get i..=j", three, 2, 1, "none"),
+        ("get i..=j", three, 0, MOST, "none"),
+        ("get ..=i", three, 3, 0, "none"),
         ("get i..j", "/foo", 0, 0, ""),
         ("get i..j", "/foo", 1, 1, "none"),
+        ("get i..j", "/foo", MOST, MOST, "none"),
+        ("get ..i", "/foo", MOST, 0, "none"),
+        ("get ..=i", "/foo", MOST, 0, "none"),
+        ("get i..=j", "/foo", 0, MOST, "none"),
         ("get i..", "", 0, 0, "none"),
         ("get ..i", "", 0, 0, ""),
+        ("get ..", "", 0, 0, ""),
         ("get i..j", "/a", MOST, MOST, "none"),
         ("get ..i", "/a", MOST, 0, "none"),
         ("get ..=i", "/a", MOST, 0, "none"),
@@ -261,17 +349,22 @@ def ranges():
         ("get bounds", "/a", MOST, MOST, "none"),
         ("get bounds", "/a", MOST, 0, "none"),
         ("get bounds", "/a/b/c", 0, 2, "/b"),
+        ("split_at_offset", "/foo/bar/baz", 0, 0, " and /foo/bar/baz"),
         ("split_at_offset", "/foo/bar/baz", 4, 0, "/foo and /bar/baz"),
+        ("split_at_offset", "/foo/bar/baz", 8, 0, "/foo/bar and /baz"),
         ("split_at_offset", "/foo/bar/baz", 3, 0, "none"),
         ("split_at_offset", "/foo/bar/baz", 12, 0, "none"),
+        ("split_at_offset", "/foo/bar/baz", MOST, 0, "none"),
         ("split_at_offset", "/a", MOST, 0, "none"),
         ("split_at", "/foo/bar/baz", 0, 0, " and /foo/bar/baz"),
         ("split_at", "/foo/bar/baz", 1, 0, "/foo and /bar/baz"),
+        ("split_at", "/foo/bar/baz", 2, 0, "/foo/bar and /baz"),
         ("split_at", "/foo/bar/baz", 3, 0, "/foo/bar/baz and "),
         ("split_at", "/foo/bar/baz", 4, 0, "none"),
         ("split_at", "", 0, 0, " and "),
         ("split_at", "", 1, 0, "none"),
         ("split_at", "/a", MOST, 0, "none"),
+        ("split_at", "//~1/", 2, 0, "//~1 and /"),
         ("get i", MANY, 49_999, 0, "a"),
         ("get i", MANY, 50_000, 0, "none"),
         ("get i..j", MANY, 1, 49_999, "/a" * 49_998),
@@ -287,7 +380,8 @@ def ranges():
 
 def copies():
     """Of copies of owned pointers, and of one kind made of the other."""
-    for text in ["", "/", "/a/b", "/a~1b", MANY, "/" + ENCODED]:
+    texts = ["", "/", "/a", "//", "/a/b", "/a~1b", "/foo/bar/baz", "/é~0/~1/日本/", MANY, "/" + ENCODED]
+    for text in texts:
         for call in ["PointerBuf::clone", "TabledPointer::clone", "from_plain"]:
             yield takes("kept", call, text, answer=text)
         yield free("kept", "into_plain", text, answer=text)
@@ -321,7 +415,18 @@ def edits():
         yield edit(kind, "push_back", "/foo/bar", "~", after="/foo/bar/~0")
         yield edit(kind, "push_front", "/", "x", after="/x/")
         yield edit(kind, "append", "/a", "", after="/a")
-        yield edit(kind, "append", "", "/", after="/")
+        yield edit(kind, "append", "", "", after="")
+        yield edit(kind, "append", "", "/a//c", after="/a//c")
+        yield edit(kind, "append", "/a", "/b/~0", after="/a/b/~0")
+        yield edit(kind, "append", "/a/b", "/c", after="/a/b/c")
+        yield edit(kind, "pop_front", "/a", answer="a", after="")
+        yield edit(kind, "pop_back", "/foo/bar/~0", answer="~0", after="/foo/bar")
+        yield edit(kind, "push_front", "/foo/bar/~0", "a/b", after="/a~1b/foo/bar/~0")
+        yield edit(kind, "pop_back", "/a~1b/foo/bar/~0", answer="~0", after="/a~1b/foo/bar")
+        yield edit(kind, "replace", "/a/~0~1", "é", 0, answer="a", after="/é/~0~1")
+        yield edit(kind, "replace", "/a//c", "~/~", 1, answer="", after="/a/~0~1~0/c")
+        yield edit(kind, "replace", "/a/~0~1~0/c", "", 0, answer="a", after="//~0~1~0/c")
+        yield edit(kind, "set_text", "/x", "/a/b", after="/a/b")
         yield edit(kind, "append", MANY, MANY, after=MANY + MANY)
         yield edit(kind, "pop_back", MANY, answer="a", after=MANY[2:])
         yield edit(kind, "pop_front", MANY, answer="a", after=MANY[2:])
@@ -330,14 +435,34 @@ def edits():
             edit(kind, "pop_front", "", answer="none", after=""),
             edit(kind, "pop_back", "", answer="none", after=""),
             edit(kind, "replace", "", "b", 0, answer=NO_POSITION.format(0, 0), after=""),
+            edit(kind, "replace", "/a/b", "b", 2, answer=NO_POSITION.format(2, 2), after="/a/b"),
+            edit(kind, "replace", "/a/b", "b", 3, answer=NO_POSITION.format(3, 2), after="/a/b"),
+            edit(kind, "replace", "//", "b", MOST, answer=NO_POSITION.format(MOST, 2), after="//"),
             edit(kind, "replace", "/a", "x", MOST, answer=NO_POSITION.format(MOST, 1), after="/a"),
             edit(kind, "replace", MANY, "x", 50_000, answer=NO_POSITION.format(50_000, 50_000), after=MANY),
             edit(kind, "set_text", "/a", "foo", answer=f"{NO_SLASH}: foo", after="/a"),
+            edit(kind, "set_text", "/a/b", "foo", answer=f"{NO_SLASH}: foo", after="/a/b"),
+            edit(kind, "clear", "/a~1b/foo/bar", after=""),
             edit(kind, "set_text", "/a", "/b~", answer=f"{MALFORMED.format(0)}: /b~", after="/a"),
             edit(kind, "set_text", "/a", LONG, answer=f"{NO_SLASH}: {LONG}", after="/a"),
         ]
         for row in free_rows:
             yield row._replace(is_free=True)
+
+
+def owned():
+    """Of owned pointers of a text, and of the labels of their errors on texts of all kinds."""
+    yield takes("text", "PointerBuf::from_text", "/a~1b/", answer="/a~1b/")
+    yield free("text kept", "PointerBuf::parse", "/a~1b/", answer="/a~1b/")
+    yield free("text kept", "PointerBuf::try_from", "/a~1b/", answer="/a~1b/")
+    yield free("show", "pointer", "/a~1b/~0", answer="/a~1b/~0")
+    tilde = "'~' must be followed by '0' or '1'"
+    for text, offset, length in [("/foo~", 4, 1), ("/é~", 3, 1), ("/a~2", 2, 2)]:
+        yield takes("report", "labels", "pointer", text, answer=f"{tilde} at {offset}, length {length}")
+    for subject, length in [("", 1), ("abc", 1), ("/foo", 2)]:
+        yield takes("fields", "labels", "pointer", 0, 2, subject, answer=f"{tilde} at 2, length {length}")
+    yield free("fields", "labels", "pointer", MOST, 1, "/a~2", answer="none")
+    yield takes("fields", "render", "pointer", MOST, 1, "/a~2", answer="/a~2")
 
 
 def on(kind, document, call, pointer, value="1", *, answer, after, is_free=False):
@@ -364,14 +489,38 @@ def found():
         ("[]", "/" + LONG, NOT_AN_INDEX.format(0)),
         ("{}", "/" + LONG, NOT_FOUND.format(0)),
         ("{}", MANY, NOT_FOUND.format(0)),
+        ('{"foo":["bar"]}', "/foo/1", PAST_THE_END.format(4)),
+        ('{"foo":["bar"]}', "/foo/00", NOT_AN_INDEX.format(4)),
+        ("[1,2]", "/", NOT_AN_INDEX.format(0)),
+        ("[2,3]", "/2", PAST_THE_END.format(0)),
+        ("[[],{},1]", "/0/a", NOT_AN_INDEX.format(2)),
+        ("[[],{},1]", "/10/0", PAST_THE_END.format(0)),
+        ("[[],{},1]", "/1/a", NOT_FOUND.format(2)),
+        ("[[],{},1]", "/2/a", UNREACHABLE.format(2)),
     ]
     for document, pointer, fault in rows:
         for call in ["resolve", "write"]:
             yield on("json", document, call, pointer, answer=fault, after=document, is_free=True)
-    escaped = [("{}", "/" + ENCODED, NOT_FOUND.format(0)), ('{"~":[0]}', "/~0/", NOT_AN_INDEX.format(3))]
+    escaped = [
+        ("{}", "/" + ENCODED, NOT_FOUND.format(0)),
+        ('{"~":[0]}', "/~0/", NOT_AN_INDEX.format(3)),
+        ('{"a~1b":1}', "/a~1b", NOT_FOUND.format(0)),
+    ]
     for document, pointer, fault in escaped:
         for call in ["resolve", "write"]:
             yield on("json", document, call, pointer, answer=fault, after=document)
+    yield on("json", "[2,3]", "resolve", "/1", answer="3", after="[2,3]", is_free=True)
+    written = [
+        ('{"foo":["bar","baz"]}', "/foo/1", '"baz"', '{"foo":["bar",true]}'),
+        ('{"a/b":1,"m~n":2}', "/a~1b", "1", '{"a/b":true,"m~n":2}'),
+        ('{"a/b":1,"m~n":2}', "/m~0n", "2", '{"a/b":1,"m~n":true}'),
+        ('{"a":{"":[{"b":null}]}}', "/a//0/b", "null", '{"a":{"":[{"b":true}]}}'),
+        ("[1,2]", "", "[1,2]", "true"),
+    ]
+    for document, pointer, answer, after in written:
+        yield on(
+            "json", document, "write", pointer, "true", answer=answer, after=after, is_free="~" not in pointer
+        )
     for key, token in [("a", "a"), (LONG, LONG), ("a/b", "a~1b"), (DECODED, ENCODED)]:
         document, is_free = f'{{"{key}":[1]}}', "~" not in token
         yield on("json", document, "resolve", f"/{token}/0", answer="1", after=document, is_free=is_free)
@@ -403,6 +552,18 @@ def assigned():
         ('{"a":{}}', "/a/~1~0/0", "7", "none", '{"a":{"/~":[7]}}'),
         ("[]", "/0/0/0", "1", "none", "[[[1]]]"),
         ("null", "/x" * 100, "1", "null", '{"x":' * 100 + "1" + "}" * 100),
+        ('{"a/b":{"m~n":1}}', "/a~1b/m~0n", "2", "1", '{"a/b":{"m~n":2}}'),
+        ("null", "/0", "1", "null", "[1]"), ("null", "/-", "1", "null", "[1]"),
+        ("null", "/", "1", "null", '{"":1}'), ("null", "/00", "1", "null", '{"00":1}'),
+        ("true", "/a~1b/0", "1", "true", '{"a/b":[1]}'),
+        ('{"a":[1]}', "/a/0/b/-", "2", "1", '{"a":[{"b":[2]}]}'),
+        ('{"a":"b"}', "/a/0/1", "2", '"b"', '{"a":[{"1":2}]}'),
+        ("{}", "/", "1", "none", '{"":1}'), ('{"a":1}', "/b", "2", "none", '{"a":1,"b":2}'),
+        ('{"b":1}', "/a~1~0/x/0", "2", "none", '{"a/~":{"x":[2]},"b":1}'),
+        ('{"a":{}}', "/a/0", "1", "none", '{"a":{"0":1}}'), ('{"a":{}}', "/a/-/-", "1", "none", '{"a":{"-":[1]}}'),
+        ('["a"]', "/1", '"b"', "none", '["a","b"]'), ("[]", "/0", "1", "none", "[1]"),
+        ("[[1,2]]", "/0/2/a/-", "3", "none", '[[1,2,{"a":[3]}]]'),
+        ('{"a":[1]}', "/a/-/0", "2", "none", '{"a":[1,[2]]}'),
     ]
     for document, pointer, value, answer, after in rows:
         yield on("json", document, "assign", pointer, value, answer=answer, after=after)
@@ -412,6 +573,15 @@ def assigned():
         ("[1]", "/0", "7", "1", "[7]"),
         ('{"a":3}', "", "7", '{"a":3}', "7"),
         ("[1]", f"/{MOST}", "2", NO_ROOM.format(0), "[1]"),
+        ('{"a":[1]}', "", "2", '{"a":[1]}', "2"), ("null", "", '{"a":1}', "null", '{"a":1}'),
+        ('{"a":[1,2]}', "/a", "3", "[1,2]", '{"a":3}'),
+        ('{"a":[1,2]}', "/a/1", "3", "2", '{"a":[1,3]}'),
+        ('{"a":[1,2]}', "/a/0", "[]", "1", '{"a":[[],2]}'),
+        ('{"":{"b":1}}', "/", "2", '{"b":1}', '{"":2}'),
+        ('["a"]', "/2", "true", NO_ROOM.format(0), '["a"]'),
+        ("[1]", "/", "true", NO_PLACE.format(0), "[1]"),
+        ("[[],{},1]", "/0/a", "true", NO_PLACE.format(2), "[[],{},1]"),
+        ("[[],{},1]", "/10/0", "true", NO_ROOM.format(0), "[[],{},1]"),
     ]
     for document, pointer, value, answer, after in free_rows:
         yield on("json", document, "assign", pointer, value, answer=answer, after=after, is_free=True)
@@ -420,9 +590,24 @@ def assigned():
         ("{}", "/x", "none", "{}"),
         ("[1]", "", "[1]", "null"),
         ("[1]", "/-", "none", "[1]"),
+        ("null", "", "null", "null"),
+        ("[1,2,3]", "/2", "3", "[1,2]"),
+        ('{"foo":["bar","baz"]}', "/foo/1", '"baz"', '{"foo":["bar"]}'),
+        ('{"a/b":1,"m~n":2}', "/a~1b", "1", '{"m~n":2}'),
+        ('{"a/b":1,"m~n":2}', "/m~0n", "2", '{"a/b":1}'),
+        ('{"a":[{"b":[true]},0]}', "/a/0/b", "[true]", '{"a":[{},0]}'),
+        ('{"":1}', "/", "1", "{}"),
+        ('{"é":{"":{"":2}}}', "/é//", "2", '{"é":{"":{}}}'),
     ]
     for document, pointer, answer, after in deleted:
-        yield on("json", document, "delete", pointer, answer=answer, after=after, is_free=True)
+        yield on("json", document, "delete", pointer, answer=answer, after=after, is_free="~" not in pointer)
+    two = '{"foo":["bar","baz"]}'
+    kept = [
+        ("{}", "/"), ("[]", "/0"), ("1", "/0"), ('{"y":1}', "/x/y"), ('{"a~1b":1}', "/a~1b"),
+        (two, "/foo/-"), (two, "/foo/2"), (two, "/foo/00"), (two, "/foo/x"), (two, "/foo/1/x"),
+    ]
+    for document, pointer in kept:
+        yield on("json", document, "delete", pointer, answer="none", after=document, is_free="~" not in pointer)
     yield on("json", '{"a/b":{"~":1}}', "delete", "/a~1b/~0", answer="1", after='{"a/b":{}}')
 
 
@@ -455,12 +640,61 @@ def in_tables():
         after="{ d = 1979-05-27 }",
         is_free=True,
     )
-    yield on("toml", "1", "delete", "", answer="1", after="{}", is_free=True)
+    yield on(
+        "toml", "{ d = { x = 1 } }", "resolve", "/d/x", answer="1", after="{ d = { x = 1 } }", is_free=True
+    )
+    for whole in ["1", "{ a = 1, b = [true] }", "[]", "{}"]:
+        yield on("toml", whole, "delete", "", answer=whole, after="{}", is_free=True)
+    whole = '{ "" = 07:32, "a/b" = [1, { "m~n" = "x" }], t = { f = 1.5 } }'
+    for pointer, answer in [
+        ("", whole), ("/a~1b", '[1, { "m~n" = "x" }]'), ("/a~1b/0", "1"), ("/a~1b/1/m~0n", '"x"'),
+        ("/", "07:32"), ("/t", "{ f = 1.5 }"), ("/t/f", "1.5"),
+    ]:
+        yield on("toml", whole, "resolve", pointer, answer=answer, after=whole, is_free="~" not in pointer)
+    written = '{ "a/b" = [1, true], c = 3 }'
+    yield on("toml", '{ "a/b" = [1, 2], c = 3 }', "write", "/a~1b/1", "true", answer="2", after=written)
+    yield on(
+        "toml", written, "write", "/c", "1.5", answer="3", after='{ "a/b" = [1, true], c = 1.5 }', is_free=True
+    )
+    for document, pointer, answer, after, is_free in [
+        ("{ a = 1 }", "", "{ a = 1 }", "true", True),
+        ("{ a = 1 }", "/a", "1", "{ a = true }", True),
+        ("{ a = [1, 2] }", "/a/1", "2", "{ a = [1, true] }", True),
+        ("{ a = [1] }", "/a/1", "none", "{ a = [1, true] }", False),
+        ("{ a = [1] }", "/b~1", "none", '{ a = [1], "b/" = true }', False),
+        ("{ a = [] }", "/a/-/x", "none", "{ a = [{ x = true }] }", False),
+        ("{}", "/m~0n/0", "none", '{ "m~n" = [true] }', False),
+        ("1.5", "/a/00", "1.5", "{ a = { 00 = true } }", False),
+    ]:
+        yield on("toml", document, "assign", pointer, "true", answer=answer, after=after, is_free=is_free)
+    yield on("toml", "{ a = [1, true] }", "delete", "/a/1", answer="true", after="{ a = [1] }", is_free=True)
+    yield on("toml", '{ a = [1], "b/" = true }', "delete", "/b~1", answer="true", after="{ a = [1] }")
     yield on("toml", '{ "a/b" = 1 }', "resolve", "/a~1b", answer="1", after='{ "a/b" = 1 }')
     yield on("toml", '{ "a/b" = 1 }', "write", "/a~1b", "2", answer="1", after='{ "a/b" = 2 }')
     yield on("toml", '{ "a/b" = 1 }', "assign", "/a~1b", "2", answer="1", after='{ "a/b" = 2 }')
     yield on("toml", '{ "a/b" = 1 }', "delete", "/a~1b", answer="1", after="{}")
     yield on("toml", "[]", "assign", "/-/" + LONG, "2", answer="none", after=f"[{{ {LONG} = 2 }}]")
+
+
+def labelled():
+    """Of the labels of errors of documents, on the pointers that gave them, and on others."""
+    rows = [
+        ("resolve", "[]", "/é~1", "not an array index at 1, length 4"),
+        ("resolve", "7", "/é~1/x", "unreachable at 1, length 4"),
+        ("assign", '{"a":[1]}', "/a/b", "expected array index or '-' at 3, length 1"),
+    ]
+    for kind, document, pointer, label in rows:
+        yield takes("report", "labels", kind, document, pointer, answer=label)
+    others = [
+        ("/a/bcd", 1, 0, 1, 3),
+        ("/a/bcd", 0, 5, 5, 1),
+        ("/a/bcd", 0, 4, 5, 1),
+        ("/a/bcd", 0, MOST - 1, MOST - 1, 1),
+        ("//", 1, 7, 7, 0),
+    ]
+    for pointer, position, offset, place, length in others:
+        label = f"not found in value at {place}, length {length}"
+        yield takes("fields", "labels", "resolve", position, offset, pointer, answer=label)
 
 
 def undoing(kind, document, call, pointer, value, *, answer, after):
@@ -500,6 +734,36 @@ def undos():
     yield undoing("toml", '{ "a/b" = 1 }', "Put", "/a~1b", "7", answer="done", after='{ "a/b" = 7 }')
     yield undoing(
         "toml", "{ a = 1 }", "Remove", "/b", "1", answer=NOT_FOUND.format(0), after="{ a = 1 }\nremove at /b"
+    )
+
+
+def undos_told():
+    """Of taking assignments back: more documents, and what is told of a refusal in a TOML one."""
+    rows = [
+        ("json", "[1]", "/1", "7", "remove at /1", "[1,7]"),
+        ("json", '{"a":{}}', "/a/~1~0/0", "7", "remove at /a/~1~0", '{"a":{"/~":[7]}}'),
+        (
+            "toml",
+            '{ foo = "bar" }',
+            "/foo/bar/-/baz",
+            '"qux"',
+            'put "bar" at /foo',
+            '{ foo = { bar = [{ baz = "qux" }] } }',
+        ),
+        ("toml", "[1]", "/0", "7", "put 1 at /0", "[7]"),
+        ("toml", "{ a = 3 }", "", "7", "put { a = 3 } at ", "7"),
+        ("toml", '["a"]', "/-", '"b"', "remove at /1", '["a", "b"]'),
+        ("toml", "[1]", "/-/x", "7", "remove at /1", "[1, { x = 7 }]"),
+        ("toml", "{}", "/a/-", "7", "remove at /a", "{ a = [7] }"),
+    ]
+    for kind, document, pointer, value, answer, after in rows:
+        yield undoing(kind, document, "assign_with_undo", pointer, value, answer=answer, after=after)
+        yield undoing(kind, document, "undo", pointer, value, answer="done", after=document)
+    one = "{ a = [1] }"
+    yield undoing("toml", one, "assign_with_undo", "/a/2", "2", answer=NO_ROOM.format(2), after=one)
+    yield undoing("toml", "[1]", "Remove", "/1", "1", answer=PAST_THE_END.format(0), after="[1]\nremove at /1")
+    yield undoing(
+        "toml", "{ a = 1 }", "Put", "/b", "[7]", answer=NOT_FOUND.format(0), after="{ a = 1 }\nput [7] at /b"
     )
 
 
@@ -543,6 +807,91 @@ def patches():
     yield Row(("patch back", "[1,2,3]", "/1"), "add 2 at /1\n", "[1,3]\n")
     yield Row(("patch back", '{"a/b":[1]}', "/a~1b"), "add [1] at /a~1b\n", "{}\n")
     yield Row(("patch back", "{}", "/a"), "nothing\n", "{}\n")
+    for document, pointer in [("{}", "/x"), ("[1]", "/-"), ("[1]", "/1"), ("1", "/0")]:
+        yield Row(("patch back", document, pointer), "nothing\n", f"{document}\n")
+    for document, pointer, value, left in [
+        ("[1,2,3]", "/2", "3", "[1,2]"),
+        ("[1]", "/0", "1", "[]"),
+        ('{"a":{"b":[1]}}', "/a/b", "[1]", '{"a":{}}'),
+        ('{"z":0,"~":{"/":null}}', "/~0/~1", "null", '{"z":0,"~":{}}'),
+        ("[1]", "", "[1]", "null"),
+        ("null", "", "null", "null"),
+    ]:
+        yield Row(("patch back", document, pointer), f"add {value} at {pointer}\n", f"{left}\n")
+        yield patched(left, ("add", pointer, value), after=document)
+
+
+def applied():
+    """Of patches that are applied: first the examples of RFC 6902, appendix A, that succeed."""
+    three, nested = '{"baz":"qux","foo":["a",2,"c"]}', '{"a":{"b":1}}'
+    grass = '{"foo":["all","grass","cows","eat"]}'
+    waldo = '{"foo":{"bar":"baz","waldo":"fred"},"qux":{"corge":"grault"}}'
+    thud = '{"foo":{"bar":"baz"},"qux":{"corge":"grault","thud":"fred"}}'
+    rows = [
+        ('{"foo":"bar"}', [("add", "/baz", '"qux"')], '{"baz":"qux","foo":"bar"}'),
+        ('{"foo":["bar","baz"]}', [("add", "/foo/1", '"qux"')], '{"foo":["bar","qux","baz"]}'),
+        ('{"baz":"qux","foo":"bar"}', [("remove", "/baz")], '{"foo":"bar"}'),
+        ('{"foo":["bar","qux","baz"]}', [("remove", "/foo/1")], '{"foo":["bar","baz"]}'),
+        ('{"baz":"qux","foo":"bar"}', [("replace", "/baz", '"boo"')], '{"baz":"boo","foo":"bar"}'),
+        (waldo, [("move", "/foo/waldo", "/qux/thud")], thud),
+        (grass, [("move", "/foo/1", "/foo/3")], '{"foo":["all","cows","eat","grass"]}'),
+        (three, [("test", "/baz", '"qux"'), ("test", "/foo/1", "2")], three),
+        ('{"foo":"bar"}', [("add", "/child", '{"grandchild":{}}')], '{"child":{"grandchild":{}},"foo":"bar"}'),
+        ('{"/":9,"~1":10}', [("test", "/~01", "10")], '{"/":9,"~1":10}'),
+        ('{"foo":["bar"]}', [("add", "/foo/-", '["abc","def"]')], '{"foo":["bar",["abc","def"]]}'),
+        ('{"a":[1,2]}', [("add", "/a/2", "9")], '{"a":[1,2,9]}'),
+        ("[]", [("add", "/0", "9")], "[9]"),
+        ('{"a":1}', [("add", "/a", "[2]")], '{"a":[2]}'),
+        ("[1]", [("add", "", "{}")], "{}"),
+        ("[1,2]", [("remove", "")], "null"),
+        ('{"a":[1,{"b":2}]}', [("replace", "/a/1/b", "3")], '{"a":[1,{"b":3}]}'),
+        ("[1]", [("replace", "", "2")], "2"),
+        ("[1,2]", [("move", "/0", "/0")], "[1,2]"),
+        ("[1,2]", [("move", "", "")], "[1,2]"),
+        (nested, [("move", "/a/b", "/a")], '{"a":1}'),
+        (nested, [("move", "/a/b", "")], "1"),
+        ("[1]", [("copy", "", "/0")], "[[1],1]"),
+        ('{"a":[1,[2]]}', [("copy", "/a/1/0", "/a/1/-")], '{"a":[1,[2,2]]}'),
+        ('{"~":{"/":1}}', [("add", "/~0/~1", "2"), ("test", "/~0/~1", "2")], '{"~":{"/":2}}'),
+    ]
+    for document, operations, after in rows:
+        yield patched(document, *operations, after=after)
+    added = [("add", "/x", "[]"), ("add", "/x/-", "1"), ("add", "/x/0", "0")]
+    yield patched("{}", *added, ("move", "/x", "/y"), ("remove", "/y/1"), after='{"y":[0]}')
+    unordered, ordered = '{"b":[1,2],"a":{"":{}}}', '{"a":{"":{}},"b":[1,2]}'
+    values = ["null", "true", "false", "0", "-7", str(MOST), str(-(2**63)), '"é"', "[]", "{}"]
+    values += ['[[],[1,[null]],{"a":true}]', unordered]
+    for value in values:
+        after = f'{{"":{ordered if value == unordered else value}}}'
+        yield patched('{"":null}', ("add", "/", value), ("test", "/", value), after=after)
+
+
+def refused():
+    """Of patches that are refused."""
+    into_self, no_float = "from is a proper prefix of path", "a float cannot be tested"
+    floats = ("test", "", '[{"a":[1.5]}]')
+    rows = [
+        ('{"foo":"bar"}', [("add", "/baz/bat", '"qux"')], 0, NOT_FOUND.format(0)),
+        ('{"a":1}', [("copy", "/a", "/b"), ("move", "/b", "/c"), ("move", "/b", "/d")], 2, NOT_FOUND.format(0)),
+        ('{"a":1}', [("move", "/a", "/b/c")], 0, NOT_FOUND.format(0)),
+        ("[[1]]", [("copy", "/0", "/1/0")], 0, PAST_THE_END.format(0)),
+        ("{}", [("move", "/a", "/a/b")], 0, into_self),
+        ("[1]", [("test", "/0", "1"), ("move", "", "/0")], 1, into_self),
+        ('{"a":1}', [("test", "/a", "1.0")], 0, no_float),
+        ('{"a":[1,{"b":[null]}]}', [("test", "/a/0", "1"), floats], 1, no_float),
+        ("{}", [("add", "/a", '{"b":[0,1.5]}'), ("test", "/a", "true")], 1, no_float),
+    ]
+    for document, operations, operation, cause in rows:
+        yield patched(document, *operations, answer=failed(operation, cause))
+    tested = [
+        ('{"baz":"qux"}', "/baz", '"bar"'), ('{"/":9,"~1":10}', "/~01", '"10"'),
+        ("[]", "", "{}"), ("{}", "", "[]"), ("null", "", "false"), ("true", "", "false"), ("-1", "", "1"),
+        ("[1]", "", "[1,1]"), ("[1,2]", "", "[2,1]"), ('{"a":1}', "", '{"b":1}'),
+        ('{"a":1}', "", '{"a":1,"b":1}'), ('{"a":1,"b":1}', "", '{"a":1}'),
+        ('{"a":[{"b":[]}]}', "", '{"a":[{"b":{}}]}'),
+    ]
+    for document, path, value in tested:
+        yield patched(document, ("test", path, value), answer=failed(0, "test failed"))
 
 
 def session(kind, document, pointer, steps, after):
@@ -587,6 +936,7 @@ def sessions():
         ("resolve", NOT_FOUND.format(0)),
     ]
     yield from session("json", "null", "", worked, "/a~1b {}")
+    yield from session("json", "null", "/x", [("clear", "done"), *worked], "/a~1b {}")
     yield from session("json", '{"a":[1,2]}', "/x", EVERY_CALL, '/~0/~1 {"a":[{},2,5],"~":{"/":8}}')
     yield from session("toml", "{ a = [1, 2] }", "/x", EVERY_CALL, '/~0/~1 { a = [{}, 2, 5], "~" = { "/" = 8 } }')
     long = [
@@ -604,6 +954,90 @@ def sessions():
         ("pop_front", f"token {ENCODED}"),
     ]
     yield from session("json", "{}", "", long, f' {{"{LONG}":{{"{DECODED}":1}}}}')
+
+
+def stepwise(kind, pointer, document, steps):
+    """Rows of sessions of one call each: the call, its reply, and what pointer and document are for the next."""
+    for call, reply, next_pointer, next_document in steps:
+        yield from session(kind, document, pointer, [(call, reply)], f"{next_pointer} {next_document}")
+        pointer, document = next_pointer, next_document
+
+
+def single_calls():
+    """Of sessions of one call each, and of none."""
+    worked = [
+        ("push_back a/b", "done", "/a~1b", "null"),
+        ("assign 1", "assigned for null", "/a~1b", '{"a/b":1}'),
+        ("delete", "deleted 1", "/a~1b", "{}"),
+        ("resolve", NOT_FOUND.format(0), "/a~1b", "{}"),
+    ]
+    yield from stepwise("json", "", "null", worked)
+    for pointers in KINDS:
+        yield Row(("session", "json", "{}", pointers, "/a~1b"), "", "/a~1b {}\n")
+    for kind, two in [("json", '{"a":[1,2]}'), ("toml", "{ a = [1, 2] }")]:
+        steps = [
+            ("parse /a", "done", "/a", two),
+            ("push_back ~", "done", "/a/~0", two),
+            ("push_front b/c", "done", "/b~1c/a/~0", two),
+            ("pop_front", "token b~1c", "/a/~0", two),
+        ]
+        yield from stepwise(kind, "/x", two, steps)
+    two, kept, deep = '{"a":[1,2]}', '{"a":[{},2]}', '{"a":[{"x":[true]},2]}'
+    steps = [
+        ("resolve", "value 1", "/a/0", two),
+        ("write {}", "value 1", "/a/0", kept),
+        ("append /x/-", "done", "/a/0/x/-", kept),
+        ("assign true", "assigned", "/a/0/x/-", deep),
+        ("delete", "not deleted", "/a/0/x/-", deep),
+        ("pop_back", "token -", "/a/0/x", deep),
+        ("delete", "deleted [true]", "/a/0/x", kept),
+        ("clear", "done", "", kept),
+        ("pop_back", "no token", "", kept),
+        ("pop_front", "no token", "", kept),
+        ("assign []", f"assigned for {kept}", "", "[]"),
+        ("resolve", "value []", "", "[]"),
+        ("delete", "deleted []", "", "null"),
+        ("write 5", "value null", "", "5"),
+    ]
+    yield from stepwise("json", "/a/0", two, steps)
+    two, seven, deep, kept = "{ a = [1, 2] }", "{ a = [7] }", "{ a = [{ x = [true] }] }", "{ a = [{}] }"
+    steps = [
+        ("resolve", "value 1", "/a/0", two),
+        ("delete", "deleted 1", "/a/0", "{ a = [2] }"),
+        ("write 7", "value 2", "/a/0", seven),
+        ("append /x/-", "done", "/a/0/x/-", seven),
+        ("assign true", "assigned for 7", "/a/0/x/-", deep),
+        ("delete", "not deleted", "/a/0/x/-", deep),
+        ("pop_back", "token -", "/a/0/x", deep),
+        ("delete", "deleted [true]", "/a/0/x", kept),
+        ("clear", "done", "", kept),
+        ("pop_back", "no token", "", kept),
+        ("pop_front", "no token", "", kept),
+        ("assign 1979-05-27", f"assigned for {kept}", "", "1979-05-27"),
+        ("resolve", "value 1979-05-27", "", "1979-05-27"),
+        ("delete", "deleted 1979-05-27", "", "{}"),
+        ("push_back b", "done", "/b", "{}"),
+        ("assign 3", "assigned", "/b", "{ b = 3 }"),
+    ]
+    yield from stepwise("toml", "/a/0", two, steps)
+
+
+def refused_calls():
+    """Of sessions of one call that is refused, and leaves pointer and document as they were."""
+    date, one = "{ d = 1979-05-27 }", "{ a = [1] }"
+    rows = [
+        ("json", "/x", "[]", "parse foo", f"{NO_SLASH}: foo"),
+        ("json", "/a/", '{"a":{}}', "resolve", NOT_FOUND.format(2)),
+        ("json", "/a/", '{"a":{}}', "write null", NOT_FOUND.format(2)),
+        ("json", "/a/b", '{"a":1}', "resolve", UNREACHABLE.format(2)),
+        ("json", "/a/b", '{"a":1}', "write null", UNREACHABLE.format(2)),
+        ("json", "/a/b", '{"a":[1]}', "assign null", NO_PLACE.format(2)),
+        ("toml", "/d/x", date, "parse d", f"{NO_SLASH}: d"),
+        ("toml", "/a/2", one, "assign 1", NO_ROOM.format(2)),
+        ("toml", "/a/01", one, "assign 1", NO_PLACE.format(2)),
+    ]
+    for kind, pointer, document, call, reply in rows:
+        yield from stepwise(kind, pointer, document, [(call, reply, pointer, document)])
 
 
 def reports():
@@ -709,6 +1143,20 @@ def reports():
         yield free("report joined", "into_original", text, answer=fault)
     yield free("report", "labels", "index", "", answer="none")
     yield free("report", "labels", "index", "9" * 100_000, answer="none")
+    yield free("report", "labels", "index on", MOST + 1, "00", answer="none")
+    yield takes("report", "labels", "index", "+1", answer="invalid character(s) at 0, length 1")
+    yield takes("report", "labels", "token", "a~/b", answer="invalid character at 2, length 1")
+    yield takes("report", "labels", "token", "é~x", answer="must be 0 or 1 at 3, length 1")
+    rows = [
+        (("pointer", "/é~"), f"/é~\n  ^ {tilde}"),
+        (("token", "é~x"), "é~x\n  ^ must be 0 or 1"),
+        (("index", "007"), "007\n^^ leading zeros"),
+        (("index", ""), ""),
+        (("index", MOST + 1), MOST + 1),
+        (("assign", "[0]", "/3"), "/3\n ^ 3 is out of bounds (len: 1)"),
+    ]
+    for about, drawn in rows:
+        yield takes("report", "render", *about, answer=drawn)
 
 
 def bounds():
@@ -718,6 +1166,7 @@ def bounds():
         ("for_len_incl", MOST, MOST, MOST),
         ("for_len_unchecked", MOST, 0, MOST),
         ("for_len", 0, 1, 0),
+        ("for_len", 0, 0, "index 0 out of bounds (len: 0)"),
         ("for_len", 1, 1, "index 1 out of bounds (len: 1)"),
         ("for_len", "-", 1, "index 1 out of bounds (len: 1)"),
         ("for_len_incl", 1, 1, 1),
@@ -725,11 +1174,22 @@ def bounds():
         ("for_len_incl", 2, 1, "index 2 out of bounds (len: 1)"),
         ("for_len_incl", "-", MOST, MOST),
         ("for_len_unchecked", "-", 30, 30),
+        ("for_len_unchecked", "-", 34, 34),
+        ("for_len_unchecked", 42, 30, 42),
+        ("for_len_unchecked", 34, 40, 34),
     ]
     for call, index, length, answer in rows:
         yield free("index", call, index, length, answer=answer)
-    yield free("invalid_encoding_len", MOST, 1, "", answer=1)
-    yield free("invalid_encoding_len", 0, 0, "/~", answer=2)
+    lengths = [
+        (MOST, 1, "", 1),
+        (MOST, 0, "/~", 1),
+        (0, 0, "/~", 2),
+        (0, 0, "~", 1),
+        (1, 1, "/a~", 1),
+        (1, 1, "/a~0", 2),
+    ]
+    for offset, source, subject, length in lengths:
+        yield free("invalid_encoding_len", offset, source, subject, answer=length)
     none = [
         ("pointer", MOST, 1, ""),
         ("pointer", MOST, MOST, "/~"),
@@ -742,12 +1202,24 @@ def bounds():
     labels = [
         ("pointer", 0, 0, "/~", "'~' must be followed by '0' or '1' at 0, length 2"),
         ("slash", 0, 0, "", "invalid character at 0, length 1"),
+        ("slash", MOST, 0, "", f"invalid character at {MOST}, length 1"),
+        ("tilde", 0, 0, "a", "must be 0 or 1 at 0, length 1"),
+        ("tilde", 3, 0, "é~", "incomplete escape sequence at 2, length 1"),
         ("tilde", MOST, 0, "", f"must be 0 or 1 at {MOST}, length 1"),
         ("pointer", MOST, 0, "", f"'~' must be followed by '0' or '1' at {MOST}, length 1"),
         ("resolve", 0, MOST - 1, "/a", f"not found in value at {MOST - 1}, length 1"),
     ]
     for kind, first, second, subject, label in labels:
         yield takes("fields", "labels", kind, first, second, subject, answer=label)
+    drawings = [
+        ("slash", 9, 0, "ab", "ab\n  ^ invalid character"),
+        ("slash", MOST, 0, "ab", "ab\n  ^ invalid character"),
+        ("tilde", 0, 0, "", ""),
+        ("resolve", 1, 4, "/foo/bär/x", "/foo/bär/x\n     ^^^ not found in value"),
+    ]
+    for kind, first, second, subject, drawn in drawings:
+        yield takes("fields", "render", kind, first, second, subject, answer=drawn)
+    yield free("fields", "display", "slash", MOST, 0, "", answer=NO_TOKEN.format(MOST))
     orders = [("index", "/1", "/2", "<"), ("index", "/-", f"/{MOST}", ">"), ("index", "/-", "/-", "=")]
     orders += [("component", "", "/", "<"), ("component", "/a~1b", "/a~0", ">"), ("component", MANY, MANY, "=")]
     for kind, one, other, order in orders:
@@ -769,14 +1241,17 @@ def shown():
     for kind in ["pointer", *KINDS]:
         for text in ["", "/a~1b", MANY, "/" + ENCODED]:
             yield free("show", kind, text, answer=text)
-    for token, text in [("a~1b", "a/b"), ("", ""), (ENCODED, DECODED), (LONG, LONG)]:
+    tokens_shown = [("a~1b", "a/b"), ("", ""), ("é", "é"), ("~01", "~1"), ("~0bar", "~bar")]
+    tokens_shown += [("~1foo~1~0bar", "/foo/~bar"), (ENCODED, DECODED), (LONG, LONG)]
+    for token, text in tokens_shown:
         yield free("show", "token", token, answer=text)
-    for text in ["-", "0", str(MOST)]:
+    for text in ["-", "0", "10", str(MOST)]:
         yield free("show", "index", text, answer=text)
 
 
 TABLES = [
-    texts, pointers_of_texts, indices, tokens, numbers, measures, pairs, ranges, copies, edits,
-    found, assigned, in_tables, undos, patches, sessions, reports, bounds, shown,
+    texts, pointers_of_texts, cut, indices, tokens, numbers, measures, pairs, ranges, copies, edits, owned,
+    found, assigned, in_tables, labelled, undos, undos_told, patches, applied, refused,
+    sessions, single_calls, refused_calls, reports, bounds, shown,
 ]
 ROWS = [row for table in TABLES for row in table()]

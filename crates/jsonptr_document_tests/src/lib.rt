@@ -1,5 +1,5 @@
-//! Tests of resolving, assigning and deleting, over public items alone: the rows of worked examples, every call
-//! once with ample memory, every trait once through its bound.
+//! Tests of resolving, assigning and deleting, over public items alone: the documentation's examples, the fields of
+//! refusals, every trait once through its bound. The rows of calls stand in `.ci/rows.py`.
 #![tactic(auto)]
 
 #[cfg(test)]

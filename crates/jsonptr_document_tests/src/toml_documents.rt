@@ -1,16 +1,10 @@
-//! Rows of TOML documents and pointers: what is found, written, assigned and taken out, and each refusal.
+//! Of TOML documents: each call once through the bound, and each refusal.
 use jsonptr::index::{IntegerCause, OutOfBoundsError, ParseIndexError};
 use jsonptr::{Assign, Delete, Fault, Pointer, Resolve, ResolveMut, assign, resolve};
-use std::alloc::{AllocError, Global};
+use std::alloc::Global;
 use std::mem;
 use std::test::Fail;
 use toml::Value;
-
-/// The document that a TOML text is.
-fn document(alloc: Global, text: &str) -> Result<Value, Fail> {
-    let table = toml::table_from_str(alloc, text).ok();
-    Ok(Value::Table(table.ok_or("a document")?))
-}
 
 /// The value that a text is.
 fn value(alloc: Global, text: &str) -> Result<Value, Fail> {
@@ -20,11 +14,6 @@ fn value(alloc: Global, text: &str) -> Result<Value, Fail> {
 /// Whether a value is that of a text.
 fn is_value(alloc: Global, there: &Value, text: &str) -> Result<bool, Fail> {
     Ok(*there == value(alloc, text)?)
-}
-
-/// Whether a document is that of a TOML text.
-fn is_document(alloc: Global, root: &Value, text: &str) -> Result<bool, Fail> {
-    Ok(*root == document(alloc, text)?)
 }
 
 /// What a document of any kind has at a pointer, as a copy.
@@ -80,19 +69,19 @@ fn taken<D: Delete<Value = Value>>(
 /// Takes the first out of an array of two, and says whether it is given back and the array closes up.
 fn closes_up(alloc: Global, root: &mut Value) -> Result<bool, Fail> {
     let first = taken(root, alloc, "/a/0")?.ok_or("the first")?;
-    Ok(first.as_integer() == Some(1) && is_document(alloc, root, "a = [2]")?)
+    Ok(first.as_integer() == Some(1) && is_value(alloc, root, "{ a = [2] }")?)
 }
 
 /// Assigns the first of another array, and says whether the document grows by it.
 fn grows(alloc: Global, root: &mut Value) -> Result<bool, Fail> {
     let three = assigned(root, alloc, "/b/-", Value::Integer(3))?.ok();
     let fresh = three.ok_or("assigned")?.is_none();
-    Ok(fresh && is_document(alloc, root, "a = [2]\nb = [3]")?)
+    Ok(fresh && is_value(alloc, root, "{ a = [2], b = [3] }")?)
 }
 
 #[test]
 fn an_array_closes_up_and_another_grows(rt: HostRuntime) -> Result<(), Fail> {
-    let mut root = document(rt.alloc(), "a = [1, 2]")?;
+    let mut root = value(rt.alloc(), "{ a = [1, 2] }")?;
     let steps = (
         closes_up(rt.alloc(), &mut root)?,
         grows(rt.alloc(), &mut root)?,
@@ -101,86 +90,13 @@ fn an_array_closes_up_and_another_grows(rt: HostRuntime) -> Result<(), Fail> {
     Ok(())
 }
 
-/// Whether a pointer names nothing below a date.
-fn is_below_a_date(alloc: Global, root: &Value) -> Result<bool, Fail> {
-    let below = resolve::Error::Unreachable {
-        position: 1,
-        offset: 2,
-    };
-    Ok(found(root, alloc, "/d/x")?.err() == Some(below))
-}
-
-/// Assigns one below the date, and says whether the date is given back.
-fn gives_the_date(alloc: Global, root: &mut Value) -> Result<bool, Fail> {
-    let old = assigned(root, alloc, "/d/x", Value::Integer(1))?.ok();
-    let date = old.ok_or("assigned")?.ok_or("the date")?;
-    Ok(date.is_datetime() && is_value(alloc, &date, "1979-05-27")?)
-}
-
-/// The integer that a document has at a pointer.
-fn integer_at(alloc: Global, root: &Value, pointer: &str) -> Result<Option<i64>, Fail> {
-    let there = found(root, alloc, pointer)?.ok();
-    Ok(there.ok_or("found")?.as_integer())
-}
-
 #[test]
-fn a_date_gives_way_to_a_table(rt: HostRuntime) -> Result<(), Fail> {
-    let alloc = rt.alloc();
-    let mut root = document(alloc, "d = 1979-05-27")?;
-    let steps = (
-        is_below_a_date(alloc, &root)?,
-        gives_the_date(alloc, &mut root)?,
-        integer_at(alloc, &root, "/d/x")?,
-    );
-    assert_eq!(rt; steps, (true, true, Some(1)));
-    Ok(())
-}
-
-/// Whether the root pointer takes out the value of a text.
-fn is_taken_whole(alloc: Global, root: &mut Value, text: &str) -> Result<bool, Fail> {
-    let whole = taken(root, alloc, "")?.ok_or("the whole")?;
-    is_value(alloc, &whole, text)
-}
-
-/// Whether the value of a text is taken out whole and leaves an empty table.
-fn leaves_an_empty_table(alloc: Global, text: &str) -> Result<bool, Fail> {
-    let mut root = value(alloc, text)?;
-    Ok(is_taken_whole(alloc, &mut root, text)? && is_value(alloc, &root, "{}")?)
-}
-
-#[test]
-fn the_root_leaves_an_empty_table(rt: HostRuntime) -> Result<(), Fail> {
-    for text in ["1", "{ a = 1, b = [true] }", "[]", "{}"] {
-        assert!(rt; leaves_an_empty_table(rt.alloc(), text)?, "at {text}");
-    }
-    Ok(())
-}
-
-/// What a pointer's own call finds in a document, as a copy.
-fn found_by(alloc: Global, pointer: &str, document: &Value) -> Result<Value, Fail> {
-    Ok(Pointer::parse(pointer)?.resolve(alloc, document)?.clone()?)
-}
-
-/// Whether a document has the value of a text at a pointer, by both calls.
-fn is_found(alloc: Global, root: &Value, pointer: &str, want: &str) -> Result<bool, Fail> {
-    let there = found(root, alloc, pointer)?.ok().ok_or("found")?;
-    Ok(is_value(alloc, &there, want)? && found_by(alloc, pointer, root)? == there)
-}
-
-#[test]
-fn finds_what_the_pointer_names(rt: HostRuntime) -> Result<(), Fail> {
+fn finds_through_the_bound(rt: HostRuntime) -> Result<(), Fail> {
     let whole = "{ 'a/b' = [1, { 'm~n' = 'x' }], '' = 07:32, t = { f = 1.5 } }";
     let root = value(rt.alloc(), whole)?;
-    for (pointer, want) in [
-        ("", whole),
-        ("/a~1b", "[1, { 'm~n' = 'x' }]"),
-        ("/a~1b/0", "1"),
-        ("/a~1b/1/m~0n", "'x'"),
-        ("/", "07:32"),
-        ("/t", "{ f = 1.5 }"),
-        ("/t/f", "1.5"),
-    ] {
-        assert!(rt; is_found(rt.alloc(), &root, pointer, want)?, "at {pointer}");
+    for (pointer, want) in [("/a~1b/1/m~0n", "'x'"), ("/", "07:32")] {
+        let there = found(&root, rt.alloc(), pointer)?.ok().ok_or("found")?;
+        assert!(rt; is_value(rt.alloc(), &there, want)?, "at {pointer}");
     }
     Ok(())
 }
@@ -214,36 +130,50 @@ fn is_refusal(
 
 #[test]
 fn names_nothing(rt: HostRuntime) -> Result<(), Fail> {
-    let missing = resolve::Error::NotFound {
-        position: 1,
-        offset: 5,
-    };
-    assert!(rt; is_refusal(rt.alloc(), "{ 'a/b' = {} }", "/a~1b/x", missing)?);
-    let below = resolve::Error::Unreachable {
-        position: 2,
-        offset: 5,
-    };
-    assert!(rt; is_refusal(rt.alloc(), "{ 'é' = [07:32] }", "/é/0/a", below)?);
-    Ok(())
-}
-
-#[test]
-fn names_no_element(rt: HostRuntime) -> Result<(), Fail> {
-    let past = resolve::Error::OutOfBounds {
-        position: 1,
-        offset: 2,
-        source: OutOfBoundsError {
-            length: 2,
-            index: 2,
-        },
-    };
-    assert!(rt; is_refusal(rt.alloc(), "{ a = [1, 2] }", "/a/-", past)?);
-    let zeros = resolve::Error::FailedToParseIndex {
-        position: 0,
-        offset: 0,
-        source: ParseIndexError::LeadingZeros,
-    };
-    assert!(rt; is_refusal(rt.alloc(), "[1, 2]", "/01", zeros)?);
+    for (text, pointer, want) in [
+        (
+            "{ 'a/b' = {} }",
+            "/a~1b/x",
+            resolve::Error::NotFound {
+                position: 1,
+                offset: 5,
+            },
+        ),
+        (
+            "{ 'é' = [07:32] }",
+            "/é/0/a",
+            resolve::Error::Unreachable {
+                position: 2,
+                offset: 5,
+            },
+        ),
+        (
+            "{ a = [1, 2] }",
+            "/a/-",
+            resolve::Error::OutOfBounds {
+                position: 1,
+                offset: 2,
+                source: OutOfBoundsError {
+                    length: 2,
+                    index: 2,
+                },
+            },
+        ),
+        (
+            "[1, 2]",
+            "/01",
+            resolve::Error::FailedToParseIndex {
+                position: 0,
+                offset: 0,
+                source: ParseIndexError::LeadingZeros,
+            },
+        ),
+    ] {
+        assert!(rt;
+            is_refusal(rt.alloc(), text, pointer, want)?,
+            "at {pointer}"
+        );
+    }
     Ok(())
 }
 
@@ -254,62 +184,10 @@ fn swaps_an_element(alloc: Global, root: &mut Value) -> Result<bool, Fail> {
     Ok(two == Some(2) && is_value(alloc, root, "{ 'a/b' = [1, true], c = 3 }")?)
 }
 
-/// Writes in a table through what a pointer's own call lends, and says whether the new member stands.
-fn writes_a_member(alloc: Global, root: &mut Value) -> Result<bool, Fail> {
-    *Pointer::parse("/c")?.resolve_mut(alloc, root)? = Value::Float(1.5);
-    is_value(alloc, root, "{ 'a/b' = [1, true], c = 1.5 }")
-}
-
 #[test]
-fn writes_through_what_is_lent(rt: HostRuntime) -> Result<(), Fail> {
-    let alloc = rt.alloc();
-    let mut root = value(alloc, "{ 'a/b' = [1, 2], c = 3 }")?;
-    let steps = (
-        swaps_an_element(alloc, &mut root)?,
-        writes_a_member(alloc, &mut root)?,
-    );
-    assert_eq!(rt; steps, (true, true));
-    Ok(())
-}
-
-/// Whether this is what was given back, by its text if there is a value.
-fn is_old(alloc: Global, old: Option<Value>, want: Option<&str>) -> Result<bool, Fail> {
-    match want {
-        Some(text) => Ok(old == Some(value(alloc, text)?)),
-        None => Ok(old.is_none()),
-    }
-}
-
-/// Whether `true`, assigned at a pointer in a document, makes another, each given by its text, and gives back
-/// what is said.
-fn lands(
-    alloc: Global,
-    text: &str,
-    pointer: &str,
-    want: &str,
-    old: Option<&str>,
-) -> Result<bool, Fail> {
-    let mut root = value(alloc, text)?;
-    let gone = assigned(&mut root, alloc, pointer, Value::Boolean(true))?.ok();
-    Ok(is_old(alloc, gone.ok_or("assigned")?, old)? && is_value(alloc, &root, want)?)
-}
-
-#[test]
-fn assigns_where_the_pointer_lands(rt: HostRuntime) -> Result<(), Fail> {
-    for (text, pointer, want, old) in [
-        ("{ a = 1 }", "", "true", Some("{ a = 1 }")),
-        ("{ a = 1 }", "/a", "{ a = true }", Some("1")),
-        ("{ a = [1, 2] }", "/a/1", "{ a = [1, true] }", Some("2")),
-        ("{ a = [1] }", "/a/1", "{ a = [1, true] }", None),
-        ("{ a = [] }", "/a/-/x", "{ a = [{ x = true }] }", None),
-        ("{}", "/m~0n/0", "{ 'm~n' = [true] }", None),
-        ("1.5", "/a/00", "{ a = { 00 = true } }", Some("1.5")),
-    ] {
-        assert!(rt;
-            lands(rt.alloc(), text, pointer, want, old)?,
-            "at {pointer}"
-        );
-    }
+fn writes_through_the_bound(rt: HostRuntime) -> Result<(), Fail> {
+    let mut root = value(rt.alloc(), "{ 'a/b' = [1, 2], c = 3 }")?;
+    assert!(rt; swaps_an_element(rt.alloc(), &mut root)?);
     Ok(())
 }
 
@@ -341,28 +219,5 @@ fn assigns_at_no_place_of_an_array(rt: HostRuntime) -> Result<(), Fail> {
         source: ParseIndexError::InvalidInteger(IntegerCause::Empty),
     };
     assert_eq!(rt; no_place(alloc, "[1]", "/")?, empty);
-    Ok(())
-}
-
-/// Whether a pointer's own calls assign a value and take it out again, after which the document is as it was.
-fn there_and_back(document: &mut Value, alloc: Global, pointer: &str) -> Result<bool, Fail> {
-    let pointer = Pointer::parse(pointer)?;
-    let fresh = pointer
-        .assign(alloc, document, Value::Boolean(true))?
-        .is_none();
-    let gone = pointer.delete(alloc, document)?;
-    let back = gone.is_some_and(|value| value.is_bool());
-    Ok(fresh && back && is_value(alloc, document, "{ a = [1] }")?)
-}
-
-#[test]
-fn calls_of_a_pointer(rt: HostRuntime) -> Result<(), Fail> {
-    let mut root = value(rt.alloc(), "{ a = [1] }")?;
-    for pointer in ["/b~1", "/a/1"] {
-        assert!(rt;
-            there_and_back(&mut root, rt.alloc(), pointer)?,
-            "at {pointer}"
-        );
-    }
     Ok(())
 }

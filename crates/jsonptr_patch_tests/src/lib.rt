@@ -1,16 +1,12 @@
-//! Tests of patches over public items alone: rows of worked examples, those of RFC 6902, appendix A, the text of each
-//! refusal, and a long patch.
+//! Tests of patches over public items alone: the documentation's examples, the fields of refusals, and a long patch.
+//! The rows of patches stand in `.ci/rows.py`.
 #![tactic(auto)]
 
 #[cfg(test)]
 mod documented;
-#[cfg(test)]
-mod examples;
 #[cfg(test)]
 mod long;
 #[cfg(test)]
 mod patches;
 #[cfg(test)]
 mod refusals;
-#[cfg(test)]
-mod undo;

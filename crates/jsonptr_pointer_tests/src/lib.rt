@@ -1,5 +1,5 @@
-//! Tests of pointers, borrowed and owned, over public items alone: the rows of worked examples, every call that
-//! can want memory once with ample memory, every trait that they implement once through its bound.
+//! Tests of pointers, borrowed and owned, over public items alone: the examples of the documentation, the fields of
+//! refusals, every trait that they implement once through its bound. Rows of their calls stand in `.ci/rows.py`.
 #![tactic(auto)]
 
 #[cfg(test)]

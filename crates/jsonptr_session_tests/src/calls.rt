@@ -96,40 +96,20 @@ impl<D: Document> Session<D> {
     fn is_in(&self, rt: &HostRuntime, ptr: &str, doc: &str) -> Result<bool, Fail> {
         Ok(self.state(rt)? == format!(in rt.alloc(); "{ptr} {doc}")?)
     }
-
-    /// What the call of a line is replied, in words.
-    fn answer(&mut self, rt: &HostRuntime, line: &str) -> Result<String, Fail> {
-        let reply = self.reply(rt, call(rt, line)?)?;
-        said(rt.alloc(), &reply)
-    }
-
-    /// What the call of a line is replied, and what pointer and document are then.
-    fn step(&mut self, rt: &HostRuntime, line: &str) -> Result<String, Fail> {
-        let says = self.answer(rt, line)?;
-        let state = self.state(rt)?;
-        Ok(format!(in rt.alloc(); "{line}: {says}: {state}\n")?)
-    }
-
-    /// What the calls of these lines are each replied, and what pointer and document are then.
-    pub fn steps(&mut self, rt: &HostRuntime, lines: &[&str]) -> Result<String, Fail> {
-        let mut steps = String::new(rt.alloc());
-        for line in lines {
-            steps.push_str(self.step(rt, line)?.as_str())?;
-        }
-        Ok(steps)
-    }
 }
 
-/// What the calls of these lines are each replied on the pointer and the document of these texts, and what both
-/// are then.
-pub fn steps<D: Document>(
+/// What the calls of these lines, made in one run, are replied, and what pointer and document are then.
+pub fn run<D: Document>(
     rt: &HostRuntime,
     ptr: &str,
     doc: &str,
     lines: &[&str],
 ) -> Result<String, Fail> {
     let mut session: Session<D> = Session::new(rt, ptr, doc)?;
-    session.steps(rt, lines)
+    let replies = session.replies(rt, calls(rt, lines)?)?;
+    let mut says = all_said(rt.alloc(), &replies)?;
+    says.push_str(session.state(rt)?.as_str())?;
+    Ok(says)
 }
 
 /// The reply to a call that leaves the pointer and the document as these texts say.
@@ -241,7 +221,7 @@ pub fn call<D: Document>(rt: &HostRuntime, line: &str) -> Result<Call<D>, Fail> 
 }
 
 /// The calls of these lines.
-pub fn calls<D: Document>(rt: &HostRuntime, lines: &[&str]) -> Result<Vec<Call<D>>, Fail> {
+fn calls<D: Document>(rt: &HostRuntime, lines: &[&str]) -> Result<Vec<Call<D>>, Fail> {
     let mut calls = Vec::new(rt.alloc());
     for line in lines {
         calls.push(call(rt, line)?)?;
@@ -250,7 +230,7 @@ pub fn calls<D: Document>(rt: &HostRuntime, lines: &[&str]) -> Result<Vec<Call<D
 }
 
 /// What a reply says, in words; of a refusal what its error displays.
-pub fn said<D: Display>(alloc: Global, reply: &Reply<D>) -> Result<String, Fail> {
+fn said<D: Display>(alloc: Global, reply: &Reply<D>) -> Result<String, Fail> {
     match reply {
         Reply::Done => Ok(String::from_str(alloc, "done")?),
         Reply::BadPointer(report) => Ok(report.original().to_string(alloc)?),

@@ -1,5 +1,5 @@
-//! Tests of sessions, over public items alone: every call with ample memory, and every refusal with all its
-//! fields.
+//! Tests of sessions, over public items alone: refusals with all their fields, tokens replaced behind the first, and
+//! long runs. Rows of calls, and of assignments that are taken back, stand in `.ci/rows.py`.
 #![tactic(auto)]
 
 #[cfg(test)]
@@ -12,8 +12,6 @@ mod json;
 mod long;
 #[cfg(test)]
 mod toml_documents;
-#[cfg(test)]
-mod toml_undo;
 #[cfg(test)]
 mod undo;
 #[cfg(test)]

@@ -1,4 +1,4 @@
-//! Taking assignments in JSON documents back: rows of what is answered, and a long walk.
+//! Taking assignments in JSON documents back: refusals with all their fields.
 use crate::calls::buf;
 use jsonptr::index::{OutOfBoundsError, ParseIndexError};
 use jsonptr::{Fault, Pointer, assign, resolve};
@@ -10,7 +10,7 @@ use std::fmt::Display;
 use std::test::Fail;
 
 /// What an undo does, in words.
-pub fn said<V: Display>(alloc: Global, undo: &Undo<V>) -> Result<String, Fail> {
+fn said<V: Display>(alloc: Global, undo: &Undo<V>) -> Result<String, Fail> {
     match undo {
         Undo::Put(pointer, value) => Ok(format!(in alloc; "put {value} at '{pointer}'")?),
         Undo::Remove(pointer) => Ok(format!(in alloc; "remove at '{pointer}'")?),
@@ -18,7 +18,7 @@ pub fn said<V: Display>(alloc: Global, undo: &Undo<V>) -> Result<String, Fail> {
 }
 
 /// Why nothing was undone, and what is handed back, in words.
-pub fn refusal<V: Display + Drop>(
+fn refusal<V: Display + Drop>(
     alloc: Global,
     undone: Result<(), UndoRefused<V>>,
 ) -> Result<(resolve::Error, String), Fail> {
@@ -30,68 +30,6 @@ pub fn refusal<V: Display + Drop>(
         Fault::Refused(error) => Ok((error, said(alloc, &undo)?)),
         Fault::Memory(error) => Err(error.into()),
     }
-}
-
-/// A document and what takes an assignment in it back, in words.
-pub fn there<V: Display>(alloc: Global, doc: &V, undo: &Undo<V>) -> Result<String, Fail> {
-    let says = said(alloc, undo)?;
-    Ok(format!(in alloc; "{doc}; {says}")?)
-}
-
-/// Assigns the value of a text, and answers what takes that back.
-fn assigned(alloc: Global, doc: &mut Value, ptr: &str, value: &str) -> Result<Undo<Value>, Fail> {
-    let pointer = Pointer::parse(ptr)?;
-    let value = Value::from_str(alloc, value)?;
-    Ok(assign_with_undo(alloc, doc, pointer, value)?)
-}
-
-/// The document after an assignment, what is answered, and the document after that is done.
-fn there_and_back(rt: &HostRuntime, doc: &str, ptr: &str, value: &str) -> Result<String, Fail> {
-    let alloc = rt.alloc();
-    let mut doc = Value::from_str(alloc, doc)?;
-    let answer = assigned(alloc, &mut doc, ptr, value)?;
-    let there = there(alloc, &doc, &answer)?;
-    undo(alloc, &mut doc, answer)?;
-    Ok(format!(in alloc; "{there}; {doc}")?)
-}
-
-#[test]
-fn what_was_replaced(rt: HostRuntime) -> Result<(), Fail> {
-    let rows = [
-        (
-            [r#"{"foo":"bar"}"#, "/foo/bar/-/baz", r#""qux""#],
-            r#"{"foo":{"bar":[{"baz":"qux"}]}}; put "bar" at '/foo'; {"foo":"bar"}"#,
-        ),
-        (["[1]", "/0", "7"], "[7]; put 1 at '/0'; [1]"),
-        ([r#"{"a":3}"#, "", "7"], r#"7; put {"a":3} at ''; {"a":3}"#),
-    ];
-    for ([doc, ptr, value], want) in rows {
-        let said = there_and_back(&rt, doc, ptr, value)?;
-        assert_eq!(rt; said.as_str(), want);
-    }
-    Ok(())
-}
-
-#[test]
-fn what_is_new(rt: HostRuntime) -> Result<(), Fail> {
-    let rows = [
-        (
-            [r#"["a"]"#, "/-", r#""b""#],
-            r#"["a","b"]; remove at '/1'; ["a"]"#,
-        ),
-        (["[1]", "/-/x", "7"], r#"[1,{"x":7}]; remove at '/1'; [1]"#),
-        (["{}", "/a/-", "7"], r#"{"a":[7]}; remove at '/a'; {}"#),
-        (["[1]", "/1", "7"], "[1,7]; remove at '/1'; [1]"),
-        (
-            [r#"{"a":{}}"#, "/a/~1~0/0", "7"],
-            r#"{"a":{"/~":[7]}}; remove at '/a/~1~0'; {"a":{}}"#,
-        ),
-    ];
-    for ([doc, ptr, value], want) in rows {
-        let said = there_and_back(&rt, doc, ptr, value)?;
-        assert_eq!(rt; said.as_str(), want);
-    }
-    Ok(())
 }
 
 /// Why two can't be assigned at a pointer in the document of a text, and the document after that, as text.
@@ -145,17 +83,5 @@ fn nothing_to_remove(rt: HostRuntime) -> Result<(), Fail> {
     };
     let remove = Undo::Remove(buf(&rt, "/1")?);
     assert!(rt; is_refused(rt.alloc(), "[1]", remove, past, "remove at '/1'; [1]")?);
-    Ok(())
-}
-
-#[test]
-fn nothing_to_replace(rt: HostRuntime) -> Result<(), Fail> {
-    let below = resolve::Error::Unreachable {
-        position: 1,
-        offset: 2,
-    };
-    let put = Undo::Put(buf(&rt, "/a/b")?, Value::from_str(rt.alloc(), "[7]")?);
-    let says = r#"put [7] at '/a/b'; {"a":1}"#;
-    assert!(rt; is_refused(rt.alloc(), r#"{"a":1}"#, put, below, says)?);
     Ok(())
 }

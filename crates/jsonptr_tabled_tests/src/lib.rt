@@ -1,5 +1,6 @@
-//! Tests of tabled pointers beside plain ones, over public items alone: rows of ranges, splits and edits, a long
-//! walk of edits, sessions on both kinds, and every trait that is implemented once through its bound.
+//! Tests of tabled pointers beside plain ones, over public items alone: tables after edits, a long walk of edits,
+//! sessions on both kinds, and every trait that is implemented once through its bound. Rows of their calls stand in
+//! `.ci/rows.py`.
 #![tactic(auto)]
 
 #[cfg(test)]

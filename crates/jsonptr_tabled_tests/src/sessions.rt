@@ -266,14 +266,6 @@ fn every_call_on_json(rt: HostRuntime) -> Result<(), Fail> {
 }
 
 #[test]
-fn rows_on_json(rt: HostRuntime) -> Result<(), Fail> {
-    let lines = ["clear", "push_back a/b", "assign 1", "delete", "resolve"];
-    let left = after::<serde_json::Value>(&rt, "null", &lines)?;
-    assert_eq!(rt; left.as_str(), "/a~1b {}");
-    Ok(())
-}
-
-#[test]
 fn every_call_on_toml(rt: HostRuntime) -> Result<(), Fail> {
     let left = after::<toml::Value>(&rt, "{ a = [1, 2] }", &LINES)?;
     assert_eq!(rt; left.as_str(), "/a/0 { a = [] }");

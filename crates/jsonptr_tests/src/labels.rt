@@ -22,85 +22,9 @@ fn is_labelled<E: Diagnostic>(
     Ok(is_label(labels, words, offset, len))
 }
 
-/// Whether the only label of a token's fault on a text is this; with no words, whether there is no label.
-fn labels_text(
-    alloc: Global,
-    error: EncodingError,
-    text: &str,
-    words: &str,
-    offset: usize,
-    len: usize,
-) -> Result<bool, AllocError> {
-    let report = reported(error, String::from_str(alloc, text)?);
-    is_labelled(alloc, report, words, offset, len)
-}
-
-/// Whether the only label of what a text lacks to be an index, on a subject, is this; with no words, whether
-/// there is no label.
-fn labels_index(
-    alloc: Global,
-    text: &str,
-    subject: &str,
-    words: &str,
-    offset: usize,
-    len: usize,
-) -> Result<bool, Fail> {
-    let error = text.parse::<Index>().err().ok_or("a fault")?;
-    let subject = StringOrToken::from(String::from_str(alloc, subject)?);
-    let report = reported(error, subject);
-    Ok(is_labelled(alloc, report, words, offset, len)?)
-}
-
 /// What an error displays, through the bound.
 fn shown<E: Error + fmt::Display>(alloc: Global, error: &E) -> Result<String, AllocError> {
     error.to_string(alloc)
-}
-
-#[test]
-fn labels_of_encodings(rt: HostRuntime) -> Result<(), Fail> {
-    let tilde = InvalidEncoding::Tilde;
-    let slash = InvalidEncoding::Slash;
-    for (subject, offset, source, words, place, len) in [
-        ("foo/oops~bar", 3, slash, "invalid character", 3, 1),
-        ("a~/b", 2, slash, "invalid character", 2, 1),
-        ("~~0", 1, tilde, "must be 0 or 1", 1, 1),
-        ("~", 1, tilde, "incomplete escape sequence", 0, 1),
-        ("é~x", 3, tilde, "must be 0 or 1", 3, 1),
-        ("é~", 3, tilde, "incomplete escape sequence", 2, 1),
-        ("", 0, tilde, "", 0, 0),
-        ("", 0, slash, "invalid character", 0, 1),
-        ("a", 0, tilde, "must be 0 or 1", 0, 1),
-        ("", usize::MAX, tilde, "must be 0 or 1", usize::MAX, 1),
-        ("", usize::MAX, slash, "invalid character", usize::MAX, 1),
-    ] {
-        let error = EncodingError { offset, source };
-        assert!(rt;
-            labels_text(rt.alloc(), error, subject, words, place, len)?,
-            "at {subject} {offset}"
-        );
-    }
-    Ok(())
-}
-
-#[test]
-fn labels_of_indices(rt: HostRuntime) -> Result<(), Fail> {
-    for (text, subject, words, place, len) in [
-        ("00", "00", "leading zeros", 0, 2),
-        ("0a", "0a", "leading zeros", 0, 1),
-        ("00", "12", "leading zeros", 0, 0),
-        ("+1", "+1", "invalid character(s)", 0, 1),
-        ("1a", "1a", "invalid character(s)", 1, 1),
-        ("123x", "abcdé1", "invalid character(s)", 3, 3),
-        ("123x", "1", "invalid character(s)", 3, 0),
-        ("", "", "", 0, 0),
-        ("18446744073709551616", "00", "", 0, 0),
-    ] {
-        assert!(rt;
-            labels_index(rt.alloc(), text, subject, words, place, len)?,
-            "at {text}"
-        );
-    }
-    Ok(())
 }
 
 #[test]
@@ -126,19 +50,6 @@ fn texts_of_encodings(rt: HostRuntime) -> Result<(), Fail> {
 }
 
 #[test]
-fn text_of_a_place_in_a_token(rt: HostRuntime) -> Result<(), Fail> {
-    let encoding = EncodingError {
-        offset: usize::MAX,
-        source: InvalidEncoding::Slash,
-    };
-    assert_eq!(rt;
-        shown(rt.alloc(), &encoding)?.as_str(),
-        "token contains invalid encoding at offset 18446744073709551615"
-    );
-    Ok(())
-}
-
-#[test]
 fn text_of_a_place_out_of_bounds(rt: HostRuntime) -> Result<(), Fail> {
     let bounds = OutOfBoundsError {
         length: usize::MAX,
@@ -148,27 +59,6 @@ fn text_of_a_place_out_of_bounds(rt: HostRuntime) -> Result<(), Fail> {
         shown(rt.alloc(), &bounds)?.as_str(),
         "index 3 out of bounds (len: 18446744073709551615)"
     );
-    Ok(())
-}
-
-/// What is displayed of the error of a text that is no index.
-fn shown_of_index(alloc: Global, text: &str) -> Result<String, Fail> {
-    let error = text.parse::<Index>().err().ok_or("a fault")?;
-    Ok(shown(alloc, &error)?)
-}
-
-#[test]
-fn texts_of_indices(rt: HostRuntime) -> Result<(), Fail> {
-    for (text, want) in [
-        ("", "failed to parse token as an integer"),
-        (
-            "00",
-            "token contained leading zeros, which are disallowed by RFC 6901",
-        ),
-        ("x", "failed to parse token as an index"),
-    ] {
-        assert_eq!(rt; shown_of_index(rt.alloc(), text)?.as_str(), want);
-    }
     Ok(())
 }
 

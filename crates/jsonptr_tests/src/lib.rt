@@ -1,5 +1,6 @@
-//! Tests of tokens, indices, reports and of what `parse` takes, over public items alone: the rows of worked
-//! examples, every call that can want memory once with ample memory, every trait once through its bound.
+//! Tests of tokens, indices, reports and of what `parse` takes, over public items alone: errors with all their
+//! fields, every short text beside plain loops, every trait once through its bound. Rows of calls stand in
+//! `.ci/rows.py`.
 #![tactic(auto)]
 
 #[cfg(test)]

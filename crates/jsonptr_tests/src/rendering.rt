@@ -3,10 +3,8 @@ ghost use Rattle.std.specs.Prelude.{IsSome, codes};
 
 use crate::reports::reported;
 use jsonptr::diagnostic::{Diagnostic, Label};
-use jsonptr::index::{Index, OutOfBoundsError, StringOrToken};
-use jsonptr::{
-    EncodingError, InvalidEncoding, ParseError, Pointer, PointerBuf, Token, assign, resolve,
-};
+use jsonptr::index::StringOrToken;
+use jsonptr::{EncodingError, InvalidEncoding, ParseError, Token};
 use std::alloc::{AllocError, Global};
 use std::borrow::CowStr;
 use std::convert::AsStr;
@@ -34,24 +32,6 @@ fn draws_below<E: Diagnostic<Subject = String>>(
     want: &str,
 ) -> Result<bool, AllocError> {
     draws(alloc, error, String::from_str(alloc, text)?, want)
-}
-
-/// Whether an error draws this below a pointer.
-fn draws_below_pointer<E: Diagnostic<Subject = PointerBuf>>(
-    alloc: Global,
-    pointer: &str,
-    error: E,
-    want: &str,
-) -> Result<bool, Fail> {
-    let subject = Pointer::parse(pointer)?.to_buf(alloc)?;
-    Ok(draws(alloc, error, subject, want)?)
-}
-
-/// Whether a text that is no index draws this below itself.
-fn draws_below_index(alloc: Global, text: &str, want: &str) -> Result<bool, Fail> {
-    let error = text.parse::<Index>().err().ok_or("a fault")?;
-    let subject = StringOrToken::from(String::from_str(alloc, text)?);
-    Ok(draws(alloc, error, subject, want)?)
 }
 
 /// Labels on any text.
@@ -94,22 +74,6 @@ fn is_shown(alloc: Global, text: &str, shown: &str) -> Result<bool, AllocError> 
 }
 
 #[test]
-fn faults_of_pointers(rt: HostRuntime) -> Result<(), Fail> {
-    for (text, want) in [
-        (
-            "/foo/invalid~tilde/invalid",
-            "/foo/invalid~tilde/invalid\n            ^^ '~' must be followed by '0' or '1'",
-        ),
-        ("/é~", "/é~\n  ^ '~' must be followed by '0' or '1'"),
-        ("foo", "foo\n^ must start with a slash ('/')"),
-    ] {
-        let error = Pointer::parse(text).err().ok_or("a fault")?;
-        assert!(rt; draws_below(rt.alloc(), text, error, want)?, "at {text}");
-    }
-    Ok(())
-}
-
-#[test]
 fn a_fault_below_no_text(rt: HostRuntime) -> Result<(), Fail> {
     let error = ParseError::NoLeadingSlash;
     let want = "\n^ must start with a slash ('/')";
@@ -122,7 +86,6 @@ fn faults_of_tokens(rt: HostRuntime) -> Result<(), Fail> {
     let tilde = InvalidEncoding::Tilde;
     let slash = InvalidEncoding::Slash;
     for (subject, offset, source, want) in [
-        ("é~x", 3, tilde, "é~x\n  ^ must be 0 or 1"),
         (
             "\u{1b}\n~x",
             3,
@@ -135,9 +98,6 @@ fn faults_of_tokens(rt: HostRuntime) -> Result<(), Fail> {
             slash,
             "\\u{1b}\\u{a}~x\n      ^^^^^ invalid character",
         ),
-        ("ab", 9, slash, "ab\n  ^ invalid character"),
-        ("ab", usize::MAX, slash, "ab\n  ^ invalid character"),
-        ("", 0, tilde, ""),
     ] {
         let error = EncodingError { offset, source };
         assert!(rt;
@@ -149,49 +109,11 @@ fn faults_of_tokens(rt: HostRuntime) -> Result<(), Fail> {
 }
 
 #[test]
-fn faults_of_indices(rt: HostRuntime) -> Result<(), Fail> {
-    for (text, want) in [
-        ("007", "007\n^^ leading zeros"),
-        ("", ""),
-        ("18446744073709551616", "18446744073709551616"),
-    ] {
-        assert!(rt; draws_below_index(rt.alloc(), text, want)?, "at {text}");
-    }
-    Ok(())
-}
-
-#[test]
 fn a_fault_of_a_token_as_an_index(rt: HostRuntime) -> Result<(), Fail> {
     let token = Token::new(rt.alloc(), CowStr::Borrowed("a/b"))?.into_owned(rt.alloc())?;
     let error = token.to_index().err().ok_or("a fault")?;
     let want = "a~1b\n^^ invalid character(s)";
     assert!(rt; draws(rt.alloc(), error, StringOrToken::from(token), want)?);
-    Ok(())
-}
-
-#[test]
-fn a_fault_of_resolving(rt: HostRuntime) -> Result<(), Fail> {
-    let missing = resolve::Error::NotFound {
-        position: 1,
-        offset: 4,
-    };
-    let want = "/foo/bär/x\n     ^^^ not found in value";
-    assert!(rt; draws_below_pointer(rt.alloc(), "/foo/bär/x", missing, want)?);
-    Ok(())
-}
-
-#[test]
-fn a_fault_of_assigning(rt: HostRuntime) -> Result<(), Fail> {
-    let above = assign::Error::OutOfBounds {
-        position: 0,
-        offset: 0,
-        source: OutOfBoundsError {
-            length: 1,
-            index: 3,
-        },
-    };
-    let want = "/3\n ^ 3 is out of bounds (len: 1)";
-    assert!(rt; draws_below_pointer(rt.alloc(), "/3", above, want)?);
     Ok(())
 }
 
