@@ -1,13 +1,9 @@
 -- How words are refused by their pointer or their value, and what words of a patch are.
-use Rattle.std.proofs.Common.{◌≡◌, ◌≤◌, ◌⊎◌, inl, inr, Bool, true, false, nat_eq, ℕ, List, [], ◌∷◌, map, length, get_or, take, drop, ◌-◌, codes, Result, Ok, Err, IfErr, refl, sym, ap, ◌∙◌, arith}
+use Rattle.std.proofs.Common.{◌≡◌, ◌⊎◌, inl, inr, Bool, true, false, ℕ, List, [], ◌∷◌, map, take, codes, Result, Ok, Err, IfErr, refl, sym, ap, ◌∙◌}
 use Rattle.std.specs.Str.{bytes_eq}
 use Rattle.std.proofs.lemmas.List.Elements.{All-nil, Contains-push}
 use Rattle.std.specs.Result.{IsErrAnd}
-use Rattle.std.proofs.lemmas.List.{length-map, take_all}
 use Rattle.std.proofs.lemmas.Result.{err_from_is_err_and}
-use Rattle.std.proofs.lemmas.Slice.Eq.{slice_eq-Decides}
-use Rattle.std.proofs.lemmas.Bool.Decides.{Decides-eqb}
-use lib.Pointwise.{pointwise}
 use Rattle.jsonptr.specs.Text.{Text}
 use Rattle.jsonptr.specs.Grammar.{IsPointer}
 use Rattle.jsonptr.specs.ParseError.{TellsPointerFault}
@@ -21,28 +17,17 @@ use Rattle.jsonptr_command.specs.Operations.{Form, words_of, values_of}
 use Rattle.jsonptr_command.specs.PrivateOperations.{RefusesOperations}
 use Rattle.jsonptr_command.specs.Run.{Asks, HaveForms, HaveValue, IsWordsMemory, TakePointer, TakePointers}
 use Rattle.jsonptr_command.specs.Faults.{RefusesValue}
-use Rattle.jsonptr_command.specs.Private.{IsNoPatch, RefusesCommand}
+use Rattle.jsonptr_command.specs.Private.{RefusesCommand}
 use Rattle.jsonptr_command.specs.declared.fault.RunFault.{RunFault}
 use Rattle.jsonptr_command.specs.declared.fault.RunFault.TheVariants.{BadPointer}
-
--- a comparison that says so shows that the text is the word
-is_word : (first shown word : Text) → first ≡ shown → true ≡ pointwise nat_eq first word → shown ≡ word
-is_word first shown word is same =
-    let first_is : first ≡ word = (slice_eq-Decides Decides-eqb first word true same).0 refl in
-    sym is ∙ first_is
-
-is_other : (first shown word : Text) → first ≡ shown → false ≡ pointwise nat_eq first word → shown ≡ word → ⊥
-is_other first shown word is other same =
-    let both : false ≡ true = (slice_eq-Decides Decides-eqb first word false other).1 (is ∙ same) in
-    cc
 
 -- three words are a command, the text of a pointer and one more
 pub three_words : (command pointer third word shown : Text) → command ≡ word → shown ≡ pointer → command ∷ pointer ∷ third ∷ [] ≡ word ∷ shown ∷ third ∷ []
 three_words command pointer third word shown is read = cc
 
--- words are as many as the texts that they are
-pub as_many : {A : Type 0} (f : A → Text) (ws : List A) (words : List Text) → map f ws ≡ words → length ws ≡ length words
-as_many f ws words are = sym (length-map ws f) ∙ ap length are
+-- words are the text of the first, and the rest
+pub first_and_rest : {A : Type 0} (f : A → Text) (ws rest : List A) (a : A) (first : Text) → ws ≡ a ∷ rest → first ≡ f a → map f ws ≡ first ∷ map f rest
+first_and_rest f ws rest a first are shown = ap (map f) are ∙ ap (λ (t : Text). t ∷ map f rest) (sym shown)
 
 -- words are refused as their pointer is
 pub pointer_refused : {T : Type 0} (words : List Text) (r : Result T RunFault) (pointer : Text) (f : ParseError) → IsErrAnd r (λ e. e ≡ BadPointer f)
@@ -89,17 +74,18 @@ unfolding behind_first
 same_behind words rest more h k = ap behind_first (sym h ∙ k)
 
 -- words of another command are refused as its pointer or value is
-pub command_refused : (words : List Text) (e : RunFault) → IsNoPatch words → RefusesCommand words e → Asks words (Err e) ⊎ IsWordsMemory words e
-command_refused words e other (inl h) = inl (inl (none, h.1))
+pub command_refused : (command : Text) (rest words : List Text) (e : RunFault) → words ≡ command ∷ rest → (command ≡ codes "patch" → ⊥) → RefusesCommand (command ∷ rest) e
+    → Asks words (Err e) ⊎ IsWordsMemory words e
+command_refused command rest words e are other (inl h) = rw are (inl (inl (none, h.1)))
   where
-    none : (pointers : List Text) → TakePointers words pointers → ⊥
+    none : (pointers : List Text) → TakePointers (command ∷ rest) pointers → ⊥
     none pointers (inl t) = h.0 t.0 t.1
-    none pointers (inr t) = other (words_of t.0) t.1
-command_refused words e other (inr (inl h)) =
-    inl (inr (inl ([], h.0, [], h.1, inl (h.0, h.2, refl), All-nil IsPointer, h.3, h.4)))
-command_refused words e other (inr (inr h)) = by_value h.3
+    none pointers (inr t) = let same : command ∷ rest ≡ codes "patch" ∷ words_of t.0 = t.1 in other cc
+command_refused command rest words e are other (inr (inl h)) =
+    rw are (inl (inr (inl ([], h.0, [], h.1, inl (h.0, h.2, refl), All-nil IsPointer, h.3, h.4))))
+command_refused command rest words e are other (inr (inr h)) = rw are (by_value h.3)
   where
-    by_value : RefusesValue h.1 e → Asks words (Err e) ⊎ IsWordsMemory words e
+    by_value : RefusesValue h.1 e → Asks (command ∷ rest) (Err e) ⊎ IsWordsMemory (command ∷ rest) e
     by_value (inl none) = inl (inr (inr (h.1 ∷ [], h.1, inl (h.0, h.1, h.2, refl), Contains-push [] h.1, none.0, none.1)))
     by_value (inr memory) = inr (inl (h.0, h.1, h.2), memory)
 
@@ -118,22 +104,6 @@ patch_refused words rest e are (inr (inr (inl h))) =
     let have : HaveForms words h.0 = are ∙ ap (λ (l : List Text). codes "patch" ∷ l) h.1 in
     inl (inr (inr (values_of h.0, h.3.0, inr (h.0, have, h.2, refl), h.3.1, h.3.2, h.3.3)))
 patch_refused words rest e are (inr (inr (inr memory))) = inr (inr (rest, are), memory)
-
--- words of which the first is `patch` are those of a patch
-pub patch_words : {A : Type 0} (f : A → Text) (ws : List A) (a : A) (first : Text) → 1 ≤ length ws → a ≡ get_or ws 0 a → first ≡ f a → true ≡ pointwise nat_eq first (codes "patch")
-    → map f ws ≡ codes "patch" ∷ map f (take (length ws - 1) (drop 1 ws))
-patch_words f [] a first low h shown same = absurd (omega arith)
-patch_words f (x ∷ ws) a first low h shown same =
-    let count : length (x ∷ ws) - 1 ≡ length ws = omega arith in
-    let rest : map f (take (length (x ∷ ws) - 1) ws) ≡ map f ws = ap (λ (n : ℕ). map f (take n ws)) count ∙ ap (map f) (take_all (length ws) ws (omega arith)) in
-    let word : f x ≡ codes "patch" = ap f (sym h) ∙ is_word first (f a) (codes "patch") shown same in
-    ap (λ (t : Text). t ∷ map f ws) word ∙ ap (λ (l : List Text). codes "patch" ∷ l) (sym rest)
-
--- words of which the first is another are no patch
-pub no_patch_first : {A : Type 0} (f : A → Text) (ws : List A) (a : A) (first : Text) → 1 ≤ length ws → a ≡ get_or ws 0 a → first ≡ f a → false ≡ pointwise nat_eq first (codes "patch") → IsNoPatch (map f ws)
-no_patch_first f [] a first low h shown other = absurd (omega arith)
-no_patch_first f (x ∷ ws) a first low h shown other =
-    λ rest are. is_other first (f a) (codes "patch") shown other (let same : f x ≡ codes "patch" = cc in ap f h ∙ same)
 
 -- a text has one number as an index, and none where it reads otherwise
 abbrev index_of_number : ℕ → Result Index ParseIndexError

@@ -1,6 +1,6 @@
 -- Words of private clauses alone: what the program's enums stand for, and the faults and lines of single stages. No
 -- public clause cites them, so nothing here has to be believed.
-use Rattle.std.specs.Prelude.{◌≡◌, ◌⊎◌, ℕ, List, ◌∷◌, map, codes, Result, Ok, Err, alloc_error}
+use Rattle.std.specs.Prelude.{◌≡◌, ◌⊎◌, ℕ, List, map, Result, Ok, Err, alloc_error}
 use Rattle.serde_json.specs.Data.{Data}
 use Rattle.serde_json.specs.View.{view}
 use Rattle.jsonptr.specs.Text.{Text}
@@ -62,7 +62,3 @@ RefusesCommand words e =
     × TellsPointerFault pointer f
     × (e ≡ BadPointer f))
     ⊎ ((ts : List Text) × (value : Text) × HaveValue words ts value × RefusesValue value e)
-
--- the words are a command's other than `patch`
-abbrev pub IsNoPatch : List Text → Type 0
-IsNoPatch words = (rest : List Text) → words ≡ codes "patch" ∷ rest → ⊥

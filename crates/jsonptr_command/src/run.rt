@@ -150,25 +150,31 @@ fn read_request(alloc: Global, words: &[String]) -> Result<Request<'_>, RunFault
     ensures err { IfErr result (λ e. Asks (map string_bytes words.now) (Err e)
         ⊎ IsWordsMemory (map string_bytes words.now) e) }
 {
-    match words {
-        [command, operations @ ..] if command.as_str() == "patch" => {
-            let patch = read_operations(alloc, operations)?;
+    let Some((command, rest)) = words.split_first() else {
+        return Err(RunFault::Usage);
+    };
+    match command.as_str() {
+        "patch" => {
+            let patch = read_operations(alloc, rest)?;
             Ok(Request::Document(Task::Patch(patch)))
         }
-        _ => read_command(alloc, words),
+        command => read_command(alloc, command, rest),
     }
 }
 
 /// The same where the command is another than `patch`, and takes one pointer.
-fn read_command(alloc: Global, words: &[String]) -> Result<Request<'_>, RunFault>
-    ensures ok { IfOk result (λ r. AskFor (map string_bytes words.now) (request_of r)) }
-    ensures err { IfErr result (RefusesCommand (map string_bytes words.now)) }
+fn read_command<'w>(
+    alloc: Global,
+    command: &str,
+    rest: &'w [String],
+) -> Result<Request<'w>, RunFault>
+    ensures ok { IfOk result
+        (λ r. AskFor (command.now ∷ map string_bytes rest.now) (request_of r)) }
+    ensures err { IfErr result (RefusesCommand (command.now ∷ map string_bytes rest.now)) }
 {
-    match words {
-        [command, pointer] => read_two(command.as_str(), pointer.as_str()),
-        [command, pointer, third] => {
-            read_three(alloc, command.as_str(), pointer.as_str(), third.as_str())
-        }
+    match rest {
+        [pointer] => read_two(command, pointer.as_str()),
+        [pointer, third] => read_three(alloc, command, pointer.as_str(), third.as_str()),
         _ => Err(RunFault::Usage),
     }
 }
