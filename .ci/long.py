@@ -5,11 +5,12 @@ import sys
 from concurrent.futures import ThreadPoolExecutor
 
 from memory import PROGRAM, Wrong, parts_of
-from rows import KINDS, MALFORMED, NOT_AN_INDEX, NOT_FOUND, PAST_THE_END, Row, edit, free, takes
+from rows import KINDS, MALFORMED, NOT_AN_INDEX, NOT_FOUND, PAST_THE_END, Row, edit, free, session, takes
 
 STACK_KIBIBYTES = 256
 SECONDS = 20
 COUNT = 1_000_000
+ROUNDS = 12_500
 TOKENS = "/a" * COUNT
 PLAIN = "a" * (16 << 20)
 ESCAPED = "~1" * (8 << 20)
@@ -65,6 +66,17 @@ def followed():
     yield Row(("document", "json", "[[0]]", "resolve", "/0" + TOKENS), NOT_AN_INDEX.format(2) + "\n", "[[0]]\n")
 
 
+def called():
+    """Rows of a session: in each round two numbers are added at the end of an array, and the first is taken away."""
+    steps = []
+    for i in range(ROUNDS):
+        steps += [("push_back -", "done"), (f"assign {2 * i}", "assigned"), (f"assign {2 * i + 1}", "assigned")]
+        steps += [("replace 0 0", "token -"), ("delete", f"deleted {i}"), ("resolve", f"value {i + 1}")]
+        steps += [("pop_front", "token 0"), ("clear", "done")]
+    left = ",".join(map(str, range(ROUNDS, 2 * ROUNDS)))
+    yield from session("json", "[]", "", steps, f" [{left}]")
+
+
 def tables():
     """The rows, a table at a time, since they are large."""
     for text, first, last, count in [
@@ -75,6 +87,7 @@ def tables():
         yield list(read(text, first, last, count))
         yield list(edited(text, first, last))
     yield list(followed())
+    yield list(called())
 
 
 def check(row):

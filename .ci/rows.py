@@ -904,7 +904,7 @@ def session(kind, document, pointer, steps, after):
 
 EVERY_CALL = [
     ("parse /a", "done"), ("push_back ~", "done"), ("push_front b/c", "done"), ("pop_front", "token b~1c"),
-    ("pop_back", "token ~0"), ("replace x/y", "token a"), ("replace a", "token x~1y"), ("append /0", "done"),
+    ("pop_back", "token ~0"), ("replace 0 x/y", "token a"), ("replace 0 a", "token x~1y"), ("append /0", "done"),
     ("resolve", "value 1"), ("write 3", "value 1"), ("append /x/-", "done"), ("assign 4", "assigned for 3"),
     ("delete", "not deleted"),
     ("pop_back", "token -"),
@@ -912,7 +912,7 @@ EVERY_CALL = [
     ("clear", "done"),
     ("pop_back", "no token"),
     ("pop_front", "no token"),
-    ("replace a", NO_POSITION.format(0, 0)),
+    ("replace 0 a", NO_POSITION.format(0, 0)),
     ("parse foo", f"{NO_SLASH}: foo"),
     ("parse /a/-", "done"),
     ("assign 5", "assigned"),
@@ -949,11 +949,21 @@ def sessions():
         ("resolve", NOT_FOUND.format(100_001)),
         ("clear", "done"),
         (f"push_front {LONG}", "done"),
-        (f"replace {DECODED}", f"token {LONG}"),
+        (f"replace 0 {DECODED}", f"token {LONG}"),
         ("delete", "not deleted"),
         ("pop_front", f"token {ENCODED}"),
     ]
     yield from session("json", "{}", "", long, f' {{"{LONG}":{{"{DECODED}":1}}}}')
+    goes_on = [
+        ("resolve", NOT_AN_INDEX.format(0)),
+        ("assign null", NO_PLACE.format(0)),
+        ("delete", "not deleted"),
+        ("parse 0", f"{NO_SLASH}: 0"),
+        ("replace 1 0", NO_POSITION.format(1, 1)),
+        ("replace 0 0", "token a"),
+        ("delete", "deleted 7"),
+    ]
+    yield from session("json", "[7]", "/a", goes_on, "/0 []")
 
 
 def stepwise(kind, pointer, document, steps):
@@ -980,6 +990,9 @@ def single_calls():
             ("push_back ~", "done", "/a/~0", two),
             ("push_front b/c", "done", "/b~1c/a/~0", two),
             ("pop_front", "token b~1c", "/a/~0", two),
+            ("replace 1 0", "token ~0", "/a/0", two),
+            ("replace 1 c/d", "token 0", "/a/c~1d", two),
+            ("replace 0 ", "token a", "//c~1d", two),
         ]
         yield from stepwise(kind, "/x", two, steps)
     two, kept, deep = '{"a":[1,2]}', '{"a":[{},2]}', '{"a":[{"x":[true]},2]}'
@@ -1032,6 +1045,9 @@ def refused_calls():
         ("json", "/a/b", '{"a":1}', "resolve", UNREACHABLE.format(2)),
         ("json", "/a/b", '{"a":1}', "write null", UNREACHABLE.format(2)),
         ("json", "/a/b", '{"a":[1]}', "assign null", NO_PLACE.format(2)),
+        ("json", "/a/b", "[]", "replace 2 x", NO_POSITION.format(2, 2)),
+        ("json", "//", "[]", f"replace {MOST} x", NO_POSITION.format(MOST, 2)),
+        ("toml", "/d/x", date, "replace 2 x", NO_POSITION.format(2, 2)),
         ("toml", "/d/x", date, "parse d", f"{NO_SLASH}: d"),
         ("toml", "/a/2", one, "assign 1", NO_ROOM.format(2)),
         ("toml", "/a/01", one, "assign 1", NO_PLACE.format(2)),

@@ -1,11 +1,10 @@
-//! Tests of the command line, over public items alone: whole runs, streams that fail, and what no clause says.
+//! Tests of the command line, over public items alone: streams that fail, and what no clause says. Whole runs are rows of
+//! `.ci/process.py`, which tries the program as a process.
 #![tactic(auto)]
 
 #[cfg(test)]
 mod fakes;
 #[cfg(test)]
 mod parts;
-#[cfg(test)]
-mod runs;
 #[cfg(test)]
 mod streams;

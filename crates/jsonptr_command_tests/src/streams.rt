@@ -1,6 +1,5 @@
 //! Tests of whole runs on readers and writers that fail at each place, or take their time.
 use crate::fakes::{FailingText, ScriptedReader, ScriptedWriter, Step};
-use crate::runs::words_of;
 use jsonptr::{ParseError, resolve};
 use jsonptr_command::fault::RunFault;
 use jsonptr_command::run::run_program;
@@ -23,6 +22,12 @@ const READING: [(&[&str], &[u8]); 5] = [
     (&["patch", "move", "/a~1b", "/c"], b"{\"c\":1}\n"),
 ];
 
+/// The commands that do not read, and what each writes.
+const NOT_READING: [(&[&str], &[u8]); 2] = [
+    (&["tokens", "/a~1b/"], b"[\"a/b\",\"\"]\n"),
+    (&["split", "/a~1b/", "1"], b"[\"/a~1b\",\"/\"]\n"),
+];
+
 /// What a run left: its status, what was written, the flushes, and how many steps the scripts had left.
 #[derive(Debug, Drop)]
 struct Ran {
@@ -31,6 +36,15 @@ struct Ran {
     flushes: u8,
     reads_left: usize,
     writes_left: usize,
+}
+
+/// The words of a line, as the program is given them.
+fn words_of(alloc: Global, line: &[&str]) -> Result<Vec<String>, AllocError> {
+    let mut words = Vec::new(alloc);
+    for word in line {
+        words.push(String::from_str(alloc, word)?)?;
+    }
+    Ok(words)
 }
 
 /// Runs the program over a reader of these bytes and a writer, with these scripts.
@@ -176,7 +190,9 @@ fn nothing_is_read_after_the_end(rt: HostRuntime) -> Result<(), AllocError> {
         let is_so = reads_no_further(rt.alloc(), words, line)?;
         assert!(rt; is_so, "{words:?}");
     }
-    assert_eq!(rt; left_of(rt.alloc(), &["tokens", "/a"], TEXT)?, (0, 4));
+    for (words, _) in NOT_READING {
+        assert_eq!(rt; left_of(rt.alloc(), words, TEXT)?, (0, 4), "{words:?}");
+    }
     Ok(())
 }
 
@@ -234,7 +250,7 @@ fn fails_to_write(
 
 #[test]
 fn writers_that_fail_at_each_place(rt: HostRuntime) -> Result<(), AllocError> {
-    for (words, line) in READING {
+    for (words, line) in READING.into_iter().chain(NOT_READING) {
         for fault in [Step::Fail, Step::Block, Step::Interrupt, Step::Move(0)] {
             for len in 0..line.len() {
                 let is_so = fails_to_write(rt.alloc(), words, &line[..len], fault)?;

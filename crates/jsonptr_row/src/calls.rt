@@ -33,8 +33,15 @@ fn call<D: Document>(alloc: Global, line: &str) -> anyhow::Result<Call<D>> {
         "write" => Ok(Call::Write(D::read(alloc, with)?)),
         "assign" => Ok(Call::Assign(D::read(alloc, with)?)),
         "append" => Ok(Call::Append(Pointer::parse(with)?.to_buf(alloc)?)),
+        "replace" => replacing(alloc, with),
         _ => call_with(name, String::from_str(alloc, with)?),
     }
+}
+
+/// The call that replaces the token at a place by that of a text.
+fn replacing<D: Document>(alloc: Global, with: &str) -> anyhow::Result<Call<D>> {
+    let (place, text) = with.split_once(' ').ok_or(NoRow)?;
+    Ok(Call::Replace(place.parse()?, String::from_str(alloc, text)?))
 }
 
 /// The call of a name and a text.
@@ -43,7 +50,6 @@ fn call_with<D: Document>(name: &str, text: String) -> anyhow::Result<Call<D>> {
         "parse" => Ok(Call::Parse(text)),
         "push_back" => Ok(Call::PushBack(text)),
         "push_front" => Ok(Call::PushFront(text)),
-        "replace" => Ok(Call::Replace(0, text)),
         _ => Err(NoRow.into()),
     }
 }

@@ -6,7 +6,7 @@ use jsonptr_row::said::Said;
 use jsonptr_row::stage;
 use std::alloc::Global;
 
-/// Runs a row: the kind of document, the call, the document, the pointer, and a value.
+/// Runs a row: the kind of document, the document, the call, the pointer, and a value.
 pub fn run(rt: &HostRuntime, mut row: Row<'_>) -> anyhow::Result<()> {
     match row.next() {
         "json" => run_on(rt, serde_json::Value::read(rt.alloc(), row.next())?, row),

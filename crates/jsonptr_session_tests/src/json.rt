@@ -1,17 +1,10 @@
-//! Sessions over JSON documents: refusals with all their fields, and tokens replaced behind the first.
-use crate::calls::{is_no_pointer, no_place, no_position, no_value, run, text};
+//! Sessions over JSON documents: refusals with all their fields.
+use crate::refusals::{is_no_pointer, no_place, no_position, no_value, text};
 use jsonptr::index::{IntegerCause, OutOfBoundsError, ParseIndexError};
 use jsonptr::{EncodingError, InvalidEncoding, ParseError, ReplaceError, assign, resolve};
 use jsonptr_session::session::Call;
 use serde_json::Value;
 use std::test::Fail;
-
-#[test]
-fn a_token_behind_the_first(rt: HostRuntime) -> Result<(), Fail> {
-    let said = run::<Value>(&rt, "/a/~0", r#"{"a":[1,2]}"#, &["replace 1 0"])?;
-    assert_eq!(rt; said.as_str(), "token ~0\n/a/0 {\"a\":[1,2]}");
-    Ok(())
-}
 
 #[test]
 fn texts_with_a_tilde(rt: HostRuntime) -> Result<(), Fail> {
@@ -95,31 +88,5 @@ fn places_where_nothing_is_assigned(rt: HostRuntime) -> Result<(), Fail> {
         source: ParseIndexError::LeadingZeros,
     };
     assert!(rt; is_no_place(&rt, "/a/00", r#"{"a":[1]}"#, zeros)?);
-    Ok(())
-}
-
-#[test]
-fn the_run_goes_on(rt: HostRuntime) -> Result<(), Fail> {
-    let lines = [
-        "resolve",
-        "assign null",
-        "delete",
-        "parse 0",
-        "replace 1 0",
-        "replace 0 0",
-        "delete",
-    ];
-    let said = run::<Value>(&rt, "/a", "[7]", &lines)?;
-    assert_eq!(rt;
-        said.as_str(),
-        "resolve failed: json pointer token at offset 0 failed to parse as an index\n\
-         assign failed: json pointer token at offset 0 failed to parse as an array index\n\
-         not deleted\n\
-         json pointer failed to parse; does not start with a slash ('/') and is not empty\n\
-         index 1 is out of bounds (1)\n\
-         token a\n\
-         deleted 7\n\
-         /0 []"
-    );
     Ok(())
 }

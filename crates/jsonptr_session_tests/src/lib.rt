@@ -1,15 +1,14 @@
-//! Tests of sessions, over public items alone: refusals with all their fields, tokens replaced behind the first, and
-//! long runs. Rows of calls, and of assignments that are taken back, stand in `.ci/rows.py`.
+//! Tests of sessions, over public items alone: refusals with all their fields, and a long walk of assignments that are
+//! taken back. Rows of calls, and of assignments that are taken back, stand in `.ci/rows.py`, and long sessions in
+//! `.ci/long.py`.
 #![tactic(auto)]
 
-#[cfg(test)]
-mod calls;
 #[cfg(test)]
 mod documented;
 #[cfg(test)]
 mod json;
 #[cfg(test)]
-mod long;
+mod refusals;
 #[cfg(test)]
 mod toml_documents;
 #[cfg(test)]

@@ -1,5 +1,5 @@
 //! Taking assignments in JSON documents back: refusals with all their fields.
-use crate::calls::buf;
+use crate::refusals::buf;
 use jsonptr::index::{OutOfBoundsError, ParseIndexError};
 use jsonptr::{Fault, Pointer, assign, resolve};
 use jsonptr_session::undo::json::{assign_with_undo, undo};

@@ -1,6 +1,6 @@
-//! Tests of tabled pointers beside plain ones, over public items alone: tables after edits, a long walk of edits,
-//! sessions on both kinds, and every trait that is implemented once through its bound. Rows of their calls stand in
-//! `.ci/rows.py`.
+//! Tests of tabled pointers beside plain ones, over public items alone: tables after edits, a long walk of edits, and
+//! every trait that is implemented once through its bound. Rows of their calls, and of sessions on both kinds of pointer,
+//! stand in `.ci/rows.py`.
 #![tactic(auto)]
 
 #[cfg(test)]
@@ -13,7 +13,5 @@ mod edits;
 mod parts;
 #[cfg(test)]
 mod pointers;
-#[cfg(test)]
-mod sessions;
 #[cfg(test)]
 mod walk;
