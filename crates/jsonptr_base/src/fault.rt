@@ -1,27 +1,61 @@
-//! What a call answers that can refuse and can also run out of memory.
+//! The error of a call that can fail for a reason of its own and can also run out of memory.
 ghost use Rattle.std.specs.Prelude.{◌≡◌};
-ghost use Rattle.jsonptr_base.specs.Fault.{fault_text};
+ghost use Rattle.jsonptr_base.specs.Fault.{fault_text, refused_of, ForRefused, Maps};
 ghost use Rattle.jsonptr_base.specs.declared.fault.Fault.TheVariants.{Memory};
 
 use std::alloc::AllocError;
 use std::error::Error;
 use std::fmt;
 
-/// Why a call that takes memory did not succeed.
+/// Why a call that may allocate failed. In both cases everything that was lent to the call is unchanged.
 ///
 /// ```text
-/// match PointerBuf::from_text(alloc, "size") {
-///     Ok(_) => return Err("a refusal".into()),
-///     Err(Fault::Refused(error)) => assert_eq!(rt; error, ParseError::NoLeadingSlash),
-///     Err(Fault::Memory(error)) => return Err(error.into()),
-/// }
+/// let fault = PointerBuf::from_text(alloc, "size").err().ok_or("an error")?;
+/// assert_eq!(rt; fault, Fault::Refused(ParseError::NoLeadingSlash));
 /// ```
-#[derive(Debug, Drop)]
+#[derive(Debug, PartialEq, Eq, Drop)]
 pub enum Fault<E> {
-    /// The call was refused; nothing that was lent to it has changed.
+    /// The call failed with this error.
     Refused(E),
-    /// A request for memory was refused; nothing that was lent to the call has changed.
+    /// An allocation failed.
     Memory(AllocError),
+}
+
+impl<E> Fault<E> {
+    /// Returns the error of the call, and a failed allocation as an `Err` that `?` passes on.
+    ///
+    /// ```text
+    /// let fault = PointerBuf::from_text(alloc, "size").err().ok_or("an error")?;
+    /// assert_eq!(rt; fault.refused()?, ParseError::NoLeadingSlash);
+    /// ```
+    ///
+    /// # Errors
+    ///
+    /// [`AllocError`] if the fault is [`Fault::Memory`].
+    pub fn refused(self) -> Result<E, AllocError>
+        ensures { result ≡ refused_of self }
+    {
+        match self {
+            Fault::Refused(error) => Ok(error),
+            Fault::Memory(error) => Err(error),
+        }
+    }
+
+    /// Converts the error of the call by `op`, and leaves a failed allocation unchanged.
+    ///
+    /// ```text
+    /// let fault = PointerBuf::from_text(alloc, "/~").err().ok_or("an error")?;
+    /// assert_eq!(rt; fault.map(|error| error.complete_offset()), Fault::Refused(1));
+    /// ```
+    pub fn map<F, O: FnOnce(E) -> F>(self, op: O) -> Fault<F>
+        requires { ForRefused self (O.pre op) }
+        ensures { Maps self (O.post op) result }
+    {
+        match self {
+            Fault::Refused(error) => Fault::Refused(op(error)),
+            Fault::Memory(error) => Fault::Memory(error),
+        }
+    }
 }
 
 impl<E> From<AllocError> for Fault<E> {
@@ -32,7 +66,7 @@ impl<E> From<AllocError> for Fault<E> {
     }
 }
 
-/// The text of the refusal, or that of [`AllocError`].
+/// Prints the error of the call, or the text of [`AllocError`].
 impl<E: fmt::Display> fmt::Display for Fault<E> {
     ghost output = { fault_text E.output };
 

@@ -5,6 +5,7 @@
 
 pub mod fault;
 pub mod index;
+pub mod number;
 pub mod token;
 
 pub use jsonptr_diagnostic::diagnostic;

@@ -335,7 +335,7 @@ pub type InvalidEncodingError = EncodingError;
 /// let source = InvalidEncoding::Tilde;
 /// assert_eq!(rt; error, EncodingError { offset: 5, source });
 /// ```
-#[derive(Debug, PartialEq, Eq, Drop)]
+#[derive(Clone, Debug, PartialEq, Eq, Drop)]
 pub struct EncodingError {
     /// The place of the fault, in bytes: of the slash, or of what follows the tilde that escapes nothing,
     /// which may be the end of the text.
@@ -422,4 +422,4 @@ impl Error for InvalidEncoding {}
 
 mod scan;
 
-pub use jsonptr_number::number::Number;
+pub use crate::number::Number;

@@ -1,5 +1,0 @@
-use Rattle.jsonptr_number.proofs.NumberLemmas.{printed_signed}
-use Rattle.jsonptr_number.proofs.number.I16Number.to_decimal.Goals as goal
-
-pub returns : goal.returns
-returns c = printed_signed _ _ _ c.ranges.self c.to_string.ensures.ok

@@ -1,5 +1,0 @@
-use Rattle.jsonptr_number.proofs.NumberLemmas.{printed}
-use Rattle.jsonptr_number.proofs.number.U16Number.to_decimal.Goals as goal
-
-pub returns : goal.returns
-returns c = printed _ _ _ c.ranges.self c.to_string.ensures.ok
