@@ -9,6 +9,7 @@ ghost use Rattle.jsonptr_document.specs.Private.{IsNoPlace};
 ghost use Rattle.jsonptr_document.specs.declared.child.NoChild.{NoChild};
 
 use crate::document::{Document, Node};
+use crate::stepping::{Way, way_of};
 use jsonptr_base::fault::Fault;
 use jsonptr_base::index::{OutOfBoundsError, ParseIndexError, index_law};
 use jsonptr_base::token::Token;
@@ -46,18 +47,15 @@ pub fn child<'v, D: Document>(
     ensures refused { IfRefused result (RefusesChild (D.nodes at.now) token.now) }
     ensures no_memory { All (λ b. b ≢ 126) (esc token.now) → HasMemory result }
 {
-    match at.node() {
-        Node::Leaf => Err(Fault::Refused(NoChild::Unreachable)),
-        Node::Array(elements) => match place_of(token, elements.len()) {
-            Ok(place) => Ok(&elements[place]),
-            Err(no_child) => Err(Fault::Refused(no_child)),
-        },
-        Node::Object(members) => {
-            let key = token.decoded(alloc)?;
+    match (way_of(at, alloc, token)?, at.node()) {
+        (Way::Element(index), Node::Array(elements)) => Ok(&elements[index]),
+        (Way::Member(key), Node::Object(members)) => {
             members
                 .get(key.as_str())
                 .ok_or(Fault::Refused(NoChild::NotFound))
         }
+        (Way::Nowhere(no_child), _) => Err(Fault::Refused(no_child)),
+        _ => unreachable!(),
     }
 }
 

@@ -5,6 +5,7 @@ ghost use Rattle.jsonptr_tree.specs.Node.{Step, Path, NodeMap, sub};
 use std::collections::BTreeMap;
 
 /// The node at the root of a document, which lends what stands below it.
+#[derive(Drop)]
 pub enum Node<'v, D> {
     /// A value that is neither an array nor an object.
     Leaf,
