@@ -1,5 +1,5 @@
 //! Answers calls of `jsonptr`, one a line: a request in, its whole answer out. The requests and the answers
-//! are those of docs/COMPARING.md, which the Rust crate answers, too, by the program in `compare/original`.
+//! are those of docs/COMPARING.md, which the Rust crate answers, too, by the program in `tools/compare/original`.
 #![tactic(auto)]
 
 mod answer;

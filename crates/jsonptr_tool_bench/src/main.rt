@@ -1,6 +1,6 @@
 //! Times calls of `jsonptr`, a case a line: a name, a call and its arguments in, with tabs between them; the
-//! name, and the least time of one call in picoseconds out. The cases are those of bench/cases.py, and the Rust
-//! crate is timed on them by the program in `bench/original`.
+//! name, and the least time of one call in picoseconds out. The cases are those of tools/bench/cases.py, and the Rust
+//! crate is timed on them by the program in `tools/bench/original`.
 //!
 //! It is timed where its one word is `0`. With no word each case is run once, and only named.
 #![tactic(auto)]

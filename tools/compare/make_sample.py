@@ -1,8 +1,9 @@
 #!/usr/bin/env python3
-"""Makes the sample of the Rust crate's answers: compare/sample.py THEIRS
+"""Makes the sample of the Rust crate's answers: tools/compare/make_sample.py THEIRS
 
-Of many random requests it keeps some for each call, each shape of an answer and each departure, and writes them with
-the Rust crate's answers to sample/requests.txt and sample/answers.txt, which replay.py reads.
+THEIRS is the built program of tools/compare/original. From many random requests it keeps some for each call, each shape
+of an answer and each departure. It writes them with the Rust crate's answers to sample/requests.txt and
+sample/answers.txt, which check_sample.py reads.
 """
 import collections
 import os
@@ -15,13 +16,13 @@ import generate
 
 HERE = os.path.dirname(os.path.abspath(__file__))
 CASES, SEED = 600_000, 11
-# at most so many cases of one shape, and of one call
+# The maximum number of cases of one shape, and of one call.
 EACH, OF_A_CALL = 60, 290
 WORDS = "None true false Less Equal Greater stops done Next Empty Overflow LeadingZeros Tilde Slash FailedToParseIndex OutOfBounds NotFound Unreachable".split()
 
 
 def kind_of(value):
-    """Returns what kind of value a field has."""
+    """Returns the kind of a field's value, as the part of it that does not vary."""
     if value in WORDS:
         return value
     found = re.match(r"=|Num|InvalidCharacter|OutOfBounds|\d+\+0 |\d+\+1 |\d+\+|\d+,\d+ ", value)
@@ -29,7 +30,7 @@ def kind_of(value):
 
 
 def shape_of(request, answer):
-    """Returns what a request and its answer are a case of."""
+    """Returns the shape of a request and its answer: the call and the kinds of the fields."""
     words, fields = request.split("\t"), departures.fields_of(answer)
     named = words[2:3] if words[0] == "get" else words[1:2] if words[0] in ("resolve", "write", "assign", "delete", "resolve error", "assign error") else []
     if words[0] == "number":
@@ -41,8 +42,8 @@ def shape_of(request, answer):
 
 def main(theirs):
     requests = [*generate.requests(CASES, SEED, length=3)]
-    ran = subprocess.run([theirs], input="\n".join(requests) + "\n", stdout=subprocess.PIPE, encoding="utf-8", check=True)
-    answers = ran.stdout.split("\n")[:-1]
+    completed = subprocess.run([theirs], input="\n".join(requests) + "\n", stdout=subprocess.PIPE, encoding="utf-8", check=True)
+    answers = completed.stdout.split("\n")[:-1]
     cases = sorted(set(zip(requests, answers)), key=lambda it: (len(it[0]), it))
     count, kept = collections.Counter(), []
     for request, answer in cases:
@@ -50,7 +51,7 @@ def main(theirs):
         if count[shape] < EACH:
             count[shape] += 1
             kept.append((count[shape], request, answer))
-    # of each call the first of each shape, then the second of each, as far as there is room
+    # For each call: the first case of each shape, then the second of each, up to the maximum.
     kept, room = sorted(kept, key=lambda it: it[0]), collections.Counter()
     chosen = []
     for _, request, answer in kept:

@@ -1,6 +1,6 @@
 //! Times calls of the Rust crate `jsonptr`, a case a line: a name, a call and its arguments in, with tabs
 //! between them; the name, and the least time of one call in picoseconds out. The cases are those of
-//! bench/cases.py. With words `resolve POINTER` it is a program of one run, to be timed as a whole.
+//! tools/bench/cases.py. With words `resolve POINTER` it is a program of one run, to be timed as a whole.
 
 mod changes;
 mod works;

@@ -1,8 +1,8 @@
 #!/usr/bin/env python3
-"""Compares this library with the kept sample of the Rust crate's answers: compare/replay.py OURS
+"""Compares this library with the stored answers of the Rust crate: tools/compare/check_sample.py OURS
 
-OURS is the built program of crates/jsonptr_replay. Each field in which an answer differs has to be a departure
-(departures.py), and each departure has to be met. Ends with status 1 where that is not so.
+OURS is the built program of crates/jsonptr_tool_answers. Each field in which an answer differs must be a departure
+(departures.py), and each departure must occur. Otherwise the exit status is 1.
 """
 import collections
 import os
@@ -15,14 +15,15 @@ HERE = os.path.dirname(os.path.abspath(__file__))
 
 
 def lines_of(name):
+    """Returns the lines of a file of the sample."""
     with open(f"{HERE}/sample/{name}.txt", encoding="utf-8", newline="\n") as file:
         return file.read().split("\n")[:-1]
 
 
 def main(ours):
     requests, theirs = lines_of("requests"), lines_of("answers")
-    ran = subprocess.run([ours], input="\n".join(requests) + "\n", stdout=subprocess.PIPE, encoding="utf-8", check=True)
-    answers = ran.stdout.split("\n")[:-1]
+    completed = subprocess.run([ours], input="\n".join(requests) + "\n", stdout=subprocess.PIPE, encoding="utf-8", check=True)
+    answers = completed.stdout.split("\n")[:-1]
     met, different = collections.Counter(), abs(len(requests) - len(answers))
     for request, our_answer, their_answer in zip(requests, answers, theirs):
         names = [] if our_answer == their_answer else departures.excuses(request, our_answer, their_answer)
@@ -34,7 +35,7 @@ def main(ours):
     unmet = [it.__name__ for it in departures.ALL if not met[it.__name__]]
     for name in unmet:
         print(f"no answer shows the departure {name}")
-    print(f"replay: {len(requests)} answers of the Rust crate, {sum(met.values())} departures in {len(met)} kinds, {different} other differences")
+    print(f"check_sample: {len(requests)} answers of the Rust crate, {sum(met.values())} departures in {len(met)} kinds, {different} other differences")
     return 1 if different or unmet else 0
 
 

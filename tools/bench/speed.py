@@ -1,10 +1,10 @@
 #!/usr/bin/env python3
-"""Times this library beside the Rust crate, in one run, and prints the table of docs/SPEED.md.
+"""Times this library and the Rust crate in one run, and prints the table of docs/SPEED.md.
 
-    bench/speed.py [--rounds N] [--only WORD] OURS THEIRS [PROGRAM]
+    tools/bench/speed.py [--rounds N] [--only WORD] OURS THEIRS [PROGRAM]
 
-OURS is the built program of crates/jsonptr_bench, THEIRS that of bench/original, PROGRAM that of crates/jsonptr_run. Each
-program is run in turn; of all rounds the least time of each case counts.
+OURS is the built program of crates/jsonptr_tool_bench, THEIRS that of tools/bench/original, PROGRAM that of
+crates/jsonptr_run. Each program runs in turn. The result of a case is its minimum over all rounds.
 """
 import argparse
 import json
@@ -22,6 +22,7 @@ def times_of(command, lines):
 
 
 def least_of(old, new):
+    """Returns the minimum of both times for each name of `new`."""
     return {name: min(least, old.get(name, least)) for name, least in new.items()}
 
 

@@ -1,25 +1,27 @@
-"""Where the two crates are meant to differ (docs/DIFFERENCES.md): each departure by its own narrow condition."""
+"""The intended differences between the two crates (docs/DIFFERENCES.md), each as a narrow condition on one field."""
 import re
 
 GREATEST = 2**64 - 1
 
 
 def plain(word):
-    """Returns the text that a word stands for."""
+    """Returns the text that a word represents."""
     return re.sub(r"\\(.)", lambda it: {"t": "\t", "n": "\n", "r": "\r"}.get(it[1], it[1]), word)
 
 
 def bytes_of(word):
+    """Returns the UTF-8 bytes of the text that a word represents."""
     return plain(word).encode()
 
 
 def strip_prefix_cuts_between_tokens(words, field, ours, theirs, all_ours):
+    """`None` if the prefix ends inside a token, where the Rust crate compares only the texts."""
     call, a, b = words[0], *(words[1:3] if len(words) > 2 else ("", ""))
     return call == "two pointers" and field == "strip_prefix" and ours == "None" and plain(a).startswith(plain(b)) and all_ours["starts_with"] == "false"
 
 
 def fault_of(words, all_ours):
-    """Returns the two places of a parse error and the subject's length in bytes, where this is about one."""
+    """Returns the two offsets of a parse error and the subject's length in bytes, or None if this is no parse error."""
     if words[0] == "parse" and "pointer_offset" in all_ours:
         return int(all_ours["pointer_offset"]), int(all_ours["source_offset"]), len(bytes_of(words[1]))
     if words[0] == "parse error":
@@ -28,12 +30,13 @@ def fault_of(words, all_ours):
 
 
 def length_of(fault):
+    """Returns the length in bytes of a parse error's label."""
     pointer_offset, source_offset, length = fault
     return 2 if pointer_offset + source_offset + 1 < length else 1
 
 
 def invalid_encoding_len_by_the_tilde(words, field, ours, theirs, all_ours):
-    """The place of the tilde, where the Rust crate looks at the token's slash, and stops on an empty text."""
+    """Uses the offset of the tilde. The Rust crate uses that of the token's slash, and panics on an empty text."""
     fault = fault_of(words, all_ours)
     if not fault or field != "len":
         return False
@@ -43,21 +46,21 @@ def invalid_encoding_len_by_the_tilde(words, field, ours, theirs, all_ours):
 
 
 def label_of_a_parse_error(words, field, ours, theirs, all_ours):
-    """As long as that, and none where its place is past the greatest number, where the Rust crate stops."""
+    """The same, and no label if its offset exceeds `usize::MAX`, where the Rust crate panics."""
     fault = fault_of(words, all_ours)
     if not fault or field != "label":
         return False
     pointer_offset, source_offset, length = fault
-    place = pointer_offset + source_offset
-    if place > GREATEST:
+    offset = pointer_offset + source_offset
+    if offset > GREATEST:
         return ours == "None" and theirs == "stops"
-    label = f"{place}+%d '~' must be followed by '0' or '1'\\;"
+    label = f"{offset}+%d '~' must be followed by '0' or '1'\\;"
     said = "stops" if not length else label % (2 if pointer_offset < length - 1 else 1)
     return ours == label % length_of(fault) and theirs == said
 
 
 def subject_of(words, field):
-    """Returns the text on which the error of an index puts this label, where it is one."""
+    """Returns the text that this label of an index error is on, or None if it is no such label."""
     if words[0] not in ("index", "index error") or field not in ("label", "token_label"):
         return None
     text = plain(words[-1])
@@ -65,13 +68,13 @@ def subject_of(words, field):
 
 
 def label_of_zeros_alone(words, field, ours, theirs, all_ours):
-    """All zeros, where the Rust crate stops."""
+    """A label on all zeros, where the Rust crate panics."""
     subject = subject_of(words, field)
     return subject is not None and set(subject) <= {"0"} and ours == f"0+{len(subject)} leading zeros\\;" and theirs == "stops"
 
 
 def label_of_no_digits_in_bytes(words, field, ours, theirs, all_ours):
-    """In bytes, to the next digit or the end, where the Rust crate counts characters, and can go past the end."""
+    """In bytes, to the next digit or the end. The Rust crate counts characters, and can exceed the end."""
     subject, found = subject_of(words, field), re.fullmatch(r"(\d+)\+(\d+) invalid character\(s\)\\;", ours)
     if subject is None or not found:
         return False
@@ -82,21 +85,22 @@ def label_of_no_digits_in_bytes(words, field, ours, theirs, all_ours):
 
 
 def label_of_a_tilde_in_no_text(words, field, ours, theirs, all_ours):
-    """None on an empty subject, where the Rust crate stops."""
+    """No label on an empty subject, where the Rust crate panics."""
     return words[0] == "encoding error" and words[1:] == ["0", "Tilde", ""] and field == "label" and ours == "None" and theirs == "stops"
 
 
-def label_past_the_greatest_place(words, field, ours, theirs, all_ours):
-    """None, where the Rust crate stops."""
+def label_past_the_greatest_offset(words, field, ours, theirs, all_ours):
+    """No label past the greatest offset, where the Rust crate panics."""
     return words[0] in ("resolve error", "assign error") and int(words[3]) == GREATEST and field == "label" and ours == "None" and theirs == "stops"
 
 
-def excluded_start_at_the_greatest_place(words, field, ours, theirs, all_ours):
-    """None, where the Rust crate stops."""
+def excluded_start_at_the_greatest_position(words, field, ours, theirs, all_ours):
+    """`None` for an excluded start of `usize::MAX`, where the Rust crate panics."""
     return words[0] == "get" and words[2] == "bounds" and words[3] == f"excluded {GREATEST}" and ours == "None" and theirs == "stops"
 
 
 def addresses_of_the_right_pages(words, field, ours, theirs, all_ours):
+    """The URL of the error's own page."""
     pages = {"ParseError": "enum.ParseError", "ParseIndexError": "index/enum.ParseIndexError", "resolve::Error": "resolve/enum.Error"}
     return words[0] == "addresses" and field in pages and ours == f"https://docs.rs/jsonptr/0.8.2/jsonptr/{pages[field]}.html"
 
@@ -108,8 +112,8 @@ ALL = [
     label_of_zeros_alone,
     label_of_no_digits_in_bytes,
     label_of_a_tilde_in_no_text,
-    label_past_the_greatest_place,
-    excluded_start_at_the_greatest_place,
+    label_past_the_greatest_offset,
+    excluded_start_at_the_greatest_position,
     addresses_of_the_right_pages,
 ]
 

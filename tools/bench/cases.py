@@ -1,4 +1,4 @@
-"""What is timed: a name, and the call with its arguments, as both programs read them."""
+"""The cases to time: a name, and the call with its arguments, as both programs read them."""
 import json
 
 

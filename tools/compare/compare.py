@@ -1,11 +1,11 @@
 #!/usr/bin/env python3
 """Compares every answer of this library with the Rust crate's.
 
-    compare/compare.py [--cases N] [--seed N] [--without DEPARTURE] OURS THEIRS
+    tools/compare/compare.py [--cases N] [--seed N] [--without DEPARTURE] OURS THEIRS
 
-OURS is the built program of crates/jsonptr_replay, THEIRS that of compare/original. Both answer the same requests; each
-field in which they differ has to be a departure (departures.py). Prints how often each departure was met, and the first
-differences that are none; ends with status 1 where there is one.
+OURS is the built program of crates/jsonptr_tool_answers, THEIRS that of tools/compare/original. Both answer the same
+requests. Each field in which they differ must be a departure (departures.py). Prints how often each departure occurred,
+and the first other differences. The exit status is 1 if there is one.
 """
 import argparse
 import collections
@@ -19,7 +19,7 @@ import generate
 
 
 def answers(program, requests):
-    """Runs a program on the file of requests, and yields its lines."""
+    """Runs a program on a file of requests, and yields the lines of its output."""
     with open(requests, "rb") as given, subprocess.Popen([program], stdin=given, stdout=subprocess.PIPE) as run:
         for line in run.stdout:
             yield line.decode("utf-8").rstrip("\n")

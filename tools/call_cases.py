@@ -1,36 +1,42 @@
-"""The table of rows: the lines that the program `jsonptr_rows` is given, and what it is to write then.
+"""Test cases of single calls: the lines that `jsonptr_tool_rows` reads, and what it must write.
 
-To add a row, write it where its like stands. `free` rows are of calls that take no memory.
+memory.py runs each of them. Add a case to the table of its call: with `no_alloc` if the call must not allocate, else
+with `allocates`, or with the helper of its table (`edit`, `on`, `undoing`, `patched`, `session`).
 """
 from typing import NamedTuple
 
 
-class Row(NamedTuple):
-    """The lines of a row, what its call answers, what is then left of what was lent, and a session's calls."""
+class Case(NamedTuple):
+    """The input lines, the result of the call, the state of the borrowed arguments after it, and a session's calls.
+
+    A case with `no_alloc` makes no memory request.
+    """
 
     lines: tuple
     answer: str
     after: str = ""
-    is_free: bool = False
+    no_alloc: bool = False
     calls: tuple = ()
 
 
-MOST = 18446744073709551615
-NO_SLASH = "json pointer failed to parse; does not start with a slash ('/') and is not empty"
-MALFORMED = "json pointer failed to parse; the first token in the partial-pointer starting at offset {} is malformed"
-NO_TOKEN = "token contains invalid encoding at offset {}"
-NO_INTEGER = "failed to parse token as an integer"
-ZEROS = "token contained leading zeros, which are disallowed by RFC 6901"
-NO_INDEX = "failed to parse token as an index"
-NO_POSITION = "index {} is out of bounds ({})"
-NOT_AN_INDEX = "resolve failed: json pointer token at offset {} failed to parse as an index"
-PAST_THE_END = "resolve failed: json pointer token at offset {} is out of bounds"
-NOT_FOUND = "resolve failed: json pointer token at {} was not found in value"
-UNREACHABLE = (
+USIZE_MAX = 18446744073709551615
+PARSE_NO_SLASH = "json pointer failed to parse; does not start with a slash ('/') and is not empty"
+PARSE_MALFORMED = (
+    "json pointer failed to parse; the first token in the partial-pointer starting at offset {} is malformed"
+)
+TOKEN_BAD_ENCODING = "token contains invalid encoding at offset {}"
+INDEX_BAD_INTEGER = "failed to parse token as an integer"
+INDEX_LEADING_ZEROS = "token contained leading zeros, which are disallowed by RFC 6901"
+INDEX_BAD_CHARACTER = "failed to parse token as an index"
+REPLACE_OUT_OF_BOUNDS = "index {} is out of bounds ({})"
+RESOLVE_BAD_INDEX = "resolve failed: json pointer token at offset {} failed to parse as an index"
+RESOLVE_OUT_OF_BOUNDS = "resolve failed: json pointer token at offset {} is out of bounds"
+RESOLVE_NOT_FOUND = "resolve failed: json pointer token at {} was not found in value"
+RESOLVE_UNREACHABLE = (
     "resolve failed: json pointer token at {} is unreachable (previous token resolved to a scalar or null value)"
 )
-NO_PLACE = "assign failed: json pointer token at offset {} failed to parse as an array index"
-NO_ROOM = "assign failed: json pointer token at offset {} is out of bounds"
+ASSIGN_BAD_INDEX = "assign failed: json pointer token at offset {} failed to parse as an array index"
+ASSIGN_OUT_OF_BOUNDS = "assign failed: json pointer token at offset {} is out of bounds"
 
 LONG = "a" * 100_000
 SLASHES = "/" * 100_000
@@ -40,18 +46,18 @@ MANY = "/a" * 50_000
 KINDS = ("plain", "tabled")
 
 
-def takes(*lines, answer):
-    """A row of a call that may take memory, and is lent nothing that it could change."""
-    return Row(tuple(map(str, lines)), f"{answer}\n")
+def allocates(*lines, answer):
+    """A call that may allocate, and changes none of its arguments."""
+    return Case(tuple(map(str, lines)), f"{answer}\n")
 
 
-def free(*lines, answer):
-    """A row of a call that takes no memory."""
-    return takes(*lines, answer=answer)._replace(is_free=True)
+def no_alloc(*lines, answer):
+    """A call that does not allocate, and changes none of its arguments."""
+    return allocates(*lines, answer=answer)._replace(no_alloc=True)
 
 
 def texts():
-    """Of what is made of a text."""
+    """`Token::new` and `Token::from_encoded`."""
     for text, token in [
         ("/foo/~bar", "~1foo~1~0bar"),
         ("~1", "~01"),
@@ -61,12 +67,12 @@ def texts():
         (SLASHES, "~1" * 100_000),
         (LONG + "~", LONG + "~0"),
     ]:
-        yield takes("text", "Token::new", text, answer=token)
-        yield takes("text kept", "Token::new", text, answer=token)
+        yield allocates("text", "Token::new", text, answer=token)
+        yield allocates("text kept", "Token::new", text, answer=token)
     for text in ["abc", "", "-", "é", "plain é", LONG]:
         for call in ["Token::new", "Token::from_encoded"]:
-            yield free("text", call, text, answer=text)
-            yield free("text kept", call, text, answer=text)
+            yield no_alloc("text", call, text, answer=text)
+            yield no_alloc("text kept", call, text, answer=text)
     wrong = [
         ("foo/oops~bar", 3),
         ("a~/b", 2),
@@ -77,42 +83,42 @@ def texts():
         (LONG + "/", 100_000),
     ]
     for text, offset in wrong:
-        yield free("text", "Token::from_encoded", text, answer=NO_TOKEN.format(offset))
-        yield free("text kept", "Token::from_encoded", text, answer=NO_TOKEN.format(offset))
+        yield no_alloc("text", "Token::from_encoded", text, answer=TOKEN_BAD_ENCODING.format(offset))
+        yield no_alloc("text kept", "Token::from_encoded", text, answer=TOKEN_BAD_ENCODING.format(offset))
 
 
 def pointers_of_texts():
-    """Of what a pointer is parsed from."""
+    """Parsing a text as a pointer, borrowed, owned and tabled."""
     for text in ["", "/", "//", "/foo", "/a~1b", "/a~1b/~0/é", "/foo/bar", "/é", MANY, SLASHES, "/" + ENCODED]:
-        yield free("text", "Pointer::parse", text, answer=text)
-        yield free("text kept", "PointerBuf::parse", text, answer=text)
-        yield free("text kept", "PointerBuf::try_from", text, answer=text)
-        yield takes("text", "PointerBuf::from_text", text, answer=text)
-        yield takes("text kept", "TabledPointer::parse", text, answer=text)
+        yield no_alloc("text", "Pointer::parse", text, answer=text)
+        yield no_alloc("text kept", "PointerBuf::parse", text, answer=text)
+        yield no_alloc("text kept", "PointerBuf::try_from", text, answer=text)
+        yield allocates("text", "PointerBuf::from_text", text, answer=text)
+        yield allocates("text kept", "TabledPointer::parse", text, answer=text)
     wrong = [
-        ("foo", NO_SLASH),
-        ("~/", NO_SLASH),
-        ("é/a", NO_SLASH),
-        ("/~0/~~0", MALFORMED.format(3)),
-        ("/~1/~/x", MALFORMED.format(3)),
-        ("/foo/invalid~tilde", MALFORMED.format(4)),
-        ("/foo/invalid~tilde/invalid", MALFORMED.format(4)),
-        ("/a~2", MALFORMED.format(0)),
-        ("/foo~", MALFORMED.format(0)),
-        ("/é~", MALFORMED.format(0)),
-        (MANY + "~", MALFORMED.format(99_998)),
-        (LONG, NO_SLASH),
+        ("foo", PARSE_NO_SLASH),
+        ("~/", PARSE_NO_SLASH),
+        ("é/a", PARSE_NO_SLASH),
+        ("/~0/~~0", PARSE_MALFORMED.format(3)),
+        ("/~1/~/x", PARSE_MALFORMED.format(3)),
+        ("/foo/invalid~tilde", PARSE_MALFORMED.format(4)),
+        ("/foo/invalid~tilde/invalid", PARSE_MALFORMED.format(4)),
+        ("/a~2", PARSE_MALFORMED.format(0)),
+        ("/foo~", PARSE_MALFORMED.format(0)),
+        ("/é~", PARSE_MALFORMED.format(0)),
+        (MANY + "~", PARSE_MALFORMED.format(99_998)),
+        (LONG, PARSE_NO_SLASH),
     ]
     for text, fault in wrong:
-        yield free("text", "Pointer::parse", text, answer=fault)
-        yield free("text", "PointerBuf::from_text", text, answer=fault)
-        yield free("text kept", "PointerBuf::try_from", text, answer=fault)
+        yield no_alloc("text", "Pointer::parse", text, answer=fault)
+        yield no_alloc("text", "PointerBuf::from_text", text, answer=fault)
+        yield no_alloc("text kept", "PointerBuf::try_from", text, answer=fault)
         for call in ["PointerBuf::parse", "TabledPointer::parse"]:
-            yield free("text kept", call, text, answer=f"{fault}: {text}")
+            yield no_alloc("text kept", call, text, answer=f"{fault}: {text}")
 
 
 def cut():
-    """Of pointers that are cut behind their first token, and of how many tokens there are."""
+    """Splitting off the first token, and counting tokens."""
     rows = [
         ("is_root", "//", "false"), ("is_root", "/a~1b/~0/é", "false"),
         ("split_front", "//", " and /"), ("split_front", "/a~1b/~0/é", "a/b and /~0/é"),
@@ -121,30 +127,30 @@ def cut():
         ("count", "/a~1b//~0", 3),
     ]
     for call, text, answer in rows:
-        yield free("pointer", call, text, answer=answer)
+        yield no_alloc("pointer", call, text, answer=answer)
 
 
 def indices():
-    """Of reading an index."""
+    """Parsing an index."""
     rows = [
-        ("0", "0"), ("-", "-"), ("10", "10"), (str(MOST), str(MOST)),
-        ("00", ZEROS), ("0a", ZEROS), ("0" * 100_000, ZEROS),
-        ("+1", NO_INDEX), ("1a", NO_INDEX), ("1" * 99_999 + "a", NO_INDEX),
-        ("-1", NO_INDEX), ("x", NO_INDEX), ("é", NO_INDEX), ("éé", NO_INDEX), ("1é2", NO_INDEX), ("12é", NO_INDEX),
-        ("", NO_INTEGER), (str(MOST + 1), NO_INTEGER), ("1" * 100_000, NO_INTEGER),
+        ("0", "0"), ("-", "-"), ("10", "10"), (str(USIZE_MAX), str(USIZE_MAX)),
+        ("00", INDEX_LEADING_ZEROS), ("0a", INDEX_LEADING_ZEROS), ("0" * 100_000, INDEX_LEADING_ZEROS),
+        ("+1", INDEX_BAD_CHARACTER), ("1a", INDEX_BAD_CHARACTER), ("1" * 99_999 + "a", INDEX_BAD_CHARACTER),
+        *((text, INDEX_BAD_CHARACTER) for text in ["-1", "x", "é", "éé", "1é2", "12é"]),
+        ("", INDEX_BAD_INTEGER), (str(USIZE_MAX + 1), INDEX_BAD_INTEGER), ("1" * 100_000, INDEX_BAD_INTEGER),
     ]
     for text, answer in rows:
-        yield free("text", "Index::from_str", text, answer=answer)
-        yield free("text", "Index::try_from", text, answer=answer)
-        yield free("text kept", "Index::try_from", text, answer=answer)
-        yield free("text kept", "Index::try_from lent", text, answer=answer)
-        yield free("token", "to_index", text, "", answer=answer)
-        yield free("token", "Index::try_from", text, "", answer=answer)
-        yield free("token kept", "Index::try_from", text, answer=answer)
+        yield no_alloc("text", "Index::from_str", text, answer=answer)
+        yield no_alloc("text", "Index::try_from", text, answer=answer)
+        yield no_alloc("text kept", "Index::try_from", text, answer=answer)
+        yield no_alloc("text kept", "Index::try_from lent", text, answer=answer)
+        yield no_alloc("token", "to_index", text, "", answer=answer)
+        yield no_alloc("token", "Index::try_from", text, "", answer=answer)
+        yield no_alloc("token kept", "Index::try_from", text, answer=answer)
 
 
 def tokens():
-    """Of the calls of a token."""
+    """The methods of a token."""
     for token, text in [
         ("a~1b", "a/b"),
         ("~01", "~1"),
@@ -154,39 +160,39 @@ def tokens():
         (ENCODED, DECODED),
         (LONG + "~0", LONG + "~"),
     ]:
-        yield takes("token", "decoded", token, "", answer=text)
+        yield allocates("token", "decoded", token, "", answer=text)
     for token in ["abc", "", "é", LONG]:
-        yield free("token", "decoded", token, "", answer=token)
+        yield no_alloc("token", "decoded", token, "", answer=token)
     for token in ["abc", "a~1b", "", "é", "~01", "~0bar", "~1foo~1~0bar", LONG, ENCODED]:
-        yield free("token", "encoded", token, "", answer=token)
-        yield free("token kept", "into_encoded", token, answer=token)
-        yield takes("token", "to_owned", token, "", answer=token)
-        yield takes("token kept", "into_owned", token, answer=token)
-        yield takes("token kept", "clone", token, answer=token)
-        yield takes("token owned", "clone", token, answer=token)
+        yield no_alloc("token", "encoded", token, "", answer=token)
+        yield no_alloc("token kept", "into_encoded", token, answer=token)
+        yield allocates("token", "to_owned", token, "", answer=token)
+        yield allocates("token kept", "into_owned", token, answer=token)
+        yield allocates("token kept", "clone", token, answer=token)
+        yield allocates("token owned", "clone", token, answer=token)
         for call in ["into_owned", "into_encoded"]:
-            yield free("token owned", call, token, answer=token)
-        yield takes("token kept", "PointerBuf::from_token", token, answer="/" + token)
-        yield free("token", "==", token, token, answer="true")
-        yield free("token", "cmp", token, token + "0", answer="<")
-        yield free("token", "is_next", token, "", answer="false")
-    yield free("token", "is_next", "-", "", answer="true")
+            yield no_alloc("token owned", call, token, answer=token)
+        yield allocates("token kept", "PointerBuf::from_token", token, answer="/" + token)
+        yield no_alloc("token", "==", token, token, answer="true")
+        yield no_alloc("token", "cmp", token, token + "0", answer="<")
+        yield no_alloc("token", "is_next", token, "", answer="false")
+    yield no_alloc("token", "is_next", "-", "", answer="true")
     for token in ["--", "0"]:
-        yield free("token", "is_next", token, "", answer="false")
+        yield no_alloc("token", "is_next", token, "", answer="false")
 
 
 def numbers():
-    """Of tokens of numbers: the greatest of each unsigned type, the least of each signed one."""
+    """Tokens of numbers: the maximum of each unsigned type, and the minimum of each signed one."""
     for bits in [8, 16, 32, 64, 128]:
-        yield takes("number", f"u{bits}", answer=2**bits - 1)
-        yield takes("number", f"i{bits}", answer=-(2 ** (bits - 1)))
-    yield takes("number", "usize", answer=MOST)
-    yield takes("number", "isize", answer=-(2**63))
-    yield takes("number", "PointerBuf::from_usize", answer=f"/{MOST}")
+        yield allocates("number", f"u{bits}", answer=2**bits - 1)
+        yield allocates("number", f"i{bits}", answer=-(2 ** (bits - 1)))
+    yield allocates("number", "usize", answer=USIZE_MAX)
+    yield allocates("number", "isize", answer=-(2**63))
+    yield allocates("number", "PointerBuf::from_usize", answer=f"/{USIZE_MAX}")
 
 
 def measures():
-    """Of what a pointer is, as one and at its ends."""
+    """The methods that read one pointer: as a whole, its first and its last token."""
     pointers = ["", "/", "/foo", "/foo/bar/qux", "//a", "/a~1b/~0", "/foo/~0~1//", "/foo/b~1r", "/foo/b~1r/"]
     for text in [*pointers, MANY, SLASHES, "/" + LONG, "/x/" + ENCODED]:
         parts = text.split("/")[1:]
@@ -204,23 +210,23 @@ def measures():
             ("split_back", f"{front} and {decoded[1]}" if parts else "none"),
         ]
         for call, answer in rows:
-            yield free("pointer", call, text, answer=answer)
+            yield no_alloc("pointer", call, text, answer=answer)
         table = "".join(f"{at} " for at, it in enumerate(text) if it == "/")
         rows = [("as_ptr", text), ("offsets", table), ("count", len(parts)), ("front", first), ("back", back)]
         for call, answer in [*rows, ("parent", front if parts else "none")]:
-            yield free("tabled", call, text, 0, 0, answer=answer)
+            yield no_alloc("tabled", call, text, 0, 0, answer=answer)
         for call in ["to_buf", "PointerBuf::from_tokens"]:
-            yield takes("pointer", call, text, answer=text)
-        yield takes("pointer", "to_json_value", text, answer=f'"{text}"')
+            yield allocates("pointer", call, text, answer=text)
+        yield allocates("pointer", "to_json_value", text, answer=f'"{text}"')
     for text, length in [("/foo/bar", 8), ("/foo/bar/~0", 11)]:
-        yield free("pointer", "len", text, answer=length)
+        yield no_alloc("pointer", "len", text, answer=length)
     tables = [("/a", "0 "), ("//", "0 1 "), ("/foo/bar/baz", "0 4 8 "), ("/é~0/~1/日本/", "0 5 8 15 ")]
     for text, table in tables:
-        yield free("tabled", "offsets", text, 0, 0, answer=table)
+        yield no_alloc("tabled", "offsets", text, 0, 0, answer=table)
 
 
 def pairs():
-    """Of two pointers."""
+    """The methods that take two pointers."""
     rows = [
         ("starts_with", "/foobar", "/foo", "false"), ("strip_prefix", "/foobar", "/foo", "none"),
         ("starts_with", "/foo/bar", "/foo", "true"), ("strip_prefix", "/foo/bar", "/foo", "/bar"),
@@ -232,7 +238,7 @@ def pairs():
         ("intersection", MANY + "/b", MANY + "/c", MANY),
     ]
     for call, one, other, answer in rows:
-        yield free("pointers", call, one, other, answer=answer)
+        yield no_alloc("pointers", call, one, other, answer=answer)
     prefixes = [
         ("/foo/bar", "", "/foo/bar"),
         ("/foo", "/foo", ""),
@@ -241,8 +247,8 @@ def pairs():
         ("", "/", "none"),
     ]
     for one, other, left in prefixes:
-        yield free("pointers", "strip_prefix", one, other, answer=left)
-        yield free("pointers", "starts_with", one, other, answer=str(left != "none").lower())
+        yield no_alloc("pointers", "strip_prefix", one, other, answer=left)
+        yield no_alloc("pointers", "starts_with", one, other, answer=str(left != "none").lower())
     suffixes = [
         ("", "", ""),
         ("/foo/bar", "/foo/bar", ""),
@@ -250,8 +256,8 @@ def pairs():
         ("/a//", "/", "/a/"),
     ]
     for one, other, left in suffixes:
-        yield free("pointers", "strip_suffix", one, other, answer=left)
-        yield free("pointers", "ends_with", one, other, answer=str(left != "none").lower())
+        yield no_alloc("pointers", "strip_suffix", one, other, answer=left)
+        yield no_alloc("pointers", "ends_with", one, other, answer=str(left != "none").lower())
     common = [
         ("/foo", "/foobar", ""),
         ("/foo/bar", "/foo/baz", "/foo"),
@@ -260,10 +266,10 @@ def pairs():
         ("", "/a", ""),
     ]
     for one, other, front in common:
-        yield free("pointers", "intersection", one, other, answer=front)
-        yield free("pointers", "intersection", other, one, answer=front)
-    yield free("pointers", "intersection", "/fob", "/foo", answer="")
-    yield free("pointers", "intersection", "/foo/bar", "/foo/bar", answer="/foo/bar")
+        yield no_alloc("pointers", "intersection", one, other, answer=front)
+        yield no_alloc("pointers", "intersection", other, one, answer=front)
+    yield no_alloc("pointers", "intersection", "/fob", "/foo", answer="")
+    yield no_alloc("pointers", "intersection", "/foo/bar", "/foo/bar", answer="/foo/bar")
     orders = [
         ("/a", "/a", "="),
         ("/a", "/b", "<"),
@@ -275,11 +281,11 @@ def pairs():
     for one, other, order in orders:
         equal = str(order == "=").lower()
         for group in ["pointers", "tabled two"]:
-            yield free(group, "==", one, other, answer=equal)
-            yield free(group, "cmp", one, other, answer=order)
+            yield no_alloc(group, "==", one, other, answer=equal)
+            yield no_alloc(group, "cmp", one, other, answer=order)
         for kind in ["pointer", *KINDS]:
-            yield free("hash", kind, one, other, answer=equal)
-    yield free("hash", "token", LONG, LONG, answer="true")
+            yield no_alloc("hash", kind, one, other, answer=equal)
+    yield no_alloc("hash", "token", LONG, LONG, answer="true")
     for one, other in [
         ("/a", "/b"),
         ("", "/"),
@@ -290,28 +296,28 @@ def pairs():
         (MANY, MANY),
         ("/" + LONG, "/" + ENCODED),
     ]:
-        yield takes("pointers", "concat", one, other, answer=one + other)
+        yield allocates("pointers", "concat", one, other, answer=one + other)
     for token in ["x", "", "~0~1", LONG, ENCODED]:
-        yield takes("pointer with", "with_leading_token", "/a/b", token, answer=f"/{token}/a/b")
-        yield takes("pointer with", "with_trailing_token", "/a/b", token, answer=f"/a/b/{token}")
-    yield takes("pointer with", "with_leading_token", "/a", "~0", answer="/~0/a")
-    yield takes("pointer with", "with_trailing_token", "/a", "~1", answer="/a/~1")
+        yield allocates("pointer with", "with_leading_token", "/a/b", token, answer=f"/{token}/a/b")
+        yield allocates("pointer with", "with_trailing_token", "/a/b", token, answer=f"/a/b/{token}")
+    yield allocates("pointer with", "with_leading_token", "/a", "~0", answer="/~0/a")
+    yield allocates("pointer with", "with_trailing_token", "/a", "~1", answer="/a/~1")
 
 
 def ranges():
-    """Of the parts of a pointer between two places, of both kinds."""
+    """`get` with each kind of range, and both splits, on plain and on tabled pointers."""
     three = "/foo/bar/qux"
     rows = [
         ("get i", three, 0, 0, "foo"),
         ("get i", three, 3, 0, "none"),
         ("get i", three, 2, 0, "qux"),
-        ("get i", three, MOST, 0, "none"),
+        ("get i", three, USIZE_MAX, 0, "none"),
         ("get i", "/a~1b", 0, 0, "a~1b"),
         ("get i", "/foo/b~1r/", 0, 0, "foo"),
         ("get i", "/foo/b~1r/", 1, 0, "b~1r"),
         ("get i", "/foo/b~1r/", 2, 0, ""),
         ("get i", "/foo/b~1r/", 3, 0, "none"),
-        ("get i", "/foo/b~1r/", MOST, 0, "none"),
+        ("get i", "/foo/b~1r/", USIZE_MAX, 0, "none"),
         ("get ..i", three, 1, 0, "/foo"),
         ("get i..j", three, 1, 3, "/bar/qux"),
         ("get i..=j", three, 1, 2, "/bar/qux"),
@@ -326,36 +332,36 @@ def ranges():
         ("get i..", three, 1, 0, "/bar/qux"),
         ("get i..", three, 3, 0, "none"),
         ("get i..=j", three, 2, 1, "none"),
-        ("get i..=j", three, 0, MOST, "none"),
+        ("get i..=j", three, 0, USIZE_MAX, "none"),
         ("get ..=i", three, 3, 0, "none"),
         ("get i..j", "/foo", 0, 0, ""),
         ("get i..j", "/foo", 1, 1, "none"),
-        ("get i..j", "/foo", MOST, MOST, "none"),
-        ("get ..i", "/foo", MOST, 0, "none"),
-        ("get ..=i", "/foo", MOST, 0, "none"),
-        ("get i..=j", "/foo", 0, MOST, "none"),
+        ("get i..j", "/foo", USIZE_MAX, USIZE_MAX, "none"),
+        ("get ..i", "/foo", USIZE_MAX, 0, "none"),
+        ("get ..=i", "/foo", USIZE_MAX, 0, "none"),
+        ("get i..=j", "/foo", 0, USIZE_MAX, "none"),
         ("get i..", "", 0, 0, "none"),
         ("get ..i", "", 0, 0, ""),
         ("get ..", "", 0, 0, ""),
-        ("get i..j", "/a", MOST, MOST, "none"),
-        ("get ..i", "/a", MOST, 0, "none"),
-        ("get ..=i", "/a", MOST, 0, "none"),
-        ("get i..=j", "/a", 0, MOST, "none"),
-        ("get i", "/a", MOST, 0, "none"),
-        ("get i..", "/a", MOST, 0, "none"),
-        ("get i..=j", "/a", MOST, MOST, "none"),
+        ("get i..j", "/a", USIZE_MAX, USIZE_MAX, "none"),
+        ("get ..i", "/a", USIZE_MAX, 0, "none"),
+        ("get ..=i", "/a", USIZE_MAX, 0, "none"),
+        ("get i..=j", "/a", 0, USIZE_MAX, "none"),
+        ("get i", "/a", USIZE_MAX, 0, "none"),
+        ("get i..", "/a", USIZE_MAX, 0, "none"),
+        ("get i..=j", "/a", USIZE_MAX, USIZE_MAX, "none"),
         ("get bounds", "/a/b", 0, 1, ""),
         ("get bounds", "/a", 0, 1, "none"),
-        ("get bounds", "/a", MOST, MOST, "none"),
-        ("get bounds", "/a", MOST, 0, "none"),
+        ("get bounds", "/a", USIZE_MAX, USIZE_MAX, "none"),
+        ("get bounds", "/a", USIZE_MAX, 0, "none"),
         ("get bounds", "/a/b/c", 0, 2, "/b"),
         ("split_at_offset", "/foo/bar/baz", 0, 0, " and /foo/bar/baz"),
         ("split_at_offset", "/foo/bar/baz", 4, 0, "/foo and /bar/baz"),
         ("split_at_offset", "/foo/bar/baz", 8, 0, "/foo/bar and /baz"),
         ("split_at_offset", "/foo/bar/baz", 3, 0, "none"),
         ("split_at_offset", "/foo/bar/baz", 12, 0, "none"),
-        ("split_at_offset", "/foo/bar/baz", MOST, 0, "none"),
-        ("split_at_offset", "/a", MOST, 0, "none"),
+        ("split_at_offset", "/foo/bar/baz", USIZE_MAX, 0, "none"),
+        ("split_at_offset", "/a", USIZE_MAX, 0, "none"),
         ("split_at", "/foo/bar/baz", 0, 0, " and /foo/bar/baz"),
         ("split_at", "/foo/bar/baz", 1, 0, "/foo and /bar/baz"),
         ("split_at", "/foo/bar/baz", 2, 0, "/foo/bar and /baz"),
@@ -363,7 +369,7 @@ def ranges():
         ("split_at", "/foo/bar/baz", 4, 0, "none"),
         ("split_at", "", 0, 0, " and "),
         ("split_at", "", 1, 0, "none"),
-        ("split_at", "/a", MOST, 0, "none"),
+        ("split_at", "/a", USIZE_MAX, 0, "none"),
         ("split_at", "//~1/", 2, 0, "//~1 and /"),
         ("get i", MANY, 49_999, 0, "a"),
         ("get i", MANY, 50_000, 0, "none"),
@@ -375,28 +381,28 @@ def ranges():
     ]
     for call, pointer, first, second, answer in rows:
         for group in ["range", "tabled"]:
-            yield free(group, call, pointer, first, second, answer=answer)
+            yield no_alloc(group, call, pointer, first, second, answer=answer)
 
 
 def copies():
-    """Of copies of owned pointers, and of one kind made of the other."""
+    """Clones of owned pointers, and conversions between plain and tabled ones."""
     texts = ["", "/", "/a", "//", "/a/b", "/a~1b", "/foo/bar/baz", "/é~0/~1/日本/", MANY, "/" + ENCODED]
     for text in texts:
         for call in ["PointerBuf::clone", "TabledPointer::clone", "from_plain"]:
-            yield takes("kept", call, text, answer=text)
-        yield free("kept", "into_plain", text, answer=text)
+            yield allocates("kept", call, text, answer=text)
+        yield no_alloc("kept", "into_plain", text, answer=text)
     for call in ["PointerBuf::new", "PointerBuf::root", "TabledPointer::new"]:
-        yield free("kept", call, "/a", answer="")
+        yield no_alloc("kept", call, "/a", answer="")
 
 
 def edit(kind, call, pointer, text="", place=0, *, answer="done", after):
-    """A row of a call that changes a pointer."""
+    """A call that changes a pointer."""
     lines = ("edit", kind, call, pointer, text, str(place))
-    return Row(lines, f"{answer}\n", f"{after}\n")
+    return Case(lines, f"{answer}\n", f"{after}\n")
 
 
 def edits():
-    """Of the calls that change a pointer, of both kinds."""
+    """The calls that change a pointer, plain and tabled."""
     tokens = [("a", "a"), ("", ""), ("~/", "~0~1"), (LONG, LONG), (DECODED, ENCODED)]
     for kind in KINDS:
         for text, token in tokens:
@@ -410,7 +416,7 @@ def edits():
             yield edit(kind, "append", "/x", f"/{token}/y", after=f"/x/{token}/y")
             yield edit(kind, "append", "", f"/{token}", after=f"/{token}")
             yield edit(kind, "set_text", "/x", f"/{token}/y", after=f"/{token}/y")
-            yield edit(kind, "clear", f"/{token}", after="")._replace(is_free=True)
+            yield edit(kind, "clear", f"/{token}", after="")._replace(no_alloc=True)
         yield edit(kind, "pop_front", "//a", answer="", after="/a")
         yield edit(kind, "push_back", "/foo/bar", "~", after="/foo/bar/~0")
         yield edit(kind, "push_front", "/", "x", after="/x/")
@@ -431,44 +437,44 @@ def edits():
         yield edit(kind, "pop_back", MANY, answer="a", after=MANY[2:])
         yield edit(kind, "pop_front", MANY, answer="a", after=MANY[2:])
         yield edit(kind, "replace", MANY, LONG, 25_000, answer="a", after="/a" * 25_000 + f"/{LONG}" + "/a" * 24_999)
-        free_rows = [
+        unchanged = [
             edit(kind, "pop_front", "", answer="none", after=""),
             edit(kind, "pop_back", "", answer="none", after=""),
-            edit(kind, "replace", "", "b", 0, answer=NO_POSITION.format(0, 0), after=""),
-            edit(kind, "replace", "/a/b", "b", 2, answer=NO_POSITION.format(2, 2), after="/a/b"),
-            edit(kind, "replace", "/a/b", "b", 3, answer=NO_POSITION.format(3, 2), after="/a/b"),
-            edit(kind, "replace", "//", "b", MOST, answer=NO_POSITION.format(MOST, 2), after="//"),
-            edit(kind, "replace", "/a", "x", MOST, answer=NO_POSITION.format(MOST, 1), after="/a"),
-            edit(kind, "replace", MANY, "x", 50_000, answer=NO_POSITION.format(50_000, 50_000), after=MANY),
-            edit(kind, "set_text", "/a", "foo", answer=f"{NO_SLASH}: foo", after="/a"),
-            edit(kind, "set_text", "/a/b", "foo", answer=f"{NO_SLASH}: foo", after="/a/b"),
+            edit(kind, "replace", "", "b", 0, answer=REPLACE_OUT_OF_BOUNDS.format(0, 0), after=""),
+            edit(kind, "replace", "/a/b", "b", 2, answer=REPLACE_OUT_OF_BOUNDS.format(2, 2), after="/a/b"),
+            edit(kind, "replace", "/a/b", "b", 3, answer=REPLACE_OUT_OF_BOUNDS.format(3, 2), after="/a/b"),
+            edit(kind, "replace", "//", "b", USIZE_MAX, answer=REPLACE_OUT_OF_BOUNDS.format(USIZE_MAX, 2), after="//"),
+            edit(kind, "replace", "/a", "x", USIZE_MAX, answer=REPLACE_OUT_OF_BOUNDS.format(USIZE_MAX, 1), after="/a"),
+            edit(kind, "replace", MANY, "x", 50_000, answer=REPLACE_OUT_OF_BOUNDS.format(50_000, 50_000), after=MANY),
+            edit(kind, "set_text", "/a", "foo", answer=f"{PARSE_NO_SLASH}: foo", after="/a"),
+            edit(kind, "set_text", "/a/b", "foo", answer=f"{PARSE_NO_SLASH}: foo", after="/a/b"),
             edit(kind, "clear", "/a~1b/foo/bar", after=""),
-            edit(kind, "set_text", "/a", "/b~", answer=f"{MALFORMED.format(0)}: /b~", after="/a"),
-            edit(kind, "set_text", "/a", LONG, answer=f"{NO_SLASH}: {LONG}", after="/a"),
+            edit(kind, "set_text", "/a", "/b~", answer=f"{PARSE_MALFORMED.format(0)}: /b~", after="/a"),
+            edit(kind, "set_text", "/a", LONG, answer=f"{PARSE_NO_SLASH}: {LONG}", after="/a"),
         ]
-        for row in free_rows:
-            yield row._replace(is_free=True)
+        for case in unchanged:
+            yield case._replace(no_alloc=True)
 
 
 def owned():
-    """Of owned pointers of a text, and of the labels of their errors on texts of all kinds."""
-    yield takes("text", "PointerBuf::from_text", "/a~1b/", answer="/a~1b/")
-    yield free("text kept", "PointerBuf::parse", "/a~1b/", answer="/a~1b/")
-    yield free("text kept", "PointerBuf::try_from", "/a~1b/", answer="/a~1b/")
-    yield free("show", "pointer", "/a~1b/~0", answer="/a~1b/~0")
+    """Owned pointers parsed from a text, and the labels of their errors on any subject."""
+    yield allocates("text", "PointerBuf::from_text", "/a~1b/", answer="/a~1b/")
+    yield no_alloc("text kept", "PointerBuf::parse", "/a~1b/", answer="/a~1b/")
+    yield no_alloc("text kept", "PointerBuf::try_from", "/a~1b/", answer="/a~1b/")
+    yield no_alloc("show", "pointer", "/a~1b/~0", answer="/a~1b/~0")
     tilde = "'~' must be followed by '0' or '1'"
     for text, offset, length in [("/foo~", 4, 1), ("/é~", 3, 1), ("/a~2", 2, 2)]:
-        yield takes("report", "labels", "pointer", text, answer=f"{tilde} at {offset}, length {length}")
+        yield allocates("report", "labels", "pointer", text, answer=f"{tilde} at {offset}, length {length}")
     for subject, length in [("", 1), ("abc", 1), ("/foo", 2)]:
-        yield takes("fields", "labels", "pointer", 0, 2, subject, answer=f"{tilde} at 2, length {length}")
-    yield free("fields", "labels", "pointer", MOST, 1, "/a~2", answer="none")
-    yield takes("fields", "render", "pointer", MOST, 1, "/a~2", answer="/a~2")
+        yield allocates("fields", "labels", "pointer", 0, 2, subject, answer=f"{tilde} at 2, length {length}")
+    yield no_alloc("fields", "labels", "pointer", USIZE_MAX, 1, "/a~2", answer="none")
+    yield allocates("fields", "render", "pointer", USIZE_MAX, 1, "/a~2", answer="/a~2")
 
 
-def on(kind, document, call, pointer, value="1", *, answer, after, is_free=False):
-    """A row of a call on a document at a pointer."""
+def on(kind, document, call, pointer, value="1", *, answer, after, no_alloc=False):
+    """A call on a document at a pointer."""
     lines = ("document", kind, document, call, pointer, *([] if call == "resolve" else [value]))
-    return Row(lines, f"{answer}\n", f"{after}\n", is_free)
+    return Case(lines, f"{answer}\n", f"{after}\n", no_alloc)
 
 
 SECTION_5 = r'{"":0," ":7,"a/b":1,"c%d":2,"e^f":3,"foo":["bar","baz"],"g|h":4,"i\\j":5,"k\"l":6,"m~n":8}'
@@ -479,37 +485,37 @@ VECTORS = [
 
 
 def found():
-    """Of finding a value in a JSON document, and of writing in its place."""
+    """`resolve` and `resolve_mut` in a JSON document."""
     for pointer, value in VECTORS:
-        yield on("json", SECTION_5, "resolve", pointer, answer=value, after=SECTION_5, is_free="~" not in pointer)
+        yield on("json", SECTION_5, "resolve", pointer, answer=value, after=SECTION_5, no_alloc="~" not in pointer)
     rows = [
-        ('{"foo":["bar"]}', "/foo/-", PAST_THE_END.format(4)),
-        ('{"foo":["bar"]}', "/foo/01", NOT_AN_INDEX.format(4)),
-        ('{"a":{}}', "/a/", NOT_FOUND.format(2)), ('{"a":1}', "/a/b", UNREACHABLE.format(2)),
-        ("[]", "/" + LONG, NOT_AN_INDEX.format(0)),
-        ("{}", "/" + LONG, NOT_FOUND.format(0)),
-        ("{}", MANY, NOT_FOUND.format(0)),
-        ('{"foo":["bar"]}', "/foo/1", PAST_THE_END.format(4)),
-        ('{"foo":["bar"]}', "/foo/00", NOT_AN_INDEX.format(4)),
-        ("[1,2]", "/", NOT_AN_INDEX.format(0)),
-        ("[2,3]", "/2", PAST_THE_END.format(0)),
-        ("[[],{},1]", "/0/a", NOT_AN_INDEX.format(2)),
-        ("[[],{},1]", "/10/0", PAST_THE_END.format(0)),
-        ("[[],{},1]", "/1/a", NOT_FOUND.format(2)),
-        ("[[],{},1]", "/2/a", UNREACHABLE.format(2)),
+        ('{"foo":["bar"]}', "/foo/-", RESOLVE_OUT_OF_BOUNDS.format(4)),
+        ('{"foo":["bar"]}', "/foo/01", RESOLVE_BAD_INDEX.format(4)),
+        ('{"a":{}}', "/a/", RESOLVE_NOT_FOUND.format(2)), ('{"a":1}', "/a/b", RESOLVE_UNREACHABLE.format(2)),
+        ("[]", "/" + LONG, RESOLVE_BAD_INDEX.format(0)),
+        ("{}", "/" + LONG, RESOLVE_NOT_FOUND.format(0)),
+        ("{}", MANY, RESOLVE_NOT_FOUND.format(0)),
+        ('{"foo":["bar"]}', "/foo/1", RESOLVE_OUT_OF_BOUNDS.format(4)),
+        ('{"foo":["bar"]}', "/foo/00", RESOLVE_BAD_INDEX.format(4)),
+        ("[1,2]", "/", RESOLVE_BAD_INDEX.format(0)),
+        ("[2,3]", "/2", RESOLVE_OUT_OF_BOUNDS.format(0)),
+        ("[[],{},1]", "/0/a", RESOLVE_BAD_INDEX.format(2)),
+        ("[[],{},1]", "/10/0", RESOLVE_OUT_OF_BOUNDS.format(0)),
+        ("[[],{},1]", "/1/a", RESOLVE_NOT_FOUND.format(2)),
+        ("[[],{},1]", "/2/a", RESOLVE_UNREACHABLE.format(2)),
     ]
     for document, pointer, fault in rows:
         for call in ["resolve", "write"]:
-            yield on("json", document, call, pointer, answer=fault, after=document, is_free=True)
+            yield on("json", document, call, pointer, answer=fault, after=document, no_alloc=True)
     escaped = [
-        ("{}", "/" + ENCODED, NOT_FOUND.format(0)),
-        ('{"~":[0]}', "/~0/", NOT_AN_INDEX.format(3)),
-        ('{"a~1b":1}', "/a~1b", NOT_FOUND.format(0)),
+        ("{}", "/" + ENCODED, RESOLVE_NOT_FOUND.format(0)),
+        ('{"~":[0]}', "/~0/", RESOLVE_BAD_INDEX.format(3)),
+        ('{"a~1b":1}', "/a~1b", RESOLVE_NOT_FOUND.format(0)),
     ]
     for document, pointer, fault in escaped:
         for call in ["resolve", "write"]:
             yield on("json", document, call, pointer, answer=fault, after=document)
-    yield on("json", "[2,3]", "resolve", "/1", answer="3", after="[2,3]", is_free=True)
+    yield on("json", "[2,3]", "resolve", "/1", answer="3", after="[2,3]", no_alloc=True)
     written = [
         ('{"foo":["bar","baz"]}', "/foo/1", '"baz"', '{"foo":["bar",true]}'),
         ('{"a/b":1,"m~n":2}', "/a~1b", "1", '{"a/b":true,"m~n":2}'),
@@ -519,18 +525,18 @@ def found():
     ]
     for document, pointer, answer, after in written:
         yield on(
-            "json", document, "write", pointer, "true", answer=answer, after=after, is_free="~" not in pointer
+            "json", document, "write", pointer, "true", answer=answer, after=after, no_alloc="~" not in pointer
         )
     for key, token in [("a", "a"), (LONG, LONG), ("a/b", "a~1b"), (DECODED, ENCODED)]:
-        document, is_free = f'{{"{key}":[1]}}', "~" not in token
-        yield on("json", document, "resolve", f"/{token}/0", answer="1", after=document, is_free=is_free)
+        document, no_alloc = f'{{"{key}":[1]}}', "~" not in token
+        yield on("json", document, "resolve", f"/{token}/0", answer="1", after=document, no_alloc=no_alloc)
         yield on(
-            "json", document, "write", f"/{token}/0", '"x"', answer="1", after=f'{{"{key}":["x"]}}', is_free=is_free
+            "json", document, "write", f"/{token}/0", '"x"', answer="1", after=f'{{"{key}":["x"]}}', no_alloc=no_alloc
         )
-        yield on("json", document, "delete", f"/{token}/0", answer="1", after=f'{{"{key}":[]}}', is_free=is_free)
-        yield on("json", document, "delete", f"/{token}", answer="[1]", after="{}", is_free=is_free)
+        yield on("json", document, "delete", f"/{token}/0", answer="1", after=f'{{"{key}":[]}}', no_alloc=no_alloc)
+        yield on("json", document, "delete", f"/{token}", answer="[1]", after="{}", no_alloc=no_alloc)
         yield on(
-            "json", document, "assign", f"/{token}/0", "2", answer="1", after=f'{{"{key}":[2]}}', is_free=is_free
+            "json", document, "assign", f"/{token}/0", "2", answer="1", after=f'{{"{key}":[2]}}', no_alloc=no_alloc
         )
         yield on("json", document, "assign", f"/{token}/-", "2", answer="none", after=f'{{"{key}":[1,2]}}')
         yield on("json", "{}", "assign", f"/{token}", "2", answer="none", after=f'{{"{key}":2}}')
@@ -539,9 +545,9 @@ def found():
 
 
 def assigned():
-    """Of assigning and deleting in a JSON document."""
+    """`assign` and `delete` in a JSON document."""
     nested = "[" * 127 + "1" + "]" * 127
-    yield on("json", nested, "resolve", "/0" * 127, answer="1", after=nested, is_free=True)
+    yield on("json", nested, "resolve", "/0" * 127, answer="1", after=nested, no_alloc=True)
     yield on("json", "null", "assign", "/0" * 127, answer="null", after=nested)
     rows = [
         ('{"foo":"bar"}', "/foo/bar/-/baz", '"qux"', '"bar"', '{"foo":{"bar":[{"baz":"qux"}]}}'),
@@ -567,24 +573,24 @@ def assigned():
     ]
     for document, pointer, value, answer, after in rows:
         yield on("json", document, "assign", pointer, value, answer=answer, after=after)
-    free_rows = [
-        ("[]", "/1", '"x"', NO_ROOM.format(0), "[]"),
-        ('{"a":[1]}', "/a/b", "2", NO_PLACE.format(2), '{"a":[1]}'),
+    unchanged = [
+        ("[]", "/1", '"x"', ASSIGN_OUT_OF_BOUNDS.format(0), "[]"),
+        ('{"a":[1]}', "/a/b", "2", ASSIGN_BAD_INDEX.format(2), '{"a":[1]}'),
         ("[1]", "/0", "7", "1", "[7]"),
         ('{"a":3}', "", "7", '{"a":3}', "7"),
-        ("[1]", f"/{MOST}", "2", NO_ROOM.format(0), "[1]"),
+        ("[1]", f"/{USIZE_MAX}", "2", ASSIGN_OUT_OF_BOUNDS.format(0), "[1]"),
         ('{"a":[1]}', "", "2", '{"a":[1]}', "2"), ("null", "", '{"a":1}', "null", '{"a":1}'),
         ('{"a":[1,2]}', "/a", "3", "[1,2]", '{"a":3}'),
         ('{"a":[1,2]}', "/a/1", "3", "2", '{"a":[1,3]}'),
         ('{"a":[1,2]}', "/a/0", "[]", "1", '{"a":[[],2]}'),
         ('{"":{"b":1}}', "/", "2", '{"b":1}', '{"":2}'),
-        ('["a"]', "/2", "true", NO_ROOM.format(0), '["a"]'),
-        ("[1]", "/", "true", NO_PLACE.format(0), "[1]"),
-        ("[[],{},1]", "/0/a", "true", NO_PLACE.format(2), "[[],{},1]"),
-        ("[[],{},1]", "/10/0", "true", NO_ROOM.format(0), "[[],{},1]"),
+        ('["a"]', "/2", "true", ASSIGN_OUT_OF_BOUNDS.format(0), '["a"]'),
+        ("[1]", "/", "true", ASSIGN_BAD_INDEX.format(0), "[1]"),
+        ("[[],{},1]", "/0/a", "true", ASSIGN_BAD_INDEX.format(2), "[[],{},1]"),
+        ("[[],{},1]", "/10/0", "true", ASSIGN_OUT_OF_BOUNDS.format(0), "[[],{},1]"),
     ]
-    for document, pointer, value, answer, after in free_rows:
-        yield on("json", document, "assign", pointer, value, answer=answer, after=after, is_free=True)
+    for document, pointer, value, answer, after in unchanged:
+        yield on("json", document, "assign", pointer, value, answer=answer, after=after, no_alloc=True)
     deleted = [
         ("[1,2,3]", "/0", "1", "[2,3]"),
         ("{}", "/x", "none", "{}"),
@@ -600,35 +606,35 @@ def assigned():
         ('{"é":{"":{"":2}}}', "/é//", "2", '{"é":{"":{}}}'),
     ]
     for document, pointer, answer, after in deleted:
-        yield on("json", document, "delete", pointer, answer=answer, after=after, is_free="~" not in pointer)
+        yield on("json", document, "delete", pointer, answer=answer, after=after, no_alloc="~" not in pointer)
     two = '{"foo":["bar","baz"]}'
     kept = [
         ("{}", "/"), ("[]", "/0"), ("1", "/0"), ('{"y":1}', "/x/y"), ('{"a~1b":1}', "/a~1b"),
         (two, "/foo/-"), (two, "/foo/2"), (two, "/foo/00"), (two, "/foo/x"), (two, "/foo/1/x"),
     ]
     for document, pointer in kept:
-        yield on("json", document, "delete", pointer, answer="none", after=document, is_free="~" not in pointer)
+        yield on("json", document, "delete", pointer, answer="none", after=document, no_alloc="~" not in pointer)
     yield on("json", '{"a/b":{"~":1}}', "delete", "/a~1b/~0", answer="1", after='{"a/b":{}}')
 
 
 def in_tables():
-    """Of the calls on a TOML document."""
+    """The calls on a TOML document."""
     table = "{ a = [1, 2] }"
     for call, pointer, answer, after in [
         ("resolve", "/a/1", "2", table),
-        ("resolve", "/a/-", PAST_THE_END.format(2), table),
-        ("resolve", "/a/0/x", UNREACHABLE.format(4), table),
-        ("resolve", "/" + LONG, NOT_FOUND.format(0), table),
+        ("resolve", "/a/-", RESOLVE_OUT_OF_BOUNDS.format(2), table),
+        ("resolve", "/a/0/x", RESOLVE_UNREACHABLE.format(4), table),
+        ("resolve", "/" + LONG, RESOLVE_NOT_FOUND.format(0), table),
         ("delete", "/a/0", "1", "{ a = [2] }"),
         ("delete", "", table, "{}"),
         ("delete", "/b", "none", table),
         ("write", "/a/0", "1", "{ a = [3, 2] }"),
-        ("write", "/a/2", PAST_THE_END.format(2), table),
+        ("write", "/a/2", RESOLVE_OUT_OF_BOUNDS.format(2), table),
         ("assign", "/a/0", "1", "{ a = [3, 2] }"),
-        ("assign", "/a/3", NO_ROOM.format(2), table),
-        ("assign", "/a/x", NO_PLACE.format(2), table),
+        ("assign", "/a/3", ASSIGN_OUT_OF_BOUNDS.format(2), table),
+        ("assign", "/a/x", ASSIGN_BAD_INDEX.format(2), table),
     ]:
-        yield on("toml", table, call, pointer, "3", answer=answer, after=after, is_free=True)
+        yield on("toml", table, call, pointer, "3", answer=answer, after=after, no_alloc=True)
     yield on("toml", "{ a = [2] }", "assign", "/b/-", "3", answer="none", after="{ a = [2], b = [3] }")
     yield on("toml", "{ d = 1979-05-27 }", "assign", "/d/x", "1", answer="1979-05-27", after="{ d = { x = 1 } }")
     yield on(
@@ -636,27 +642,27 @@ def in_tables():
         "{ d = 1979-05-27 }",
         "resolve",
         "/d/x",
-        answer=UNREACHABLE.format(2),
+        answer=RESOLVE_UNREACHABLE.format(2),
         after="{ d = 1979-05-27 }",
-        is_free=True,
+        no_alloc=True,
     )
     yield on(
-        "toml", "{ d = { x = 1 } }", "resolve", "/d/x", answer="1", after="{ d = { x = 1 } }", is_free=True
+        "toml", "{ d = { x = 1 } }", "resolve", "/d/x", answer="1", after="{ d = { x = 1 } }", no_alloc=True
     )
     for whole in ["1", "{ a = 1, b = [true] }", "[]", "{}"]:
-        yield on("toml", whole, "delete", "", answer=whole, after="{}", is_free=True)
+        yield on("toml", whole, "delete", "", answer=whole, after="{}", no_alloc=True)
     whole = '{ "" = 07:32, "a/b" = [1, { "m~n" = "x" }], t = { f = 1.5 } }'
     for pointer, answer in [
         ("", whole), ("/a~1b", '[1, { "m~n" = "x" }]'), ("/a~1b/0", "1"), ("/a~1b/1/m~0n", '"x"'),
         ("/", "07:32"), ("/t", "{ f = 1.5 }"), ("/t/f", "1.5"),
     ]:
-        yield on("toml", whole, "resolve", pointer, answer=answer, after=whole, is_free="~" not in pointer)
+        yield on("toml", whole, "resolve", pointer, answer=answer, after=whole, no_alloc="~" not in pointer)
     written = '{ "a/b" = [1, true], c = 3 }'
     yield on("toml", '{ "a/b" = [1, 2], c = 3 }', "write", "/a~1b/1", "true", answer="2", after=written)
     yield on(
-        "toml", written, "write", "/c", "1.5", answer="3", after='{ "a/b" = [1, true], c = 1.5 }', is_free=True
+        "toml", written, "write", "/c", "1.5", answer="3", after='{ "a/b" = [1, true], c = 1.5 }', no_alloc=True
     )
-    for document, pointer, answer, after, is_free in [
+    for document, pointer, answer, after, no_alloc in [
         ("{ a = 1 }", "", "{ a = 1 }", "true", True),
         ("{ a = 1 }", "/a", "1", "{ a = true }", True),
         ("{ a = [1, 2] }", "/a/1", "2", "{ a = [1, true] }", True),
@@ -666,8 +672,8 @@ def in_tables():
         ("{}", "/m~0n/0", "none", '{ "m~n" = [true] }', False),
         ("1.5", "/a/00", "1.5", "{ a = { 00 = true } }", False),
     ]:
-        yield on("toml", document, "assign", pointer, "true", answer=answer, after=after, is_free=is_free)
-    yield on("toml", "{ a = [1, true] }", "delete", "/a/1", answer="true", after="{ a = [1] }", is_free=True)
+        yield on("toml", document, "assign", pointer, "true", answer=answer, after=after, no_alloc=no_alloc)
+    yield on("toml", "{ a = [1, true] }", "delete", "/a/1", answer="true", after="{ a = [1] }", no_alloc=True)
     yield on("toml", '{ a = [1], "b/" = true }', "delete", "/b~1", answer="true", after="{ a = [1] }")
     yield on("toml", '{ "a/b" = 1 }', "resolve", "/a~1b", answer="1", after='{ "a/b" = 1 }')
     yield on("toml", '{ "a/b" = 1 }', "write", "/a~1b", "2", answer="1", after='{ "a/b" = 2 }')
@@ -677,33 +683,33 @@ def in_tables():
 
 
 def labelled():
-    """Of the labels of errors of documents, on the pointers that gave them, and on others."""
+    """The labels of document errors, on the pointer that caused them and on others."""
     rows = [
         ("resolve", "[]", "/é~1", "not an array index at 1, length 4"),
         ("resolve", "7", "/é~1/x", "unreachable at 1, length 4"),
         ("assign", '{"a":[1]}', "/a/b", "expected array index or '-' at 3, length 1"),
     ]
     for kind, document, pointer, label in rows:
-        yield takes("report", "labels", kind, document, pointer, answer=label)
+        yield allocates("report", "labels", kind, document, pointer, answer=label)
     others = [
         ("/a/bcd", 1, 0, 1, 3),
         ("/a/bcd", 0, 5, 5, 1),
         ("/a/bcd", 0, 4, 5, 1),
-        ("/a/bcd", 0, MOST - 1, MOST - 1, 1),
+        ("/a/bcd", 0, USIZE_MAX - 1, USIZE_MAX - 1, 1),
         ("//", 1, 7, 7, 0),
     ]
     for pointer, position, offset, place, length in others:
         label = f"not found in value at {place}, length {length}"
-        yield takes("fields", "labels", "resolve", position, offset, pointer, answer=label)
+        yield allocates("fields", "labels", "resolve", position, offset, pointer, answer=label)
 
 
 def undoing(kind, document, call, pointer, value, *, answer, after):
-    """A row of a call that takes an assignment back, or answers what does."""
-    return Row(("undo", kind, document, call, pointer, value), f"{answer}\n", f"{after}\n")
+    """A call that undoes an assignment, or returns what does."""
+    return Case(("undo", kind, document, call, pointer, value), f"{answer}\n", f"{after}\n")
 
 
 def undos():
-    """Of taking assignments back, in both kinds of document."""
+    """Undoing assignments, in JSON and in TOML documents."""
     long = f"/{LONG}"
     rows = [
         ("json", '{"foo":"bar"}', "/foo/bar/-/baz", '"qux"', 'put "bar" at /foo', '{"foo":{"bar":[{"baz":"qux"}]}}'),
@@ -723,22 +729,24 @@ def undos():
     for kind, document, pointer, value, answer, after in rows:
         yield undoing(kind, document, "assign_with_undo", pointer, value, answer=answer, after=after)
         yield undoing(kind, document, "undo", pointer, value, answer="done", after=document)
-    yield undoing("json", "[]", "assign_with_undo", "/1", "7", answer=NO_ROOM.format(0), after="[]")
-    yield undoing("json", '{"a":[1]}', "assign_with_undo", "/a/b", "2", answer=NO_PLACE.format(2), after='{"a":[1]}')
-    yield undoing("json", "[1]", "Remove", "/1", "null", answer=PAST_THE_END.format(0), after="[1]\nremove at /1")
+    yield undoing("json", "[]", "assign_with_undo", "/1", "7", answer=ASSIGN_OUT_OF_BOUNDS.format(0), after="[]")
+    fault = ASSIGN_BAD_INDEX.format(2)
+    yield undoing("json", '{"a":[1]}', "assign_with_undo", "/a/b", "2", answer=fault, after='{"a":[1]}')
+    fault = RESOLVE_OUT_OF_BOUNDS.format(0)
+    yield undoing("json", "[1]", "Remove", "/1", "null", answer=fault, after="[1]\nremove at /1")
     yield undoing(
-        "json", '{"a":1}', "Put", "/a/b", "[7]", answer=UNREACHABLE.format(2), after='{"a":1}\nput [7] at /a/b'
+        "json", '{"a":1}', "Put", "/a/b", "[7]", answer=RESOLVE_UNREACHABLE.format(2), after='{"a":1}\nput [7] at /a/b'
     )
     yield undoing("json", '{"a/b":1}', "Put", "/a~1b", "7", answer="done", after='{"a/b":7}')
     yield undoing("json", '{"a/b":1}', "Remove", "/a~1b", "null", answer="done", after="{}")
     yield undoing("toml", '{ "a/b" = 1 }', "Put", "/a~1b", "7", answer="done", after='{ "a/b" = 7 }')
     yield undoing(
-        "toml", "{ a = 1 }", "Remove", "/b", "1", answer=NOT_FOUND.format(0), after="{ a = 1 }\nremove at /b"
+        "toml", "{ a = 1 }", "Remove", "/b", "1", answer=RESOLVE_NOT_FOUND.format(0), after="{ a = 1 }\nremove at /b"
     )
 
 
 def undos_told():
-    """Of taking assignments back: more documents, and what is told of a refusal in a TOML one."""
+    """Undoing assignments: more documents, and the error in a TOML document."""
     rows = [
         ("json", "[1]", "/1", "7", "remove at /1", "[1,7]"),
         ("json", '{"a":{}}', "/a/~1~0/0", "7", "remove at /a/~1~0", '{"a":{"/~":[7]}}'),
@@ -760,34 +768,34 @@ def undos_told():
         yield undoing(kind, document, "assign_with_undo", pointer, value, answer=answer, after=after)
         yield undoing(kind, document, "undo", pointer, value, answer="done", after=document)
     one = "{ a = [1] }"
-    yield undoing("toml", one, "assign_with_undo", "/a/2", "2", answer=NO_ROOM.format(2), after=one)
-    yield undoing("toml", "[1]", "Remove", "/1", "1", answer=PAST_THE_END.format(0), after="[1]\nremove at /1")
+    yield undoing("toml", one, "assign_with_undo", "/a/2", "2", answer=ASSIGN_OUT_OF_BOUNDS.format(2), after=one)
+    yield undoing("toml", "[1]", "Remove", "/1", "1", answer=RESOLVE_OUT_OF_BOUNDS.format(0), after="[1]\nremove at /1")
     yield undoing(
-        "toml", "{ a = 1 }", "Put", "/b", "[7]", answer=NOT_FOUND.format(0), after="{ a = 1 }\nput [7] at /b"
+        "toml", "{ a = 1 }", "Put", "/b", "[7]", answer=RESOLVE_NOT_FOUND.format(0), after="{ a = 1 }\nput [7] at /b"
     )
 
 
 def patched(document, *operations, answer="done", after=None):
-    """A row of a patch, which leaves the document where it is refused."""
+    """A patch. If it fails, the document is unchanged."""
     lines = ("patch", document, *(line for operation in operations for line in operation))
-    return Row(lines, f"{answer}\n", f"{document if after is None else after}\n")
+    return Case(lines, f"{answer}\n", f"{document if after is None else after}\n")
 
 
 def failed(operation, cause):
-    """What a patch answers whose numbered operation is refused."""
+    """The result of a patch whose numbered operation fails."""
     return f"patch failed at operation {operation}: {cause}"
 
 
 def patches():
-    """Of patches, and of deletions that can be taken back."""
+    """Patches, and deletions that can be undone."""
     two = '{"a":[1,2]}'
     yield patched('{"a":1}', after='{"a":1}')
     yield patched(two, ("add", "/a/1", "9"), after='{"a":[1,9,2]}')
-    yield patched(two, ("add", "/a/3", "9"), answer=failed(0, NO_ROOM.format(2)))
-    yield patched("{}", ("add", "/a/b", "1"), answer=failed(0, NOT_FOUND.format(0)))
-    yield patched('{"a":5}', ("add", "/a/b", "1"), answer=failed(0, UNREACHABLE.format(2)))
+    yield patched(two, ("add", "/a/3", "9"), answer=failed(0, ASSIGN_OUT_OF_BOUNDS.format(2)))
+    yield patched("{}", ("add", "/a/b", "1"), answer=failed(0, RESOLVE_NOT_FOUND.format(0)))
+    yield patched('{"a":5}', ("add", "/a/b", "1"), answer=failed(0, RESOLVE_UNREACHABLE.format(2)))
     yield patched("[1,2]", ("move", "/0", "/1"), after="[2,1]")
-    yield patched("[1,2]", ("move", "/0", "/2"), answer=failed(0, NO_ROOM.format(0)))
+    yield patched("[1,2]", ("move", "/0", "/2"), answer=failed(0, ASSIGN_OUT_OF_BOUNDS.format(0)))
     yield patched("[1,3]", ("add", "/1", "2"), after="[1,2,3]")
     yield patched('{"a":1}', ("move", "/a", "/a/b"), answer=failed(0, "from is a proper prefix of path"))
     yield patched('{"a":1}', ("move", "/a", "/ab"), after='{"ab":1}')
@@ -796,19 +804,20 @@ def patches():
     yield patched('{"a":1}', ("test", "/a", '"1"'), answer=failed(0, "test failed"))
     yield patched('{"a":1}', ("test", "/a", "1.5"), answer=failed(0, "a float cannot be tested"))
     yield patched("{}", ("add", "/x", "1"), ("test", "/x", "2"), answer=failed(1, "test failed"))
-    yield patched("[1]", ("remove", "/-"), answer=failed(0, PAST_THE_END.format(0)))
+    yield patched("[1]", ("remove", "/-"), answer=failed(0, RESOLVE_OUT_OF_BOUNDS.format(0)))
     long = f"/{LONG}"
     for token, key in [("a", "a"), ("a~1b", "a/b"), (LONG, LONG), (ENCODED, DECODED)]:
         kept, patch = f'{{"{key}":[1]}}', [("add", f"/{token}/0", "0"), ("replace", f"/{token}/1", "[2]")]
         yield patched(kept, *patch, ("remove", f"/{token}/0"), after=f'{{"{key}":[[2]]}}')
         yield patched(kept, *patch, ("test", f"/{token}/1/0", "3"), answer=failed(2, "test failed"))
-        yield patched(kept, *patch, ("copy", f"/{token}", "/c"), ("move", f"/{token}", "/c/0"), after='{"c":[[0,[2]],0,[2]]}')
+        copied = [("copy", f"/{token}", "/c"), ("move", f"/{token}", "/c/0")]
+        yield patched(kept, *patch, *copied, after='{"c":[[0,[2]],0,[2]]}')
     yield patched("{}", ("add", long, "1"), ("remove", long), after="{}")
-    yield Row(("patch back", "[1,2,3]", "/1"), "add 2 at /1\n", "[1,3]\n")
-    yield Row(("patch back", '{"a/b":[1]}', "/a~1b"), "add [1] at /a~1b\n", "{}\n")
-    yield Row(("patch back", "{}", "/a"), "nothing\n", "{}\n")
+    yield Case(("patch back", "[1,2,3]", "/1"), "add 2 at /1\n", "[1,3]\n")
+    yield Case(("patch back", '{"a/b":[1]}', "/a~1b"), "add [1] at /a~1b\n", "{}\n")
+    yield Case(("patch back", "{}", "/a"), "nothing\n", "{}\n")
     for document, pointer in [("{}", "/x"), ("[1]", "/-"), ("[1]", "/1"), ("1", "/0")]:
-        yield Row(("patch back", document, pointer), "nothing\n", f"{document}\n")
+        yield Case(("patch back", document, pointer), "nothing\n", f"{document}\n")
     for document, pointer, value, left in [
         ("[1,2,3]", "/2", "3", "[1,2]"),
         ("[1]", "/0", "1", "[]"),
@@ -817,12 +826,12 @@ def patches():
         ("[1]", "", "[1]", "null"),
         ("null", "", "null", "null"),
     ]:
-        yield Row(("patch back", document, pointer), f"add {value} at {pointer}\n", f"{left}\n")
+        yield Case(("patch back", document, pointer), f"add {value} at {pointer}\n", f"{left}\n")
         yield patched(left, ("add", pointer, value), after=document)
 
 
 def applied():
-    """Of patches that are applied: first the examples of RFC 6902, appendix A, that succeed."""
+    """Patches that succeed: first the examples of RFC 6902, appendix A."""
     three, nested = '{"baz":"qux","foo":["a",2,"c"]}', '{"a":{"b":1}}'
     grass = '{"foo":["all","grass","cows","eat"]}'
     waldo = '{"foo":{"bar":"baz","waldo":"fred"},"qux":{"corge":"grault"}}'
@@ -859,7 +868,7 @@ def applied():
     added = [("add", "/x", "[]"), ("add", "/x/-", "1"), ("add", "/x/0", "0")]
     yield patched("{}", *added, ("move", "/x", "/y"), ("remove", "/y/1"), after='{"y":[0]}')
     unordered, ordered = '{"b":[1,2],"a":{"":{}}}', '{"a":{"":{}},"b":[1,2]}'
-    values = ["null", "true", "false", "0", "-7", str(MOST), str(-(2**63)), '"é"', "[]", "{}"]
+    values = ["null", "true", "false", "0", "-7", str(USIZE_MAX), str(-(2**63)), '"é"', "[]", "{}"]
     values += ['[[],[1,[null]],{"a":true}]', unordered]
     for value in values:
         after = f'{{"":{ordered if value == unordered else value}}}'
@@ -867,14 +876,14 @@ def applied():
 
 
 def refused():
-    """Of patches that are refused."""
+    """Patches that fail."""
     into_self, no_float = "from is a proper prefix of path", "a float cannot be tested"
     floats = ("test", "", '[{"a":[1.5]}]')
     rows = [
-        ('{"foo":"bar"}', [("add", "/baz/bat", '"qux"')], 0, NOT_FOUND.format(0)),
-        ('{"a":1}', [("copy", "/a", "/b"), ("move", "/b", "/c"), ("move", "/b", "/d")], 2, NOT_FOUND.format(0)),
-        ('{"a":1}', [("move", "/a", "/b/c")], 0, NOT_FOUND.format(0)),
-        ("[[1]]", [("copy", "/0", "/1/0")], 0, PAST_THE_END.format(0)),
+        ('{"foo":"bar"}', [("add", "/baz/bat", '"qux"')], 0, RESOLVE_NOT_FOUND.format(0)),
+        ('{"a":1}', [("copy", "/a", "/b"), ("move", "/b", "/c"), ("move", "/b", "/d")], 2, RESOLVE_NOT_FOUND.format(0)),
+        ('{"a":1}', [("move", "/a", "/b/c")], 0, RESOLVE_NOT_FOUND.format(0)),
+        ("[[1]]", [("copy", "/0", "/1/0")], 0, RESOLVE_OUT_OF_BOUNDS.format(0)),
         ("{}", [("move", "/a", "/a/b")], 0, into_self),
         ("[1]", [("test", "/0", "1"), ("move", "", "/0")], 1, into_self),
         ('{"a":1}', [("test", "/a", "1.0")], 0, no_float),
@@ -895,11 +904,11 @@ def refused():
 
 
 def session(kind, document, pointer, steps, after):
-    """Rows of a session on both kinds of pointer: the calls with their replies, and what is then left."""
+    """A session on a plain and on a tabled pointer: its calls with their replies, and the state after them."""
     calls, replies = zip(*steps)
     for pointers in KINDS:
         lines = ("session", kind, document, pointers, pointer, *calls)
-        yield Row(lines, "".join(f"{it}\n" for it in replies), f"{after}\n", calls=calls)
+        yield Case(lines, "".join(f"{it}\n" for it in replies), f"{after}\n", calls=calls)
 
 
 EVERY_CALL = [
@@ -912,15 +921,15 @@ EVERY_CALL = [
     ("clear", "done"),
     ("pop_back", "no token"),
     ("pop_front", "no token"),
-    ("replace 0 a", NO_POSITION.format(0, 0)),
-    ("parse foo", f"{NO_SLASH}: foo"),
+    ("replace 0 a", REPLACE_OUT_OF_BOUNDS.format(0, 0)),
+    ("parse foo", f"{PARSE_NO_SLASH}: foo"),
     ("parse /a/-", "done"),
     ("assign 5", "assigned"),
-    ("resolve", PAST_THE_END.format(2)),
-    ("write 6", PAST_THE_END.format(2)),
+    ("resolve", RESOLVE_OUT_OF_BOUNDS.format(2)),
+    ("write 6", RESOLVE_OUT_OF_BOUNDS.format(2)),
     ("push_back x", "done"),
     ("parse /a/x", "done"),
-    ("assign 7", NO_PLACE.format(2)),
+    ("assign 7", ASSIGN_BAD_INDEX.format(2)),
     ("parse /~0/~1", "done"),
     ("assign 8", "assigned"),
     ("resolve", "value 8"),
@@ -928,12 +937,12 @@ EVERY_CALL = [
 
 
 def sessions():
-    """Of sessions: the worked one, and one of every call on each kind of document."""
+    """Sessions: the one of the documentation, and one with every call on each kind of document."""
     worked = [
         ("push_back a/b", "done"),
         ("assign 1", "assigned for null"),
         ("delete", "deleted 1"),
-        ("resolve", NOT_FOUND.format(0)),
+        ("resolve", RESOLVE_NOT_FOUND.format(0)),
     ]
     yield from session("json", "null", "", worked, "/a~1b {}")
     yield from session("json", "null", "/x", [("clear", "done"), *worked], "/a~1b {}")
@@ -946,7 +955,7 @@ def sessions():
         ("resolve", "value 1"),
         ("pop_back", f"token {ENCODED}"),
         (f"append {MANY}", "done"),
-        ("resolve", NOT_FOUND.format(100_001)),
+        ("resolve", RESOLVE_NOT_FOUND.format(100_001)),
         ("clear", "done"),
         (f"push_front {LONG}", "done"),
         (f"replace 0 {DECODED}", f"token {LONG}"),
@@ -955,11 +964,11 @@ def sessions():
     ]
     yield from session("json", "{}", "", long, f' {{"{LONG}":{{"{DECODED}":1}}}}')
     goes_on = [
-        ("resolve", NOT_AN_INDEX.format(0)),
-        ("assign null", NO_PLACE.format(0)),
+        ("resolve", RESOLVE_BAD_INDEX.format(0)),
+        ("assign null", ASSIGN_BAD_INDEX.format(0)),
         ("delete", "not deleted"),
-        ("parse 0", f"{NO_SLASH}: 0"),
-        ("replace 1 0", NO_POSITION.format(1, 1)),
+        ("parse 0", f"{PARSE_NO_SLASH}: 0"),
+        ("replace 1 0", REPLACE_OUT_OF_BOUNDS.format(1, 1)),
         ("replace 0 0", "token a"),
         ("delete", "deleted 7"),
     ]
@@ -967,23 +976,23 @@ def sessions():
 
 
 def stepwise(kind, pointer, document, steps):
-    """Rows of sessions of one call each: the call, its reply, and what pointer and document are for the next."""
+    """Sessions of one call each: the call, its reply, and the pointer and document that the next one starts with."""
     for call, reply, next_pointer, next_document in steps:
         yield from session(kind, document, pointer, [(call, reply)], f"{next_pointer} {next_document}")
         pointer, document = next_pointer, next_document
 
 
 def single_calls():
-    """Of sessions of one call each, and of none."""
+    """Sessions of one call each, and of none."""
     worked = [
         ("push_back a/b", "done", "/a~1b", "null"),
         ("assign 1", "assigned for null", "/a~1b", '{"a/b":1}'),
         ("delete", "deleted 1", "/a~1b", "{}"),
-        ("resolve", NOT_FOUND.format(0), "/a~1b", "{}"),
+        ("resolve", RESOLVE_NOT_FOUND.format(0), "/a~1b", "{}"),
     ]
     yield from stepwise("json", "", "null", worked)
     for pointers in KINDS:
-        yield Row(("session", "json", "{}", pointers, "/a~1b"), "", "/a~1b {}\n")
+        yield Case(("session", "json", "{}", pointers, "/a~1b"), "", "/a~1b {}\n")
     for kind, two in [("json", '{"a":[1,2]}'), ("toml", "{ a = [1, 2] }")]:
         steps = [
             ("parse /a", "done", "/a", two),
@@ -1036,151 +1045,156 @@ def single_calls():
 
 
 def refused_calls():
-    """Of sessions of one call that is refused, and leaves pointer and document as they were."""
+    """Sessions of one call that fails and leaves pointer and document unchanged."""
     date, one = "{ d = 1979-05-27 }", "{ a = [1] }"
     rows = [
-        ("json", "/x", "[]", "parse foo", f"{NO_SLASH}: foo"),
-        ("json", "/a/", '{"a":{}}', "resolve", NOT_FOUND.format(2)),
-        ("json", "/a/", '{"a":{}}', "write null", NOT_FOUND.format(2)),
-        ("json", "/a/b", '{"a":1}', "resolve", UNREACHABLE.format(2)),
-        ("json", "/a/b", '{"a":1}', "write null", UNREACHABLE.format(2)),
-        ("json", "/a/b", '{"a":[1]}', "assign null", NO_PLACE.format(2)),
-        ("json", "/a/b", "[]", "replace 2 x", NO_POSITION.format(2, 2)),
-        ("json", "//", "[]", f"replace {MOST} x", NO_POSITION.format(MOST, 2)),
-        ("toml", "/d/x", date, "replace 2 x", NO_POSITION.format(2, 2)),
-        ("toml", "/d/x", date, "parse d", f"{NO_SLASH}: d"),
-        ("toml", "/a/2", one, "assign 1", NO_ROOM.format(2)),
-        ("toml", "/a/01", one, "assign 1", NO_PLACE.format(2)),
+        ("json", "/x", "[]", "parse foo", f"{PARSE_NO_SLASH}: foo"),
+        ("json", "/a/", '{"a":{}}', "resolve", RESOLVE_NOT_FOUND.format(2)),
+        ("json", "/a/", '{"a":{}}', "write null", RESOLVE_NOT_FOUND.format(2)),
+        ("json", "/a/b", '{"a":1}', "resolve", RESOLVE_UNREACHABLE.format(2)),
+        ("json", "/a/b", '{"a":1}', "write null", RESOLVE_UNREACHABLE.format(2)),
+        ("json", "/a/b", '{"a":[1]}', "assign null", ASSIGN_BAD_INDEX.format(2)),
+        ("json", "/a/b", "[]", "replace 2 x", REPLACE_OUT_OF_BOUNDS.format(2, 2)),
+        ("json", "//", "[]", f"replace {USIZE_MAX} x", REPLACE_OUT_OF_BOUNDS.format(USIZE_MAX, 2)),
+        ("toml", "/d/x", date, "replace 2 x", REPLACE_OUT_OF_BOUNDS.format(2, 2)),
+        ("toml", "/d/x", date, "parse d", f"{PARSE_NO_SLASH}: d"),
+        ("toml", "/a/2", one, "assign 1", ASSIGN_OUT_OF_BOUNDS.format(2)),
+        ("toml", "/a/01", one, "assign 1", ASSIGN_BAD_INDEX.format(2)),
     ]
     for kind, pointer, document, call, reply in rows:
         yield from stepwise(kind, pointer, document, [(call, reply, pointer, document)])
 
 
 def reports():
-    """Of the labels of errors, of what is drawn of them, and of what they display."""
+    """Error reports: labels, rendering and displayed text."""
     tilde = "'~' must be followed by '0' or '1'"
     rows = [
         (
             ("pointer", "foo"),
-            NO_SLASH,
+            PARSE_NO_SLASH,
             "must start with a slash ('/') at 0, length 0",
             "foo\n^ must start with a slash ('/')",
         ),
         (
             ("pointer", "/foo/invalid~tilde/invalid"),
-            MALFORMED.format(4),
+            PARSE_MALFORMED.format(4),
             f"{tilde} at 12, length 2",
             f"/foo/invalid~tilde/invalid\n            ^^ {tilde}",
         ),
         (
             ("token", "~"),
-            NO_TOKEN.format(1),
+            TOKEN_BAD_ENCODING.format(1),
             "incomplete escape sequence at 0, length 1",
             "~\n^ incomplete escape sequence",
         ),
-        (("token", "~~0"), NO_TOKEN.format(1), "must be 0 or 1 at 1, length 1", "~~0\n ^ must be 0 or 1"),
+        (("token", "~~0"), TOKEN_BAD_ENCODING.format(1), "must be 0 or 1 at 1, length 1", "~~0\n ^ must be 0 or 1"),
         (
             ("token", "foo/oops~bar"),
-            NO_TOKEN.format(3),
+            TOKEN_BAD_ENCODING.format(3),
             "invalid character at 3, length 1",
             "foo/oops~bar\n   ^ invalid character",
         ),
-        (("index", "00"), ZEROS, "leading zeros at 0, length 2", "00\n^^ leading zeros"),
-        (("index", "0a"), ZEROS, "leading zeros at 0, length 1", "0a\n^ leading zeros"),
-        (("index", "1a"), NO_INDEX, "invalid character(s) at 1, length 1", "1a\n ^ invalid character(s)"),
-        (("index on", "00", "12"), ZEROS, "leading zeros at 0, length 0", "12\n^ leading zeros"),
+        (("index", "00"), INDEX_LEADING_ZEROS, "leading zeros at 0, length 2", "00\n^^ leading zeros"),
+        (("index", "0a"), INDEX_LEADING_ZEROS, "leading zeros at 0, length 1", "0a\n^ leading zeros"),
+        (("index", "1a"), INDEX_BAD_CHARACTER, "invalid character(s) at 1, length 1", "1a\n ^ invalid character(s)"),
+        (("index on", "00", "12"), INDEX_LEADING_ZEROS, "leading zeros at 0, length 0", "12\n^ leading zeros"),
         (
             ("index on", "123x", "abcdé1"),
-            NO_INDEX,
+            INDEX_BAD_CHARACTER,
             "invalid character(s) at 3, length 3",
             "abcdé1\n   ^^ invalid character(s)",
         ),
         (
             ("index on", "123x", "1"),
-            NO_INDEX,
+            INDEX_BAD_CHARACTER,
             "invalid character(s) at 3, length 0",
             "1\n ^ invalid character(s)",
         ),
         (
             ("resolve", '{"foo":["bar"]}', "/foo/-"),
-            PAST_THE_END.format(4),
+            RESOLVE_OUT_OF_BOUNDS.format(4),
             "index 1 out of bounds (len: 1) at 5, length 1",
             "/foo/-\n     ^ index 1 out of bounds (len: 1)",
         ),
         (
             ("resolve", '{"a":{}}', "/a/"),
-            NOT_FOUND.format(2),
+            RESOLVE_NOT_FOUND.format(2),
             "not found in value at 2, length 0",
             "/a/\n  ^ not found in value",
         ),
-        (("resolve", "1", "/a~1b"), UNREACHABLE.format(0), "unreachable at 1, length 4", "/a~1b\n ^^^^ unreachable"),
+        (
+            ("resolve", "1", "/a~1b"),
+            RESOLVE_UNREACHABLE.format(0),
+            "unreachable at 1, length 4",
+            "/a~1b\n ^^^^ unreachable",
+        ),
         (
             ("resolve", "[]", "/x"),
-            NOT_AN_INDEX.format(0),
+            RESOLVE_BAD_INDEX.format(0),
             "not an array index at 1, length 1",
             "/x\n ^ not an array index",
         ),
         (
             ("assign", "[]", "/1"),
-            NO_ROOM.format(0),
+            ASSIGN_OUT_OF_BOUNDS.format(0),
             "1 is out of bounds (len: 0) at 1, length 1",
             "/1\n ^ 1 is out of bounds (len: 0)",
         ),
         (
             ("assign", "[]", "/x"),
-            NO_PLACE.format(0),
+            ASSIGN_BAD_INDEX.format(0),
             "expected array index or '-' at 1, length 1",
             "/x\n ^ expected array index or '-'",
         ),
         (
             ("index", "1" + LONG),
-            NO_INDEX,
+            INDEX_BAD_CHARACTER,
             "invalid character(s) at 1, length 100000",
             f"1{LONG}\n {'^' * 100_000} invalid character(s)",
         ),
         (
             ("pointer", MANY + "~"),
-            MALFORMED.format(99_998),
+            PARSE_MALFORMED.format(99_998),
             f"{tilde} at 100000, length 1",
             f"{MANY}~\n{' ' * 100_000}^ {tilde}",
         ),
     ]
     for about, text, label, drawn in rows:
-        yield free("report", "display", *about, answer=text)
-        yield free("report", "display failing", *about, answer="true")
-        yield takes("report", "labels", *about, answer=label)
-        yield takes("report", "clone", *about, answer=label)
-        yield takes("report", "render", *about, answer=drawn)
-    for text, fault in [("foo", NO_SLASH), ("/~", MALFORMED.format(0)), (LONG, NO_SLASH)]:
+        yield no_alloc("report", "display", *about, answer=text)
+        yield no_alloc("report", "display failing", *about, answer="true")
+        yield allocates("report", "labels", *about, answer=label)
+        yield allocates("report", "clone", *about, answer=label)
+        yield allocates("report", "render", *about, answer=drawn)
+    for text, fault in [("foo", PARSE_NO_SLASH), ("/~", PARSE_MALFORMED.format(0)), (LONG, PARSE_NO_SLASH)]:
         for call in ["diagnose", "diagnose_with"]:
-            yield free("report joined", call, text, answer=f"{fault}: {text}")
-            yield free("report joined", call, f"/{text.replace('~', 'x')}", answer=f"/{text.replace('~', 'x')}")
-        yield free("report joined", "decompose", text, answer=text)
-        yield free("report joined", "into_original", text, answer=fault)
-    yield free("report", "labels", "index", "", answer="none")
-    yield free("report", "labels", "index", "9" * 100_000, answer="none")
-    yield free("report", "labels", "index on", MOST + 1, "00", answer="none")
-    yield takes("report", "labels", "index", "+1", answer="invalid character(s) at 0, length 1")
-    yield takes("report", "labels", "token", "a~/b", answer="invalid character at 2, length 1")
-    yield takes("report", "labels", "token", "é~x", answer="must be 0 or 1 at 3, length 1")
+            yield no_alloc("report joined", call, text, answer=f"{fault}: {text}")
+            yield no_alloc("report joined", call, f"/{text.replace('~', 'x')}", answer=f"/{text.replace('~', 'x')}")
+        yield no_alloc("report joined", "decompose", text, answer=text)
+        yield no_alloc("report joined", "into_original", text, answer=fault)
+    yield no_alloc("report", "labels", "index", "", answer="none")
+    yield no_alloc("report", "labels", "index", "9" * 100_000, answer="none")
+    yield no_alloc("report", "labels", "index on", USIZE_MAX + 1, "00", answer="none")
+    yield allocates("report", "labels", "index", "+1", answer="invalid character(s) at 0, length 1")
+    yield allocates("report", "labels", "token", "a~/b", answer="invalid character at 2, length 1")
+    yield allocates("report", "labels", "token", "é~x", answer="must be 0 or 1 at 3, length 1")
     rows = [
         (("pointer", "/é~"), f"/é~\n  ^ {tilde}"),
         (("token", "é~x"), "é~x\n  ^ must be 0 or 1"),
         (("index", "007"), "007\n^^ leading zeros"),
         (("index", ""), ""),
-        (("index", MOST + 1), MOST + 1),
+        (("index", USIZE_MAX + 1), USIZE_MAX + 1),
         (("assign", "[0]", "/3"), "/3\n ^ 3 is out of bounds (len: 1)"),
     ]
     for about, drawn in rows:
-        yield takes("report", "render", *about, answer=drawn)
+        yield allocates("report", "render", *about, answer=drawn)
 
 
 def bounds():
-    """Of where an index lies in an array, and of the labels of errors whose fields no reading gave."""
+    """Index bounds, and reports of errors whose fields no parser returned."""
     rows = [
-        ("for_len", MOST, MOST, f"index {MOST} out of bounds (len: {MOST})"),
-        ("for_len_incl", MOST, MOST, MOST),
-        ("for_len_unchecked", MOST, 0, MOST),
+        ("for_len", USIZE_MAX, USIZE_MAX, f"index {USIZE_MAX} out of bounds (len: {USIZE_MAX})"),
+        ("for_len_incl", USIZE_MAX, USIZE_MAX, USIZE_MAX),
+        ("for_len_unchecked", USIZE_MAX, 0, USIZE_MAX),
         ("for_len", 0, 1, 0),
         ("for_len", 0, 0, "index 0 out of bounds (len: 0)"),
         ("for_len", 1, 1, "index 1 out of bounds (len: 1)"),
@@ -1188,81 +1202,81 @@ def bounds():
         ("for_len_incl", 1, 1, 1),
         ("for_len_incl", "-", 1, 1),
         ("for_len_incl", 2, 1, "index 2 out of bounds (len: 1)"),
-        ("for_len_incl", "-", MOST, MOST),
+        ("for_len_incl", "-", USIZE_MAX, USIZE_MAX),
         ("for_len_unchecked", "-", 30, 30),
         ("for_len_unchecked", "-", 34, 34),
         ("for_len_unchecked", 42, 30, 42),
         ("for_len_unchecked", 34, 40, 34),
     ]
     for call, index, length, answer in rows:
-        yield free("index", call, index, length, answer=answer)
+        yield no_alloc("index", call, index, length, answer=answer)
     lengths = [
-        (MOST, 1, "", 1),
-        (MOST, 0, "/~", 1),
+        (USIZE_MAX, 1, "", 1),
+        (USIZE_MAX, 0, "/~", 1),
         (0, 0, "/~", 2),
         (0, 0, "~", 1),
         (1, 1, "/a~", 1),
         (1, 1, "/a~0", 2),
     ]
     for offset, source, subject, length in lengths:
-        yield free("invalid_encoding_len", offset, source, subject, answer=length)
+        yield no_alloc("invalid_encoding_len", offset, source, subject, answer=length)
     none = [
-        ("pointer", MOST, 1, ""),
-        ("pointer", MOST, MOST, "/~"),
+        ("pointer", USIZE_MAX, 1, ""),
+        ("pointer", USIZE_MAX, USIZE_MAX, "/~"),
         ("tilde", 0, 0, ""),
-        ("resolve", 0, MOST, "/a"),
-        ("resolve", MOST, 0, "/a"),
+        ("resolve", 0, USIZE_MAX, "/a"),
+        ("resolve", USIZE_MAX, 0, "/a"),
     ]
     for kind, first, second, subject in none:
-        yield free("fields", "labels", kind, first, second, subject, answer="none")
+        yield no_alloc("fields", "labels", kind, first, second, subject, answer="none")
     labels = [
         ("pointer", 0, 0, "/~", "'~' must be followed by '0' or '1' at 0, length 2"),
         ("slash", 0, 0, "", "invalid character at 0, length 1"),
-        ("slash", MOST, 0, "", f"invalid character at {MOST}, length 1"),
+        ("slash", USIZE_MAX, 0, "", f"invalid character at {USIZE_MAX}, length 1"),
         ("tilde", 0, 0, "a", "must be 0 or 1 at 0, length 1"),
         ("tilde", 3, 0, "é~", "incomplete escape sequence at 2, length 1"),
-        ("tilde", MOST, 0, "", f"must be 0 or 1 at {MOST}, length 1"),
-        ("pointer", MOST, 0, "", f"'~' must be followed by '0' or '1' at {MOST}, length 1"),
-        ("resolve", 0, MOST - 1, "/a", f"not found in value at {MOST - 1}, length 1"),
+        ("tilde", USIZE_MAX, 0, "", f"must be 0 or 1 at {USIZE_MAX}, length 1"),
+        ("pointer", USIZE_MAX, 0, "", f"'~' must be followed by '0' or '1' at {USIZE_MAX}, length 1"),
+        ("resolve", 0, USIZE_MAX - 1, "/a", f"not found in value at {USIZE_MAX - 1}, length 1"),
     ]
     for kind, first, second, subject, label in labels:
-        yield takes("fields", "labels", kind, first, second, subject, answer=label)
+        yield allocates("fields", "labels", kind, first, second, subject, answer=label)
     drawings = [
         ("slash", 9, 0, "ab", "ab\n  ^ invalid character"),
-        ("slash", MOST, 0, "ab", "ab\n  ^ invalid character"),
+        ("slash", USIZE_MAX, 0, "ab", "ab\n  ^ invalid character"),
         ("tilde", 0, 0, "", ""),
         ("resolve", 1, 4, "/foo/bär/x", "/foo/bär/x\n     ^^^ not found in value"),
     ]
     for kind, first, second, subject, drawn in drawings:
-        yield takes("fields", "render", kind, first, second, subject, answer=drawn)
-    yield free("fields", "display", "slash", MOST, 0, "", answer=NO_TOKEN.format(MOST))
-    orders = [("index", "/1", "/2", "<"), ("index", "/-", f"/{MOST}", ">"), ("index", "/-", "/-", "=")]
+        yield allocates("fields", "render", kind, first, second, subject, answer=drawn)
+    yield no_alloc("fields", "display", "slash", USIZE_MAX, 0, "", answer=TOKEN_BAD_ENCODING.format(USIZE_MAX))
+    orders = [("index", "/1", "/2", "<"), ("index", "/-", f"/{USIZE_MAX}", ">"), ("index", "/-", "/-", "=")]
     orders += [("component", "", "/", "<"), ("component", "/a~1b", "/a~0", ">"), ("component", MANY, MANY, "=")]
     for kind, one, other, order in orders:
-        yield free("order", kind, one, other, answer=order)
-    yield free("known", "from_static", answer=8)
-    yield free("known", "new_unchecked", answer=5)
-    yield free("known", "complete_offset", answer=12)
+        yield no_alloc("order", kind, one, other, answer=order)
+    yield no_alloc("known", "from_static", answer=8)
+    yield no_alloc("known", "new_unchecked", answer=5)
+    yield no_alloc("known", "complete_offset", answer=12)
 
 
 def shown():
-    """Of what is displayed, also to writers that fail at each of their calls in turn."""
+    """Displayed texts, also with writers that fail at each of their calls in turn."""
     for kind in ["pointer", *KINDS]:
-        yield free("show failing", kind, "/a~1b", answer="true")
+        yield no_alloc("show failing", kind, "/a~1b", answer="true")
     invalid = ["InvalidEncoding::Tilde", "InvalidEncoding::Slash", "InvalidCharacterError"]
     for error in [*invalid, "OutOfBoundsError", "ReplaceError", "Fault::Refused", "Fault::Memory"]:
-        yield free("show failing error", error, answer="true")
+        yield no_alloc("show failing error", error, answer="true")
     for kind, text in [("token", "a~1b"), ("token", "abc"), ("index", "-"), ("index", "12")]:
-        yield free("show failing", kind, text, answer="true")
+        yield no_alloc("show failing", kind, text, answer="true")
     for kind in ["pointer", *KINDS]:
         for text in ["", "/a~1b", MANY, "/" + ENCODED]:
-            yield free("show", kind, text, answer=text)
+            yield no_alloc("show", kind, text, answer=text)
     tokens_shown = [("a~1b", "a/b"), ("", ""), ("é", "é"), ("~01", "~1"), ("~0bar", "~bar")]
     tokens_shown += [("~1foo~1~0bar", "/foo/~bar"), (ENCODED, DECODED), (LONG, LONG)]
     for token, text in tokens_shown:
-        yield free("show", "token", token, answer=text)
-    for text in ["-", "0", "10", str(MOST)]:
-        yield free("show", "index", text, answer=text)
+        yield no_alloc("show", "token", token, answer=text)
+    for text in ["-", "0", "10", str(USIZE_MAX)]:
+        yield no_alloc("show", "index", text, answer=text)
 
 
 TABLES = [
@@ -1270,4 +1284,4 @@ TABLES = [
     found, assigned, in_tables, labelled, undos, undos_told, patches, applied, refused,
     sessions, single_calls, refused_calls, reports, bounds, shown,
 ]
-ROWS = [row for table in TABLES for row in table()]
+CASES = [case for table in TABLES for case in table()]
