@@ -1,4 +1,4 @@
-//! Why assigning is refused, and assigning through the bound.
+//! Errors of `assign`, and `assign` through the bound.
 use jsonptr::assign::Error;
 use jsonptr::index::{IntegerCause, OutOfBoundsError, ParseIndexError};
 use jsonptr::{Assign, Fault, Pointer};
@@ -6,7 +6,7 @@ use serde_json::Value;
 use std::alloc::{AllocError, Global};
 use std::test::Fail;
 
-/// Assigns the value of a text at a pointer, and gives back what stood there, or the refusal.
+/// Assigns the value of a text at a pointer. Returns the replaced value, or the error.
 fn assigned(
     alloc: Global,
     root: &mut Value,
@@ -21,12 +21,12 @@ fn assigned(
     }
 }
 
-/// Whether this is the text of a value.
+/// Whether a value has this text.
 fn is_text(alloc: Global, value: &Value, want: &str) -> Result<bool, AllocError> {
     Ok(value.to_string(alloc)?.as_str() == want)
 }
 
-/// The refusal of a value at a pointer in a document, after which the document has its old text.
+/// The error of an assignment that leaves the document's text unchanged.
 fn refusal(alloc: Global, document: &str, pointer: &str) -> Result<Error, Fail> {
     let mut root = Value::from_str(alloc, document)?;
     let refused = assigned(alloc, &mut root, pointer, "true")?.err();
@@ -36,7 +36,7 @@ fn refusal(alloc: Global, document: &str, pointer: &str) -> Result<Error, Fail> 
     Ok(refused.ok_or("a refusal")?)
 }
 
-/// Whether a value is refused at a pointer in a document with this error.
+/// Whether assigning at a pointer in a document fails with this error.
 fn is_refusal(alloc: Global, document: &str, pointer: &str, want: Error) -> Result<bool, Fail> {
     Ok(refusal(alloc, document, pointer)? == want)
 }
@@ -140,7 +140,7 @@ fn errors_tell_their_case(rt: HostRuntime) -> Result<(), Fail> {
     Ok(())
 }
 
-/// Whether a value is taken at a pointer, through the bound and then again through the pointer.
+/// Whether a value can be assigned through the bound, and then through the pointer.
 fn takes<D>(
     document: &mut D,
     alloc: Global,
@@ -156,7 +156,7 @@ where
         && pointer.assign(alloc, document, second).is_ok()
 }
 
-/// What a document becomes where values are assigned through the bound, as text, and whether both are taken.
+/// The text of a document after two assignments through the bound, and whether both succeed.
 fn through_the_bound(alloc: Global, pointer: &str) -> Result<(bool, String), Fail> {
     let pointer = Pointer::parse(pointer)?;
     let mut root = Value::from_str(alloc, r#"{"a":[1]}"#)?;

@@ -1,10 +1,10 @@
-//! Deleting through the bound.
+//! `delete` through the bound.
 use jsonptr::{Delete, Pointer};
 use serde_json::Value;
 use std::alloc::Global;
 use std::test::Fail;
 
-/// Whether a pointer takes something out of a document of any kind, and then, called anew, nothing.
+/// Whether deleting at a pointer succeeds once and then finds nothing, in any kind of document.
 fn goes_once<D: Delete>(document: &mut D, alloc: Global, pointer: &str) -> Result<bool, Fail> {
     let pointer = Pointer::parse(pointer)?;
     let first = document.delete(alloc, pointer)?.is_some();

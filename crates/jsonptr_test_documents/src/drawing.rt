@@ -1,4 +1,4 @@
-//! The README's example of reports that are drawn below what they speak of, line for line.
+//! The rendered reports of the README, line for line.
 use jsonptr::diagnostic::Diagnostic;
 use jsonptr::{Fault, Pointer, PointerBuf};
 use serde_json::json;

@@ -1,4 +1,4 @@
-//! The examples that the documentation of resolving, assigning and deleting gives, line for line.
+//! The examples in the documentation of resolving, assigning and deleting, line for line.
 mod finding;
 mod removing;
 mod tour;

@@ -1,4 +1,4 @@
-//! Labels of the errors of resolving and of assigning, on pointers that did not give them.
+//! Labels of resolve and assign errors on pointers that did not cause them.
 use jsonptr::PointerBuf;
 use jsonptr::assign::AssignError;
 use jsonptr::diagnostic::{Diagnostic, Label};
@@ -7,7 +7,7 @@ use jsonptr::resolve::ResolveError;
 use std::alloc::{AllocError, Global};
 use std::test::Fail;
 
-/// The words, the place and the length of a label.
+/// The text, the offset and the length of a label.
 type Span = (&'static str, usize, usize);
 
 /// The labels of an error on a subject, through the bound.
@@ -19,12 +19,12 @@ fn labels_of<E: Diagnostic<Subject = PointerBuf>>(
     error.labels(alloc, subject)
 }
 
-/// The address of an error's page, through the bound.
+/// The URL of an error, through the bound.
 fn address_of<E: Diagnostic>() -> &'static str {
     E::url()
 }
 
-/// Whether these are the words, the place and the length of the only label.
+/// Whether there is only one label, with this text, offset and length.
 fn is_label(labels: Option<Vec<Label>>, (words, offset, len): Span) -> bool {
     match labels {
         Some(labels) => match labels.as_slice() {
@@ -35,7 +35,7 @@ fn is_label(labels: Option<Vec<Label>>, (words, offset, len): Span) -> bool {
     }
 }
 
-/// Whether the label of an error on the pointer of a text has these words, this place and this length.
+/// Whether an error's label on the pointer of a text has this text, offset and length.
 fn is_labelled<E: Diagnostic<Subject = PointerBuf>>(
     alloc: Global,
     error: &E,
@@ -46,8 +46,8 @@ fn is_labelled<E: Diagnostic<Subject = PointerBuf>>(
     Ok(is_label(labels_of(alloc, error, &subject)?, want))
 }
 
-/// Whether the label of what is past an array has the place and the length on the pointer of a text, where the
-/// error tells of this position and offset.
+/// Whether the label of an out-of-bounds error with this position and offset has this offset and length on the
+/// pointer of a text.
 fn is_at(
     alloc: Global,
     text: &str,
@@ -81,7 +81,7 @@ fn labels_on_other_pointers(rt: HostRuntime) -> Result<(), Fail> {
     Ok(())
 }
 
-/// Whether errors that tell of this position and offset have no label on the pointer of a text.
+/// Whether errors with this position and offset have no label on the pointer of a text.
 fn are_nowhere(alloc: Global, text: &str, position: usize, offset: usize) -> Result<bool, Fail> {
     let unreachable = ResolveError::Unreachable { position, offset };
     let no_index = AssignError::FailedToParseIndex {

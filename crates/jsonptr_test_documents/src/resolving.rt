@@ -1,4 +1,4 @@
-//! Why pointers name nothing, and finding a value through the bound.
+//! Errors of `resolve`, and `resolve` through the bound.
 use jsonptr::index::{OutOfBoundsError, ParseIndexError};
 use jsonptr::resolve::Error;
 use jsonptr::{Fault, Pointer, Resolve, ResolveMut};
@@ -10,7 +10,7 @@ use std::test::Fail;
 const EXAMPLE: &str =
     r#"{"foo":["bar","baz"],"":0,"a/b":1,"c%d":2,"e^f":3,"g|h":4,"i\\j":5,"k\"l":6," ":7,"m~n":8}"#;
 
-/// The refusal of a pointer at a document, both given by their text.
+/// The error of resolving a pointer in a document, both given as text.
 fn refusal(alloc: Global, document: &str, pointer: &str) -> Result<Option<Error>, Fail> {
     let document = Value::from_str(alloc, document)?;
     match Pointer::parse(pointer)?.resolve(alloc, &document) {
@@ -20,7 +20,7 @@ fn refusal(alloc: Global, document: &str, pointer: &str) -> Result<Option<Error>
     }
 }
 
-/// Writes `true` where a pointer leads in a document, and gives the refusal back if it leads nowhere.
+/// Writes `true` at a pointer in a document, or returns the error of `resolve_mut`.
 fn written(alloc: Global, root: &mut Value, pointer: &str) -> Result<Option<Error>, Fail> {
     match Pointer::parse(pointer)?.resolve_mut(alloc, root) {
         Ok(place) => {
@@ -32,7 +32,7 @@ fn written(alloc: Global, root: &mut Value, pointer: &str) -> Result<Option<Erro
     }
 }
 
-/// Whether a pointer names nothing in a document for this reason, and leads to no place in it for the same.
+/// Whether `resolve` and `resolve_mut` fail with this error.
 fn is_refusal(alloc: Global, document: &str, pointer: &str, want: Error) -> Result<bool, Fail> {
     let mut root = Value::from_str(alloc, document)?;
     let found = refusal(alloc, document, pointer)?.ok_or("a refusal")?;
@@ -89,7 +89,7 @@ fn refusals(rt: HostRuntime) -> Result<(), Fail> {
     Ok(())
 }
 
-/// Whether a document of any kind has what the pointer names.
+/// Whether any kind of document has a value at the pointer.
 fn has<R: Resolve>(document: &R, alloc: Global, pointer: Pointer<'_>) -> bool
 where
     R::Error: Drop,
@@ -134,7 +134,7 @@ fn errors_tell_their_case(rt: HostRuntime) -> Result<(), Fail> {
     Ok(())
 }
 
-/// Whether a pointer leads to a value to be written to, through the bound.
+/// Whether `resolve_mut` finds a value, through the bound.
 fn leads<D>(document: &mut D, alloc: Global, pointer: Pointer<'_>) -> bool
 where
     D: ResolveMut,

@@ -1,4 +1,4 @@
-//! Of TOML documents: each call once through the bound, and each refusal.
+//! TOML documents: each call once through the bound, and each error.
 use jsonptr::index::{IntegerCause, OutOfBoundsError, ParseIndexError};
 use jsonptr::{Assign, Delete, Fault, Pointer, Resolve, ResolveMut, assign, resolve};
 use std::alloc::Global;
@@ -6,17 +6,17 @@ use std::mem;
 use std::test::Fail;
 use toml::Value;
 
-/// The value that a text is.
+/// Parses a value.
 fn value(alloc: Global, text: &str) -> Result<Value, Fail> {
     Ok(Value::from_str(alloc, text).ok().ok_or("a value")?)
 }
 
-/// Whether a value is that of a text.
+/// Whether a value equals the one that a text parses to.
 fn is_value(alloc: Global, there: &Value, text: &str) -> Result<bool, Fail> {
     Ok(*there == value(alloc, text)?)
 }
 
-/// What a document of any kind has at a pointer, as a copy.
+/// A copy of the value at a pointer, in any kind of document.
 fn found<R: Resolve<Value = Value, Error = resolve::Error>>(
     document: &R,
     alloc: Global,
@@ -29,7 +29,7 @@ fn found<R: Resolve<Value = Value, Error = resolve::Error>>(
     }
 }
 
-/// Writes a value where a pointer leads in a document of any kind, and gives back what stood there.
+/// Replaces the value at a pointer in any kind of document, and returns the old one.
 fn swapped<R: ResolveMut<Value = Value, Error = resolve::Error>>(
     document: &mut R,
     alloc: Global,
@@ -43,7 +43,7 @@ fn swapped<R: ResolveMut<Value = Value, Error = resolve::Error>>(
     }
 }
 
-/// Assigns a value in a document of any kind, and gives back what stood there.
+/// Assigns a value in any kind of document, and returns the replaced value.
 fn assigned<A: Assign<Value = Value, Error = assign::Error>>(
     document: &mut A,
     alloc: Global,
@@ -57,7 +57,7 @@ fn assigned<A: Assign<Value = Value, Error = assign::Error>>(
     }
 }
 
-/// Takes out what a pointer names in a document of any kind.
+/// Deletes the value at a pointer in any kind of document.
 fn taken<D: Delete<Value = Value>>(
     document: &mut D,
     alloc: Global,
@@ -66,13 +66,13 @@ fn taken<D: Delete<Value = Value>>(
     Ok(document.delete(alloc, Pointer::parse(pointer)?)?)
 }
 
-/// Takes the first out of an array of two, and says whether it is given back and the array closes up.
+/// Deletes the first of two elements. Whether it is returned and the other one moves up.
 fn closes_up(alloc: Global, root: &mut Value) -> Result<bool, Fail> {
     let first = taken(root, alloc, "/a/0")?.ok_or("the first")?;
     Ok(first.as_integer() == Some(1) && is_value(alloc, root, "{ a = [2] }")?)
 }
 
-/// Assigns the first of another array, and says whether the document grows by it.
+/// Assigns the first element of a missing array. Whether the document is expanded.
 fn grows(alloc: Global, root: &mut Value) -> Result<bool, Fail> {
     let three = assigned(root, alloc, "/b/-", Value::Integer(3))?.ok();
     let fresh = three.ok_or("assigned")?.is_none();
@@ -101,8 +101,8 @@ fn finds_through_the_bound(rt: HostRuntime) -> Result<(), Fail> {
     Ok(())
 }
 
-/// Whether a value is written nowhere for this reason, and nothing is taken out, where a pointer names nothing in
-/// a document; both leave it as it was, which its text says.
+/// Whether `resolve_mut` fails with this error at a pointer in a document, `delete` finds nothing, and both leave
+/// the document's text unchanged.
 fn stays(
     alloc: Global,
     root: &mut Value,
@@ -116,7 +116,7 @@ fn stays(
     Ok(refused && nothing && is_value(alloc, root, text)?)
 }
 
-/// Whether a pointer names nothing in a document for this reason, after which the document is as it was.
+/// Whether resolving a pointer fails with this error and leaves the document unchanged.
 fn is_refusal(
     alloc: Global,
     text: &str,
@@ -177,7 +177,7 @@ fn names_nothing(rt: HostRuntime) -> Result<(), Fail> {
     Ok(())
 }
 
-/// Writes in an array through what is lent, and says whether the old element is given back and the new one stands.
+/// Replaces an element through a mutable borrow. Whether the old one is returned and the new one is there.
 fn swaps_an_element(alloc: Global, root: &mut Value) -> Result<bool, Fail> {
     let old = swapped(root, alloc, "/a~1b/1", Value::Boolean(true))?.ok();
     let two = old.ok_or("lent")?.as_integer();
@@ -191,7 +191,7 @@ fn writes_through_the_bound(rt: HostRuntime) -> Result<(), Fail> {
     Ok(())
 }
 
-/// Why a value cannot be assigned in a document, which is then as it was.
+/// The error of an assignment that leaves the document unchanged.
 fn no_place(alloc: Global, text: &str, pointer: &str) -> Result<assign::Error, Fail> {
     let mut root = value(alloc, text)?;
     let refused = assigned(&mut root, alloc, pointer, Value::Boolean(true))?.err();

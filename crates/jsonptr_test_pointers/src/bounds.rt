@@ -1,4 +1,4 @@
-//! Calls of what the crates implement, each through the trait's bound.
+//! Helpers that call each trait method through its bound.
 ghost use Rattle.std.specs.Iterator.{IsFinite};
 
 use jsonptr::Token;
@@ -7,7 +7,7 @@ use std::fmt::Display;
 use std::hash::{DefaultHasher, Hash, Hasher};
 use std::test::Fail;
 
-/// What a value displays.
+/// The displayed text of a value.
 pub fn shown<D: Display>(rt: &HostRuntime, value: &D) -> Result<String, Fail> {
     Ok(value.to_string(rt.alloc())?)
 }
@@ -19,7 +19,7 @@ pub fn next_of<I: Iterator>(items: &mut I) -> Option<I::Item>
     items.next()
 }
 
-/// Whether what a value gives by a `for` are the tokens with these encoded texts.
+/// Whether a `for` over a value yields the tokens with these encoded texts.
 pub fn gives<'a, P>(tokens: P, want: &[&str]) -> bool
 where
     P: IntoIterator<Item = Token<'a>>,

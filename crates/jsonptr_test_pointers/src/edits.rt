@@ -1,4 +1,4 @@
-//! Owned pointers: calls through the bounds that they meet, the fields of refusals, and what no row shows.
+//! Owned pointers: calls through their bounds, and every field of their errors.
 use crate::bounds::{comes_before, gives, hash_of, same, shown};
 use jsonptr::diagnostic::{Diagnostic, Label};
 use jsonptr::{
@@ -7,7 +7,7 @@ use jsonptr::{
 use std::alloc::{AllocError, Global};
 use std::test::Fail;
 
-/// The pointer of a text that is one.
+/// Parses an owned pointer.
 fn buf(rt: &HostRuntime, text: &str) -> Result<PointerBuf, Fail> {
     Ok(Pointer::parse(text)?.to_buf(rt.alloc())?)
 }
@@ -31,7 +31,7 @@ fn pointers_of_numbers(rt: HostRuntime) -> Result<(), Fail> {
     Ok(())
 }
 
-/// Whether `append` joins two texts to this one, which it gives and leaves, and `clear` empties it.
+/// Whether `append` joins two texts to this one, and `clear` empties the pointer.
 fn is_appended(rt: &HostRuntime, text: &str, other: &str, want: &str) -> Result<bool, Fail> {
     let mut pointer = buf(rt, text)?;
     let gives = pointer.append(Pointer::parse(other)?)?.as_ptr().as_str() == want;
@@ -121,7 +121,7 @@ fn report_of(rt: &HostRuntime, text: &str) -> Result<RichParseError, Fail> {
     }
 }
 
-/// Whether a report says the same of the same text as `Pointer::parse`, and gives both back.
+/// Whether a report has the error of `Pointer::parse` and the text, and returns both.
 fn is_handed_back(rt: &HostRuntime, text: &str) -> Result<bool, Fail> {
     let report = report_of(rt, text)?;
     let fault = match Pointer::parse(text) {
@@ -135,7 +135,7 @@ fn is_handed_back(rt: &HostRuntime, text: &str) -> Result<bool, Fail> {
     Ok(said && lent && kept && error == fault && subject.as_str() == text)
 }
 
-/// Whether `from_text` and `try_from` refuse a text as `Pointer::parse` does.
+/// Whether `from_text` and `try_from` fail with the error of `Pointer::parse`.
 fn is_refused(rt: &HostRuntime, text: &str) -> Result<bool, Fail> {
     let read = match PointerBuf::from_text(rt.alloc(), text) {
         Err(Fault::Refused(fault)) => Pointer::parse(text) == Err(fault),
@@ -156,7 +156,7 @@ fn refusals(rt: HostRuntime) -> Result<(), Fail> {
     Ok(())
 }
 
-/// The address of an error's page and the labels on a subject, through the bound.
+/// The URL of an error and its labels on a subject, through the bound.
 fn described<E: Diagnostic>(
     alloc: Global,
     error: &E,
@@ -165,7 +165,7 @@ fn described<E: Diagnostic>(
     Ok((E::url(), error.labels(alloc, subject)?))
 }
 
-/// Whether the error puts exactly one label on the subject, and it says this.
+/// Whether the error has exactly one label on the subject, with this text.
 fn is_labelled(
     rt: &HostRuntime,
     error: &ParseError,
@@ -188,7 +188,7 @@ const SLASH: &str = "must start with a slash ('/')";
 
 const TILDE: &str = "'~' must be followed by '0' or '1'";
 
-/// The fault of a tilde at an offset within the token that stands at an offset of the text.
+/// The error of a tilde: the offset of its token, and its offset in that token.
 fn tilde_at(offset: usize, within: usize) -> ParseError {
     ParseError::InvalidEncoding {
         offset,

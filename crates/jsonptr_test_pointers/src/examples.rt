@@ -1,4 +1,4 @@
-//! The examples that the documentation of pointers gives, line for line.
+//! The examples in the documentation of pointers, line for line.
 mod bufs;
 mod cuts;
 mod pointers;

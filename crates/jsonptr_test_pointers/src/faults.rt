@@ -1,11 +1,11 @@
-//! Calls that can be refused and can also run out of memory.
+//! Calls that can return an error and can run out of memory.
 use crate::bounds::shown;
 use jsonptr::{Fault, ParseError, PointerBuf};
 use std::alloc::AllocError;
 use std::error::Error;
 use std::test::Fail;
 
-/// Refuses a number above 9, and has no memory for 0.
+/// Fails for a number above 9, and runs out of memory for 0.
 fn refused_or_full(n: u8) -> Result<(), Fault<u8>> {
     if n > 9 {
         return Err(Fault::Refused(n));
@@ -23,7 +23,7 @@ fn both_faults(rt: HostRuntime) {
     assert!(rt; refused_or_full(1).is_ok());
 }
 
-/// What an error displays, through the bound.
+/// The displayed text of an error, through the bound.
 fn told<E: Error>(rt: &HostRuntime, error: &E) -> Result<String, Fail> {
     shown(rt, error)
 }

@@ -1,10 +1,10 @@
-//! Parts of a pointer: between pairs of bounds, component by component, and through the bounds that they meet.
+//! Parts of a pointer: by pairs of bounds, by component, and through their bounds.
 use crate::bounds::{comes_before, gives, hash_of, made, made_from, next_of, same};
 use jsonptr::{Component, Components, Pointer};
 use std::ops::Bound;
 use std::test::Fail;
 
-/// The text of a pointer, where there is one.
+/// The text of a pointer, if there is one.
 fn text_of<'a>(pointer: Option<Pointer<'a>>) -> Option<&'a str> {
     match pointer {
         Some(pointer) => Some(pointer.as_str()),
@@ -54,7 +54,7 @@ fn components_in_order(rt: HostRuntime) -> Result<(), Fail> {
     Ok(())
 }
 
-/// Whether a component is a token, after the root and before another component, which it is not equal to.
+/// Whether a component is a token, and compares above the root and below another component.
 fn is_between(component: &Component<'_>, other: &Component<'_>) -> bool {
     matches!(component, Component::Token(_))
         && Component::Root < *component

@@ -1,4 +1,4 @@
-//! The examples that the documentation of tokens, indices, faults and reports gives, line for line.
+//! The examples in the documentation of tokens, indices, errors and reports, line for line.
 mod faults;
 mod marks;
 mod places;

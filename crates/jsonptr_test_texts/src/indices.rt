@@ -1,4 +1,4 @@
-//! Why texts are no indices, with all fields, the order of indices, and what reads as one through the bounds.
+//! Index errors with every field, the order of indices, and parsing through the bounds.
 use jsonptr::Token;
 use jsonptr::index::{Index, IntegerCause, ParseIndexError};
 use std::alloc::{AllocError, Global};
@@ -6,17 +6,17 @@ use std::borrow::CowStr;
 use std::str::FromStr;
 use std::test::Fail;
 
-/// Why a text is no index, in plain values.
+/// The error of a text that is not an index, in plain values.
 #[derive(Clone, Copy, Debug, PartialEq, Eq)]
 enum Refusal {
     Empty,
     Overflow,
     LeadingZeros,
-    /// The offset of the first character that is no digit.
+    /// The offset of the first character that is not a digit.
     Character(usize),
 }
 
-/// The same answer in plain values.
+/// Converts a result to plain values.
 fn told(answer: Result<Index, ParseIndexError>) -> Result<Index, Refusal> {
     match answer {
         Ok(index) => Ok(index),
@@ -27,7 +27,7 @@ fn told(answer: Result<Index, ParseIndexError>) -> Result<Index, Refusal> {
     }
 }
 
-/// Whether a text reads so, by itself and as a token's.
+/// Whether a text parses to this result, by itself and as a token.
 fn is_read(text: &str, want: Result<Index, Refusal>) -> Result<bool, Fail> {
     let token = Token::from_encoded(CowStr::Borrowed(text))?;
     Ok(told(text.parse::<Index>()) == want && told(token.to_index()) == want)
@@ -45,7 +45,7 @@ fn readings(rt: HostRuntime) -> Result<(), Fail> {
     Ok(())
 }
 
-/// Whether a copy of the refusal of a text says so, too.
+/// Whether a clone of the error of a text is equal to it.
 fn is_copied(text: &str, want: Refusal) -> Result<bool, Fail> {
     match text.parse::<Index>() {
         Ok(_) => Ok(false),
@@ -81,22 +81,22 @@ fn order(rt: HostRuntime) {
     assert!(rt; Index::Num(usize::MAX) < Index::Next);
 }
 
-/// What a text parses as, through the bound.
+/// Parses a text through the bound.
 fn parsed<T: FromStr>(text: &str) -> Result<T, T::Err> {
     T::from_str(text)
 }
 
-/// What a value reads as, through the bound.
+/// Converts a value with `try_from`, through the bound.
 fn read<S, T: TryFrom<S>>(value: S) -> Result<T, T::Error> {
     T::try_from(value)
 }
 
-/// What a value becomes, through the bound.
+/// Converts a value with `from`, through the bound.
 fn made<S, T: From<S>>(value: S) -> T {
     T::from(value)
 }
 
-/// Whether a text reads so through the bounds, lent, and as a string that is lent or handed over.
+/// Whether a text parses to this result through the bounds: as `&str`, `&String` and `String`.
 fn is_read_as(alloc: Global, text: &str, want: Result<Index, Refusal>) -> Result<bool, AllocError> {
     let string = String::from_str(alloc, text)?;
     Ok(
@@ -107,7 +107,7 @@ fn is_read_as(alloc: Global, text: &str, want: Result<Index, Refusal>) -> Result
     )
 }
 
-/// Whether the token with this encoded text reads so through the bound, lent and handed over.
+/// Whether a token parses to this result through the bound, borrowed and owned.
 fn token_is_read_as(text: &str, want: Result<Index, Refusal>) -> Result<bool, Fail> {
     let token = Token::from_encoded(CowStr::Borrowed(text))?;
     Ok(told(read::<&Token, Index>(&token)) == want && told(read::<Token, Index>(token)) == want)

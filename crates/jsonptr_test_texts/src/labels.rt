@@ -1,4 +1,4 @@
-//! Texts, addresses and labels of the errors of tokens and indices, on any subject, and reports of results.
+//! Texts, URLs and labels of token and index errors on any subject, and reports of results.
 use crate::reports::{address_of, are_equal, debug_of, is_label, labels_of, reported, text_of};
 use jsonptr::diagnostic::Diagnostic;
 use jsonptr::index::{Index, OutOfBoundsError, ParseIndexError, StringOrToken};
@@ -9,8 +9,8 @@ use std::error::Error;
 use std::fmt;
 use std::test::Fail;
 
-/// Whether the only label of a report, through the bound, has these words, this place and this length; with no
-/// words, whether it has no label.
+/// Whether the only label of a report, through the bound, has this text, offset and length. With an empty text,
+/// whether there is no label.
 fn is_labelled<E: Diagnostic>(
     alloc: Global,
     report: Report<E>,
@@ -22,7 +22,7 @@ fn is_labelled<E: Diagnostic>(
     Ok(is_label(labels, words, offset, len))
 }
 
-/// What an error displays, through the bound.
+/// The displayed text of an error, through the bound.
 fn shown<E: Error + fmt::Display>(alloc: Global, error: &E) -> Result<String, AllocError> {
     error.to_string(alloc)
 }
@@ -114,7 +114,7 @@ fn a_pointer_without_report(rt: HostRuntime) -> Result<(), Fail> {
     Ok(())
 }
 
-/// The result of a text that is read as an index, with a subject that is made for an error alone.
+/// Parses an index, with a subject that is made only for an error.
 fn diagnosed_index(
     alloc: Global,
     text: &str,
@@ -133,7 +133,7 @@ fn a_fault_on_a_subject_made_for_it(rt: HostRuntime) -> Result<(), Fail> {
     Ok(())
 }
 
-/// Whether the report of a text that is no index displays this, and is shown to a programmer so.
+/// Whether the report on a text that is not an index has these `Display` and `Debug` texts.
 fn report_tells(alloc: Global, text: &str, display: &str, debug: &str) -> Result<bool, Fail> {
     let parsed = diagnosed_index(alloc, text, text)?;
     let report = parsed.err().ok_or("a report")?;

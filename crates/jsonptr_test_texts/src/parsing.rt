@@ -1,7 +1,7 @@
 use jsonptr::Pointer;
 use std::test::Fail;
 
-/// Whether the fault of a text is one of encoding, with these offsets and this length.
+/// Whether parsing fails with an encoding error that has these offsets and this length.
 fn is_placed(
     text: &str,
     pointer: usize,

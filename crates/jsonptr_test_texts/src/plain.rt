@@ -1,11 +1,11 @@
-//! What parsing, decoding and encoding mean, as the byte loops that one would first write, run beside the fast
-//! ones over every text of up to five characters.
+//! Parsing, decoding and encoding as plain byte loops, compared with the fast ones on every text of up to five
+//! characters.
 use jsonptr::{EncodingError, InvalidEncoding, ParseError, Pointer, PointerBuf, Token};
 use std::alloc::{AllocError, Global};
 use std::borrow::CowStr;
 use std::test::Fail;
 
-/// The first fault of a pointer's text (RFC 6901, section 3).
+/// The first error in a pointer's text (RFC 6901, section 3).
 fn pointer_fault(text: &str) -> Option<ParseError> {
     let bytes = text.as_bytes();
     if *bytes.first()? != b'/' {
@@ -30,7 +30,7 @@ fn pointer_fault(text: &str) -> Option<ParseError> {
     None
 }
 
-/// The first fault of a token's text (RFC 6901, section 3).
+/// The first error in a token's text (RFC 6901, section 3).
 fn token_fault(text: &str) -> Option<EncodingError> {
     let mut escaped = false;
     for (offset, b) in text.as_bytes().iter().enumerate() {
@@ -54,7 +54,7 @@ fn token_fault(text: &str) -> Option<EncodingError> {
     None
 }
 
-/// What a token's text stands for, in one pass from the left (RFC 6901, section 4).
+/// Decodes a token's text in one pass from the left (RFC 6901, section 4).
 fn decoded(alloc: Global, text: &str) -> Result<String, AllocError> {
     let mut plain = String::new(alloc);
     let mut escaped = false;
@@ -69,7 +69,7 @@ fn decoded(alloc: Global, text: &str) -> Result<String, AllocError> {
     Ok(plain)
 }
 
-/// How a token writes a text (RFC 6901, section 3).
+/// Encodes a text as a token (RFC 6901, section 3).
 fn encoded(alloc: Global, text: &str) -> Result<String, AllocError> {
     let mut token = String::new(alloc);
     for c in text.chars() {
@@ -82,7 +82,7 @@ fn encoded(alloc: Global, text: &str) -> Result<String, AllocError> {
     Ok(token)
 }
 
-/// Whether the text is read as a pointer, borrowed and owned, as the plain loop reads it.
+/// Whether `parse`, borrowed and owned, agrees with the plain loop.
 fn pointers_agree(alloc: Global, text: &str) -> Result<bool, AllocError> {
     let owned = PointerBuf::parse(String::from_str(alloc, text)?);
     Ok(match (Pointer::parse(text), owned, pointer_fault(text)) {
@@ -96,7 +96,7 @@ fn pointers_agree(alloc: Global, text: &str) -> Result<bool, AllocError> {
     })
 }
 
-/// Whether the text is read as an encoded token, and decoded, as the plain loops do it.
+/// Whether `from_encoded` and `decoded` agree with the plain loops.
 fn tokens_agree(alloc: Global, text: &str) -> Result<bool, AllocError> {
     Ok(
         match (
@@ -113,14 +113,14 @@ fn tokens_agree(alloc: Global, text: &str) -> Result<bool, AllocError> {
     )
 }
 
-/// Whether the text is encoded as the plain loop encodes it, and decodes as itself.
+/// Whether `Token::new` agrees with the plain loop, and decodes to the text.
 fn escapes_agree(alloc: Global, text: &str) -> Result<bool, AllocError> {
     let token = Token::new(alloc, CowStr::Borrowed(text))?;
     let plain = encoded(alloc, text)?;
     Ok(token.encoded() == plain.as_str() && token.decoded(alloc)?.as_str() == text)
 }
 
-/// Whether the text is read as a pointer, read as a token and encoded as the plain loops do it.
+/// Whether pointers and tokens of the text agree with the plain loops.
 fn all_agree(alloc: Global, text: &str) -> Result<bool, AllocError> {
     Ok(pointers_agree(alloc, text)? && tokens_agree(alloc, text)? && escapes_agree(alloc, text)?)
 }
@@ -128,10 +128,10 @@ fn all_agree(alloc: Global, text: &str) -> Result<bool, AllocError> {
 /// The characters of the texts.
 const CHARACTERS: [char; 7] = ['/', '~', '0', '1', '2', 'a', 'é'];
 
-/// Of each length, how many texts there are.
+/// The number of texts of each length.
 const COUNTS: [usize; 6] = [1, 7, 49, 343, 2401, 16807];
 
-/// The text whose characters are the digits of a number, base 7, from the lowest.
+/// The text whose characters are the digits of a number in base 7, lowest first.
 fn text_of(alloc: Global, number: usize, length: usize) -> Result<String, AllocError> {
     let mut text = String::new(alloc);
     let mut left = number;

@@ -1,4 +1,4 @@
-//! Reports drawn under their subjects, with every text written out.
+//! Rendered reports, with the whole text.
 ghost use Rattle.std.specs.Prelude.{IsSome, codes};
 
 use crate::reports::reported;
@@ -10,7 +10,7 @@ use std::borrow::CowStr;
 use std::convert::AsStr;
 use std::test::Fail;
 
-/// Whether an error draws this below its subject, through the bounds.
+/// Whether an error renders like this below its subject, through the bounds.
 fn draws<E: Diagnostic>(
     alloc: Global,
     error: E,
@@ -24,7 +24,7 @@ where
     Ok(drawn.as_str() == want)
 }
 
-/// Whether an error draws this below a text.
+/// Whether an error renders like this below a text.
 fn draws_below<E: Diagnostic<Subject = String>>(
     alloc: Global,
     text: &str,
@@ -54,7 +54,7 @@ impl Diagnostic for Labels {
     }
 }
 
-/// Whether one label on a text draws this.
+/// Whether one label on a text renders like this.
 fn draws_label(
     alloc: Global,
     subject: &str,
@@ -67,7 +67,7 @@ fn draws_label(
     draws_below(alloc, subject, Labels(vec![in alloc; label]?), want)
 }
 
-/// Whether a text is shown so, above a label and as the label's own words.
+/// Whether a text is shown like this, above a label and as the label's own text.
 fn is_shown(alloc: Global, text: &str, shown: &str) -> Result<bool, AllocError> {
     let want = format!(in alloc; "{shown}\n^ {shown}")?;
     draws_label(alloc, text, text, 0, 0, want.as_str())

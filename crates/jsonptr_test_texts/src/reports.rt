@@ -1,4 +1,4 @@
-//! A small error of its own, reported and labelled.
+//! A small error type of this module, with its reports and labels.
 ghost use Rattle.std.specs.Prelude.{◌≡◌, ◌+◌, ◌<◌, ◌≤◌, ◌^◌, codes};
 ghost use Rattle.jsonptr.specs.Diagnostic.{IsOneLabel, IsNoLabel};
 ghost use Rattle.jsonptr_test_texts.specs.declared.reports.Misspelt.TheVariants.{Empty, Within};
@@ -8,12 +8,12 @@ use std::alloc::{AllocError, Global};
 use std::fmt;
 use std::test::Fail;
 
-/// What is wrong with a text of words.
+/// The error of a text of words.
 #[derive(Debug, PartialEq, Eq, Drop)]
 enum Misspelt {
     /// There is no word.
     Empty,
-    /// The word that begins here has a wrong letter at this place.
+    /// The word at this offset has a wrong letter at this offset.
     Within { word: usize, letter: usize },
 }
 
@@ -58,12 +58,12 @@ pub(crate) fn reported<E: Diagnostic>(error: E, subject: E::Subject) -> Report<E
     error.into_report(subject)
 }
 
-/// The address of an error's page, through the bound.
+/// The URL of an error, through the bound.
 pub(crate) fn address_of<E: Diagnostic>() -> &'static str {
     E::url()
 }
 
-/// The labels that a report's error puts on its subject, through the bound.
+/// The labels of a report's error on its subject, through the bound.
 pub(crate) fn labels_of<E: Diagnostic>(
     alloc: Global,
     report: &Report<E>,
@@ -71,8 +71,7 @@ pub(crate) fn labels_of<E: Diagnostic>(
     report.original().labels(alloc, report.subject())
 }
 
-/// Whether these are the words, the place and the length of the only label; with no words, whether there is
-/// no label.
+/// Whether the only label has this text, offset and length. With an empty text, whether there is no label.
 pub(crate) fn is_label(labels: Option<Vec<Label>>, words: &str, offset: usize, len: usize) -> bool {
     match labels {
         Some(labels) => match labels.as_slice() {
@@ -83,7 +82,7 @@ pub(crate) fn is_label(labels: Option<Vec<Label>>, words: &str, offset: usize, l
     }
 }
 
-/// What a report displays, through the bound.
+/// The displayed text of a report, through the bound.
 pub(crate) fn text_of<E: Diagnostic + fmt::Display>(
     alloc: Global,
     report: &Report<E>,
@@ -91,7 +90,7 @@ pub(crate) fn text_of<E: Diagnostic + fmt::Display>(
     report.to_string(alloc)
 }
 
-/// How a value is shown to a programmer, through the bound.
+/// The `Debug` text of a value, through the bound.
 pub(crate) fn debug_of<T: fmt::Debug>(alloc: Global, value: &T) -> Result<String, AllocError> {
     format!(in alloc; "{value:?}")
 }
@@ -111,7 +110,7 @@ fn on_a_text(alloc: Global, error: Misspelt) -> Result<Report<Misspelt>, AllocEr
     Ok(reported(error, String::from_str(alloc, "teh cat")?))
 }
 
-/// A label with these words.
+/// A label with this text.
 fn label(alloc: Global, words: &str, offset: usize, len: usize) -> Result<Label, AllocError> {
     Ok(Label::new(String::from_str(alloc, words)?, offset, len))
 }
@@ -170,7 +169,7 @@ fn one_label_alone(rt: HostRuntime) -> Result<(), Fail> {
     Ok(())
 }
 
-/// Whether an error puts one label, with these words, on the text `teh cat`.
+/// Whether an error has one label on the text `teh cat`, with this text.
 fn labels_it(
     alloc: Global,
     error: Misspelt,
@@ -208,7 +207,7 @@ fn parts_of_a_report(rt: HostRuntime) -> Result<(), Fail> {
     Ok(())
 }
 
-/// Whether a report displays this text, and is shown to a programmer so.
+/// Whether a report has these `Display` and `Debug` texts.
 fn tells(
     alloc: Global,
     report: &Report<Misspelt>,

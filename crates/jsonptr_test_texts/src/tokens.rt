@@ -1,4 +1,4 @@
-//! Where token texts are refused, how tokens compare, and the tokens of numbers.
+//! Errors of token texts, comparisons of tokens, and tokens of numbers.
 use jsonptr::token::Number;
 use jsonptr::{EncodingError, InvalidEncoding, InvalidEncodingError, Token};
 use std::alloc::{AllocError, Global};
@@ -46,7 +46,7 @@ fn is_same(alloc: Global, text: &str, encoded: &str) -> Result<bool, Fail> {
     )
 }
 
-/// Whether the token of one text is below that of another, and is not equal to it.
+/// Whether the token of one text compares below that of another.
 fn is_below(alloc: Global, low: &str, high: &str) -> Result<bool, AllocError> {
     let low = Token::new(alloc, CowStr::Borrowed(low))?;
     let high = Token::new(alloc, CowStr::Borrowed(high))?;
@@ -61,7 +61,7 @@ fn comparisons(rt: HostRuntime) -> Result<(), Fail> {
     Ok(())
 }
 
-/// Whether a number's token is this text.
+/// Whether a number's token has this text.
 fn writes<N: Number>(alloc: Global, n: N, text: &str) -> Result<bool, AllocError> {
     Ok(Token::from_number(alloc, n)?.encoded() == text)
 }

@@ -1,4 +1,4 @@
-//! The line of an answer: fields `name=value` with tabs between them.
+//! An answer: one line of fields `name=value` separated by tabs.
 use std::alloc::{AllocError, Global};
 use std::fmt;
 

@@ -1,4 +1,4 @@
-//! Documents at a pointer: JSON, and TOML.
+//! Calls on a JSON or TOML document at a pointer.
 use crate::answer::Answer;
 use crate::halt::Halt;
 use crate::labels;

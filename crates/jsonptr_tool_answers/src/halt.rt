@@ -1,4 +1,4 @@
-//! Why a request has no answer.
+//! The errors of a request that has no answer.
 use jsonptr::ParseError;
 use std::alloc::AllocError;
 use std::num::ParseIntError;

@@ -1,4 +1,4 @@
-//! Errors with any fields, on any subject: texts, labels, addresses.
+//! Errors with any fields on any subject: texts, labels, URLs.
 use crate::answer::{Answer, List};
 use crate::halt::Halt;
 use jsonptr::diagnostic::Diagnostic;

@@ -1,5 +1,5 @@
-//! Answers calls of `jsonptr`, one a line: a request in, its whole answer out. The requests and the answers
-//! are those of docs/COMPARING.md, which the Rust crate answers, too, by the program in `tools/compare/original`.
+//! Answers calls of `jsonptr`, one a line: a request in, its whole answer out. docs/COMPARING.md describes the
+//! requests and the answers. The program in `tools/compare/original` answers them by the Rust crate.
 #![tactic(auto)]
 
 mod answer;

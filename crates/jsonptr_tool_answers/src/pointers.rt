@@ -1,4 +1,4 @@
-//! Pointers: reading, cutting, comparing, editing.
+//! Calls on pointers: reading, splitting, comparing, editing.
 use crate::answer::{Answer, List};
 use crate::halt::Halt;
 use crate::texts::order_name;

@@ -1,4 +1,4 @@
-//! The calls by name.
+//! Makes the call that a request names.
 use crate::answer::{Answer, plain};
 use crate::halt::Halt;
 use crate::{documents, labels, pointers, texts};

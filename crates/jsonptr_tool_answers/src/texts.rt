@@ -1,4 +1,4 @@
-//! Texts, tokens and indices.
+//! Calls on texts, tokens and indices.
 use crate::answer::{Answer, List};
 use crate::halt::Halt;
 use crate::labels::{cause, label};

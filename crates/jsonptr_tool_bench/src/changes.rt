@@ -1,4 +1,4 @@
-//! Calls that use their input up, or write to it.
+//! Calls that consume or change their input.
 use crate::stopwatch::{Batch, Stopwatch, Work};
 use crate::works::least;
 use jsonptr::{Assign, Delete, Pointer, PointerBuf, Resolve, ResolveMut, Token, assign, resolve};

@@ -1,8 +1,8 @@
-//! Times calls of `jsonptr`, a case a line: a name, a call and its arguments in, with tabs between them; the
-//! name, and the least time of one call in picoseconds out. The cases are those of tools/bench/cases.py, and the Rust
-//! crate is timed on them by the program in `tools/bench/original`.
+//! Times calls of `jsonptr`, one case a line. Input: a name, a call and its arguments, separated by tabs. Output: the
+//! name, and the minimum time of one call in picoseconds. The cases are those of tools/bench/cases.py. The program in
+//! `tools/bench/original` times the Rust crate on them.
 //!
-//! It is timed where its one word is `0`. With no word each case is run once, and only named.
+//! It times the cases if its one argument is `0`. Without an argument it runs each case once and writes only its name.
 #![tactic(auto)]
 
 mod changes;

@@ -1,4 +1,4 @@
-//! Timing: samples of many turns, the least of which counts.
+//! Measures time: the minimum of many samples of many turns.
 use std::alloc::{AllocError, Global};
 use std::io;
 use std::time::Instant;

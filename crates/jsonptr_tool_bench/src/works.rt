@@ -1,4 +1,4 @@
-//! Calls that can be made again and again.
+//! Calls that can be repeated on the same input.
 use crate::stopwatch::{Stopwatch, Work};
 use jsonptr::index::Index;
 use jsonptr::{Pointer, Token};

@@ -1,4 +1,4 @@
-//! Examples of finding a value in a document.
+//! Examples of resolving.
 use jsonptr::{Fault, Pointer, Resolve, ResolveMut};
 use serde_json::{Value, json};
 use std::test::Fail;

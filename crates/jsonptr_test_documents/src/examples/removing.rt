@@ -1,4 +1,4 @@
-//! Examples of taking a value out of a document.
+//! Examples of deleting.
 use jsonptr::{Delete, Pointer};
 use serde_json::{Value, json};
 use std::test::Fail;

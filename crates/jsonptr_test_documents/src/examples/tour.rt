@@ -1,4 +1,4 @@
-//! The examples of the crate's own page.
+//! The examples of the crate's front page.
 use jsonptr::{Pointer, Token};
 use serde_json::Value;
 use std::borrow::CowStr;

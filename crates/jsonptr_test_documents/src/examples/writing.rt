@@ -1,4 +1,4 @@
-//! Examples of assigning a value in a document.
+//! Examples of assigning.
 use jsonptr::{Assign, Fault, Pointer};
 use serde_json::{Value, json};
 use std::test::Fail;

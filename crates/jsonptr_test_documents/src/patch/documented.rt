@@ -1,4 +1,4 @@
-//! The examples that the documentation of patches gives, line for line.
+//! The examples in the documentation of patches, line for line.
 use jsonptr::Pointer;
 use jsonptr_patch::{Operation, apply, delete_with_undo};
 use serde_json::json;

@@ -4,8 +4,8 @@ use jsonptr_patch::PatchError;
 use std::alloc::{AllocError, Global};
 use std::test::Fail;
 
-/// The lines of 250 rounds. In each two numbers are added before the others, the first of them is tested, and one is
-/// moved to the end.
+/// The lines of 250 rounds. Each round inserts two numbers before the others, tests the first of them, and moves one
+/// to the end.
 fn rounds(alloc: Global) -> Result<String, AllocError> {
     let mut lines = String::new(alloc);
     for i in 0..250_u64 {
@@ -18,7 +18,7 @@ fn rounds(alloc: Global) -> Result<String, AllocError> {
     Ok(lines)
 }
 
-/// The document that the rounds make of an empty array.
+/// The document after the rounds, from an empty array.
 fn document(alloc: Global) -> Result<String, AllocError> {
     let mut text = String::from_str(alloc, r#"{"a":["#)?;
     for i in 0..250_u64 {
@@ -41,7 +41,7 @@ fn a_thousand_operations(rt: HostRuntime) -> Result<(), Fail> {
     Ok(())
 }
 
-/// The thousandth operation is refused, and nothing is left of the others.
+/// The thousandth operation fails, and the others leave no change.
 #[test]
 fn the_last_of_a_thousand(rt: HostRuntime) -> Result<(), Fail> {
     let mut lines = String::new(rt.alloc());

@@ -1,11 +1,11 @@
-//! Patches written as lines, and what one makes of a document.
+//! Parses patches from lines of text, and applies them.
 use jsonptr::{Fault, PointerBuf};
 use jsonptr_patch::{Operation, PatchError, apply};
 use serde_json::Value;
 use std::alloc::Global;
 use std::test::Fail;
 
-/// A pointer that owns its text.
+/// Parses an owned pointer.
 pub fn pointer(alloc: Global, text: &str) -> Result<PointerBuf, Fail> {
     Ok(PointerBuf::from_text(alloc, text)?)
 }
@@ -43,7 +43,7 @@ fn operation_with_source(
     }
 }
 
-/// An operation written as its name and its words, as in `add /a 1` or `move /a /b`. What follows the second space is
+/// Parses an operation: its name and its words, as in `add /a 1` or `move /a /b`. All text after the second space is
 /// one word.
 fn operation(alloc: Global, line: &str) -> Result<Operation, Fail> {
     let (name, words) = line.split_once(' ').ok_or("words")?;
@@ -73,7 +73,7 @@ pub fn patched(alloc: Global, document: &str, text: &str) -> Result<String, Fail
     Ok(document.to_string(alloc)?)
 }
 
-/// Why a patch of a document is refused; a failure where it is not, or where the document is not as it was.
+/// The error of a patch. Fails if the patch succeeds or changes the document.
 pub fn refusal(alloc: Global, text: &str, lines: &str) -> Result<PatchError, Fail> {
     let mut document = Value::from_str(alloc, text)?;
     let outcome = apply(alloc, &mut document, patch(alloc, lines)?);

@@ -1,4 +1,4 @@
-//! Patches that are refused: the operation, the cause with each of its fields, and the text that is displayed.
+//! Patches that fail: the operation, every field of the cause, and the displayed text.
 use crate::patch::patches::refusal;
 use jsonptr::index::{OutOfBoundsError, ParseIndexError};
 use jsonptr::{Fault, assign, resolve};
@@ -7,12 +7,12 @@ use std::alloc::Global;
 use std::error::Error;
 use std::test::Fail;
 
-/// What an error of any kind displays.
+/// The displayed text of any error.
 fn shown<E: Error>(alloc: Global, error: &E) -> Result<String, Fail> {
     Ok(format!(in alloc; "{error}")?)
 }
 
-/// Whether a patch of a document is refused so.
+/// Whether a patch of a document fails with this error.
 fn is_refused(alloc: Global, document: &str, lines: &str, want: PatchError) -> Result<bool, Fail> {
     Ok(refusal(alloc, document, lines)? == want)
 }
@@ -107,7 +107,7 @@ fn bad_place(rt: HostRuntime) -> Result<(), Fail> {
     Ok(())
 }
 
-/// Whether the error of a patch of a document displays this, by itself and as a fault.
+/// Whether the error of a patch displays this text, also inside a `Fault`.
 fn tells(alloc: Global, document: &str, lines: &str, want: &str) -> Result<bool, Fail> {
     let error = refusal(alloc, document, lines)?;
     let alone = shown(alloc, &error)?;

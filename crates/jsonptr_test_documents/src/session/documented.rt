@@ -1,4 +1,4 @@
-//! The examples that the documentation of sessions gives, line for line.
+//! The examples in the documentation of sessions, line for line.
 use jsonptr::Pointer;
 use jsonptr_session::undo::json::{assign_with_undo, undo};
 use jsonptr_session::{Call, run_json};

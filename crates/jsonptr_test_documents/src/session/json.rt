@@ -1,4 +1,4 @@
-//! Sessions over JSON documents: refusals with all their fields.
+//! Sessions on JSON documents: every field of every error.
 use crate::session::refusals::{is_no_pointer, no_place, no_position, no_value, text};
 use jsonptr::index::{IntegerCause, OutOfBoundsError, ParseIndexError};
 use jsonptr::{EncodingError, InvalidEncoding, ParseError, ReplaceError, assign, resolve};
@@ -38,7 +38,7 @@ fn positions_that_no_token_has(rt: HostRuntime) -> Result<(), Fail> {
     Ok(())
 }
 
-/// Whether a pointer names no value in a document for this reason, which `Resolve` and `Write` reply.
+/// Whether `Resolve` and `Write` both reply with this error.
 fn is_no_value(rt: &HostRuntime, ptr: &str, doc: &str, want: resolve::Error) -> Result<bool, Fail> {
     Ok(
         no_value::<Value>(rt, ptr, doc, Call::Resolve)? == want
@@ -66,7 +66,7 @@ fn pointers_that_name_no_element(rt: HostRuntime) -> Result<(), Fail> {
     Ok(())
 }
 
-/// Whether null is not assigned at a pointer in a document for this reason.
+/// Whether assigning null at a pointer in a document fails with this error.
 fn is_no_place(rt: &HostRuntime, ptr: &str, doc: &str, want: assign::Error) -> Result<bool, Fail> {
     Ok(no_place::<Value>(rt, ptr, doc, Call::Assign(Value::Null))? == want)
 }

@@ -1,16 +1,16 @@
-//! A pointer and a document of either kind, and why a call on them is refused.
+//! Helpers: runs one call on a JSON or TOML document, and checks its error.
 use jsonptr::{ParseError, Pointer, PointerBuf, ReplaceError, assign, resolve};
 use jsonptr_session::session::{Call, Reply, run_json, run_toml};
 use std::alloc::{AllocError, Global};
 use std::fmt::Display;
 use std::test::Fail;
 
-/// What the tests do to a document of either kind.
+/// What the tests do with a JSON or TOML document.
 pub trait Document: Display + Drop + Sized {
-    /// The value of a text.
+    /// Parses a value.
     fn read(alloc: Global, text: &str) -> Result<Self, Fail>;
 
-    /// The replies to calls.
+    /// Runs calls, and returns their replies.
     fn run(
         alloc: Global,
         ptr: &mut PointerBuf,
@@ -77,7 +77,7 @@ fn have<D: Display>(
     Ok(pointer.as_ptr().as_str() == ptr && document.to_string(alloc)?.as_str() == doc)
 }
 
-/// The reply to a call that leaves the pointer and the document as these texts say.
+/// The reply to a call, after which the pointer and the document have these texts.
 fn refusal<D: Document>(
     rt: &HostRuntime,
     ptr: &str,
@@ -93,7 +93,7 @@ fn refusal<D: Document>(
     Ok(reply)
 }
 
-/// Why a call on the pointer and the document of these texts finds no value, and changes nothing.
+/// The resolve error of a call on this pointer and document, which changes nothing.
 pub fn no_value<D: Document>(
     rt: &HostRuntime,
     ptr: &str,
@@ -106,7 +106,7 @@ pub fn no_value<D: Document>(
     }
 }
 
-/// Why a call on the pointer and the document of these texts assigns nothing, and changes nothing.
+/// The assign error of a call on this pointer and document, which changes nothing.
 pub fn no_place<D: Document>(
     rt: &HostRuntime,
     ptr: &str,
@@ -119,7 +119,7 @@ pub fn no_place<D: Document>(
     }
 }
 
-/// Why a call on the pointer and the document of these texts replaces no token, and changes nothing.
+/// The replace error of a call on this pointer and document, which changes nothing.
 pub fn no_position<D: Document>(
     rt: &HostRuntime,
     ptr: &str,
@@ -132,8 +132,8 @@ pub fn no_position<D: Document>(
     }
 }
 
-/// Whether a text is no pointer for this reason, which a call on the pointer and the document of these texts
-/// replies together with the text, and changes nothing.
+/// Whether a call on this pointer and document replies with this parse error and the text that is not a pointer, and
+/// changes nothing.
 pub fn is_no_pointer<D: Document>(
     rt: &HostRuntime,
     ptr: &str,
@@ -150,7 +150,7 @@ pub fn is_no_pointer<D: Document>(
     }
 }
 
-/// The pointer of a text.
+/// Parses an owned pointer.
 pub fn buf(rt: &HostRuntime, text: &str) -> Result<PointerBuf, Fail> {
     Ok(Pointer::parse(text)?.to_buf(rt.alloc())?)
 }

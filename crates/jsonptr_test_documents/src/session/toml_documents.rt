@@ -1,11 +1,11 @@
-//! Sessions over TOML documents: refusals with all their fields.
+//! Sessions on TOML documents: every field of every error.
 use crate::session::refusals::{no_position, no_value, text};
 use jsonptr::{ReplaceError, resolve};
 use jsonptr_session::Call;
 use std::test::Fail;
 use toml::Value;
 
-/// The document of the refusals.
+/// The document for the errors.
 const DATE: &str = "{ d = 1979-05-27 }";
 
 #[test]

@@ -1,4 +1,4 @@
-//! Taking assignments in JSON documents back: refusals with all their fields.
+//! Undo in JSON documents: every field of every error.
 use crate::session::refusals::buf;
 use jsonptr::index::{OutOfBoundsError, ParseIndexError};
 use jsonptr::{Fault, Pointer, assign, resolve};
@@ -9,7 +9,7 @@ use std::alloc::Global;
 use std::fmt::Display;
 use std::test::Fail;
 
-/// What an undo does, in words.
+/// Describes an undo.
 fn said<V: Display>(alloc: Global, undo: &Undo<V>) -> Result<String, Fail> {
     match undo {
         Undo::Put(pointer, value) => Ok(format!(in alloc; "put {value} at '{pointer}'")?),
@@ -17,7 +17,7 @@ fn said<V: Display>(alloc: Global, undo: &Undo<V>) -> Result<String, Fail> {
     }
 }
 
-/// Why nothing was undone, and what is handed back, in words.
+/// Describes the error of an undo, and the undo that is returned with it.
 fn refusal<V: Display + Drop>(
     alloc: Global,
     undone: Result<(), UndoRefused<V>>,
@@ -32,7 +32,7 @@ fn refusal<V: Display + Drop>(
     }
 }
 
-/// Why two can't be assigned at a pointer in the document of a text, and the document after that, as text.
+/// The error of assigning 2 at a pointer in a document, and the document after it, as text.
 fn refused(alloc: Global, doc: &str, ptr: &str) -> Result<(assign::Error, String), Fail> {
     let pointer = Pointer::parse(ptr)?;
     let mut doc = Value::from_str(alloc, doc)?;
@@ -57,8 +57,8 @@ fn an_assignment_refused(rt: HostRuntime) -> Result<(), Fail> {
     Ok(())
 }
 
-/// Whether what is to be taken back in a document is refused for this reason, and what is handed back and the
-/// document are, in words, as it is said.
+/// Whether an undo in a document fails with this error, and the returned undo and the document have these
+/// descriptions.
 fn is_refused(
     alloc: Global,
     doc: &str,

@@ -1,4 +1,4 @@
-//! A walk of many assignments, each taken back, the last first.
+//! Many assignments, undone in reverse order.
 use jsonptr::{Fault, Pointer};
 use jsonptr_session::undo::Undo;
 use jsonptr_session::undo::json::{assign_with_undo, undo};
@@ -19,7 +19,7 @@ const VALUES: [&str; 8] = [
     r#"[{"a":true},[[]]]"#,
 ];
 
-/// Numbers by a linear congruence: each is made of the one before.
+/// Pseudo-random numbers by a linear congruence.
 #[derive(Drop)]
 struct Numbers(u64);
 
@@ -48,7 +48,7 @@ fn pointer(alloc: Global, numbers: &mut Numbers) -> Result<String, Fail> {
     Ok(text)
 }
 
-/// A value assigned at a pointer, and what takes that back; `None` where no value can be assigned there.
+/// Assigns a value at a pointer, and returns its undo; `None` if the assignment fails.
 fn step(
     alloc: Global,
     numbers: &mut Numbers,
@@ -68,7 +68,7 @@ fn printed(alloc: Global, doc: &Value) -> Result<String, AllocError> {
     format!(in alloc; "{doc}")
 }
 
-/// Five hundred assignments: for each the document before it, and what takes it back.
+/// Five hundred assignments: for each one the document before it, and its undo.
 fn assignments(alloc: Global, doc: &mut Value) -> Result<Vec<(String, Undo<Value>)>, Fail> {
     let mut numbers = Numbers(6901);
     let mut undos = Vec::new(alloc);
@@ -84,7 +84,7 @@ fn assignments(alloc: Global, doc: &mut Value) -> Result<Vec<(String, Undo<Value
     Ok(undos)
 }
 
-/// Whether a document is what it was before the last of these assignments where that is taken back.
+/// Whether undoing the last of these assignments restores the document before it.
 fn goes_back(
     alloc: Global,
     doc: &mut Value,

@@ -1,4 +1,4 @@
-//! Examples of pointers that own their text.
+//! Examples of owned pointers.
 use jsonptr::{Fault, Pointer, PointerBuf, ReplaceError, Token};
 use std::borrow::CowStr;
 use std::test::Fail;

@@ -1,4 +1,4 @@
-//! Examples of the calls that take a pointer apart.
+//! Examples of splitting pointers.
 use jsonptr::{Pointer, Token};
 use std::ops::Bound;
 use std::test::Fail;

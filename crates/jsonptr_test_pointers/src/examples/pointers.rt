@@ -1,4 +1,4 @@
-//! Examples of borrowed pointers: making one, what it holds, and owned pointers that are made of it.
+//! Examples of borrowed pointers: constructors, getters, and conversions to owned pointers.
 use jsonptr::{Component, ParseError, Pointer, Token};
 use serde_json::json;
 use std::borrow::CowStr;

@@ -1,4 +1,4 @@
-//! Calls through the bounds that tabled pointers meet.
+//! Tabled pointers through the bounds of their traits.
 ghost use Rattle.std.specs.Prelude.{◌≡◌};
 ghost use Rattle.jsonptr.specs.Pointer.{tokens};
 ghost use Rattle.jsonptr.specs.Slashes.{slash_offsets};
@@ -32,7 +32,7 @@ fn hash_of<T: Hash>(value: &T) -> u64 {
     state.finish()
 }
 
-/// What is at an index of a pointer, by its table.
+/// The result of `get` on the tabled pointer of a text.
 fn at<'p, I: PointerIndex<'p>>(
     index: I,
     pointer: Pointer<'p>,
@@ -49,7 +49,7 @@ fn copies(rt: HostRuntime) -> Result<(), Fail> {
     Ok(())
 }
 
-/// How the tabled pointers of two texts compare.
+/// Compares the tabled pointers of two texts.
 fn order_of(rt: &HostRuntime, a: &str, b: &str) -> Result<Option<Ordering>, Fail> {
     Ok(compares(&tabled(rt, a)?, &tabled(rt, b)?))
 }

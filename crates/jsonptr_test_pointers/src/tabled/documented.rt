@@ -1,4 +1,4 @@
-//! The example that the documentation of tabled pointers gives, line for line.
+//! The example in the documentation of tabled pointers, line for line.
 use jsonptr::{Pointer, Token};
 use jsonptr_tabled::TabledPointer;
 use std::borrow::CowStr;

@@ -1,11 +1,11 @@
-//! Edits of either kind of pointer by their names, and the tables after them.
+//! Edits of plain and of tabled pointers, by name, and the tables after them.
 use crate::tabled::pointers::{is_table, plain, tabled, token};
 use jsonptr::{Fault, Token};
 use jsonptr_tabled::{EditPointer, TabledPointer};
 use std::alloc::Global;
 use std::test::Fail;
 
-/// What a pop or a replacement gave, in words.
+/// Describes the result of a pop or a replacement.
 fn given(alloc: Global, token: Option<Token<'static>>) -> Result<String, Fail> {
     match token {
         None => Ok(String::from_str(alloc, "no token")?),
@@ -16,7 +16,7 @@ fn given(alloc: Global, token: Option<Token<'static>>) -> Result<String, Fail> {
     }
 }
 
-/// Makes an edit that gives nothing.
+/// Makes an edit that returns no value.
 fn change<P: EditPointer>(
     rt: &HostRuntime,
     pointer: &mut P,
@@ -33,7 +33,7 @@ fn change<P: EditPointer>(
     Ok(())
 }
 
-/// What an edit answers, in words; of a refusal what its error displays.
+/// Describes the result of an edit: its value, or the displayed error.
 pub fn edit<P: EditPointer>(rt: &HostRuntime, pointer: &mut P, line: &str) -> Result<String, Fail> {
     let alloc = rt.alloc();
     let (name, with) = line.split_once(' ').unwrap_or((line, ""));
@@ -49,7 +49,7 @@ pub fn edit<P: EditPointer>(rt: &HostRuntime, pointer: &mut P, line: &str) -> Re
     }
 }
 
-/// What `replace` answers of a place and a decoded text.
+/// The result of `replace` at a position with a decoded text.
 fn replace<P: EditPointer>(rt: &HostRuntime, pointer: &mut P, with: &str) -> Result<String, Fail> {
     let (index, text) = with.split_once(' ').unwrap_or((with, ""));
     match pointer.replace(index.parse()?, token(rt, text)?) {
@@ -59,7 +59,7 @@ fn replace<P: EditPointer>(rt: &HostRuntime, pointer: &mut P, with: &str) -> Res
     }
 }
 
-/// What `set_text` answers of a text.
+/// The result of `set_text`.
 fn set<P: EditPointer>(alloc: Global, pointer: &mut P, with: &str) -> Result<String, Fail> {
     match pointer.set_text(String::from_str(alloc, with)?) {
         Ok(()) => Ok(String::from_str(alloc, "done")?),
@@ -94,7 +94,7 @@ fn tables_after_edits(rt: HostRuntime) -> Result<(), Fail> {
     Ok(())
 }
 
-/// The tabled pointer `/a/b/c/d`, of pushes and of an append by their names.
+/// The tabled pointer `/a/b/c/d`, made by pushes and an append.
 fn pushed(rt: &HostRuntime) -> Result<TabledPointer, Fail> {
     let mut pointer = TabledPointer::new(rt.alloc());
     pointer.push_back(token(rt, "b")?)?;
@@ -103,7 +103,7 @@ fn pushed(rt: &HostRuntime) -> Result<TabledPointer, Fail> {
     Ok(pointer)
 }
 
-/// Whether `replace` puts a token in the place of the one with this encoded text.
+/// Whether `replace` returns the old token, which has this encoded text.
 fn is_replaced(
     pointer: &mut TabledPointer,
     index: usize,
@@ -116,7 +116,7 @@ fn is_replaced(
     Ok(old.encoded() == want)
 }
 
-/// Whether the last and then the first token that are taken off have these encoded texts.
+/// Whether popping the last and then the first token returns these encoded texts.
 fn are_popped(pointer: &mut TabledPointer, last: &str, first: &str) -> Result<bool, Fail> {
     let back = pointer.pop_back()?.ok_or("a token")?;
     let front = pointer.pop_front()?.ok_or("a token")?;

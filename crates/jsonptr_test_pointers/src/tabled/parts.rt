@@ -1,11 +1,11 @@
-//! Parts of a pointer between pairs of bounds, and texts that are refused.
+//! Parts of a pointer by pairs of bounds, and texts that are not pointers.
 use crate::tabled::pointers::tabled;
 use jsonptr::{Fault, Pointer};
 use jsonptr_tabled::TabledPointer;
 use std::ops::Bound;
 use std::test::Fail;
 
-/// The text of a pointer, where there is one.
+/// The text of a pointer, if there is one.
 fn text_of<'a>(pointer: Option<Pointer<'a>>) -> Option<&'a str> {
     match pointer {
         Some(pointer) => Some(pointer.as_str()),
@@ -35,7 +35,7 @@ fn ranges_by_bounds(rt: HostRuntime) -> Result<(), Fail> {
     Ok(())
 }
 
-/// Whether a text is refused as `Pointer::parse` refuses it, and given back.
+/// Whether parsing fails with the error of `Pointer::parse` and returns the text.
 fn is_refused(rt: &HostRuntime, text: &str) -> Result<bool, Fail> {
     match TabledPointer::parse(rt.alloc(), String::from_str(rt.alloc(), text)?) {
         Err(Fault::Refused(report)) => {

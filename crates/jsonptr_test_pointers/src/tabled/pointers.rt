@@ -1,15 +1,15 @@
-//! Pointers of both kinds, and whether a table is that of a text.
+//! Helpers that make plain and tabled pointers, and check a table.
 use jsonptr::{Pointer, PointerBuf, Token};
 use jsonptr_tabled::TabledPointer;
 use std::borrow::CowStr;
 use std::test::Fail;
 
-/// The plain pointer of a text that is one.
+/// Parses a plain pointer.
 pub fn plain(rt: &HostRuntime, text: &str) -> Result<PointerBuf, Fail> {
     Ok(Pointer::parse(text)?.to_buf(rt.alloc())?)
 }
 
-/// The tabled pointer of a text that is one.
+/// Parses a tabled pointer.
 pub fn tabled(rt: &HostRuntime, text: &str) -> Result<TabledPointer, Fail> {
     let text = String::from_str(rt.alloc(), text)?;
     match TabledPointer::parse(rt.alloc(), text) {
@@ -23,7 +23,7 @@ pub fn token<'a>(rt: &HostRuntime, text: &'a str) -> Result<Token<'a>, Fail> {
     Ok(Token::new(rt.alloc(), CowStr::Borrowed(text))?)
 }
 
-/// Whether the table has the places of the slashes of the text, and no others.
+/// Whether the table has exactly the offsets of the slashes of the text.
 pub fn is_table(pointer: &TabledPointer) -> bool {
     let text = pointer.as_ptr().as_str().as_bytes();
     let mut left = pointer.offsets();

@@ -1,4 +1,4 @@
-//! A long walk of edits.
+//! A long random walk of edits.
 use crate::tabled::edits::edit;
 use crate::tabled::pointers::is_table;
 use jsonptr::PointerBuf;
@@ -24,7 +24,7 @@ const EDITS: [&str; 16] = [
     "set t",
 ];
 
-/// Whether both kinds answer an edit alike, and have the same text after it, and the table is that of the text.
+/// Whether an edit has the same result and text on both kinds, and the right table.
 fn is_alike(
     rt: &HostRuntime,
     plain: &mut PointerBuf,
@@ -37,7 +37,7 @@ fn is_alike(
     Ok(answers && same && is_table(tabled))
 }
 
-/// Each of 1000 edits, picked as if by chance, is alike on both kinds.
+/// Each of 1000 random edits has the same effect on both kinds.
 #[test]
 fn a_thousand_edits(rt: HostRuntime) -> Result<(), Fail> {
     let mut plain = PointerBuf::new(rt.alloc());

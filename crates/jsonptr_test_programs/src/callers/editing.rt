@@ -1,4 +1,4 @@
-//! Editors, which take back what they did.
+//! Editors that undo their edits.
 use jsonptr::{Pointer, Token};
 use jsonptr_uses::editing::CursorEditor;
 use jsonptr_uses::undoing::Editor;
@@ -9,7 +9,7 @@ use std::test::Fail;
 
 const DOCUMENT: &str = r#"{"a":[1,[2],3],"b":{"c":4}}"#;
 
-/// What an editor has after an assignment and a removal, and after both were taken back.
+/// The document of an editor after an assignment and a removal, and after both were undone.
 fn edited(alloc: Global, assigned: &str, removed: &str) -> Result<(String, String), Fail> {
     let mut editor = Editor::open(alloc, Value::from_str(alloc, DOCUMENT)?);
     editor.assign(alloc, Pointer::parse(assigned)?, Value::Null)?;
@@ -35,7 +35,7 @@ fn an_editor_takes_back_what_it_did(rt: HostRuntime) -> Result<(), Fail> {
     Ok(())
 }
 
-/// Moves the cursor as a word says, and answers the value at which it stands then, or `stays`.
+/// Moves the cursor as a word says. Returns the value at the cursor, or `stays`.
 fn moved(alloc: Global, editor: &mut CursorEditor, step: &str) -> Result<String, Fail> {
     let has_moved = match step {
         "up" => editor.up()?.is_some(),

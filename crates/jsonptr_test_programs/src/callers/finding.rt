@@ -1,4 +1,4 @@
-//! Settings in layers, references, an overlay, a checker and a walk.
+//! Layered settings, references, an overlay, a checker and a walk.
 use jsonptr::{Fault, Pointer};
 use jsonptr_uses::checking::{Kind, Required, violations};
 use jsonptr_uses::conditions::{len_of_constant, len_of_known, place_of_fault};
@@ -15,7 +15,7 @@ const UPPER: &str = r#"{"color":"red","size":{"w":1}}"#;
 
 const LOWER: &str = r#"{"color":"blue","size":{"h":2},"a/b":[true]}"#;
 
-/// The text of a value that was found.
+/// The text of a value, or that there is none.
 fn shown(alloc: Global, found: Option<&Value>) -> Result<String, Fail> {
     match found {
         Some(value) => Ok(value.to_string(alloc)?),
@@ -23,7 +23,7 @@ fn shown(alloc: Global, found: Option<&Value>) -> Result<String, Fail> {
     }
 }
 
-/// What two layers answer.
+/// The result of two layers.
 fn answered(alloc: Global, pointer: &str) -> Result<String, Fail> {
     let layers = [
         Value::from_str(alloc, UPPER)?,
@@ -48,7 +48,7 @@ fn the_highest_layer_answers(rt: HostRuntime) -> Result<(), Fail> {
     Ok(())
 }
 
-/// What two layers of TOML answer.
+/// The result of two TOML layers.
 fn answered_toml(alloc: Global, pointer: &str) -> Result<Option<i64>, Fail> {
     let layers = [
         toml::Value::from_str(alloc, "{ size = { w = 1 } }")?,
@@ -67,7 +67,7 @@ fn the_highest_layer_of_toml_answers(rt: HostRuntime) -> Result<(), Fail> {
     Ok(())
 }
 
-/// What a layer that is an overlay answers, through the bound, with a default and without.
+/// The results of an overlay as a layer, through the bound, with and without a default.
 fn answered_over(alloc: Global, pointer: &str) -> Result<(String, String), Fail> {
     let layers = [Overlay::new(
         Value::from_str(alloc, UPPER)?,
@@ -94,7 +94,7 @@ fn layers_of_any_kind_and_a_default(rt: HostRuntime) -> Result<(), Fail> {
     Ok(())
 }
 
-/// What an overlay has, or the text of the refusal.
+/// The value of an overlay, or the text of the error.
 fn found_over(alloc: Global, pointer: &str) -> Result<String, Fail> {
     let overlay = Overlay::new(
         Value::from_str(alloc, UPPER)?,
@@ -122,8 +122,8 @@ fn the_upper_document_hides_the_lower(rt: HostRuntime) -> Result<(), Fail> {
     Ok(())
 }
 
-/// What stood in the upper document of an overlay where a value is assigned, or deleted where none is given, and what
-/// the overlay has there afterwards.
+/// Assigns a value in the upper document of an overlay, or deletes if there is none. Returns the replaced value, and the
+/// overlay's value there afterwards.
 fn written_over(
     alloc: Global,
     pointer: &str,
@@ -158,7 +158,7 @@ fn what_is_written_goes_to_the_upper_document(rt: HostRuntime) -> Result<(), Fai
     Ok(())
 }
 
-/// Where a pointer leads through so many references, or why it does not.
+/// The result of following a pointer through at most this many references, or the error.
 fn led(alloc: Global, pointer: &str, steps: usize) -> Result<String, Fail> {
     let text =
         r##"{"a":{"$ref":"#/b"},"b":{"$ref":"#/c/0"},"c":[7],"d":{"$ref":"#e"},"e":{"$ref":"#/x"},"f":{"$ref":"#/f"},"g":{"$ref":"other"}}"##;
@@ -234,7 +234,7 @@ fn violations_are_told_in_order(rt: HostRuntime) -> Result<(), Fail> {
     Ok(())
 }
 
-/// The texts of the pointers of all nodes, each behind a space.
+/// The texts of the pointers of all nodes, each after a space.
 fn walked(alloc: Global, document: &str) -> Result<String, Fail> {
     let document = Value::from_str(alloc, document)?;
     let mut walk = String::new(alloc);

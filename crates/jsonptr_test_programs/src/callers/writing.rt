@@ -1,4 +1,4 @@
-//! Writing, settings that are set, pushes and pops, and a deletion that is put back.
+//! Writing, changing settings, pushes and pops, and a deletion that is undone.
 use jsonptr::{Pointer, PointerBuf, Token};
 use jsonptr_uses::edits::{pushed_and_popped_back, pushed_and_popped_front};
 use jsonptr_uses::patches::deleted_and_put_back;
@@ -12,7 +12,7 @@ use std::test::Fail;
 
 const DOCUMENT: &str = r#"{"a":[1,2],"m~n":null}"#;
 
-/// What a document is after the call of this name, and what that answered, each as text.
+/// A document after the named call, and the result of the call, both as text.
 fn called(alloc: Global, call: &str, pointer: &str) -> Result<(String, String), Fail> {
     let mut document = Value::from_str(alloc, DOCUMENT)?;
     let pointer = Pointer::parse(pointer)?;
@@ -54,7 +54,7 @@ fn writes_in_json(rt: HostRuntime) -> Result<(), Fail> {
     Ok(())
 }
 
-/// What is at a place of a TOML document after it was replaced, assigned once more, and deleted.
+/// The values at a location of a TOML document that is replaced, assigned and deleted.
 fn rewritten(
     alloc: Global,
     pointer: &str,
@@ -77,7 +77,7 @@ fn writes_in_toml(rt: HostRuntime) -> Result<(), Fail> {
     Ok(())
 }
 
-/// The token that comes back at either end, and the pointer then.
+/// The tokens that pops return at both ends, and the pointer after them.
 fn pushed(alloc: Global, is_back: bool) -> Result<(Option<String>, String), Fail> {
     let mut pointer = PointerBuf::parse(String::from_str(alloc, "/a/b")?)?;
     let token = Token::new(alloc, CowStr::Borrowed("m~n"))?;
@@ -104,7 +104,7 @@ fn a_pop_gives_what_was_pushed(rt: HostRuntime) -> Result<(), Fail> {
     Ok(())
 }
 
-/// A document after something was taken out of it and put back.
+/// A document after a deletion that was undone.
 fn restored(alloc: Global, pointer: &str) -> Result<String, Fail> {
     let mut document = Value::from_str(alloc, DOCUMENT)?;
     deleted_and_put_back(alloc, &mut document, Pointer::parse(pointer)?)?;

@@ -1,19 +1,19 @@
-//! Readers and writers that do what a script says, for tests.
+//! Readers and writers that follow a script.
 ghost use Rattle.std.specs.Prelude.{Some};
 
 use std::alloc::Global;
 use std::io::{Error, ErrorKind, Read, Write};
 use std::{fmt, io};
 
-/// What one call does. After the last step of a script that step is made again, and an empty script
-/// moves all that it can.
+/// What one call does. The last step of a script repeats, and an empty script moves as many bytes
+/// as it can.
 #[derive(Debug, Clone, Copy, PartialEq, Eq)]
 pub enum Step {
-    /// At most so many bytes are moved. A reader moves one at least, if it has one.
+    /// Moves at most this many bytes. A reader that has a byte moves at least one.
     Move(usize),
-    /// The call is interrupted, and moves none.
+    /// The call is interrupted, and moves no byte.
     Interrupt,
-    /// The call would have to wait, and moves none.
+    /// The call would block, and moves no byte.
     Block,
     /// The call fails.
     Fail,
@@ -31,9 +31,9 @@ fn next_step(script: &[Step]) -> (Step, &[Step]) {
 /// A reader of these bytes.
 #[derive(Debug, Drop)]
 pub struct ScriptedReader<'a> {
-    /// What it has left.
+    /// The bytes that are not read yet.
     pub rest: &'a [u8],
-    /// What its next calls do.
+    /// The script of its next calls.
     pub script: &'a [Step],
 }
 
@@ -58,21 +58,21 @@ impl Read for ScriptedReader<'_> {
     }
 }
 
-/// A writer that keeps what it took.
+/// A writer that keeps the bytes that it accepted.
 #[derive(Debug, Drop)]
 pub struct ScriptedWriter<'a> {
-    /// What it took.
+    /// The accepted bytes.
     pub taken: Vec<u8>,
-    /// What its next calls of `write` do.
+    /// The script of its next calls of `write`.
     pub script: &'a [Step],
     /// Whether its flushes fail.
     pub flush_fails: bool,
-    /// How many flushes were asked of it, up to 255.
+    /// The number of flushes, up to 255.
     pub flushes: u8,
 }
 
 impl<'a> ScriptedWriter<'a> {
-    /// A writer that took nothing yet, whose flushes succeed.
+    /// An empty writer, whose flushes succeed.
     pub fn new(alloc: Global, script: &'a [Step]) -> Self {
         ScriptedWriter {
             taken: Vec::new(alloc),
@@ -110,12 +110,12 @@ impl Write for ScriptedWriter<'_> {
     }
 }
 
-/// A writer of text that fails once it has taken so many calls, and counts how often it failed.
+/// A text writer that fails after a number of calls, and counts its failures.
 #[derive(Debug, Drop)]
 pub struct FailingText {
-    /// How many calls it still takes.
+    /// The number of calls that still succeed.
     pub calls: usize,
-    /// How often it failed.
+    /// The number of calls that failed.
     pub faults: usize,
 }
 

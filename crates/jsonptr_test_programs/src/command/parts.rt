@@ -1,4 +1,4 @@
-//! What no clause says: that reading and writing succeed, and which fault comes.
+//! What no contract says: that reading and writing succeed, and which error is returned.
 use crate::command::fakes::{ScriptedReader, ScriptedWriter, Step};
 use jsonptr_command::fault::RunFault;
 use jsonptr_command::input::{InputFault, read_all};
@@ -9,7 +9,7 @@ use std::alloc::{AllocError, Global};
 
 const TEXT: &[u8] = b"{\"a\":1}";
 
-/// Whether a reader of these bytes and this script is read to its end.
+/// Whether a reader with these bytes and this script is read to its end.
 fn is_read_whole(alloc: Global, bytes: &[u8], script: &[Step]) -> bool {
     let mut reader = ScriptedReader {
         rest: bytes,
@@ -55,7 +55,7 @@ fn reads_more_than_one_chunk(rt: HostRuntime) -> Result<(), AllocError> {
     Ok(())
 }
 
-/// Whether reading `TEXT` fails by this script, and leaves these bytes.
+/// Whether reading `TEXT` with this script fails, and leaves these bytes.
 fn fails_before(alloc: Global, script: &[Step], left: &[u8]) -> bool {
     let mut reader = ScriptedReader { rest: TEXT, script };
     let read = read_all(alloc, &mut reader);
@@ -77,7 +77,7 @@ fn a_read_that_fails_ends_it(rt: HostRuntime) {
     }
 }
 
-/// Whether writing `TEXT` by this script flushes once and succeeds.
+/// Whether writing `TEXT` with this script flushes once and succeeds.
 fn is_written(alloc: Global, script: &[Step]) -> bool {
     let mut writer = ScriptedWriter::new(alloc, script);
     let written = write_line(&mut writer, TEXT);
@@ -92,7 +92,7 @@ fn writes_the_line(rt: HostRuntime) {
     }
 }
 
-/// Whether writing `TEXT` by this script fails with no flush, and leaves this front.
+/// Whether writing `TEXT` with this script fails without a flush, after this prefix.
 fn fails_behind(alloc: Global, script: &[Step], front: &[u8]) -> bool {
     let mut writer = ScriptedWriter::new(alloc, script);
     let written = write_line(&mut writer, TEXT);
@@ -119,7 +119,7 @@ fn a_write_that_fails_leaves_the_front(rt: HostRuntime) {
     }
 }
 
-/// Whether writing `TEXT` fails by its flush alone.
+/// Whether writing `TEXT` fails only because of its flush.
 fn fails_to_flush(alloc: Global) -> bool {
     let mut writer = ScriptedWriter::new(alloc, &[]);
     writer.flush_fails = true;
@@ -132,12 +132,12 @@ fn a_flush_that_fails_is_told(rt: HostRuntime) {
     assert!(rt; fails_to_flush(rt.alloc()));
 }
 
-/// Whether these bytes are no JSON.
+/// Whether parsing these bytes as JSON fails.
 fn is_no_json(alloc: Global, bytes: &[u8]) -> bool {
     matches!(read_json(alloc, bytes), Ok(None))
 }
 
-/// Whether a text is JSON that is written as this line.
+/// Whether a text parses as JSON and is written as this line.
 fn is_written_as(alloc: Global, text: &str, line: &str) -> Result<bool, AllocError> {
     match read_json(alloc, text.as_bytes())? {
         Some(value) => Ok(json_line(alloc, &value)?.as_str() == line),
@@ -162,7 +162,7 @@ fn reads_json(rt: HostRuntime) -> Result<(), AllocError> {
     Ok(())
 }
 
-/// The text of so many arrays, one in the other, around a number.
+/// The text of a number in this many nested arrays.
 fn nested(alloc: Global, depth: usize) -> Result<Vec<u8>, AllocError> {
     let mut text = Vec::new(alloc);
     for _ in 0..depth {
@@ -175,7 +175,7 @@ fn nested(alloc: Global, depth: usize) -> Result<Vec<u8>, AllocError> {
     Ok(text)
 }
 
-/// Whether so many arrays are JSON that is read.
+/// Whether a number in this many nested arrays is parsed.
 fn is_read_at(alloc: Global, depth: usize) -> Result<bool, AllocError> {
     let text = nested(alloc, depth)?;
     Ok(read_json(alloc, text.as_slice())?.is_some())
@@ -192,7 +192,7 @@ fn reads_json_to_a_depth(rt: HostRuntime) -> Result<(), AllocError> {
 /// Reads slowly, and is interrupted.
 const SLOWLY: &[Step] = &[Step::Move(2), Step::Interrupt, Step::Move(1)];
 
-/// Whether a reader of these bytes gives a document.
+/// Whether a document is read from these bytes.
 fn is_document(alloc: Global, bytes: &[u8]) -> bool {
     let mut reader = ScriptedReader {
         rest: bytes,
@@ -201,7 +201,7 @@ fn is_document(alloc: Global, bytes: &[u8]) -> bool {
     read_json_input(alloc, &mut reader).is_ok()
 }
 
-/// Whether a reader of these bytes is told that they are no JSON.
+/// Whether reading these bytes fails because they are not JSON.
 fn is_no_document(alloc: Global, bytes: &[u8]) -> bool {
     let mut reader = ScriptedReader {
         rest: bytes,
@@ -213,7 +213,7 @@ fn is_no_document(alloc: Global, bytes: &[u8]) -> bool {
     )
 }
 
-/// Whether a reader that fails behind `TEXT` is told that reading failed.
+/// Whether a reader that fails after `TEXT` leads to the error that reading failed.
 fn is_document_unread(alloc: Global) -> bool {
     let mut reader = ScriptedReader {
         rest: TEXT,
@@ -231,7 +231,7 @@ fn reads_a_document(rt: HostRuntime) {
     assert!(rt; is_document_unread(rt.alloc()));
 }
 
-/// Whether a fault displays as this text.
+/// Whether an error displays as this text.
 fn is_told(alloc: Global, fault: &RunFault, text: &str) -> Result<bool, AllocError> {
     let told = format!(in alloc; "{fault}")?;
     Ok(told.as_str() == text)

@@ -1,4 +1,4 @@
-//! Tests of whole runs on readers and writers that fail at each place, or take their time.
+//! Whole runs on readers and writers that fail at each position, or need several calls.
 use crate::command::fakes::{FailingText, ScriptedReader, ScriptedWriter, Step};
 use jsonptr::{ParseError, resolve};
 use jsonptr_command::fault::RunFault;
@@ -28,7 +28,7 @@ const NOT_READING: [(&[&str], &[u8]); 2] = [
     (&["split", "/a~1b/", "1"], b"[\"/a~1b\",\"/\"]\n"),
 ];
 
-/// What a run left: its status, what was written, the flushes, and how many steps the scripts had left.
+/// The result of a run: status, output, number of flushes, and the steps that the scripts have left.
 #[derive(Debug, Drop)]
 struct Ran {
     status: u8,
@@ -38,7 +38,7 @@ struct Ran {
     writes_left: usize,
 }
 
-/// The words of a line, as the program is given them.
+/// The words of a line, as arguments of the program.
 fn words_of(alloc: Global, line: &[&str]) -> Result<Vec<String>, AllocError> {
     let mut words = Vec::new(alloc);
     for word in line {
@@ -76,7 +76,7 @@ fn run_on(
     })
 }
 
-/// Whether the program takes the input for no JSON, and writes nothing.
+/// Whether the program reports that the input is not JSON, and writes nothing.
 fn is_no_json(alloc: Global, words: &[&str], input: &[u8]) -> Result<bool, AllocError> {
     let ran = run_on(alloc, words, input, ALL, ALL, false)?;
     Ok(ran.status == 3 && ran.written.is_empty())
@@ -95,8 +95,8 @@ fn fronts_of_a_text_are_none(rt: HostRuntime) -> Result<(), AllocError> {
     Ok(())
 }
 
-/// Whether a run is told that reading failed and writes nothing, where so many bytes are read and then this happens. Two
-/// steps are left then.
+/// Whether a run reports that reading failed and writes nothing, if this step comes after this many bytes. Two steps are
+/// left then.
 fn fails_to_read(
     alloc: Global,
     words: &[&str],
@@ -169,13 +169,13 @@ const PAST_THE_END: &[Step] = &[
     Step::Fail,
 ];
 
-/// The status of a run, and how many steps are left after the end.
+/// The status of a run, and the number of steps left after the end of the input.
 fn left_of(alloc: Global, words: &[&str], input: &[u8]) -> Result<(u8, usize), AllocError> {
     let ran = run_on(alloc, words, input, PAST_THE_END, ALL, false)?;
     Ok((ran.status, ran.reads_left))
 }
 
-/// Whether the program writes this line for `TEXT`, and refuses what is no JSON, with two steps left after the end.
+/// Whether the program writes this line for `TEXT`, fails on other input, and leaves two steps.
 fn reads_no_further(alloc: Global, words: &[&str], line: &[u8]) -> Result<bool, AllocError> {
     Ok(
         writes_line(alloc, words, PAST_THE_END, line)?
@@ -207,7 +207,7 @@ fn long_text(alloc: Global) -> Result<Vec<u8>, AllocError> {
     Ok(text)
 }
 
-/// Whether a run ends so that writes this text and a line end, and flushes once.
+/// Whether a run ends with this status, writes this text and a line feed, and flushes once.
 fn writes_back(
     alloc: Global,
     text: &[u8],
@@ -233,8 +233,8 @@ fn more_reads_and_writes_than_two_bytes_count(rt: HostRuntime) -> Result<(), All
     Ok(())
 }
 
-/// Whether a run is told that writing failed and flushes nothing, where this front is written and then this happens. Two
-/// steps are left then.
+/// Whether a run reports that writing failed and does not flush, if this step comes after this prefix. Two steps are left
+/// then.
 fn fails_to_write(
     alloc: Global,
     words: &[&str],
@@ -261,7 +261,7 @@ fn writers_that_fail_at_each_place(rt: HostRuntime) -> Result<(), AllocError> {
     Ok(())
 }
 
-/// Whether a fault is told to a writer that takes so many calls, or the writer fails once.
+/// Whether an error is displayed on a writer with this many calls, or the writer fails once.
 fn is_told_once(fault: &RunFault, calls: usize) -> bool {
     let mut writer = FailingText { calls, faults: 0 };
     match write!(&mut writer, "{fault}") {

@@ -1,4 +1,4 @@
-//! Examples of the errors that parsing gives, and of faults.
+//! Examples of parse errors and of `Fault`.
 use jsonptr::{Fault, ParseError, Pointer, PointerBuf};
 use std::test::Fail;
 

@@ -1,4 +1,4 @@
-//! How the documents of the protocol are read and shown.
+//! Parses and displays the documents of the protocol.
 use std::alloc::{AllocError, Global};
 use toml::{Table, Value as TomlValue};
 
