@@ -1,4 +1,0 @@
-//! The examples that the documentation of pointers gives, line for line.
-mod bufs;
-mod cuts;
-mod pointers;

@@ -1,0 +1,29 @@
+//! Sessions on TOML documents: every field of every error.
+use crate::session::refusals::{no_position, no_value, text};
+use jsonptr::{ReplaceError, resolve};
+use jsonptr_session::Call;
+use std::test::Fail;
+use toml::Value;
+
+/// The document for the errors.
+const DATE: &str = "{ d = 1979-05-27 }";
+
+#[test]
+fn pointers_that_name_no_value(rt: HostRuntime) -> Result<(), Fail> {
+    let below = resolve::Error::Unreachable {
+        position: 1,
+        offset: 2,
+    };
+    let read = no_value::<Value>(&rt, "/d/x", DATE, Call::Resolve)?;
+    let written = no_value(&rt, "/d/x", DATE, Call::Write(Value::Integer(1)))?;
+    assert!(rt; read == below && written == below);
+    Ok(())
+}
+
+#[test]
+fn a_position_that_no_token_has(rt: HostRuntime) -> Result<(), Fail> {
+    let call = Call::Replace(2, text(&rt, "x")?);
+    let error = no_position::<Value>(&rt, "/d/x", DATE, call)?;
+    assert_eq!(rt; error, ReplaceError { index: 2, count: 2 });
+    Ok(())
+}

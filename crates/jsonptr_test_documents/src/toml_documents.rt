@@ -1,0 +1,223 @@
+//! TOML documents: each call once through the bound, and each error.
+use jsonptr::index::{IntegerCause, OutOfBoundsError, ParseIndexError};
+use jsonptr::{Assign, Delete, Fault, Pointer, Resolve, ResolveMut, assign, resolve};
+use std::alloc::Global;
+use std::mem;
+use std::test::Fail;
+use toml::Value;
+
+/// Parses a value.
+fn value(alloc: Global, text: &str) -> Result<Value, Fail> {
+    Ok(Value::from_str(alloc, text).ok().ok_or("a value")?)
+}
+
+/// Whether a value equals the one that a text parses to.
+fn is_value(alloc: Global, there: &Value, text: &str) -> Result<bool, Fail> {
+    Ok(*there == value(alloc, text)?)
+}
+
+/// A copy of the value at a pointer, in any kind of document.
+fn found<R: Resolve<Value = Value, Error = resolve::Error>>(
+    document: &R,
+    alloc: Global,
+    pointer: &str,
+) -> Result<Result<Value, resolve::Error>, Fail> {
+    match document.resolve(alloc, Pointer::parse(pointer)?) {
+        Ok(value) => Ok(Ok(value.clone()?)),
+        Err(Fault::Refused(error)) => Ok(Err(error)),
+        Err(Fault::Memory(error)) => Err(Fail::from(error)),
+    }
+}
+
+/// Replaces the value at a pointer in any kind of document, and returns the old one.
+fn swapped<R: ResolveMut<Value = Value, Error = resolve::Error>>(
+    document: &mut R,
+    alloc: Global,
+    pointer: &str,
+    value: Value,
+) -> Result<Result<Value, resolve::Error>, Fail> {
+    match document.resolve_mut(alloc, Pointer::parse(pointer)?) {
+        Ok(place) => Ok(Ok(mem::replace(place, value))),
+        Err(Fault::Refused(error)) => Ok(Err(error)),
+        Err(Fault::Memory(error)) => Err(Fail::from(error)),
+    }
+}
+
+/// Assigns a value in any kind of document, and returns the replaced value.
+fn assigned<A: Assign<Value = Value, Error = assign::Error>>(
+    document: &mut A,
+    alloc: Global,
+    pointer: &str,
+    value: Value,
+) -> Result<Result<Option<Value>, assign::Error>, Fail> {
+    match document.assign(alloc, Pointer::parse(pointer)?, value) {
+        Ok(old) => Ok(Ok(old)),
+        Err(Fault::Refused(error)) => Ok(Err(error)),
+        Err(Fault::Memory(error)) => Err(Fail::from(error)),
+    }
+}
+
+/// Deletes the value at a pointer in any kind of document.
+fn taken<D: Delete<Value = Value>>(
+    document: &mut D,
+    alloc: Global,
+    pointer: &str,
+) -> Result<Option<Value>, Fail> {
+    Ok(document.delete(alloc, Pointer::parse(pointer)?)?)
+}
+
+/// Deletes the first of two elements. Whether it is returned and the other one moves up.
+fn closes_up(alloc: Global, root: &mut Value) -> Result<bool, Fail> {
+    let first = taken(root, alloc, "/a/0")?.ok_or("the first")?;
+    Ok(first.as_integer() == Some(1) && is_value(alloc, root, "{ a = [2] }")?)
+}
+
+/// Assigns the first element of a missing array. Whether the document is expanded.
+fn grows(alloc: Global, root: &mut Value) -> Result<bool, Fail> {
+    let three = assigned(root, alloc, "/b/-", Value::Integer(3))?.ok();
+    let fresh = three.ok_or("assigned")?.is_none();
+    Ok(fresh && is_value(alloc, root, "{ a = [2], b = [3] }")?)
+}
+
+#[test]
+fn an_array_closes_up_and_another_grows(rt: HostRuntime) -> Result<(), Fail> {
+    let mut root = value(rt.alloc(), "{ a = [1, 2] }")?;
+    let steps = (
+        closes_up(rt.alloc(), &mut root)?,
+        grows(rt.alloc(), &mut root)?,
+    );
+    assert_eq!(rt; steps, (true, true));
+    Ok(())
+}
+
+#[test]
+fn finds_through_the_bound(rt: HostRuntime) -> Result<(), Fail> {
+    let whole = "{ 'a/b' = [1, { 'm~n' = 'x' }], '' = 07:32, t = { f = 1.5 } }";
+    let root = value(rt.alloc(), whole)?;
+    for (pointer, want) in [("/a~1b/1/m~0n", "'x'"), ("/", "07:32")] {
+        let there = found(&root, rt.alloc(), pointer)?.ok().ok_or("found")?;
+        assert!(rt; is_value(rt.alloc(), &there, want)?, "at {pointer}");
+    }
+    Ok(())
+}
+
+/// Whether `resolve_mut` fails with this error at a pointer in a document, `delete` finds nothing, and both leave
+/// the document's text unchanged.
+fn stays(
+    alloc: Global,
+    root: &mut Value,
+    pointer: &str,
+    why: &resolve::Error,
+    text: &str,
+) -> Result<bool, Fail> {
+    let again = swapped(root, alloc, pointer, Value::Boolean(true))?.err();
+    let refused = again.ok_or("a refusal")? == *why && is_value(alloc, root, text)?;
+    let nothing = taken(root, alloc, pointer)?.is_none();
+    Ok(refused && nothing && is_value(alloc, root, text)?)
+}
+
+/// Whether resolving a pointer fails with this error and leaves the document unchanged.
+fn is_refusal(
+    alloc: Global,
+    text: &str,
+    pointer: &str,
+    want: resolve::Error,
+) -> Result<bool, Fail> {
+    let mut root = value(alloc, text)?;
+    let error = found(&root, alloc, pointer)?.err();
+    Ok(error.ok_or("a refusal")? == want && stays(alloc, &mut root, pointer, &want, text)?)
+}
+
+#[test]
+fn names_nothing(rt: HostRuntime) -> Result<(), Fail> {
+    for (text, pointer, want) in [
+        (
+            "{ 'a/b' = {} }",
+            "/a~1b/x",
+            resolve::Error::NotFound {
+                position: 1,
+                offset: 5,
+            },
+        ),
+        (
+            "{ 'é' = [07:32] }",
+            "/é/0/a",
+            resolve::Error::Unreachable {
+                position: 2,
+                offset: 5,
+            },
+        ),
+        (
+            "{ a = [1, 2] }",
+            "/a/-",
+            resolve::Error::OutOfBounds {
+                position: 1,
+                offset: 2,
+                source: OutOfBoundsError {
+                    length: 2,
+                    index: 2,
+                },
+            },
+        ),
+        (
+            "[1, 2]",
+            "/01",
+            resolve::Error::FailedToParseIndex {
+                position: 0,
+                offset: 0,
+                source: ParseIndexError::LeadingZeros,
+            },
+        ),
+    ] {
+        assert!(rt;
+            is_refusal(rt.alloc(), text, pointer, want)?,
+            "at {pointer}"
+        );
+    }
+    Ok(())
+}
+
+/// Replaces an element through a mutable borrow. Whether the old one is returned and the new one is there.
+fn swaps_an_element(alloc: Global, root: &mut Value) -> Result<bool, Fail> {
+    let old = swapped(root, alloc, "/a~1b/1", Value::Boolean(true))?.ok();
+    let two = old.ok_or("lent")?.as_integer();
+    Ok(two == Some(2) && is_value(alloc, root, "{ 'a/b' = [1, true], c = 3 }")?)
+}
+
+#[test]
+fn writes_through_the_bound(rt: HostRuntime) -> Result<(), Fail> {
+    let mut root = value(rt.alloc(), "{ 'a/b' = [1, 2], c = 3 }")?;
+    assert!(rt; swaps_an_element(rt.alloc(), &mut root)?);
+    Ok(())
+}
+
+/// The error of an assignment that leaves the document unchanged.
+fn no_place(alloc: Global, text: &str, pointer: &str) -> Result<assign::Error, Fail> {
+    let mut root = value(alloc, text)?;
+    let refused = assigned(&mut root, alloc, pointer, Value::Boolean(true))?.err();
+    if !is_value(alloc, &root, text)? {
+        return Err("the document as it was".into());
+    }
+    Ok(refused.ok_or("a refusal")?)
+}
+
+#[test]
+fn assigns_at_no_place_of_an_array(rt: HostRuntime) -> Result<(), Fail> {
+    let alloc = rt.alloc();
+    let past = assign::Error::OutOfBounds {
+        position: 1,
+        offset: 5,
+        source: OutOfBoundsError {
+            length: 1,
+            index: 3,
+        },
+    };
+    assert_eq!(rt; no_place(alloc, "{ 'a/b' = [1] }", "/a~1b/3/x")?, past);
+    let empty = assign::Error::FailedToParseIndex {
+        position: 0,
+        offset: 0,
+        source: ParseIndexError::InvalidInteger(IntegerCause::Empty),
+    };
+    assert_eq!(rt; no_place(alloc, "[1]", "/")?, empty);
+    Ok(())
+}

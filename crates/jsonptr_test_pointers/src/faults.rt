@@ -1,0 +1,46 @@
+//! Calls that can return an error and can run out of memory.
+use crate::bounds::shown;
+use jsonptr::{Fault, ParseError, PointerBuf};
+use std::alloc::AllocError;
+use std::error::Error;
+use std::test::Fail;
+
+/// Fails for a number above 9, and runs out of memory for 0.
+fn refused_or_full(n: u8) -> Result<(), Fault<u8>> {
+    if n > 9 {
+        return Err(Fault::Refused(n));
+    }
+    if n == 0 {
+        Err(AllocError)?;
+    }
+    Ok(())
+}
+
+#[test]
+fn both_faults(rt: HostRuntime) {
+    assert!(rt; matches!(refused_or_full(12), Err(Fault::Refused(12))));
+    assert!(rt; matches!(refused_or_full(0), Err(Fault::Memory(_))));
+    assert!(rt; refused_or_full(1).is_ok());
+}
+
+/// The displayed text of an error, through the bound.
+fn told<E: Error>(rt: &HostRuntime, error: &E) -> Result<String, Fail> {
+    shown(rt, error)
+}
+
+#[test]
+fn what_a_fault_displays(rt: HostRuntime) -> Result<(), Fail> {
+    let memory: Fault<ParseError> = Fault::from(AllocError);
+    assert_eq!(rt;
+        told(&rt, &memory)?.as_str(),
+        shown(&rt, &AllocError)?.as_str()
+    );
+    match PointerBuf::from_text(rt.alloc(), "foo") {
+        Err(fault) => assert_eq!(rt;
+            told(&rt, &fault)?.as_str(),
+            "json pointer failed to parse; does not start with a slash ('/') and is not empty"
+        ),
+        Ok(_) => return Err("a refusal".into()),
+    }
+    Ok(())
+}

@@ -1,0 +1,7 @@
+//! Tabled pointers compared with plain ones: tables after edits, and a long walk of edits.
+mod bounds;
+mod documented;
+mod edits;
+mod parts;
+mod pointers;
+mod walk;

@@ -1,0 +1,48 @@
+//! Rows of a document that is as deep as a pointer has tokens.
+use crate::documents::{resolve, written};
+use crate::kinds::Document;
+use crate::row::{NoRow, Row};
+use crate::stage;
+use jsonptr::Pointer;
+
+/// Runs a row: the kind of document, the pointer, and the calls to make in turn, on a scalar.
+pub fn run(rt: &HostRuntime, mut row: Row<'_>) -> anyhow::Result<()> {
+    match row.next() {
+        "json" => run_on(rt, serde_json::Value::read(rt.alloc(), "0")?, row),
+        "toml" => run_on(rt, toml::Value::read(rt.alloc(), "0")?, row),
+        _ => Err(NoRow.into()),
+    }
+}
+
+/// Runs the calls on a document, and then takes it apart where the row says so, or lets it go as it is.
+fn run_on<D: Document>(rt: &HostRuntime, mut document: D, mut row: Row<'_>) -> anyhow::Result<()> {
+    let pointer = Pointer::parse(row.next())?;
+    for _turn in 0..u64::MAX {
+        match row.next() {
+            "drop" => return Ok(()),
+            "take apart" => {
+                take_apart(document, pointer.len());
+                return Ok(());
+            }
+            "resolve" => resolve(rt, &document, pointer)?,
+            call => {
+                let value = D::read(rt.alloc(), "1")?;
+                stage::begin(rt)?;
+                let said = written(rt.alloc(), call, &mut document, pointer, value);
+                stage::answer(rt, said)?;
+            }
+        }
+    }
+    Err(NoRow.into())
+}
+
+/// Lets a document go of at most so many values within one another, from the outermost on.
+fn take_apart<D: Document>(document: D, depth: usize) {
+    let mut rest = Some(document);
+    for _turn in 0..=depth {
+        rest = match rest {
+            Some(value) => value.last(),
+            None => None,
+        };
+    }
+}

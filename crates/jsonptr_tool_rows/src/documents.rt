@@ -1,0 +1,74 @@
+//! Rows of the calls on a document at a pointer.
+use crate::kinds::Document;
+use crate::row::{NoRow, Row};
+use crate::said::Said;
+use crate::stage;
+use jsonptr::Pointer;
+use std::alloc::Global;
+
+/// Runs a row: the kind of document, the document, the call, the pointer, and a value.
+pub fn run(rt: &HostRuntime, mut row: Row<'_>) -> anyhow::Result<()> {
+    match row.next() {
+        "json" => run_on(rt, serde_json::Value::read(rt.alloc(), row.next())?, row),
+        "toml" => run_on(rt, toml::Value::read(rt.alloc(), row.next())?, row),
+        _ => Err(NoRow.into()),
+    }
+}
+
+/// Runs the call on a document, which is written before and after.
+fn run_on<D: Document>(rt: &HostRuntime, mut document: D, mut row: Row<'_>) -> anyhow::Result<()> {
+    let call = row.next();
+    let pointer = Pointer::parse(row.next())?;
+    println!(rt; "{document}")?;
+    if call == "resolve" {
+        resolve(rt, &document, pointer)?;
+    } else {
+        let value = D::read(rt.alloc(), row.next())?;
+        stage::begin(rt)?;
+        let said = written(rt.alloc(), call, &mut document, pointer, value);
+        stage::answer(rt, said)?;
+    }
+    stage::state(rt)?;
+    Ok(println!(rt; "{document}")?)
+}
+
+/// Finds the value that the pointer names.
+pub fn resolve<D: Document>(
+    rt: &HostRuntime,
+    document: &D,
+    pointer: Pointer<'_>,
+) -> anyhow::Result<()> {
+    stage::begin(rt)?;
+    let said = match document.resolve(rt.alloc(), pointer) {
+        Ok(value) => value.said_lent(),
+        Err(fault) => Said::of_no_value(fault),
+    };
+    stage::answer(rt, Some(said))
+}
+
+/// What a call answers that changes the document.
+pub fn written<D: Document>(
+    alloc: Global,
+    call: &str,
+    document: &mut D,
+    pointer: Pointer<'_>,
+    value: D,
+) -> Option<Said<'static>> {
+    match call {
+        "write" => Some(match document.write(alloc, pointer, value) {
+            Ok(old) => old.said(),
+            Err(fault) => Said::of_no_value(fault),
+        }),
+        "assign" => Some(match document.assign(alloc, pointer, value) {
+            Ok(Some(old)) => old.said(),
+            Ok(None) => Said::Nothing,
+            Err(fault) => Said::of_no_place(fault),
+        }),
+        "delete" => Some(match document.delete(alloc, pointer) {
+            Ok(Some(old)) => old.said(),
+            Ok(None) => Said::Nothing,
+            Err(_) => Said::Memory,
+        }),
+        _ => None,
+    }
+}

@@ -1,0 +1,79 @@
+//! Rows of the calls that change a pointer of its own.
+use crate::kinds::tabled;
+use crate::row::{NoRow, Row};
+use crate::said::Said;
+use crate::stage;
+use jsonptr::{Pointer, Token};
+use jsonptr_tabled::EditPointer;
+use std::borrow::CowStr;
+
+/// Runs a row: the kind of pointer, the call, the pointer, a text, and a place.
+pub fn run(rt: &HostRuntime, mut row: Row<'_>) -> anyhow::Result<()> {
+    let (kind, call) = (row.next(), row.next());
+    let pointer = Pointer::parse(row.next())?;
+    match kind {
+        "plain" => run_on(rt, &mut pointer.to_buf(rt.alloc())?, call, row),
+        "tabled" => run_on(rt, &mut tabled(rt.alloc(), pointer)?, call, row),
+        _ => Err(NoRow.into()),
+    }
+}
+
+/// Runs the call on a pointer, which is written before and after.
+fn run_on<P: EditPointer>(
+    rt: &HostRuntime,
+    pointer: &mut P,
+    call: &str,
+    mut row: Row<'_>,
+) -> anyhow::Result<()> {
+    let text = row.next();
+    let place = row.number()?;
+    let token = Token::new(rt.alloc(), CowStr::Borrowed(text))?;
+    let kept = String::from_str(rt.alloc(), text)?;
+    println!(rt; "{}", pointer.as_ptr())?;
+    stage::begin(rt)?;
+    let said = match edited(pointer, call, token, place) {
+        None => joined(pointer, call, text, kept),
+        said => said,
+    };
+    stage::answer(rt, said)?;
+    stage::state(rt)?;
+    Ok(println!(rt; "{}", pointer.as_ptr())?)
+}
+
+/// What a call answers that changes a token.
+fn edited<P: EditPointer>(
+    pointer: &mut P,
+    call: &str,
+    token: Token<'_>,
+    place: usize,
+) -> Option<Said<'static>> {
+    match call {
+        "push_front" => Some(Said::of_done(pointer.push_front(token))),
+        "push_back" => Some(Said::of_done(pointer.push_back(token))),
+        "pop_front" => Some(Said::of_pop(pointer.pop_front())),
+        "pop_back" => Some(Said::of_pop(pointer.pop_back())),
+        "replace" => Some(Said::of_replace(pointer.replace(place, token))),
+        _ => None,
+    }
+}
+
+/// What a call answers that changes the whole.
+fn joined<P: EditPointer>(
+    pointer: &mut P,
+    call: &str,
+    text: &str,
+    kept: String,
+) -> Option<Said<'static>> {
+    match call {
+        "append" => Some(match Pointer::parse(text) {
+            Ok(other) => Said::of_done(pointer.append(other)),
+            Err(error) => Said::NoPointer(error),
+        }),
+        "set_text" => Some(Said::of_set(pointer.set_text(kept))),
+        "clear" => {
+            pointer.clear();
+            Some(Said::Done)
+        }
+        _ => None,
+    }
+}

@@ -1,0 +1,66 @@
+//! Runs one row that its input names: a call, what it is made with, what it answers, and what pointer and
+//! document are then. The gate runs it with requests for memory refused.
+#![tactic(auto)]
+
+mod bounds;
+mod calls;
+mod deep;
+mod documents;
+mod edits;
+mod failing;
+mod kinds;
+mod patches;
+mod pointers;
+mod ranges;
+mod reports;
+mod row;
+mod said;
+mod sessions;
+mod shows;
+mod stage;
+mod tabled;
+mod texts;
+mod tokens;
+mod undos;
+
+use row::{NoRow, Row};
+use std::io;
+
+fn main(rt: HostRuntime) -> anyhow::Result<()> {
+    let text = io::read_to_string(rt.alloc(), rt.stdin())?;
+    let mut row = Row::new(text.as_str());
+    match row.next() {
+        "text" => texts::run(&rt, row),
+        "text kept" => texts::run_kept(&rt, row),
+        "token" => tokens::run(&rt, row),
+        "token kept" => tokens::run_kept(&rt, row),
+        "token owned" => tokens::run_owned(&rt, row),
+        "number" => tokens::run_number(&rt, row),
+        "pointer" => pointers::run(&rt, row),
+        "pointers" => pointers::run_two(&rt, row),
+        "pointer with" => pointers::run_with(&rt, row),
+        "range" => pointers::run_range(&rt, row),
+        "tabled" => tabled::run(&rt, row),
+        "tabled two" => tabled::run_two(&rt, row),
+        "kept" => tabled::run_kept(&rt, row),
+        "edit" => edits::run(&rt, row),
+        "document" => documents::run(&rt, row),
+        "deep" => deep::run(&rt, row),
+        "undo" => undos::run(&rt, row),
+        "patch" => patches::run(&rt, row),
+        "patch back" => patches::run_deletion(&rt, row),
+        "session" => sessions::run(&rt, row),
+        "report" => reports::run(&rt, row),
+        "show" => shows::run(&rt, row),
+        "show failing" => shows::run_failing(&rt, row),
+        "show failing error" => shows::run_failing_error(&rt, row),
+        "report joined" => reports::run_joining(&rt, row),
+        "index" => bounds::run(&rt, row),
+        "order" => bounds::run_order(&rt, row),
+        "fields" => bounds::run_fields(&rt, row),
+        "invalid_encoding_len" => bounds::run_len(&rt, row),
+        "known" => bounds::run_known(&rt, row),
+        "hash" => shows::run_hashes(&rt, row),
+        _ => Err(NoRow.into()),
+    }
+}

@@ -1,0 +1,143 @@
+//! Rows of the calls of a borrowed pointer.
+use crate::row::Row;
+use crate::said::Said;
+use crate::{ranges, stage};
+use jsonptr::{Component, Pointer, PointerBuf, Token};
+use std::alloc::Global;
+use std::borrow::CowStr;
+
+/// Runs a row: the call, and the pointer.
+pub fn run(rt: &HostRuntime, mut row: Row<'_>) -> anyhow::Result<()> {
+    let call = row.next();
+    let pointer = Pointer::parse(row.next())?;
+    stage::begin(rt)?;
+    let said = match measured(call, pointer) {
+        None => match end_of(call, pointer) {
+            None => copied(rt.alloc(), call, pointer),
+            said => said,
+        },
+        said => said,
+    };
+    stage::answer(rt, said)
+}
+
+/// How much of it there is.
+fn measured<'a>(call: &str, pointer: Pointer<'a>) -> Option<Said<'a>> {
+    match call {
+        "as_str" => Some(Said::Text(pointer.as_str())),
+        "len" => Some(Said::Number(pointer.len())),
+        "is_empty" => Some(Said::Truth(pointer.is_empty())),
+        "is_root" => Some(Said::Truth(pointer.is_root())),
+        "count" => Some(Said::Number(pointer.count())),
+        "tokens" => Some(Said::of_place(pointer.tokens().last())),
+        "components" => Some(match pointer.components().last() {
+            Some(Component::Token(token)) => Said::Token(token),
+            Some(Component::Root) => Said::Text("root"),
+            None => Said::Nothing,
+        }),
+        _ => None,
+    }
+}
+
+/// What is at its ends.
+fn end_of<'a>(call: &str, pointer: Pointer<'a>) -> Option<Said<'a>> {
+    match call {
+        "front" => Some(Said::of_place(pointer.front())),
+        "first" => Some(Said::of_place(pointer.first())),
+        "back" => Some(Said::of_place(pointer.back())),
+        "last" => Some(Said::of_place(pointer.last())),
+        "parent" => Some(Said::of_part(pointer.parent())),
+        "split_front" => Some(match pointer.split_front() {
+            Some((token, rest)) => Said::SplitFront(token, rest),
+            None => Said::Nothing,
+        }),
+        "split_back" => Some(match pointer.split_back() {
+            Some((front, token)) => Said::SplitBack(front, token),
+            None => Said::Nothing,
+        }),
+        _ => None,
+    }
+}
+
+/// A copy of it.
+fn copied(alloc: Global, call: &str, pointer: Pointer<'_>) -> Option<Said<'static>> {
+    match call {
+        "to_buf" => Some(Said::of_plain(pointer.to_buf(alloc))),
+        "to_json_value" => Some(match pointer.to_json_value(alloc) {
+            Ok(value) => Said::Json(value),
+            Err(_) => Said::Memory,
+        }),
+        "PointerBuf::from_tokens" => {
+            Some(Said::of_plain(PointerBuf::from_tokens(alloc, pointer.tokens())))
+        }
+        _ => None,
+    }
+}
+
+/// Runs a row: the call, the pointer and another one.
+pub fn run_two(rt: &HostRuntime, mut row: Row<'_>) -> anyhow::Result<()> {
+    let call = row.next();
+    let pointer = Pointer::parse(row.next())?;
+    let other = Pointer::parse(row.next())?;
+    stage::begin(rt)?;
+    let said = compared(rt.alloc(), call, pointer, other);
+    stage::answer(rt, said)
+}
+
+/// How two pointers stand to each other.
+fn compared<'a>(
+    alloc: Global,
+    call: &str,
+    pointer: Pointer<'a>,
+    other: Pointer<'_>,
+) -> Option<Said<'a>> {
+    match call {
+        "starts_with" => Some(Said::Truth(pointer.starts_with(other))),
+        "ends_with" => Some(Said::Truth(pointer.ends_with(other))),
+        "strip_prefix" => Some(Said::of_part(pointer.strip_prefix(other))),
+        "strip_suffix" => Some(Said::of_part(pointer.strip_suffix(other))),
+        "intersection" => Some(Said::Pointer(pointer.intersection(other))),
+        "==" => Some(Said::Truth(pointer == other)),
+        "cmp" => Some(Said::Order(pointer.cmp(&other))),
+        "concat" => Some(Said::of_plain(pointer.concat(alloc, other))),
+        _ => None,
+    }
+}
+
+/// Runs a row: the call, the pointer, and a token, encoded.
+pub fn run_with(rt: &HostRuntime, mut row: Row<'_>) -> anyhow::Result<()> {
+    let call = row.next();
+    let pointer = Pointer::parse(row.next())?;
+    let token = Token::from_encoded(CowStr::Borrowed(row.next()))?;
+    stage::begin(rt)?;
+    let said = with(rt.alloc(), call, pointer, token);
+    stage::answer(rt, said)
+}
+
+/// The pointer with one token more.
+fn with(
+    alloc: Global,
+    call: &str,
+    pointer: Pointer<'_>,
+    token: Token<'_>,
+) -> Option<Said<'static>> {
+    match call {
+        "with_leading_token" => Some(Said::of_plain(pointer.with_leading_token(alloc, token))),
+        "with_trailing_token" => Some(Said::of_plain(pointer.with_trailing_token(alloc, token))),
+        _ => None,
+    }
+}
+
+/// Runs a row: the call, the pointer, and two numbers.
+pub fn run_range(rt: &HostRuntime, mut row: Row<'_>) -> anyhow::Result<()> {
+    let call = row.next();
+    let pointer = Pointer::parse(row.next())?;
+    let (first, second) = (row.number()?, row.number()?);
+    stage::begin(rt)?;
+    let said = match call {
+        "split_at_offset" => Some(Said::of_parts(pointer.split_at_offset(first))),
+        "split_at" => Some(Said::of_parts(pointer.split_at(first))),
+        _ => ranges::of_plain(call, pointer, first, second),
+    };
+    stage::answer(rt, said)
+}

@@ -1,0 +1,44 @@
+//! The parts of a pointer between two places.
+use crate::said::Said;
+use jsonptr::Pointer;
+use jsonptr_tabled::TabledPointer;
+use std::ops::Bound;
+
+/// Answers `get` with the range that is named, between two places.
+macro_rules! get {
+    ($call:expr, $pointer:expr, $first:expr, $second:expr) => {
+        match $call {
+            "get i" => Some(Said::of_place($pointer.get($first))),
+            "get i..j" => Some(Said::of_part($pointer.get($first..$second))),
+            "get i.." => Some(Said::of_part($pointer.get($first..))),
+            "get ..i" => Some(Said::of_part($pointer.get(..$first))),
+            "get .." => Some(Said::of_part($pointer.get(..))),
+            "get i..=j" => Some(Said::of_part($pointer.get($first..=$second))),
+            "get ..=i" => Some(Said::of_part($pointer.get(..=$first))),
+            "get bounds" => Some(Said::of_part(
+                $pointer.get((Bound::Excluded($first), Bound::Excluded($second))),
+            )),
+            _ => None,
+        }
+    };
+}
+
+/// Of a plain pointer.
+pub fn of_plain<'a>(
+    call: &str,
+    pointer: Pointer<'a>,
+    first: usize,
+    second: usize,
+) -> Option<Said<'a>> {
+    get!(call, pointer, first, second)
+}
+
+/// Of a tabled one.
+pub fn of_tabled<'a>(
+    call: &str,
+    pointer: &'a TabledPointer,
+    first: usize,
+    second: usize,
+) -> Option<Said<'a>> {
+    get!(call, pointer, first, second)
+}

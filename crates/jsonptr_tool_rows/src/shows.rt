@@ -1,0 +1,125 @@
+//! Rows of what displays and what is hashed, neither of which takes memory.
+use crate::failing::faults_told;
+use crate::kinds::tabled;
+use crate::row::{NoRow, Row};
+use crate::said::Said;
+use crate::stage;
+use jsonptr::index::{Index, OutOfBoundsError, ParseIndexError};
+use jsonptr::{Fault, InvalidEncoding, Pointer, ReplaceError, Token};
+use std::alloc::AllocError;
+use std::borrow::CowStr;
+use std::fmt::Display;
+use std::hash::{DefaultHasher, Hash, Hasher};
+
+/// Runs a row: the kind of thing, and its text, which is displayed while requests are counted.
+pub fn run(rt: &HostRuntime, mut row: Row<'_>) -> anyhow::Result<()> {
+    let (kind, text) = (row.next(), row.next());
+    match kind {
+        "token" => show(rt, &Token::from_encoded(CowStr::Borrowed(text))?),
+        "index" => show(
+            rt,
+            &Token::from_encoded(CowStr::Borrowed(text))?.to_index()?,
+        ),
+        "pointer" => show(rt, &Pointer::parse(text)?),
+        "plain" => show(rt, &Pointer::parse(text)?.to_buf(rt.alloc())?),
+        "tabled" => show(rt, &tabled(rt.alloc(), Pointer::parse(text)?)?),
+        _ => Err(NoRow.into()),
+    }
+}
+
+/// Displays a thing.
+pub fn show<D: Display>(rt: &HostRuntime, thing: &D) -> anyhow::Result<()> {
+    stage::begin(rt)?;
+    println!(rt; "{thing}")?;
+    Ok(stage::end(rt)?)
+}
+
+/// Runs a row: the kind of thing, and its text, which is displayed to writers that fail.
+pub fn run_failing(rt: &HostRuntime, mut row: Row<'_>) -> anyhow::Result<()> {
+    let (kind, text) = (row.next(), row.next());
+    match kind {
+        "token" => show_failing(rt, &Token::from_encoded(CowStr::Borrowed(text))?),
+        "index" => show_failing(
+            rt,
+            &Token::from_encoded(CowStr::Borrowed(text))?.to_index()?,
+        ),
+        "pointer" => show_failing(rt, &Pointer::parse(text)?),
+        "plain" => show_failing(rt, &Pointer::parse(text)?.to_buf(rt.alloc())?),
+        "tabled" => show_failing(rt, &tabled(rt.alloc(), Pointer::parse(text)?)?),
+        _ => Err(NoRow.into()),
+    }
+}
+
+/// Runs a row: the type of an error that no report has, which is displayed to writers that fail.
+pub fn run_failing_error(rt: &HostRuntime, mut row: Row<'_>) -> anyhow::Result<()> {
+    match row.next() {
+        "InvalidEncoding::Tilde" => show_failing(rt, &InvalidEncoding::Tilde),
+        "InvalidEncoding::Slash" => show_failing(rt, &InvalidEncoding::Slash),
+        "OutOfBoundsError" => show_failing(
+            rt,
+            &OutOfBoundsError {
+                length: 0,
+                index: 1,
+            },
+        ),
+        "ReplaceError" => show_failing(rt, &ReplaceError { index: 1, count: 0 }),
+        "InvalidCharacterError" => match Index::try_from("x") {
+            Err(ParseIndexError::InvalidCharacter(error)) => show_failing(rt, &error),
+            _ => Err(NoRow.into()),
+        },
+        "Fault::Refused" => show_failing(rt, &Fault::Refused(InvalidEncoding::Tilde)),
+        "Fault::Memory" => show_failing(rt, &memory()),
+        _ => Err(NoRow.into()),
+    }
+}
+
+/// Want of memory, beside a refusal.
+fn memory() -> Fault<InvalidEncoding> {
+    Fault::Memory(AllocError)
+}
+
+/// Displays a thing to writers that fail: whether it answers each fault, and writes nothing after it.
+pub fn show_failing<D: Display>(rt: &HostRuntime, thing: &D) -> anyhow::Result<()> {
+    stage::begin(rt)?;
+    let said = faults_told(thing);
+    stage::answer(rt, Some(said))
+}
+
+/// Runs a row: the kind of thing, and two texts, whose hashes are compared.
+pub fn run_hashes(rt: &HostRuntime, mut row: Row<'_>) -> anyhow::Result<()> {
+    let (kind, text, other) = (row.next(), row.next(), row.next());
+    let alloc = rt.alloc();
+    match kind {
+        "token" => compare(
+            rt,
+            &Token::from_encoded(CowStr::Borrowed(text))?,
+            &Token::from_encoded(CowStr::Borrowed(other))?,
+        ),
+        "pointer" => compare(rt, &Pointer::parse(text)?, &Pointer::parse(other)?),
+        "plain" => compare(
+            rt,
+            &Pointer::parse(text)?.to_buf(alloc)?,
+            &Pointer::parse(other)?.to_buf(alloc)?,
+        ),
+        "tabled" => compare(
+            rt,
+            &tabled(alloc, Pointer::parse(text)?)?,
+            &tabled(alloc, Pointer::parse(other)?)?,
+        ),
+        _ => Err(NoRow.into()),
+    }
+}
+
+/// Compares the hashes of two things.
+fn compare<T: Hash>(rt: &HostRuntime, first: &T, second: &T) -> anyhow::Result<()> {
+    stage::begin(rt)?;
+    let same = hash_of(first) == hash_of(second);
+    stage::answer(rt, Some(Said::Truth(same)))
+}
+
+/// The hash of a thing.
+fn hash_of<T: Hash>(thing: &T) -> u64 {
+    let mut state = DefaultHasher::new();
+    thing.hash(&mut state);
+    state.finish()
+}

@@ -1,0 +1,76 @@
+//! Rows of the calls that make something of a text.
+use crate::row::Row;
+use crate::said::Said;
+use crate::stage;
+use jsonptr::index::Index;
+use jsonptr::{Fault, Pointer, PointerBuf, Token};
+use jsonptr_tabled::TabledPointer;
+use std::alloc::Global;
+use std::borrow::CowStr;
+
+/// Runs a row: the call, and the text, which the call borrows.
+pub fn run(rt: &HostRuntime, mut row: Row<'_>) -> anyhow::Result<()> {
+    let (call, text) = (row.next(), row.next());
+    stage::begin(rt)?;
+    let said = made_of(rt.alloc(), call, text);
+    stage::answer(rt, said)
+}
+
+/// What a call that borrows the text answers.
+fn made_of<'a>(alloc: Global, call: &str, text: &'a str) -> Option<Said<'a>> {
+    match call {
+        "Token::new" => Some(Said::of_token(Token::new(alloc, CowStr::Borrowed(text)))),
+        "Token::from_encoded" => Some(match Token::from_encoded(CowStr::Borrowed(text)) {
+            Ok(token) => Said::Token(token),
+            Err(error) => Said::NoToken(error),
+        }),
+        "Pointer::parse" => Some(match Pointer::parse(text) {
+            Ok(pointer) => Said::Pointer(pointer),
+            Err(error) => Said::NoPointer(error),
+        }),
+        "PointerBuf::from_text" => Some(match PointerBuf::from_text(alloc, text) {
+            Ok(pointer) => Said::Plain(pointer),
+            Err(Fault::Refused(error)) => Said::NoPointer(error),
+            Err(Fault::Memory(_)) => Said::Memory,
+        }),
+        "Index::from_str" => Some(Said::of_index(text.parse())),
+        "Index::try_from" => Some(Said::of_index(Index::try_from(text))),
+        _ => None,
+    }
+}
+
+/// Runs a row: the call, and the text, which the call takes.
+pub fn run_kept(rt: &HostRuntime, mut row: Row<'_>) -> anyhow::Result<()> {
+    let call = row.next();
+    let text = String::from_str(rt.alloc(), row.next())?;
+    stage::begin(rt)?;
+    let said = kept_by(rt.alloc(), call, text);
+    stage::answer(rt, said)
+}
+
+/// What a call that takes the text answers.
+fn kept_by(alloc: Global, call: &str, text: String) -> Option<Said<'static>> {
+    match call {
+        "Token::new" => Some(Said::of_token(Token::new(alloc, CowStr::Owned(text)))),
+        "Token::from_encoded" => Some(match Token::from_encoded(CowStr::Owned(text)) {
+            Ok(token) => Said::Token(token),
+            Err(error) => Said::NoToken(error),
+        }),
+        "PointerBuf::parse" => Some(match PointerBuf::parse(text) {
+            Ok(pointer) => Said::Plain(pointer),
+            Err(report) => Said::NoText(report),
+        }),
+        "PointerBuf::try_from" => Some(match PointerBuf::try_from(text) {
+            Ok(pointer) => Said::Plain(pointer),
+            Err(error) => Said::NoPointer(error),
+        }),
+        "TabledPointer::parse" => Some(match TabledPointer::parse(alloc, text) {
+            Ok(pointer) => Said::Tabled(pointer),
+            Err(Fault::Refused(report)) => Said::NoText(report),
+            Err(Fault::Memory(_)) => Said::Memory,
+        }),
+        "Index::try_from" => Some(Said::of_index(Index::try_from(text))),
+        "Index::try_from lent" => Some(Said::of_index(Index::try_from(&text))),
+        _ => None,
+    }
+}

@@ -1,0 +1,84 @@
+#!/usr/bin/env python3
+"""Times this library and the Rust crate in one run, and prints the table of docs/SPEED.md.
+
+    tools/bench/speed.py [--rounds N] [--only WORD] OURS THEIRS [PROGRAM]
+
+OURS is the built program of crates/jsonptr_tool_bench, THEIRS that of tools/bench/original, PROGRAM that of
+crates/jsonptr_run. Each program runs in turn. The result of a case is its minimum over all rounds.
+"""
+import argparse
+import json
+import subprocess
+import tempfile
+import time
+
+from cases import cases
+
+
+def times_of(command, lines):
+    """Runs a program on the cases, and returns the picoseconds of each by its name."""
+    ran = subprocess.run(command, input=lines, stdout=subprocess.PIPE, encoding="utf-8", check=True)
+    return {name: int(least) for name, least in (it.split("\t") for it in ran.stdout.splitlines())}
+
+
+def least_of(old, new):
+    """Returns the minimum of both times for each name of `new`."""
+    return {name: min(least, old.get(name, least)) for name, least in new.items()}
+
+
+def seconds_of(command, path):
+    """Returns how long a run of a whole program takes on a file."""
+    with open(path, "rb") as given:
+        start = time.perf_counter()
+        subprocess.run(command, stdin=given, stdout=subprocess.DEVNULL, check=True)
+        return time.perf_counter() - start
+
+
+def whole_programs(words):
+    """Returns the picoseconds of both programs, each on files."""
+    ours, theirs = {}, {}
+    for name, count in (("of 100 bytes", 1), ("of 8 megabytes", 100_000)):
+        document = [{"id": number, "name": f"name {number}", "tags": ["x", "y"], "a/b": {"m~n": number}} for number in range(count)]
+        with tempfile.NamedTemporaryFile("w", suffix=".json") as file:
+            json.dump(document, file)
+            file.flush()
+            pointer = f"/{count - 1}/a~1b/m~0n"
+            for _ in range(5 * words.rounds):
+                for side, program in ((ours, words.program), (theirs, words.theirs)):
+                    least = int(1e12 * seconds_of([program, "resolve", pointer], file.name))
+                    name_of_case = f"the whole program, a file {name}"
+                    side[name_of_case] = min(least, side.get(name_of_case, least))
+    return ours, theirs
+
+
+def shown(picoseconds):
+    """Returns a time in a unit that suits it."""
+    for unit, size in (("ns", 1e3), ("µs", 1e6), ("ms", 1e9)):
+        if picoseconds < 1000 * size:
+            return f"{picoseconds / size:.3g} {unit}"
+    return f"{picoseconds / 1e12:.3g} s"
+
+
+def main():
+    words = argparse.ArgumentParser()
+    words.add_argument("--rounds", type=int, default=3)
+    words.add_argument("--only", default="")
+    words.add_argument("ours")
+    words.add_argument("theirs")
+    words.add_argument("program", nargs="?")
+    words = words.parse_args()
+    lines = "".join("\t".join(it) + "\n" for it in cases() if words.only in it[0])
+    ours, theirs = {}, {}
+    for _ in range(words.rounds):
+        ours = least_of(ours, times_of([words.ours, "0"], lines))
+        theirs = least_of(theirs, times_of([words.theirs], lines))
+    if words.program:
+        for side, programs in zip((ours, theirs), whole_programs(words)):
+            side.update(programs)
+    print("| Call | here | the Rust crate | ratio |\n|---|---|---|---|")
+    for name, least in ours.items():
+        print(f"| {name} | {shown(least)} | {shown(theirs[name])} | {least / theirs[name]:.2f} |")
+
+
+if __name__ == "__main__":
+    main()

@@ -1,0 +1,1287 @@
+"""Test cases of single calls: the lines that `jsonptr_tool_rows` reads, and what it must write.
+
+memory.py runs each of them. Add a case to the table of its call: with `no_alloc` if the call must not allocate, else
+with `allocates`, or with the helper of its table (`edit`, `on`, `undoing`, `patched`, `session`).
+"""
+from typing import NamedTuple
+
+
+class Case(NamedTuple):
+    """The input lines, the result of the call, the state of the borrowed arguments after it, and a session's calls.
+
+    A case with `no_alloc` makes no memory request.
+    """
+
+    lines: tuple
+    answer: str
+    after: str = ""
+    no_alloc: bool = False
+    calls: tuple = ()
+
+
+USIZE_MAX = 18446744073709551615
+PARSE_NO_SLASH = "json pointer failed to parse; does not start with a slash ('/') and is not empty"
+PARSE_MALFORMED = (
+    "json pointer failed to parse; the first token in the partial-pointer starting at offset {} is malformed"
+)
+TOKEN_BAD_ENCODING = "token contains invalid encoding at offset {}"
+INDEX_BAD_INTEGER = "failed to parse token as an integer"
+INDEX_LEADING_ZEROS = "token contained leading zeros, which are disallowed by RFC 6901"
+INDEX_BAD_CHARACTER = "failed to parse token as an index"
+REPLACE_OUT_OF_BOUNDS = "index {} is out of bounds ({})"
+RESOLVE_BAD_INDEX = "resolve failed: json pointer token at offset {} failed to parse as an index"
+RESOLVE_OUT_OF_BOUNDS = "resolve failed: json pointer token at offset {} is out of bounds"
+RESOLVE_NOT_FOUND = "resolve failed: json pointer token at {} was not found in value"
+RESOLVE_UNREACHABLE = (
+    "resolve failed: json pointer token at {} is unreachable (previous token resolved to a scalar or null value)"
+)
+ASSIGN_BAD_INDEX = "assign failed: json pointer token at offset {} failed to parse as an array index"
+ASSIGN_OUT_OF_BOUNDS = "assign failed: json pointer token at offset {} is out of bounds"
+
+LONG = "a" * 100_000
+SLASHES = "/" * 100_000
+ENCODED = "~1" * 50_000
+DECODED = "/" * 50_000
+MANY = "/a" * 50_000
+KINDS = ("plain", "tabled")
+
+
+def allocates(*lines, answer):
+    """A call that may allocate, and changes none of its arguments."""
+    return Case(tuple(map(str, lines)), f"{answer}\n")
+
+
+def no_alloc(*lines, answer):
+    """A call that does not allocate, and changes none of its arguments."""
+    return allocates(*lines, answer=answer)._replace(no_alloc=True)
+
+
+def texts():
+    """`Token::new` and `Token::from_encoded`."""
+    for text, token in [
+        ("/foo/~bar", "~1foo~1~0bar"),
+        ("~1", "~01"),
+        ("~bar", "~0bar"),
+        ("a/b", "a~1b"),
+        ("a~b", "a~0b"),
+        (SLASHES, "~1" * 100_000),
+        (LONG + "~", LONG + "~0"),
+    ]:
+        yield allocates("text", "Token::new", text, answer=token)
+        yield allocates("text kept", "Token::new", text, answer=token)
+    for text in ["abc", "", "-", "é", "plain é", LONG]:
+        for call in ["Token::new", "Token::from_encoded"]:
+            yield no_alloc("text", call, text, answer=text)
+            yield no_alloc("text kept", call, text, answer=text)
+    wrong = [
+        ("foo/oops~bar", 3),
+        ("a~/b", 2),
+        ("~~0", 1),
+        ("~", 1),
+        ("é~x", 3),
+        (LONG + "~", 100_001),
+        (LONG + "/", 100_000),
+    ]
+    for text, offset in wrong:
+        yield no_alloc("text", "Token::from_encoded", text, answer=TOKEN_BAD_ENCODING.format(offset))
+        yield no_alloc("text kept", "Token::from_encoded", text, answer=TOKEN_BAD_ENCODING.format(offset))
+
+
+def pointers_of_texts():
+    """Parsing a text as a pointer, borrowed, owned and tabled."""
+    for text in ["", "/", "//", "/foo", "/a~1b", "/a~1b/~0/é", "/foo/bar", "/é", MANY, SLASHES, "/" + ENCODED]:
+        yield no_alloc("text", "Pointer::parse", text, answer=text)
+        yield no_alloc("text kept", "PointerBuf::parse", text, answer=text)
+        yield no_alloc("text kept", "PointerBuf::try_from", text, answer=text)
+        yield allocates("text", "PointerBuf::from_text", text, answer=text)
+        yield allocates("text kept", "TabledPointer::parse", text, answer=text)
+    wrong = [
+        ("foo", PARSE_NO_SLASH),
+        ("~/", PARSE_NO_SLASH),
+        ("é/a", PARSE_NO_SLASH),
+        ("/~0/~~0", PARSE_MALFORMED.format(3)),
+        ("/~1/~/x", PARSE_MALFORMED.format(3)),
+        ("/foo/invalid~tilde", PARSE_MALFORMED.format(4)),
+        ("/foo/invalid~tilde/invalid", PARSE_MALFORMED.format(4)),
+        ("/a~2", PARSE_MALFORMED.format(0)),
+        ("/foo~", PARSE_MALFORMED.format(0)),
+        ("/é~", PARSE_MALFORMED.format(0)),
+        (MANY + "~", PARSE_MALFORMED.format(99_998)),
+        (LONG, PARSE_NO_SLASH),
+    ]
+    for text, fault in wrong:
+        yield no_alloc("text", "Pointer::parse", text, answer=fault)
+        yield no_alloc("text", "PointerBuf::from_text", text, answer=fault)
+        yield no_alloc("text kept", "PointerBuf::try_from", text, answer=fault)
+        for call in ["PointerBuf::parse", "TabledPointer::parse"]:
+            yield no_alloc("text kept", call, text, answer=f"{fault}: {text}")
+
+
+def cut():
+    """Splitting off the first token, and counting tokens."""
+    rows = [
+        ("is_root", "//", "false"), ("is_root", "/a~1b/~0/é", "false"),
+        ("split_front", "//", " and /"), ("split_front", "/a~1b/~0/é", "a/b and /~0/é"),
+        ("split_front", "/~0/é", "~ and /é"), ("split_front", "/é", "é and "),
+        ("front", "/a~1b/c", "a~1b"), ("split_front", "/a~1b/c", "a/b and /c"),
+        ("count", "/a~1b//~0", 3),
+    ]
+    for call, text, answer in rows:
+        yield no_alloc("pointer", call, text, answer=answer)
+
+
+def indices():
+    """Parsing an index."""
+    rows = [
+        ("0", "0"), ("-", "-"), ("10", "10"), (str(USIZE_MAX), str(USIZE_MAX)),
+        ("00", INDEX_LEADING_ZEROS), ("0a", INDEX_LEADING_ZEROS), ("0" * 100_000, INDEX_LEADING_ZEROS),
+        ("+1", INDEX_BAD_CHARACTER), ("1a", INDEX_BAD_CHARACTER), ("1" * 99_999 + "a", INDEX_BAD_CHARACTER),
+        *((text, INDEX_BAD_CHARACTER) for text in ["-1", "x", "é", "éé", "1é2", "12é"]),
+        ("", INDEX_BAD_INTEGER), (str(USIZE_MAX + 1), INDEX_BAD_INTEGER), ("1" * 100_000, INDEX_BAD_INTEGER),
+    ]
+    for text, answer in rows:
+        yield no_alloc("text", "Index::from_str", text, answer=answer)
+        yield no_alloc("text", "Index::try_from", text, answer=answer)
+        yield no_alloc("text kept", "Index::try_from", text, answer=answer)
+        yield no_alloc("text kept", "Index::try_from lent", text, answer=answer)
+        yield no_alloc("token", "to_index", text, "", answer=answer)
+        yield no_alloc("token", "Index::try_from", text, "", answer=answer)
+        yield no_alloc("token kept", "Index::try_from", text, answer=answer)
+
+
+def tokens():
+    """The methods of a token."""
+    for token, text in [
+        ("a~1b", "a/b"),
+        ("~01", "~1"),
+        ("m~0n", "m~n"),
+        ("~0bar", "~bar"),
+        ("~1foo~1~0bar", "/foo/~bar"),
+        (ENCODED, DECODED),
+        (LONG + "~0", LONG + "~"),
+    ]:
+        yield allocates("token", "decoded", token, "", answer=text)
+    for token in ["abc", "", "é", LONG]:
+        yield no_alloc("token", "decoded", token, "", answer=token)
+    for token in ["abc", "a~1b", "", "é", "~01", "~0bar", "~1foo~1~0bar", LONG, ENCODED]:
+        yield no_alloc("token", "encoded", token, "", answer=token)
+        yield no_alloc("token kept", "into_encoded", token, answer=token)
+        yield allocates("token", "to_owned", token, "", answer=token)
+        yield allocates("token kept", "into_owned", token, answer=token)
+        yield allocates("token kept", "clone", token, answer=token)
+        yield allocates("token owned", "clone", token, answer=token)
+        for call in ["into_owned", "into_encoded"]:
+            yield no_alloc("token owned", call, token, answer=token)
+        yield allocates("token kept", "PointerBuf::from_token", token, answer="/" + token)
+        yield no_alloc("token", "==", token, token, answer="true")
+        yield no_alloc("token", "cmp", token, token + "0", answer="<")
+        yield no_alloc("token", "is_next", token, "", answer="false")
+    yield no_alloc("token", "is_next", "-", "", answer="true")
+    for token in ["--", "0"]:
+        yield no_alloc("token", "is_next", token, "", answer="false")
+
+
+def numbers():
+    """Tokens of numbers: the maximum of each unsigned type, and the minimum of each signed one."""
+    for bits in [8, 16, 32, 64, 128]:
+        yield allocates("number", f"u{bits}", answer=2**bits - 1)
+        yield allocates("number", f"i{bits}", answer=-(2 ** (bits - 1)))
+    yield allocates("number", "usize", answer=USIZE_MAX)
+    yield allocates("number", "isize", answer=-(2**63))
+    yield allocates("number", "PointerBuf::from_usize", answer=f"/{USIZE_MAX}")
+
+
+def measures():
+    """The methods that read one pointer: as a whole, its first and its last token."""
+    pointers = ["", "/", "/foo", "/foo/bar/qux", "//a", "/a~1b/~0", "/foo/~0~1//", "/foo/b~1r", "/foo/b~1r/"]
+    for text in [*pointers, MANY, SLASHES, "/" + LONG, "/x/" + ENCODED]:
+        parts = text.split("/")[1:]
+        front, last = text.rpartition("/")[::2]
+        first, rest = parts[0] if parts else "none", text[len(parts[0]) + 1 :] if parts else ""
+        back = last if parts else "none"
+        decoded = [it.replace("~1", "/").replace("~0", "~") for it in (first, back)]
+        rows = [
+            ("as_str", text), ("len", len(text)), ("count", len(parts)),
+            ("is_empty", str(not text).lower()), ("is_root", str(not text).lower()),
+            ("tokens", back), ("components", back if parts else "root"),
+            ("front", first), ("first", first), ("back", back), ("last", back),
+            ("parent", front if parts else "none"),
+            ("split_front", f"{decoded[0]} and {rest}" if parts else "none"),
+            ("split_back", f"{front} and {decoded[1]}" if parts else "none"),
+        ]
+        for call, answer in rows:
+            yield no_alloc("pointer", call, text, answer=answer)
+        table = "".join(f"{at} " for at, it in enumerate(text) if it == "/")
+        rows = [("as_ptr", text), ("offsets", table), ("count", len(parts)), ("front", first), ("back", back)]
+        for call, answer in [*rows, ("parent", front if parts else "none")]:
+            yield no_alloc("tabled", call, text, 0, 0, answer=answer)
+        for call in ["to_buf", "PointerBuf::from_tokens"]:
+            yield allocates("pointer", call, text, answer=text)
+        yield allocates("pointer", "to_json_value", text, answer=f'"{text}"')
+    for text, length in [("/foo/bar", 8), ("/foo/bar/~0", 11)]:
+        yield no_alloc("pointer", "len", text, answer=length)
+    tables = [("/a", "0 "), ("//", "0 1 "), ("/foo/bar/baz", "0 4 8 "), ("/é~0/~1/日本/", "0 5 8 15 ")]
+    for text, table in tables:
+        yield no_alloc("tabled", "offsets", text, 0, 0, answer=table)
+
+
+def pairs():
+    """The methods that take two pointers."""
+    rows = [
+        ("starts_with", "/foobar", "/foo", "false"), ("strip_prefix", "/foobar", "/foo", "none"),
+        ("starts_with", "/foo/bar", "/foo", "true"), ("strip_prefix", "/foo/bar", "/foo", "/bar"),
+        ("ends_with", "/foo", "", "false"), ("strip_suffix", "/foo", "", "/foo"),
+        ("ends_with", "/foo/bar", "/bar", "true"), ("strip_suffix", "/foo/bar", "/bar", "/foo"),
+        ("intersection", "/foo", "/fob", ""), ("intersection", "/a/b/c", "/a/b/d", "/a/b"),
+        ("starts_with", MANY + "/b", MANY, "true"), ("strip_prefix", MANY + "/b", MANY, "/b"),
+        ("ends_with", "/b" + MANY, MANY, "true"), ("strip_suffix", "/b" + MANY, MANY, "/b"),
+        ("intersection", MANY + "/b", MANY + "/c", MANY),
+    ]
+    for call, one, other, answer in rows:
+        yield no_alloc("pointers", call, one, other, answer=answer)
+    prefixes = [
+        ("/foo/bar", "", "/foo/bar"),
+        ("/foo", "/foo", ""),
+        ("/foo", "/foo/", "none"),
+        ("//a", "/", "/a"),
+        ("", "/", "none"),
+    ]
+    for one, other, left in prefixes:
+        yield no_alloc("pointers", "strip_prefix", one, other, answer=left)
+        yield no_alloc("pointers", "starts_with", one, other, answer=str(left != "none").lower())
+    suffixes = [
+        ("", "", ""),
+        ("/foo/bar", "/foo/bar", ""),
+        ("/foo/bar", "/foo", "none"),
+        ("/a//", "/", "/a/"),
+    ]
+    for one, other, left in suffixes:
+        yield no_alloc("pointers", "strip_suffix", one, other, answer=left)
+        yield no_alloc("pointers", "ends_with", one, other, answer=str(left != "none").lower())
+    common = [
+        ("/foo", "/foobar", ""),
+        ("/foo/bar", "/foo/baz", "/foo"),
+        ("/foo/bar", "/foo", "/foo"),
+        ("/foo//a", "/foo//b", "/foo/"),
+        ("", "/a", ""),
+    ]
+    for one, other, front in common:
+        yield no_alloc("pointers", "intersection", one, other, answer=front)
+        yield no_alloc("pointers", "intersection", other, one, answer=front)
+    yield no_alloc("pointers", "intersection", "/fob", "/foo", answer="")
+    yield no_alloc("pointers", "intersection", "/foo/bar", "/foo/bar", answer="/foo/bar")
+    orders = [
+        ("/a", "/a", "="),
+        ("/a", "/b", "<"),
+        ("/a/b", "/a", ">"),
+        ("/a~1b", "/a~0", ">"),
+        (MANY, MANY + "/", "<"),
+        (MANY, MANY, "="),
+    ]
+    for one, other, order in orders:
+        equal = str(order == "=").lower()
+        for group in ["pointers", "tabled two"]:
+            yield no_alloc(group, "==", one, other, answer=equal)
+            yield no_alloc(group, "cmp", one, other, answer=order)
+        for kind in ["pointer", *KINDS]:
+            yield no_alloc("hash", kind, one, other, answer=equal)
+    yield no_alloc("hash", "token", LONG, LONG, answer="true")
+    for one, other in [
+        ("/a", "/b"),
+        ("", "/"),
+        ("/a", ""),
+        ("", ""),
+        ("/a", "/b/~0"),
+        ("/a~1b", "/~0"),
+        (MANY, MANY),
+        ("/" + LONG, "/" + ENCODED),
+    ]:
+        yield allocates("pointers", "concat", one, other, answer=one + other)
+    for token in ["x", "", "~0~1", LONG, ENCODED]:
+        yield allocates("pointer with", "with_leading_token", "/a/b", token, answer=f"/{token}/a/b")
+        yield allocates("pointer with", "with_trailing_token", "/a/b", token, answer=f"/a/b/{token}")
+    yield allocates("pointer with", "with_leading_token", "/a", "~0", answer="/~0/a")
+    yield allocates("pointer with", "with_trailing_token", "/a", "~1", answer="/a/~1")
+
+
+def ranges():
+    """`get` with each kind of range, and both splits, on plain and on tabled pointers."""
+    three = "/foo/bar/qux"
+    rows = [
+        ("get i", three, 0, 0, "foo"),
+        ("get i", three, 3, 0, "none"),
+        ("get i", three, 2, 0, "qux"),
+        ("get i", three, USIZE_MAX, 0, "none"),
+        ("get i", "/a~1b", 0, 0, "a~1b"),
+        ("get i", "/foo/b~1r/", 0, 0, "foo"),
+        ("get i", "/foo/b~1r/", 1, 0, "b~1r"),
+        ("get i", "/foo/b~1r/", 2, 0, ""),
+        ("get i", "/foo/b~1r/", 3, 0, "none"),
+        ("get i", "/foo/b~1r/", USIZE_MAX, 0, "none"),
+        ("get ..i", three, 1, 0, "/foo"),
+        ("get i..j", three, 1, 3, "/bar/qux"),
+        ("get i..=j", three, 1, 2, "/bar/qux"),
+        ("get i..", three, 2, 0, "/qux"),
+        ("get ..=i", three, 1, 0, "/foo/bar"),
+        ("get ..", three, 0, 0, three),
+        ("get ..i", three, 4, 0, "none"),
+        ("get i..j", three, 1, 1, ""),
+        ("get i..j", three, 1, 4, "none"),
+        ("get i..j", three, 2, 1, "none"),
+        ("get i..j", three, 3, 3, "none"),
+        ("get i..", three, 1, 0, "/bar/qux"),
+        ("get i..", three, 3, 0, "none"),
+        ("get i..=j", three, 2, 1, "none"),
+        ("get i..=j", three, 0, USIZE_MAX, "none"),
+        ("get ..=i", three, 3, 0, "none"),
+        ("get i..j", "/foo", 0, 0, ""),
+        ("get i..j", "/foo", 1, 1, "none"),
+        ("get i..j", "/foo", USIZE_MAX, USIZE_MAX, "none"),
+        ("get ..i", "/foo", USIZE_MAX, 0, "none"),
+        ("get ..=i", "/foo", USIZE_MAX, 0, "none"),
+        ("get i..=j", "/foo", 0, USIZE_MAX, "none"),
+        ("get i..", "", 0, 0, "none"),
+        ("get ..i", "", 0, 0, ""),
+        ("get ..", "", 0, 0, ""),
+        ("get i..j", "/a", USIZE_MAX, USIZE_MAX, "none"),
+        ("get ..i", "/a", USIZE_MAX, 0, "none"),
+        ("get ..=i", "/a", USIZE_MAX, 0, "none"),
+        ("get i..=j", "/a", 0, USIZE_MAX, "none"),
+        ("get i", "/a", USIZE_MAX, 0, "none"),
+        ("get i..", "/a", USIZE_MAX, 0, "none"),
+        ("get i..=j", "/a", USIZE_MAX, USIZE_MAX, "none"),
+        ("get bounds", "/a/b", 0, 1, ""),
+        ("get bounds", "/a", 0, 1, "none"),
+        ("get bounds", "/a", USIZE_MAX, USIZE_MAX, "none"),
+        ("get bounds", "/a", USIZE_MAX, 0, "none"),
+        ("get bounds", "/a/b/c", 0, 2, "/b"),
+        ("split_at_offset", "/foo/bar/baz", 0, 0, " and /foo/bar/baz"),
+        ("split_at_offset", "/foo/bar/baz", 4, 0, "/foo and /bar/baz"),
+        ("split_at_offset", "/foo/bar/baz", 8, 0, "/foo/bar and /baz"),
+        ("split_at_offset", "/foo/bar/baz", 3, 0, "none"),
+        ("split_at_offset", "/foo/bar/baz", 12, 0, "none"),
+        ("split_at_offset", "/foo/bar/baz", USIZE_MAX, 0, "none"),
+        ("split_at_offset", "/a", USIZE_MAX, 0, "none"),
+        ("split_at", "/foo/bar/baz", 0, 0, " and /foo/bar/baz"),
+        ("split_at", "/foo/bar/baz", 1, 0, "/foo and /bar/baz"),
+        ("split_at", "/foo/bar/baz", 2, 0, "/foo/bar and /baz"),
+        ("split_at", "/foo/bar/baz", 3, 0, "/foo/bar/baz and "),
+        ("split_at", "/foo/bar/baz", 4, 0, "none"),
+        ("split_at", "", 0, 0, " and "),
+        ("split_at", "", 1, 0, "none"),
+        ("split_at", "/a", USIZE_MAX, 0, "none"),
+        ("split_at", "//~1/", 2, 0, "//~1 and /"),
+        ("get i", MANY, 49_999, 0, "a"),
+        ("get i", MANY, 50_000, 0, "none"),
+        ("get i..j", MANY, 1, 49_999, "/a" * 49_998),
+        ("get i..", MANY, 49_999, 0, "/a"),
+        ("get ..=i", MANY, 49_999, 0, MANY),
+        ("split_at_offset", MANY, 99_998, 0, MANY[2:] + " and /a"),
+        ("split_at", MANY, 49_999, 0, MANY[2:] + " and /a"),
+    ]
+    for call, pointer, first, second, answer in rows:
+        for group in ["range", "tabled"]:
+            yield no_alloc(group, call, pointer, first, second, answer=answer)
+
+
+def copies():
+    """Clones of owned pointers, and conversions between plain and tabled ones."""
+    texts = ["", "/", "/a", "//", "/a/b", "/a~1b", "/foo/bar/baz", "/é~0/~1/日本/", MANY, "/" + ENCODED]
+    for text in texts:
+        for call in ["PointerBuf::clone", "TabledPointer::clone", "from_plain"]:
+            yield allocates("kept", call, text, answer=text)
+        yield no_alloc("kept", "into_plain", text, answer=text)
+    for call in ["PointerBuf::new", "PointerBuf::root", "TabledPointer::new"]:
+        yield no_alloc("kept", call, "/a", answer="")
+
+
+def edit(kind, call, pointer, text="", place=0, *, answer="done", after):
+    """A call that changes a pointer."""
+    lines = ("edit", kind, call, pointer, text, str(place))
+    return Case(lines, f"{answer}\n", f"{after}\n")
+
+
+def edits():
+    """The calls that change a pointer, plain and tabled."""
+    tokens = [("a", "a"), ("", ""), ("~/", "~0~1"), (LONG, LONG), (DECODED, ENCODED)]
+    for kind in KINDS:
+        for text, token in tokens:
+            for pointer in ["", "/", "/foo/bar", MANY]:
+                yield edit(kind, "push_back", pointer, text, after=f"{pointer}/{token}")
+                yield edit(kind, "push_front", pointer, text, after=f"/{token}{pointer}")
+            yield edit(kind, "pop_back", f"/x/{token}", answer=token, after="/x")
+            yield edit(kind, "pop_front", f"/{token}/x", answer=token, after="/x")
+            yield edit(kind, "replace", "/a/b", text, 1, answer="b", after=f"/a/{token}")
+            yield edit(kind, "replace", f"/a/{token}/c", "b", 1, answer=token, after="/a/b/c")
+            yield edit(kind, "append", "/x", f"/{token}/y", after=f"/x/{token}/y")
+            yield edit(kind, "append", "", f"/{token}", after=f"/{token}")
+            yield edit(kind, "set_text", "/x", f"/{token}/y", after=f"/{token}/y")
+            yield edit(kind, "clear", f"/{token}", after="")._replace(no_alloc=True)
+        yield edit(kind, "pop_front", "//a", answer="", after="/a")
+        yield edit(kind, "push_back", "/foo/bar", "~", after="/foo/bar/~0")
+        yield edit(kind, "push_front", "/", "x", after="/x/")
+        yield edit(kind, "append", "/a", "", after="/a")
+        yield edit(kind, "append", "", "", after="")
+        yield edit(kind, "append", "", "/a//c", after="/a//c")
+        yield edit(kind, "append", "/a", "/b/~0", after="/a/b/~0")
+        yield edit(kind, "append", "/a/b", "/c", after="/a/b/c")
+        yield edit(kind, "pop_front", "/a", answer="a", after="")
+        yield edit(kind, "pop_back", "/foo/bar/~0", answer="~0", after="/foo/bar")
+        yield edit(kind, "push_front", "/foo/bar/~0", "a/b", after="/a~1b/foo/bar/~0")
+        yield edit(kind, "pop_back", "/a~1b/foo/bar/~0", answer="~0", after="/a~1b/foo/bar")
+        yield edit(kind, "replace", "/a/~0~1", "é", 0, answer="a", after="/é/~0~1")
+        yield edit(kind, "replace", "/a//c", "~/~", 1, answer="", after="/a/~0~1~0/c")
+        yield edit(kind, "replace", "/a/~0~1~0/c", "", 0, answer="a", after="//~0~1~0/c")
+        yield edit(kind, "set_text", "/x", "/a/b", after="/a/b")
+        yield edit(kind, "append", MANY, MANY, after=MANY + MANY)
+        yield edit(kind, "pop_back", MANY, answer="a", after=MANY[2:])
+        yield edit(kind, "pop_front", MANY, answer="a", after=MANY[2:])
+        yield edit(kind, "replace", MANY, LONG, 25_000, answer="a", after="/a" * 25_000 + f"/{LONG}" + "/a" * 24_999)
+        unchanged = [
+            edit(kind, "pop_front", "", answer="none", after=""),
+            edit(kind, "pop_back", "", answer="none", after=""),
+            edit(kind, "replace", "", "b", 0, answer=REPLACE_OUT_OF_BOUNDS.format(0, 0), after=""),
+            edit(kind, "replace", "/a/b", "b", 2, answer=REPLACE_OUT_OF_BOUNDS.format(2, 2), after="/a/b"),
+            edit(kind, "replace", "/a/b", "b", 3, answer=REPLACE_OUT_OF_BOUNDS.format(3, 2), after="/a/b"),
+            edit(kind, "replace", "//", "b", USIZE_MAX, answer=REPLACE_OUT_OF_BOUNDS.format(USIZE_MAX, 2), after="//"),
+            edit(kind, "replace", "/a", "x", USIZE_MAX, answer=REPLACE_OUT_OF_BOUNDS.format(USIZE_MAX, 1), after="/a"),
+            edit(kind, "replace", MANY, "x", 50_000, answer=REPLACE_OUT_OF_BOUNDS.format(50_000, 50_000), after=MANY),
+            edit(kind, "set_text", "/a", "foo", answer=f"{PARSE_NO_SLASH}: foo", after="/a"),
+            edit(kind, "set_text", "/a/b", "foo", answer=f"{PARSE_NO_SLASH}: foo", after="/a/b"),
+            edit(kind, "clear", "/a~1b/foo/bar", after=""),
+            edit(kind, "set_text", "/a", "/b~", answer=f"{PARSE_MALFORMED.format(0)}: /b~", after="/a"),
+            edit(kind, "set_text", "/a", LONG, answer=f"{PARSE_NO_SLASH}: {LONG}", after="/a"),
+        ]
+        for case in unchanged:
+            yield case._replace(no_alloc=True)
+
+
+def owned():
+    """Owned pointers parsed from a text, and the labels of their errors on any subject."""
+    yield allocates("text", "PointerBuf::from_text", "/a~1b/", answer="/a~1b/")
+    yield no_alloc("text kept", "PointerBuf::parse", "/a~1b/", answer="/a~1b/")
+    yield no_alloc("text kept", "PointerBuf::try_from", "/a~1b/", answer="/a~1b/")
+    yield no_alloc("show", "pointer", "/a~1b/~0", answer="/a~1b/~0")
+    tilde = "'~' must be followed by '0' or '1'"
+    for text, offset, length in [("/foo~", 4, 1), ("/é~", 3, 1), ("/a~2", 2, 2)]:
+        yield allocates("report", "labels", "pointer", text, answer=f"{tilde} at {offset}, length {length}")
+    for subject, length in [("", 1), ("abc", 1), ("/foo", 2)]:
+        yield allocates("fields", "labels", "pointer", 0, 2, subject, answer=f"{tilde} at 2, length {length}")
+    yield no_alloc("fields", "labels", "pointer", USIZE_MAX, 1, "/a~2", answer="none")
+    yield allocates("fields", "render", "pointer", USIZE_MAX, 1, "/a~2", answer="/a~2")
+
+
+def on(kind, document, call, pointer, value="1", *, answer, after, no_alloc=False):
+    """A call on a document at a pointer."""
+    lines = ("document", kind, document, call, pointer, *([] if call == "resolve" else [value]))
+    return Case(lines, f"{answer}\n", f"{after}\n", no_alloc)
+
+
+SECTION_5 = r'{"":0," ":7,"a/b":1,"c%d":2,"e^f":3,"foo":["bar","baz"],"g|h":4,"i\\j":5,"k\"l":6,"m~n":8}'
+VECTORS = [
+    ("", SECTION_5), ("/foo", '["bar","baz"]'), ("/foo/0", '"bar"'), ("/", "0"), ("/a~1b", "1"), ("/c%d", "2"),
+    ("/e^f", "3"), ("/g|h", "4"), ("/i\\j", "5"), ('/k"l', "6"), ("/ ", "7"), ("/m~0n", "8"),
+]
+
+
+def found():
+    """`resolve` and `resolve_mut` in a JSON document."""
+    for pointer, value in VECTORS:
+        yield on("json", SECTION_5, "resolve", pointer, answer=value, after=SECTION_5, no_alloc="~" not in pointer)
+    rows = [
+        ('{"foo":["bar"]}', "/foo/-", RESOLVE_OUT_OF_BOUNDS.format(4)),
+        ('{"foo":["bar"]}', "/foo/01", RESOLVE_BAD_INDEX.format(4)),
+        ('{"a":{}}', "/a/", RESOLVE_NOT_FOUND.format(2)), ('{"a":1}', "/a/b", RESOLVE_UNREACHABLE.format(2)),
+        ("[]", "/" + LONG, RESOLVE_BAD_INDEX.format(0)),
+        ("{}", "/" + LONG, RESOLVE_NOT_FOUND.format(0)),
+        ("{}", MANY, RESOLVE_NOT_FOUND.format(0)),
+        ('{"foo":["bar"]}', "/foo/1", RESOLVE_OUT_OF_BOUNDS.format(4)),
+        ('{"foo":["bar"]}', "/foo/00", RESOLVE_BAD_INDEX.format(4)),
+        ("[1,2]", "/", RESOLVE_BAD_INDEX.format(0)),
+        ("[2,3]", "/2", RESOLVE_OUT_OF_BOUNDS.format(0)),
+        ("[[],{},1]", "/0/a", RESOLVE_BAD_INDEX.format(2)),
+        ("[[],{},1]", "/10/0", RESOLVE_OUT_OF_BOUNDS.format(0)),
+        ("[[],{},1]", "/1/a", RESOLVE_NOT_FOUND.format(2)),
+        ("[[],{},1]", "/2/a", RESOLVE_UNREACHABLE.format(2)),
+    ]
+    for document, pointer, fault in rows:
+        for call in ["resolve", "write"]:
+            yield on("json", document, call, pointer, answer=fault, after=document, no_alloc=True)
+    escaped = [
+        ("{}", "/" + ENCODED, RESOLVE_NOT_FOUND.format(0)),
+        ('{"~":[0]}', "/~0/", RESOLVE_BAD_INDEX.format(3)),
+        ('{"a~1b":1}', "/a~1b", RESOLVE_NOT_FOUND.format(0)),
+    ]
+    for document, pointer, fault in escaped:
+        for call in ["resolve", "write"]:
+            yield on("json", document, call, pointer, answer=fault, after=document)
+    yield on("json", "[2,3]", "resolve", "/1", answer="3", after="[2,3]", no_alloc=True)
+    written = [
+        ('{"foo":["bar","baz"]}', "/foo/1", '"baz"', '{"foo":["bar",true]}'),
+        ('{"a/b":1,"m~n":2}', "/a~1b", "1", '{"a/b":true,"m~n":2}'),
+        ('{"a/b":1,"m~n":2}', "/m~0n", "2", '{"a/b":1,"m~n":true}'),
+        ('{"a":{"":[{"b":null}]}}', "/a//0/b", "null", '{"a":{"":[{"b":true}]}}'),
+        ("[1,2]", "", "[1,2]", "true"),
+    ]
+    for document, pointer, answer, after in written:
+        yield on(
+            "json", document, "write", pointer, "true", answer=answer, after=after, no_alloc="~" not in pointer
+        )
+    for key, token in [("a", "a"), (LONG, LONG), ("a/b", "a~1b"), (DECODED, ENCODED)]:
+        document, no_alloc = f'{{"{key}":[1]}}', "~" not in token
+        yield on("json", document, "resolve", f"/{token}/0", answer="1", after=document, no_alloc=no_alloc)
+        yield on(
+            "json", document, "write", f"/{token}/0", '"x"', answer="1", after=f'{{"{key}":["x"]}}', no_alloc=no_alloc
+        )
+        yield on("json", document, "delete", f"/{token}/0", answer="1", after=f'{{"{key}":[]}}', no_alloc=no_alloc)
+        yield on("json", document, "delete", f"/{token}", answer="[1]", after="{}", no_alloc=no_alloc)
+        yield on(
+            "json", document, "assign", f"/{token}/0", "2", answer="1", after=f'{{"{key}":[2]}}', no_alloc=no_alloc
+        )
+        yield on("json", document, "assign", f"/{token}/-", "2", answer="none", after=f'{{"{key}":[1,2]}}')
+        yield on("json", "{}", "assign", f"/{token}", "2", answer="none", after=f'{{"{key}":2}}')
+        yield on("json", "null", "assign", f"/{token}/0", "2", answer="null", after=f'{{"{key}":[2]}}')
+        yield on("json", "[]", "assign", f"/-/{token}", "2", answer="none", after=f'[{{"{key}":2}}]')
+
+
+def assigned():
+    """`assign` and `delete` in a JSON document."""
+    nested = "[" * 127 + "1" + "]" * 127
+    yield on("json", nested, "resolve", "/0" * 127, answer="1", after=nested, no_alloc=True)
+    yield on("json", "null", "assign", "/0" * 127, answer="null", after=nested)
+    rows = [
+        ('{"foo":"bar"}', "/foo/bar/-/baz", '"qux"', '"bar"', '{"foo":{"bar":[{"baz":"qux"}]}}'),
+        ("null", "/1", '"x"', "null", '{"1":"x"}'), ('["a"]', "/-", '"b"', "none", '["a","b"]'),
+        ("[1]", "/-/x", "7", "none", '[1,{"x":7}]'),
+        ("{}", "/a/-", "7", "none", '{"a":[7]}'),
+        ("[1]", "/1", "7", "none", "[1,7]"),
+        ('{"a":{}}', "/a/~1~0/0", "7", "none", '{"a":{"/~":[7]}}'),
+        ("[]", "/0/0/0", "1", "none", "[[[1]]]"),
+        ("null", "/x" * 100, "1", "null", '{"x":' * 100 + "1" + "}" * 100),
+        ('{"a/b":{"m~n":1}}', "/a~1b/m~0n", "2", "1", '{"a/b":{"m~n":2}}'),
+        ("null", "/0", "1", "null", "[1]"), ("null", "/-", "1", "null", "[1]"),
+        ("null", "/", "1", "null", '{"":1}'), ("null", "/00", "1", "null", '{"00":1}'),
+        ("true", "/a~1b/0", "1", "true", '{"a/b":[1]}'),
+        ('{"a":[1]}', "/a/0/b/-", "2", "1", '{"a":[{"b":[2]}]}'),
+        ('{"a":"b"}', "/a/0/1", "2", '"b"', '{"a":[{"1":2}]}'),
+        ("{}", "/", "1", "none", '{"":1}'), ('{"a":1}', "/b", "2", "none", '{"a":1,"b":2}'),
+        ('{"b":1}', "/a~1~0/x/0", "2", "none", '{"a/~":{"x":[2]},"b":1}'),
+        ('{"a":{}}', "/a/0", "1", "none", '{"a":{"0":1}}'), ('{"a":{}}', "/a/-/-", "1", "none", '{"a":{"-":[1]}}'),
+        ('["a"]', "/1", '"b"', "none", '["a","b"]'), ("[]", "/0", "1", "none", "[1]"),
+        ("[[1,2]]", "/0/2/a/-", "3", "none", '[[1,2,{"a":[3]}]]'),
+        ('{"a":[1]}', "/a/-/0", "2", "none", '{"a":[1,[2]]}'),
+    ]
+    for document, pointer, value, answer, after in rows:
+        yield on("json", document, "assign", pointer, value, answer=answer, after=after)
+    unchanged = [
+        ("[]", "/1", '"x"', ASSIGN_OUT_OF_BOUNDS.format(0), "[]"),
+        ('{"a":[1]}', "/a/b", "2", ASSIGN_BAD_INDEX.format(2), '{"a":[1]}'),
+        ("[1]", "/0", "7", "1", "[7]"),
+        ('{"a":3}', "", "7", '{"a":3}', "7"),
+        ("[1]", f"/{USIZE_MAX}", "2", ASSIGN_OUT_OF_BOUNDS.format(0), "[1]"),
+        ('{"a":[1]}', "", "2", '{"a":[1]}', "2"), ("null", "", '{"a":1}', "null", '{"a":1}'),
+        ('{"a":[1,2]}', "/a", "3", "[1,2]", '{"a":3}'),
+        ('{"a":[1,2]}', "/a/1", "3", "2", '{"a":[1,3]}'),
+        ('{"a":[1,2]}', "/a/0", "[]", "1", '{"a":[[],2]}'),
+        ('{"":{"b":1}}', "/", "2", '{"b":1}', '{"":2}'),
+        ('["a"]', "/2", "true", ASSIGN_OUT_OF_BOUNDS.format(0), '["a"]'),
+        ("[1]", "/", "true", ASSIGN_BAD_INDEX.format(0), "[1]"),
+        ("[[],{},1]", "/0/a", "true", ASSIGN_BAD_INDEX.format(2), "[[],{},1]"),
+        ("[[],{},1]", "/10/0", "true", ASSIGN_OUT_OF_BOUNDS.format(0), "[[],{},1]"),
+    ]
+    for document, pointer, value, answer, after in unchanged:
+        yield on("json", document, "assign", pointer, value, answer=answer, after=after, no_alloc=True)
+    deleted = [
+        ("[1,2,3]", "/0", "1", "[2,3]"),
+        ("{}", "/x", "none", "{}"),
+        ("[1]", "", "[1]", "null"),
+        ("[1]", "/-", "none", "[1]"),
+        ("null", "", "null", "null"),
+        ("[1,2,3]", "/2", "3", "[1,2]"),
+        ('{"foo":["bar","baz"]}', "/foo/1", '"baz"', '{"foo":["bar"]}'),
+        ('{"a/b":1,"m~n":2}', "/a~1b", "1", '{"m~n":2}'),
+        ('{"a/b":1,"m~n":2}', "/m~0n", "2", '{"a/b":1}'),
+        ('{"a":[{"b":[true]},0]}', "/a/0/b", "[true]", '{"a":[{},0]}'),
+        ('{"":1}', "/", "1", "{}"),
+        ('{"é":{"":{"":2}}}', "/é//", "2", '{"é":{"":{}}}'),
+    ]
+    for document, pointer, answer, after in deleted:
+        yield on("json", document, "delete", pointer, answer=answer, after=after, no_alloc="~" not in pointer)
+    two = '{"foo":["bar","baz"]}'
+    kept = [
+        ("{}", "/"), ("[]", "/0"), ("1", "/0"), ('{"y":1}', "/x/y"), ('{"a~1b":1}', "/a~1b"),
+        (two, "/foo/-"), (two, "/foo/2"), (two, "/foo/00"), (two, "/foo/x"), (two, "/foo/1/x"),
+    ]
+    for document, pointer in kept:
+        yield on("json", document, "delete", pointer, answer="none", after=document, no_alloc="~" not in pointer)
+    yield on("json", '{"a/b":{"~":1}}', "delete", "/a~1b/~0", answer="1", after='{"a/b":{}}')
+
+
+def in_tables():
+    """The calls on a TOML document."""
+    table = "{ a = [1, 2] }"
+    for call, pointer, answer, after in [
+        ("resolve", "/a/1", "2", table),
+        ("resolve", "/a/-", RESOLVE_OUT_OF_BOUNDS.format(2), table),
+        ("resolve", "/a/0/x", RESOLVE_UNREACHABLE.format(4), table),
+        ("resolve", "/" + LONG, RESOLVE_NOT_FOUND.format(0), table),
+        ("delete", "/a/0", "1", "{ a = [2] }"),
+        ("delete", "", table, "{}"),
+        ("delete", "/b", "none", table),
+        ("write", "/a/0", "1", "{ a = [3, 2] }"),
+        ("write", "/a/2", RESOLVE_OUT_OF_BOUNDS.format(2), table),
+        ("assign", "/a/0", "1", "{ a = [3, 2] }"),
+        ("assign", "/a/3", ASSIGN_OUT_OF_BOUNDS.format(2), table),
+        ("assign", "/a/x", ASSIGN_BAD_INDEX.format(2), table),
+    ]:
+        yield on("toml", table, call, pointer, "3", answer=answer, after=after, no_alloc=True)
+    yield on("toml", "{ a = [2] }", "assign", "/b/-", "3", answer="none", after="{ a = [2], b = [3] }")
+    yield on("toml", "{ d = 1979-05-27 }", "assign", "/d/x", "1", answer="1979-05-27", after="{ d = { x = 1 } }")
+    yield on(
+        "toml",
+        "{ d = 1979-05-27 }",
+        "resolve",
+        "/d/x",
+        answer=RESOLVE_UNREACHABLE.format(2),
+        after="{ d = 1979-05-27 }",
+        no_alloc=True,
+    )
+    yield on(
+        "toml", "{ d = { x = 1 } }", "resolve", "/d/x", answer="1", after="{ d = { x = 1 } }", no_alloc=True
+    )
+    for whole in ["1", "{ a = 1, b = [true] }", "[]", "{}"]:
+        yield on("toml", whole, "delete", "", answer=whole, after="{}", no_alloc=True)
+    whole = '{ "" = 07:32, "a/b" = [1, { "m~n" = "x" }], t = { f = 1.5 } }'
+    for pointer, answer in [
+        ("", whole), ("/a~1b", '[1, { "m~n" = "x" }]'), ("/a~1b/0", "1"), ("/a~1b/1/m~0n", '"x"'),
+        ("/", "07:32"), ("/t", "{ f = 1.5 }"), ("/t/f", "1.5"),
+    ]:
+        yield on("toml", whole, "resolve", pointer, answer=answer, after=whole, no_alloc="~" not in pointer)
+    written = '{ "a/b" = [1, true], c = 3 }'
+    yield on("toml", '{ "a/b" = [1, 2], c = 3 }', "write", "/a~1b/1", "true", answer="2", after=written)
+    yield on(
+        "toml", written, "write", "/c", "1.5", answer="3", after='{ "a/b" = [1, true], c = 1.5 }', no_alloc=True
+    )
+    for document, pointer, answer, after, no_alloc in [
+        ("{ a = 1 }", "", "{ a = 1 }", "true", True),
+        ("{ a = 1 }", "/a", "1", "{ a = true }", True),
+        ("{ a = [1, 2] }", "/a/1", "2", "{ a = [1, true] }", True),
+        ("{ a = [1] }", "/a/1", "none", "{ a = [1, true] }", False),
+        ("{ a = [1] }", "/b~1", "none", '{ a = [1], "b/" = true }', False),
+        ("{ a = [] }", "/a/-/x", "none", "{ a = [{ x = true }] }", False),
+        ("{}", "/m~0n/0", "none", '{ "m~n" = [true] }', False),
+        ("1.5", "/a/00", "1.5", "{ a = { 00 = true } }", False),
+    ]:
+        yield on("toml", document, "assign", pointer, "true", answer=answer, after=after, no_alloc=no_alloc)
+    yield on("toml", "{ a = [1, true] }", "delete", "/a/1", answer="true", after="{ a = [1] }", no_alloc=True)
+    yield on("toml", '{ a = [1], "b/" = true }', "delete", "/b~1", answer="true", after="{ a = [1] }")
+    yield on("toml", '{ "a/b" = 1 }', "resolve", "/a~1b", answer="1", after='{ "a/b" = 1 }')
+    yield on("toml", '{ "a/b" = 1 }', "write", "/a~1b", "2", answer="1", after='{ "a/b" = 2 }')
+    yield on("toml", '{ "a/b" = 1 }', "assign", "/a~1b", "2", answer="1", after='{ "a/b" = 2 }')
+    yield on("toml", '{ "a/b" = 1 }', "delete", "/a~1b", answer="1", after="{}")
+    yield on("toml", "[]", "assign", "/-/" + LONG, "2", answer="none", after=f"[{{ {LONG} = 2 }}]")
+
+
+def labelled():
+    """The labels of document errors, on the pointer that caused them and on others."""
+    rows = [
+        ("resolve", "[]", "/é~1", "not an array index at 1, length 4"),
+        ("resolve", "7", "/é~1/x", "unreachable at 1, length 4"),
+        ("assign", '{"a":[1]}', "/a/b", "expected array index or '-' at 3, length 1"),
+    ]
+    for kind, document, pointer, label in rows:
+        yield allocates("report", "labels", kind, document, pointer, answer=label)
+    others = [
+        ("/a/bcd", 1, 0, 1, 3),
+        ("/a/bcd", 0, 5, 5, 1),
+        ("/a/bcd", 0, 4, 5, 1),
+        ("/a/bcd", 0, USIZE_MAX - 1, USIZE_MAX - 1, 1),
+        ("//", 1, 7, 7, 0),
+    ]
+    for pointer, position, offset, place, length in others:
+        label = f"not found in value at {place}, length {length}"
+        yield allocates("fields", "labels", "resolve", position, offset, pointer, answer=label)
+
+
+def undoing(kind, document, call, pointer, value, *, answer, after):
+    """A call that undoes an assignment, or returns what does."""
+    return Case(("undo", kind, document, call, pointer, value), f"{answer}\n", f"{after}\n")
+
+
+def undos():
+    """Undoing assignments, in JSON and in TOML documents."""
+    long = f"/{LONG}"
+    rows = [
+        ("json", '{"foo":"bar"}', "/foo/bar/-/baz", '"qux"', 'put "bar" at /foo', '{"foo":{"bar":[{"baz":"qux"}]}}'),
+        ("json", '["a"]', "/-", '"b"', "remove at /1", '["a","b"]'),
+        ("json", "[1]", "/-/x", "7", "remove at /1", '[1,{"x":7}]'),
+        ("json", "{}", "/a/-", "7", "remove at /a", '{"a":[7]}'),
+        ("json", "[1]", "/0", "7", "put 1 at /0", "[7]"),
+        ("json", '{"a":3}', "", "7", 'put {"a":3} at ', "7"),
+        ("json", "{}", "/a~1b", "7", "remove at /a~1b", '{"a/b":7}'),
+        ("json", "{}", long, "7", f"remove at {long}", f'{{"{LONG}":7}}'),
+        ("json", "1", long, "7", "put 1 at ", f'{{"{LONG}":7}}'),
+        ("toml", "{ a = [1] }", "/a/-", "7", "remove at /a/1", "{ a = [1, 7] }"),
+        ("toml", "{ a = 1 }", "/a", "7", "put 1 at /a", "{ a = 7 }"),
+        ("toml", "{ a = 1 }", "/a/b", "7", "put 1 at /a", "{ a = { b = 7 } }"),
+        ("toml", "{}", "/a~1b", "7", "remove at /a~1b", '{ "a/b" = 7 }'),
+    ]
+    for kind, document, pointer, value, answer, after in rows:
+        yield undoing(kind, document, "assign_with_undo", pointer, value, answer=answer, after=after)
+        yield undoing(kind, document, "undo", pointer, value, answer="done", after=document)
+    yield undoing("json", "[]", "assign_with_undo", "/1", "7", answer=ASSIGN_OUT_OF_BOUNDS.format(0), after="[]")
+    fault = ASSIGN_BAD_INDEX.format(2)
+    yield undoing("json", '{"a":[1]}', "assign_with_undo", "/a/b", "2", answer=fault, after='{"a":[1]}')
+    fault = RESOLVE_OUT_OF_BOUNDS.format(0)
+    yield undoing("json", "[1]", "Remove", "/1", "null", answer=fault, after="[1]\nremove at /1")
+    yield undoing(
+        "json", '{"a":1}', "Put", "/a/b", "[7]", answer=RESOLVE_UNREACHABLE.format(2), after='{"a":1}\nput [7] at /a/b'
+    )
+    yield undoing("json", '{"a/b":1}', "Put", "/a~1b", "7", answer="done", after='{"a/b":7}')
+    yield undoing("json", '{"a/b":1}', "Remove", "/a~1b", "null", answer="done", after="{}")
+    yield undoing("toml", '{ "a/b" = 1 }', "Put", "/a~1b", "7", answer="done", after='{ "a/b" = 7 }')
+    yield undoing(
+        "toml", "{ a = 1 }", "Remove", "/b", "1", answer=RESOLVE_NOT_FOUND.format(0), after="{ a = 1 }\nremove at /b"
+    )
+
+
+def undos_told():
+    """Undoing assignments: more documents, and the error in a TOML document."""
+    rows = [
+        ("json", "[1]", "/1", "7", "remove at /1", "[1,7]"),
+        ("json", '{"a":{}}', "/a/~1~0/0", "7", "remove at /a/~1~0", '{"a":{"/~":[7]}}'),
+        (
+            "toml",
+            '{ foo = "bar" }',
+            "/foo/bar/-/baz",
+            '"qux"',
+            'put "bar" at /foo',
+            '{ foo = { bar = [{ baz = "qux" }] } }',
+        ),
+        ("toml", "[1]", "/0", "7", "put 1 at /0", "[7]"),
+        ("toml", "{ a = 3 }", "", "7", "put { a = 3 } at ", "7"),
+        ("toml", '["a"]', "/-", '"b"', "remove at /1", '["a", "b"]'),
+        ("toml", "[1]", "/-/x", "7", "remove at /1", "[1, { x = 7 }]"),
+        ("toml", "{}", "/a/-", "7", "remove at /a", "{ a = [7] }"),
+    ]
+    for kind, document, pointer, value, answer, after in rows:
+        yield undoing(kind, document, "assign_with_undo", pointer, value, answer=answer, after=after)
+        yield undoing(kind, document, "undo", pointer, value, answer="done", after=document)
+    one = "{ a = [1] }"
+    yield undoing("toml", one, "assign_with_undo", "/a/2", "2", answer=ASSIGN_OUT_OF_BOUNDS.format(2), after=one)
+    yield undoing("toml", "[1]", "Remove", "/1", "1", answer=RESOLVE_OUT_OF_BOUNDS.format(0), after="[1]\nremove at /1")
+    yield undoing(
+        "toml", "{ a = 1 }", "Put", "/b", "[7]", answer=RESOLVE_NOT_FOUND.format(0), after="{ a = 1 }\nput [7] at /b"
+    )
+
+
+def patched(document, *operations, answer="done", after=None):
+    """A patch. If it fails, the document is unchanged."""
+    lines = ("patch", document, *(line for operation in operations for line in operation))
+    return Case(lines, f"{answer}\n", f"{document if after is None else after}\n")
+
+
+def failed(operation, cause):
+    """The result of a patch whose numbered operation fails."""
+    return f"patch failed at operation {operation}: {cause}"
+
+
+def patches():
+    """Patches, and deletions that can be undone."""
+    two = '{"a":[1,2]}'
+    yield patched('{"a":1}', after='{"a":1}')
+    yield patched(two, ("add", "/a/1", "9"), after='{"a":[1,9,2]}')
+    yield patched(two, ("add", "/a/3", "9"), answer=failed(0, ASSIGN_OUT_OF_BOUNDS.format(2)))
+    yield patched("{}", ("add", "/a/b", "1"), answer=failed(0, RESOLVE_NOT_FOUND.format(0)))
+    yield patched('{"a":5}', ("add", "/a/b", "1"), answer=failed(0, RESOLVE_UNREACHABLE.format(2)))
+    yield patched("[1,2]", ("move", "/0", "/1"), after="[2,1]")
+    yield patched("[1,2]", ("move", "/0", "/2"), answer=failed(0, ASSIGN_OUT_OF_BOUNDS.format(0)))
+    yield patched("[1,3]", ("add", "/1", "2"), after="[1,2,3]")
+    yield patched('{"a":1}', ("move", "/a", "/a/b"), answer=failed(0, "from is a proper prefix of path"))
+    yield patched('{"a":1}', ("move", "/a", "/ab"), after='{"ab":1}')
+    yield patched('{"a":[1]}', ("copy", "/a", "/b"), after='{"a":[1],"b":[1]}')
+    yield patched('{"a":1}', ("test", "/a", "1"), after='{"a":1}')
+    yield patched('{"a":1}', ("test", "/a", '"1"'), answer=failed(0, "test failed"))
+    yield patched('{"a":1}', ("test", "/a", "1.5"), answer=failed(0, "a float cannot be tested"))
+    yield patched("{}", ("add", "/x", "1"), ("test", "/x", "2"), answer=failed(1, "test failed"))
+    yield patched("[1]", ("remove", "/-"), answer=failed(0, RESOLVE_OUT_OF_BOUNDS.format(0)))
+    long = f"/{LONG}"
+    for token, key in [("a", "a"), ("a~1b", "a/b"), (LONG, LONG), (ENCODED, DECODED)]:
+        kept, patch = f'{{"{key}":[1]}}', [("add", f"/{token}/0", "0"), ("replace", f"/{token}/1", "[2]")]
+        yield patched(kept, *patch, ("remove", f"/{token}/0"), after=f'{{"{key}":[[2]]}}')
+        yield patched(kept, *patch, ("test", f"/{token}/1/0", "3"), answer=failed(2, "test failed"))
+        copied = [("copy", f"/{token}", "/c"), ("move", f"/{token}", "/c/0")]
+        yield patched(kept, *patch, *copied, after='{"c":[[0,[2]],0,[2]]}')
+    yield patched("{}", ("add", long, "1"), ("remove", long), after="{}")
+    yield Case(("patch back", "[1,2,3]", "/1"), "add 2 at /1\n", "[1,3]\n")
+    yield Case(("patch back", '{"a/b":[1]}', "/a~1b"), "add [1] at /a~1b\n", "{}\n")
+    yield Case(("patch back", "{}", "/a"), "nothing\n", "{}\n")
+    for document, pointer in [("{}", "/x"), ("[1]", "/-"), ("[1]", "/1"), ("1", "/0")]:
+        yield Case(("patch back", document, pointer), "nothing\n", f"{document}\n")
+    for document, pointer, value, left in [
+        ("[1,2,3]", "/2", "3", "[1,2]"),
+        ("[1]", "/0", "1", "[]"),
+        ('{"a":{"b":[1]}}', "/a/b", "[1]", '{"a":{}}'),
+        ('{"z":0,"~":{"/":null}}', "/~0/~1", "null", '{"z":0,"~":{}}'),
+        ("[1]", "", "[1]", "null"),
+        ("null", "", "null", "null"),
+    ]:
+        yield Case(("patch back", document, pointer), f"add {value} at {pointer}\n", f"{left}\n")
+        yield patched(left, ("add", pointer, value), after=document)
+
+
+def applied():
+    """Patches that succeed: first the examples of RFC 6902, appendix A."""
+    three, nested = '{"baz":"qux","foo":["a",2,"c"]}', '{"a":{"b":1}}'
+    grass = '{"foo":["all","grass","cows","eat"]}'
+    waldo = '{"foo":{"bar":"baz","waldo":"fred"},"qux":{"corge":"grault"}}'
+    thud = '{"foo":{"bar":"baz"},"qux":{"corge":"grault","thud":"fred"}}'
+    rows = [
+        ('{"foo":"bar"}', [("add", "/baz", '"qux"')], '{"baz":"qux","foo":"bar"}'),
+        ('{"foo":["bar","baz"]}', [("add", "/foo/1", '"qux"')], '{"foo":["bar","qux","baz"]}'),
+        ('{"baz":"qux","foo":"bar"}', [("remove", "/baz")], '{"foo":"bar"}'),
+        ('{"foo":["bar","qux","baz"]}', [("remove", "/foo/1")], '{"foo":["bar","baz"]}'),
+        ('{"baz":"qux","foo":"bar"}', [("replace", "/baz", '"boo"')], '{"baz":"boo","foo":"bar"}'),
+        (waldo, [("move", "/foo/waldo", "/qux/thud")], thud),
+        (grass, [("move", "/foo/1", "/foo/3")], '{"foo":["all","cows","eat","grass"]}'),
+        (three, [("test", "/baz", '"qux"'), ("test", "/foo/1", "2")], three),
+        ('{"foo":"bar"}', [("add", "/child", '{"grandchild":{}}')], '{"child":{"grandchild":{}},"foo":"bar"}'),
+        ('{"/":9,"~1":10}', [("test", "/~01", "10")], '{"/":9,"~1":10}'),
+        ('{"foo":["bar"]}', [("add", "/foo/-", '["abc","def"]')], '{"foo":["bar",["abc","def"]]}'),
+        ('{"a":[1,2]}', [("add", "/a/2", "9")], '{"a":[1,2,9]}'),
+        ("[]", [("add", "/0", "9")], "[9]"),
+        ('{"a":1}', [("add", "/a", "[2]")], '{"a":[2]}'),
+        ("[1]", [("add", "", "{}")], "{}"),
+        ("[1,2]", [("remove", "")], "null"),
+        ('{"a":[1,{"b":2}]}', [("replace", "/a/1/b", "3")], '{"a":[1,{"b":3}]}'),
+        ("[1]", [("replace", "", "2")], "2"),
+        ("[1,2]", [("move", "/0", "/0")], "[1,2]"),
+        ("[1,2]", [("move", "", "")], "[1,2]"),
+        (nested, [("move", "/a/b", "/a")], '{"a":1}'),
+        (nested, [("move", "/a/b", "")], "1"),
+        ("[1]", [("copy", "", "/0")], "[[1],1]"),
+        ('{"a":[1,[2]]}', [("copy", "/a/1/0", "/a/1/-")], '{"a":[1,[2,2]]}'),
+        ('{"~":{"/":1}}', [("add", "/~0/~1", "2"), ("test", "/~0/~1", "2")], '{"~":{"/":2}}'),
+    ]
+    for document, operations, after in rows:
+        yield patched(document, *operations, after=after)
+    added = [("add", "/x", "[]"), ("add", "/x/-", "1"), ("add", "/x/0", "0")]
+    yield patched("{}", *added, ("move", "/x", "/y"), ("remove", "/y/1"), after='{"y":[0]}')
+    unordered, ordered = '{"b":[1,2],"a":{"":{}}}', '{"a":{"":{}},"b":[1,2]}'
+    values = ["null", "true", "false", "0", "-7", str(USIZE_MAX), str(-(2**63)), '"é"', "[]", "{}"]
+    values += ['[[],[1,[null]],{"a":true}]', unordered]
+    for value in values:
+        after = f'{{"":{ordered if value == unordered else value}}}'
+        yield patched('{"":null}', ("add", "/", value), ("test", "/", value), after=after)
+
+
+def refused():
+    """Patches that fail."""
+    into_self, no_float = "from is a proper prefix of path", "a float cannot be tested"
+    floats = ("test", "", '[{"a":[1.5]}]')
+    rows = [
+        ('{"foo":"bar"}', [("add", "/baz/bat", '"qux"')], 0, RESOLVE_NOT_FOUND.format(0)),
+        ('{"a":1}', [("copy", "/a", "/b"), ("move", "/b", "/c"), ("move", "/b", "/d")], 2, RESOLVE_NOT_FOUND.format(0)),
+        ('{"a":1}', [("move", "/a", "/b/c")], 0, RESOLVE_NOT_FOUND.format(0)),
+        ("[[1]]", [("copy", "/0", "/1/0")], 0, RESOLVE_OUT_OF_BOUNDS.format(0)),
+        ("{}", [("move", "/a", "/a/b")], 0, into_self),
+        ("[1]", [("test", "/0", "1"), ("move", "", "/0")], 1, into_self),
+        ('{"a":1}', [("test", "/a", "1.0")], 0, no_float),
+        ('{"a":[1,{"b":[null]}]}', [("test", "/a/0", "1"), floats], 1, no_float),
+        ("{}", [("add", "/a", '{"b":[0,1.5]}'), ("test", "/a", "true")], 1, no_float),
+    ]
+    for document, operations, operation, cause in rows:
+        yield patched(document, *operations, answer=failed(operation, cause))
+    tested = [
+        ('{"baz":"qux"}', "/baz", '"bar"'), ('{"/":9,"~1":10}', "/~01", '"10"'),
+        ("[]", "", "{}"), ("{}", "", "[]"), ("null", "", "false"), ("true", "", "false"), ("-1", "", "1"),
+        ("[1]", "", "[1,1]"), ("[1,2]", "", "[2,1]"), ('{"a":1}', "", '{"b":1}'),
+        ('{"a":1}', "", '{"a":1,"b":1}'), ('{"a":1,"b":1}', "", '{"a":1}'),
+        ('{"a":[{"b":[]}]}', "", '{"a":[{"b":{}}]}'),
+    ]
+    for document, path, value in tested:
+        yield patched(document, ("test", path, value), answer=failed(0, "test failed"))
+
+
+def session(kind, document, pointer, steps, after):
+    """A session on a plain and on a tabled pointer: its calls with their replies, and the state after them."""
+    calls, replies = zip(*steps)
+    for pointers in KINDS:
+        lines = ("session", kind, document, pointers, pointer, *calls)
+        yield Case(lines, "".join(f"{it}\n" for it in replies), f"{after}\n", calls=calls)
+
+
+EVERY_CALL = [
+    ("parse /a", "done"), ("push_back ~", "done"), ("push_front b/c", "done"), ("pop_front", "token b~1c"),
+    ("pop_back", "token ~0"), ("replace 0 x/y", "token a"), ("replace 0 a", "token x~1y"), ("append /0", "done"),
+    ("resolve", "value 1"), ("write 3", "value 1"), ("append /x/-", "done"), ("assign 4", "assigned for 3"),
+    ("delete", "not deleted"),
+    ("pop_back", "token -"),
+    ("delete", "deleted [4]"),
+    ("clear", "done"),
+    ("pop_back", "no token"),
+    ("pop_front", "no token"),
+    ("replace 0 a", REPLACE_OUT_OF_BOUNDS.format(0, 0)),
+    ("parse foo", f"{PARSE_NO_SLASH}: foo"),
+    ("parse /a/-", "done"),
+    ("assign 5", "assigned"),
+    ("resolve", RESOLVE_OUT_OF_BOUNDS.format(2)),
+    ("write 6", RESOLVE_OUT_OF_BOUNDS.format(2)),
+    ("push_back x", "done"),
+    ("parse /a/x", "done"),
+    ("assign 7", ASSIGN_BAD_INDEX.format(2)),
+    ("parse /~0/~1", "done"),
+    ("assign 8", "assigned"),
+    ("resolve", "value 8"),
+]
+
+
+def sessions():
+    """Sessions: the one of the documentation, and one with every call on each kind of document."""
+    worked = [
+        ("push_back a/b", "done"),
+        ("assign 1", "assigned for null"),
+        ("delete", "deleted 1"),
+        ("resolve", RESOLVE_NOT_FOUND.format(0)),
+    ]
+    yield from session("json", "null", "", worked, "/a~1b {}")
+    yield from session("json", "null", "/x", [("clear", "done"), *worked], "/a~1b {}")
+    yield from session("json", '{"a":[1,2]}', "/x", EVERY_CALL, '/~0/~1 {"a":[{},2,5],"~":{"/":8}}')
+    yield from session("toml", "{ a = [1, 2] }", "/x", EVERY_CALL, '/~0/~1 { a = [{}, 2, 5], "~" = { "/" = 8 } }')
+    long = [
+        (f"parse /{LONG}", "done"),
+        (f"push_back {DECODED}", "done"),
+        ("assign 1", "assigned"),
+        ("resolve", "value 1"),
+        ("pop_back", f"token {ENCODED}"),
+        (f"append {MANY}", "done"),
+        ("resolve", RESOLVE_NOT_FOUND.format(100_001)),
+        ("clear", "done"),
+        (f"push_front {LONG}", "done"),
+        (f"replace 0 {DECODED}", f"token {LONG}"),
+        ("delete", "not deleted"),
+        ("pop_front", f"token {ENCODED}"),
+    ]
+    yield from session("json", "{}", "", long, f' {{"{LONG}":{{"{DECODED}":1}}}}')
+    goes_on = [
+        ("resolve", RESOLVE_BAD_INDEX.format(0)),
+        ("assign null", ASSIGN_BAD_INDEX.format(0)),
+        ("delete", "not deleted"),
+        ("parse 0", f"{PARSE_NO_SLASH}: 0"),
+        ("replace 1 0", REPLACE_OUT_OF_BOUNDS.format(1, 1)),
+        ("replace 0 0", "token a"),
+        ("delete", "deleted 7"),
+    ]
+    yield from session("json", "[7]", "/a", goes_on, "/0 []")
+
+
+def stepwise(kind, pointer, document, steps):
+    """Sessions of one call each: the call, its reply, and the pointer and document that the next one starts with."""
+    for call, reply, next_pointer, next_document in steps:
+        yield from session(kind, document, pointer, [(call, reply)], f"{next_pointer} {next_document}")
+        pointer, document = next_pointer, next_document
+
+
+def single_calls():
+    """Sessions of one call each, and of none."""
+    worked = [
+        ("push_back a/b", "done", "/a~1b", "null"),
+        ("assign 1", "assigned for null", "/a~1b", '{"a/b":1}'),
+        ("delete", "deleted 1", "/a~1b", "{}"),
+        ("resolve", RESOLVE_NOT_FOUND.format(0), "/a~1b", "{}"),
+    ]
+    yield from stepwise("json", "", "null", worked)
+    for pointers in KINDS:
+        yield Case(("session", "json", "{}", pointers, "/a~1b"), "", "/a~1b {}\n")
+    for kind, two in [("json", '{"a":[1,2]}'), ("toml", "{ a = [1, 2] }")]:
+        steps = [
+            ("parse /a", "done", "/a", two),
+            ("push_back ~", "done", "/a/~0", two),
+            ("push_front b/c", "done", "/b~1c/a/~0", two),
+            ("pop_front", "token b~1c", "/a/~0", two),
+            ("replace 1 0", "token ~0", "/a/0", two),
+            ("replace 1 c/d", "token 0", "/a/c~1d", two),
+            ("replace 0 ", "token a", "//c~1d", two),
+        ]
+        yield from stepwise(kind, "/x", two, steps)
+    two, kept, deep = '{"a":[1,2]}', '{"a":[{},2]}', '{"a":[{"x":[true]},2]}'
+    steps = [
+        ("resolve", "value 1", "/a/0", two),
+        ("write {}", "value 1", "/a/0", kept),
+        ("append /x/-", "done", "/a/0/x/-", kept),
+        ("assign true", "assigned", "/a/0/x/-", deep),
+        ("delete", "not deleted", "/a/0/x/-", deep),
+        ("pop_back", "token -", "/a/0/x", deep),
+        ("delete", "deleted [true]", "/a/0/x", kept),
+        ("clear", "done", "", kept),
+        ("pop_back", "no token", "", kept),
+        ("pop_front", "no token", "", kept),
+        ("assign []", f"assigned for {kept}", "", "[]"),
+        ("resolve", "value []", "", "[]"),
+        ("delete", "deleted []", "", "null"),
+        ("write 5", "value null", "", "5"),
+    ]
+    yield from stepwise("json", "/a/0", two, steps)
+    two, seven, deep, kept = "{ a = [1, 2] }", "{ a = [7] }", "{ a = [{ x = [true] }] }", "{ a = [{}] }"
+    steps = [
+        ("resolve", "value 1", "/a/0", two),
+        ("delete", "deleted 1", "/a/0", "{ a = [2] }"),
+        ("write 7", "value 2", "/a/0", seven),
+        ("append /x/-", "done", "/a/0/x/-", seven),
+        ("assign true", "assigned for 7", "/a/0/x/-", deep),
+        ("delete", "not deleted", "/a/0/x/-", deep),
+        ("pop_back", "token -", "/a/0/x", deep),
+        ("delete", "deleted [true]", "/a/0/x", kept),
+        ("clear", "done", "", kept),
+        ("pop_back", "no token", "", kept),
+        ("pop_front", "no token", "", kept),
+        ("assign 1979-05-27", f"assigned for {kept}", "", "1979-05-27"),
+        ("resolve", "value 1979-05-27", "", "1979-05-27"),
+        ("delete", "deleted 1979-05-27", "", "{}"),
+        ("push_back b", "done", "/b", "{}"),
+        ("assign 3", "assigned", "/b", "{ b = 3 }"),
+    ]
+    yield from stepwise("toml", "/a/0", two, steps)
+
+
+def refused_calls():
+    """Sessions of one call that fails and leaves pointer and document unchanged."""
+    date, one = "{ d = 1979-05-27 }", "{ a = [1] }"
+    rows = [
+        ("json", "/x", "[]", "parse foo", f"{PARSE_NO_SLASH}: foo"),
+        ("json", "/a/", '{"a":{}}', "resolve", RESOLVE_NOT_FOUND.format(2)),
+        ("json", "/a/", '{"a":{}}', "write null", RESOLVE_NOT_FOUND.format(2)),
+        ("json", "/a/b", '{"a":1}', "resolve", RESOLVE_UNREACHABLE.format(2)),
+        ("json", "/a/b", '{"a":1}', "write null", RESOLVE_UNREACHABLE.format(2)),
+        ("json", "/a/b", '{"a":[1]}', "assign null", ASSIGN_BAD_INDEX.format(2)),
+        ("json", "/a/b", "[]", "replace 2 x", REPLACE_OUT_OF_BOUNDS.format(2, 2)),
+        ("json", "//", "[]", f"replace {USIZE_MAX} x", REPLACE_OUT_OF_BOUNDS.format(USIZE_MAX, 2)),
+        ("toml", "/d/x", date, "replace 2 x", REPLACE_OUT_OF_BOUNDS.format(2, 2)),
+        ("toml", "/d/x", date, "parse d", f"{PARSE_NO_SLASH}: d"),
+        ("toml", "/a/2", one, "assign 1", ASSIGN_OUT_OF_BOUNDS.format(2)),
+        ("toml", "/a/01", one, "assign 1", ASSIGN_BAD_INDEX.format(2)),
+    ]
+    for kind, pointer, document, call, reply in rows:
+        yield from stepwise(kind, pointer, document, [(call, reply, pointer, document)])
+
+
+def reports():
+    """Error reports: labels, rendering and displayed text."""
+    tilde = "'~' must be followed by '0' or '1'"
+    rows = [
+        (
+            ("pointer", "foo"),
+            PARSE_NO_SLASH,
+            "must start with a slash ('/') at 0, length 0",
+            "foo\n^ must start with a slash ('/')",
+        ),
+        (
+            ("pointer", "/foo/invalid~tilde/invalid"),
+            PARSE_MALFORMED.format(4),
+            f"{tilde} at 12, length 2",
+            f"/foo/invalid~tilde/invalid\n            ^^ {tilde}",
+        ),
+        (
+            ("token", "~"),
+            TOKEN_BAD_ENCODING.format(1),
+            "incomplete escape sequence at 0, length 1",
+            "~\n^ incomplete escape sequence",
+        ),
+        (("token", "~~0"), TOKEN_BAD_ENCODING.format(1), "must be 0 or 1 at 1, length 1", "~~0\n ^ must be 0 or 1"),
+        (
+            ("token", "foo/oops~bar"),
+            TOKEN_BAD_ENCODING.format(3),
+            "invalid character at 3, length 1",
+            "foo/oops~bar\n   ^ invalid character",
+        ),
+        (("index", "00"), INDEX_LEADING_ZEROS, "leading zeros at 0, length 2", "00\n^^ leading zeros"),
+        (("index", "0a"), INDEX_LEADING_ZEROS, "leading zeros at 0, length 1", "0a\n^ leading zeros"),
+        (("index", "1a"), INDEX_BAD_CHARACTER, "invalid character(s) at 1, length 1", "1a\n ^ invalid character(s)"),
+        (("index on", "00", "12"), INDEX_LEADING_ZEROS, "leading zeros at 0, length 0", "12\n^ leading zeros"),
+        (
+            ("index on", "123x", "abcdé1"),
+            INDEX_BAD_CHARACTER,
+            "invalid character(s) at 3, length 3",
+            "abcdé1\n   ^^ invalid character(s)",
+        ),
+        (
+            ("index on", "123x", "1"),
+            INDEX_BAD_CHARACTER,
+            "invalid character(s) at 3, length 0",
+            "1\n ^ invalid character(s)",
+        ),
+        (
+            ("resolve", '{"foo":["bar"]}', "/foo/-"),
+            RESOLVE_OUT_OF_BOUNDS.format(4),
+            "index 1 out of bounds (len: 1) at 5, length 1",
+            "/foo/-\n     ^ index 1 out of bounds (len: 1)",
+        ),
+        (
+            ("resolve", '{"a":{}}', "/a/"),
+            RESOLVE_NOT_FOUND.format(2),
+            "not found in value at 2, length 0",
+            "/a/\n  ^ not found in value",
+        ),
+        (
+            ("resolve", "1", "/a~1b"),
+            RESOLVE_UNREACHABLE.format(0),
+            "unreachable at 1, length 4",
+            "/a~1b\n ^^^^ unreachable",
+        ),
+        (
+            ("resolve", "[]", "/x"),
+            RESOLVE_BAD_INDEX.format(0),
+            "not an array index at 1, length 1",
+            "/x\n ^ not an array index",
+        ),
+        (
+            ("assign", "[]", "/1"),
+            ASSIGN_OUT_OF_BOUNDS.format(0),
+            "1 is out of bounds (len: 0) at 1, length 1",
+            "/1\n ^ 1 is out of bounds (len: 0)",
+        ),
+        (
+            ("assign", "[]", "/x"),
+            ASSIGN_BAD_INDEX.format(0),
+            "expected array index or '-' at 1, length 1",
+            "/x\n ^ expected array index or '-'",
+        ),
+        (
+            ("index", "1" + LONG),
+            INDEX_BAD_CHARACTER,
+            "invalid character(s) at 1, length 100000",
+            f"1{LONG}\n {'^' * 100_000} invalid character(s)",
+        ),
+        (
+            ("pointer", MANY + "~"),
+            PARSE_MALFORMED.format(99_998),
+            f"{tilde} at 100000, length 1",
+            f"{MANY}~\n{' ' * 100_000}^ {tilde}",
+        ),
+    ]
+    for about, text, label, drawn in rows:
+        yield no_alloc("report", "display", *about, answer=text)
+        yield no_alloc("report", "display failing", *about, answer="true")
+        yield allocates("report", "labels", *about, answer=label)
+        yield allocates("report", "clone", *about, answer=label)
+        yield allocates("report", "render", *about, answer=drawn)
+    for text, fault in [("foo", PARSE_NO_SLASH), ("/~", PARSE_MALFORMED.format(0)), (LONG, PARSE_NO_SLASH)]:
+        for call in ["diagnose", "diagnose_with"]:
+            yield no_alloc("report joined", call, text, answer=f"{fault}: {text}")
+            yield no_alloc("report joined", call, f"/{text.replace('~', 'x')}", answer=f"/{text.replace('~', 'x')}")
+        yield no_alloc("report joined", "decompose", text, answer=text)
+        yield no_alloc("report joined", "into_original", text, answer=fault)
+    yield no_alloc("report", "labels", "index", "", answer="none")
+    yield no_alloc("report", "labels", "index", "9" * 100_000, answer="none")
+    yield no_alloc("report", "labels", "index on", USIZE_MAX + 1, "00", answer="none")
+    yield allocates("report", "labels", "index", "+1", answer="invalid character(s) at 0, length 1")
+    yield allocates("report", "labels", "token", "a~/b", answer="invalid character at 2, length 1")
+    yield allocates("report", "labels", "token", "é~x", answer="must be 0 or 1 at 3, length 1")
+    rows = [
+        (("pointer", "/é~"), f"/é~\n  ^ {tilde}"),
+        (("token", "é~x"), "é~x\n  ^ must be 0 or 1"),
+        (("index", "007"), "007\n^^ leading zeros"),
+        (("index", ""), ""),
+        (("index", USIZE_MAX + 1), USIZE_MAX + 1),
+        (("assign", "[0]", "/3"), "/3\n ^ 3 is out of bounds (len: 1)"),
+    ]
+    for about, drawn in rows:
+        yield allocates("report", "render", *about, answer=drawn)
+
+
+def bounds():
+    """Index bounds, and reports of errors whose fields no parser returned."""
+    rows = [
+        ("for_len", USIZE_MAX, USIZE_MAX, f"index {USIZE_MAX} out of bounds (len: {USIZE_MAX})"),
+        ("for_len_incl", USIZE_MAX, USIZE_MAX, USIZE_MAX),
+        ("for_len_unchecked", USIZE_MAX, 0, USIZE_MAX),
+        ("for_len", 0, 1, 0),
+        ("for_len", 0, 0, "index 0 out of bounds (len: 0)"),
+        ("for_len", 1, 1, "index 1 out of bounds (len: 1)"),
+        ("for_len", "-", 1, "index 1 out of bounds (len: 1)"),
+        ("for_len_incl", 1, 1, 1),
+        ("for_len_incl", "-", 1, 1),
+        ("for_len_incl", 2, 1, "index 2 out of bounds (len: 1)"),
+        ("for_len_incl", "-", USIZE_MAX, USIZE_MAX),
+        ("for_len_unchecked", "-", 30, 30),
+        ("for_len_unchecked", "-", 34, 34),
+        ("for_len_unchecked", 42, 30, 42),
+        ("for_len_unchecked", 34, 40, 34),
+    ]
+    for call, index, length, answer in rows:
+        yield no_alloc("index", call, index, length, answer=answer)
+    lengths = [
+        (USIZE_MAX, 1, "", 1),
+        (USIZE_MAX, 0, "/~", 1),
+        (0, 0, "/~", 2),
+        (0, 0, "~", 1),
+        (1, 1, "/a~", 1),
+        (1, 1, "/a~0", 2),
+    ]
+    for offset, source, subject, length in lengths:
+        yield no_alloc("invalid_encoding_len", offset, source, subject, answer=length)
+    none = [
+        ("pointer", USIZE_MAX, 1, ""),
+        ("pointer", USIZE_MAX, USIZE_MAX, "/~"),
+        ("tilde", 0, 0, ""),
+        ("resolve", 0, USIZE_MAX, "/a"),
+        ("resolve", USIZE_MAX, 0, "/a"),
+    ]
+    for kind, first, second, subject in none:
+        yield no_alloc("fields", "labels", kind, first, second, subject, answer="none")
+    labels = [
+        ("pointer", 0, 0, "/~", "'~' must be followed by '0' or '1' at 0, length 2"),
+        ("slash", 0, 0, "", "invalid character at 0, length 1"),
+        ("slash", USIZE_MAX, 0, "", f"invalid character at {USIZE_MAX}, length 1"),
+        ("tilde", 0, 0, "a", "must be 0 or 1 at 0, length 1"),
+        ("tilde", 3, 0, "é~", "incomplete escape sequence at 2, length 1"),
+        ("tilde", USIZE_MAX, 0, "", f"must be 0 or 1 at {USIZE_MAX}, length 1"),
+        ("pointer", USIZE_MAX, 0, "", f"'~' must be followed by '0' or '1' at {USIZE_MAX}, length 1"),
+        ("resolve", 0, USIZE_MAX - 1, "/a", f"not found in value at {USIZE_MAX - 1}, length 1"),
+    ]
+    for kind, first, second, subject, label in labels:
+        yield allocates("fields", "labels", kind, first, second, subject, answer=label)
+    drawings = [
+        ("slash", 9, 0, "ab", "ab\n  ^ invalid character"),
+        ("slash", USIZE_MAX, 0, "ab", "ab\n  ^ invalid character"),
+        ("tilde", 0, 0, "", ""),
+        ("resolve", 1, 4, "/foo/bär/x", "/foo/bär/x\n     ^^^ not found in value"),
+    ]
+    for kind, first, second, subject, drawn in drawings:
+        yield allocates("fields", "render", kind, first, second, subject, answer=drawn)
+    yield no_alloc("fields", "display", "slash", USIZE_MAX, 0, "", answer=TOKEN_BAD_ENCODING.format(USIZE_MAX))
+    orders = [("index", "/1", "/2", "<"), ("index", "/-", f"/{USIZE_MAX}", ">"), ("index", "/-", "/-", "=")]
+    orders += [("component", "", "/", "<"), ("component", "/a~1b", "/a~0", ">"), ("component", MANY, MANY, "=")]
+    for kind, one, other, order in orders:
+        yield no_alloc("order", kind, one, other, answer=order)
+    yield no_alloc("known", "from_static", answer=8)
+    yield no_alloc("known", "new_unchecked", answer=5)
+    yield no_alloc("known", "complete_offset", answer=12)
+
+
+def shown():
+    """Displayed texts, also with writers that fail at each of their calls in turn."""
+    for kind in ["pointer", *KINDS]:
+        yield no_alloc("show failing", kind, "/a~1b", answer="true")
+    invalid = ["InvalidEncoding::Tilde", "InvalidEncoding::Slash", "InvalidCharacterError"]
+    for error in [*invalid, "OutOfBoundsError", "ReplaceError", "Fault::Refused", "Fault::Memory"]:
+        yield no_alloc("show failing error", error, answer="true")
+    for kind, text in [("token", "a~1b"), ("token", "abc"), ("index", "-"), ("index", "12")]:
+        yield no_alloc("show failing", kind, text, answer="true")
+    for kind in ["pointer", *KINDS]:
+        for text in ["", "/a~1b", MANY, "/" + ENCODED]:
+            yield no_alloc("show", kind, text, answer=text)
+    tokens_shown = [("a~1b", "a/b"), ("", ""), ("é", "é"), ("~01", "~1"), ("~0bar", "~bar")]
+    tokens_shown += [("~1foo~1~0bar", "/foo/~bar"), (ENCODED, DECODED), (LONG, LONG)]
+    for token, text in tokens_shown:
+        yield no_alloc("show", "token", token, answer=text)
+    for text in ["-", "0", "10", str(USIZE_MAX)]:
+        yield no_alloc("show", "index", text, answer=text)
+
+
+TABLES = [
+    texts, pointers_of_texts, cut, indices, tokens, numbers, measures, pairs, ranges, copies, edits, owned,
+    found, assigned, in_tables, labelled, undos, undos_told, patches, applied, refused,
+    sessions, single_calls, refused_calls, reports, bounds, shown,
+]
+CASES = [case for table in TABLES for case in table()]

@@ -1,0 +1,87 @@
+"""Checks `./vendor`: it puts the library into an empty folder where the example runs, and it changes nothing else."""
+import os
+import subprocess
+import sys
+import tempfile
+
+TOP = os.path.dirname(os.path.dirname(os.path.abspath(__file__)))
+EXTRAS = ["tabled", "session", "patch"]
+
+
+def vendor(*arguments, status=0):
+    """Runs `./vendor`, and checks its exit status."""
+    run = subprocess.run([f"{TOP}/vendor", *arguments], capture_output=True, encoding="utf-8")
+    if run.returncode != status:
+        sys.exit(f"check_vendor: ./vendor {arguments} ended with status {run.returncode}:\n{run.stdout}{run.stderr}")
+
+
+def contents(folder):
+    """Returns the bytes of each file below a folder, without build results."""
+    found = {}
+    for path, folders, files in os.walk(folder):
+        folders[:] = [name for name in folders if name != "out"]
+        for name in files:
+            with open(os.path.join(path, name), "rb") as file:
+                found[os.path.join(path, name)] = file.read()
+    return found
+
+
+def check(holds, message):
+    """Ends the program with a message if a condition does not hold."""
+    if not holds:
+        sys.exit(f"check_vendor: {message}")
+
+
+def check_example(folder):
+    """Runs the example as `./vendor` made it, without a proof."""
+    run = subprocess.run(["rt", "try"], cwd=f"{folder}/crates/app", capture_output=True, encoding="utf-8")
+    with open(f"{TOP}/crates/jsonptr_example/stdout", encoding="utf-8") as file:
+        expected = file.read()
+    check(run.returncode == 0 and expected in run.stdout, f"rt try in crates/app:\n{run.stdout}{run.stderr}")
+
+
+def check_extras(folder):
+    """Adds the extras, and checks that each crate that they use is there and that nothing else changed."""
+    before = contents(folder)
+    vendor(folder, *EXTRAS)
+    after, lines = contents(folder), f"{folder}/crates.txt"
+    check(after[lines].startswith(before.pop(lines)), "an extra changed lines of crates.txt")
+    check(before.items() <= after.items(), "an extra changed a file that was there")
+    with open(lines, encoding="utf-8") as file:
+        crates = dict(line.split(":") for line in file.read().splitlines())
+    check({f"jsonptr_{it}" for it in EXTRAS} <= set(crates), f"an extra is not in {crates}")
+    ours = {it for used in crates.values() for it in used.split() if os.path.isdir(f"{TOP}/crates/{it}")}
+    check(ours <= set(crates), f"{ours - set(crates)} are not in crates.txt")
+    for name in crates:
+        check(os.path.isdir(f"{folder}/crates/{name}/src"), f"crates/{name} is missing")
+        check(not os.path.exists(f"{folder}/crates/{name}/must-fail"), f"crates/{name} has must-fail edits")
+
+
+def check_refusals(folder):
+    """Checks that nothing changes if a crate that is there differs, or if the folder is in this repository."""
+    with open(f"{folder}/crates/jsonptr_text/src/lib.rt", "a", encoding="utf-8") as file:
+        file.write("// changed\n")
+    before = contents(folder)
+    vendor(folder, "--example", status=1)
+    check(contents(folder) == before, "a folder that differs was changed")
+    for inside in [TOP, f"{TOP}/crates", f"{TOP}/vendored", f"{folder}/../{os.path.relpath(TOP, os.path.dirname(folder))}"]:
+        vendor(inside, status=1)
+        check(not os.path.exists(f"{TOP}/vendored"), "a folder in this repository was made")
+    vendor(folder, "unknown", status=2)
+
+
+def main():
+    with tempfile.TemporaryDirectory() as temporary:
+        folder = os.path.realpath(temporary)
+        vendor(folder, "--example")
+        check_example(folder)
+        made = contents(folder)
+        vendor(folder, "--example")
+        check(contents(folder) == made, "a second run changed something")
+        check_extras(folder)
+        check_refusals(folder)
+    print("check_vendor: the example runs from an empty folder, and what is there stays unchanged")
+
+
+if __name__ == "__main__":
+    main()
