@@ -14,7 +14,7 @@ use Rattle.jsonptr.specs.Assigning.{Assigns}
 use Rattle.jsonptr.specs.Removing.{Deletes}
 use Rattle.jsonptr.specs.Json.{nodes, content, KeysAscend}
 use Rattle.jsonptr.proofs.Calling.{tokens_of-text, IsPointer-text, FindsValue_one, FindsValue-Finds, map_of-IsTree, map_of-finite}
-use Rattle.jsonptr_laws.specs.States.{IsDocument}
+use Rattle.jsonptr.specs.Documents.{IsDocument}
 use Rattle.jsonptr_patch.specs.Order.{IsInOrder}
 use Rattle.jsonptr_patch.specs.Patching.{Patches, RefusesPatch}
 use Rattle.jsonptr_patch.specs.declared.operation.Operation.{Operation}

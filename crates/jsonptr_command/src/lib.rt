@@ -4,6 +4,7 @@
 pub mod fault;
 pub mod input;
 pub mod json_text;
+pub mod laws;
 mod operations;
 pub mod output;
 pub mod run;

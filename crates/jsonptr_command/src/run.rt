@@ -3,7 +3,6 @@ ghost use Rattle.std.specs.Prelude.{◌≡◌, ◌≢◌, ◌⊎◌, ◌++◌, �
 ghost use Rattle.std.specs.Io.KnownBytes.{Appends};
 ghost use Rattle.serde_json.specs.Data.{Data, string};
 ghost use Rattle.serde_json.specs.View.{view};
-ghost use Rattle.serde_json.specs.Written.{has_float, compact_text};
 ghost use Rattle.jsonptr.specs.Text.{Text, text};
 ghost use Rattle.jsonptr.specs.Index.{Reads};
 ghost use Rattle.jsonptr.specs.Types.Index.TheVariants.{Num};
@@ -23,13 +22,7 @@ use crate::operations::read_operations;
 use crate::output::write_line;
 use jsonptr::Pointer;
 use jsonptr::index::Index;
-use jsonptr::laws::parse_law;
-use jsonptr_laws::assigning::assign_law;
-use jsonptr_laws::resolving::resolve_law;
 use jsonptr_patch::{Operation, apply};
-use jsonptr_patch_laws::patching::patch_law;
-use jsonptr_tree::json::{json_law, json_map_law};
-use jsonptr_tree::writing::deleting_law;
 use serde_json::Value;
 use std::alloc::{AllocError, Global};
 use std::io::{Read, Write};
@@ -89,59 +82,6 @@ pub fn run_program<R: Read, W: Write>(
     let line = answer(alloc, request, input)?;
     write_line(output, line.as_bytes())?;
     Ok(())
-}
-
-/// What [`run_program`] is to answer is one: words ask for one thing or are refused in one way, a request
-/// gives one value or one fault on an input, and never both, and a value has one line, but for the digits of
-/// its floats. Lists of texts have no float. In a value that is read the keys of each object ascend, so they do
-/// in what an assignment, a deletion or a patch makes of it, and that is one value for its map.
-pub fn run_law()
-    ensures asks { (words : List Text) (r q : Result specs.Request RunFault)
-        → Asks words r
-        → Asks words q
-        → r ≡ q }
-    ensures resolves { (ts : List Text) (bytes : List ℕ) (r q : Result Data RunFault)
-        → Gives (resolving ts) bytes r
-        → Gives (resolving ts) bytes q
-        → r ≡ q }
-    ensures lists { (ts : List Text) (bytes : List ℕ) (r q : Result Data RunFault)
-        → Gives (listing ts) bytes r
-        → Gives (listing ts) bytes q
-        → r ≡ q }
-    ensures splits { (ts : List Text) (n : ℕ) (bytes : List ℕ) (r q : Result Data RunFault)
-        → Gives (splitting ts n) bytes r
-        → Gives (splitting ts n) bytes q
-        → r ≡ q }
-    ensures not_both { (request : specs.Request) (bytes : List ℕ) (value : Data) (e : RunFault)
-        → Gives request bytes (Ok value)
-        → Gives request bytes (Err e)
-        → ⊥ }
-    ensures one_fault { (request : specs.Request) (bytes : List ℕ) (e f : RunFault)
-        → Gives request bytes (Err e)
-        → Gives request bytes (Err f)
-        → e ≡ f }
-    ensures one_value { (words : List Text) (request : specs.Request) (bytes : List ℕ)
-        (value other : Data)
-        → AskFor words request
-        → Gives request bytes (Ok value)
-        → Gives request bytes (Ok other)
-        → value ≡ other }
-    ensures line { (value : Data) (line other : Text)
-        → has_float value ≡ false
-        → IsJsonLine value line
-        → IsJsonLine value other
-        → line ≡ other }
-    ensures texts { (ts : List Text) (line : Text)
-        → IsJsonLine (texts_value ts) line
-        → line ≡ compact_text (texts_value ts) ++ 10 ∷ [] }
-{
-    parse_law();
-    resolve_law();
-    assign_law();
-    deleting_law();
-    json_law();
-    json_map_law();
-    patch_law();
 }
 
 /// What the words ask for.

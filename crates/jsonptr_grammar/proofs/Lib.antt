@@ -5,3 +5,4 @@ pub mod FaultLemmas
 pub mod DecLemmas
 pub mod Utf8Lemmas
 pub mod ScanLemmas
+pub mod OrderLemmas

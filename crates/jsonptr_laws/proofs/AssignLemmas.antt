@@ -2,10 +2,10 @@
 use Rattle.std.proofs.Common.{◌≡◌, ℕ, ◌<◌, ◌≤◌, ◌⊎◌, inl, inr, ⊎_elim, List, Option, Result, Ok, Err, refl, sym, ap₂, ◌∙◌, subst}
 use Rattle.std.specs.Prelude.{All, IsUtf8}
 use Rattle.std.proofs.lemmas.Bool.{cases_lt}
-use Rattle.jsonptr_grammar.specs.Text.{Text}
-use Rattle.jsonptr_tree.specs.Node.{an_array, NodeMap, IsTree}
-use Rattle.jsonptr_tree.specs.Landing.{LandsNowhere}
-use Rattle.jsonptr_tree.specs.Assigning.{Assigns}
+use Rattle.jsonptr.specs.Text.{Text}
+use Rattle.jsonptr.specs.Node.{an_array, NodeMap, IsTree}
+use Rattle.jsonptr.specs.Landing.{LandsNowhere}
+use Rattle.jsonptr.specs.Assigning.{Assigns}
 use Rattle.jsonptr_tree.proofs.FollowingLemmas.{StopsBefore_one}
 use Rattle.jsonptr_tree.proofs.AssigningLemmas.{Assigns-some, Assigns-LandsNowhere}
 use Rattle.jsonptr.specs.Types.Index.{Index}

@@ -9,12 +9,12 @@ use Rattle.serde_json.specs.declared.value.Value as json
 use Rattle.serde_json.specs.declared.value.Value.TheOpen.{Value-F as Json-F}
 use Rattle.toml.specs.declared.value.Value as toml
 use Rattle.toml.specs.declared.value.Value.TheOpen.{Value-F as Toml-F}
-use Rattle.jsonptr_grammar.specs.Text.{Text, esc, text, tokens_of}
+use Rattle.jsonptr.specs.Text.{Text, esc, text, tokens_of}
 use Rattle.jsonptr_grammar.proofs.DecLemmas.{IsUtf8-dec}
 use Rattle.jsonptr_grammar.proofs.EscapeLemmas.{IsUtf8-esc}
 use Rattle.jsonptr_grammar.proofs.PointerLemmas.{IsPointer-text, tokens_of-text, text-tokens_of}
-use Rattle.jsonptr_tree.specs.Node.{Step, key, place, Path, Scalar, Label, an_object, an_array, a_leaf, NodeMap, sub, NamesStep, Names, IsTree}
-use Rattle.jsonptr_tree.specs.Content.{Content, scalar, array, object, get_item, get_member, label_of, child, content_at, map_of}
+use Rattle.jsonptr.specs.Node.{Step, key, place, Path, Scalar, Label, an_object, an_array, a_leaf, NodeMap, sub, NamesStep, Names, IsTree}
+use Rattle.jsonptr.specs.Content.{Content, scalar, array, object, get_item, get_member, label_of, child, content_at, map_of}
 use Rattle.jsonptr_tree.proofs.NodeLemmas.{Names_one_list, IsTree-named}
 use Rattle.jsonptr_tree.proofs.LevelLemmas.{items_by, members_by}
 use Rattle.jsonptr_tree.proofs.JsonLemmas as of_json

@@ -2,14 +2,14 @@
 use Rattle.std.proofs.Common.{◌≡◌, ℕ, ◌<◌, ◌⊎◌, inl, inr, ⊎_elim, List, [], ◌∷◌, ◌++◌, length, get_or, Option, Some, IsSome, refl, sym, ap, ◌∙◌, subst, arith, length-append}
 use Rattle.std.specs.Prelude.{All, IsUtf8}
 use Rattle.std.proofs.Math.Seq.{get_or-append_seam}
-use Rattle.jsonptr_grammar.specs.Text.{Text}
-use Rattle.jsonptr_tree.specs.Node.{Step, Label, NodeMap, NamesStep, IsTree, sub}
-use Rattle.jsonptr_tree.specs.Following.{Finds, StopsBefore}
+use Rattle.jsonptr.specs.Text.{Text}
+use Rattle.jsonptr.specs.Node.{Step, Label, NodeMap, NamesStep, IsTree, sub}
+use Rattle.jsonptr.specs.Following.{Finds, StopsBefore}
 use Rattle.jsonptr_tree.proofs.NodeLemmas.{sub-root, IsTree-sub}
 use Rattle.jsonptr_tree.proofs.FollowingLemmas.{StopsBefore_one, Finds-StopsBefore, stops-lacks, follows}
-use Rattle.jsonptr_document.specs.Child.{IsNoChild, RefusesChild}
-use Rattle.jsonptr_document.specs.declared.child.NoChild.{NoChild}
-use Rattle.jsonptr_document.specs.declared.child.NoChild.TheVariants as no_child
+use Rattle.jsonptr.specs.Child.{IsNoChild, RefusesChild}
+use Rattle.jsonptr.specs.Types.NoChild.{NoChild}
+use Rattle.jsonptr.specs.Types.NoChild.TheVariants as no_child
 use Rattle.jsonptr.specs.Resolve.{Refuses, position_of, offset_of, cause_of}
 use Rattle.jsonptr.specs.declared.resolve.Error.{Error}
 use Rattle.jsonptr.specs.declared.resolve.Error.TheVariants.{FailedToParseIndex, OutOfBounds, NotFound, Unreachable}

@@ -5,7 +5,7 @@ use Rattle.std.proofs.lemmas.List.{get_or_append_left, get_or-append-add}
 use Rattle.std.proofs.lemmas.List.Elements.{All-get_or}
 use Rattle.std.proofs.lemmas.Option.{get_or_from_slice_get}
 use Rattle.std.proofs.lemmas.Bool.{cases_lt}
-use Rattle.jsonptr_grammar.specs.Text.{Text, esc, text}
+use Rattle.jsonptr.specs.Text.{Text, esc, text}
 use Rattle.jsonptr_grammar.proofs.EscapeLemmas.{no_slash-esc}
 use Rattle.jsonptr_grammar.proofs.PointerLemmas.{text-append}
 use Rattle.jsonptr.specs.Slashes.{slash_offsets}

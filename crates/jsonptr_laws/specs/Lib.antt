@@ -1,5 +1,3 @@
--- The laws cite the words of the crates below, when two answers are the same, what the states of a session are, and
--- which pointers a node has.
+-- When two answers are the same, and which pointers a node has. The laws cite the words of the crates below, too.
 pub mod Answers
 pub mod OnePointer
-pub mod States

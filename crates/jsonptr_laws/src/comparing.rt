@@ -9,7 +9,6 @@ ghost use Rattle.jsonptr.specs.Pointer.{tokens, text_of};
 ghost use Rattle.jsonptr.specs.declared.pointer.Pointer.{Pointer};
 
 use jsonptr::{Pointer, PointerBuf};
-use jsonptr_tabled::TabledPointer;
 use std::hash::Hash;
 
 /// Pointers are equal where they have the same tokens. They are ordered as their texts are by bytes, which
@@ -38,16 +37,4 @@ pub fn owned_comparison_law()
     ensures front { (ts rest : List Text) (t : Text)
         → ⟦<PointerBuf as Ord>⟧.cmp ts (ts ++ t ∷ rest) ≡ Less }
     ensures hash { (ts : List Text) → ⟦<PointerBuf as Hash>⟧.hash_input ts ≡ fed.str (text ts) }
-{}
-
-/// The same of pointers that own their text and a table of its slashes.
-pub fn tabled_comparison_law()
-    ensures equal { (ts us : List Text)
-        → IsTrue (⟦<TabledPointer as PartialEq>⟧.eq ts us) ↔ (ts ≡ us) }
-    ensures order { (ts us : List Text)
-        → ⟦<TabledPointer as Ord>⟧.cmp ts us ≡ slice_cmp nat_cmp (text ts) (text us) }
-    ensures tie { (ts us : List Text) → (⟦<TabledPointer as Ord>⟧.cmp ts us ≡ Equal) ↔ (ts ≡ us) }
-    ensures front { (ts rest : List Text) (t : Text)
-        → ⟦<TabledPointer as Ord>⟧.cmp ts (ts ++ t ∷ rest) ≡ Less }
-    ensures hash { (ts : List Text) → ⟦<TabledPointer as Hash>⟧.hash_input ts ≡ fed.str (text ts) }
 {}

@@ -5,6 +5,5 @@
 pub mod assigning;
 pub mod comparing;
 pub mod editing;
-pub mod machine;
 pub mod parts;
 pub mod resolving;

@@ -8,13 +8,13 @@ ghost use Rattle.jsonptr.specs.Following.{Finds};
 ghost use Rattle.jsonptr.specs.Pointer.{tokens};
 ghost use Rattle.jsonptr.specs.Resolve.{Refuses};
 ghost use Rattle.jsonptr.specs.declared.resolve.Error.{Error};
-ghost use Rattle.jsonptr_session.specs.Documents.{json_map, toml_map};
+ghost use Rattle.jsonptr.specs.Documents.{json_map, toml_map};
 ghost use Rattle.jsonptr_laws.specs.OnePointer.{HasUtf8Keys, HasOnePointer};
 
 use jsonptr::Pointer;
+use jsonptr::tree::json::json_law;
+use jsonptr::tree::toml_value::toml_law;
 use jsonptr_document::child::child_law;
-use jsonptr_tree::json::json_law;
-use jsonptr_tree::toml_value::toml_law;
 
 /// In each document each list of tokens finds one map or is refused by one error, one in all its fields, and
 /// no list both. The tokens are UTF-8, as those of every pointer are ([`tokens_law`]).

@@ -1,4 +1,4 @@
--- Lemmas on insertions, on adding, on tests, and on whole patches.
+-- Lemmas on insertions, on adding, on tests, on whole patches, and on the laws of patches.
 pub mod InsertingLemmas
 pub mod AddingLemmas
 pub mod ElementLemmas
@@ -7,3 +7,8 @@ pub mod OperatingLemmas
 pub mod RestoringLemmas
 pub mod BehindLemmas
 pub mod BaseLemmas
+pub mod OneLemmas
+pub mod PartLemmas
+pub mod SomeLemmas
+pub mod PatchLemmas
+pub mod EqualityLemmas

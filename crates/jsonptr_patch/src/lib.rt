@@ -28,6 +28,7 @@
 mod adding;
 mod base;
 mod inserting;
+pub mod laws;
 mod moving;
 mod operation;
 mod patch;

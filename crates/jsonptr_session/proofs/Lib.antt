@@ -1,4 +1,6 @@
--- Lemmas on runs, on what is found in a document, and on taking assignments back.
+-- Lemmas on runs, on what is found in a document, on taking assignments back, and on the laws of the machine.
 pub mod RunLemmas
 pub mod FoundLemmas
 pub mod UndoLemmas
+pub mod MachineLemmas
+pub mod RunLawLemmas

@@ -11,7 +11,7 @@ impl Document for Value {
     ghost use Rattle.serde_json.specs.View.{view};
     ghost use Rattle.jsonptr.specs.Json.{content, KeysAscend};
     ghost use Rattle.jsonptr.proofs.Calling.{map_of-IsTree};
-    ghost use Rattle.jsonptr_session.specs.Documents.{json_map, json_blank};
+    ghost use Rattle.jsonptr.specs.Documents.{json_map, json_blank};
 
     ghost nodes = { json_map };
 

@@ -30,6 +30,7 @@
 mod document;
 mod json;
 mod landing;
+pub mod laws;
 pub mod session;
 mod toml_value;
 mod turn;

@@ -3,7 +3,7 @@ ghost use Rattle.std.specs.Prelude.{◌≡◌, All, IfOk, OnErr, map};
 ghost use Rattle.jsonptr_session.specs.Machine.{State, Runs};
 ghost use Rattle.jsonptr_session.specs.Session.{tells, says};
 ghost use Rattle.jsonptr_session.specs.Order.{Brings, Gives};
-ghost use Rattle.jsonptr_session.specs.Documents.{json_map, json_blank, JsonKeysAscend, toml_map, toml_blank, TomlKeysAscend};
+ghost use Rattle.jsonptr.specs.Documents.{json_map, json_blank, JsonKeysAscend, toml_map, toml_blank, TomlKeysAscend};
 
 use crate::turn::run;
 use jsonptr::{PointerBuf, ReplaceError, RichParseError, Token, assign, resolve};

@@ -11,7 +11,7 @@ impl Document for Value {
     ghost use Rattle.toml.specs.View.{view};
     ghost use Rattle.jsonptr.specs.TomlValue.{content, KeysAscend};
     ghost use Rattle.jsonptr.proofs.Calling.{map_of-IsTree};
-    ghost use Rattle.jsonptr_session.specs.Documents.{toml_map, toml_blank};
+    ghost use Rattle.jsonptr.specs.Documents.{toml_map, toml_blank};
 
     ghost nodes = { toml_map };
 

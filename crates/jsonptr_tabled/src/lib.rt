@@ -13,6 +13,7 @@
 #![tactic(auto)]
 
 mod edit_pointer;
+pub mod laws;
 mod table;
 mod tabled;
 

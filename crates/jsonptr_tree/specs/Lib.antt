@@ -5,6 +5,7 @@ pub mod Following
 pub mod Content
 pub mod Json
 pub mod TomlValue
+pub mod Documents
 pub mod Put
 pub mod Growing
 pub mod Landing

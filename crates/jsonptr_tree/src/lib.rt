@@ -3,6 +3,7 @@
 //! code here runs.
 #![tactic(auto)]
 
+pub mod documents;
 pub mod following;
 pub mod json;
 pub mod toml_value;

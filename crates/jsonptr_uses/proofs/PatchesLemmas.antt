@@ -6,7 +6,7 @@ use Rattle.jsonptr.specs.Json.{nodes, content}
 use Rattle.jsonptr.specs.Types.Fault.{Fault}
 use Rattle.jsonptr.specs.Types.Fault.TheVariants.{Refused, Memory}
 use Rattle.jsonptr.proofs.Calling.{map_of-IsTree, map_of-finite}
-use Rattle.jsonptr_laws.specs.States.{IsDocument}
+use Rattle.jsonptr.specs.Documents.{IsDocument}
 
 -- a JSON value is a document
 pub is_document : (d : Data) → IsDocument (nodes d)

@@ -10,7 +10,7 @@ use Rattle.jsonptr.specs.Text.{Text}
 use Rattle.jsonptr.specs.Types.Fault.{Fault}
 use Rattle.jsonptr.specs.Types.Fault.TheVariants.{Refused, Memory}
 use Rattle.jsonptr.specs.declared.resolve.Error.{Error}
-use Rattle.jsonptr_session.specs.Documents.{json_map, json_blank}
+use Rattle.jsonptr.specs.Documents.{json_map, json_blank}
 use Rattle.jsonptr_session.specs.Undo.{tokens_at, IfPut, IsCause, Undoes}
 use Rattle.jsonptr_session.specs.declared.undo.Undo.{Undo}
 use Rattle.jsonptr_session.specs.declared.undo.Undo.TheVariants.{Put, Remove}

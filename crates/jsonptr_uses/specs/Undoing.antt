@@ -7,7 +7,7 @@ use Rattle.jsonptr.specs.Text.{Text}
 use Rattle.jsonptr.specs.Ends.{PopsBack}
 use Rattle.jsonptr.specs.Json.{nodes, KeysAscend}
 use Rattle.jsonptr.specs.Node.{Path, Names}
-use Rattle.jsonptr_session.specs.Documents.{json_map, json_blank}
+use Rattle.jsonptr.specs.Documents.{json_map, json_blank}
 use Rattle.jsonptr_session.specs.Undo.{tokens_at, IfPut, Undoes}
 use Rattle.jsonptr_session.specs.declared.undo.Undo.{Undo}
 use Rattle.jsonptr_uses.specs.declared.undoing.Editor.{Editor}

@@ -10,8 +10,8 @@ ghost use Rattle.jsonptr_patch.specs.Order.{IsInOrder};
 
 use jsonptr::tree::json::json_map_law;
 use jsonptr::{Fault, Pointer};
+use jsonptr_patch::laws::patching::patch_law;
 use jsonptr_patch::{Operation, PatchError, apply, delete_with_undo};
-use jsonptr_patch_laws::patching::patch_law;
 use serde_json::Value;
 use std::alloc::{AllocError, Global};
 

@@ -7,7 +7,7 @@ ghost use Rattle.jsonptr.specs.Fault.{IfRefused};
 ghost use Rattle.jsonptr.specs.Json.{nodes, KeysAscend};
 ghost use Rattle.jsonptr.specs.Node.{NodeMap};
 ghost use Rattle.jsonptr.specs.Pointer.{tokens};
-ghost use Rattle.jsonptr_session.specs.Documents.{json_map, json_blank};
+ghost use Rattle.jsonptr.specs.Documents.{json_map, json_blank};
 ghost use Rattle.jsonptr_session.specs.Undo.{tokens_at, IfPut, IsCause, AssignsWithUndo, Undoes};
 
 use crate::undo::{Undo, UndoRefused};

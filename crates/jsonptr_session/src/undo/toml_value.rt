@@ -7,7 +7,7 @@ ghost use Rattle.jsonptr.specs.Fault.{IfRefused};
 ghost use Rattle.jsonptr.specs.TomlValue.{nodes, KeysAscend};
 ghost use Rattle.jsonptr.specs.Node.{NodeMap};
 ghost use Rattle.jsonptr.specs.Pointer.{tokens};
-ghost use Rattle.jsonptr_session.specs.Documents.{toml_map, toml_blank};
+ghost use Rattle.jsonptr.specs.Documents.{toml_map, toml_blank};
 ghost use Rattle.jsonptr_session.specs.Undo.{tokens_at, IfPut, IsCause, AssignsWithUndo, Undoes};
 
 use crate::undo::{Undo, UndoRefused};

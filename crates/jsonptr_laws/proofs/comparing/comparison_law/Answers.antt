@@ -1,4 +1,4 @@
-use Rattle.jsonptr_laws.proofs.OrderLemmas.{front_text_less, pointers_tie}
+use Rattle.jsonptr_grammar.proofs.OrderLemmas.{front_text_less, pointers_tie}
 use Rattle.jsonptr_laws.proofs.comparing.comparison_law.Goals as goal
 
 pub returns-clause-front : goal.returns-clause-front

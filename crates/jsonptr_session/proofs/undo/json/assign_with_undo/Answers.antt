@@ -1,7 +1,7 @@
 use Rattle.serde_json.specs.View.{view}
 use Rattle.jsonptr.specs.Json.{nodes, KeysAscend}
 use Rattle.jsonptr.proofs.Calling.{nodes_one}
-use Rattle.jsonptr_session.specs.Documents.{json_map, json_blank}
+use Rattle.jsonptr.specs.Documents.{json_map, json_blank}
 use Rattle.jsonptr_session.specs.Undo.{Undoes}
 use Rattle.jsonptr_session.proofs.UndoLemmas.{restored}
 use Rattle.jsonptr_session.proofs.undo.json.assign_with_undo.Goals as goal

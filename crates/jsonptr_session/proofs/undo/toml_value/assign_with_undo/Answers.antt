@@ -1,7 +1,7 @@
 use Rattle.toml.specs.View.{view}
 use Rattle.jsonptr.specs.TomlValue.{nodes, KeysAscend}
 use Rattle.jsonptr.proofs.TomlCalling.{nodes_one}
-use Rattle.jsonptr_session.specs.Documents.{toml_map, toml_blank}
+use Rattle.jsonptr.specs.Documents.{toml_map, toml_blank}
 use Rattle.jsonptr_session.specs.Undo.{Undoes}
 use Rattle.jsonptr_session.proofs.UndoLemmas.{restored}
 use Rattle.jsonptr_session.proofs.undo.toml_value.assign_with_undo.Goals as goal

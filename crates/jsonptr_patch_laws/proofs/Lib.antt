@@ -1,6 +1,0 @@
--- Lemmas on the outcome of operations and of lists of them.
-pub mod OneLemmas
-pub mod PartLemmas
-pub mod SomeLemmas
-pub mod PatchLemmas
-pub mod EqualityLemmas

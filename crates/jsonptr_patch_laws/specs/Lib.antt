@@ -1,2 +1,0 @@
--- Which operations a patch has.
-pub mod Operations
