@@ -1,20 +1,18 @@
 //! One run of the program.
-ghost use Rattle.std.specs.Prelude.{◌≡◌, ◌≢◌, ◌⊎◌, ◌++◌, ◌∷◌, [], ℕ, List, Result, map, Some, Ok, Err, OnOk, IfOk, IfErr, IsErrOf, false, string_bytes};
+ghost use Rattle.std.specs.Prelude.{◌≡◌, ◌≢◌, ◌⊎◌, ◌∷◌, [], Result, map, Some, Ok, Err, OnOk, IfOk, IfErr, IsErrOf, string_bytes};
 ghost use Rattle.std.specs.Io.KnownBytes.{Appends};
-ghost use Rattle.serde_json.specs.Data.{Data, string};
+ghost use Rattle.serde_json.specs.Data.{string};
 ghost use Rattle.serde_json.specs.View.{view};
-ghost use Rattle.jsonptr.specs.Text.{Text, text};
+ghost use Rattle.jsonptr.specs.Text.{text};
 ghost use Rattle.jsonptr.specs.Index.{Reads};
 ghost use Rattle.jsonptr.specs.Types.Index.TheVariants.{Num};
 ghost use Rattle.jsonptr.specs.Pointer.{tokens};
-ghost use Rattle.jsonptr_command.specs.JsonText.{json_of, IsJsonLine};
+ghost use Rattle.jsonptr_command.specs.JsonText.{IsJsonLine};
 ghost use Rattle.jsonptr_command.specs.Streams.{AppendsFront, ForBytes};
 ghost use Rattle.jsonptr_command.specs.declared.fault.RunFault.{RunFault};
-ghost use Rattle.jsonptr_command.specs.declared.fault.RunFault.TheVariants as fault;
 ghost use Rattle.jsonptr_command.specs.Private.{request_of, task_of, Does, IsFaultOf, IsLineOf, RefusesCommand, RefusesPosition};
 ghost use Rattle.jsonptr_command.specs.Operations.{meant};
-ghost use Rattle.jsonptr_command.specs.Run as specs;
-ghost use Rattle.jsonptr_command.specs.Run.{AskFor, resolving, listing, assigning, deleting, splitting, patching, Asks, AssignsAt, DeletesAt, ForLine, Gives, IsRefusedSo, IsRequestFault, IsWordsMemory, NeedNoInput, NeedsInput, PatchesBy, Resolves, SplitsAt, texts_value};
+ghost use Rattle.jsonptr_command.specs.Run.{AskFor, Asks, AssignsAt, DeletesAt, ForLine, Gives, IsRefusedSo, IsRequestFault, IsWordsMemory, NeedNoInput, NeedsInput, PatchesBy, Resolves, SplitsAt, texts_value};
 
 use crate::fault::RunFault;
 use crate::json_text::{json_line, read_json_input, read_value};

@@ -15,7 +15,6 @@ ghost use Rattle.jsonptr_patch.specs.declared.operation.Operation.TheVariants as
 ghost use Rattle.jsonptr_patch.specs.declared.operation.PatchError.{PatchError};
 ghost use Rattle.jsonptr_patch.specs.Operations.{IsOperation};
 
-use jsonptr::index::index_law;
 use jsonptr_laws::assigning::assign_law;
 use jsonptr_laws::resolving::resolve_law;
 

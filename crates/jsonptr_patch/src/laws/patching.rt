@@ -1,6 +1,6 @@
 //! Lists of operations (RFC 6902, section 5).
 ghost use Rattle.std.specs.Prelude.{◌≡◌, ◌⊎◌, ◌↔◌, List, ◌++◌, All};
-ghost use Rattle.jsonptr.specs.Node.{NodeMap, IsTree};
+ghost use Rattle.jsonptr.specs.Node.{NodeMap};
 ghost use Rattle.jsonptr.specs.Documents.{IsDocument};
 ghost use Rattle.jsonptr_patch.specs.Patching.{Patches, RefusesPatch};
 ghost use Rattle.jsonptr_patch.specs.declared.operation.Operation.{Operation};
