@@ -75,7 +75,7 @@ def check(case, shim):
         usual = run(case.lines, shim, fail)
         if (usual.answer, usual.after) != (case.answer, case.after):
             raise CheckFailed(f"{described(usual)}, expected {described(case)}")
-        if case.is_free and usual.requests:
+        if case.no_alloc and usual.requests:
             raise CheckFailed(f"{usual.requests} memory requests, expected none")
         for fail in [*range(1, usual.requests + 1), "all"]:
             check_failing(case, usual, shim, fail)

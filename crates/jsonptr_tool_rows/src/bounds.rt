@@ -1,4 +1,4 @@
-//! Rows of numbers: where indices lie in an array, and errors whose fields no reading gave.
+//! Cases of index bounds, and of errors whose fields no parser returned.
 use crate::row::{NoRow, Row};
 use crate::said::Said;
 use crate::{reports, stage};
@@ -7,7 +7,7 @@ use jsonptr::index::{Index, OutOfBoundsError};
 use jsonptr::{EncodingError, InvalidEncoding, ParseError, Pointer, resolve};
 use std::cmp::Ordering;
 
-/// Runs a row: the call, the index as a token reads, and the length of an array.
+/// Runs a case with these lines: the call, the text of the index, and the length of an array.
 pub fn run(rt: &HostRuntime, mut row: Row<'_>) -> anyhow::Result<()> {
     let call = row.next();
     let index: Index = row.next().parse()?;
@@ -17,7 +17,7 @@ pub fn run(rt: &HostRuntime, mut row: Row<'_>) -> anyhow::Result<()> {
     stage::answer(rt, said)
 }
 
-/// Where the index lies in an array.
+/// The result of a bounds check of an index.
 fn place(call: &str, index: Index, length: usize) -> Option<Said<'static>> {
     match call {
         "for_len" => Some(of_place(index.for_len(length))),
@@ -27,7 +27,7 @@ fn place(call: &str, index: Index, length: usize) -> Option<Said<'static>> {
     }
 }
 
-/// A place, or why there is none.
+/// An index, or the error.
 fn of_place(place: Result<usize, OutOfBoundsError>) -> Said<'static> {
     match place {
         Ok(place) => Said::Number(place),
@@ -35,7 +35,7 @@ fn of_place(place: Result<usize, OutOfBoundsError>) -> Said<'static> {
     }
 }
 
-/// Runs a row: the kind of thing, and two pointers, whose last indices or components are compared.
+/// Runs a case with these lines: `index` or `component`, and two pointers, whose last ones it compares.
 pub fn run_order(rt: &HostRuntime, mut row: Row<'_>) -> anyhow::Result<()> {
     let kind = row.next();
     let (one, other) = (Pointer::parse(row.next())?, Pointer::parse(row.next())?);
@@ -51,14 +51,14 @@ pub fn run_order(rt: &HostRuntime, mut row: Row<'_>) -> anyhow::Result<()> {
     }
 }
 
-/// How the last indices of two pointers stand to each other.
+/// The order of the last indices of two pointers.
 fn indices(one: Pointer<'_>, other: Pointer<'_>) -> Option<Ordering> {
     let one = one.back()?.to_index().ok()?;
     let other = other.back()?.to_index().ok()?;
     Some(one.cmp(&other))
 }
 
-/// Runs a row: the call, the kind of error, its two numbers, and the subject to report it on.
+/// Runs a case with these lines: the call, the kind of error, its two numbers, and the subject to report it on.
 pub fn run_fields(rt: &HostRuntime, mut row: Row<'_>) -> anyhow::Result<()> {
     let (call, kind) = (row.next(), row.next());
     let (first, second) = (row.number()?, row.number()?);
@@ -86,12 +86,12 @@ pub fn run_fields(rt: &HostRuntime, mut row: Row<'_>) -> anyhow::Result<()> {
     }
 }
 
-/// The error of a token at a place.
+/// The error of a token at an offset.
 fn encoding(offset: usize, source: InvalidEncoding) -> EncodingError {
     EncodingError { offset, source }
 }
 
-/// The error of a pointer whose token at a place is malformed.
+/// The error of a pointer whose token at an offset is malformed.
 fn malformed(offset: usize, source: usize) -> ParseError {
     ParseError::InvalidEncoding {
         offset,
@@ -99,7 +99,7 @@ fn malformed(offset: usize, source: usize) -> ParseError {
     }
 }
 
-/// Runs a row: the two numbers of a pointer's error, and a subject: how much of it is at fault.
+/// Runs a case with these lines: the two numbers of a pointer's error, and a subject: how much of it is at fault.
 pub fn run_len(rt: &HostRuntime, mut row: Row<'_>) -> anyhow::Result<()> {
     let error = malformed(row.number()?, row.number()?);
     let subject = row.next();
@@ -108,7 +108,7 @@ pub fn run_len(rt: &HostRuntime, mut row: Row<'_>) -> anyhow::Result<()> {
     stage::answer(rt, Some(said))
 }
 
-/// Runs a row: a call that asks something of its caller, on what the caller knows.
+/// Runs a case of a call that has a condition on its arguments.
 pub fn run_known(rt: &HostRuntime, mut row: Row<'_>) -> anyhow::Result<()> {
     let call = row.next();
     stage::begin(rt)?;
@@ -116,7 +116,7 @@ pub fn run_known(rt: &HostRuntime, mut row: Row<'_>) -> anyhow::Result<()> {
     stage::answer(rt, said)
 }
 
-/// What such a call answers.
+/// The result of such a call.
 fn known(call: &str) -> Option<Said<'static>> {
     match call {
         "from_static" => Some(Said::Number(from_static())),
@@ -126,19 +126,19 @@ fn known(call: &str) -> Option<Said<'static>> {
     }
 }
 
-/// How long a pointer of a constant text is.
+/// The length of a pointer of a constant text.
 fn from_static() -> usize {
     let pointer = Pointer::from_static("/foo/bar");
     pointer.len()
 }
 
-/// How long a pointer of a text is that is known to be one.
+/// The length of a pointer of a text that is known to be valid.
 fn new_unchecked() -> usize {
     let pointer = Pointer::new_unchecked("/a~1b");
     pointer.len()
 }
 
-/// Where the byte at fault of an error stands.
+/// The offset of the invalid byte of an error.
 fn complete_offset() -> usize {
     let error = ParseError::InvalidEncoding {
         offset: 4,

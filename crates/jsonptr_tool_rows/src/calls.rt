@@ -1,15 +1,15 @@
-//! How the calls of a session are written, a line each.
+//! Parses the calls of a session, one a line.
 use crate::kinds::Document;
 use crate::row::{NoRow, Row};
 use jsonptr::Pointer;
 use jsonptr_session::Call;
 use std::alloc::Global;
 
-/// The calls of the lines that are left.
+/// Parses the calls of the remaining lines.
 ///
 /// # Errors
 ///
-/// That of the first line that is no call, or want of memory.
+/// The error of the first line that is not a call, or out of memory.
 pub fn calls<D: Document>(alloc: Global, mut row: Row<'_>) -> anyhow::Result<Vec<Call<D>>> {
     let mut calls = Vec::new(alloc);
     for _turn in 0..u64::MAX {
@@ -21,7 +21,7 @@ pub fn calls<D: Document>(alloc: Global, mut row: Row<'_>) -> anyhow::Result<Vec
     Ok(calls)
 }
 
-/// The call of a line: its name, and what it is made with, as text.
+/// Parses a call: its name and its arguments.
 fn call<D: Document>(alloc: Global, line: &str) -> anyhow::Result<Call<D>> {
     let (name, with) = line.split_once(' ').unwrap_or((line, ""));
     match name {
@@ -38,13 +38,13 @@ fn call<D: Document>(alloc: Global, line: &str) -> anyhow::Result<Call<D>> {
     }
 }
 
-/// The call that replaces the token at a place by that of a text.
+/// The call that replaces the token at a position.
 fn replacing<D: Document>(alloc: Global, with: &str) -> anyhow::Result<Call<D>> {
     let (place, text) = with.split_once(' ').ok_or(NoRow)?;
     Ok(Call::Replace(place.parse()?, String::from_str(alloc, text)?))
 }
 
-/// The call of a name and a text.
+/// The call of this name with this argument.
 fn call_with<D: Document>(name: &str, text: String) -> anyhow::Result<Call<D>> {
     match name {
         "parse" => Ok(Call::Parse(text)),

@@ -1,4 +1,4 @@
-//! Rows of the calls on a document at a pointer.
+//! Cases of the calls on a document at a pointer.
 use crate::kinds::Document;
 use crate::row::{NoRow, Row};
 use crate::said::Said;
@@ -6,7 +6,7 @@ use crate::stage;
 use jsonptr::Pointer;
 use std::alloc::Global;
 
-/// Runs a row: the kind of document, the document, the call, the pointer, and a value.
+/// Runs a case with these lines: the kind of document, the document, the call, the pointer, and a value.
 pub fn run(rt: &HostRuntime, mut row: Row<'_>) -> anyhow::Result<()> {
     match row.next() {
         "json" => run_on(rt, serde_json::Value::read(rt.alloc(), row.next())?, row),
@@ -15,7 +15,7 @@ pub fn run(rt: &HostRuntime, mut row: Row<'_>) -> anyhow::Result<()> {
     }
 }
 
-/// Runs the call on a document, which is written before and after.
+/// Runs the call on a document. Writes the document before and after it.
 fn run_on<D: Document>(rt: &HostRuntime, mut document: D, mut row: Row<'_>) -> anyhow::Result<()> {
     let call = row.next();
     let pointer = Pointer::parse(row.next())?;
@@ -32,7 +32,7 @@ fn run_on<D: Document>(rt: &HostRuntime, mut document: D, mut row: Row<'_>) -> a
     Ok(println!(rt; "{document}")?)
 }
 
-/// Finds the value that the pointer names.
+/// Resolves the pointer.
 pub fn resolve<D: Document>(
     rt: &HostRuntime,
     document: &D,
@@ -46,7 +46,7 @@ pub fn resolve<D: Document>(
     stage::answer(rt, Some(said))
 }
 
-/// What a call answers that changes the document.
+/// The result of a call that changes the document.
 pub fn written<D: Document>(
     alloc: Global,
     call: &str,

@@ -1,4 +1,4 @@
-//! Rows of the calls that change a pointer of its own.
+//! Cases of the calls that change an owned pointer.
 use crate::kinds::tabled;
 use crate::row::{NoRow, Row};
 use crate::said::Said;
@@ -7,7 +7,7 @@ use jsonptr::{Pointer, Token};
 use jsonptr_tabled::EditPointer;
 use std::borrow::CowStr;
 
-/// Runs a row: the kind of pointer, the call, the pointer, a text, and a place.
+/// Runs a case with these lines: the kind of pointer, the call, the pointer, a text, and a place.
 pub fn run(rt: &HostRuntime, mut row: Row<'_>) -> anyhow::Result<()> {
     let (kind, call) = (row.next(), row.next());
     let pointer = Pointer::parse(row.next())?;
@@ -18,7 +18,7 @@ pub fn run(rt: &HostRuntime, mut row: Row<'_>) -> anyhow::Result<()> {
     }
 }
 
-/// Runs the call on a pointer, which is written before and after.
+/// Runs the call on a pointer. Writes the pointer before and after it.
 fn run_on<P: EditPointer>(
     rt: &HostRuntime,
     pointer: &mut P,
@@ -40,7 +40,7 @@ fn run_on<P: EditPointer>(
     Ok(println!(rt; "{}", pointer.as_ptr())?)
 }
 
-/// What a call answers that changes a token.
+/// The result of a call that changes one token.
 fn edited<P: EditPointer>(
     pointer: &mut P,
     call: &str,
@@ -57,7 +57,7 @@ fn edited<P: EditPointer>(
     }
 }
 
-/// What a call answers that changes the whole.
+/// The result of a call that changes the whole pointer.
 fn joined<P: EditPointer>(
     pointer: &mut P,
     call: &str,

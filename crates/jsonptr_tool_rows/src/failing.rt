@@ -3,8 +3,8 @@ use crate::said::Said;
 use std::fmt;
 use std::fmt::{Display, Write};
 
-/// What is said of a thing that is displayed to a writer that fails at its first call, to one that fails at its second,
-/// and so on, up to the one that does not fail: whether each fault was answered, and nothing was written after it.
+/// Displays a value on a writer that fails at its first call, on one that fails at its second, and so on, up to the one
+/// that does not fail. Whether each error was returned, and nothing was written after it.
 pub fn faults_told<D: Display>(thing: &D) -> Said<'static> {
     for calls in 0..1000 {
         let mut writer = Failing { calls, faults: 0 };
@@ -17,7 +17,7 @@ pub fn faults_told<D: Display>(thing: &D) -> Said<'static> {
     Said::Nothing
 }
 
-/// A writer that fails once it has taken so many calls, and says how often it failed.
+/// A writer that fails after a number of calls, and counts its failures.
 #[derive(Debug, Drop)]
 struct Failing {
     calls: usize,

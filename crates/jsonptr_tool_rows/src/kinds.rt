@@ -1,4 +1,4 @@
-//! What rows do to a document of either kind, and how a tabled pointer is made.
+//! The calls on a JSON or TOML document, and a constructor of tabled pointers.
 use crate::row::NoRow;
 use crate::said::Said;
 use jsonptr::{Fault, Pointer, PointerBuf, assign, resolve};
@@ -9,29 +9,29 @@ use std::alloc::{AllocError, Global};
 use std::fmt::Display;
 use std::mem;
 
-/// The tabled pointer of a plain one.
+/// Converts a plain pointer to a tabled one.
 pub fn tabled(alloc: Global, pointer: Pointer<'_>) -> Result<TabledPointer, AllocError> {
     TabledPointer::from_plain(alloc, pointer.to_buf(alloc)?)
 }
 
-/// A document of one of the two kinds.
+/// A JSON or TOML document.
 pub trait Document: Display + Drop + Sized {
-    /// The value of a text.
+    /// Parses a value.
     fn read(alloc: Global, text: &str) -> anyhow::Result<Self>;
 
-    /// Of a value that was taken out.
+    /// The result that has an owned value.
     fn said(self) -> Said<'static>;
 
-    /// Of a value that is lent.
+    /// The result that has a borrowed value.
     fn said_lent(&self) -> Said<'_>;
 
-    /// The last value in an array or an object, taken out, so that a deep one is taken apart without a recursion.
+    /// Removes the last value of an array or an object, so that a deep one can be dropped without recursion.
     fn last(self) -> Option<Self>;
 
-    /// The value that the pointer names.
+    /// Resolves the pointer.
     fn resolve(&self, alloc: Global, ptr: Pointer<'_>) -> Result<&Self, Fault<resolve::Error>>;
 
-    /// What a value took the place of, written by `resolve_mut`.
+    /// Replaces a value through `resolve_mut`, and returns the old one.
     fn write(
         &mut self,
         alloc: Global,
@@ -39,7 +39,7 @@ pub trait Document: Display + Drop + Sized {
         value: Self,
     ) -> Result<Self, Fault<resolve::Error>>;
 
-    /// What stood where a value was assigned.
+    /// Assigns a value, and returns the replaced one.
     fn assign(
         &mut self,
         alloc: Global,
@@ -47,10 +47,10 @@ pub trait Document: Display + Drop + Sized {
         value: Self,
     ) -> Result<Option<Self>, Fault<assign::Error>>;
 
-    /// What was deleted.
+    /// Deletes a value, and returns it.
     fn delete(&mut self, alloc: Global, ptr: Pointer<'_>) -> Result<Option<Self>, AllocError>;
 
-    /// What takes an assignment back.
+    /// Assigns a value, and returns its undo.
     fn assign_with_undo(
         &mut self,
         alloc: Global,
@@ -58,10 +58,10 @@ pub trait Document: Display + Drop + Sized {
         value: Self,
     ) -> Result<Undo<Self>, Fault<assign::Error>>;
 
-    /// Takes an assignment back.
+    /// Undoes an assignment.
     fn undo(&mut self, alloc: Global, undo: Undo<Self>) -> Result<(), UndoRefused<Self>>;
 
-    /// The replies to calls on a plain pointer.
+    /// Runs calls on a plain pointer, and returns the replies.
     fn run(
         &mut self,
         alloc: Global,
@@ -69,7 +69,7 @@ pub trait Document: Display + Drop + Sized {
         calls: Vec<Call<Self>>,
     ) -> Result<Vec<Reply<Self>>, AllocError>;
 
-    /// The replies to calls on a tabled pointer.
+    /// Runs calls on a tabled pointer, and returns the replies.
     fn run_tabled(
         &mut self,
         alloc: Global,

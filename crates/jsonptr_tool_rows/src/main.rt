@@ -1,5 +1,5 @@
-//! Runs one row that its input names: a call, what it is made with, what it answers, and what pointer and
-//! document are then. The gate runs it with requests for memory refused.
+//! Runs one test case: its input names a call and the arguments. Writes the arguments before the call, the result, and the
+//! arguments after it. `tools/memory.py` runs it with failing memory requests, and `tools/long.py` with long inputs.
 #![tactic(auto)]
 
 mod bounds;

@@ -1,4 +1,4 @@
-//! Rows of patches.
+//! Cases of patches.
 use crate::row::{NoRow, Row};
 use crate::said::Said;
 use crate::stage;
@@ -7,7 +7,7 @@ use jsonptr_patch::{Operation, PatchError, apply, delete_with_undo};
 use serde_json::Value;
 use std::alloc::{AllocError, Global};
 
-/// Runs a row: the document, and the lines of operations, each a command and what it takes.
+/// Runs a case with these lines: the document, and the lines of operations, each a command and what it takes.
 pub fn run(rt: &HostRuntime, mut row: Row<'_>) -> anyhow::Result<()> {
     let mut document = Value::from_str(rt.alloc(), row.next())?;
     let patch = operations(rt.alloc(), &mut row)?;
@@ -20,7 +20,7 @@ pub fn run(rt: &HostRuntime, mut row: Row<'_>) -> anyhow::Result<()> {
     Ok(println!(rt; "{document}")?)
 }
 
-/// Writes what a patch is answered.
+/// Writes the result of a patch.
 fn show_applied(rt: &HostRuntime, applied: Result<(), Fault<PatchError>>) -> anyhow::Result<()> {
     match applied {
         Ok(()) => Ok(println!(rt; "done")?),
@@ -29,7 +29,7 @@ fn show_applied(rt: &HostRuntime, applied: Result<(), Fault<PatchError>>) -> any
     }
 }
 
-/// The operations of the lines that are left.
+/// Parses the operations of the remaining lines.
 fn operations(alloc: Global, row: &mut Row<'_>) -> anyhow::Result<Vec<Operation>> {
     let mut patch = Vec::new(alloc);
     for _ in 0..u64::MAX {
@@ -41,7 +41,7 @@ fn operations(alloc: Global, row: &mut Row<'_>) -> anyhow::Result<Vec<Operation>
     Ok(patch)
 }
 
-/// The operation of the next lines.
+/// Parses the operation of the next lines.
 fn operation(alloc: Global, row: &mut Row<'_>) -> anyhow::Result<Operation> {
     let command = row.next();
     let path = pointer(alloc, row)?;
@@ -71,17 +71,17 @@ fn operation(alloc: Global, row: &mut Row<'_>) -> anyhow::Result<Operation> {
     }
 }
 
-/// The pointer of the next line.
+/// Parses the pointer of the next line.
 fn pointer(alloc: Global, row: &mut Row<'_>) -> anyhow::Result<PointerBuf> {
     Ok(Pointer::parse(row.next())?.to_buf(alloc)?)
 }
 
-/// The value of the next line.
+/// Parses the value of the next line.
 fn value(alloc: Global, row: &mut Row<'_>) -> anyhow::Result<Value> {
     Ok(Value::from_str(alloc, row.next())?)
 }
 
-/// Runs a row of a deletion that can be taken back: the document and the pointer.
+/// Runs a case of a deletion with undo, with these lines: the document and the pointer.
 pub fn run_deletion(rt: &HostRuntime, mut row: Row<'_>) -> anyhow::Result<()> {
     let mut document = Value::from_str(rt.alloc(), row.next())?;
     let pointer = Pointer::parse(row.next())?;
@@ -94,7 +94,7 @@ pub fn run_deletion(rt: &HostRuntime, mut row: Row<'_>) -> anyhow::Result<()> {
     Ok(println!(rt; "{document}")?)
 }
 
-/// Writes what a deletion is answered.
+/// Writes the result of a deletion.
 fn show_deleted(
     rt: &HostRuntime,
     back: Result<Option<Operation>, AllocError>,
@@ -105,7 +105,7 @@ fn show_deleted(
     }
 }
 
-/// Writes what takes a deletion back.
+/// Writes the undo of a deletion.
 fn show_back(rt: &HostRuntime, back: &Option<Operation>) -> anyhow::Result<()> {
     match back {
         Some(Operation::Add { path, value }) => Ok(println!(rt; "add {value} at {path}")?),

@@ -1,4 +1,4 @@
-//! Rows of the calls of a borrowed pointer.
+//! Cases of the calls on a borrowed pointer.
 use crate::row::Row;
 use crate::said::Said;
 use crate::{ranges, stage};
@@ -6,7 +6,7 @@ use jsonptr::{Component, Pointer, PointerBuf, Token};
 use std::alloc::Global;
 use std::borrow::CowStr;
 
-/// Runs a row: the call, and the pointer.
+/// Runs a case with these lines: the call, and the pointer.
 pub fn run(rt: &HostRuntime, mut row: Row<'_>) -> anyhow::Result<()> {
     let call = row.next();
     let pointer = Pointer::parse(row.next())?;
@@ -21,7 +21,7 @@ pub fn run(rt: &HostRuntime, mut row: Row<'_>) -> anyhow::Result<()> {
     stage::answer(rt, said)
 }
 
-/// How much of it there is.
+/// The results of calls that return a length or a truth value.
 fn measured<'a>(call: &str, pointer: Pointer<'a>) -> Option<Said<'a>> {
     match call {
         "as_str" => Some(Said::Text(pointer.as_str())),
@@ -39,7 +39,7 @@ fn measured<'a>(call: &str, pointer: Pointer<'a>) -> Option<Said<'a>> {
     }
 }
 
-/// What is at its ends.
+/// The results of calls on its first and last tokens.
 fn end_of<'a>(call: &str, pointer: Pointer<'a>) -> Option<Said<'a>> {
     match call {
         "front" => Some(Said::of_place(pointer.front())),
@@ -59,7 +59,7 @@ fn end_of<'a>(call: &str, pointer: Pointer<'a>) -> Option<Said<'a>> {
     }
 }
 
-/// A copy of it.
+/// The results of calls that copy it.
 fn copied(alloc: Global, call: &str, pointer: Pointer<'_>) -> Option<Said<'static>> {
     match call {
         "to_buf" => Some(Said::of_plain(pointer.to_buf(alloc))),
@@ -74,7 +74,7 @@ fn copied(alloc: Global, call: &str, pointer: Pointer<'_>) -> Option<Said<'stati
     }
 }
 
-/// Runs a row: the call, the pointer and another one.
+/// Runs a case with these lines: the call, the pointer and another one.
 pub fn run_two(rt: &HostRuntime, mut row: Row<'_>) -> anyhow::Result<()> {
     let call = row.next();
     let pointer = Pointer::parse(row.next())?;
@@ -84,7 +84,7 @@ pub fn run_two(rt: &HostRuntime, mut row: Row<'_>) -> anyhow::Result<()> {
     stage::answer(rt, said)
 }
 
-/// How two pointers stand to each other.
+/// The results of calls that compare two pointers.
 fn compared<'a>(
     alloc: Global,
     call: &str,
@@ -104,7 +104,7 @@ fn compared<'a>(
     }
 }
 
-/// Runs a row: the call, the pointer, and a token, encoded.
+/// Runs a case with these lines: the call, the pointer, and a token, encoded.
 pub fn run_with(rt: &HostRuntime, mut row: Row<'_>) -> anyhow::Result<()> {
     let call = row.next();
     let pointer = Pointer::parse(row.next())?;
@@ -114,7 +114,7 @@ pub fn run_with(rt: &HostRuntime, mut row: Row<'_>) -> anyhow::Result<()> {
     stage::answer(rt, said)
 }
 
-/// The pointer with one token more.
+/// The pointer with one more token.
 fn with(
     alloc: Global,
     call: &str,
@@ -128,7 +128,7 @@ fn with(
     }
 }
 
-/// Runs a row: the call, the pointer, and two numbers.
+/// Runs a case with these lines: the call, the pointer, and two numbers.
 pub fn run_range(rt: &HostRuntime, mut row: Row<'_>) -> anyhow::Result<()> {
     let call = row.next();
     let pointer = Pointer::parse(row.next())?;

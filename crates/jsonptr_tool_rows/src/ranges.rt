@@ -1,10 +1,10 @@
-//! The parts of a pointer between two places.
+//! `get` with each kind of range.
 use crate::said::Said;
 use jsonptr::Pointer;
 use jsonptr_tabled::TabledPointer;
 use std::ops::Bound;
 
-/// Answers `get` with the range that is named, between two places.
+/// The result of `get` with the named kind of range, between two positions.
 macro_rules! get {
     ($call:expr, $pointer:expr, $first:expr, $second:expr) => {
         match $call {
@@ -23,7 +23,7 @@ macro_rules! get {
     };
 }
 
-/// Of a plain pointer.
+/// `get` of a plain pointer.
 pub fn of_plain<'a>(
     call: &str,
     pointer: Pointer<'a>,
@@ -33,7 +33,7 @@ pub fn of_plain<'a>(
     get!(call, pointer, first, second)
 }
 
-/// Of a tabled one.
+/// `get` of a tabled pointer.
 pub fn of_tabled<'a>(
     call: &str,
     pointer: &'a TabledPointer,

@@ -1,4 +1,4 @@
-//! Rows of the reports of errors.
+//! Cases of error reports.
 use crate::kinds::Document;
 use crate::row::{NoRow, Row};
 use crate::said::Said;
@@ -12,7 +12,7 @@ use std::borrow::CowStr;
 use std::convert::AsStr;
 use std::fmt::Display;
 
-/// Runs a row: the call, the kind of error, and what the error is of.
+/// Runs a case with these lines: the call, the kind of error, and what the error is of.
 pub fn run(rt: &HostRuntime, mut row: Row<'_>) -> anyhow::Result<()> {
     let (call, kind) = (row.next(), row.next());
     match kind {
@@ -24,7 +24,7 @@ pub fn run(rt: &HostRuntime, mut row: Row<'_>) -> anyhow::Result<()> {
     }
 }
 
-/// Of an error that a text gives.
+/// The error of parsing a text.
 fn of_text(rt: &HostRuntime, call: &str, kind: &str, text: &str) -> anyhow::Result<()> {
     let subject = String::from_str(rt.alloc(), text)?;
     match kind {
@@ -40,7 +40,7 @@ fn of_text(rt: &HostRuntime, call: &str, kind: &str, text: &str) -> anyhow::Resu
     }
 }
 
-/// Of the error of reading a text as an index, on another subject or on the text itself.
+/// The error of parsing an index, on the text itself or on another subject.
 fn of_index(rt: &HostRuntime, call: &str, text: &str, subject: Option<&str>) -> anyhow::Result<()> {
     let subject = String::from_str(rt.alloc(), subject.unwrap_or(text))?;
     match Index::try_from(text) {
@@ -49,7 +49,7 @@ fn of_index(rt: &HostRuntime, call: &str, text: &str, subject: Option<&str>) -> 
     }
 }
 
-/// Of the error of resolving a pointer in a document.
+/// The error of resolving a pointer in a document.
 fn of_resolve(rt: &HostRuntime, call: &str, mut row: Row<'_>) -> anyhow::Result<()> {
     let document = serde_json::Value::read(rt.alloc(), row.next())?;
     let pointer = Pointer::parse(row.next())?;
@@ -61,7 +61,7 @@ fn of_resolve(rt: &HostRuntime, call: &str, mut row: Row<'_>) -> anyhow::Result<
     }
 }
 
-/// Of the error of assigning at a pointer in a document.
+/// The error of assigning at a pointer in a document.
 fn of_assign(rt: &HostRuntime, call: &str, mut row: Row<'_>) -> anyhow::Result<()> {
     let mut document = serde_json::Value::read(rt.alloc(), row.next())?;
     let pointer = Pointer::parse(row.next())?;
@@ -73,7 +73,7 @@ fn of_assign(rt: &HostRuntime, call: &str, mut row: Row<'_>) -> anyhow::Result<(
     }
 }
 
-/// Runs a row: a call that joins an error and its subject or takes them apart, and the text of a pointer.
+/// Runs a case with these lines: a call that makes or splits a report, and the text of a pointer.
 pub fn run_joining(rt: &HostRuntime, mut row: Row<'_>) -> anyhow::Result<()> {
     let (call, text) = (row.next(), row.next());
     let subject = String::from_str(rt.alloc(), text)?;
@@ -82,7 +82,7 @@ pub fn run_joining(rt: &HostRuntime, mut row: Row<'_>) -> anyhow::Result<()> {
     stage::answer(rt, said)
 }
 
-/// What such a call answers.
+/// The result of such a call.
 fn joined<'a>(call: &str, text: &'a str, subject: String) -> Option<Said<'a>> {
     match call {
         "diagnose" => Some(match Pointer::parse(text).diagnose(subject) {
@@ -136,7 +136,7 @@ fn labels<E: Diagnostic>(rt: &HostRuntime, report: &Report<E>) -> anyhow::Result
     }
 }
 
-/// Its drawing.
+/// The rendered report.
 fn render<E: Diagnostic>(rt: &HostRuntime, report: &Report<E>) -> anyhow::Result<()>
 where
     E::Subject: AsStr,

@@ -1,20 +1,20 @@
-//! What a row is written as.
+//! The lines of a test case.
 use std::error::Error;
 use std::fmt;
 
-/// The lines of a row that are left to read.
+/// The remaining lines of a test case.
 #[derive(Debug, Clone, Copy)]
 pub struct Row<'a> {
     rest: &'a str,
 }
 
 impl<'a> Row<'a> {
-    /// The row of these lines.
+    /// The test case with these lines.
     pub fn new(lines: &'a str) -> Row<'a> {
         Row { rest: lines }
     }
 
-    /// The next line, which is empty where there is none.
+    /// The next line, or an empty text if there is none.
     pub fn next(&mut self) -> &'a str {
         let (line, rest) = self.rest.split_once('\n').unwrap_or((self.rest, ""));
         self.rest = rest;
@@ -25,18 +25,18 @@ impl<'a> Row<'a> {
     ///
     /// # Errors
     ///
-    /// [`NoRow`] where it is none.
+    /// [`NoRow`] if it is not a number.
     pub fn number(&mut self) -> Result<usize, NoRow> {
         self.next().parse().map_err(|_| NoRow)
     }
 
-    /// Whether no line is left.
+    /// Whether there is no more line.
     pub fn is_empty(&self) -> bool {
         self.rest.is_empty()
     }
 }
 
-/// The input is no row.
+/// The input is not a test case.
 #[derive(Debug, Clone, Copy)]
 pub struct NoRow;
 

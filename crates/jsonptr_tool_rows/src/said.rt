@@ -1,4 +1,4 @@
-//! What a call answers.
+//! The result of a call.
 use jsonptr::index::{Index, OutOfBoundsError, ParseIndexError};
 use jsonptr::{
     EncodingError, Fault, ParseError, Pointer, PointerBuf, ReplaceError, RichParseError, Token,
@@ -10,30 +10,30 @@ use std::borrow::CowStr;
 use std::cmp::Ordering;
 use std::fmt;
 
-/// What a call answers, to be written once it has ended.
+/// The result of a call, which is written after the call has ended.
 #[derive(Drop)]
 pub enum Said<'a> {
-    /// A call is done that answers nothing else.
+    /// A call without a result has ended.
     Done,
-    /// There is none.
+    /// `None`.
     Nothing,
-    /// A request for memory was refused.
+    /// Out of memory.
     Memory,
-    /// Whether it is so.
+    /// A truth value.
     Truth(bool),
-    /// How many, or at which place.
+    /// A count, an index or an offset.
     Number(usize),
-    /// How two things stand to each other.
+    /// An order.
     Order(Ordering),
-    /// A text that is lent.
+    /// A borrowed text.
     Text(&'a str),
-    /// A text that is handed over.
+    /// An owned text.
     Owned(String),
-    /// A text that is lent or made.
+    /// A borrowed or owned text.
     Lent(CowStr<'a>),
-    /// A table of places.
+    /// A table of offsets.
     Places(&'a [usize]),
-    /// A token, which is written encoded.
+    /// A token, which is written in its encoded form.
     Token(Token<'a>),
     /// A pointer, or a part of one.
     Pointer(Pointer<'a>),
@@ -43,33 +43,33 @@ pub enum Said<'a> {
     SplitFront(Token<'a>, Pointer<'a>),
     /// The tokens before the last, and the last.
     SplitBack(Pointer<'a>, Token<'a>),
-    /// A pointer that was made.
+    /// An owned pointer.
     Plain(PointerBuf),
-    /// A tabled pointer that was made.
+    /// A tabled pointer.
     Tabled(TabledPointer),
-    /// A JSON value that was made or taken out.
+    /// An owned JSON value.
     Json(serde_json::Value),
-    /// A JSON value that is lent.
+    /// A borrowed JSON value.
     JsonLent(&'a serde_json::Value),
-    /// A TOML value that was taken out.
+    /// An owned TOML value.
     Toml(toml::Value),
-    /// A TOML value that is lent.
+    /// A borrowed TOML value.
     TomlLent(&'a toml::Value),
-    /// An index that was read.
+    /// A parsed index.
     Index(Index),
-    /// A text is no token.
+    /// A text is not a token.
     NoToken(EncodingError),
-    /// A text is no pointer.
+    /// A text is not a pointer.
     NoPointer(ParseError),
-    /// A text is no pointer, and is handed back.
+    /// A text is not a pointer, and is returned.
     NoText(RichParseError),
-    /// A text is no index.
+    /// A text is not an index.
     NoIndex(ParseIndexError),
     /// An index is not within an array.
     OutOfBounds(OutOfBoundsError),
     /// There is no token at a position.
     NoPosition(ReplaceError),
-    /// A pointer names no value.
+    /// A pointer does not resolve.
     NoValue(resolve::Error),
     /// No value can be assigned at a pointer.
     NoPlace(assign::Error),
@@ -112,7 +112,7 @@ impl fmt::Display for Said<'_> {
     }
 }
 
-/// The sign between two things that are ordered so.
+/// The sign of an order: `<`, `=` or `>`.
 fn sign_of(order: Ordering) -> &'static str {
     match order {
         Ordering::Less => "<",
@@ -122,7 +122,7 @@ fn sign_of(order: Ordering) -> &'static str {
 }
 
 impl<'a> Said<'a> {
-    /// Of a call that answers nothing but that it is done.
+    /// The result of a call that returns no value.
     pub fn of_done(done: Result<(), AllocError>) -> Said<'a> {
         match done {
             Ok(()) => Said::Done,
@@ -130,7 +130,7 @@ impl<'a> Said<'a> {
         }
     }
 
-    /// Of making a token.
+    /// The result of making a token.
     pub fn of_token(made: Result<Token<'a>, AllocError>) -> Said<'a> {
         match made {
             Ok(token) => Said::Token(token),
@@ -138,7 +138,7 @@ impl<'a> Said<'a> {
         }
     }
 
-    /// Of lending a token, or of taking one off.
+    /// The result of borrowing or removing a token.
     pub fn of_place(token: Option<Token<'a>>) -> Said<'a> {
         match token {
             Some(token) => Said::Token(token),
@@ -146,7 +146,7 @@ impl<'a> Said<'a> {
         }
     }
 
-    /// Of taking a token off.
+    /// The result of removing a token.
     pub fn of_pop(popped: Result<Option<Token<'static>>, AllocError>) -> Said<'a> {
         match popped {
             Ok(token) => Said::of_place(token),
@@ -154,7 +154,7 @@ impl<'a> Said<'a> {
         }
     }
 
-    /// Of lending a text.
+    /// The result of borrowing a text.
     pub fn of_text(made: Result<CowStr<'a>, AllocError>) -> Said<'a> {
         match made {
             Ok(text) => Said::Lent(text),
@@ -162,7 +162,7 @@ impl<'a> Said<'a> {
         }
     }
 
-    /// Of lending a part of a pointer.
+    /// The result of borrowing a part of a pointer.
     pub fn of_part(part: Option<Pointer<'a>>) -> Said<'a> {
         match part {
             Some(part) => Said::Pointer(part),
@@ -170,7 +170,7 @@ impl<'a> Said<'a> {
         }
     }
 
-    /// Of splitting a pointer in two.
+    /// The result of splitting a pointer.
     pub fn of_parts(parts: Option<(Pointer<'a>, Pointer<'a>)>) -> Said<'a> {
         match parts {
             Some((front, rest)) => Said::Parts(front, rest),
@@ -178,7 +178,7 @@ impl<'a> Said<'a> {
         }
     }
 
-    /// Of making a pointer.
+    /// The result of making a pointer.
     pub fn of_plain(made: Result<PointerBuf, AllocError>) -> Said<'a> {
         match made {
             Ok(pointer) => Said::Plain(pointer),
@@ -186,7 +186,7 @@ impl<'a> Said<'a> {
         }
     }
 
-    /// Of making a tabled pointer.
+    /// The result of making a tabled pointer.
     pub fn of_tabled(made: Result<TabledPointer, AllocError>) -> Said<'a> {
         match made {
             Ok(pointer) => Said::Tabled(pointer),
@@ -194,7 +194,7 @@ impl<'a> Said<'a> {
         }
     }
 
-    /// Of reading an index.
+    /// The result of parsing an index.
     pub fn of_index(read: Result<Index, ParseIndexError>) -> Said<'a> {
         match read {
             Ok(index) => Said::Index(index),
@@ -202,7 +202,7 @@ impl<'a> Said<'a> {
         }
     }
 
-    /// Of setting a pointer's text.
+    /// The result of setting a pointer's text.
     pub fn of_set(set: Result<(), Fault<RichParseError>>) -> Said<'a> {
         match set {
             Ok(()) => Said::Done,
@@ -211,7 +211,7 @@ impl<'a> Said<'a> {
         }
     }
 
-    /// Of replacing a token.
+    /// The result of replacing a token.
     pub fn of_replace(replaced: Result<Option<Token<'static>>, Fault<ReplaceError>>) -> Said<'a> {
         match replaced {
             Ok(token) => Said::of_place(token),
@@ -220,7 +220,7 @@ impl<'a> Said<'a> {
         }
     }
 
-    /// Of finding a value.
+    /// The result of resolving a pointer.
     pub fn of_no_value(fault: Fault<resolve::Error>) -> Said<'a> {
         match fault {
             Fault::Refused(error) => Said::NoValue(error),
@@ -228,7 +228,7 @@ impl<'a> Said<'a> {
         }
     }
 
-    /// Of assigning a value.
+    /// The result of assigning a value.
     pub fn of_no_place(fault: Fault<assign::Error>) -> Said<'a> {
         match fault {
             Fault::Refused(error) => Said::NoPlace(error),

@@ -1,4 +1,4 @@
-//! Rows of sessions: lists of calls on a pointer and a document of each kind.
+//! Cases of sessions: lists of calls on a pointer and a document.
 use crate::calls::calls;
 use crate::kinds::{Document, tabled};
 use crate::row::{NoRow, Row};
@@ -9,7 +9,7 @@ use jsonptr_session::{Call, Reply};
 use std::alloc::AllocError;
 use std::fmt::Display;
 
-/// Runs a row: the kind of document, the document, the kind of pointer, the pointer, and the calls.
+/// Runs a case with these lines: the kind of document, the document, the kind of pointer, the pointer, and the calls.
 pub fn run(rt: &HostRuntime, mut row: Row<'_>) -> anyhow::Result<()> {
     match row.next() {
         "json" => run_on(rt, serde_json::Value::read(rt.alloc(), row.next())?, row),
@@ -30,7 +30,7 @@ fn run_on<D: Document>(rt: &HostRuntime, document: D, mut row: Row<'_>) -> anyho
     }
 }
 
-/// Runs the calls on a plain pointer. Pointer and document are written before and after.
+/// Runs the calls on a plain pointer. Writes pointer and document before and after them.
 fn plain<D: Document>(
     rt: &HostRuntime,
     mut document: D,
@@ -47,7 +47,7 @@ fn plain<D: Document>(
     Ok(println!(rt; "{pointer} {document}")?)
 }
 
-/// The same on a tabled pointer.
+/// Runs the calls on a tabled pointer. Writes pointer and document before and after them.
 fn on_table<D: Document>(
     rt: &HostRuntime,
     mut document: D,
@@ -64,7 +64,7 @@ fn on_table<D: Document>(
     Ok(println!(rt; "{pointer} {document}")?)
 }
 
-/// Writes what is replied, a line each.
+/// Writes the replies, one a line.
 fn show<D: Display>(
     rt: &HostRuntime,
     replies: &Result<Vec<Reply<D>>, AllocError>,

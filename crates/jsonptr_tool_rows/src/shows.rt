@@ -1,4 +1,4 @@
-//! Rows of what displays and what is hashed, neither of which takes memory.
+//! Cases of displayed and of hashed values, neither of which allocates.
 use crate::failing::faults_told;
 use crate::kinds::tabled;
 use crate::row::{NoRow, Row};
@@ -11,7 +11,7 @@ use std::borrow::CowStr;
 use std::fmt::Display;
 use std::hash::{DefaultHasher, Hash, Hasher};
 
-/// Runs a row: the kind of thing, and its text, which is displayed while requests are counted.
+/// Runs a case with these lines: the kind of value, and its text. Displays it.
 pub fn run(rt: &HostRuntime, mut row: Row<'_>) -> anyhow::Result<()> {
     let (kind, text) = (row.next(), row.next());
     match kind {
@@ -27,14 +27,14 @@ pub fn run(rt: &HostRuntime, mut row: Row<'_>) -> anyhow::Result<()> {
     }
 }
 
-/// Displays a thing.
+/// Displays a value.
 pub fn show<D: Display>(rt: &HostRuntime, thing: &D) -> anyhow::Result<()> {
     stage::begin(rt)?;
     println!(rt; "{thing}")?;
     Ok(stage::end(rt)?)
 }
 
-/// Runs a row: the kind of thing, and its text, which is displayed to writers that fail.
+/// Runs a case with these lines: the kind of value, and its text. Displays it on failing writers.
 pub fn run_failing(rt: &HostRuntime, mut row: Row<'_>) -> anyhow::Result<()> {
     let (kind, text) = (row.next(), row.next());
     match kind {
@@ -50,7 +50,7 @@ pub fn run_failing(rt: &HostRuntime, mut row: Row<'_>) -> anyhow::Result<()> {
     }
 }
 
-/// Runs a row: the type of an error that no report has, which is displayed to writers that fail.
+/// Runs a case with this line: the type of an error that has no report. Displays it on failing writers.
 pub fn run_failing_error(rt: &HostRuntime, mut row: Row<'_>) -> anyhow::Result<()> {
     match row.next() {
         "InvalidEncoding::Tilde" => show_failing(rt, &InvalidEncoding::Tilde),
@@ -73,19 +73,19 @@ pub fn run_failing_error(rt: &HostRuntime, mut row: Row<'_>) -> anyhow::Result<(
     }
 }
 
-/// Want of memory, beside a refusal.
+/// The memory error of a `Fault`, at a type with an error of its own.
 fn memory() -> Fault<InvalidEncoding> {
     Fault::Memory(AllocError)
 }
 
-/// Displays a thing to writers that fail: whether it answers each fault, and writes nothing after it.
+/// Displays a value on failing writers: whether it returns each error, and writes nothing after it.
 pub fn show_failing<D: Display>(rt: &HostRuntime, thing: &D) -> anyhow::Result<()> {
     stage::begin(rt)?;
     let said = faults_told(thing);
     stage::answer(rt, Some(said))
 }
 
-/// Runs a row: the kind of thing, and two texts, whose hashes are compared.
+/// Runs a case with these lines: the kind of value, and two texts. Compares their hashes.
 pub fn run_hashes(rt: &HostRuntime, mut row: Row<'_>) -> anyhow::Result<()> {
     let (kind, text, other) = (row.next(), row.next(), row.next());
     let alloc = rt.alloc();
@@ -110,14 +110,14 @@ pub fn run_hashes(rt: &HostRuntime, mut row: Row<'_>) -> anyhow::Result<()> {
     }
 }
 
-/// Compares the hashes of two things.
+/// Compares the hashes of two values.
 fn compare<T: Hash>(rt: &HostRuntime, first: &T, second: &T) -> anyhow::Result<()> {
     stage::begin(rt)?;
     let same = hash_of(first) == hash_of(second);
     stage::answer(rt, Some(Said::Truth(same)))
 }
 
-/// The hash of a thing.
+/// The hash of a value.
 fn hash_of<T: Hash>(thing: &T) -> u64 {
     let mut state = DefaultHasher::new();
     thing.hash(&mut state);

@@ -1,4 +1,4 @@
-//! The marks between which a row makes its call, for whoever counts what the call asks for.
+//! The marks before and after the call of a test case, between which memory requests are counted.
 use crate::row::NoRow;
 use crate::said::Said;
 use std::io;
@@ -14,11 +14,11 @@ pub fn end(rt: &HostRuntime) -> io::Result<()> {
     rt.stdout().write_all(b"-- answer\n")
 }
 
-/// Writes what the call answered.
+/// Writes the result of the call.
 ///
 /// # Errors
 ///
-/// [`NoRow`] where there is no such call.
+/// [`NoRow`] if there is no such call.
 pub fn answer(rt: &HostRuntime, said: Option<Said<'_>>) -> anyhow::Result<()> {
     end(rt)?;
     match said {
@@ -27,7 +27,7 @@ pub fn answer(rt: &HostRuntime, said: Option<Said<'_>>) -> anyhow::Result<()> {
     }
 }
 
-/// Writes that what was lent to the call follows, as it is now.
+/// Writes that the state of the arguments follows.
 pub fn state(rt: &HostRuntime) -> io::Result<()> {
     rt.stdout().write_all(b"-- state\n")
 }

@@ -1,4 +1,4 @@
-//! Rows of the calls that read a tabled pointer.
+//! Cases of the calls that read a tabled pointer.
 use crate::kinds::tabled;
 use crate::row::Row;
 use crate::said::Said;
@@ -7,7 +7,7 @@ use jsonptr::{Pointer, PointerBuf};
 use jsonptr_tabled::TabledPointer;
 use std::alloc::Global;
 
-/// Runs a row: the call, the pointer, and two numbers.
+/// Runs a case with these lines: the call, the pointer, and two numbers.
 pub fn run(rt: &HostRuntime, mut row: Row<'_>) -> anyhow::Result<()> {
     let call = row.next();
     let pointer = tabled(rt.alloc(), Pointer::parse(row.next())?)?;
@@ -20,7 +20,7 @@ pub fn run(rt: &HostRuntime, mut row: Row<'_>) -> anyhow::Result<()> {
     stage::answer(rt, said)
 }
 
-/// What a call answers that is lent the pointer.
+/// The result of a call that borrows the pointer.
 fn read<'a>(call: &str, pointer: &'a TabledPointer, offset: usize) -> Option<Said<'a>> {
     match call {
         "as_ptr" => Some(Said::Pointer(pointer.as_ptr())),
@@ -35,7 +35,7 @@ fn read<'a>(call: &str, pointer: &'a TabledPointer, offset: usize) -> Option<Sai
     }
 }
 
-/// Runs a row: the call, and two pointers, which it compares.
+/// Runs a case with these lines: the call, and two pointers, which it compares.
 pub fn run_two(rt: &HostRuntime, mut row: Row<'_>) -> anyhow::Result<()> {
     let call = row.next();
     let pointer = tabled(rt.alloc(), Pointer::parse(row.next())?)?;
@@ -49,7 +49,7 @@ pub fn run_two(rt: &HostRuntime, mut row: Row<'_>) -> anyhow::Result<()> {
     stage::answer(rt, said)
 }
 
-/// Runs a row: the call, and the pointer, which the call takes or copies.
+/// Runs a case with these lines: the call, and the pointer, which the call takes or copies.
 pub fn run_kept(rt: &HostRuntime, mut row: Row<'_>) -> anyhow::Result<()> {
     let call = row.next();
     let plain = Pointer::parse(row.next())?.to_buf(rt.alloc())?;
@@ -59,7 +59,7 @@ pub fn run_kept(rt: &HostRuntime, mut row: Row<'_>) -> anyhow::Result<()> {
     stage::answer(rt, said)
 }
 
-/// What a call answers that takes or copies a pointer.
+/// The result of a call that takes or copies a pointer.
 fn made_of(
     alloc: Global,
     call: &str,

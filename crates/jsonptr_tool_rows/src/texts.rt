@@ -1,4 +1,4 @@
-//! Rows of the calls that make something of a text.
+//! Cases of the calls that convert a text.
 use crate::row::Row;
 use crate::said::Said;
 use crate::stage;
@@ -8,7 +8,7 @@ use jsonptr_tabled::TabledPointer;
 use std::alloc::Global;
 use std::borrow::CowStr;
 
-/// Runs a row: the call, and the text, which the call borrows.
+/// Runs a case with these lines: the call, and the text, which the call borrows.
 pub fn run(rt: &HostRuntime, mut row: Row<'_>) -> anyhow::Result<()> {
     let (call, text) = (row.next(), row.next());
     stage::begin(rt)?;
@@ -16,7 +16,7 @@ pub fn run(rt: &HostRuntime, mut row: Row<'_>) -> anyhow::Result<()> {
     stage::answer(rt, said)
 }
 
-/// What a call that borrows the text answers.
+/// The result of a call that borrows the text.
 fn made_of<'a>(alloc: Global, call: &str, text: &'a str) -> Option<Said<'a>> {
     match call {
         "Token::new" => Some(Said::of_token(Token::new(alloc, CowStr::Borrowed(text)))),
@@ -39,7 +39,7 @@ fn made_of<'a>(alloc: Global, call: &str, text: &'a str) -> Option<Said<'a>> {
     }
 }
 
-/// Runs a row: the call, and the text, which the call takes.
+/// Runs a case with these lines: the call, and the text, which the call takes.
 pub fn run_kept(rt: &HostRuntime, mut row: Row<'_>) -> anyhow::Result<()> {
     let call = row.next();
     let text = String::from_str(rt.alloc(), row.next())?;
@@ -48,7 +48,7 @@ pub fn run_kept(rt: &HostRuntime, mut row: Row<'_>) -> anyhow::Result<()> {
     stage::answer(rt, said)
 }
 
-/// What a call that takes the text answers.
+/// The result of a call that takes the text.
 fn kept_by(alloc: Global, call: &str, text: String) -> Option<Said<'static>> {
     match call {
         "Token::new" => Some(Said::of_token(Token::new(alloc, CowStr::Owned(text)))),

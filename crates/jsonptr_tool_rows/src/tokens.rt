@@ -1,4 +1,4 @@
-//! Rows of the calls of a token, and of those that make one of a number.
+//! Cases of the calls on a token, and of tokens of numbers.
 use crate::row::Row;
 use crate::said::Said;
 use crate::stage;
@@ -7,7 +7,7 @@ use jsonptr::{PointerBuf, Token};
 use std::alloc::Global;
 use std::borrow::CowStr;
 
-/// Runs a row: the call, the token and another one, both encoded, which are lent to the call.
+/// Runs a case with these lines: the call, the token and another one, both encoded, which are lent to the call.
 pub fn run(rt: &HostRuntime, mut row: Row<'_>) -> anyhow::Result<()> {
     let call = row.next();
     let token = Token::from_encoded(CowStr::Borrowed(row.next()))?;
@@ -17,7 +17,7 @@ pub fn run(rt: &HostRuntime, mut row: Row<'_>) -> anyhow::Result<()> {
     stage::answer(rt, said)
 }
 
-/// What a call answers that is lent the token.
+/// The result of a call that borrows the token.
 fn read<'a>(
     alloc: Global,
     call: &str,
@@ -37,7 +37,7 @@ fn read<'a>(
     }
 }
 
-/// Runs a row: the call, and the token, encoded, which the call takes.
+/// Runs a case with these lines: the call, and the token, encoded, which the call takes.
 pub fn run_kept(rt: &HostRuntime, mut row: Row<'_>) -> anyhow::Result<()> {
     let call = row.next();
     let token = Token::from_encoded(CowStr::Borrowed(row.next()))?;
@@ -46,7 +46,7 @@ pub fn run_kept(rt: &HostRuntime, mut row: Row<'_>) -> anyhow::Result<()> {
     stage::answer(rt, said)
 }
 
-/// Runs a row: the call, and a token that owns its text, encoded, which the call takes.
+/// Runs a case with these lines: the call, and a token that owns its text, encoded, which the call takes.
 pub fn run_owned(rt: &HostRuntime, mut row: Row<'_>) -> anyhow::Result<()> {
     let call = row.next();
     let text = String::from_str(rt.alloc(), row.next())?;
@@ -56,7 +56,7 @@ pub fn run_owned(rt: &HostRuntime, mut row: Row<'_>) -> anyhow::Result<()> {
     stage::answer(rt, said)
 }
 
-/// What a call answers that takes the token.
+/// The result of a call that takes the token.
 fn made_of<'a>(alloc: Global, call: &str, token: Token<'a>) -> Option<Said<'a>> {
     match call {
         "into_encoded" => Some(Said::Lent(token.into_encoded())),
@@ -68,7 +68,7 @@ fn made_of<'a>(alloc: Global, call: &str, token: Token<'a>) -> Option<Said<'a>> 
     }
 }
 
-/// Runs a row: the type whose greatest number becomes a token, or the pointer of one token.
+/// Runs a case with these lines: the type whose greatest number becomes a token, or the pointer of one token.
 pub fn run_number(rt: &HostRuntime, mut row: Row<'_>) -> anyhow::Result<()> {
     let call = row.next();
     stage::begin(rt)?;
@@ -79,7 +79,7 @@ pub fn run_number(rt: &HostRuntime, mut row: Row<'_>) -> anyhow::Result<()> {
     stage::answer(rt, said)
 }
 
-/// The token of the greatest number of an unsigned type.
+/// The token of the maximum of an unsigned type.
 fn unsigned(alloc: Global, call: &str) -> Option<Said<'static>> {
     match call {
         "u8" => Some(Said::of_token(Token::from_number(alloc, u8::MAX))),
@@ -95,7 +95,7 @@ fn unsigned(alloc: Global, call: &str) -> Option<Said<'static>> {
     }
 }
 
-/// The token of the least number of a signed type.
+/// The token of the minimum of a signed type.
 fn signed(alloc: Global, call: &str) -> Option<Said<'static>> {
     match call {
         "i8" => Some(Said::of_token(Token::from_number(alloc, i8::MIN))),

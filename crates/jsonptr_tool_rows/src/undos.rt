@@ -1,4 +1,4 @@
-//! Rows of the calls that take an assignment back.
+//! Cases of undo.
 use crate::kinds::Document;
 use crate::row::{NoRow, Row};
 use crate::said::Said;
@@ -7,7 +7,7 @@ use jsonptr::{Fault, Pointer, assign};
 use jsonptr_session::undo::{Undo, UndoRefused};
 use std::fmt::Display;
 
-/// Runs a row: the kind of document, the document, the call, the pointer, and a value.
+/// Runs a case with these lines: the kind of document, the document, the call, the pointer, and a value.
 pub fn run(rt: &HostRuntime, mut row: Row<'_>) -> anyhow::Result<()> {
     match row.next() {
         "json" => run_on(rt, serde_json::Value::read(rt.alloc(), row.next())?, row),
@@ -33,7 +33,7 @@ fn run_on<D: Document>(rt: &HostRuntime, mut document: D, mut row: Row<'_>) -> a
     }
 }
 
-/// Assigns the value in the document, which is written before and after.
+/// Assigns the value in the document. Writes the document before and after it.
 fn assign<D: Document>(
     rt: &HostRuntime,
     mut document: D,
@@ -49,7 +49,7 @@ fn assign<D: Document>(
     Ok(println!(rt; "{document}")?)
 }
 
-/// Writes what an assignment is answered.
+/// Writes the result of an assignment.
 fn show_made<D: Display>(
     rt: &HostRuntime,
     back: &Result<Undo<D>, Fault<assign::Error>>,
@@ -61,7 +61,7 @@ fn show_made<D: Display>(
     }
 }
 
-/// Takes an assignment back in the document. Both are written before, and after as far as they are left.
+/// Undoes an assignment in the document. Writes document and undo before it, and what is left after it.
 fn undo<D: Document>(rt: &HostRuntime, mut document: D, back: Undo<D>) -> anyhow::Result<()> {
     println!(rt; "{document}")?;
     show(rt, &back)?;
@@ -78,7 +78,7 @@ fn undo<D: Document>(rt: &HostRuntime, mut document: D, back: Undo<D>) -> anyhow
     }
 }
 
-/// Writes why nothing was taken back, the document, and what would take the assignment back.
+/// Writes the error, the document and the undo that was returned.
 fn show_refused<D: Display + Drop>(
     rt: &HostRuntime,
     document: &D,
@@ -91,7 +91,7 @@ fn show_refused<D: Display + Drop>(
     show(rt, &undo)
 }
 
-/// Writes what takes an assignment back.
+/// Writes an undo.
 fn show<D: Display>(rt: &HostRuntime, back: &Undo<D>) -> anyhow::Result<()> {
     match back {
         Undo::Put(pointer, value) => Ok(println!(rt; "put {value} at {pointer}")?),
