@@ -4,6 +4,7 @@ The shim is failing_malloc.c, which needs the C library of Linux (glibc) and a C
 """
 import os
 import subprocess
+import sys
 
 TOOLS = os.path.dirname(os.path.abspath(__file__))
 TOP = os.path.dirname(TOOLS)
@@ -16,7 +17,10 @@ class CheckFailed(Exception):
 
 def program(name):
     """Returns the path of a program that `rt ci`, or `rt run` in its crate, built."""
-    return f"{TOP}/crates/{name}/out/{name}"
+    path = f"{TOP}/crates/{name}/out/{name}"
+    if not os.path.exists(path):
+        sys.exit(f"{name} is not built: (cd crates/{name} && rt run < stdin)")
+    return path
 
 
 def build_shim(folder):
