@@ -8,7 +8,7 @@ ghost use Rattle.jsonptr_tree.specs.PrivateUndoing.{NamesLanding};
 
 use crate::document::Document;
 use jsonptr::resolve::Error;
-use jsonptr::{Fault, Pointer, PointerBuf, Token};
+use jsonptr::{Pointer, PointerBuf, Token};
 use std::alloc::{AllocError, Global};
 
 /// The pointer of the place where a value lands that is assigned at `ptr`; no matter which where none lands.
@@ -25,8 +25,7 @@ pub fn landing_of<D: Document>(
 {
     match doc.find_at(alloc, ptr) {
         Ok(()) => ptr.to_buf(alloc),
-        Err(Fault::Refused(error)) => landing_before(alloc, ptr, &error),
-        Err(Fault::Memory(error)) => Err(error),
+        Err(fault) => landing_before(alloc, ptr, &fault.refused()?),
     }
 }
 

@@ -9,7 +9,7 @@ ghost use Rattle.jsonptr_session.specs.PrivateTurn.{answered, StepsOnNodes, Step
 
 use crate::document::Document;
 use crate::session::{Call, Reply};
-use jsonptr::{Fault, Pointer, PointerBuf, Token};
+use jsonptr::{Pointer, PointerBuf, Token};
 use jsonptr_tabled::EditPointer;
 use std::alloc::{AllocError, Global};
 use std::borrow::CowStr;
@@ -104,8 +104,7 @@ fn parse<P: EditPointer, D: Document>(ptr: &mut P, text: String) -> Result<Reply
 {
     match ptr.set_text(text) {
         Ok(()) => Ok(Reply::Done),
-        Err(Fault::Refused(report)) => Ok(Reply::BadPointer(report)),
-        Err(Fault::Memory(error)) => Err(error),
+        Err(fault) => Ok(Reply::BadPointer(fault.refused()?)),
     }
 }
 
@@ -169,8 +168,7 @@ fn replace<P: EditPointer, D: Document>(
     let token = Token::new(alloc, CowStr::Owned(text))?;
     match ptr.replace(index, token) {
         Ok(old) => Ok(Reply::Token(old)),
-        Err(Fault::Refused(error)) => Ok(Reply::BadPosition(error)),
-        Err(Fault::Memory(error)) => Err(error),
+        Err(fault) => Ok(Reply::BadPosition(fault.refused()?)),
     }
 }
 
@@ -205,8 +203,7 @@ fn resolve<D: Document>(alloc: Global, ptr: Pointer<'_>, doc: &D) -> Result<Repl
 {
     match doc.copy_at(alloc, ptr) {
         Ok(value) => Ok(Reply::Value(value)),
-        Err(Fault::Refused(error)) => Ok(Reply::NoValue(error)),
-        Err(Fault::Memory(error)) => Err(error),
+        Err(fault) => Ok(Reply::NoValue(fault.refused()?)),
     }
 }
 
@@ -225,8 +222,7 @@ fn write<D: Document>(
     let mut value = value;
     match doc.swap_at(alloc, ptr, &mut value) {
         Ok(()) => Ok(Reply::Value(value)),
-        Err(Fault::Refused(error)) => Ok(Reply::NoValue(error)),
-        Err(Fault::Memory(error)) => Err(error),
+        Err(fault) => Ok(Reply::NoValue(fault.refused()?)),
     }
 }
 
@@ -244,8 +240,7 @@ fn assign<D: Document>(
 {
     match doc.assign_at(alloc, ptr, value) {
         Ok(old) => Ok(Reply::Assigned(old)),
-        Err(Fault::Refused(error)) => Ok(Reply::BadPlace(error)),
-        Err(Fault::Memory(error)) => Err(error),
+        Err(fault) => Ok(Reply::BadPlace(fault.refused()?)),
     }
 }
 

@@ -1,10 +1,13 @@
+use Rattle.std.proofs.Common.{rules}
+use Rattle.jsonptr.specs.Pointer.{tokens}
+use Rattle.jsonptr.specs.Resolve.{Refuses}
 use Rattle.jsonptr_session.proofs.UndoLemmas.{landing_found, landing_refused}
 use Rattle.jsonptr_session.proofs.landing.landing_of.Goals as goal
 
 pub returns-in-Ok : goal.returns-in-Ok
 returns-in-Ok g c = landing_found _ _ _ c.in-Ok.ensures.found c.to_buf.ensures
 
-pub returns-in-Err-Refused : goal.returns-in-Err-Refused
-returns-in-Err-Refused g c =
-    let refused = rw c.in-Err-Refused.field-0-is at c.in-Err-Refused.ensures.refused in
+pub returns-in_ok-refused-in-Err : goal.returns-in_ok-refused-in-Err
+returns-in_ok-refused-in-Err g c =
+    let refused : Refuses (g.D.Document.nodes c.args.doc.now) (tokens c.args.ptr) c.in_ok-refused-in-Err.field-0 = search rules in
     landing_refused _ _ _ _ refused c.landing_before.ensures
