@@ -9,7 +9,7 @@ use std::fmt;
 
 /// Why a call that may allocate failed. In both cases everything that was lent to the call is unchanged.
 ///
-/// ```text
+/// ```rust
 /// let fault = PointerBuf::from_text(alloc, "size").err().ok_or("an error")?;
 /// assert_eq!(rt; fault, Fault::Refused(ParseError::NoLeadingSlash));
 /// ```
@@ -24,7 +24,7 @@ pub enum Fault<E> {
 impl<E> Fault<E> {
     /// Returns the error of the call, and a failed allocation as an `Err` that `?` passes on.
     ///
-    /// ```text
+    /// ```rust
     /// let fault = PointerBuf::from_text(alloc, "size").err().ok_or("an error")?;
     /// assert_eq!(rt; fault.refused()?, ParseError::NoLeadingSlash);
     /// ```
@@ -43,9 +43,9 @@ impl<E> Fault<E> {
 
     /// Converts the error of the call by `op`, and leaves a failed allocation unchanged.
     ///
-    /// ```text
+    /// ```rust
     /// let fault = PointerBuf::from_text(alloc, "/~").err().ok_or("an error")?;
-    /// assert_eq!(rt; fault.map(|error| error.complete_offset()), Fault::Refused(1));
+    /// assert_eq!(rt; fault.map(|error| error.source_offset()), Fault::Refused(1));
     /// ```
     pub fn map<F, O: FnOnce(E) -> F>(self, op: O) -> Fault<F>
         requires { ForRefused self (O.pre op) }

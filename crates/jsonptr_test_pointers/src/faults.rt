@@ -23,6 +23,41 @@ fn both_faults(rt: HostRuntime) {
     assert!(rt; refused_or_full(1).is_ok());
 }
 
+#[test]
+fn fault(rt: HostRuntime) -> Result<(), Fail> {
+    let alloc = rt.alloc();
+    let fault = PointerBuf::from_text(alloc, "size")
+        .err()
+        .ok_or("an error")?;
+    assert_eq!(rt; fault, Fault::Refused(ParseError::NoLeadingSlash));
+    Ok(())
+}
+
+#[test]
+fn refused(rt: HostRuntime) -> Result<(), Fail> {
+    let alloc = rt.alloc();
+    let fault = PointerBuf::from_text(alloc, "size")
+        .err()
+        .ok_or("an error")?;
+    assert_eq!(rt; fault.refused()?, ParseError::NoLeadingSlash);
+    assert!(rt; Fault::<ParseError>::Memory(AllocError).refused().is_err());
+    Ok(())
+}
+
+#[test]
+fn map(rt: HostRuntime) -> Result<(), Fail> {
+    let alloc = rt.alloc();
+    let fault = PointerBuf::from_text(alloc, "/~").err().ok_or("an error")?;
+    assert_eq!(rt; fault.map(|error| error.source_offset()), Fault::Refused(1));
+    assert_eq!(rt;
+        Fault::<u8>::Memory(AllocError).map(|n| n / 2),
+        Fault::Memory(AllocError)
+    );
+    assert_ne!(rt; Fault::Refused(1), Fault::Memory(AllocError));
+    assert_ne!(rt; Fault::Refused(1), Fault::Refused(2));
+    Ok(())
+}
+
 /// The displayed text of an error, through the bound.
 fn told<E: Error>(rt: &HostRuntime, error: &E) -> Result<String, Fail> {
     shown(rt, error)

@@ -56,10 +56,9 @@ fn resolve_mut_by_pointer(rt: HostRuntime) -> Result<(), Fail> {
 fn error(rt: HostRuntime) -> Result<(), Fail> {
     let alloc = rt.alloc();
     let document = json!(in alloc; {"sizes": [3, 5]})?;
-    match Pointer::parse("/sizes/2/unit")?.resolve(alloc, &document) {
-        Err(Fault::Refused(error)) => assert_eq!(rt; (error.position(), error.offset()), (1, 6)),
-        _ => return Err("a refusal".into()),
-    }
+    let found = Pointer::parse("/sizes/2/unit")?.resolve(alloc, &document);
+    let error = found.err().ok_or("an error")?.refused()?;
+    assert_eq!(rt; (error.position(), error.offset()), (1, 6));
     Ok(())
 }
 

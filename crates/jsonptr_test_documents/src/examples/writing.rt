@@ -74,10 +74,9 @@ fn error(rt: HostRuntime) -> Result<(), Fail> {
     let alloc = rt.alloc();
     let mut document = json!(in alloc; {"sizes": [3, 5]})?;
     let place = Pointer::parse("/sizes/3")?;
-    match place.assign(alloc, &mut document, Value::from(8)) {
-        Err(Fault::Refused(error)) => assert_eq!(rt; (error.position(), error.offset()), (1, 6)),
-        _ => return Err("a refusal".into()),
-    }
+    let assigned = place.assign(alloc, &mut document, Value::from(8));
+    let error = assigned.err().ok_or("an error")?.refused()?;
+    assert_eq!(rt; (error.position(), error.offset()), (1, 6));
     Ok(())
 }
 

@@ -1,5 +1,5 @@
 //! Examples of owned pointers.
-use jsonptr::{Fault, Pointer, PointerBuf, ReplaceError, Token};
+use jsonptr::{Pointer, PointerBuf, ReplaceError, Token};
 use std::borrow::CowStr;
 use std::test::Fail;
 
@@ -149,9 +149,8 @@ fn clear(rt: HostRuntime) -> Result<(), Fail> {
 fn replace_error(rt: HostRuntime) -> Result<(), Fail> {
     let alloc = rt.alloc();
     let mut pointer = PointerBuf::from_text(alloc, "/lines/7")?;
-    match pointer.replace(2, Token::from_number(alloc, 0)?) {
-        Err(Fault::Refused(error)) => assert_eq!(rt; error, ReplaceError { index: 2, count: 2 }),
-        _ => return Err("a refusal".into()),
-    }
+    let replaced = pointer.replace(2, Token::from_number(alloc, 0)?);
+    let error = replaced.err().ok_or("an error")?.refused()?;
+    assert_eq!(rt; error, ReplaceError { index: 2, count: 2 });
     Ok(())
 }
