@@ -3,6 +3,9 @@ use Rattle.std.proofs.Common.{Bool, true, false, not, IsTrue, ◌↔◌, true≢
 use Rattle.serde_json.specs.Data.{Data, null}
 use Rattle.jsonptr.specs.Text.{Text, text}
 use Rattle.jsonptr.specs.Index.{Reads, IsWithinOrNext}
+use Rattle.jsonptr.specs.Fault.{IfRefused}
+use Rattle.jsonptr.specs.Types.Fault.{Fault}
+use Rattle.jsonptr.specs.Types.Fault.TheVariants.{Refused, Memory}
 use Rattle.jsonptr.specs.Types.Index.{Index}
 use Rattle.jsonptr.specs.Types.OutOfBoundsError.{OutOfBoundsError}
 use Rattle.jsonptr.specs.Types.ParseIndexError.{ParseIndexError}
@@ -28,8 +31,8 @@ use Rattle.jsonptr_walk.specs.PrivatePutting.{HasNoPlace}
 use Rattle.jsonptr_walk.proofs.AssignLemmas.{no_index_place, above_place}
 use Rattle.jsonptr_patch.specs.Inserting.{with_place}
 use Rattle.jsonptr_patch.specs.Adding.{MeansPlace, AddsUnder, AddsBelow, LacksTarget, LacksPlace}
-use Rattle.jsonptr_patch.specs.Operating.{Takes, IsProperFront}
-use Rattle.jsonptr_patch.specs.PrivateAdding.{HasRoomAt, Inserts}
+use Rattle.jsonptr_patch.specs.Operating.{Takes, IsProperFront, RefusesAdd}
+use Rattle.jsonptr_patch.specs.PrivateAdding.{HasRoomAt, Inserts, told}
 
 -- what the tokens name
 
@@ -170,6 +173,11 @@ parent_lacks n tokens front x e split r = (
     why = r.why;
   },
 )
+
+-- so a fault of following them, reported for an operation, is one of adding
+pub parent_refused : (T U : Type 0) (n : NodeMap) (k : ℕ) (fault : Fault ResolveError) (tokens front : List Text) (x : Text) → tokens ≡ front ++ x ∷ [] → IfRefused {T = T} (Err fault) (Refuses n front) → IfRefused {T = U} (Err (told k fault)) (RefusesAdd n k tokens)
+parent_refused T U n k (Refused e) tokens front x split r = (refl, parent_lacks n tokens front x e split r)
+parent_refused T U n k (Memory e) tokens front x split r = tt
 
 -- a copy of what the tokens name
 pub found_copy : (d v w : Data) (tokens : List Text) → FindsValue d tokens v → w ≡ v → Finds (nodes d) tokens (nodes w)

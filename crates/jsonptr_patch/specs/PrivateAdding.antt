@@ -1,6 +1,6 @@
 -- Words of private clauses alone: what stands where a value is added below, and a fault of following, told as one of
 -- an operation. No public clause cites them, so nothing here has to be believed.
-use Rattle.std.specs.Prelude.{◌≡◌, ℕ, ◌<◌, ◌≤◌, ◌^◌, [], Option, Some, ⊤}
+use Rattle.std.specs.Prelude.{◌≡◌, ℕ, ◌<◌, ◌≤◌, ◌^◌, [], Option, Some}
 use Rattle.serde_json.specs.View.{view}
 use Rattle.serde_json.specs.declared.value.Value.{Value}
 use Rattle.jsonptr.specs.Node.{Scalar, Label, an_object, an_array, a_leaf, NodeMap}
@@ -31,11 +31,6 @@ pub record Inserts (n : NodeMap) (i : ℕ) (v m : NodeMap) : Type 0 where
 -- the map of a value
 abbrev pub map_of_value : Value → NodeMap
 map_of_value v = nodes (view v)
-
--- P holds of the refusal, if there is one
-abbrev pub ForRefusal : {E : Type 0} → Fault E → (E → Type 0) → Type 0
-ForRefusal (Refused e) P = P e
-ForRefusal (Memory e) P = ⊤
 
 -- a fault of following is that of the operation with this number
 abbrev pub told : ℕ → Fault Error → Fault PatchError

@@ -14,6 +14,7 @@ ghost use Rattle.jsonptr_patch.specs.PrivateAdding.{IsParent};
 
 use crate::inserting::insert_at;
 use crate::operation::PatchError;
+use crate::taking::no_target;
 use jsonptr::{Fault, Pointer, Token, assign, resolve};
 use serde_json::Value;
 use std::alloc::{AllocError, Global};
@@ -181,10 +182,6 @@ pub fn add(
                 offset: parent.len(),
             },
         })),
-        Err(Fault::Refused(cause)) => Err(Fault::Refused(PatchError::NoTarget {
-            operation: number,
-            cause,
-        })),
-        Err(Fault::Memory(error)) => Err(Fault::Memory(error)),
+        Err(fault) => Err(no_target(number, fault)),
     }
 }

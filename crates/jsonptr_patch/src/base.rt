@@ -83,11 +83,10 @@ pub fn standing(alloc: Global, doc: &Value, base: Pointer<'_>) -> Result<Pointer
 {
     match base.resolve(alloc, doc) {
         Ok(_) => base.to_buf(alloc),
-        Err(Fault::Refused(error)) => match base.get(..error.position()) {
+        Err(fault) => match base.get(..fault.refused()?.position()) {
             Some(front) => front.to_buf(alloc),
             None => unreachable!(),
         },
-        Err(Fault::Memory(error)) => Err(error),
     }
 }
 

@@ -54,7 +54,7 @@ pub enum Operation {
 const TEST_FAILED: &str = "test failed";
 
 /// Why an operation of a patch is refused. `operation` is its place in the list, from 0.
-#[derive(Debug, PartialEq, Eq, Drop, Error)]
+#[derive(Clone, Debug, PartialEq, Eq, Drop, Error)]
 pub enum PatchError {
     /// A pointer names no value that the operation works on: the one at `from` or `path`, or the one below
     /// which something is added, where that is none or a scalar.

@@ -103,8 +103,7 @@ fn apply_one(
 {
     match apply_cut(alloc, copy, base, number, operation) {
         Ok(()) => Ok(()),
-        Err(Fault::Refused(error)) => Err(Fault::Refused(told_behind(base, error))),
-        Err(Fault::Memory(error)) => Err(Fault::Memory(error)),
+        Err(fault) => Err(Fault::Refused(told_behind(base, fault.refused()?))),
     }
 }
 

@@ -2,14 +2,14 @@
 ghost use Rattle.std.specs.Prelude.{◌≡◌, ◌↔◌, IfOk, OnErr, IsTrue};
 ghost use Rattle.serde_json.specs.View.{view};
 ghost use Rattle.jsonptr.specs.Delete.{NamesNothing};
-ghost use Rattle.jsonptr.specs.Fault.{IfRefused};
+ghost use Rattle.jsonptr.specs.Fault.{IfRefused, ForRefused};
 ghost use Rattle.jsonptr.specs.Following.{Finds};
 ghost use Rattle.jsonptr.specs.Json.{nodes, KeysAscend};
 ghost use Rattle.jsonptr.specs.Node.{NodeMap};
 ghost use Rattle.jsonptr.specs.Pointer.{tokens};
 ghost use Rattle.jsonptr.specs.Resolve.{Refuses, PutsAt};
 ghost use Rattle.jsonptr_patch.specs.Operating.{Takes, IsProperFront, RefusesTarget};
-ghost use Rattle.jsonptr_patch.specs.PrivateAdding.{ForRefusal, told};
+ghost use Rattle.jsonptr_patch.specs.PrivateAdding.{told};
 
 use crate::operation::PatchError;
 use jsonptr::{Fault, Pointer, ResolveMut, resolve};
@@ -21,19 +21,16 @@ use std::mem;
 pub fn no_target(number: usize, fault: Fault<resolve::Error>) -> Fault<PatchError>
     ensures { result ≡ told number fault }
 {
-    match fault {
-        Fault::Refused(cause) => Fault::Refused(PatchError::NoTarget {
-            operation: number,
-            cause,
-        }),
-        Fault::Memory(error) => Fault::Memory(error),
-    }
+    fault.map(|cause| PatchError::NoTarget {
+        operation: number,
+        cause,
+    })
 }
 
 /// Why the pointer names nothing.
 fn refusal(alloc: Global, doc: &Value, ptr: Pointer<'_>) -> Fault<resolve::Error>
     requires { NamesNothing (nodes (view doc.now)) (tokens ptr) }
-    ensures { ForRefusal result (Refuses (nodes (view doc.now)) (tokens ptr.entry)) }
+    ensures { ForRefused result (Refuses (nodes (view doc.now)) (tokens ptr.entry)) }
 {
     match ptr.resolve(alloc, doc) {
         Ok(_) => unreachable!(),
