@@ -4,7 +4,7 @@ ghost use Rattle.std.specs.Prelude.{◌≡◌, ◌↔◌, [], All, IsTrue, IfOk}
 ghost use Rattle.serde_json.specs.View.{view};
 ghost use Rattle.jsonptr_uses.specs.Checking.{kind_of, IsMet, AreFailing};
 
-use jsonptr::{Fault, Pointer};
+use jsonptr::Pointer;
 use serde_json::Value;
 use std::alloc::{AllocError, Global};
 
@@ -61,8 +61,10 @@ fn is_met(alloc: Global, document: &Value, requirement: &Required<'_>) -> Result
 {
     match requirement.pointer.resolve(alloc, document) {
         Ok(value) => Ok(type_of(value) == requirement.kind),
-        Err(Fault::Refused(_error)) => Ok(false),
-        Err(Fault::Memory(error)) => Err(error),
+        Err(fault) => {
+            fault.refused()?;
+            Ok(false)
+        }
     }
 }
 

@@ -195,8 +195,10 @@ fn array_len(
 {
     match pointer.resolve(alloc, document) {
         Ok(value) => Ok(len_of(value)),
-        Err(Fault::Refused(_error)) => Ok(None),
-        Err(Fault::Memory(error)) => Err(error),
+        Err(fault) => {
+            fault.refused()?;
+            Ok(None)
+        }
     }
 }
 

@@ -10,8 +10,6 @@ pub mod overlay;
 pub mod patches;
 pub mod references;
 pub mod settings;
-pub mod toml_settings;
-pub mod toml_writes;
 pub mod undoing;
 pub mod walking;
 pub mod writes;

@@ -44,8 +44,10 @@ impl Resolve for Overlay {
     fn resolve(&self, alloc: Global, ptr: Pointer<'_>) -> Result<&Value, Fault<resolve::Error>> {
         match ptr.resolve(alloc, &self.upper) {
             Ok(value) => Ok(value),
-            Err(Fault::Refused(_)) => ptr.resolve(alloc, &self.lower),
-            Err(Fault::Memory(error)) => Err(Fault::Memory(error)),
+            Err(fault) => {
+                fault.refused()?;
+                ptr.resolve(alloc, &self.lower)
+            }
         }
     }
 }

@@ -86,9 +86,7 @@ fn find<'v>(
         × (e ≡ Missing cause)
         × Refuses (nodes (view document.now)) (tokens pointer.entry) cause) }
 {
-    match pointer.resolve(alloc, document) {
-        Ok(value) => Ok(value),
-        Err(Fault::Refused(error)) => Err(Fault::Refused(ReferenceError::Missing(error))),
-        Err(Fault::Memory(error)) => Err(Fault::Memory(error)),
-    }
+    pointer
+        .resolve(alloc, document)
+        .map_err(|fault| fault.map(ReferenceError::Missing))
 }

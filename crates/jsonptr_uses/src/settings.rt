@@ -21,7 +21,8 @@ use jsonptr::{Fault, Pointer, Resolve, assign};
 use serde_json::Value;
 use std::alloc::{AllocError, Global};
 
-/// The value of the highest layer in which the pointer names one, or `None` where it names nothing in any.
+/// The value of the highest layer in which the pointer names one, or `None` where it names nothing in any. The layers
+/// are documents of any kind.
 pub fn get<'v, D: Resolve>(
     alloc: Global,
     layers: &'v [D],
@@ -39,8 +40,9 @@ where
     for layer in layers {
         match layer.resolve(alloc, pointer) {
             Ok(value) => return Ok(Some(value)),
-            Err(Fault::Refused(_error)) => {}
-            Err(Fault::Memory(error)) => return Err(error),
+            Err(fault) => {
+                fault.refused()?;
+            }
         }
     }
     Ok(None)

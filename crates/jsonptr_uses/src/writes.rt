@@ -10,13 +10,15 @@ ghost use Rattle.jsonptr.specs.Json.{nodes, FindsValue, KeysAscend};
 ghost use Rattle.jsonptr.specs.Pointer.{tokens};
 ghost use Rattle.jsonptr.specs.Removing.{Deletes};
 ghost use Rattle.jsonptr.specs.Resolve.{PutsAt};
+ghost use Rattle.jsonptr.specs.TomlValue.{nodes as toml_nodes};
+ghost use Rattle.toml.specs.View.{view as toml_view};
 
 use jsonptr::{Fault, Pointer, ResolveMut, assign, resolve};
 use serde_json::Value;
 use std::alloc::{AllocError, Global};
 use std::mem;
 
-/// Puts a value where a pointer leads, and gives back what stood there.
+/// Replaces the value that a pointer names in a document of any kind, and returns the old one.
 pub fn replace<D: ResolveMut>(
     document: &mut D,
     alloc: Global,
@@ -31,8 +33,8 @@ pub fn replace<D: ResolveMut>(
     Ok(mem::replace(place, value))
 }
 
-/// The same at a JSON document: its map has the value's map at the path that the pointer names, and stays as
-/// it was where there is none.
+/// [`replace`] at a JSON document: its map has the value's map at the path that the pointer names, and is unchanged
+/// where there is none.
 pub fn replace_json(
     document: &mut Value,
     alloc: Global,
@@ -47,9 +49,23 @@ pub fn replace_json(
     replace(document, alloc, pointer, value)
 }
 
-/// Assigns a value where a pointer leads in a JSON document, and gives back what stood there. The document's map
-/// becomes the one that assigning makes, with the keys of its objects in order if they were, and stays as it was
-/// where the value lands nowhere.
+/// [`replace`] at a TOML document, with the same clauses.
+pub fn replace_toml(
+    document: &mut toml::Value,
+    alloc: Global,
+    pointer: Pointer<'_>,
+    value: toml::Value,
+) -> Result<toml::Value, Fault<resolve::Error>>
+    ensures written { IfOk result (λ _.
+        PutsAt (toml_nodes (toml_view document.old)) (tokens pointer.entry)
+        (toml_nodes (toml_view value)) (toml_nodes (toml_view document.new))) }
+    ensures stays { OnErr result (toml_view document.new ≡ toml_view document.old) }
+{
+    replace(document, alloc, pointer, value)
+}
+
+/// Assigns a value at a pointer in a JSON document, and returns the old one. The document's map becomes the one that
+/// assigning makes, with the keys of its objects in order if they were, and is unchanged where the value lands nowhere.
 pub fn assign_json(
     document: &mut Value,
     alloc: Global,
@@ -68,7 +84,7 @@ pub fn assign_json(
     pointer.assign(alloc, document, value)
 }
 
-/// Takes the value that a pointer names out of a JSON document, and gives it back; at the root, null is left.
+/// Removes the value that a pointer names from a JSON document, and returns it. Removing the root leaves `null`.
 pub fn delete_json(
     document: &mut Value,
     alloc: Global,

@@ -1,11 +1,10 @@
 //! Layered settings, references, an overlay, a checker and a walk.
-use jsonptr::{Fault, Pointer};
+use jsonptr::Pointer;
 use jsonptr_uses::checking::{Kind, Required, violations};
 use jsonptr_uses::conditions::{len_of_constant, len_of_known, place_of_fault};
 use jsonptr_uses::overlay::{Overlay, found_in};
 use jsonptr_uses::references::{ReferenceError, resolve_reference};
 use jsonptr_uses::settings::{get, get_json, get_or};
-use jsonptr_uses::toml_settings::get_toml;
 use jsonptr_uses::walking::pointers;
 use serde_json::Value;
 use std::alloc::Global;
@@ -54,7 +53,7 @@ fn answered_toml(alloc: Global, pointer: &str) -> Result<Option<i64>, Fail> {
         toml::Value::from_str(alloc, "{ size = { w = 1 } }")?,
         toml::Value::from_str(alloc, "{ size = { w = 3, h = 2 } }")?,
     ];
-    let found = get_toml(alloc, &layers, Pointer::parse(pointer)?)?;
+    let found = get(alloc, &layers, Pointer::parse(pointer)?)?;
     Ok(found.and_then(|value| value.as_integer()))
 }
 
@@ -165,12 +164,11 @@ fn led(alloc: Global, pointer: &str, steps: usize) -> Result<String, Fail> {
     let document = Value::from_str(alloc, text)?;
     match resolve_reference(alloc, &document, Pointer::parse(pointer)?, steps) {
         Ok(value) => Ok(value.to_string(alloc)?),
-        Err(Fault::Refused(ReferenceError::NotAPointer(error))) => Ok(format!(in alloc;
-            "{error}"
-        )?),
-        Err(Fault::Refused(ReferenceError::Missing(error))) => Ok(format!(in alloc; "{error}")?),
-        Err(Fault::Refused(ReferenceError::TooLong)) => Ok(String::from_str(alloc, "too long")?),
-        Err(Fault::Memory(error)) => Err(error.into()),
+        Err(fault) => match fault.refused()? {
+            ReferenceError::NotAPointer(error) => Ok(format!(in alloc; "{error}")?),
+            ReferenceError::Missing(error) => Ok(format!(in alloc; "{error}")?),
+            ReferenceError::TooLong => Ok(String::from_str(alloc, "too long")?),
+        },
     }
 }
 

@@ -1,4 +1,4 @@
-use Rattle.std.proofs.Common.{sym, subst}
+use Rattle.std.proofs.Common.{rules, sym, subst}
 use Rattle.std.proofs.lemmas.List.{take_all}
 use Rattle.std.proofs.lemmas.List.Elements.{All-more, All-same}
 use Rattle.jsonptr.specs.Pointer.{tokens}
@@ -10,10 +10,10 @@ returns-in-Ok-clause-answer g c = highest_here _ _ c.args.layers.now c.loop-laye
 
 pub loop-layer-preserved : goal.loop-layer-preserved
 loop-layer-preserved g c =
-    let refused = rw c.in-Err-Refused.field-0-is at c.in-Err-Refused.ensures.refused in
+    let refused : g.D.Resolve.refuses c.layer-item.result (tokens c.args.pointer) c.in_ok-refused-in-Err.field-0 = search rules in
     let lacks : g.row.D.Denot → Type 0 = λ layer. (e : g.row.D-Error.Denot) × g.D.Resolve.refuses layer (tokens c.args.pointer) e in
     All-more lacks c.args.layers.now c.loop-layer.layer-index c.layer-item.result c.loop-layer-test.true c.loop-layer.invariant
-    (subst lacks c.layer-item.is (c.in-Err-Refused._error, refused))
+    (subst lacks c.layer-item.is (c.in_ok-refused-in-Err.field-0, refused))
 
 pub returns-clause-answer : goal.returns-clause-answer
 returns-clause-answer g c =
