@@ -10,7 +10,9 @@ use std::fmt;
 /// Why a call that may allocate failed. In both cases everything that was lent to the call is unchanged.
 ///
 /// ```rust
-/// let fault = PointerBuf::from_text(alloc, "size").err().ok_or("an error")?;
+/// let fault = PointerBuf::from_text(alloc, "size")
+///     .err()
+///     .ok_or("an error")?;
 /// assert_eq!(rt; fault, Fault::Refused(ParseError::NoLeadingSlash));
 /// ```
 #[derive(Debug, PartialEq, Eq, Drop)]
@@ -25,7 +27,9 @@ impl<E> Fault<E> {
     /// Returns the error of the call, and a failed allocation as an `Err` that `?` passes on.
     ///
     /// ```rust
-    /// let fault = PointerBuf::from_text(alloc, "size").err().ok_or("an error")?;
+    /// let fault = PointerBuf::from_text(alloc, "size")
+    ///     .err()
+    ///     .ok_or("an error")?;
     /// assert_eq!(rt; fault.refused()?, ParseError::NoLeadingSlash);
     /// ```
     ///
