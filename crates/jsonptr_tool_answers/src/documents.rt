@@ -90,8 +90,7 @@ where
             let text = value.shown(answer.alloc())?;
             Ok(answer.text("value", text.as_str())?)
         }
-        Err(Fault::Refused(error)) => labels::resolve(answer, &error, pointer),
-        Err(Fault::Memory(error)) => Err(Halt::Memory(error)),
+        Err(fault) => labels::resolve(answer, &fault.refused()?, pointer),
     }
 }
 
@@ -115,8 +114,7 @@ where
             let text = old.shown(answer.alloc())?;
             Ok(answer.text("old", text.as_str())?)
         }
-        Err(Fault::Refused(error)) => labels::resolve(answer, &error, pointer),
-        Err(Fault::Memory(error)) => Err(Halt::Memory(error)),
+        Err(fault) => labels::resolve(answer, &fault.refused()?, pointer),
     }
 }
 
@@ -154,7 +152,6 @@ where
     let value = read::<D>(answer.alloc(), value)?;
     match document.assign(answer.alloc(), Pointer::parse(pointer.as_str())?, value) {
         Ok(old) => given_back(answer, old),
-        Err(Fault::Refused(error)) => labels::assign(answer, &error, pointer),
-        Err(Fault::Memory(error)) => Err(Halt::Memory(error)),
+        Err(fault) => labels::assign(answer, &fault.refused()?, pointer),
     }
 }

@@ -2,7 +2,7 @@
 use crate::answer::{Answer, List};
 use crate::halt::Halt;
 use crate::texts::order_name;
-use jsonptr::{Component, Fault, Pointer, PointerBuf, ReplaceError, Token};
+use jsonptr::{Component, Pointer, PointerBuf, ReplaceError, Token};
 use std::alloc::{AllocError, Global};
 use std::borrow::CowStr;
 use std::ops::Bound;
@@ -292,12 +292,12 @@ fn replace(
     let token = Token::new(answer.alloc(), CowStr::Borrowed(text))?;
     match pointer.replace(place, token) {
         Ok(old) => Ok(encoded(answer, "replace", old)?),
-        Err(Fault::Refused(error)) => {
+        Err(fault) => {
+            let error = fault.refused()?;
             let ReplaceError { index, count } = error;
             let text = format!(in answer.alloc(); "{index},{count} {error}")?;
             Ok(answer.text("replace", text.as_str())?)
         }
-        Err(Fault::Memory(error)) => Err(Halt::Memory(error)),
     }
 }
 
