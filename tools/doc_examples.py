@@ -1,7 +1,7 @@
 """Checks that the code that readers copy was proved and run.
 
-Each code block of docs/CALLING.md and of the README, and each example in a doc comment of a library, must be in a caller
-or a test, line by line.
+Each code block of the guide (crates/jsonptr/CALLING.md), each Rust block of a README, and each example in a doc comment of
+a library must be in a caller or a test, line by line.
 """
 import glob
 import os
@@ -57,12 +57,13 @@ def check(blocks, sources):
 def main():
     callers = [lines(read(f)) for f in files("jsonptr_uses", "rt", "antt") + files("jsonptr_example", "rt")]
     tests = [lines(read(f)) for f in files("jsonptr_test_*", "rt")]
-    guide = check(BLOCK.findall(read(f"{TOP}/docs/CALLING.md")), callers)
-    readme = check(CODE.findall(read(f"{TOP}/README.md")), callers + tests)
+    guide = check(BLOCK.findall(read(f"{TOP}/crates/jsonptr/CALLING.md")), callers)
+    readmes = [f"{TOP}/README.md", *sorted(glob.glob(f"{TOP}/crates/*/README.md"))]
+    shown = check([block for f in readmes for block in CODE.findall(read(f))], callers + tests)
     libraries = [f for f in files("*", "rt") if "/jsonptr_test_" not in f]
     docs = check([block for f in libraries for block in examples(f)], callers + tests)
     print(
-        f"doc_examples: {guide + readme} code blocks of the guide and the README, and {docs} examples of doc comments, "
+        f"doc_examples: {guide + shown} code blocks of the guide and the READMEs, and {docs} examples of doc comments, "
         "are in a caller or a test"
     )
 

@@ -1,17 +1,20 @@
-//! A program over `jsonptr`: builds a pointer, and finds what it names in a JSON document.
+//! A program over `jsonptr`: reads, replaces and adds values of a JSON document, and prints an error.
 #![tactic(auto)]
 
-use jsonptr::{Pointer, Token};
+use jsonptr::Pointer;
 use serde_json::Value;
-use std::borrow::CowStr;
 
 fn main(rt: HostRuntime) -> anyhow::Result<()> {
     let alloc = rt.alloc();
-    let settings = Value::from_str(alloc, r#"{"window":{"width":800,"a/b":[1,2]}}"#)?;
-    let mut pointer = Pointer::parse("/window")?.to_buf(alloc)?;
-    pointer.push_back(Token::new(alloc, CowStr::Borrowed("a/b"))?)?;
-    pointer.push_back(Token::from_number(alloc, 1)?)?;
-    let value = pointer.as_ptr().resolve(alloc, &settings)?;
-    println!(rt; "{pointer} is {value}")?;
+    let mut config = Value::from_str(alloc, r#"{"window":{"width":800}}"#)?;
+    let width = Pointer::parse("/window/width")?;
+    println!(rt; "{}", width.resolve(alloc, &config)?)?;
+    let old = width.assign(alloc, &mut config, Value::from(1024))?;
+    let recent = Pointer::parse("/recent/-/width")?;
+    recent.assign(alloc, &mut config, old.unwrap_or(Value::Null))?;
+    println!(rt; "{config}")?;
+    if let Err(error) = Pointer::parse("/recent/0/height")?.resolve(alloc, &config) {
+        println!(rt; "{error}")?;
+    }
     Ok(())
 }
