@@ -1,11 +1,11 @@
--- Counting how many bytes from a place on pass a test.
+-- Counting how many bytes from an offset on pass a test.
 use Rattle.std.proofs.Common.{◌≡◌, ℕ, ◌+◌, ◌-◌, ◌<◌, ◌≤◌, Bool, true, false, cond, length, get_or, drop, refl, ap, ◌∙◌, arith, drop-cons, add-one}
 use Rattle.std.proofs.lemmas.List.{at_drop_all}
 use Rattle.std.specs.List.{prefix_len}
 use Rattle.jsonptr_grammar.specs.Text.{Text}
 
 module _ (p : ℕ → Bool) (s : Text) where
-  -- all from a place up to i pass
+  -- all from an offset up to i pass
   pub record Counted (first i : ℕ) : Type 0 where
     pub upto : first ≤ i
     pub count : prefix_len p (drop first s) + first ≡ i + prefix_len p (drop i s)

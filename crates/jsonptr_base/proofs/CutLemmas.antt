@@ -8,7 +8,7 @@ use Rattle.jsonptr_grammar.specs.Grammar.{IsToken, end, plain, tilde, slash}
 use Rattle.jsonptr_grammar.proofs.EscapeLemmas.{unesc-cons}
 use Rattle.jsonptr_base.specs.Private.{IsEscapeCut}
 
--- what stands around the first `~` of a token's text
+-- what is around the first `~` of a token's text
 pub record EscapeAt (s : Text) (at : ℕ) : Type 0 where
   pub inside : suc at < length s
   pub ascii : get_or s (suc at) 0 < 128
@@ -47,7 +47,7 @@ module _ (s escape : Text) (at : ℕ) (e : EscapeAt s at) (cut : escape ≡ drop
         shorter = omega arith;
       }
 
--- the text that stands for an escape, by the byte behind the `~`
+-- the text that an escape encodes, by the byte after the `~`
 pub stands_for_one : (b : ℕ) (of : Text) → b ≡ 49 → of ≡ 47 ∷ [] → of ≡ escaped_by b ∷ []
 stands_for_one b of one is = is ∙ rw one refl
 

@@ -1,5 +1,5 @@
--- Array indices: what the characters of a text tell of the number that it writes, and that a text and its
--- escape read alike.
+-- Array indices: what the characters of a text say about the number that it writes, and that a text and
+-- its escape read alike.
 use Rattle.std.proofs.Common.{◌≡◌, ◌≢◌, ℕ, suc, ◌+◌, ◌<◌, ◌≤◌, ◌^◌, Bool, true, false, not, cond, List, [], ◌∷◌, length, get_or, Option, Some, None, Result, Ok, Err, option_map, refl, sym, ap, ◌∙◌, subst, ⊎_elim, inl, inr, arith, position}
 use Rattle.std.specs.Prelude.{IsUtf8, nat_lt, nat_eq, ◌↔◌}
 use Rattle.std.specs.Char.{is_ascii_digit, digit_value}
@@ -15,7 +15,7 @@ use Rattle.std.proofs.lemmas.Str.Parse.{digit_at, numerals_by_value, tells_digit
 use Rattle.jsonptr_grammar.specs.Text.{Text, dec, esc}
 use Rattle.jsonptr_grammar.proofs.EscapeLemmas.{unesc-esc, IsUtf8-unesc, IsToken-esc, by_byte, length-le-esc, esc_one, chars-esc, esc-cons}
 use Rattle.jsonptr_grammar.proofs.DecLemmas.{dec_from_digits_length, esc-dec, AllDigits-dec, range-dec, chars-dec, dec-not_nil, digits_value-dec, length-dec_zero}
-use Rattle.jsonptr_base.specs.Index.{Reads, first_nondigit, index_text, IsWithin, IsWithinOrNext, place_in}
+use Rattle.jsonptr_base.specs.Index.{Reads, first_nondigit, index_text, IsWithin, IsWithinOrNext, position_in}
 use Rattle.jsonptr_base.specs.declared.index.OutOfBoundsError.{OutOfBoundsError}
 use Rattle.jsonptr_base.specs.declared.index.Index.{Index}
 use Rattle.jsonptr_base.specs.declared.index.Index.TheVariants.{Num, Next}
@@ -54,7 +54,7 @@ ascii_digits cs h i =
     (λ past. let e : get_or cs i 0 ≡ 0 = get_or_past cs i 0 past in omega arith)
     (cases_lt i (length cs))
 
--- a text in which no character is no digit is a text of digits
+-- a text in which each character is a digit is a text of digits
 pub digits_from_none : (s : Text) → IsUtf8 s → first_nondigit s ≡ None → AllDigits 10 s
 digits_from_none s u none =
     let all : AllDigits 10 (chars s) = digits_to_end (chars s) (test_failed _ _ none) in
@@ -81,7 +81,7 @@ not_zero s k alone is zero =
     let f : first_nondigit s ≡ None = ap first_nondigit e ∙ zero_digit in
     cc
 
--- what a parse of digits tells of the number
+-- what a parse of digits says about the number
 module _ (s : Text) (u : IsUtf8 s) (none : first_nondigit s ≡ None) (some : 0 < length s) (alone : get_or s 0 0 ≡ 48 → length s ≤ 1) where
   value_is : s ≡ dec (digits_value 10 s)
   value_is =
@@ -118,7 +118,7 @@ position-cons : (p : ℕ → Bool) (x : ℕ) (xs : List ℕ) (b : Bool) → p x 
 position-cons p x xs true e = rw (e, lt_true 0 (suc (length xs)) (omega arith)) refl
 position-cons p x xs false e = rw e (shift (prefix_len (λ y. not (p y)) xs) (length xs))
 
--- a character that is escaped is no digit
+-- a character that is escaped is not a digit
 position-esc : (cs : List ℕ) → position is_nondigit (esc cs) ≡ position is_nondigit cs
 position-esc [] = refl
 position-esc (c ∷ cs) =
@@ -242,7 +242,7 @@ reads_answer s (Err (InvalidCharacter k)) h = sym (answer-character s k h.0 h.1 
 pub Reads_one : (s : Text) (r q : Result Index ParseIndexError) → Reads s r → Reads s q → r ≡ q
 Reads_one s r q h k = reads_answer s r h ∙ sym (reads_answer s q k)
 
--- a text of digits that is no `0` with more behind it
+-- a text of digits that is not a `0` with more after it
 reads_digits : (s : Text) → IsUtf8 s → first_nondigit s ≡ None → 0 < length s → (get_or s 0 0 ≡ 48 → length s ≤ 1) → (r : Result Index ParseIndexError) × Reads s r
 reads_digits s u none some alone =
     let is : s ≡ dec (digits_value 10 s) = value_is s u none some alone in
@@ -285,6 +285,6 @@ within_some Next len = (Err (record { length = len; index = len }), (refl, refl)
 pub or_next_some : (index : Index) (len : ℕ) → (r : Result ℕ OutOfBoundsError) × IsWithinOrNext index len r
 or_next_some index len =
     ⊎_elim
-    (λ (over : len < place_in len index). (Err (record { length = len; index = place_in len index }), (over, refl, refl)))
-    (λ (upto : place_in len index ≤ len). (Ok (place_in len index), (refl, upto)))
-    (cases_lt len (place_in len index))
+    (λ (over : len < position_in len index). (Err (record { length = len; index = position_in len index }), (over, refl, refl)))
+    (λ (upto : position_in len index ≤ len). (Ok (position_in len index), (refl, upto)))
+    (cases_lt len (position_in len index))

@@ -1,25 +1,29 @@
--- The scan of a token's text: what is known at a place before which no fault stands.
+-- The scan of a token's text: what is known at an offset before which there is no fault.
 use Rattle.std.specs.List.{All}
-use Rattle.std.proofs.Common.{◌≡◌, ◌≢◌, ℕ, ◌+◌, ◌-◌, ◌<◌, ◌≤◌, ◌⊎◌, Bool, true, length, get_or, refl, sym, ◌∙◌, ap, subst, inl, inr, ⊎_elim, arith, below_more, [], ◌++◌, drop, take, append-nil, append_assoc, length-append, drop-cons, add-one}
+use Rattle.std.proofs.Common.{◌≡◌, ◌≢◌, ℕ, ◌+◌, ◌-◌, ◌<◌, ◌≤◌, ◌⊎◌, Bool, true, length, get_or, refl, sym, ◌∙◌, ap, subst, inl, inr, ⊎_elim, arith, below_more, [], ◌++◌, drop, take, append-nil, append_assoc, length-append, drop-cons, add-one, ◌∷◌}
 use Rattle.std.proofs.lemmas.Bool.{cases_lt, eqb-true}
 use Rattle.std.specs.Str.{bytes_eq}
+use Rattle.std.specs.Cmp.Lexicographic.{slice_cmp}
+use Rattle.std.specs.Ordering.{nat_cmp}
+use Rattle.std.specs.declared.cmp.Ordering.TheVariants.{Less}
 use Rattle.std.proofs.lemmas.List.{at_drop_all, take-append-drop, length-take-le, get_or-take}
 use Rattle.std.proofs.lemmas.Slice.Eq.{bytes_eq-Decides}
 use Rattle.memchr.specs.Find.{Nowhere, Passes, is_byte, is_byte2}
 use Rattle.jsonptr_grammar.specs.Text.{Text, esc, escape_of, unesc}
-use Rattle.jsonptr_grammar.proofs.EscapeLemmas.{IsToken-plain_at, esc-append, esc-plain_at, unesc-plain_at, unesc-esc, esc_one}
+use Rattle.jsonptr_grammar.proofs.EscapeLemmas.{IsToken-plain_at, by_byte, esc-append, esc-cons, esc-plain_at, unesc-plain_at, unesc-esc, esc_one}
 use Rattle.jsonptr_grammar.specs.Grammar.{IsToken}
 use Rattle.jsonptr_grammar.specs.FirstFault.{IsSlashAt, EndsEscape}
 use Rattle.jsonptr_grammar.proofs.FaultLemmas.{token_or_fault}
+use Rattle.jsonptr_grammar.proofs.OrderLemmas.{front_less}
 use Rattle.jsonptr_grammar.proofs.ScanLemmas.{past_end}
 use Rattle.jsonptr_base.specs.Private.{IsPlainBefore}
-use Rattle.jsonptr_base.specs.Token.{TellsTokenFault}
+use Rattle.jsonptr_base.specs.Token.{IsEncodingErrorOf}
 use Rattle.jsonptr_base.specs.declared.token.InvalidEncoding.TheVariants.{Tilde, Slash}
 
 abbrev pub Spoils : Text → ℕ → Type 0
 Spoils s k = IsSlashAt s k ⊎ EndsEscape s k
 
--- no fault stands before i, and no tilde just before it
+-- there is no fault before i, and no tilde just before it
 pub record Scanned (s : Text) (i : ℕ) : Type 0 where
   pub none : (k : ℕ) → k < i → Spoils s k → ⊥
   pub no_tilde : 0 < i → get_or s (i - 1) 0 ≢ 126
@@ -30,12 +34,12 @@ scanned_start s i plain = record {
   no_tilde = λ above. (plain (i - 1) (omega arith)).0;
 }
 
--- the byte that stands before the next place
+-- the byte before the next offset
 at_last : (s : Text) (i : ℕ) → get_or s (i + 1 - 1) 0 ≡ get_or s i 0
 at_last s i = ap (λ (k : ℕ). get_or s k 0) (omega arith)
 
 module _ (s : Text) (i : ℕ) (h : Scanned s i) where
-  -- a place with no slash spoils nothing
+  -- an offset with no slash adds no fault
   fine : get_or s i 0 ≢ 47 → Spoils s i → ⊥
   fine slash f = ⊎_elim slash (λ (e : EndsEscape s i). h.no_tilde e.inside e.after_tilde) f
 
@@ -45,7 +49,7 @@ module _ (s : Text) (i : ℕ) (h : Scanned s i) where
     no_tilde = λ above is. tilde (sym (at_last s i) ∙ is);
   }
 
-  pub scanned_slash : get_or s i 0 ≡ 47 → TellsTokenFault s record { offset = i; source = Slash }
+  pub scanned_slash : get_or s i 0 ≡ 47 → IsEncodingErrorOf s record { offset = i; source = Slash }
   scanned_slash slash = record { place = record { here = inl slash; before = h.none }; cause = slash }
 
   module _ (tilde : get_or s i 0 ≡ 126) where
@@ -64,10 +68,10 @@ module _ (s : Text) (i : ℕ) (h : Scanned s i) where
         } in
         subst (λ (k : ℕ). Scanned s k) (omega arith) next
 
-    pub scanned_slash_next : get_or s (i + 1) 0 ≡ 47 → TellsTokenFault s record { offset = i + 1; source = Slash }
+    pub scanned_slash_next : get_or s (i + 1) 0 ≡ 47 → IsEncodingErrorOf s record { offset = i + 1; source = Slash }
     scanned_slash_next slash = record { place = record { here = inl slash; before = none_yet }; cause = slash }
 
-    pub scanned_tilde : get_or s (i + 1) 0 ≢ 48 → get_or s (i + 1) 0 ≢ 49 → get_or s (i + 1) 0 ≢ 47 → TellsTokenFault s record { offset = i + 1; source = Tilde }
+    pub scanned_tilde : get_or s (i + 1) 0 ≢ 48 → get_or s (i + 1) 0 ≢ 49 → get_or s (i + 1) 0 ≢ 47 → IsEncodingErrorOf s record { offset = i + 1; source = Tilde }
     scanned_tilde zero one slash =
         let ends : EndsEscape s (i + 1) = record { inside = omega arith; after_tilde = at_last s i ∙ tilde; no_zero = zero; no_one = one; no_slash = slash } in
         record { place = record { here = inr ends; before = none_yet }; cause = ends }
@@ -91,7 +95,7 @@ module _ (s : Text) (i : ℕ) (h : Scanned s i) where
     pub scanned_end : IsToken s
     scanned_end = ⊎_elim (λ token. token) (λ fault. absurd (unspoiled fault.0 fault.1.here)) (token_or_fault s)
 
--- ---- what the search for `~` and `/` tells
+-- ---- what the search for `~` and `/` finds
 
 is_other : (x : ℕ) → (is_byte2 126 47 x ≡ true → ⊥) → (x ≢ 126) × (x ≢ 47)
 is_other x other = (λ is. other (rw is refl), λ is. other (rw is refl))
@@ -109,7 +113,7 @@ plain_text s none =
     let tilde = λ (k : ℕ) (below : k < length s). (plain_before s 0 (length s) none k (omega arith) below).0 in
     (esc-plain_at s tilde (λ k below. (plain_before s 0 (length s) none k (omega arith) below).1), unesc-plain_at s tilde)
 
--- where no `~` stands, a text is its own decoded text
+-- a text without `~` is its own decoded text
 pub decoded_plain : (t : Text) → Nowhere (Passes (is_byte 126) (esc t)) 0 (length (esc t)) → esc t ≡ t
 decoded_plain t none =
     sym (unesc-plain_at (esc t) (λ k below is. none k (omega arith) below (rw is refl))) ∙ unesc-esc t
@@ -171,8 +175,16 @@ escaped_start s bytes front rest len cap i same inside plain f r room = record {
 
 -- ---- equal texts
 
--- a test of two encoded texts tells whether the decoded texts are equal
+-- comparing two encoded texts decides whether the decoded texts are equal
 pub equal_esc : (s t : Text) (r : Bool) → r ≡ bytes_eq (esc s) (esc t) → (r ≡ true → s ≡ t) × (s ≡ t → r ≡ true)
 equal_esc s t r e =
     let d = bytes_eq-Decides (esc s) (esc t) in
     (λ yes. esc_one s t (d.0 (sym e ∙ yes)), λ same. e ∙ d.1 (ap esc same))
+
+-- ---- the order of tokens
+
+-- the encoded text of a token is less than that of one that goes on after it
+pub front_esc_less : (s rest : Text) (b : ℕ) → slice_cmp nat_cmp (esc s) (esc (s ++ b ∷ rest)) ≡ Less
+front_esc_less s rest b =
+    rw (esc-append s (b ∷ rest))
+    (by_byte (λ c. slice_cmp nat_cmp (esc s) (esc s ++ esc (c ∷ rest)) ≡ Less) b (front_less (esc s) 126 (48 ∷ esc rest)) (front_less (esc s) 126 (49 ∷ esc rest)) (λ tilde slash. rw (esc-cons b rest tilde slash) (front_less (esc s) b (esc rest))))

@@ -13,11 +13,12 @@ use Rattle.jsonptr_base.specs.declared.index.OutOfBoundsError.{OutOfBoundsError}
 use Rattle.jsonptr_base.specs.declared.index.StringOrToken.{StringOrToken}
 use Rattle.jsonptr_base.specs.declared.index.StringOrToken.TheVariants.{String, Token}
 
--- the place, in characters, of the first character that is no ASCII digit
+-- `first_nondigit s` is the number of characters of `s` before the first that is not an ASCII digit
 abbrev pub first_nondigit : Text → Option ℕ
 first_nondigit s = position (λ c. not (is_ascii_digit c)) (chars s)
 
--- the text reads so as an array index: as the number whose decimal text it is, as `-`, or as no index
+-- `Reads s r`: parsing the text `s` as an array index returns `r`: the number whose decimal text
+-- `s` is, `Next` for `-`, or the error
 abbrev pub Reads : Text → Result Index ParseIndexError → Type 0
 Reads s (Ok (Num i)) = (s ≡ dec i) × (i < 2 ^ 64)
 Reads s (Ok Next) = s ≡ 45 ∷ []
@@ -27,58 +28,63 @@ Reads s (Err LeadingZeros) = (slice_index s 0 ≡ 48) × (1 < length s)
 Reads s (Err (InvalidCharacter offset)) =
     (slice_index s 0 ≢ 48) × (s ≢ 45 ∷ []) × (first_nondigit s ≡ Some offset)
 
--- the index is refused for the length, and the error tells both
+-- `IsBeyond index len e`: `index` is out of the bounds of an array of length `len`, and `e` holds
+-- both
 abbrev pub IsBeyond : Index → ℕ → OutOfBoundsError → Type 0
 IsBeyond (Num i) len e = (len ≤ i) × (e.length ≡ len) × (e.index ≡ i)
 IsBeyond Next len e = (e.length ≡ len) × (e.index ≡ len)
 
--- what an index is within an array of this length: the place below the length that it names, or refused
+-- `IsWithin index len r`: `r` is the number of `index` if it is less than `len`, and the error
+-- otherwise
 abbrev pub IsWithin : Index → ℕ → Result ℕ OutOfBoundsError → Type 0
 IsWithin index len (Ok place) = (index ≡ Num place) × (place < len)
 IsWithin index len (Err e) = IsBeyond index len e
 
--- the place that an index names in an array of this length: its number, or behind the last element
-abbrev pub place_in : ℕ → Index → ℕ
-place_in len (Num i) = i
-place_in len Next = len
+-- `position_in len index` is the number of `index` in an array of length `len`; that of `Next` is
+-- `len`
+abbrev pub position_in : ℕ → Index → ℕ
+position_in len (Num i) = i
+position_in len Next = len
 
--- what an index is where that place may be used too: the place, which is at most the length, or refused
+-- `IsWithinOrNext index len r`: `r` is the number of `index` if it is at most `len`, and the error
+-- otherwise
 abbrev pub IsWithinOrNext : Index → ℕ → Result ℕ OutOfBoundsError → Type 0
-IsWithinOrNext index len (Ok place) = (place ≡ place_in len index) × (place ≤ len)
+IsWithinOrNext index len (Ok place) = (place ≡ position_in len index) × (place ≤ len)
 IsWithinOrNext index len (Err e) =
-    (len < place_in len index) × (e.length ≡ len) × (e.index ≡ place_in len index)
+    (len < position_in len index) × (e.length ≡ len) × (e.index ≡ position_in len index)
 
--- the text of an index
+-- `index_text index` is the text of `index` in a token
 abbrev pub index_text : Index → Text
 index_text (Num i) = dec i
 index_text Next = 45 ∷ []
 
--- what the refusal of an index displays
+-- `bounds_message e` is what the error `e` of an index out of bounds displays
 abbrev pub bounds_message : OutOfBoundsError → Text
 bounds_message e = codes "index " ++ decimal e.index ++ codes " out of bounds (len: " ++ decimal e.length ++ codes ")"
 
--- what the refusal of a text displays
+-- `index_message e` is what the error `e` of a text that is not an index displays
 abbrev pub index_message : ParseIndexError → Text
 index_message (InvalidInteger cause) = codes "failed to parse token as an integer"
 index_message LeadingZeros = codes "token contained leading zeros, which are disallowed by RFC 6901"
 index_message (InvalidCharacter offset) = codes "failed to parse token as an index"
 
--- the text of a subject: that of the string, or the encoded one of the token
+-- `subject_text subject` is the string of the subject, or the encoded text of its token
 abbrev pub subject_text : StringOrToken → Text
 subject_text (String s) = string_bytes s
 subject_text (Token t) = esc t
 
--- how many `0` the text begins with
+-- `leading_zeros s` is the number of bytes `0` that the text `s` begins with
 abbrev pub leading_zeros : Text → ℕ
 leading_zeros s = prefix_len (λ b. b == 48) s
 
--- how many bytes stand from o on before the next ASCII digit, or before the end
+-- `nondigits_from o s` is the number of bytes of `s` from the offset `o` to the next ASCII digit,
+-- or to the end
 abbrev pub nondigits_from : ℕ → Text → ℕ
 nondigits_from o s = prefix_len (λ b. not (is_ascii_digit b)) (drop o s)
 
--- the label that the refusal puts on a text
-abbrev pub IsLabelled : ParseIndexError → Text → Option (List Mark) → Type 0
-IsLabelled (InvalidInteger cause) s labels = IsNoLabel labels
-IsLabelled LeadingZeros s labels = IsOneLabel (codes "leading zeros") 0 (leading_zeros s) labels
-IsLabelled (InvalidCharacter o) s labels =
+-- `IsIndexErrorLabelled e s labels`: `labels` are those of the error `e` on the text `s`
+abbrev pub IsIndexErrorLabelled : ParseIndexError → Text → Option (List Mark) → Type 0
+IsIndexErrorLabelled (InvalidInteger cause) s labels = IsNoLabel labels
+IsIndexErrorLabelled LeadingZeros s labels = IsOneLabel (codes "leading zeros") 0 (leading_zeros s) labels
+IsIndexErrorLabelled (InvalidCharacter o) s labels =
     IsOneLabel (codes "invalid character(s)") o (nondigits_from o s) labels

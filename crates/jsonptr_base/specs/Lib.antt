@@ -1,4 +1,4 @@
--- What contracts say of faults, reports, tokens and array indices.
+-- What contracts say about faults, reports, tokens and array indices.
 pub mod Fault
 pub mod Token
 pub mod Index

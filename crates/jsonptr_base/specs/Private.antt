@@ -1,14 +1,16 @@
--- Words of private clauses alone: how the passes over a token's bytes hand on to each other. No public clause
--- cites them, so nothing here has to be believed.
+-- What one pass over a token's bytes establishes for the next.
+--
+-- Used only by private contracts; no public contract depends on this file.
 use Rattle.std.specs.Prelude.{◌≡◌, ℕ, ◌<◌, ◌≢◌, ◌++◌, length, slice_index}
 use Rattle.jsonptr_grammar.specs.Text.{Text, unesc}
 use Rattle.jsonptr_grammar.specs.Grammar.{IsToken}
 
--- neither `~` nor `/` stands before i
+-- `IsPlainBefore s i`: the bytes of `s` before the offset `i` contain neither `~` nor `/`
 abbrev pub IsPlainBefore : Text → ℕ → Type 0
 IsPlainBefore s i = (k : ℕ) → k < i → (slice_index s k ≢ 126) × (slice_index s k ≢ 47)
 
--- a token's text cut around its first escape, which stands for `of`
+-- `IsEscapeCut s plain of rest`: the token's text `s` is `plain`, an escape sequence for `of`, and
+-- `rest`
 pub record IsEscapeCut (s plain of rest : Text) : Type 0 where
   pub decoded : unesc s ≡ plain ++ of ++ unesc rest
   pub token : IsToken rest

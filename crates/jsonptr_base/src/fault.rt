@@ -1,4 +1,4 @@
-//! The error of a call that can fail for a reason of its own and can also run out of memory.
+//! The error of a call that can fail with an error of its own and can also run out of memory.
 ghost use Rattle.std.specs.Prelude.{◌≡◌};
 ghost use Rattle.jsonptr_base.specs.Fault.{fault_text, refused_of, ForRefused, Maps};
 ghost use Rattle.jsonptr_base.specs.declared.fault.Fault.TheVariants.{Memory};
@@ -7,7 +7,11 @@ use std::alloc::AllocError;
 use std::error::Error;
 use std::fmt;
 
-/// Why a call that may allocate failed. In both cases everything that was lent to the call is unchanged.
+/// Why a call that may allocate failed: with its own error, or because an allocation failed.
+///
+/// In both cases, whatever the call borrowed is unchanged.
+///
+/// # Examples
 ///
 /// ```rust
 /// let fault = PointerBuf::from_text(alloc, "size")
@@ -24,7 +28,13 @@ pub enum Fault<E> {
 }
 
 impl<E> Fault<E> {
-    /// Returns the error of the call, and a failed allocation as an `Err` that `?` passes on.
+    /// Returns the call's own error as `Ok`. A failed allocation is the `Err`, so `?` passes it on.
+    ///
+    /// # Errors
+    ///
+    /// [`AllocError`] if the fault is [`Fault::Memory`].
+    ///
+    /// # Examples
     ///
     /// ```rust
     /// let fault = PointerBuf::from_text(alloc, "size")
@@ -32,10 +42,6 @@ impl<E> Fault<E> {
     ///     .ok_or("an error")?;
     /// assert_eq!(rt; fault.refused()?, ParseError::NoLeadingSlash);
     /// ```
-    ///
-    /// # Errors
-    ///
-    /// [`AllocError`] if the fault is [`Fault::Memory`].
     pub fn refused(self) -> Result<E, AllocError>
         ensures { result ≡ refused_of self }
     {
@@ -46,6 +52,12 @@ impl<E> Fault<E> {
     }
 
     /// Converts the error of the call by `op`, and leaves a failed allocation unchanged.
+    ///
+    /// # Conditions
+    ///
+    /// The error of the call, if there is one, meets the precondition of `op`.
+    ///
+    /// # Examples
     ///
     /// ```rust
     /// let fault = PointerBuf::from_text(alloc, "/~").err().ok_or("an error")?;
@@ -62,6 +74,7 @@ impl<E> Fault<E> {
     }
 }
 
+/// Makes a [`Fault::Memory`], so that `?` passes on a failed allocation.
 impl<E> From<AllocError> for Fault<E> {
     ghost from_gives = { λ e fault. fault ≡ Memory e };
 
@@ -70,7 +83,7 @@ impl<E> From<AllocError> for Fault<E> {
     }
 }
 
-/// Prints the error of the call, or the text of [`AllocError`].
+/// Prints the error of the call, or "memory allocation failed".
 impl<E: fmt::Display> fmt::Display for Fault<E> {
     ghost output = { fault_text E.output };
 

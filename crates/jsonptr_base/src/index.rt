@@ -1,22 +1,56 @@
-//! Array indices as reference tokens write them (RFC 6901, section 4): a number without leading zeros,
-//! or `-`, the place after the last element.
+//! Array indices, as reference tokens write them (RFC 6901, section 4).
+//!
+//! A reference token selects an element of an array by its index: a decimal number without leading
+//! zeros, counted from 0. A second notation is the single character `-`. It always means the index
+//! *after* the last element, where there is no element yet.
+//!
+//! # What `-` is for
+//!
+//! Nothing can be read at `-`, so resolving a pointer with that token at an array is an error. It
+//! is there for operations that write. A JSON Patch (RFC 6902, section 4.1) appends to a list with
+//! the target location `/list/-`, without knowing how long the list is.
+//!
+//! The `assign` of `jsonptr` appends at `-` too, and so do `add`, `move` and `copy` of the crate
+//! `jsonptr_patch`, which applies patches. Where `assign` has to make a container, it makes an
+//! array for `-` and `0`, and an object for any other token.
+//!
+//! # From a token to an index
+//!
+//! [`Token::to_index`] parses the token. The result is an [`Index`], which depends on no array. It
+//! becomes a number once the length of the array is known, by one of three methods:
 //!
 //! ```text
+//! array of length 3    [ a | b | c ]
+//! index                  0   1   2   3 or `-`   4
+//! for_len                └───────┘                     to read or replace an element
+//! for_len_incl           └───────────┘                 to insert or append an element
+//! for_len_unchecked      └───────────────────────── …  no check
+//! ```
+//!
+//! # Examples
+//!
+//! ```rust
 //! let index = Token::from_number(alloc, 3)?.to_index()?;
 //! assert_eq!(rt; index.for_len(5), Ok(3));
 //! assert!(rt; index.for_len(3).is_err());
 //! assert_eq!(rt; index.for_len_incl(3), Ok(3));
 //! assert_eq!(rt; Index::Next.for_len_incl(3), Ok(3));
 //! ```
-ghost use Rattle.std.specs.Prelude.{◌≡◌, ◌≢◌, ◌≤◌, ◌<◌, ◌^◌, ◌↔◌, ℕ, [], ◌∷◌, length, slice_index, string_bytes, IsTrue, IsUtf8, Result, Some};
-ghost use Rattle.std.specs.Ordering.{nat_cmp};
-ghost use Rattle.std.specs.declared.cmp.Ordering.TheVariants.{Less, Equal, Greater};
-ghost use Rattle.jsonptr_grammar.specs.Text.{Text, esc};
+//!
+//! Tokens that are indices, and one that is not:
+//!
+//! ```rust
+//! assert_eq!(rt; Token::new(alloc, CowStr::Borrowed("1"))?.to_index(), Ok(Index::Num(1)));
+//! assert_eq!(rt; Token::new(alloc, CowStr::Borrowed("-"))?.to_index(), Ok(Index::Next));
+//! assert!(rt; Token::new(alloc, CowStr::Borrowed("one"))?.to_index().is_err());
+//! ```
+ghost use Rattle.std.specs.Prelude.{◌≡◌, ◌≢◌, ◌≤◌, ◌<◌, ℕ, [], ◌∷◌, length, slice_index, string_bytes, Result, Some};
+ghost use Rattle.jsonptr_grammar.specs.Text.{esc};
 ghost use Rattle.jsonptr_base.specs.declared.index.Index.{Index};
 ghost use Rattle.jsonptr_base.specs.declared.index.ParseIndexError.{ParseIndexError};
 ghost use Rattle.jsonptr_base.specs.declared.index.OutOfBoundsError.{OutOfBoundsError};
 ghost use Rattle.jsonptr_base.specs.declared.index.Index.TheVariants.{Num, Next};
-ghost use Rattle.jsonptr_base.specs.Index.{IsWithin, IsWithinOrNext, Reads, first_nondigit, index_text, place_in, subject_text, leading_zeros, nondigits_from};
+ghost use Rattle.jsonptr_base.specs.Index.{IsWithin, IsWithinOrNext, Reads, first_nondigit, index_text, position_in, subject_text, leading_zeros, nondigits_from};
 
 use crate::token::Token;
 use jsonptr_diagnostic::diagnostic::{Diagnostic, Label, one_label};
@@ -27,25 +61,41 @@ use std::fmt;
 use std::marker::Model;
 use std::str::FromStr;
 
-/// An index into an array of some length.
+/// An array index that has not been checked against the length of an array.
 ///
-/// ```text
+/// [`Index::for_len`] and [`Index::for_len_incl`] check it and return the number. Indices are
+/// ordered by number, and [`Index::Next`] is greater than each number. `Display` prints the token:
+/// the number in decimal digits, or `-`.
+///
+/// # Examples
+///
+/// ```rust
 /// assert_eq!(rt; "12".parse::<Index>(), Ok(Index::Num(12)));
 /// assert_eq!(rt; Index::from(12), Index::Num(12));
 /// assert_eq!(rt; Index::Next.to_string(alloc)?.as_str(), "-");
 /// ```
 #[derive(Clone, Copy, Debug, PartialEq, Eq, PartialOrd, Ord, Hash)]
 pub enum Index {
-    /// The place with this number, from 0.
+    /// A number, counted from 0.
     Num(usize),
-    /// The place after the last element, which a pointer writes `-`.
+    /// The index after the last element, which a token writes as `-`. For an array of length `n` it
+    /// is the number `n`.
     Next,
 }
 
 impl Index {
-    /// The place of an existing element of an array of `length` elements. `Next` names none.
+    /// Returns the index of an existing element of an array of `length` elements.
     ///
-    /// ```text
+    /// The result is less than `length`, so it is safe to index the array with it. `Next` is always
+    /// an error here; use [`Index::for_len_incl`] where it is valid.
+    ///
+    /// # Errors
+    ///
+    /// [`OutOfBoundsError`] if the index is `Next` or a number that is not less than `length`.
+    ///
+    /// # Examples
+    ///
+    /// ```rust
     /// let past = OutOfBoundsError {
     ///     length: 4,
     ///     index: 4,
@@ -54,10 +104,6 @@ impl Index {
     /// assert!(rt; Index::Num(4).for_len(4).is_err());
     /// assert_eq!(rt; Index::Next.for_len(4), Err(past));
     /// ```
-    ///
-    /// # Errors
-    ///
-    /// [`OutOfBoundsError`] where the index is not below the length; `Next` counts as the length.
     pub fn for_len(&self, length: usize) -> Result<usize, OutOfBoundsError>
         ensures { IsWithin self.now length result }
     {
@@ -71,18 +117,22 @@ impl Index {
         }
     }
 
-    /// The place of an element of an array of `length` elements, or the place behind the last one, where a
-    /// new element goes; `Next` names that.
+    /// Returns the index at which an element can be inserted into an array of `length` elements.
     ///
-    /// ```text
+    /// The result is at most `length`. It can be `length` itself, where the array has no element,
+    /// so it is not safe to index the array with it. `Next` is always valid and returns `length`.
+    ///
+    /// # Errors
+    ///
+    /// [`OutOfBoundsError`] if the index is a number greater than `length`.
+    ///
+    /// # Examples
+    ///
+    /// ```rust
     /// assert_eq!(rt; Index::Num(4).for_len_incl(4), Ok(4));
     /// assert_eq!(rt; Index::Next.for_len_incl(4), Ok(4));
     /// assert!(rt; Index::Num(5).for_len_incl(4).is_err());
     /// ```
-    ///
-    /// # Errors
-    ///
-    /// [`OutOfBoundsError`] where the index is above the length.
     pub fn for_len_incl(&self, length: usize) -> Result<usize, OutOfBoundsError>
         ensures { IsWithinOrNext self.now length result }
     {
@@ -93,15 +143,18 @@ impl Index {
         }
     }
 
-    /// The place that the index names where the array has `length` elements, whether it has that place or
-    /// not.
+    /// Returns the index as a number, without a check; the number of `Next` is `length`.
     ///
-    /// ```text
+    /// The result can be any number. [`Index::for_len`] and [`Index::for_len_incl`] check it.
+    ///
+    /// # Examples
+    ///
+    /// ```rust
     /// assert_eq!(rt; Index::Num(9).for_len_unchecked(4), 9);
     /// assert_eq!(rt; Index::Next.for_len_unchecked(4), 4);
     /// ```
     pub fn for_len_unchecked(&self, length: usize) -> usize
-        ensures { result ≡ place_in length self.now }
+        ensures { result ≡ position_in length self.now }
     {
         match *self {
             Index::Num(index) => index,
@@ -110,7 +163,7 @@ impl Index {
     }
 }
 
-/// The text that reads as this index.
+/// Prints the token of the index: its decimal digits, or `-`.
 impl fmt::Display for Index {
     ghost output = { λ index. Some (index_text index) };
 
@@ -130,6 +183,7 @@ impl From<usize> for Index {
     }
 }
 
+/// Parses the text of a token, encoded or decoded, as [`Token::to_index`] does.
 impl FromStr for Index {
     type Err = ParseIndexError;
 
@@ -194,7 +248,7 @@ impl TryFrom<&Token<'_>> for Index {
     }
 }
 
-/// Reads a text that is not `-` and has no leading zeros.
+/// Parses a text that is not `-` and has no leading zeros.
 fn read_number(s: &str) -> Result<Index, ParseIndexError>
     requires not_next { s.now ≢ 45 ∷ [] }
     requires no_leading_zeros { slice_index s.now 0 ≡ 48 → length s.now ≤ 1 }
@@ -212,7 +266,7 @@ fn read_number(s: &str) -> Result<Index, ParseIndexError>
     }
 }
 
-/// The place, in characters, of the first character that is no ASCII digit.
+/// Returns how many characters are before the first one that is not an ASCII digit.
 fn first_nondigit(s: &str) -> Option<usize>
     ensures { result ≡ first_nondigit s.now }
 {
@@ -220,19 +274,33 @@ fn first_nondigit(s: &str) -> Option<usize>
 }
 
 impl<'a> Token<'a> {
-    /// The array index that the token's text writes (RFC 6901, section 4).
+    /// Parses the token as an array index (RFC 6901, section 4).
     ///
-    /// ```text
+    /// | Token                 | Result                                           |
+    /// | --------------------- | ------------------------------------------------ |
+    /// | `-`                   | [`Index::Next`]                                  |
+    /// | `0`, `7`, `120`       | [`Index::Num`]                                   |
+    /// | `012`, `00`           | [`ParseIndexError::LeadingZeros`]                |
+    /// | `width`, `12px`, `-1` | [`ParseIndexError::InvalidCharacter`]            |
+    /// | the empty token       | `InvalidInteger` with [`IntegerCause::Empty`]    |
+    /// | above `usize::MAX`    | `InvalidInteger` with [`IntegerCause::Overflow`] |
+    ///
+    /// Needs no allocation. An index contains no escape sequence, so the encoded and the decoded
+    /// text lead to the same result.
+    ///
+    /// # Errors
+    ///
+    /// [`ParseIndexError`] if the token is neither `-` nor a number without leading zeros that fits
+    /// `usize`.
+    ///
+    /// # Examples
+    ///
+    /// ```rust
     /// let next = Token::new(alloc, CowStr::Borrowed("-"))?;
     /// assert_eq!(rt; next.to_index(), Ok(Index::Next));
     /// assert_eq!(rt; Token::from_number(alloc, 7)?.to_index(), Ok(Index::Num(7)));
     /// assert!(rt; Token::from_number(alloc, -7)?.to_index().is_err());
     /// ```
-    ///
-    /// # Errors
-    ///
-    /// [`ParseIndexError`] where the text is neither `-` nor a number without leading zeros that fits
-    /// `usize`.
     pub fn to_index(&self) -> Result<Index, ParseIndexError>
         ensures encoded { Reads (esc self.now) result }
         ensures decoded { Reads self.now result }
@@ -241,44 +309,14 @@ impl<'a> Token<'a> {
     }
 }
 
-/// The reading of array indices (RFC 6901, section 4): a text reads as one index or as one refusal, and
-/// never as two, and the escaped text of a token reads as its decoded text does. The text of an index is
-/// the one that reads as it.
-pub fn index_law()
-    ensures one { (s : Text) (r q : Result Index ParseIndexError) → Reads s r → Reads s q → r ≡ q }
-    ensures some { (s : Text) → IsUtf8 s → (r : Result Index ParseIndexError) × Reads s r }
-    ensures escape { (s : Text) → IsUtf8 s
-        → (r : Result Index ParseIndexError) → Reads s r ↔ Reads (esc s) r }
-    ensures shown { (s : Text) (index : Index) → Reads s (Ok index) → index_text index ≡ s }
-    ensures read_number { (n : ℕ) → n < 2 ^ 64 → Reads (index_text (Num n)) (Ok (Num n)) }
-    ensures read_next { Reads (index_text Next) (Ok Next) }
-{}
-
-/// The order of indices: numbers by size, and every number before `Next`.
-pub fn index_order_law()
-    ensures numbers { (i j : ℕ) → ⟦<Index as Ord>⟧.cmp (Num i) (Num j) ≡ nat_cmp i j }
-    ensures before_next { (i : ℕ) → ⟦<Index as Ord>⟧.cmp (Num i) Next ≡ Less }
-    ensures next { (i : ℕ) → ⟦<Index as Ord>⟧.cmp Next (Num i) ≡ Greater }
-    ensures tie { (i j : Index) → (⟦<Index as Ord>⟧.cmp i j ≡ Equal) ↔ (i ≡ j) }
-    ensures equal { (i j : Index) → IsTrue (⟦<Index as PartialEq>⟧.eq i j) ↔ (i ≡ j) }
-{}
-
-/// In an array of each length an index is one place or refused in one way, both where the place behind the
-/// last element counts and where it does not.
-pub fn bounds_law()
-    ensures within { (index : Index) (len : ℕ)
-        → (r : Result ℕ OutOfBoundsError) × IsWithin index len r }
-    ensures one_within { (index : Index) (len : ℕ) (r q : Result ℕ OutOfBoundsError)
-        → IsWithin index len r → IsWithin index len q → r ≡ q }
-    ensures or_next { (index : Index) (len : ℕ)
-        → (r : Result ℕ OutOfBoundsError) × IsWithinOrNext index len r }
-    ensures one_or_next { (index : Index) (len : ℕ) (r q : Result ℕ OutOfBoundsError)
-        → IsWithinOrNext index len r → IsWithinOrNext index len q → r ≡ q }
-{}
-
-/// An index that is not within the bounds of an array.
+/// The error of an index that is out of the bounds of an array.
 ///
-/// ```text
+/// [`Index::for_len`] and [`Index::for_len_incl`] return it. The first accepts indices less than
+/// the length, the second also the length itself.
+///
+/// # Examples
+///
+/// ```rust
 /// let error = Index::Num(6).for_len(4).err().ok_or("a refusal")?;
 /// assert_eq!(rt; (error.index, error.length), (6, 4));
 /// assert_eq!(rt;
@@ -288,9 +326,9 @@ pub fn bounds_law()
 /// ```
 #[derive(Clone, Debug, PartialEq, Eq, Drop)]
 pub struct OutOfBoundsError {
-    /// The length of the array.
+    /// The length of the array, in elements.
     pub length: usize,
-    /// The index as a number; `Next` counts as the length.
+    /// The index as a number. For [`Index::Next`] it is the length.
     pub index: usize,
 }
 
@@ -310,20 +348,25 @@ impl fmt::Display for OutOfBoundsError {
 
 impl Error for OutOfBoundsError {}
 
-/// Why a text is no array index.
+/// The error of a text that is not an array index (RFC 6901, section 4).
 ///
-/// ```text
+/// [`Token::to_index`] has a table of which text leads to which error.
+///
+/// # Examples
+///
+/// ```rust
 /// let empty = ParseIndexError::InvalidInteger(IntegerCause::Empty);
 /// assert_eq!(rt; "".parse::<Index>(), Err(empty));
 /// assert_eq!(rt; "012".parse::<Index>(), Err(ParseIndexError::LeadingZeros));
 /// ```
 #[derive(Clone, Debug, PartialEq, Eq, Drop)]
 pub enum ParseIndexError {
-    /// The text is empty, or a number that does not fit `usize`.
+    /// The text is empty, or it is a number that does not fit `usize`.
     InvalidInteger(IntegerCause),
-    /// The text begins with `0` and goes on.
+    /// The text starts with `0` and is longer, whatever follows. RFC 6901 allows no leading zeros.
     LeadingZeros,
-    /// The text has a character that is no ASCII digit.
+    /// The text contains a character that is not an ASCII digit. A sign is one too: `+1` is
+    /// invalid.
     InvalidCharacter(InvalidCharacterError),
 }
 
@@ -349,15 +392,22 @@ impl fmt::Display for ParseIndexError {
 
 impl Error for ParseIndexError {}
 
+/// Labels the characters at fault in the text of a token or of a string.
+///
+/// | Error                                 | Label                                        |
+/// | ------------------------------------- | -------------------------------------------- |
+/// | [`ParseIndexError::LeadingZeros`]     | "leading zeros", on all of them              |
+/// | [`ParseIndexError::InvalidCharacter`] | "invalid character(s)", up to the next digit |
+/// | [`ParseIndexError::InvalidInteger`]   | none                                         |
 impl Diagnostic for ParseIndexError {
     ghost use Rattle.std.specs.Prelude.{codes};
-    ghost use Rattle.jsonptr_base.specs.Index.{IsLabelled, subject_text};
+    ghost use Rattle.jsonptr_base.specs.Index.{IsIndexErrorLabelled, subject_text};
 
     type Subject = StringOrToken;
 
     ghost url = { codes "https://docs.rs/jsonptr/0.8.2/jsonptr/index/enum.ParseIndexError.html" };
 
-    ghost labels_gives = { λ e subject. IsLabelled e (subject_text subject) };
+    ghost labels_gives = { λ e subject. IsIndexErrorLabelled e (subject_text subject) };
 
     fn url() -> &'static str {
         "https://docs.rs/jsonptr/0.8.2/jsonptr/index/enum.ParseIndexError.html"
@@ -382,7 +432,7 @@ impl Diagnostic for ParseIndexError {
     }
 }
 
-/// How many `0` the text begins with.
+/// Returns how many bytes `0` the text begins with.
 fn leading_zeros(text: &[u8]) -> usize
     ensures { result ≡ leading_zeros text.now }
 {
@@ -393,7 +443,7 @@ fn leading_zeros(text: &[u8]) -> usize
     count
 }
 
-/// How many bytes stand from this place on before the next ASCII digit, or before the end.
+/// Returns the number of bytes from `offset` to the next ASCII digit, or to the end.
 fn nondigits_from(offset: usize, text: &[u8]) -> usize
     ensures { result ≡ nondigits_from offset text.now }
 {
@@ -404,22 +454,41 @@ fn nondigits_from(offset: usize, text: &[u8]) -> usize
     end - offset
 }
 
-/// A text that was to be read as an array index.
+/// The text that a [`ParseIndexError`] is about, as the subject of a report.
 ///
-/// ```text
+/// Both a string and a token can be parsed as an index, so a report keeps either.
+///
+/// # Examples
+///
+/// ```rust
 /// let token = Token::from_encoded(CowStr::Borrowed("7~1"))?.into_owned(alloc)?;
 /// assert_eq!(rt; StringOrToken::from(token).as_str(), "7~1");
 /// ```
+///
+/// A report of an index that is invalid, drawn with its label:
+///
+/// ```rust
+/// let subject = StringOrToken::from(String::from_str(alloc, "12px")?);
+/// let report = "12px".parse::<Index>().diagnose(subject).err().ok_or("a report")?;
+/// assert_eq!(rt; report.render(alloc)?.as_str(), "12px\n  ^^ invalid character(s)");
+/// ```
 #[derive(Debug, Drop)]
 pub enum StringOrToken {
-    /// The text itself.
+    /// A string.
     String(String),
-    /// A token, which stands for its encoded text.
+    /// A token, of which a report shows the encoded text.
     Token(Token<'static>),
 }
 
 impl StringOrToken {
-    /// The text: of a token, the encoded one.
+    /// Returns the string, or the encoded text of the token.
+    ///
+    /// # Examples
+    ///
+    /// ```rust
+    /// let subject = StringOrToken::from(String::from_str(alloc, "012")?);
+    /// assert_eq!(rt; subject.as_str(), "012");
+    /// ```
     pub fn as_str(&self) -> &str
         ensures { result.now ≡ subject_text self.now }
     {
@@ -458,26 +527,36 @@ impl From<Token<'static>> for StringOrToken {
     }
 }
 
-/// Why a text of digits is no number.
+/// Why a text without other characters than digits is not a number that fits `usize`.
 ///
-/// ```text
+/// # Examples
+///
+/// ```rust
 /// let refused = "99999999999999999999".parse::<Index>();
 /// let cause = IntegerCause::Overflow;
 /// assert_eq!(rt; refused, Err(ParseIndexError::InvalidInteger(cause)));
 /// ```
 #[derive(Clone, Copy, Debug, PartialEq, Eq)]
 pub enum IntegerCause {
-    /// There is no digit.
+    /// The text is empty.
     Empty,
     /// The number is greater than `usize::MAX`.
     Overflow,
 }
 
-/// A character that no array index has.
+/// The error of a character that no array index contains, with its offset.
+///
+/// ```text
+/// 12px
+///   ↑
+///   2
+/// ```
 ///
 /// Contracts see it as its offset.
 ///
-/// ```text
+/// # Examples
+///
+/// ```rust
 /// match "12px".parse::<Index>() {
 ///     Err(ParseIndexError::InvalidCharacter(error)) => assert_eq!(rt; error.offset(), 2),
 ///     _ => return Err("a refusal".into()),
@@ -499,7 +578,18 @@ impl Model for InvalidCharacterError {
 }
 
 impl InvalidCharacterError {
-    /// The place of the first character that is no ASCII digit, in characters and not in bytes.
+    /// Returns the offset of the first character that is not an ASCII digit, in characters.
+    ///
+    /// It is the offset in bytes too, because each character before it is an ASCII digit.
+    ///
+    /// # Examples
+    ///
+    /// ```rust
+    /// let Err(ParseIndexError::InvalidCharacter(error)) = "7é".parse::<Index>() else {
+    ///     return Err("an invalid character".into());
+    /// };
+    /// assert_eq!(rt; error.offset(), 1);
+    /// ```
     pub fn offset(&self) -> usize
         ensures { result ≡ self.now }
     {

@@ -1,4 +1,4 @@
-//! The integers, whose decimal texts are tokens.
+//! The integer types whose decimal texts become tokens.
 ghost use Rattle.std.specs.Prelude.{◌≡◌, string_bytes, IfOk};
 ghost use Rattle.jsonptr_grammar.specs.Text.{Text, dec};
 ghost use Rattle.jsonptr_base.specs.Number.{signed_dec};
@@ -33,15 +33,33 @@ mod sealed {
     impl Sealed for isize {}
 }
 
-/// An integer of any of the twelve types; no other type is a number.
+/// An integer type, for [`Token::from_number`](crate::token::Token::from_number).
+///
+/// Implemented by the twelve integer types from `u8` to `u128` and `i8` to `i128`, with `usize` and
+/// `isize`. No other type can implement it. Contracts see a number's decimal text as
+/// `decimal_text`.
+///
+/// # Examples
+///
+/// ```rust
+/// assert_eq!(rt; Number::to_decimal(-12i16, alloc)?.as_str(), "-12");
+/// let largest = "340282366920938463463374607431768211455";
+/// assert_eq!(rt; Number::to_decimal(u128::MAX, alloc)?.as_str(), largest);
+/// ```
 pub trait Number: sealed::Sealed + Copy {
     ghost decimal_text: { Self → Text };
 
-    /// The number in decimal digits, with no leading zeros, and with `-` before them where it is negative.
+    /// Returns the number in decimal digits without leading zeros, after a `-` if it is negative.
     ///
     /// # Errors
     ///
-    /// [`AllocError`] where there is no memory for the text.
+    /// [`AllocError`] if the allocation for the text fails.
+    ///
+    /// # Examples
+    ///
+    /// ```rust
+    /// assert_eq!(rt; Number::to_decimal(0usize, alloc)?.as_str(), "0");
+    /// ```
     fn to_decimal(self, alloc: Global) -> Result<String, AllocError>
         ensures { IfOk result (λ s. string_bytes s ≡ decimal_text self) };
 }

@@ -1,5 +1,23 @@
-//! One reference token of a JSON Pointer (RFC 6901, section 3).
-ghost use Rattle.std.specs.Prelude.{◌≡◌, ◌≢◌, ◌⊎◌, ◌↔◌, refl, [], ◌∷◌, Some, All, IsTrue, IsOk, IfOk, IfErr};
+//! Reference tokens: the segments of a JSON Pointer (RFC 6901, section 3).
+//!
+//! A pointer is a sequence of reference tokens, each after a `/`. So a `/` inside a token needs an
+//! escape sequence, and so does the `~` that starts one:
+//!
+//! | Decoded | Encoded |
+//! | ------- | ------- |
+//! | `~`     | `~0`    |
+//! | `/`     | `~1`    |
+//!
+//! ```text
+//! /window/a~1b/-
+//!  └─┬──┘ └┬─┘ ↑
+//!    │     │   the token `-`: as an array index, the one after the last element
+//!    │     the token with the encoded text `a~1b` and the decoded text `a/b`
+//!    the token `window`
+//! ```
+//!
+//! A [`Token`] is one of them. Its text is always valid, and it cannot be changed afterwards.
+ghost use Rattle.std.specs.Prelude.{◌≡◌, ◌≢◌, ◌↔◌, refl, [], ◌∷◌, Some, All, IsTrue, IsOk, IfOk, IfErr};
 ghost use Rattle.std.proofs.Common.{rules};
 ghost use Rattle.std.specs.Cow.{cow_str_bytes, IsBorrowedStr};
 ghost use Rattle.std.specs.Hash as fed;
@@ -9,10 +27,9 @@ ghost use Rattle.std.specs.Cmp;
 ghost use Rattle.std.specs.Cmp.{on_equiv, on_per, on_po, on_total};
 ghost use Rattle.std.specs.Cmp.Lexicographic.{slice_cmp, nat_list_eq_equiv, nat_list_cmp_total, texts_po, texts_ties};
 ghost use Rattle.std.specs.Cmp.Rules.{hashing};
-ghost use Rattle.std.specs.declared.cmp.Ordering.TheVariants.{Equal};
-ghost use Rattle.jsonptr_grammar.specs.Text.{Text, esc};
+ghost use Rattle.jsonptr_grammar.specs.Text.{HasNoTilde, esc};
 ghost use Rattle.jsonptr_grammar.specs.Grammar.{IsToken};
-ghost use Rattle.jsonptr_base.specs.Token.{TellsTokenFault};
+ghost use Rattle.jsonptr_base.specs.Token.{IsEncodingErrorOf};
 ghost use Rattle.jsonptr_base.specs.declared.token.EncodingError.{EncodingError};
 
 use jsonptr_diagnostic::diagnostic::{Diagnostic, Label, one_label};
@@ -24,11 +41,28 @@ use std::fmt;
 use std::hash::{Hash, Hasher};
 use std::marker::Model;
 
-/// A segment of a JSON Pointer, which follows a `/`: a member's key, or an array index.
+/// A reference token: one segment of a JSON Pointer, without the `/` before it.
 ///
-/// Contracts see a token as its decoded text, a list of bytes; its encoded text is the escape of that.
+/// In an object a token is the key of a member. In an array it is an [index](Token::to_index): a
+/// number without leading zeros, or `-` for the index after the last element.
 ///
-/// ```text
+/// A token has two texts: the *encoded* text, as a pointer contains it, and the *decoded* text,
+/// which is the key itself. The constructor depends on which of them is at hand:
+///
+/// | At hand                                | Constructor                       |
+/// | -------------------------------------- | --------------------------------- |
+/// | a key, or any other decoded text       | [`Token::new`]                    |
+/// | encoded text, to be checked            | [`Token::from_encoded`]           |
+/// | encoded text that is known to be valid | [`Token::from_encoded_unchecked`] |
+/// | an integer                             | [`Token::from_number`]            |
+///
+/// The token keeps its encoded text, which it borrows for `'a` or owns. [`Token::into_owned`] makes
+/// it independent of what it borrows from. Contracts see a token as its decoded text, a list of
+/// bytes, and its encoded text as `esc` of that list.
+///
+/// # Examples
+///
+/// ```rust
 /// let token = Token::new(alloc, CowStr::Borrowed("width/height"))?;
 /// assert_eq!(rt; token.encoded(), "width~1height");
 /// assert_eq!(rt; token.to_string(alloc)?.as_str(), "width/height");
@@ -51,23 +85,28 @@ impl<'a> Model for Token<'a> {
 }
 
 impl<'a> Token<'a> {
-    /// The token with this encoded text, which it keeps as it is; no memory is taken.
+    /// Parses an encoded text, in which each `~` is followed by `0` or `1` and no byte is a `/`.
     ///
-    /// ```text
+    /// Checks the text in one pass and keeps it unchanged. Needs no allocation. For text that is
+    /// not encoded, use [`Token::new`].
+    ///
+    /// # Errors
+    ///
+    /// [`EncodingError`] if the text is not a reference token (RFC 6901, section 3). It reports the
+    /// first fault, with its offset in bytes. The text is dropped.
+    ///
+    /// # Examples
+    ///
+    /// ```rust
     /// let token = Token::from_encoded(CowStr::Borrowed("m~0n~1"))?;
     /// assert_eq!(rt; token.decoded(alloc)?.as_str(), "m~n/");
     /// let refused = Token::from_encoded(CowStr::Borrowed("lines/7"));
     /// assert_eq!(rt; refused.err().ok_or("a fault")?.offset, 5);
     /// ```
-    ///
-    /// # Errors
-    ///
-    /// [`EncodingError`] where the text is no token (RFC 6901, section 3), at its first fault; the text
-    /// is dropped.
     pub fn from_encoded(s: CowStr<'a>) -> Result<Token<'a>, EncodingError>
         ensures token { IsOk result ↔ IsToken (cow_str_bytes s.entry) }
         ensures text { IfOk result (λ t. esc t ≡ cow_str_bytes s.entry) }
-        ensures fault { IfErr result (TellsTokenFault (cow_str_bytes s.entry)) }
+        ensures fault { IfErr result (IsEncodingErrorOf (cow_str_bytes s.entry)) }
     {
         match scan::first_fault(s.as_str().as_bytes()) {
             None => Ok(Token { inner: s }),
@@ -75,10 +114,18 @@ impl<'a> Token<'a> {
         }
     }
 
-    /// The token with this encoded text, which is one of the grammar (RFC 6901, section 3). Nothing is tested, and
-    /// no memory is taken.
+    /// Wraps an encoded text that is known to be valid, without checking it.
     ///
-    /// ```text
+    /// Keeps the text, unchanged. Takes constant time and needs no allocation.
+    ///
+    /// # Conditions
+    ///
+    /// The text is a reference token (RFC 6901, section 3): it contains no `/`, and each `~` in it
+    /// is followed by `0` or `1`. The caller proves this.
+    ///
+    /// # Examples
+    ///
+    /// ```rust
     /// let token = Token::from_encoded_unchecked(CowStr::Borrowed("~0~1"));
     /// assert_eq!(rt; token.encoded(), "~0~1");
     /// ```
@@ -89,22 +136,36 @@ impl<'a> Token<'a> {
         Token { inner: s }
     }
 
-    /// The token that stands for this text, which is escaped where it has a `~` or a `/`; any other text is
-    /// kept as it is.
+    /// Creates the token whose decoded text is `s`, and escapes each `~` and `/` of it.
+    ///
+    /// The text is always taken as *not* encoded. Text that is encoded already would be encoded
+    /// twice:
     ///
     /// ```text
+    /// decoded `a/b`    Token::new(..)             encoded `a~1b`
+    /// encoded `a~1b`   Token::from_encoded(..)    encoded `a~1b`
+    ///                  Token::new(..)             encoded `a~01b`, the key `a~1b`: double encoding
+    /// ```
+    ///
+    /// A text without `~` and `/` is kept, borrowed or owned as it is, and needs no allocation. Any
+    /// other is encoded into a new allocation.
+    ///
+    /// # Errors
+    ///
+    /// [`AllocError`] if the text contains a `~` or a `/` and the allocation for its encoded text
+    /// fails.
+    ///
+    /// # Examples
+    ///
+    /// ```rust
     /// let docs = Token::new(alloc, CowStr::Borrowed("~/docs"))?;
     /// assert_eq!(rt; docs.encoded(), "~0~1docs");
     /// assert_eq!(rt; Token::new(alloc, CowStr::Borrowed("~1"))?.encoded(), "~01");
     /// ```
-    ///
-    /// # Errors
-    ///
-    /// [`AllocError`] where the text has to be escaped and there is no memory for that.
     #[inline(always)]
     pub fn new(alloc: Global, s: CowStr<'a>) -> Result<Token<'a>, AllocError>
         ensures text { IfOk result (λ t. t ≡ cow_str_bytes s.entry) }
-        ensures no_memory { All (λ b. b ≢ 126) (cow_str_bytes s.entry)
+        ensures no_memory { HasNoTilde (cow_str_bytes s.entry)
             → All (λ b. b ≢ 47) (cow_str_bytes s.entry) → IsOk result }
     {
         match scan::first_special(s.as_str().as_bytes()) {
@@ -115,33 +176,41 @@ impl<'a> Token<'a> {
         }
     }
 
-    /// The token of a number's decimal text, which needs no escape.
+    /// Creates the token with the decimal text of an integer of any of the [`Number`] types.
     ///
-    /// ```text
-    /// assert_eq!(rt; Token::from_number(alloc, 250u8)?.encoded(), "250");
-    /// assert_eq!(rt; Token::from_number(alloc, -4i64)?.encoded(), "-4");
-    /// ```
+    /// The token of a negative integer is a key like any other; as an array index it is invalid.
     ///
     /// # Errors
     ///
-    /// [`AllocError`] where there is no memory for the text.
+    /// [`AllocError`] if the allocation for the text fails.
+    ///
+    /// # Examples
+    ///
+    /// ```rust
+    /// assert_eq!(rt; Token::from_number(alloc, 250u8)?.encoded(), "250");
+    /// assert_eq!(rt; Token::from_number(alloc, -4i64)?.encoded(), "-4");
+    /// ```
     pub fn from_number<N: Number>(alloc: Global, n: N) -> Result<Token<'static>, AllocError>
         ensures { IfOk result (λ t. t ≡ N.decimal_text n) }
     {
         Token::new(alloc, CowStr::Owned(n.to_decimal(alloc)?))
     }
 
-    /// A copy of the token that borrows nothing; a text that the token owns is moved.
+    /// Converts into a token that owns its text.
     ///
-    /// ```text
+    /// Text that the token owns is moved, and text that it borrows is copied.
+    ///
+    /// # Errors
+    ///
+    /// [`AllocError`] if the token borrows its text and the allocation for the copy fails.
+    ///
+    /// # Examples
+    ///
+    /// ```rust
     /// let lent = Token::new(alloc, CowStr::Borrowed("lines"))?;
     /// let owned: Token<'static> = lent.into_owned(alloc)?;
     /// assert_eq!(rt; owned.encoded(), "lines");
     /// ```
-    ///
-    /// # Errors
-    ///
-    /// [`AllocError`] where the token borrows its text and there is no memory for a copy.
     pub fn into_owned(self, alloc: Global) -> Result<Token<'static>, AllocError>
         ensures { IfOk result (λ t. t ≡ self.entry) }
     {
@@ -150,25 +219,32 @@ impl<'a> Token<'a> {
         })
     }
 
-    /// The same of a token that is lent; its text is copied.
+    /// Returns a token that owns a copy of the text.
     ///
-    /// ```text
-    /// let lent = Token::new(alloc, CowStr::Borrowed("lines"))?;
-    /// assert_eq!(rt; lent.to_owned(alloc)?, lent);
-    /// ```
+    /// Unlike [`Token::into_owned`], this leaves the token with the caller and always copies its
+    /// text.
     ///
     /// # Errors
     ///
-    /// [`AllocError`] where there is no memory for the copy.
+    /// [`AllocError`] if the allocation for the copy fails.
+    ///
+    /// # Examples
+    ///
+    /// ```rust
+    /// let lent = Token::new(alloc, CowStr::Borrowed("lines"))?;
+    /// assert_eq!(rt; lent.to_owned(alloc)?, lent);
+    /// ```
     pub fn to_owned(&self, alloc: Global) -> Result<Token<'static>, AllocError>
         ensures { IfOk result (λ t. t ≡ self.now) }
     {
         self.clone()?.into_owned(alloc)
     }
 
-    /// The token's text as it stands in a pointer, without the slash.
+    /// Returns the encoded text: the token as a pointer contains it, without the `/`.
     ///
-    /// ```text
+    /// # Examples
+    ///
+    /// ```rust
     /// let token = Token::new(alloc, CowStr::Borrowed("7/~"))?;
     /// assert_eq!(rt; token.encoded(), "7~1~0");
     /// ```
@@ -178,9 +254,14 @@ impl<'a> Token<'a> {
         self.inner.as_str()
     }
 
-    /// The same text, handed over as the token keeps it; no memory is taken.
+    /// Converts into the encoded text.
     ///
-    /// ```text
+    /// Like [`Token::encoded`], but consumes the token and so also returns text that it owns. Needs
+    /// no allocation, because a token keeps its text encoded.
+    ///
+    /// # Examples
+    ///
+    /// ```rust
     /// let token = Token::new(alloc, CowStr::Borrowed("a/b"))?;
     /// assert_eq!(rt; token.into_encoded().as_str(), "a~1b");
     /// ```
@@ -190,21 +271,27 @@ impl<'a> Token<'a> {
         self.inner
     }
 
-    /// The text that the token stands for: `~1` read as `/` and `~0` as `~`, in one pass from the left
-    /// (RFC 6901, section 4). It lends the token's own text where that has no tilde.
+    /// Returns the decoded text, with each `~1` replaced by `/` and each `~0` by `~` (RFC 6901,
+    /// section 4).
     ///
-    /// ```text
-    /// let token = Token::from_encoded(CowStr::Borrowed("~01"))?;
-    /// assert_eq!(rt; token.decoded(alloc)?.as_str(), "~1");
-    /// ```
+    /// Both are replaced in one pass from left to right, so `~01` decodes to `~1` and not to `/`. A
+    /// token without `~` needs no allocation: the result borrows its text. The `Display`
+    /// implementation prints the decoded text of any token without an allocation.
     ///
     /// # Errors
     ///
-    /// [`AllocError`] where a tilde has to be read and there is no memory for the decoded text.
+    /// [`AllocError`] if the token contains a `~` and the allocation for the decoded text fails.
+    ///
+    /// # Examples
+    ///
+    /// ```rust
+    /// let token = Token::from_encoded(CowStr::Borrowed("~01"))?;
+    /// assert_eq!(rt; token.decoded(alloc)?.as_str(), "~1");
+    /// ```
     pub fn decoded(&self, alloc: Global) -> Result<CowStr<'_>, AllocError>
         ensures text { IfOk result (λ c. cow_str_bytes c ≡ self.now) }
-        ensures no_memory { All (λ b. b ≢ 126) (esc self.now) → IsOk result }
-        ensures lends { All (λ b. b ≢ 126) (esc self.now) → IfOk result IsBorrowedStr }
+        ensures no_memory { HasNoTilde (esc self.now) → IsOk result }
+        ensures lends { HasNoTilde (esc self.now) → IfOk result IsBorrowedStr }
     {
         let encoded = self.encoded();
         match memchr::memchr(b'~', encoded.as_bytes()) {
@@ -213,9 +300,14 @@ impl<'a> Token<'a> {
         }
     }
 
-    /// Whether the token is `-`, which names the place behind the last element of an array.
+    /// Returns whether the token is `-`, which as an array index is the one after the last element.
     ///
-    /// ```text
+    /// See [`Index::Next`](crate::index::Index::Next) for what `-` is for. In an object, `-` is a
+    /// key like any other.
+    ///
+    /// # Examples
+    ///
+    /// ```rust
     /// assert!(rt; Token::new(alloc, CowStr::Borrowed("-"))?.is_next());
     /// assert!(rt; !Token::from_number(alloc, 7)?.is_next());
     /// ```
@@ -226,6 +318,7 @@ impl<'a> Token<'a> {
     }
 }
 
+/// Copies text that the token owns; text that it borrows stays borrowed, and needs no allocation.
 impl<'a> Clone for Token<'a> {
     ghost is_clone = { λ t copy. copy ≡ t };
 
@@ -236,7 +329,7 @@ impl<'a> Clone for Token<'a> {
     }
 }
 
-/// By the encoded texts; they are equal exactly where the decoded texts are.
+/// Compares the encoded texts. They are equal exactly if the decoded texts are.
 impl<'a> PartialEq for Token<'a> {
     ghost eq = { λ s t. bytes_eq (esc s) (esc t) };
 
@@ -264,7 +357,7 @@ impl<'a> PartialOrd for Token<'a> {
     }
 }
 
-/// By the bytes of the encoded texts.
+/// Compares the bytes of the encoded texts, from left to right.
 impl<'a> Ord for Token<'a> {
     ghost cmp = { λ s t. slice_cmp nat_cmp (esc s) (esc t) };
 
@@ -279,6 +372,7 @@ impl<'a> Ord for Token<'a> {
     }
 }
 
+/// Hashes the encoded text, as `str` is hashed.
 impl<'a> Hash for Token<'a> {
     ghost hash_input = { λ t. fed.str (esc t) };
 
@@ -289,32 +383,13 @@ impl<'a> Hash for Token<'a> {
     }
 }
 
-/// Tokens are equal where their decoded texts are, they are ordered as their encoded texts are by bytes, which
-/// ties no two tokens, and they are hashed as their encoded texts are.
-pub fn token_order_law()
-    ensures tie { (s t : Text) → (⟦<Token<'static> as Ord>⟧.cmp s t ≡ Equal) ↔ (s ≡ t) }
-    ensures equal { (s t : Text) → IsTrue (⟦<Token<'static> as PartialEq>⟧.eq s t) ↔ (s ≡ t) }
-    ensures order { (s t : Text)
-        → ⟦<Token<'static> as Ord>⟧.cmp s t ≡ slice_cmp nat_cmp (esc s) (esc t) }
-    ensures hash { (s : Text) → ⟦<Token<'static> as Hash>⟧.hash_input s ≡ fed.str (esc s) }
-{}
-
-/// Each text is a token (RFC 6901, section 3) or has a first fault, no text both, and the fault is one in its
-/// place and its kind.
-pub fn encoding_law()
-    ensures some { (t : Text) → IsToken t ⊎ ((e : EncodingError) × TellsTokenFault t e) }
-    ensures not_both { (t : Text) (e : EncodingError) → IsToken t → TellsTokenFault t e → ⊥ }
-    ensures one { (t : Text) (e f : EncodingError)
-        → TellsTokenFault t e → TellsTokenFault t f → e ≡ f }
-{}
-
-/// The decoded text, exactly; no memory is taken.
+/// Prints the decoded text, and needs no allocation.
 impl<'a> fmt::Display for Token<'a> {
     ghost output = { λ t. Some t };
 
     fn fmt<W: fmt::Write>(&self, f: &mut fmt::Formatter<W>) -> fmt::Result {
         let mut rest = self.encoded();
-        while let Some((plain, stands_for, tail)) = scan::cut_escape(rest) {
+        while let Some((plain, stands_for, tail)) = scan::split_escape(rest) {
             f.write_str(plain)?;
             f.write_str(stands_for)?;
             rest = tail;
@@ -323,12 +398,29 @@ impl<'a> fmt::Display for Token<'a> {
     }
 }
 
-/// The name that the errors of [`Token::from_encoded`] had.
+/// The former name of [`EncodingError`].
+///
+/// # Examples
+///
+/// ```rust
+/// let refused = Token::from_encoded(CowStr::Borrowed("~2"));
+/// let error: jsonptr::InvalidEncodingError = refused.err().ok_or("a fault")?;
+/// assert_eq!(rt; error.source, InvalidEncoding::Tilde);
+/// ```
 pub type InvalidEncodingError = EncodingError;
 
-/// Why a text is no encoded token, and where.
+/// The error of a text that is not a valid encoded token: the first fault and its offset.
 ///
 /// ```text
+/// text      lines/7      size~x       size~
+///                ↑            ↑            ↑
+/// offset         5            5            5
+/// source     Slash        Tilde        Tilde
+/// ```
+///
+/// # Examples
+///
+/// ```rust
 /// let error = Token::from_encoded(CowStr::Borrowed("size~x"))
 ///     .err()
 ///     .ok_or("a fault")?;
@@ -337,10 +429,12 @@ pub type InvalidEncodingError = EncodingError;
 /// ```
 #[derive(Clone, Debug, PartialEq, Eq, Drop)]
 pub struct EncodingError {
-    /// The place of the fault, in bytes: of the slash, or of what follows the tilde that escapes nothing,
-    /// which may be the end of the text.
+    /// The offset of the fault in the token's text, in bytes.
+    ///
+    /// For [`InvalidEncoding::Slash`] it is the offset of the `/`. For [`InvalidEncoding::Tilde`]
+    /// it is one after the `~`, which is the length of the text if the `~` is its last byte.
     pub offset: usize,
-    /// What is wrong there.
+    /// What is wrong at that offset.
     pub source: InvalidEncoding,
 }
 
@@ -360,15 +454,24 @@ impl fmt::Display for EncodingError {
 
 impl Error for EncodingError {}
 
+/// Labels the byte at fault, or a `~` that is the last byte of the text.
+///
+/// | Fault                            | Label                                       |
+/// | -------------------------------- | ------------------------------------------- |
+/// | [`InvalidEncoding::Slash`]       | "invalid character", on the `/`             |
+/// | [`InvalidEncoding::Tilde`]       | "must be 0 or 1", on the byte after the `~` |
+/// | the same, at the end of the text | "incomplete escape sequence", on the `~`    |
+///
+/// A `Tilde` error with the offset 0 has no label on an empty text. Parsing never returns one.
 impl Diagnostic for EncodingError {
     ghost use Rattle.std.specs.Prelude.{codes, length, string_bytes};
-    ghost use Rattle.jsonptr_base.specs.Token.{IsLabelled};
+    ghost use Rattle.jsonptr_base.specs.Token.{IsEncodingErrorLabelled};
 
     type Subject = String;
 
     ghost url = { codes "https://docs.rs/jsonptr/0.8.2/jsonptr/struct.EncodingError.html" };
 
-    ghost labels_gives = { λ e subject. IsLabelled e (length (string_bytes subject)) };
+    ghost labels_gives = { λ e subject. IsEncodingErrorLabelled e (length (string_bytes subject)) };
 
     fn url() -> &'static str {
         "https://docs.rs/jsonptr/0.8.2/jsonptr/struct.EncodingError.html"
@@ -388,9 +491,13 @@ impl Diagnostic for EncodingError {
     }
 }
 
-/// What is wrong with the text of a token.
+/// What is wrong with an encoded text; see [`EncodingError`] for where.
 ///
-/// ```text
+/// A `/` right after a `~` counts as [`InvalidEncoding::Slash`].
+///
+/// # Examples
+///
+/// ```rust
 /// let cause = InvalidEncoding::Slash;
 /// assert_eq!(rt;
 ///     cause.to_string(alloc)?.as_str(),
@@ -399,9 +506,9 @@ impl Diagnostic for EncodingError {
 /// ```
 #[derive(Clone, Copy, Debug, PartialEq, Eq)]
 pub enum InvalidEncoding {
-    /// A `~` is followed neither by `0` nor by `1`.
+    /// A `~` is followed by neither `0` nor `1`.
     Tilde,
-    /// A token has a `/`.
+    /// The text contains a `/`, which separates tokens.
     Slash,
 }
 

@@ -1,10 +1,10 @@
--- From what is known of the document to what is known of the input's bytes.
+-- From what is known about the document to what is known about the bytes of the input.
 use Rattle.std.proofs.Common.{◌≡◌, ℕ, List, Option, Some, None, Result, Ok, Err, MatchOption, sym, ap, subst, inl, inr}
 use Rattle.serde_json.specs.Data.{Data}
 use Rattle.jsonptr.specs.Text.{Text}
 use Rattle.jsonptr_command.specs.JsonText.{json_of}
 use Rattle.jsonptr_command.specs.Streams.{ForBytes}
-use Rattle.jsonptr_command.specs.Run.{Gives, IsRequestFault, NeedsInput, OnDocument}
+use Rattle.jsonptr_command.specs.Run.{Outcome, IsRequestFault, NeedsInput, OnDocument}
 use Rattle.jsonptr_command.specs.Faults.{IsInputFault}
 use Rattle.jsonptr_command.specs.Private.{task_of, Does, IsFaultOf, IsLineOf}
 use Rattle.jsonptr_command.specs.declared.run.Task.{Task}
@@ -12,7 +12,7 @@ use Rattle.jsonptr_command.specs.declared.run.Task.TheVariants.{Resolve, Assign,
 use Rattle.jsonptr_command.specs.declared.fault.RunFault.{RunFault}
 use Rattle.jsonptr_command.specs.declared.fault.RunFault.TheVariants.{InputNotJson}
 
--- what holds of the bytes gives what follows from it
+-- a property of the bytes, weakened
 pub ForBytes-map : (known : Option (List ℕ)) (P Q : List ℕ → Type 0) → ((bytes : List ℕ) → P bytes → Q bytes) → ForBytes known P → ForBytes known Q
 ForBytes-map None P Q f h = (h.0, f h.0 h.1)
 ForBytes-map (Some bytes) P Q f h = f bytes h
@@ -20,11 +20,11 @@ ForBytes-map (Some bytes) P Q f h = f bytes h
 abbrev refusal : RunFault → Result Data RunFault
 refusal e = Err e
 
--- what a document gives, its bytes give
+-- the result on a document is the result on its bytes
 on_document : (bytes : List ℕ) (d : Data) (r : Result Data RunFault) (P : Data → Type 0) → json_of bytes ≡ Some d → P d → OnDocument bytes r P
 on_document bytes d r P is h = subst (λ (o : Option Data). MatchOption o (r ≡ Err InputNotJson) P) (sym is) h
 
--- bytes that are no document give that refusal
+-- bytes that are not a document have that error as their result
 no_document : (bytes : List ℕ) (e : RunFault) (P : Data → Type 0) → json_of bytes ≡ None → e ≡ InputNotJson → OnDocument bytes (Err e) P
 no_document bytes e P none is =
     subst (λ (o : Option Data). MatchOption o (refusal e ≡ refusal InputNotJson) P) (sym none) (ap refusal is)
@@ -36,8 +36,8 @@ needs (Assign p v) = tt
 needs (Delete p) = tt
 needs (Patch patch) = tt
 
--- and gives what it gives on the document
-gives : (task : Task) (bytes : List ℕ) (r : Result Data RunFault) → OnDocument bytes r (λ d. Does task d r) → Gives (task_of task) bytes r
+-- and its result on the bytes is the one on the document
+gives : (task : Task) (bytes : List ℕ) (r : Result Data RunFault) → OnDocument bytes r (λ d. Does task d r) → Outcome (task_of task) bytes r
 gives (Resolve p) bytes r h = h
 gives (Assign p v) bytes r h = h
 gives (Delete p) bytes r h = h
@@ -50,20 +50,20 @@ module _ (task : Task) (known : Option (List ℕ)) where
   input_fault_given e (inr (inl read)) = inr (inr (needs task, read))
   input_fault_given e (inr (inr h)) =
       inl
-      (ForBytes-map known (λ bytes. json_of bytes ≡ None) (λ bytes. Gives (task_of task) bytes (Err e))
+      (ForBytes-map known (λ bytes. json_of bytes ≡ None) (λ bytes. Outcome (task_of task) bytes (Err e))
       (λ bytes none. gives task bytes (Err e) (no_document bytes e (λ d. Does task d (Err e)) none h.1)) h.0)
 
   module _ (d : Data) (read : ForBytes known (λ bytes. json_of bytes ≡ Some d)) where
-    -- a line of what the document gives is one of what its bytes give
-    pub line_given : (line : Text) → IsLineOf (Does task d) line → ForBytes known (λ bytes. IsLineOf (Gives (task_of task) bytes) line)
+    -- a line of the result on the document is one of the result on the bytes
+    pub line_given : (line : Text) → IsLineOf (Does task d) line → ForBytes known (λ bytes. IsLineOf (Outcome (task_of task) bytes) line)
     line_given line h =
-        ForBytes-map known (λ bytes. json_of bytes ≡ Some d) (λ bytes. IsLineOf (Gives (task_of task) bytes) line)
+        ForBytes-map known (λ bytes. json_of bytes ≡ Some d) (λ bytes. IsLineOf (Outcome (task_of task) bytes) line)
         (λ bytes is. (h.0, gives task bytes (Ok h.0) (on_document bytes d (Ok h.0) (λ d. Does task d (Ok h.0)) is h.1), h.2)) read
 
     -- and so is a fault
     pub fault_given : (e : RunFault) → IsFaultOf (Does task d) e → IsRequestFault (task_of task) known e
     fault_given e (inl h) =
         inl
-        (ForBytes-map known (λ bytes. json_of bytes ≡ Some d) (λ bytes. Gives (task_of task) bytes (Err e))
+        (ForBytes-map known (λ bytes. json_of bytes ≡ Some d) (λ bytes. Outcome (task_of task) bytes (Err e))
         (λ bytes is. gives task bytes (Err e) (on_document bytes d (Err e) (λ d. Does task d (Err e)) is h)) read)
     fault_given e (inr memory) = inr (inl memory)

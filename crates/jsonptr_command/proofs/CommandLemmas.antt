@@ -1,4 +1,4 @@
--- How words are refused by their pointer or their value, and what words of a patch are.
+-- How words fail by their pointer or their value, and the words of a patch.
 use Rattle.std.proofs.Common.{◌≡◌, ◌⊎◌, inl, inr, Bool, true, false, ℕ, List, [], ◌∷◌, map, take, codes, Result, Ok, Err, IfErr, refl, sym, ap, ◌∙◌}
 use Rattle.std.specs.Str.{bytes_eq}
 use Rattle.std.proofs.lemmas.List.Elements.{All-nil, Contains-push}
@@ -6,7 +6,7 @@ use Rattle.std.specs.Result.{IsErrAnd}
 use Rattle.std.proofs.lemmas.Result.{err_from_is_err_and}
 use Rattle.jsonptr.specs.Text.{Text}
 use Rattle.jsonptr.specs.Grammar.{IsPointer}
-use Rattle.jsonptr.specs.ParseError.{TellsPointerFault}
+use Rattle.jsonptr.specs.ParseError.{IsParseErrorOf}
 use Rattle.jsonptr.specs.Types.ParseError.{ParseError}
 use Rattle.jsonptr.specs.Index.{Reads}
 use Rattle.jsonptr.specs.Types.Index.{Index}
@@ -29,9 +29,9 @@ three_words command pointer third word shown is read = cc
 pub first_and_rest : {A : Type 0} (f : A → Text) (ws rest : List A) (a : A) (first : Text) → ws ≡ a ∷ rest → first ≡ f a → map f ws ≡ first ∷ map f rest
 first_and_rest f ws rest a first are shown = ap (map f) are ∙ ap (λ (t : Text). t ∷ map f rest) (sym shown)
 
--- words are refused as their pointer is
+-- words fail as their pointer does
 pub pointer_refused : {T : Type 0} (words : List Text) (r : Result T RunFault) (pointer : Text) (f : ParseError) → IsErrAnd r (λ e. e ≡ BadPointer f)
-    → TakePointer words pointer → TellsPointerFault pointer f → IfErr r (RefusesCommand words)
+    → TakePointer words pointer → IsParseErrorOf pointer f → IfErr r (RefusesCommand words)
 pointer_refused words r pointer f refused take tells =
     let p = err_from_is_err_and r refused in
     rw p.1 (inr (inl (pointer, f, take, tells, p.2)))
@@ -64,7 +64,7 @@ begins_otherwise words p (inr (inr (inr (inr h)))) = rw h.1.1 refl
 pub no_both : (words : List Text) → begins words ≡ true → begins words ≡ false → ⊥
 no_both words h k = let both : true ≡ false = sym h ∙ k in cc
 
--- what stands behind the first word
+-- the words after the first
 pub behind_first : List Text → List Text
 behind_first [] = []
 behind_first (c ∷ ws) = ws
@@ -73,7 +73,7 @@ pub same_behind : (words rest more : List Text) → words ≡ codes "patch" ∷ 
 unfolding behind_first
 same_behind words rest more h k = ap behind_first (sym h ∙ k)
 
--- words of another command are refused as its pointer or value is
+-- the words of another command fail as its pointer or its value does
 pub command_refused : (command : Text) (rest words : List Text) (e : RunFault) → words ≡ command ∷ rest → (command ≡ codes "patch" → ⊥) → RefusesCommand (command ∷ rest) e
     → Asks words (Err e) ⊎ IsWordsMemory words e
 command_refused command rest words e are other (inl h) = rw are (inl (inl (none, h.1)))
@@ -89,7 +89,7 @@ command_refused command rest words e are other (inr (inr h)) = rw are (by_value 
     by_value (inl none) = inl (inr (inr (h.1 ∷ [], h.1, inl (h.0, h.1, h.2, refl), Contains-push [] h.1, none.0, none.1)))
     by_value (inr memory) = inr (inl (h.0, h.1, h.2), memory)
 
--- and those of a patch as its operations are
+-- and those of a patch as its operations do
 pub patch_refused : (words rest : List Text) (e : RunFault) → words ≡ codes "patch" ∷ rest → RefusesOperations rest e → Asks words (Err e) ⊎ IsWordsMemory words e
 unfolding begins
 patch_refused words rest e are (inl h) = inl (inl (none, h.1))
@@ -105,7 +105,7 @@ patch_refused words rest e are (inr (inr (inl h))) =
     inl (inr (inr (values_of h.0, h.3.0, inr (h.0, have, h.2, refl), h.3.1, h.3.2, h.3.3)))
 patch_refused words rest e are (inr (inr (inr memory))) = inr (inr (rest, are), memory)
 
--- a text has one number as an index, and none where it reads otherwise
+-- a text parses as one number, and as none if it parses as something else
 abbrev index_of_number : ℕ → Result Index ParseIndexError
 index_of_number n = Ok (Num n)
 

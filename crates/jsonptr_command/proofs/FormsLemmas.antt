@@ -1,5 +1,5 @@
--- Operations as words: words are those of one list of operations at most, and how such lists are read, checked and
--- understood one operation after the other.
+-- Operations as words: words are those of at most one list of operations, and such lists are read, checked and
+-- converted one operation after the other.
 use Rattle.std.proofs.Common.{◌≡◌, ℕ, ◌+◌, ◌<◌, All, Contains, List, [], ◌∷◌, ◌++◌, length, take, drop, get_or, map, flat_map, option_map, Option, Some, None, codes, alloc_error, refl, sym, ap, subst, ◌∙◌, append_assoc, append-nil, take-append-drop, Bool, true, false, if◌then◌else◌, ◌⊎◌, inl, inr}
 use Rattle.std.specs.Bool.{◌==◌}
 use Rattle.std.specs.Str.{bytes_eq}
@@ -10,14 +10,14 @@ use Rattle.std.proofs.lemmas.Grind.{flat_map-append}
 use Rattle.std.proofs.lemmas.List.Elements.{All-nil, All-cons, All-append, All-take, All-drop, Contains-append_left, Contains-append_right}
 use Rattle.jsonptr.specs.Text.{Text}
 use Rattle.jsonptr.specs.Grammar.{IsPointer}
-use Rattle.jsonptr.specs.ParseError.{TellsPointerFault}
+use Rattle.jsonptr.specs.ParseError.{IsParseErrorOf}
 use Rattle.jsonptr.specs.Types.ParseError.{ParseError}
 use Rattle.jsonptr_command.specs.Operations.{Form, add, remove, replace, move, copy, test, form_words, words_of, form_pointers, form_values, pointers_of, values_of, Meant, Means, MeanAll}
 use Rattle.jsonptr_command.specs.PrivateOperations.{cut_of, cut_two, with_two, IsFirstFault, RefusesOneOf}
 use Rattle.jsonptr_command.specs.declared.fault.RunFault.{RunFault}
 use Rattle.jsonptr_command.specs.declared.fault.RunFault.TheVariants.{Memory}
 
--- of an operation's words and others behind them the first operation is that one, and the others are left
+-- the first operation of an operation's words and others after them is that one, and the others are left
 cut_words : (f : Form) (rest : List Text) → cut_of (form_words f ++ rest) ≡ Some (f, rest)
 cut_words (add pointer value) rest = refl
 cut_words (remove pointer) rest = refl
@@ -35,7 +35,7 @@ words_not_nil (move from pointer) rest e = cc
 words_not_nil (copy from pointer) rest e = cc
 words_not_nil (test pointer value) rest e = cc
 
--- what the first operation of words is, and the words behind it
+-- the first operation of words, and the words after it
 abbrev Cut : Type 0
 Cut = Option (Form × List Text)
 
@@ -70,7 +70,7 @@ forms_one (f ∷ fs) (g ∷ gs) e =
     let rest : fs ≡ gs = forms_one fs gs first.1 in
     cc
 
--- where the words of operations and others behind them are those of operations, so are the others
+-- if the words of operations and others after them are those of operations, so are the others
 words_front : (fs gs : List Form) (rest : List Text) → words_of fs ++ rest ≡ words_of gs → (hs : List Form) × (rest ≡ words_of hs)
 words_front [] gs rest e = (gs, e)
 words_front (f ∷ fs) [] rest e = absurd (words_not_nil f (words_of fs ++ rest) (sym (append_assoc (form_words f) (words_of fs) rest) ∙ e))
@@ -104,8 +104,8 @@ mapped (Some g) f rest left e =
     let both = same_cut g f rest left e in
     (ap some_form both.0, both.1)
 
--- where a comparison of the name with a word decides that the operation is the one made, or else another, the name and
--- the two texts are its words
+-- if a comparison of the name with a word decides between the operation `made` and another, the name and the two
+-- texts are the words of the result
 named : (name word a b : Text) (made : Form) (other : Option Form) (f : Form) → form_words made ≡ word ∷ a ∷ b ∷ [] → (other ≡ some_form f → name ∷ a ∷ b ∷ [] ≡ form_words f)
     → (if bytes_eq name word then Some made else other) ≡ some_form f → name ∷ a ∷ b ∷ [] ≡ form_words f
 named name word a b made other f words next e = by (if_is (bytes_eq name word) (some_form made) other (some_form f) e)
@@ -142,7 +142,7 @@ cut_is (name ∷ a ∷ rest) f left e = by (if_is (bytes_eq name (codes "remove"
         rw (name_is, both.1) (ap (λ (g : Form). form_words g ++ left) both.0)
     by (inr h) = by_two rest h.1
 
--- some words with no first operation are those of no operations
+-- words without a first operation are not those of operations
 no_forms : (ws : List Text) (w : Text) (rest : List Text) → ws ≡ w ∷ rest → cut_of ws ≡ None → (gs : List Form) → ws ≡ words_of gs → ⊥
 no_forms ws w rest is none [] e =
     let empty : w ∷ rest ≡ [] = sym is ∙ e in
@@ -151,7 +151,7 @@ no_forms ws w rest is none (g ∷ gs) e =
     let cut : nothing ≡ found g (words_of gs) = sym none ∙ ap cut_of e ∙ cut_words g (words_of gs) in
     cc
 
--- and with the words of operations before them they are those of no operations
+-- nor are they with the words of operations before them
 pub refused_behind : {A B : Type 0} (of : A → Form) (word : B → Text) (fs : List A) (all rest : List B) → map word all ≡ words_of (map of fs) ++ map word rest
     → false ≡ (length rest == 0) → cut_of (map word rest) ≡ None → (gs : List Form) → map word all ≡ words_of gs → ⊥
 refused_behind of word fs all [] held some none gs e = cc
@@ -161,14 +161,14 @@ refused_behind of word fs all (w ∷ rest) held some none gs e =
 
 -- ---- the first fault
 
--- of texts that begin with it, and of two where it is the second's
-pub fault_first : (pointer : Text) (after : List Text) (e : ParseError) → TellsPointerFault pointer e → IsFirstFault (pointer ∷ after) e
+-- of texts that begin with it, and of two if it is the second one's
+pub fault_first : (pointer : Text) (after : List Text) (e : ParseError) → IsParseErrorOf pointer e → IsFirstFault (pointer ∷ after) e
 fault_first pointer after e tells = ([], pointer, after, refl, All-nil IsPointer, tells)
 
-pub fault_second : (from pointer : Text) (e : ParseError) → IsPointer from → TellsPointerFault pointer e → IsFirstFault (from ∷ pointer ∷ []) e
+pub fault_second : (from pointer : Text) (e : ParseError) → IsPointer from → IsParseErrorOf pointer e → IsFirstFault (from ∷ pointer ∷ []) e
 fault_second from pointer e is tells = (from ∷ [], pointer, [], refl, All-cons IsPointer from [] is (All-nil IsPointer), tells)
 
--- the first fault of an operation is that of all, where the pointers of those before it are pointers
+-- the first error of an operation is that of all, if the pointers of those before it are valid
 fault_behind : (fs : List Form) (f : Form) (gs : List Form) (e : ParseError) → All IsPointer (pointers_of fs) → IsFirstFault (form_pointers f) e → IsFirstFault (pointers_of (fs ++ (f ∷ gs))) e
 fault_behind fs f gs e done (before, pointer, after, are, all, tells) = (
   pointers_of fs ++ before,
@@ -197,7 +197,7 @@ pointers_more of fs k d lt done all =
     rw (take_more fs k d lt) (rw (map-append of (take k fs) (get_or fs k d ∷ [])) (rw (flat_map-append form_pointers (map of (take k fs)) (of (get_or fs k d) ∷ []))
     (rw append-nil (All-append IsPointer (pointers_of (map of (take k fs))) (form_pointers (of (get_or fs k d))) done all))))
 
--- the first fault of the operation at a place, where all pointers before it are pointers, is that of all operations
+-- the first error of the operation at a position is that of all operations, if all pointers before it are valid
 pub fault_at : {A : Type 0} (of : A → Form) (fs : List A) (k : ℕ) (d : A) (e : ParseError) → k < length fs → All IsPointer (pointers_of (map of (take k fs)))
     → IsFirstFault (form_pointers (of (get_or fs k d))) e → IsFirstFault (pointers_of (map of fs)) e
 fault_at of fs k d e lt done first =
@@ -209,7 +209,7 @@ fault_at of fs k d e lt done first =
 pub pushed : {X : Type 0} (now old : List X) (x : X) (done : Bool) → now ≡ (if done then old ++ (x ∷ []) else old) → true ≡ done → now ≡ old ++ (x ∷ [])
 pushed now old x done is so = is ∙ ap (λ (b : Bool). if b then old ++ (x ∷ []) else old) (sym so)
 
--- ---- what operations mean
+-- ---- operations as data
 
 means_more : (fs : List Form) (f : Form) (os : List Meant) (o : Meant) → MeanAll fs os → Means f o → MeanAll (fs ++ (f ∷ [])) (os ++ (o ∷ []))
 means_more [] f [] o h m = (m, tt)
@@ -225,7 +225,7 @@ means_next of does fs f os o h m =
     let whole = subst (λ (l : List Meant). MeanAll (map of fs ++ (of f ∷ [])) l) (sym (map-append does os (o ∷ []))) last in
     subst (λ (l : List Form). MeanAll l (map does (os ++ (o ∷ [])))) (sym (map-append of fs (f ∷ []))) whole
 
--- what the operations have, in three parts
+-- the words of the operations, in three parts
 split_at : {A : Type 0} (part : Form → List Text) (of : A → Form) (fs : List A) (f : A) (gs all : List A) → fs ++ (f ∷ gs) ≡ all
     → flat_map part (map of all) ≡ flat_map part (map of fs) ++ (part (of f) ++ flat_map part (map of gs))
 split_at {A = A} part of fs f gs all are =
@@ -237,13 +237,13 @@ all_left P xs ys h = subst (All P) (take_at xs ys (length xs) refl) (All-take P 
 all_right : {X : Type 0} (P : X → Type 0) (xs ys : List X) → All P (xs ++ ys) → All P ys
 all_right P xs ys h = subst (All P) (drop_at xs ys (length xs) refl) (All-drop P (length xs) (xs ++ ys) h)
 
--- where all pointers are pointers, those of one operation are
+-- if all pointers are valid, those of one operation are
 pub pointers_within : {A : Type 0} (of : A → Form) (fs : List A) (f : A) (gs all : List A) → fs ++ (f ∷ gs) ≡ all → All IsPointer (pointers_of (map of all)) → All IsPointer (form_pointers (of f))
 pointers_within of fs f gs all are h =
     let split = subst (All IsPointer) (split_at form_pointers of fs f gs all are) h in
     all_left IsPointer (form_pointers (of f)) (pointers_of (map of gs)) (all_right IsPointer (pointers_of (map of fs)) (form_pointers (of f) ++ pointers_of (map of gs)) split)
 
--- a refusal of one operation is one of all
+-- an error of one operation is one of all
 pub refused_within : {A : Type 0} (of : A → Form) (fs : List A) (f : A) (gs all : List A) (e : RunFault) → fs ++ (f ∷ gs) ≡ all
     → RefusesOneOf (form_values (of f)) e ⊎ (e ≡ Memory alloc_error) → RefusesOneOf (values_of (map of all)) e ⊎ (e ≡ Memory alloc_error)
 refused_within of fs f gs all e are (inl h) =

@@ -1,4 +1,4 @@
--- What operations make of a document depends on what they are to do alone, and words mean one thing.
+-- The result of operations depends only on their data, and words mean one list of data.
 use Rattle.std.proofs.Common.{◌≡◌, ℕ, List, [], ◌∷◌, ◌++◌, map, length, Option, Some, None, option_map, refl, sym, ap, ap₂, ◌∙◌, subst}
 use Rattle.std.specs.Prelude.{All}
 use Rattle.std.proofs.lemmas.List.{length-map}
@@ -13,7 +13,7 @@ use Rattle.jsonptr.specs.Resolve.{PutsAt}
 use Rattle.jsonptr.proofs.Calling.{tokens_of-text, IsPointer-text}
 use Rattle.jsonptr_patch.specs.Adding.{Adds}
 use Rattle.jsonptr_patch.specs.Operating.{Applies, Takes, Moves, Copies, Passes, RefusesOperation, RefusesAdd, RefusesTarget, RefusesMove, RefusesCopy, RefusesTest}
-use Rattle.jsonptr_patch.specs.Order.{IsInOrder}
+use Rattle.jsonptr_patch.specs.Order.{OperationHasSortedKeys}
 use Rattle.jsonptr_patch.specs.Patching.{Patches, RefusesPatch}
 use Rattle.jsonptr_patch.specs.declared.operation.Operation.{Operation}
 use Rattle.jsonptr_patch.specs.declared.operation.Operation.TheVariants as operation
@@ -68,7 +68,7 @@ refuses_same n k o p e same h =
     let is : RefusesOperation n k o e ≡ RefusesOperation n k p e = refuses_meant n k o e ∙ ap (λ (x : Meant). refuses n k x e) same ∙ sym (refuses_meant n k p e) in
     subst (λ (T : Type 0). T) is h
 
--- lists that mean the same make the same
+-- lists with the same data have the same result
 pub patches_same : (n m : NodeMap) (os ps : List Operation) → map meant os ≡ map meant ps → Patches n os m → Patches n ps m
 patches_same n m [] [] same h = h
 patches_same n m [] (p ∷ ps) same h = let no : ⊥ = cc in absurd no
@@ -78,7 +78,7 @@ patches_same n m (o ∷ os) (p ∷ ps) same h =
     let rest : map meant os ≡ map meant ps = cc in
     (h.0, applies_same n h.0 o p first h.1, patches_same h.0 m os ps rest h.2)
 
--- a list that means what one in two parts does has two such parts
+-- a list with the same data as one in two parts has two such parts
 split_same : (ps done : List Operation) (o : Operation) (rest : List Operation) → map meant (done ++ o ∷ rest) ≡ map meant ps → (before : List Operation) × (p : Operation) × (after : List Operation)
     × (ps ≡ before ++ p ∷ after)
     × (map meant done ≡ map meant before)
@@ -93,7 +93,7 @@ split_same (p ∷ ps) (d ∷ done) o rest same =
     let r = split_same ps done o rest (let tail : map meant (done ++ o ∷ rest) ≡ map meant ps = cc in tail) in
     (p ∷ r.0, r.1, r.2, ap (λ (l : List Operation). p ∷ l) r.3, ap₂ (λ (x : Meant) (l : List Meant). x ∷ l) first r.4, r.5)
 
--- and are refused alike
+-- and fail alike
 pub refused_same : (n : NodeMap) (os ps : List Operation) (e : PatchError) → map meant os ≡ map meant ps → RefusesPatch n os e → RefusesPatch n ps e
 refused_same n os ps e same h =
     let r = split_same ps h.done h.fails h.rest (ap (map meant) (sym h.split) ∙ same) in
@@ -142,7 +142,7 @@ mean_one (form ∷ forms) (o ∷ os) [] h k = absurd k
 mean_one (form ∷ forms) (o ∷ os) (p ∷ ps) h k =
     ap₂ (λ (x : Meant) (l : List Meant). x ∷ l) (means_one form o p h.0 k.0) (mean_one forms os ps h.1 k.1)
 
--- their pointers are pointers
+-- their pointers are valid
 
 abbrev AllPointers : List Text → Type 0
 AllPointers pointers = All IsPointer pointers
@@ -192,9 +192,9 @@ mean_values (form ∷ forms) [] h = absurd h
 mean_values (form ∷ forms) (o ∷ os) h =
     All-append IsJson (form_values form) (values_of forms) (means_values form o h.0) (mean_values forms os h.1)
 
--- in which the keys ascend
+-- whose keys are sorted
 
-means_in_order : (form : Form) (o : Operation) → Means form (meant o) → IsInOrder o
+means_in_order : (form : Form) (o : Operation) → Means form (meant o) → OperationHasSortedKeys o
 means_in_order form (operation.Add path value) h = ascends_json h.0 (view value) h.2
 means_in_order form (operation.Remove path) h = tt
 means_in_order form (operation.Replace path value) h = ascends_json h.0 (view value) h.2
@@ -202,8 +202,8 @@ means_in_order form (operation.Move from path) h = tt
 means_in_order form (operation.Copy from path) h = tt
 means_in_order form (operation.Test path value) h = tt
 
-pub mean_in_order : (forms : List Form) (patch : List Operation) → MeanAll forms (map meant patch) → All IsInOrder patch
-mean_in_order forms [] h = All-nil IsInOrder
+pub mean_in_order : (forms : List Form) (patch : List Operation) → MeanAll forms (map meant patch) → All OperationHasSortedKeys patch
+mean_in_order forms [] h = All-nil OperationHasSortedKeys
 mean_in_order [] (o ∷ os) h = absurd h
 mean_in_order (form ∷ forms) (o ∷ os) h =
-    All-cons IsInOrder o os (means_in_order form o h.0) (mean_in_order forms os h.1)
+    All-cons OperationHasSortedKeys o os (means_in_order form o h.0) (mean_in_order forms os h.1)

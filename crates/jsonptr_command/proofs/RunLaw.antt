@@ -1,4 +1,4 @@
--- That the stated answer of a run is one.
+-- The result of a run is unique.
 use Rattle.std.proofs.Common.{◌≡◌, ◌⊎◌, ℕ, List, [], ◌∷◌, ◌++◌, Option, Some, None, Result, Ok, Err, MatchOption, option_map, map, if◌then◌else◌, codes, Bool, true, false, length, take, drop, refl, sym, ◌∙◌, ap, ap₂, subst, inl, inr, arith, length-append}
 use Rattle.std.specs.Prelude.{All}
 use Rattle.std.proofs.lemmas.List.{take_at, drop_at}
@@ -12,16 +12,16 @@ use Rattle.jsonptr.specs.Node.{NodeMap, IsTree}
 use Rattle.jsonptr.specs.Following.{Finds}
 use Rattle.jsonptr.specs.Assigning.{Assigns}
 use Rattle.jsonptr.specs.Removing.{Deletes}
-use Rattle.jsonptr.specs.Json.{nodes, content, KeysAscend}
+use Rattle.jsonptr.specs.Json.{nodes, content, HasSortedKeys}
 use Rattle.jsonptr.proofs.Calling.{tokens_of-text, IsPointer-text, FindsValue_one, FindsValue-Finds, map_of-IsTree, map_of-finite}
 use Rattle.jsonptr.specs.Documents.{IsDocument}
-use Rattle.jsonptr_patch.specs.Order.{IsInOrder}
+use Rattle.jsonptr_patch.specs.Order.{OperationHasSortedKeys}
 use Rattle.jsonptr_patch.specs.Patching.{Patches, RefusesPatch}
 use Rattle.jsonptr_patch.specs.declared.operation.Operation.{Operation}
 use Rattle.jsonptr_patch.specs.declared.operation.PatchError.{PatchError}
 use Rattle.jsonptr.specs.Index.{Reads}
 use Rattle.jsonptr.specs.Types.Index.TheVariants.{Num}
-use Rattle.jsonptr.specs.ParseError.{TellsPointerFault}
+use Rattle.jsonptr.specs.ParseError.{IsParseErrorOf}
 use Rattle.jsonptr.specs.Resolve.{Refuses}
 use Rattle.jsonptr.specs.Assign.{RefusesAssign}
 use Rattle.jsonptr.specs.Types.ParseError.{ParseError}
@@ -33,7 +33,7 @@ use Rattle.jsonptr_command.proofs.MeantLemmas.{IsJson, one_value_json, mean_one,
 use Rattle.jsonptr_command.proofs.OrderLemmas.{ascends_json}
 use Rattle.jsonptr_command.specs.JsonText.{json_of, IsJsonLine}
 use Rattle.jsonptr_command.specs.Operations.{Form, words_of, pointers_of, Meant, meant, MeanAll}
-use Rattle.jsonptr_command.specs.Run.{Request, resolving, listing, assigning, deleting, splitting, patching, AskFor, HaveValue, HaveForms, HaveValues, TakePointer, TakePointers, IsWordsFault, IsPointerFault, IsValueFault, Asks, AssignsAt, DeletesAt, Gives, PatchesBy, Resolves, texts_value}
+use Rattle.jsonptr_command.specs.Run.{Request, resolving, listing, assigning, deleting, splitting, patching, AskFor, HaveValue, HaveForms, HaveValues, TakePointer, TakePointers, IsWordsFault, IsPointerFault, IsValueFault, Asks, AssignsAt, DeletesAt, Outcome, PatchesBy, Resolves, texts_value}
 use Rattle.jsonptr_command.specs.declared.fault.RunFault.{RunFault}
 use Rattle.jsonptr_command.specs.declared.fault.RunFault.TheVariants.{BadPointer, NoValue, BadPlace, BadPatch, InputNotJson}
 
@@ -60,8 +60,8 @@ begins_as_asked words (patching os) h = rw h.1 refl
 same_forms : (words : List Text) (fs gs : List Form) → HaveForms words fs → HaveForms words gs → fs ≡ gs
 same_forms words fs gs h k = forms_one fs gs (same_behind words (words_of fs) (words_of gs) h k)
 
--- what words ask for, if their command is another than `patch`, their pointer is one and their position, if they have
--- one, is n
+-- what words ask for, if their command is not `patch`, their pointer is valid, and their position, if they have one,
+-- is n
 asked : ℕ → List Text → Option Request
 asked n [] = None
 asked n (c ∷ []) = None
@@ -92,7 +92,7 @@ is_asked words (deleting ts) other h = rw h (ap (λ (us : List Text). Some (dele
 is_asked words (splitting ts n) other h = rw h.1 (ap (λ (us : List Text). Some (splitting us n)) (tokens_of-text ts))
 is_asked words (patching os) other h = let no : ⊥ = cc in absurd no
 
--- the position that words have, or 0 where their command takes none
+-- the position in the words, or 0 if their command takes none
 PositionIf : Bool → Text → ℕ → Type 0
 PositionIf true position n = Reads position (Ok (Num n))
 PositionIf false position n = n ≡ 0
@@ -175,7 +175,7 @@ is_second words p (inr (inr (inr (inr h)))) = ap second h.1.1
 pointer_one : (words : List Text) (p q : Text) → TakePointer words p → TakePointer words q → p ≡ q
 pointer_one words p q h k = sym (is_second words p h) ∙ is_second words q k
 
--- the pointers of words are these
+-- the pointers of words are unique
 pointers_one : (words : List Text) (ps qs : List Text) → TakePointers words ps → TakePointers words qs → ps ≡ qs
 pointers_one words ps qs (inl h) (inl k) =
     h.2 ∙ ap (λ (p : Text). p ∷ []) (pointer_one words h.0 k.0 h.1 k.1) ∙ sym k.2
@@ -185,7 +185,7 @@ pointers_one words ps qs (inr h) (inl k) =
     absurd (no_both words (begins_so words h.0 h.1) (begins_otherwise words k.0 k.1))
 pointers_one words ps qs (inr h) (inr k) = h.2 ∙ ap (λ (fs : List Form). pointers_of fs) (same_forms words h.0 k.0 h.1 k.1) ∙ sym k.2
 
--- words whose pointers are pointers
+-- words whose pointers are valid
 abbrev TakeGood : List Text → Type 0
 TakeGood words = (pointers : List Text) × TakePointers words pointers × All IsPointer pointers
 
@@ -250,12 +250,12 @@ values_json words values (patching os) h (inr k) =
     let same : h.0 ≡ k.0 = same_forms words h.0 k.0 h.1 k.1 in
     rw k.3 (mean_values k.0 os (subst (λ (fs : List Form). MeanAll fs os) same h.2))
 
--- what stands in the middle of a list of which all hold
+-- an element in the middle of a list whose elements all are pointers
 at_middle : (before : List Text) (p : Text) (after : List Text) → All IsPointer (before ++ (p ∷ after)) → IsPointer p
 at_middle [] p after h = All-head IsPointer p after h
 at_middle (b ∷ before) p after h = at_middle before p after (All-tail IsPointer b (before ++ (p ∷ after)) h)
 
--- the first text of a list that is no pointer is one
+-- the first text of a list that is not a pointer is unique
 first_one : (before : List Text) (p : Text) (after : List Text) (front : List Text) (q : Text) (rest : List Text) → before ++ (p ∷ after) ≡ front ++ (q ∷ rest) → All IsPointer before → All IsPointer front → (IsPointer p → ⊥) → (IsPointer q → ⊥) → p ≡ q
 first_one [] p after [] q rest e a b c d = cc
 first_one [] p after (f ∷ front) q rest e a b c d =
@@ -267,8 +267,8 @@ first_one (x ∷ before) p after [] q rest e a b c d =
 first_one (x ∷ before) p after (f ∷ front) q rest e a b c d =
     first_one before p after front q rest (let tail : before ++ (p ∷ after) ≡ front ++ (q ∷ rest) = cc in tail) (All-tail IsPointer x before a) (All-tail IsPointer f front b) c d
 
-module _ (not_both : (s : Text) (e : ParseError) → IsPointer s → TellsPointerFault s e → ⊥) (one : (s : Text) (e f : ParseError) → TellsPointerFault s e → TellsPointerFault s f → e ≡ f) (words : List Text) where
-  -- pointers that are pointers are not refused
+module _ (not_both : (s : Text) (e : ParseError) → IsPointer s → IsParseErrorOf s e → ⊥) (one : (s : Text) (e f : ParseError) → IsParseErrorOf s e → IsParseErrorOf s f → e ≡ f) (words : List Text) where
+  -- valid pointers have no error
   not_pointer_fault : (e : RunFault) → TakeGood words → IsPointerFault words e → ⊥
   not_pointer_fault e h k =
       let same : h.0 ≡ k.0 ++ (k.1 ∷ k.2) = pointers_one words h.0 (k.0 ++ (k.1 ∷ k.2)) h.1 k.4 in
@@ -285,7 +285,7 @@ module _ (not_both : (s : Text) (e : ParseError) → IsPointer s → TellsPointe
   pointer_fault_one e f h k =
       let all : h.0 ++ (h.1 ∷ h.2) ≡ k.0 ++ (k.1 ∷ k.2) = pointers_one words (h.0 ++ (h.1 ∷ h.2)) (k.0 ++ (k.1 ∷ k.2)) h.4 k.4 in
       let same : h.1 ≡ k.1 = first_one h.0 h.1 h.2 k.0 k.1 k.2 all h.5 k.5 (λ p. not_both h.1 h.3 p h.6) (λ p. not_both k.1 k.3 p k.6) in
-      let fault : h.3 ≡ k.3 = one k.1 h.3 k.3 (subst (λ (s : Text). TellsPointerFault s h.3) same h.6) k.6 in
+      let fault : h.3 ≡ k.3 = one k.1 h.3 k.3 (subst (λ (s : Text). IsParseErrorOf s h.3) same h.6) k.6 in
       h.7 ∙ ap (λ (x : ParseError). BadPointer x) fault ∙ sym k.7
 
   no_words_fault : (e : RunFault) (C : Type 0) → IsWordsFault words e → TakeGood words → C
@@ -310,21 +310,21 @@ module _ (not_both : (s : Text) (e : ParseError) → IsPointer s → TellsPointe
 
 -- ---- the line
 
--- two JSON lines of one value are one, if it has no float
+-- two JSON lines of one value are equal, if it contains no float
 pub line_one : (value : Data) (l m : Text) → has_float value ≡ false → IsJsonLine value l → IsJsonLine value m → l ≡ m
 line_one value l m none h k =
     h.2 ∙ ap (λ (t : Text). t ++ 10 ∷ []) (h.1.exact none ∙ sym (k.1.exact none)) ∙ sym k.2
 
 -- ---- the operation
 
--- what follows from two answers on a document, and where there is none, follows from them on the bytes
+-- what follows from two results on a document, and also if there is none, follows from the results on the bytes
 on_both : (o : Option Data) (P Q : Data → Type 0) (r q : Result Data RunFault) (C : Type 0) → (r ≡ Err InputNotJson → q ≡ Err InputNotJson → C) → ((d : Data) → P d → Q d → C) → MatchOption o (r ≡ Err InputNotJson) P
     → MatchOption o (q ≡ Err InputNotJson) Q → C
 on_both None P Q r q C none some h k = none h k
 on_both (Some d) P Q r q C none some h k = some d h k
 
--- the same on bytes that are read: in the document the keys ascend
-on_document : (bytes : List ℕ) (P Q : Data → Type 0) (r q : Result Data RunFault) (C : Type 0) → (r ≡ Err InputNotJson → q ≡ Err InputNotJson → C) → ((d : Data) → KeysAscend d → P d → Q d → C) → MatchOption (json_of bytes) (r ≡ Err InputNotJson) P
+-- the same for parsed bytes: the keys of the document are sorted
+on_document : (bytes : List ℕ) (P Q : Data → Type 0) (r q : Result Data RunFault) (C : Type 0) → (r ≡ Err InputNotJson → q ≡ Err InputNotJson → C) → ((d : Data) → HasSortedKeys d → P d → Q d → C) → MatchOption (json_of bytes) (r ≡ Err InputNotJson) P
     → MatchOption (json_of bytes) (q ≡ Err InputNotJson) Q → C
 on_document bytes P Q r q C none some h k = by_data (json_of bytes) refl h k
   where
@@ -357,17 +357,17 @@ module _ (not_both : (n : NodeMap) (tokens : List Text) (m : NodeMap) (e : resol
       let error : h.0 ≡ k.0 = one (nodes d) ts h.0 k.0 h.1 k.1 in
       ap (λ (x : RunFault). Err x) (h.2 ∙ ap (λ (x : resolve.Error). NoValue x) error ∙ sym k.2)
 
-  pub resolving_one : (ts : List Text) (bytes : List ℕ) (r q : Result Data RunFault) → Gives (resolving ts) bytes r → Gives (resolving ts) bytes q → r ≡ q
+  pub resolving_one : (ts : List Text) (bytes : List ℕ) (r q : Result Data RunFault) → Outcome (resolving ts) bytes r → Outcome (resolving ts) bytes q → r ≡ q
   resolving_one ts bytes r q h k =
       on_both (json_of bytes) (λ d. Resolves d ts r) (λ d. Resolves d ts q) r q (r ≡ q) (λ x y. x ∙ sym y) (λ d. resolves_one d ts r q) h k
 
-pub listing_one : (ts : List Text) (bytes : List ℕ) (r q : Result Data RunFault) → Gives (listing ts) bytes r → Gives (listing ts) bytes q → r ≡ q
+pub listing_one : (ts : List Text) (bytes : List ℕ) (r q : Result Data RunFault) → Outcome (listing ts) bytes r → Outcome (listing ts) bytes q → r ≡ q
 listing_one ts bytes r q h k = h ∙ sym k
 
 same_front : (f g us vs : List Text) → f ++ us ≡ g ++ vs → length f ≡ length g → (f ≡ g) × (us ≡ vs)
 same_front f g us vs e h = (sym (take_at f us (length f) refl) ∙ ap (take (length f)) e ∙ take_at g vs (length f) (sym h), sym (drop_at f us (length f) refl) ∙ ap (drop (length f)) e ∙ drop_at g vs (length f) (sym h))
 
-pub splitting_one : (ts : List Text) (n : ℕ) (bytes : List ℕ) (r q : Result Data RunFault) → Gives (splitting ts n) bytes r → Gives (splitting ts n) bytes q → r ≡ q
+pub splitting_one : (ts : List Text) (n : ℕ) (bytes : List ℕ) (r q : Result Data RunFault) → Outcome (splitting ts n) bytes r → Outcome (splitting ts n) bytes q → r ≡ q
 splitting_one ts n bytes (Ok v) (Ok w) h k =
     let same = same_front h.0 k.0 h.1 k.1 (sym h.2 ∙ k.2) (h.3 ∙ sym k.3) in
     ap (λ (x : Data). Ok x) (h.4 ∙ ap₂ (λ (f g : List Text). texts_value (text f ∷ text g ∷ [])) same.0 same.1 ∙ sym k.4)
@@ -379,7 +379,7 @@ splitting_one ts n bytes (Err e) (Err f) h k = ap (λ (x : RunFault). Err x) (h.
 is_document : (d : Data) → IsDocument (nodes d)
 is_document d = (map_of-IsTree (content d), map_of-finite (content d))
 
--- what a patch gives is a document or a refusal, and one map, or one refusal
+-- the result of a patch is a document or an error, and each is unique
 module _ (not_both : (n m : NodeMap) (os : List Operation) (e : PatchError) → IsDocument n → Patches n os m → RefusesPatch n os e → ⊥) (d : Data) (os : List Meant) where
   pub patches_not_both : (value : Data) (e : RunFault) → PatchesBy d os (Ok value) → PatchesBy d os (Err e) → ⊥
   patches_not_both value e h k =
@@ -396,21 +396,21 @@ module _ (one : (n m l : NodeMap) (os : List Operation) → IsDocument n → Pat
   patches_one_map value other h k =
       one (nodes d) (nodes value) (nodes other) k.0 (is_document d) (patches_same (nodes d) (nodes value) h.0 k.0 (h.1 ∙ sym k.1) h.2) k.2
 
--- of words that ask for a patch the operations are in order
-asked_in_order : (words : List Text) (os : List Meant) (patch : List Operation) → AskFor words (patching os) → map meant patch ≡ os → All IsInOrder patch
+-- the values of a patch that words ask for have sorted keys
+asked_in_order : (words : List Text) (os : List Meant) (patch : List Operation) → AskFor words (patching os) → map meant patch ≡ os → All OperationHasSortedKeys patch
 asked_in_order words os patch h is = mean_in_order h.0 patch (subst (λ (l : List Meant). MeanAll h.0 l) (sym is) h.2)
 
--- the documents that are left are one, where the keys ascend in both
+-- two documents with the same map are equal, if the keys of both are sorted
 abbrev OneMap : Type 0
-OneMap = (d e : Data) → KeysAscend d → KeysAscend e → nodes d ≡ nodes e → d ≡ e
+OneMap = (d e : Data) → HasSortedKeys d → HasSortedKeys e → nodes d ≡ nodes e → d ≡ e
 
--- what resolving gives is one
+-- the result of resolving is unique
 abbrev OneResolved : Type 0
-OneResolved = (ts : List Text) (bytes : List ℕ) (r q : Result Data RunFault) → Gives (resolving ts) bytes r → Gives (resolving ts) bytes q → r ≡ q
+OneResolved = (ts : List Text) (bytes : List ℕ) (r q : Result Data RunFault) → Outcome (resolving ts) bytes r → Outcome (resolving ts) bytes q → r ≡ q
 
 module _ (resolved_one : OneResolved) (assign_not_both : (n : NodeMap) (tokens : List Text) (v m : NodeMap) (old : Option NodeMap) (e : assign.Error) → Assigns n tokens v m old → RefusesAssign n tokens e → ⊥)
     (patch_not_both : (n m : NodeMap) (os : List Operation) (e : PatchError) → IsDocument n → Patches n os m → RefusesPatch n os e → ⊥) where
-  pub not_both : (request : Request) (bytes : List ℕ) (value : Data) (e : RunFault) → Gives request bytes (Ok value) → Gives request bytes (Err e) → ⊥
+  pub not_both : (request : Request) (bytes : List ℕ) (value : Data) (e : RunFault) → Outcome request bytes (Ok value) → Outcome request bytes (Err e) → ⊥
   not_both (resolving ts) bytes value e h k = value_or_fault value e ⊥ (resolved_one ts bytes (Ok value) (Err e) h k)
   not_both (listing ts) bytes value e h k = value_or_fault value e ⊥ (listing_one ts bytes (Ok value) (Err e) h k)
   not_both (assigning ts v) bytes value e h k =
@@ -426,7 +426,7 @@ module _ (resolved_one : OneResolved) (assign_not_both : (n : NodeMap) (tokens :
 
 module _ (resolved_one : OneResolved) (refused_one : (n : NodeMap) (tokens : List Text) (e f : assign.Error) → RefusesAssign n tokens e → RefusesAssign n tokens f → e ≡ f)
     (patch_refused_one : (n : NodeMap) (os : List Operation) (e f : PatchError) → IsDocument n → RefusesPatch n os e → RefusesPatch n os f → e ≡ f) where
-  pub one_fault : (request : Request) (bytes : List ℕ) (e f : RunFault) → Gives request bytes (Err e) → Gives request bytes (Err f) → e ≡ f
+  pub one_fault : (request : Request) (bytes : List ℕ) (e f : RunFault) → Outcome request bytes (Err e) → Outcome request bytes (Err f) → e ≡ f
   one_fault (resolving ts) bytes e f h k = fault_of e f (resolved_one ts bytes (Err e) (Err f) h k)
   one_fault (listing ts) bytes e f h k = fault_of e f (listing_one ts bytes (Err e) (Err f) h k)
   one_fault (assigning ts v) bytes e f h k =
@@ -443,13 +443,13 @@ module _ (resolved_one : OneResolved) (one_map : OneMap) (tree : (d : Data) → 
     (made_one : (n : NodeMap) (tokens : List Text) (v m k : NodeMap) (old was : Option NodeMap) → Assigns n tokens v m old → Assigns n tokens v k was → (m ≡ k) × (old ≡ was))
     (deleted_one : (n blank : NodeMap) (tokens : List Text) (m k : NodeMap) → IsTree n → Deletes n tokens blank m → Deletes n tokens blank k → m ≡ k)
     (patched_one : (n m l : NodeMap) (os : List Operation) → IsDocument n → Patches n os m → Patches n os l → m ≡ l) where
-  pub one_value : (words : List Text) (request : Request) (bytes : List ℕ) (value other : Data) → AskFor words request → Gives request bytes (Ok value) → Gives request bytes (Ok other) → value ≡ other
+  pub one_value : (words : List Text) (request : Request) (bytes : List ℕ) (value other : Data) → AskFor words request → Outcome request bytes (Ok value) → Outcome request bytes (Ok other) → value ≡ other
   one_value words (resolving ts) bytes value other asks h k = value_of value other (resolved_one ts bytes (Ok value) (Ok other) h k)
   one_value words (listing ts) bytes value other asks h k = value_of value other (listing_one ts bytes (Ok value) (Ok other) h k)
   one_value words (assigning ts v) bytes value other asks h k =
       on_document bytes (λ d. AssignsAt d ts v (Ok value)) (λ d. AssignsAt d ts v (Ok other)) (Ok value) (Ok other) (value ≡ other) (λ x y. value_or_fault value InputNotJson (value ≡ other) x)
       (λ d order x y.
-      let given : KeysAscend v = ascends_json asks.0 v asks.2 in
+      let given : HasSortedKeys v = ascends_json asks.0 v asks.2 in
       one_map value other (x.2 given order) (y.2 given order) (made_one (nodes d) ts (nodes v) (nodes value) (nodes other) x.0 y.0 x.1 y.1).0) h k
   one_value words (deleting ts) bytes value other asks h k =
       on_document bytes (λ d. DeletesAt d ts (Ok value)) (λ d. DeletesAt d ts (Ok other)) (Ok value) (Ok other) (value ≡ other) (λ x y. value_or_fault value InputNotJson (value ≡ other) x)

@@ -7,7 +7,7 @@ use Rattle.jsonptr.specs.Text.{Text}
 use Rattle.jsonptr_command.specs.JsonText.{IsJsonLine}
 use Rattle.jsonptr_command.specs.Run.{texts_value}
 
--- texts have no float
+-- texts contain no float
 no_float : (ts : List Text) → items_have_float (items_of (map string ts)) ≡ false
 no_float [] = refl
 no_float (t ∷ ts) = no_float ts

@@ -1,4 +1,4 @@
--- The words of the program's contracts.
+-- Definitions of the program's contracts.
 pub mod Streams
 pub mod JsonText
 pub mod Faults

@@ -1,4 +1,4 @@
--- The operations of a patch (RFC 6902, section 4) as words of a command line, and what they are to do.
+-- The operations of a patch (RFC 6902, section 4) as words of a command line, and as data.
 use Rattle.std.specs.Prelude.{◌≡◌, List, [], ◌∷◌, flat_map, Some, codes, ⊤}
 use Rattle.serde_json.specs.Data.{Data}
 use Rattle.serde_json.specs.View.{view}
@@ -7,7 +7,7 @@ use Rattle.jsonptr_patch.specs.declared.operation.Operation.{Operation}
 use Rattle.jsonptr_patch.specs.declared.operation.Operation.TheVariants as operation
 use Rattle.jsonptr_command.specs.JsonText.{json_of}
 
--- an operation as its words have it: the texts of its pointers, and the JSON text of its value
+-- An operation as words: the texts of its pointers, and the JSON text of its value.
 pub data Form : Type 0 where
   add : Text → Text → Form
   remove : Text → Form
@@ -16,7 +16,7 @@ pub data Form : Type 0 where
   copy : Text → Text → Form
   test : Text → Text → Form
 
--- its words: its name, and as many more as it takes
+-- `form_words form`: its words, which are its name and its arguments.
 abbrev pub form_words : Form → List Text
 form_words (add pointer value) = codes "add" ∷ pointer ∷ value ∷ []
 form_words (remove pointer) = codes "remove" ∷ pointer ∷ []
@@ -25,7 +25,7 @@ form_words (move from pointer) = codes "move" ∷ from ∷ pointer ∷ []
 form_words (copy from pointer) = codes "copy" ∷ from ∷ pointer ∷ []
 form_words (test pointer value) = codes "test" ∷ pointer ∷ value ∷ []
 
--- those of them that are to be pointers
+-- `form_pointers form`: the arguments that must be pointers.
 abbrev pub form_pointers : Form → List Text
 form_pointers (add pointer value) = pointer ∷ []
 form_pointers (remove pointer) = pointer ∷ []
@@ -34,7 +34,7 @@ form_pointers (move from pointer) = from ∷ pointer ∷ []
 form_pointers (copy from pointer) = from ∷ pointer ∷ []
 form_pointers (test pointer value) = pointer ∷ []
 
--- and those that are to be JSON texts
+-- `form_values form`: the arguments that must be JSON texts.
 abbrev pub form_values : Form → List Text
 form_values (add pointer value) = value ∷ []
 form_values (remove pointer) = []
@@ -43,7 +43,8 @@ form_values (move from pointer) = []
 form_values (copy from pointer) = []
 form_values (test pointer value) = value ∷ []
 
--- the same of operations one behind the other
+-- `words_of forms`: the words of a list of operations. The two definitions below are the pointers and the values
+-- among them.
 abbrev pub words_of : List Form → List Text
 words_of forms = flat_map form_words forms
 
@@ -53,7 +54,7 @@ pointers_of forms = flat_map form_pointers forms
 abbrev pub values_of : List Form → List Text
 values_of forms = flat_map form_values forms
 
--- what an operation is to do: the tokens of its pointers, and its value
+-- An operation as data: the tokens of its pointers, and its value.
 pub data Meant : Type 0 where
   adding : List Text → Data → Meant
   removing : List Text → Meant
@@ -62,7 +63,7 @@ pub data Meant : Type 0 where
   copying : List Text → List Text → Meant
   testing : List Text → Data → Meant
 
--- what the operations of `jsonptr_patch` are to do
+-- `meant o`: the operation `o` of `jsonptr_patch` as data.
 abbrev pub meant : Operation → Meant
 meant (operation.Add path value) = adding path (view value)
 meant (operation.Remove path) = removing path
@@ -71,7 +72,7 @@ meant (operation.Move from path) = moving from path
 meant (operation.Copy from path) = copying from path
 meant (operation.Test path value) = testing path (view value)
 
--- the words of the form mean it
+-- `Means form o`: the words of `form` mean the operation `o`.
 abbrev pub Means : Form → Meant → Type 0
 Means form (adding ts v) = (value : Text) × (form ≡ add (text ts) value) × (json_of value ≡ Some v)
 Means form (removing ts) = form ≡ remove (text ts)
@@ -81,7 +82,7 @@ Means form (moving from ts) = form ≡ move (text from) (text ts)
 Means form (copying from ts) = form ≡ copy (text from) (text ts)
 Means form (testing ts v) = (value : Text) × (form ≡ test (text ts) value) × (json_of value ≡ Some v)
 
--- each of the forms means the one at its place
+-- `MeanAll forms os`: the words of each of the `forms` mean the operation at the same position in `os`.
 abbrev pub MeanAll : List Form → List Meant → Type 0
 MeanAll [] [] = ⊤
 MeanAll [] (o ∷ os) = ⊥

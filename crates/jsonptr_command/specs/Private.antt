@@ -1,11 +1,11 @@
--- Words of private clauses alone: what the program's enums stand for, and the faults and lines of single stages. No
--- public clause cites them, so nothing here has to be believed.
+-- What the program's enums stand for, and the faults and lines of single stages. Used only by private contracts; no
+-- public contract depends on this file.
 use Rattle.std.specs.Prelude.{◌≡◌, ◌⊎◌, ℕ, List, map, Result, Ok, Err, alloc_error}
 use Rattle.serde_json.specs.Data.{Data}
 use Rattle.serde_json.specs.View.{view}
 use Rattle.jsonptr.specs.Text.{Text}
 use Rattle.jsonptr.specs.Pointer.{tokens}
-use Rattle.jsonptr.specs.ParseError.{TellsPointerFault}
+use Rattle.jsonptr.specs.ParseError.{IsParseErrorOf}
 use Rattle.jsonptr.specs.Types.ParseError.{ParseError}
 use Rattle.jsonptr.specs.Index.{Reads}
 use Rattle.jsonptr.specs.Types.Index.TheVariants.{Num}
@@ -20,45 +20,45 @@ use Rattle.jsonptr_command.specs.Faults.{RefusesValue}
 use Rattle.jsonptr_command.specs.Operations.{meant}
 use Rattle.jsonptr_command.specs.Run.{Request, resolving, listing, assigning, deleting, splitting, patching, AssignsAt, DeletesAt, HaveValue, PatchesBy, Resolves, TakePointer}
 
--- what contracts see of the program's `Task`
+-- `task_of task`: the request that the program's `task` is.
 abbrev pub task_of : Task → Request
 task_of (Resolve p) = resolving (tokens p)
 task_of (Assign p v) = assigning (tokens p) (view v)
 task_of (Delete p) = deleting (tokens p)
 task_of (Patch patch) = patching (map meant patch.items)
 
--- what it gives on a document
+-- `Does task d r`: `r` is the result of `task` on document `d`.
 abbrev pub Does : Task → Data → Result Data RunFault → Type 0
 Does (Resolve p) d = Resolves d (tokens p)
 Does (Assign p v) d = AssignsAt d (tokens p) (view v)
 Does (Delete p) d = DeletesAt d (tokens p)
 Does (Patch patch) d = PatchesBy d (map meant patch.items)
 
--- what contracts see of the program's `Request`
+-- `request_of request`: the request that the program's `request` is.
 abbrev pub request_of : code.Request → Request
 request_of (Tokens p) = listing (tokens p)
 request_of (Split p n) = splitting (tokens p) n
 request_of (Document task) = task_of task
 
--- of an operation that gives these values and refusals: a line of such a value
+-- `IsLineOf P line`: `line` is the JSON line of a value that is a result `P`.
 abbrev pub IsLineOf : (Result Data RunFault → Type 0) → Text → Type 0
 IsLineOf P line = (value : Data) × P (Ok value) × IsJsonLine value line
 
--- and such a refusal, or want of memory
+-- `IsFaultOf P e`: `e` is an error that is a result `P`, or a failed allocation.
 abbrev pub IsFaultOf : (Result Data RunFault → Type 0) → RunFault → Type 0
 IsFaultOf P e = P (Err e) ⊎ (e ≡ Memory alloc_error)
 
--- the text is no position to split at
+-- `RefusesPosition text e`: `text` is not a position to split at, and `e` reports that.
 abbrev pub RefusesPosition : Text → RunFault → Type 0
 RefusesPosition text e = ((n : ℕ) → Reads text (Ok (Num n)) → ⊥) × (e ≡ Usage)
 
--- the words are none of a command that takes one pointer; or are, and the pointer is refused, or the value to assign,
--- or memory for it
+-- `RefusesCommand words e`: the words of a command with one pointer fail with `e`. They are not those of such a
+-- command, or the pointer is not valid, or the value to assign is not JSON, or an allocation for it failed.
 abbrev pub RefusesCommand : List Text → RunFault → Type 0
 RefusesCommand words e =
     (((pointer : Text) → TakePointer words pointer → ⊥) × (e ≡ Usage))
     ⊎ ((pointer : Text) × (f : ParseError)
     × TakePointer words pointer
-    × TellsPointerFault pointer f
+    × IsParseErrorOf pointer f
     × (e ≡ BadPointer f))
     ⊎ ((ts : List Text) × (value : Text) × HaveValue words ts value × RefusesValue value e)

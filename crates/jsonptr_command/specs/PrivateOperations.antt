@@ -1,10 +1,10 @@
--- Words of private clauses alone: reading the operations of a patch from words. No public clause cites them, so nothing
--- here has to be believed.
+-- Reading the operations of a patch from words. Used only by private contracts; no public contract depends on this
+-- file.
 use Rattle.std.specs.Prelude.{◌≡◌, ◌⊎◌, List, [], ◌∷◌, ◌++◌, Option, Some, None, option_map, if◌then◌else◌, codes, All, Contains, alloc_error}
 use Rattle.std.specs.Str.{bytes_eq}
 use Rattle.jsonptr.specs.Text.{Text}
 use Rattle.jsonptr.specs.Grammar.{IsPointer}
-use Rattle.jsonptr.specs.ParseError.{TellsPointerFault}
+use Rattle.jsonptr.specs.ParseError.{IsParseErrorOf}
 use Rattle.jsonptr.specs.Types.ParseError.{ParseError}
 use Rattle.jsonptr_command.specs.JsonText.{json_of}
 use Rattle.jsonptr_command.specs.Operations.{Form, add, remove, replace, move, copy, test, words_of, pointers_of, values_of}
@@ -13,7 +13,7 @@ use Rattle.jsonptr_command.specs.declared.fault.RunFault.TheVariants.{Usage, Bad
 use Rattle.jsonptr_command.specs.declared.operations.Form as code
 use Rattle.jsonptr_command.specs.declared.operations.Form.TheVariants.{Add, Remove, Replace, Move, Copy, Test}
 
--- what contracts see of the program's `Form`
+-- `form_of form`: the form that the program's `form` is.
 abbrev pub form_of : code.Form → Form
 form_of (Add pointer value) = add pointer.now value.now
 form_of (Remove pointer) = remove pointer.now
@@ -22,7 +22,7 @@ form_of (Move from pointer) = move from.now pointer.now
 form_of (Copy from pointer) = copy from.now pointer.now
 form_of (Test pointer value) = test pointer.now value.now
 
--- the operation of this name that has two words more
+-- `with_two name first second`: the operation with this name and two arguments, if there is one.
 abbrev pub with_two : Text → Text → Text → Option Form
 with_two name first second =
     if bytes_eq name (codes "add")
@@ -37,37 +37,38 @@ with_two name first second =
     then Some (test first second)
     else None
 
--- the same, and the words behind it
+-- `cut_two name first rest`: the operation with this name and two arguments, of which the second is the first word of
+-- `rest`, and the words after it.
 abbrev pub cut_two : Text → Text → List Text → Option (Form × List Text)
 cut_two name first [] = None
 cut_two name first (second ∷ rest) = option_map (λ form. (form, rest)) (with_two name first second)
 
--- the first operation that the words have, and the words behind it
+-- `cut_of words`: the first operation of the words, and the words after it.
 abbrev pub cut_of : List Text → Option (Form × List Text)
 cut_of [] = None
 cut_of (name ∷ []) = None
 cut_of (name ∷ first ∷ rest) =
     if bytes_eq name (codes "remove") then Some (remove first, rest) else cut_two name first rest
 
--- the first of the texts that is no pointer, and its fault
+-- `IsFirstFault pointers e`: `e` is the error of the first of the `pointers` that is not valid.
 abbrev pub IsFirstFault : List Text → ParseError → Type 0
 IsFirstFault pointers e =
     (before : List Text) × (pointer : Text) × (after : List Text)
     × (pointers ≡ before ++ (pointer ∷ after))
     × All IsPointer before
-    × TellsPointerFault pointer e
+    × IsParseErrorOf pointer e
 
--- one of the texts is no JSON text
+-- `RefusesOneOf values e`: one of the `values` is not a JSON text, and `e` reports that.
 abbrev pub RefusesOneOf : List Text → RunFault → Type 0
 RefusesOneOf values e =
     (value : Text) × Contains values value × (json_of value ≡ None) × (e ≡ ValueNotJson)
 
--- the words are no operations
+-- `RefusesForms words e`: the words are not operations, and `e` reports that.
 abbrev pub RefusesForms : List Text → RunFault → Type 0
 RefusesForms words e = ((forms : List Form) → words ≡ words_of forms → ⊥) × (e ≡ Usage)
 
--- the words are no operations; or one of their texts is no pointer; or all are, and one is no JSON text; or memory is
--- refused
+-- `RefusesOperations words e`: the words fail with `e`. They are not operations, or one of their pointers is not
+-- valid, or all are and one of their values is not JSON, or an allocation failed.
 abbrev pub RefusesOperations : List Text → RunFault → Type 0
 RefusesOperations words e =
     RefusesForms words e

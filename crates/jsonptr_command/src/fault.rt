@@ -1,4 +1,4 @@
-//! Why the program ends other than well.
+//! The errors of the program, and its exit status.
 ghost use Rattle.std.specs.Prelude.{◌≡◌, MatchResult};
 ghost use Rattle.std.specs.Process.{exit_status};
 ghost use Rattle.jsonptr_command.specs.Faults.{of_assign_fault, of_input_fault, of_patch_fault, of_resolve_fault};
@@ -13,42 +13,43 @@ use std::alloc::AllocError;
 use std::process::ExitCode;
 use thiserror::Error;
 
-/// Why the program ends other than well. Its text is the line on standard error.
+/// An error of the program. Its text is the line on standard error.
 #[derive(Debug, Drop, Error)]
 pub enum RunFault {
-    /// An unknown command or operation, a wrong number of words, or a position to split at that is no number.
+    /// An unknown command or operation, a wrong number of words, or a position to split at that is
+    /// not a number.
     #[error("usage: jsonptr_run resolve POINTER, delete POINTER, tokens POINTER, assign POINTER VALUE, split POINTER POSITION, patch OPERATIONS")]
     Usage,
-    /// A pointer's text is no JSON Pointer.
+    /// The text of a pointer is not a valid JSON Pointer.
     #[error(transparent)]
     BadPointer(ParseError),
-    /// The text of a value is no JSON text.
+    /// The text of a value is not a JSON text.
     #[error("VALUE is not JSON")]
     ValueNotJson,
-    /// The pointer names no value of the input.
+    /// The pointer does not resolve to a value of the input.
     #[error(transparent)]
     NoValue(resolve::Error),
     /// No value can be assigned at the pointer in the input.
     #[error(transparent)]
     BadPlace(assign::Error),
-    /// The pointer of what is to be deleted names no value of the input.
+    /// The pointer of the value to delete does not resolve in the input.
     #[error("delete failed: json pointer does not resolve")]
     NotThere,
-    /// The position to split at is above the count of the pointer's tokens.
+    /// The position to split at is greater than the number of tokens.
     #[error("split failed: position {position} is above the token count {count}")]
     BadSplit {
-        /// The position that was asked for, in tokens.
+        /// The position, in tokens.
         position: usize,
-        /// How many tokens the pointer has.
+        /// The number of tokens of the pointer.
         count: usize,
     },
-    /// An operation of the patch cannot be applied.
+    /// An operation of the patch fails.
     #[error(transparent)]
     BadPatch(PatchError),
-    /// The input is no JSON text, or is not UTF-8.
+    /// The input is not a JSON text, or not UTF-8.
     #[error("input is not JSON")]
     InputNotJson,
-    /// Memory was refused.
+    /// An allocation failed.
     #[error("out of memory")]
     Memory(AllocError),
     /// A read failed.
@@ -60,7 +61,7 @@ pub enum RunFault {
 }
 
 impl RunFault {
-    /// The status that the program ends with.
+    /// Returns the exit status of the program.
     pub fn status(&self) -> u8
         ensures { result ≡ status_of self.now }
     {
@@ -79,7 +80,7 @@ impl RunFault {
     }
 }
 
-/// The code that the program ends with: 0 where the run was done.
+/// Returns the exit code of the program, which is 0 if the run succeeded.
 pub fn exit_code(outcome: &Result<(), RunFault>) -> ExitCode
     ensures { MatchResult outcome.now
         (λ _. exit_status result ≡ 0)

@@ -1,30 +1,39 @@
 //! Reading a reader to its end.
-ghost use Rattle.std.specs.Prelude.{◌≡◌, IfSome, IfOk, OnOk, OnErr};
+ghost use Rattle.std.specs.Prelude.{◌≡◌, ◌≢◌, [], IfSome, IfOk, IfErr, OnOk, OnErr, Some};
 ghost use Rattle.std.specs.Io.KnownBytes.{Consumes, IsAtEnd};
 ghost use Rattle.jsonptr_command.specs.Streams.{ConsumesSome};
+ghost use Rattle.jsonptr_command.specs.declared.input.InputFault.{InputFault};
 
 use std::alloc::{AllocError, Global};
 use std::io::{ErrorKind, Read};
 
-/// Why the input could not be read.
+/// Why the input cannot be read.
 #[derive(Debug, Clone, Copy, PartialEq, Eq)]
 pub enum InputFault {
-    /// Room for the input was refused.
+    /// There is no memory for the input.
     Memory(AllocError),
-    /// A read failed other than by interruption.
+    /// A read failed, and was not interrupted.
     Read,
 }
 
-// How many bytes one read may give.
+// The most bytes that one read returns.
 const CHUNK_LEN: usize = 4096;
 
-/// All bytes that the reader has left. A read that answers interruption is made again.
+/// Reads all bytes that are left. Repeats a read that was interrupted.
+///
+/// # Errors
+///
+/// [`InputFault::Read`] if a read fails, and [`InputFault::Memory`] if there is no memory for the
+/// bytes. An input without bytes needs no memory. An error may come after some bytes are read.
 pub fn read_all<R: Read>(alloc: Global, input: &mut R) -> Result<Vec<u8>, InputFault>
     ensures bytes { IfOk result
         (λ v. Consumes (R.remaining input.old) (R.remaining input.new) v.items) }
     ensures all { IfOk result (λ v. IfSome (R.remaining input.old) (λ xs. v.items ≡ xs)) }
     ensures end { OnOk result (IsAtEnd (R.remaining input.new)) }
     ensures err { OnErr result (ConsumesSome (R.remaining input.old) (R.remaining input.new)) }
+    // No bytes need no allocation.
+    ensures memory { IfErr result
+        (λ e. e ≢ InputFault.Read → R.remaining input.old ≢ Some []) }
 {
     let mut bytes = Vec::new(alloc);
     let mut chunk = [0u8; CHUNK_LEN];

@@ -1,11 +1,13 @@
 //! The JSON that the program reads and writes.
 ghost use Rattle.std.specs.Prelude.{◌≡◌, ◌≢◌, ◌≤◌, [], IfOk, IfErr, IfSome, OnErr, Some, option_map, string_bytes};
+ghost use Rattle.std.specs.Io.KnownBytes.{IsAtEnd};
 ghost use Rattle.serde_json.specs.Data.{depth};
 ghost use Rattle.serde_json.specs.Read.{max_depth};
 ghost use Rattle.serde_json.specs.View.{view};
 ghost use Rattle.jsonptr_command.specs.JsonText.{json_of, IsJsonLine};
 ghost use Rattle.jsonptr_command.specs.Streams.{ForBytes};
 ghost use Rattle.jsonptr_command.specs.Faults.{IsInputFault, RefusesValue};
+ghost use Rattle.jsonptr_command.specs.Run.{IsPastInput};
 
 use crate::fault::RunFault;
 use crate::input::read_all;
@@ -13,15 +15,15 @@ use serde_json::Value;
 use std::alloc::{AllocError, Global};
 use std::io::Read;
 
-/// The value that these bytes are, as one JSON text; none where they are no JSON text, or are not UTF-8.
+/// Parses bytes as one JSON text. Returns `None` if they are not one, or not UTF-8.
 ///
 /// # Errors
 ///
-/// Where room for the value is refused.
+/// [`AllocError`] if there is no memory for the value.
 pub fn read_json(alloc: Global, bytes: &[u8]) -> Result<Option<Value>, AllocError>
     ensures value { IfOk result (λ v. json_of bytes.now ≡ option_map view v) }
     ensures depth { IfOk result (λ v. IfSome v (λ value. depth (view value) ≤ max_depth)) }
-    // No bytes take no memory.
+    // No bytes need no allocation.
     ensures memory { OnErr result (bytes.now ≢ []) }
 {
     match Value::from_slice(alloc, bytes) {
@@ -31,11 +33,12 @@ pub fn read_json(alloc: Global, bytes: &[u8]) -> Result<Option<Value>, AllocErro
     }
 }
 
-/// The value that the text of a word is.
+/// Parses a word as a JSON text.
 ///
 /// # Errors
 ///
-/// [`RunFault::ValueNotJson`] where it is no JSON text, and [`RunFault::Memory`] where memory is refused.
+/// [`RunFault::ValueNotJson`] if it is not a JSON text, and [`RunFault::Memory`] if an allocation
+/// fails.
 pub fn read_value(alloc: Global, text: &str) -> Result<Value, RunFault>
     ensures ok { IfOk result (λ v. json_of text.now ≡ Some (view v)) }
     ensures err { IfErr result (RefusesValue text.now) }
@@ -43,18 +46,29 @@ pub fn read_value(alloc: Global, text: &str) -> Result<Value, RunFault>
     read_json(alloc, text.as_bytes())?.ok_or(RunFault::ValueNotJson)
 }
 
-/// The document that the reader's bytes are, all of them, as one JSON text.
+/// Reads all of the input and parses it as one JSON text. The input is at its end after `Ok` and
+/// after [`RunFault::InputNotJson`].
+///
+/// # Errors
+///
+/// [`RunFault::InputNotJson`] if it is not a JSON text, [`RunFault::Read`] if a read fails, and
+/// [`RunFault::Memory`] if an allocation fails.
 pub fn read_json_input<R: Read>(alloc: Global, input: &mut R) -> Result<Value, RunFault>
     ensures value { IfOk result
         (λ v. ForBytes (R.remaining input.old) (λ bytes. json_of bytes ≡ Some (view v))) }
     ensures depth { IfOk result (λ v. depth (view v) ≤ max_depth) }
     ensures err { IfErr result (IsInputFault (R.remaining input.old)) }
+    ensures at_end { IsPastInput result → IsAtEnd (R.remaining input.new) }
 {
     let bytes = read_all(alloc, input)?;
     read_json(alloc, &bytes)?.ok_or(RunFault::InputNotJson)
 }
 
-/// The JSON text of a value, with no space, and a newline.
+/// Returns the JSON text of a value, without spaces, and a newline.
+///
+/// # Errors
+///
+/// [`AllocError`] if there is no memory for the text.
 pub fn json_line(alloc: Global, value: &Value) -> Result<String, AllocError>
     ensures { IfOk result (λ line. IsJsonLine (view value.now) (string_bytes line)) }
 {

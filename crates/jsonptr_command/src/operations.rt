@@ -13,7 +13,7 @@ use jsonptr::{ParseError, Pointer, PointerBuf};
 use jsonptr_patch::Operation;
 use std::alloc::{AllocError, Global};
 
-/// An operation as its words have it: the texts of its pointers, and the JSON text of its value.
+/// An operation as words: the texts of its pointers, and the JSON text of its value.
 #[derive(Debug, Drop)]
 pub enum Form<'w> {
     /// `add POINTER VALUE`.
@@ -30,13 +30,18 @@ pub enum Form<'w> {
     Test(&'w str, &'w str),
 }
 
-/// The operations that the words are, each taking exactly as many words as it has.
+/// Parses the words as operations. Each operation takes exactly as many words as it has arguments,
+/// after its name.
 ///
 /// # Errors
 ///
-/// In this order: [`RunFault::Usage`] where the words are no operations, [`RunFault::BadPointer`] for the first of
-/// their pointers that is none, and [`RunFault::ValueNotJson`] where one of their values is no JSON text; and
-/// [`RunFault::Memory`] where memory is refused.
+/// In this order:
+///
+/// - [`RunFault::Usage`] if the words are not operations;
+/// - [`RunFault::BadPointer`] for the first pointer that is not valid;
+/// - [`RunFault::ValueNotJson`] if a value is not a JSON text.
+///
+/// [`RunFault::Memory`] if an allocation fails.
 pub fn read_operations(alloc: Global, words: &[String]) -> Result<Vec<Operation>, RunFault>
     ensures ok { IfOk result (λ patch. (forms : List specs.Form)
         × (map string_bytes words.now ≡ words_of forms)
@@ -48,11 +53,12 @@ pub fn read_operations(alloc: Global, words: &[String]) -> Result<Vec<Operation>
     mean(alloc, forms)
 }
 
-/// The operations as the words have them.
+/// Splits the words into operations.
 ///
 /// # Errors
 ///
-/// [`RunFault::Usage`] where the words are no operations, and [`RunFault::Memory`] where memory is refused.
+/// [`RunFault::Usage`] if the words are not operations, and [`RunFault::Memory`] if an allocation
+/// fails.
 fn read_forms(alloc: Global, words: &[String]) -> Result<Vec<Form<'_>>, RunFault>
     ensures ok { IfOk result
         (λ forms. map string_bytes words.now ≡ words_of (map form_of forms.items)) }
@@ -71,8 +77,8 @@ fn read_forms(alloc: Global, words: &[String]) -> Result<Vec<Form<'_>>, RunFault
     Ok(forms)
 }
 
-/// The first operation that the words have, and the words behind it; none where they begin with no known operation, or
-/// with fewer words than it takes.
+/// Returns the first operation of the words, and the words after it. Returns `None` if the words do
+/// not begin with a known operation, or are too few for it.
 fn cut(words: &[String]) -> Option<(Form<'_>, &[String])>
     ensures { cut_of (map string_bytes words.now)
         ≡ option_map (λ found. (form_of found.0, map string_bytes found.1.now)) result }
@@ -89,7 +95,7 @@ fn cut(words: &[String]) -> Option<(Form<'_>, &[String])>
     }
 }
 
-/// The operation of this name that has two words more.
+/// Returns the operation with this name and two arguments.
 fn form_with_two<'w>(name: &str, first: &'w str, second: &'w str) -> Option<Form<'w>>
     ensures { with_two name.now first.now second.now ≡ option_map form_of result }
 {
@@ -103,11 +109,11 @@ fn form_with_two<'w>(name: &str, first: &'w str, second: &'w str) -> Option<Form
     }
 }
 
-/// Parses all pointers, from left to right.
+/// Checks all pointers, from left to right.
 ///
 /// # Errors
 ///
-/// The fault of the first one that is none.
+/// The error of the first one that is not valid.
 fn check_pointers(forms: &[Form<'_>]) -> Result<(), ParseError>
     ensures ok { IfOk result (λ _. All IsPointer (pointers_of (map form_of forms.now))) }
     ensures err { IfErr result (IsFirstFault (pointers_of (map form_of forms.now))) }
@@ -118,7 +124,7 @@ fn check_pointers(forms: &[Form<'_>]) -> Result<(), ParseError>
     Ok(())
 }
 
-/// The same of one operation.
+/// Checks the pointers of one operation, from left to right.
 fn check_pointers_in(form: &Form<'_>) -> Result<(), ParseError>
     ensures ok { IfOk result (λ _. All IsPointer (form_pointers (form_of form.now))) }
     ensures err { IfErr result (IsFirstFault (form_pointers (form_of form.now))) }
@@ -133,7 +139,7 @@ fn check_pointers_in(form: &Form<'_>) -> Result<(), ParseError>
     }
 }
 
-/// The same of one text.
+/// Checks one pointer.
 fn check_one(pointer: &str) -> Result<(), ParseError>
     ensures ok { IfOk result (λ _. All IsPointer (pointer.now ∷ [])) }
     ensures err { IfErr result (IsFirstFault (pointer.now ∷ [])) }
@@ -142,7 +148,7 @@ fn check_one(pointer: &str) -> Result<(), ParseError>
     Ok(())
 }
 
-/// The same of two.
+/// Checks two pointers, from left to right.
 fn check_two(from: &str, pointer: &str) -> Result<(), ParseError>
     ensures ok { IfOk result (λ _. All IsPointer (from.now ∷ pointer.now ∷ [])) }
     ensures err { IfErr result (IsFirstFault (from.now ∷ pointer.now ∷ [])) }
@@ -152,12 +158,16 @@ fn check_two(from: &str, pointer: &str) -> Result<(), ParseError>
     Ok(())
 }
 
-/// What the operations mean, whose pointers are pointers.
+/// Converts the words of operations to operations.
+///
+/// # Conditions
+///
+/// The texts of all pointers are valid.
 ///
 /// # Errors
 ///
-/// [`RunFault::ValueNotJson`] where one of their values is no JSON text, and [`RunFault::Memory`] where memory is
-/// refused.
+/// [`RunFault::ValueNotJson`] if a value is not a JSON text, and [`RunFault::Memory`] if an
+/// allocation fails.
 fn mean(alloc: Global, forms: Vec<Form<'_>>) -> Result<Vec<Operation>, RunFault>
     requires { All IsPointer (pointers_of (map form_of forms.items)) }
     ensures ok { IfOk result
@@ -173,7 +183,7 @@ fn mean(alloc: Global, forms: Vec<Form<'_>>) -> Result<Vec<Operation>, RunFault>
     Ok(patch)
 }
 
-/// The same of one operation.
+/// Converts the words of one operation to the operation, as [`mean`] does.
 fn mean_one(alloc: Global, form: Form<'_>) -> Result<Operation, RunFault>
     requires { All IsPointer (form_pointers (form_of form)) }
     ensures ok { IfOk result (λ operation. Means (form_of form.entry) (meant operation)) }
@@ -207,11 +217,15 @@ fn mean_one(alloc: Global, form: Form<'_>) -> Result<Operation, RunFault>
     })
 }
 
-/// The pointer with this text, which is one, and which it owns.
+/// Copies a text to an owned pointer.
+///
+/// # Conditions
+///
+/// The text is a valid JSON Pointer.
 ///
 /// # Errors
 ///
-/// [`AllocError`] where memory is refused.
+/// [`AllocError`] if an allocation fails.
 fn to_pointer(alloc: Global, pointer: &str) -> Result<PointerBuf, AllocError>
     requires { IsPointer pointer.now }
     ensures { IfOk result (λ owned. text owned ≡ pointer.now) }

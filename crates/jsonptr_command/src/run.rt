@@ -1,6 +1,6 @@
 //! One run of the program.
 ghost use Rattle.std.specs.Prelude.{◌≡◌, ◌≢◌, ◌⊎◌, ◌∷◌, [], Result, map, Some, Ok, Err, OnOk, IfOk, IfErr, IsErrOf, string_bytes};
-ghost use Rattle.std.specs.Io.KnownBytes.{Appends};
+ghost use Rattle.std.specs.Io.KnownBytes.{Appends, IsAtEnd};
 ghost use Rattle.serde_json.specs.Data.{string};
 ghost use Rattle.serde_json.specs.View.{view};
 ghost use Rattle.jsonptr.specs.Text.{text};
@@ -12,7 +12,7 @@ ghost use Rattle.jsonptr_command.specs.Streams.{AppendsFront, ForBytes};
 ghost use Rattle.jsonptr_command.specs.declared.fault.RunFault.{RunFault};
 ghost use Rattle.jsonptr_command.specs.Private.{request_of, task_of, Does, IsFaultOf, IsLineOf, RefusesCommand, RefusesPosition};
 ghost use Rattle.jsonptr_command.specs.Operations.{meant};
-ghost use Rattle.jsonptr_command.specs.Run.{AskFor, Asks, AssignsAt, DeletesAt, ForLine, Gives, IsRefusedSo, IsRequestFault, IsWordsMemory, NeedNoInput, NeedsInput, PatchesBy, Resolves, SplitsAt, texts_value};
+ghost use Rattle.jsonptr_command.specs.Run.{AskFor, Asks, AssignsAt, DeletesAt, ForLine, Outcome, IsPastInput, IsRefusedSo, IsRequestFault, IsWordsMemory, NeedInput, NeedNoInput, NeedsInput, PatchesBy, Resolves, SplitsInTwo, texts_value};
 
 use crate::fault::RunFault;
 use crate::json_text::{json_line, read_json_input, read_value};
@@ -28,38 +28,49 @@ use std::io::{Read, Write};
 /// What the words ask for, as far as it is known without the input.
 #[derive(Debug, Drop)]
 pub enum Request<'w> {
-    /// To list the pointer's tokens, decoded.
+    /// Lists the tokens of the pointer, decoded.
     Tokens(Pointer<'w>),
-    /// To split the pointer at the position, in tokens.
+    /// Splits the pointer at the position, in tokens.
     Split(Pointer<'w>, usize),
-    /// To do something with the document that the input is.
+    /// Does something with the document in the input.
     Document(Task<'w>),
 }
 
-/// What is done with a document.
+/// What to do with a document.
 #[derive(Debug, Drop)]
 pub enum Task<'w> {
-    /// To find the value that the pointer names.
+    /// Finds the value that the pointer resolves to.
     Resolve(Pointer<'w>),
-    /// To assign the value at the pointer.
+    /// Assigns the value at the pointer.
     Assign(Pointer<'w>, Value),
-    /// To delete what the pointer names.
+    /// Deletes the value that the pointer resolves to.
     Delete(Pointer<'w>),
-    /// To apply the operations in their order.
+    /// Applies the operations in order.
     Patch(Vec<Operation>),
 }
 
-/// Answers the words, which are those after the program's own name, with one line, or with a fault. The
-/// words come first, and with them the position to split at, then all pointers from left to right, then all
-/// values, the input to its end as one JSON text, the operation, the line. The line is of the value that the
-/// pointer names, of its tokens, of its text in two, or of the document as an assignment, a deletion or a patch
-/// leaves it.
+/// Runs the program: prints one line for the words, which are those after the program's own name.
+///
+/// The line has the value that the pointer resolves to, the tokens of the pointer, the two parts of
+/// its text, or the document after an assignment, a deletion or a patch. A run has these stages,
+/// and fails at the first one with an error:
+///
+/// 1. the words, and in them the position to split at;
+/// 2. all pointers, from left to right;
+/// 3. all values;
+/// 4. the input, read to its end as one JSON text;
+/// 5. the operation;
+/// 6. the line.
+///
+/// A command that needs no input does not read it, and no command reads it after an error in its
+/// words. A command that needs the input has read it to its end after `Ok`, and after an error of
+/// the input's JSON, of the operation or of a write. Nothing is written before the whole line is
+/// known.
 ///
 /// # Errors
 ///
-/// [`RunFault::Usage`] for other words than a known command takes, and then the cases of [`RunFault`] in
-/// that order; [`RunFault::Memory`] wherever memory is refused. Words that are refused, and a command that
-/// needs no input, leave it unread, and nothing is written before the whole line is known.
+/// The error of the first stage that fails; [`RunFault::Memory`] at any stage if an allocation
+/// fails.
 pub fn run_program<R: Read, W: Write>(
     alloc: Global,
     words: &[String],
@@ -75,6 +86,9 @@ pub fn run_program<R: Read, W: Write>(
         (AppendsFront (W.contents output.old) (W.contents output.new)) }
     ensures unwritten { IfErr result (λ e. e ≢ RunFault.Write → output.new ≡ output.old) }
     ensures unread { NeedNoInput (map string_bytes words.now) → input.new ≡ input.old }
+    ensures at_end { NeedInput (map string_bytes words.now)
+        → IsPastInput result
+        → IsAtEnd (R.remaining input.new) }
 {
     let request = read_request(alloc, words)?;
     let line = answer(alloc, request, input)?;
@@ -82,7 +96,7 @@ pub fn run_program<R: Read, W: Write>(
     Ok(())
 }
 
-/// What the words ask for.
+/// Parses the words.
 fn read_request(alloc: Global, words: &[String]) -> Result<Request<'_>, RunFault>
     ensures ok { IfOk result (λ r. Asks (map string_bytes words.now) (Ok (request_of r))) }
     ensures err { IfErr result (λ e. Asks (map string_bytes words.now) (Err e)
@@ -100,7 +114,7 @@ fn read_request(alloc: Global, words: &[String]) -> Result<Request<'_>, RunFault
     }
 }
 
-/// The same where the command is another than `patch`, and takes one pointer.
+/// Parses the words of a command other than `patch`. Each such command takes one pointer.
 fn read_command<'w>(
     alloc: Global,
     command: &str,
@@ -117,7 +131,7 @@ fn read_command<'w>(
     }
 }
 
-/// The same of two words.
+/// Parses the words of a command that takes only a pointer.
 fn read_two<'w>(command: &str, pointer: &'w str) -> Result<Request<'w>, RunFault>
     ensures ok { IfOk result (λ r. AskFor (command.now ∷ pointer.now ∷ []) (request_of r)) }
     ensures err { IfErr result (RefusesCommand (command.now ∷ pointer.now ∷ [])) }
@@ -130,7 +144,7 @@ fn read_two<'w>(command: &str, pointer: &'w str) -> Result<Request<'w>, RunFault
     }
 }
 
-/// The same of three.
+/// Parses the words of a command that takes a pointer and one more argument.
 fn read_three<'w>(
     alloc: Global,
     command: &str,
@@ -155,7 +169,7 @@ fn read_three<'w>(
     }
 }
 
-/// The position to split at, whose decimal text the word is.
+/// Parses the position to split at, which must be a decimal number.
 fn read_position(word: &str) -> Result<usize, RunFault>
     ensures ok { IfOk result (λ n. Reads word.now (Ok (Num n))) }
     ensures err { IfErr result (RefusesPosition word.now) }
@@ -167,13 +181,16 @@ fn read_position(word: &str) -> Result<usize, RunFault>
     }
 }
 
-/// The line that is asked for, from the input if it is needed.
+/// Returns the line for a request. Reads the input only if the request needs it.
 fn answer<R: Read>(alloc: Global, request: Request<'_>, input: &mut R) -> Result<String, RunFault>
     ensures ok { IfOk result (λ line. ForBytes (R.remaining input.old)
-        (λ bytes. IsLineOf (Gives (request_of request.entry) bytes) (string_bytes line))) }
+        (λ bytes. IsLineOf (Outcome (request_of request.entry) bytes) (string_bytes line))) }
     ensures err { IfErr result
         (IsRequestFault (request_of request.entry) (R.remaining input.old)) }
     ensures unread { (NeedsInput (request_of request.entry) → ⊥) → input.new ≡ input.old }
+    ensures at_end { NeedsInput (request_of request.entry)
+        → IsPastInput result
+        → IsAtEnd (R.remaining input.new) }
 {
     match request {
         Request::Tokens(pointer) => Ok(tokens_line(alloc, pointer)?),
@@ -182,17 +199,18 @@ fn answer<R: Read>(alloc: Global, request: Request<'_>, input: &mut R) -> Result
     }
 }
 
-/// The line of what the task gives on the input.
+/// Reads the input, and returns the line for a task on it.
 fn document_line<R: Read>(alloc: Global, task: Task<'_>, input: &mut R) -> Result<String, RunFault>
     ensures ok { IfOk result (λ line. ForBytes (R.remaining input.old)
-        (λ bytes. IsLineOf (Gives (task_of task.entry) bytes) (string_bytes line))) }
+        (λ bytes. IsLineOf (Outcome (task_of task.entry) bytes) (string_bytes line))) }
     ensures err { IfErr result (IsRequestFault (task_of task.entry) (R.remaining input.old)) }
+    ensures at_end { IsPastInput result → IsAtEnd (R.remaining input.new) }
 {
     let document = read_json_input(alloc, input)?;
     task_line(alloc, document, task)
 }
 
-/// The line of what the task gives on the document.
+/// Returns the line for a task on the document.
 fn task_line(alloc: Global, document: Value, task: Task<'_>) -> Result<String, RunFault>
     ensures ok { IfOk result
         (λ line. IsLineOf (Does task.entry (view document)) (string_bytes line)) }
@@ -206,7 +224,7 @@ fn task_line(alloc: Global, document: Value, task: Task<'_>) -> Result<String, R
     }
 }
 
-/// The line of the value that the pointer names in the document.
+/// Returns the line of the value that the pointer resolves to in the document.
 fn line_in(alloc: Global, document: &Value, pointer: Pointer<'_>) -> Result<String, RunFault>
     ensures ok { IfOk result (λ line.
         IsLineOf (Resolves (view document.now) (tokens pointer.entry)) (string_bytes line)) }
@@ -216,7 +234,7 @@ fn line_in(alloc: Global, document: &Value, pointer: Pointer<'_>) -> Result<Stri
     Ok(json_line(alloc, value)?)
 }
 
-/// The line of the document with the value assigned at the pointer.
+/// Returns the line of the document after the assignment of `value`.
 fn line_with(
     alloc: Global,
     mut document: Value,
@@ -233,7 +251,7 @@ fn line_with(
     Ok(json_line(alloc, &document)?)
 }
 
-/// The line of the document without what the pointer names.
+/// Returns the line of the document after the deletion.
 fn line_without(
     alloc: Global,
     mut document: Value,
@@ -249,7 +267,7 @@ fn line_without(
     Ok(json_line(alloc, &document)?)
 }
 
-/// The line of the document after the patch.
+/// Returns the line of the document after the patch.
 fn line_after(alloc: Global, mut document: Value, patch: Vec<Operation>) -> Result<String, RunFault>
     ensures ok { IfOk result (λ line.
         IsLineOf (PatchesBy (view document) (map meant patch.items)) (string_bytes line)) }
@@ -260,11 +278,12 @@ fn line_after(alloc: Global, mut document: Value, patch: Vec<Operation>) -> Resu
     Ok(json_line(alloc, &document)?)
 }
 
-/// The line of the texts of the pointer's first tokens and of the rest, as a JSON array.
+/// Returns the line of the two parts of the pointer's text, as a JSON array. The first part has
+/// `position` tokens.
 fn split_line(alloc: Global, pointer: Pointer<'_>, position: usize) -> Result<String, RunFault>
     ensures ok { IfOk result
-        (λ line. IsLineOf (SplitsAt (tokens pointer.entry) position) (string_bytes line)) }
-    ensures err { IfErr result (IsFaultOf (SplitsAt (tokens pointer.entry) position)) }
+        (λ line. IsLineOf (SplitsInTwo (tokens pointer.entry) position) (string_bytes line)) }
+    ensures err { IfErr result (IsFaultOf (SplitsInTwo (tokens pointer.entry) position)) }
 {
     let Some((front, rest)) = pointer.split_at(position) else {
         let count = pointer.count();
@@ -273,7 +292,7 @@ fn split_line(alloc: Global, pointer: Pointer<'_>, position: usize) -> Result<St
     Ok(texts_line(alloc, front, rest)?)
 }
 
-/// The line of the texts of two pointers, as a JSON array.
+/// Returns the line of the texts of two pointers, as a JSON array.
 fn texts_line(alloc: Global, front: Pointer<'_>, rest: Pointer<'_>) -> Result<String, AllocError>
     ensures { IfOk result (λ line. IsJsonLine
         (texts_value (text (tokens front.entry) ∷ text (tokens rest.entry) ∷ []))
@@ -285,7 +304,7 @@ fn texts_line(alloc: Global, front: Pointer<'_>, rest: Pointer<'_>) -> Result<St
     json_line(alloc, &Value::Array(parts))
 }
 
-/// The line of the pointer's tokens, decoded, as a JSON array.
+/// Returns the line of the pointer's decoded tokens, as a JSON array.
 fn tokens_line(alloc: Global, pointer: Pointer<'_>) -> Result<String, AllocError>
     ensures { IfOk result
         (λ line. IsJsonLine (texts_value (tokens pointer.entry)) (string_bytes line)) }
@@ -294,7 +313,7 @@ fn tokens_line(alloc: Global, pointer: Pointer<'_>) -> Result<String, AllocError
     json_line(alloc, &Value::Array(texts))
 }
 
-/// The pointer's tokens, decoded, as JSON strings.
+/// Returns the pointer's decoded tokens as JSON strings.
 fn token_texts(alloc: Global, pointer: Pointer<'_>) -> Result<Vec<Value>, AllocError>
     ensures { IfOk result (λ v. map view v.items ≡ map string (tokens pointer.entry)) }
 {

@@ -1,5 +1,5 @@
--- Laws of how a report is drawn: what is shown is printable, and where a label's carets stand.
-use Rattle.std.proofs.Common.{◌≡◌, ◌⊎◌, inl, inr, ℕ, ◌+◌, ◌<◌, ◌≤◌, ◌%◌, ◌/◌, List, [], ◌∷◌, ◌++◌, length, length-append, Bool, true, false, if◌then◌else◌, nat_lt, nat_le, min, max, All, arith, refl, sym, ap, ◌∙◌, chars, encode_utf8_all, zero-add, add-zero, add_assoc}
+-- Laws of how a report is drawn: what is shown is printable, and where a label's carets are.
+use Rattle.std.proofs.Common.{◌≡◌, ◌⊎◌, inl, inr, ℕ, ◌+◌, ◌<◌, ◌≤◌, ◌%◌, ◌/◌, List, [], ◌∷◌, ◌++◌, length, length-append, Bool, true, false, if◌then◌else◌, nat_lt, nat_le, min, max, All, arith, refl, sym, ap, ◌∙◌, chars, encode_utf8_all, Option, zero-add, add-zero, add_assoc}
 use Rattle.std.proofs.lemmas.Bool.{cond_both, lt-ltb, le-ltb, le-leb, lt-leb}
 use Rattle.std.proofs.lemmas.Bool.Decides.{nat_tests}
 use Rattle.std.proofs.lemmas.List.Elements.{All-nil, All-cons, All-head, All-tail, All-append, All-replicate}
@@ -7,8 +7,9 @@ use Rattle.std.proofs.lemmas.Str.{length-encode, len_utf8_bounds}
 use Rattle.std.specs.List.{flat_map}
 use Rattle.std.specs.Char.{encode_utf8, len_utf8, digit_char}
 use Rattle.std.specs.Char.Escape.{escape_unicode, hex_digit_at}
+use Rattle.jsonptr_grammar.specs.Text.{Text}
 use Rattle.jsonptr_diagnostic.specs.Diagnostic.{Mark}
-use Rattle.jsonptr_diagnostic.specs.Rendering.{is_unprintable, IsPrintable, shown_for, shown, size, columns, column, carets, label_line, drawn}
+use Rattle.jsonptr_diagnostic.specs.Rendering.{is_unprintable, IsPrintable, shown_for, shown, size, columns, column, carets, label_line, drawn, marks_of, IsRendered}
 
 -- ---- what is shown is printable
 
@@ -109,7 +110,7 @@ lines-drawn cs (m ∷ ms) =
 pub all-drawn : (cs : List ℕ) (ms : List Mark) → All (λ c. IsPrintable c ⊎ (c ≡ 10)) (drawn cs ms)
 all-drawn cs ms = All-append IsDrawn (shown cs) (flat_map (λ m. 10 ∷ label_line cs m) ms) (printable-drawn (shown cs) (shown-printable cs)) (lines-drawn cs ms)
 
--- a text of printable characters is shown as it is
+-- a text of printable characters is shown unchanged
 pub shown-plain : (cs : List ℕ) → All IsPrintable cs → shown cs ≡ cs
 shown-plain [] h = refl
 shown-plain (c ∷ cs) h =
@@ -137,7 +138,7 @@ columns-append p b (c ∷ xs) ys =
     w : ℕ
     w = if p b (b + len_utf8 c) then length (shown_for c) else 0
 
--- all characters between two places pass, or none
+-- all characters between two offsets pass, or none
 columns-all : (p : ℕ → ℕ → Bool) (b t : ℕ) (cs : List ℕ) → b + size cs ≤ t → ((m e : ℕ) → b ≤ m → m < e → e ≤ t → p m e ≡ true) → columns p b cs ≡ length (shown cs)
 columns-all p b t [] l h = refl
 columns-all p b t (c ∷ cs) l h =
@@ -156,9 +157,9 @@ columns-none p b (c ∷ cs) h =
     let rest = columns-none p (b + len_utf8 c) cs (λ m e x y z. h m e (omega arith) y (omega arith)) in
     rw here (zero-add (columns p (b + len_utf8 c) cs) ∙ rest)
 
--- ---- where a label stands
+-- ---- where a label is
 
--- the column of a byte of a character is behind what is shown for those before it
+-- the column of a byte of a character is after what is shown for those before it
 pub column-of : (front rest : List ℕ) (c k : ℕ) → k < len_utf8 c → column (size front + k) (front ++ c ∷ rest) ≡ length (shown front)
 column-of front rest c k l =
     columns-append p 0 front (c ∷ rest)
@@ -174,7 +175,7 @@ column-of front rest c k l =
         let here : p (0 + size front) (0 + size front + len_utf8 c) ≡ false = lt-leb (0 + size front + len_utf8 c) (size front + k) (omega arith) in
         rw here (zero-add (columns p (0 + size front + len_utf8 c) rest) ∙ columns-none p (0 + size front + len_utf8 c) rest (λ m e x y z. lt-leb e (size front + k) (omega arith)))
 
--- behind the end of a text is the column behind all that is shown
+-- the column after the end of a text is after all that is shown
 pub column-past : (cs : List ℕ) (o : ℕ) → size cs ≤ o → column o cs ≡ length (shown cs)
 column-past cs o l = columns-all (λ m e. nat_le e o) 0 o cs (omega arith) (λ m e x y z. le-leb e o z)
 
@@ -230,3 +231,10 @@ carets-inside front rest c k n some l = ap (max 1) (before ∙ below) ∙ one_at
 
     one_at_least : max 1 (length (shown_for c)) ≡ length (shown_for c)
     one_at_least = let s = shown_for-some c in omega arith
+
+-- ---- a report has one text
+
+-- what is drawn is one text, where the labels are
+pub rendered-one : (P : Option (List Mark) → Type 0) → ((r q : Option (List Mark)) → P r → P q → r ≡ q) → (subject s t : Text) → IsRendered P subject s → IsRendered P subject t → s ≡ t
+rendered-one P one subject s t h k =
+    h.drawn_so ∙ ap (λ (labels : Option (List Mark)). encode_utf8_all (drawn (chars subject) (marks_of labels))) (one h.labels k.labels h.given k.given) ∙ sym k.drawn_so

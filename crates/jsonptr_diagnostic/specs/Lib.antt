@@ -1,4 +1,4 @@
--- What contracts say of labels, of reports and of how a report is drawn.
+-- What contracts say about labels, reports, and the text that a report is drawn as.
 pub mod Diagnostic
 pub mod Report
 pub mod Rendering

@@ -1,17 +1,17 @@
--- What contracts see of the report of an error.
+-- Reports of errors, as contracts see them.
 use Rattle.std.specs.Prelude.{◌≡◌, Result, Ok, Err}
 use Rattle.jsonptr_diagnostic.specs.declared.diagnostic.Report.{Report}
 
--- the error that is reported
+-- `original_of r` is the error of the report `r`
 abbrev pub original_of : {E S : Type 0} → Report E S → E
 original_of r = r.source
 
--- the value that the error speaks of
+-- `subject_of r` is the value that the error of the report `r` is about
 abbrev pub subject_of : {E S : Type 0} → Report E S → S
 subject_of r = r.subject
 
--- what a result is with its error reported: the same value, or the report of the same error on a subject of
--- which P holds
+-- `IsDiagnosed result P r`: `r` is `result` with its error turned into a report whose subject meets
+-- `P`
 abbrev pub IsDiagnosed : {T E S : Type 0} → Result T E → (S → Type 0) → Result T (Report E S) → Type 0
 IsDiagnosed (Ok v) P r = r ≡ Ok v
 IsDiagnosed (Err e) P (Ok v) = ⊥

@@ -1,9 +1,32 @@
-//! Reports of errors: an error together with the value that it speaks of, and labels on the spans of that
-//! value.
+//! Error reports: an error, the value that it is about, and labels that point into that value.
 //!
-//! A report is drawn as text by [`Report::render`]:
+//! An error of this library is small. It holds offsets and positions, but not the text that they
+//! refer to. A [`Report`] adds that text, the *subject*, so that the error can be shown to the
+//! person who wrote it:
 //!
 //! ```text
+//! /size/~x
+//!       ^^ '~' must be followed by '0' or '1'
+//! ```
+//!
+//! The pieces, from the error to the picture:
+//!
+//! | Piece          | What it is                                                             |
+//! | -------------- | ---------------------------------------------------------------------- |
+//! | [`Diagnostic`] | an error that can be reported; its `labels` point into a given subject |
+//! | [`Diagnose`]   | turns the error of a `Result` into a report, by `diagnose`             |
+//! | [`Report`]     | the error and its subject; `render` draws the subject with its labels  |
+//! | [`Label`]      | a message about a span of bytes of the subject                         |
+//!
+//! The subject is the text that was parsed, or the `PointerBuf` that was followed in a document.
+//! Labels are not stored. The error computes them from its offsets and the subject each time.
+//!
+//! The calls `resolve` and `assign` return a `Fault`, which is not a [`Diagnostic`]. Take the error
+//! out with `Fault::refused`, and call [`into_report`](Diagnostic::into_report) on it.
+//!
+//! # Examples
+//!
+//! ```rust
 //! let text = String::from_str(alloc, "/size/~x")?;
 //! let parsed = Pointer::parse("/size/~x").diagnose(text);
 //! let report = parsed.err().ok_or("a report")?;
@@ -21,11 +44,22 @@ use std::alloc::{AllocError, Global};
 use std::fmt;
 use std::marker::Model;
 
-/// Words on a span of a text, whose place and length are in bytes.
-///
-/// Contracts see a label as these three. Nothing ties the span to any text: it may lie past the end.
+/// A message about a span of a text: its first byte and its length in bytes.
 ///
 /// ```text
+/// /size/~x
+///       ^^ '~' must be followed by '0' or '1'      offset 6, length 2
+/// ```
+///
+/// [`Diagnostic::labels`] returns labels. To label the subjects of an error type of your own,
+/// implement that trait, and make the labels by [`Label::new`] or [`one_label`].
+///
+/// A label does not hold the text that it points into, and its span can exceed that text. Contracts
+/// see a label as its message, offset and length.
+///
+/// # Examples
+///
+/// ```rust
 /// let label = Label::new(String::from_str(alloc, "no digits")?, 2, 3);
 /// assert_eq!(rt; label.text(), "no digits");
 /// assert_eq!(rt; (label.offset(), label.len()), (2, 3));
@@ -47,28 +81,56 @@ impl Model for Label {
 }
 
 impl Label {
-    /// The label with these words on the span of `len` bytes from the byte `offset` on.
+    /// Creates a label with the message `text` on the `len` bytes that start at the byte `offset`.
+    ///
+    /// # Examples
+    ///
+    /// ```rust
+    /// let label = Label::new(String::from_str(alloc, "not a key")?, 1, 4);
+    /// assert_eq!(rt; label, Label::new(String::from_str(alloc, "not a key")?, 1, 4));
+    /// ```
     pub fn new(text: String, offset: usize, len: usize) -> Label
         ensures { result ≡ record { text = string_bytes text; offset = offset; len = len } }
     {
         Label { text, offset, len }
     }
 
-    /// The words.
+    /// Returns the message.
+    ///
+    /// # Examples
+    ///
+    /// ```rust
+    /// let label = Label::new(String::from_str(alloc, "not a key")?, 1, 4);
+    /// assert_eq!(rt; label.text(), "not a key");
+    /// ```
     pub fn text(&self) -> &str
         ensures { result.now ≡ self.now.text }
     {
         self.text.as_str()
     }
 
-    /// The place where the span begins, in bytes.
+    /// Returns the offset at which the span starts, in bytes.
+    ///
+    /// # Examples
+    ///
+    /// ```rust
+    /// let label = Label::new(String::from_str(alloc, "not a key")?, 1, 4);
+    /// assert_eq!(rt; label.offset(), 1);
+    /// ```
     pub fn offset(&self) -> usize
         ensures { result ≡ self.now.offset }
     {
         self.offset
     }
 
-    /// The length of the span, in bytes.
+    /// Returns the length of the span, in bytes. It can be 0.
+    ///
+    /// # Examples
+    ///
+    /// ```rust
+    /// let label = Label::new(String::from_str(alloc, "not a key")?, 1, 4);
+    /// assert_eq!(rt; label.len(), 4);
+    /// ```
     pub fn len(&self) -> usize
         ensures { result ≡ self.now.len }
     {
@@ -76,6 +138,7 @@ impl Label {
     }
 }
 
+/// Copies the message into a new allocation.
 impl Clone for Label {
     ghost is_clone = { λ label copy. copy ≡ label };
 
@@ -88,7 +151,7 @@ impl Clone for Label {
     }
 }
 
-/// Equal where they say the same of the same span.
+/// Compares message, offset and length.
 impl PartialEq for Label {
     ghost eq = { mark_eq };
 
@@ -106,17 +169,22 @@ impl Eq for Label {
     ghost laws = { Prim.search (comparing, rules) };
 }
 
-/// Exactly one label, with a copy of these words on the span of `len` bytes from the byte `offset` on.
+/// Returns a list of one label, with a copy of the message `text`, as [`Diagnostic::labels`]
+/// returns it.
 ///
-/// ```text
+/// The span starts at the byte `offset` and is `len` bytes long.
+///
+/// # Errors
+///
+/// [`AllocError`] if the allocation for the message or for the list fails.
+///
+/// # Examples
+///
+/// ```rust
 /// let labels = one_label(alloc, "no digits", 2, 3)?;
 /// let label = Label::new(String::from_str(alloc, "no digits")?, 2, 3);
 /// assert_eq!(rt; labels, Some(vec![in alloc; label]?));
 /// ```
-///
-/// # Errors
-///
-/// [`AllocError`] where there is no memory for the copy of the words, or for a list of one label.
 pub fn one_label(
     alloc: Global,
     text: &str,
@@ -129,21 +197,44 @@ pub fn one_label(
     Ok(Some(vec![in alloc; Label::new(text, offset, len)]?))
 }
 
-/// An error that can be reported together with the value that it speaks of.
+/// An error that can be reported together with the value that it is about.
 ///
-/// Each implementation tells contracts two things: the text of the address (`url`), and which labels, or
-/// none, it puts on a subject (`labels_gives`).
+/// The errors of this library implement it. Implement it for an error type of your own to report
+/// that with the same functions. An implementation names the type of the subject, the page of the
+/// error and the labels. The subjects of this library's errors are:
+///
+/// | Error                                | Subject                             |
+/// | ------------------------------------ | ----------------------------------- |
+/// | `ParseError`, `EncodingError`        | the `String` that was parsed        |
+/// | `ParseIndexError`                    | the string or token that was parsed |
+/// | the errors of `resolve` and `assign` | the `PointerBuf` that was followed  |
+///
+/// In contracts, `url` is the text of the address, and `labels_gives e subject labels` says that
+/// `labels` are those of the error `e` on `subject`.
+///
+/// # Examples
+///
+/// ```rust
+/// let text = String::from_str(alloc, "a/b")?;
+/// let parsed = Token::from_encoded(CowStr::Borrowed("a/b"));
+/// let report = parsed.err().ok_or("a fault")?.into_report(text);
+/// assert_eq!(rt; report.render(alloc)?.as_str(), "a/b\n ^ invalid character");
+/// ```
 pub trait Diagnostic: Sized + Drop {
-    /// The value that the error speaks of.
+    /// The type of the value that the error is about.
     type Subject: Drop;
 
     ghost url: { Text };
 
     ghost labels_gives: { Self → Self.Subject → Option (List Mark) → Type 0 };
 
-    /// The error and its subject, kept together; no memory is taken.
+    /// Combines the error with its subject, which the report owns. Needs no allocation.
     ///
-    /// ```text
+    /// [`Diagnose::diagnose`] does the same for the error of a `Result`.
+    ///
+    /// # Examples
+    ///
+    /// ```rust
     /// let report = ParseError::NoLeadingSlash.into_report(String::from_str(alloc, "size")?);
     /// assert_eq!(rt; report.subject().as_str(), "size");
     /// ```
@@ -157,24 +248,36 @@ pub trait Diagnostic: Sized + Drop {
         }
     }
 
-    /// The address of the page that describes the error's type.
+    /// Returns the address of the Rust crate's page on this error, as the Rust crate does.
+    ///
+    /// # Examples
+    ///
+    /// ```rust
+    /// let page = "https://docs.rs/jsonptr/0.8.2/jsonptr/enum.ParseError.html";
+    /// assert_eq!(rt; <ParseError as Diagnostic>::url(), page);
+    /// ```
     fn url() -> &'static str
         ensures { result.now ≡ url };
 
-    /// The labels that the error puts on this subject, or none where it has nothing to point at. The subject
-    /// need not be the one that gave the error.
+    /// Returns the labels of the error on a subject, or `None` if it points at nothing there.
     ///
-    /// ```text
+    /// The labels are computed from the offsets of the error and from `subject`, which is not
+    /// checked: it should be the value that caused the error. With another one the labels can lie
+    /// past its end.
+    ///
+    /// # Errors
+    ///
+    /// [`AllocError`] if the allocation for the labels fails. `None` needs no allocation.
+    ///
+    /// # Examples
+    ///
+    /// ```rust
     /// let subject = String::from_str(alloc, "/size/~")?;
     /// let error = Pointer::parse("/size/~").err().ok_or("a fault")?;
     /// let labels = error.labels(alloc, &subject)?.ok_or("labels")?;
     /// assert_eq!(rt; labels.len(), 1);
     /// assert_eq!(rt; (labels[0].offset(), labels[0].len()), (6, 1));
     /// ```
-    ///
-    /// # Errors
-    ///
-    /// [`AllocError`] where there is no memory for the labels; where there are none, no memory is taken.
     fn labels(
         &self,
         alloc: Global,
@@ -185,9 +288,23 @@ pub trait Diagnostic: Sized + Drop {
         ensures no_memory { labels_gives self.now subject.now None → IsOk result };
 }
 
-/// An error and the value that it speaks of, made by [`Diagnostic::into_report`].
+/// An error together with its subject: the value that it is about.
 ///
-/// ```text
+/// A report has two roles:
+///
+/// 1. It is the error of calls that take a value by ownership. `PointerBuf::parse` takes a
+///    `String`. If that is not a pointer, the report returns the string with the `ParseError`, so
+///    nothing is lost.
+/// 2. It is what a program shows. Any error that is [`Diagnostic`] becomes a report with
+///    [`Diagnose::diagnose`] or [`Diagnostic::into_report`], and [`Report::render`] draws the
+///    subject with the labels of the error below it.
+///
+/// `Display` prints the text of the error alone. A report is not an `Error`; to pass the error on,
+/// take it out with [`Report::into_original`].
+///
+/// # Examples
+///
+/// ```rust
 /// let text = String::from_str(alloc, "size")?;
 /// let report = PointerBuf::parse(text).err().ok_or("a report")?;
 /// assert_eq!(rt; *report.original(), ParseError::NoLeadingSlash);
@@ -202,21 +319,47 @@ pub struct Report<T: Diagnostic> {
 }
 
 impl<T: Diagnostic> Report<T> {
-    /// The value that the error speaks of.
+    /// Returns the value that the error is about.
+    ///
+    /// # Examples
+    ///
+    /// ```rust
+    /// let text = String::from_str(alloc, "size")?;
+    /// let report = PointerBuf::parse(text).err().ok_or("a report")?;
+    /// assert_eq!(rt; report.subject().as_str(), "size");
+    /// ```
     pub fn subject(&self) -> &T::Subject
         ensures { result.now ≡ subject_of self.now }
     {
         &self.subject
     }
 
-    /// The error that is reported.
+    /// Returns the error.
+    ///
+    /// # Examples
+    ///
+    /// ```rust
+    /// let text = String::from_str(alloc, "size")?;
+    /// let report = PointerBuf::parse(text).err().ok_or("a report")?;
+    /// assert!(rt; report.original().is_no_leading_slash());
+    /// ```
     pub fn original(&self) -> &T
         ensures { result.now ≡ original_of self.now }
     {
         &self.source
     }
 
-    /// The error and its subject.
+    /// Splits the report into the error and its subject.
+    ///
+    /// # Examples
+    ///
+    /// ```rust
+    /// let text = String::from_str(alloc, "size")?;
+    /// let report = PointerBuf::parse(text).err().ok_or("a report")?;
+    /// let (_, mut text) = report.decompose();
+    /// text.insert(0, '/')?;
+    /// assert!(rt; PointerBuf::parse(text).is_ok());
+    /// ```
     pub fn decompose(self) -> (T, T::Subject)
         ensures original { result.0 ≡ original_of self }
         ensures subject { result.1 ≡ subject_of self }
@@ -224,9 +367,11 @@ impl<T: Diagnostic> Report<T> {
         (self.source, self.subject)
     }
 
-    /// The error; its subject is dropped.
+    /// Converts into the error, and drops the subject.
     ///
-    /// ```text
+    /// # Examples
+    ///
+    /// ```rust
     /// let text = String::from_str(alloc, "size")?;
     /// let report = PointerBuf::parse(text).err().ok_or("a report")?;
     /// assert_eq!(rt; report.into_original(), ParseError::NoLeadingSlash);
@@ -238,7 +383,7 @@ impl<T: Diagnostic> Report<T> {
     }
 }
 
-/// The text of the error.
+/// Prints the text of the error, without the subject and its labels.
 impl<T: Diagnostic + fmt::Display> fmt::Display for Report<T> {
     ghost output = { λ report. T.output (original_of report) };
 
@@ -247,47 +392,68 @@ impl<T: Diagnostic + fmt::Display> fmt::Display for Report<T> {
     }
 }
 
-/// Results whose errors can be reported: each `Result<T, E>` with an `E` that is [`Diagnostic`], and nothing
-/// else.
+/// Turns the error of a `Result` into a [`Report`].
+///
+/// Implemented for each `Result<T, E>` whose `E` is [`Diagnostic`]. No other type can implement it.
+///
+/// # Examples
+///
+/// ```rust
+/// let text = String::from_str(alloc, "~/size")?;
+/// let report = Pointer::parse("~/size").diagnose(text).err().ok_or("a report")?;
+/// let drawn = "~/size\n^ must start with a slash ('/')";
+/// assert_eq!(rt; report.render(alloc)?.as_str(), drawn);
+/// ```
 pub trait Diagnose<T>: private::Sealed + Sized {
-    /// The type of the error.
+    /// The error type of the `Result`.
     type Error: Diagnostic;
 
-    // the result that this is
+    // `result_of self` is the `Result`
     ghost result_of: { Self → Result T Self.Error };
 
-    /// The value, or the report of the error on this subject. No memory is taken; where there is a value,
-    /// the subject is dropped.
+    /// Returns the value, or a report of the error with this subject.
     ///
-    /// ```text
+    /// The subject is dropped if there is no error. Needs no allocation. If making the subject is
+    /// expensive, match on the error, and call [`Diagnostic::into_report`] on it.
+    ///
+    /// # Errors
+    ///
+    /// The [`Report`], if this is an `Err`.
+    ///
+    /// # Examples
+    ///
+    /// ```rust
     /// let text = String::from_str(alloc, "size/width")?;
     /// let parsed = Pointer::parse("size/width").diagnose(text);
     /// let report = parsed.err().ok_or("a report")?;
     /// assert_eq!(rt; report.subject().as_str(), "size/width");
     /// assert_eq!(rt; report.into_original(), ParseError::NoLeadingSlash);
     /// ```
-    ///
-    /// # Errors
-    ///
-    /// The [`Report`] of the error where there is one.
     fn diagnose(
         self,
         subject: <Self::Error as Diagnostic>::Subject,
     ) -> Result<T, Report<Self::Error>>
         ensures { IsDiagnosed (result_of self) (λ s. s ≡ subject) result };
 
-    /// The value, or the report of the error on the subject that `f` answers, which is called exactly where
-    /// there is an error. No memory is taken but by `f`.
+    /// Returns the value, or a report of the error with the subject that `f` returns.
     ///
-    /// ```text
+    /// Calls `f` only if there is an error. `f` cannot fail, so it reports no failed allocation.
+    ///
+    /// # Errors
+    ///
+    /// The [`Report`], if this is an `Err`.
+    ///
+    /// # Conditions
+    ///
+    /// If this is an `Err`, the precondition of `f` holds.
+    ///
+    /// # Examples
+    ///
+    /// ```rust
     /// let text = String::from_str(alloc, "width")?;
     /// let parsed = Pointer::parse("width").diagnose_with(move || text);
     /// assert_eq!(rt; parsed.err().ok_or("a report")?.subject().as_str(), "width");
     /// ```
-    ///
-    /// # Errors
-    ///
-    /// The [`Report`] of the error where there is one.
     fn diagnose_with<F: FnOnce() -> <Self::Error as Diagnostic>::Subject + Drop>(
         self,
         f: F,

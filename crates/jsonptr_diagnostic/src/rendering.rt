@@ -1,11 +1,10 @@
-//! A report drawn as lines of text.
-ghost use Rattle.std.specs.Prelude.{◌≡◌, ◌⊎◌, ◌+◌, ◌<◌, ◌≤◌, ℕ, List, ◌∷◌, ◌++◌, All, length, replicate, chars, string_bytes, encode_utf8_all, IfOk, OnOk};
+//! Reports drawn as lines of text.
+ghost use Rattle.std.specs.Prelude.{◌≡◌, ◌+◌, ◌<◌, ◌∷◌, length, replicate, chars, string_bytes, encode_utf8_all, IfOk, OnOk};
 ghost use Rattle.std.specs.Char.{len_utf8};
 ghost use Rattle.std.specs.List.{flat_map};
 ghost use Rattle.jsonptr_diagnostic.specs.Report.{original_of, subject_of};
-ghost use Rattle.jsonptr_diagnostic.specs.Diagnostic.{Mark};
-ghost use Rattle.jsonptr_diagnostic.specs.Rendering.{is_unprintable, IsPrintable, shown_for, shown, size, columns, column, carets, label_line, drawn, IsRendered};
-ghost use Rattle.jsonptr_diagnostic.specs.PrivateRendering.{Adds, is_of};
+ghost use Rattle.jsonptr_diagnostic.specs.Rendering.{is_unprintable, shown_for, shown, columns, column, carets, label_line, drawn, IsRendered};
+ghost use Rattle.jsonptr_diagnostic.specs.PrivateRendering.{AppendsCharacters, is_in_part};
 
 use crate::diagnostic::{Diagnostic, Label, Report};
 use std::alloc::{AllocError, Global};
@@ -15,25 +14,45 @@ impl<T: Diagnostic> Report<T>
 where
     T::Subject: AsStr,
 {
-    /// The subject's text on one line, and below it a line for each label, in their order: spaces up to the
-    /// label's span, carets below the span, a space and the label's words. Line feeds stand between the lines, and
-    /// none behind the last one.
-    ///
-    /// A column is a character that is shown. A control character, and one that ends a line or turns its
-    /// direction, is shown by its code, as `\u{1b}`, in the subject and in the words, so nothing but these line feeds
-    /// moves a cursor. A character that has a byte of the span is marked whole; a span that has no byte of the text
-    /// has one caret, which stands behind the text where the span begins at its end or past it.
+    /// Draws the report as text: the subject on the first line, and a line for each label below it.
     ///
     /// ```text
+    /// /size/~x
+    ///       ^^ '~' must be followed by '0' or '1'
+    /// ```
+    ///
+    /// The line of a label has spaces up to its span, a caret below each character of the span, a
+    /// space and the message. Labels keep their order. Lines are separated by a line feed, and the
+    /// last line ends without one.
+    ///
+    /// - A character is marked as a whole if one of its bytes is in the span.
+    /// - A span that contains no byte of the text has one caret. If it starts at the end of the
+    ///   text or past it, the caret is right after the text.
+    /// - A character that could move the cursor is shown by its code, in the subject and in the
+    ///   message. Those are control characters, and characters that end a line or embed a
+    ///   direction. So the output has exactly one line for the subject and one for each label.
+    /// - Every other character counts as one column, so that wide and combining characters shift
+    ///   the carets on a terminal.
+    ///
+    /// With a tab after the `a`, and a label on that tab:
+    ///
+    /// ```text
+    /// a\u{9}b
+    ///  ^^^^^ not printable
+    /// ```
+    ///
+    /// # Errors
+    ///
+    /// [`AllocError`] if an allocation for the labels or for the output fails.
+    ///
+    /// # Examples
+    ///
+    /// ```rust
     /// let text = String::from_str(alloc, "width")?;
     /// let report = PointerBuf::parse(text).err().ok_or("a report")?;
     /// let drawn = "width\n^ must start with a slash ('/')";
     /// assert_eq!(rt; report.render(alloc)?.as_str(), drawn);
     /// ```
-    ///
-    /// # Errors
-    ///
-    /// [`AllocError`] where there is no memory for the labels or for the text.
     pub fn render(&self, alloc: Global) -> Result<String, AllocError>
         ensures { IfOk result (λ text. IsRendered
             (T.labels_gives (original_of self.now) (subject_of self.now))
@@ -48,7 +67,7 @@ where
     }
 }
 
-/// What is shown for this text, and the lines of these labels below it.
+/// Returns a text as it is shown, and a line for each of the labels below it.
 fn draw(alloc: Global, text: &str, labels: &[Label]) -> Result<String, AllocError>
     ensures { IfOk result
         (λ out. string_bytes out ≡ encode_utf8_all (drawn (chars text.now) labels.now)) }
@@ -59,9 +78,9 @@ fn draw(alloc: Global, text: &str, labels: &[Label]) -> Result<String, AllocErro
     Ok(out)
 }
 
-/// Appends, for each label, a line feed and the label's line below this text.
+/// Appends a line feed and the label's line, for each label on `text`.
 fn push_labels(out: &mut String, text: &str, labels: &[Label]) -> Result<(), AllocError>
-    ensures { OnOk result (Adds
+    ensures { OnOk result (AppendsCharacters
         (flat_map (λ m. 10 ∷ label_line (chars text.now) m) labels.now)
         (string_bytes out.old)
         (string_bytes out.new)) }
@@ -73,9 +92,9 @@ fn push_labels(out: &mut String, text: &str, labels: &[Label]) -> Result<(), All
     Ok(())
 }
 
-/// Appends the line of a label below this text.
+/// Appends the line of a label on `text`.
 fn push_label(out: &mut String, text: &str, label: &Label) -> Result<(), AllocError>
-    ensures { OnOk result (Adds
+    ensures { OnOk result (AppendsCharacters
         (label_line (chars text.now) label.now)
         (string_bytes out.old)
         (string_bytes out.new)) }
@@ -87,33 +106,33 @@ fn push_label(out: &mut String, text: &str, label: &Label) -> Result<(), AllocEr
     push_text(out, label.text())
 }
 
-/// Appends the carets of a span of this text.
+/// Appends the carets below a span of `text`: at least one.
 fn push_carets(out: &mut String, text: &str, offset: usize, len: usize) -> Result<(), AllocError>
-    ensures { OnOk result (Adds
+    ensures { OnOk result (AppendsCharacters
         (replicate (carets offset len (chars text.now)) 94)
         (string_bytes out.old)
         (string_bytes out.new)) }
 {
-    let column = out.len();
+    let len_before = out.len();
     push_marks(out, '^', text, Part::Under(offset, len))?;
-    if out.len() == column {
+    if out.len() == len_before {
         out.push('^')?;
     }
     Ok(())
 }
 
-/// A part of a text, before a span or under it.
+/// A part of a text, by the offsets of its characters.
 #[derive(Clone, Copy)]
 enum Part {
-    /// The characters that end at this byte or before it.
+    /// The characters that end at this offset or before it.
     Before(usize),
-    /// The characters with a byte of the span that begins at the first and is as long as the second.
+    /// The characters with a byte in the span of this offset and length.
     Under(usize, usize),
 }
 
-/// Whether a character that begins and ends at these bytes is of the part.
-fn is_of(part: Part, begin: usize, end: usize) -> bool
-    ensures { result ≡ is_of part begin end }
+/// Returns whether a character with these start and end offsets is in the part.
+fn is_in_part(part: Part, begin: usize, end: usize) -> bool
+    ensures { result ≡ is_in_part part begin end }
 {
     match part {
         Part::Before(offset) => end <= offset,
@@ -121,24 +140,24 @@ fn is_of(part: Part, begin: usize, end: usize) -> bool
     }
 }
 
-/// Appends the mark for each character that is shown for a part of the text.
+/// Appends `mark` for each column of a part of `text`.
 fn push_marks(out: &mut String, mark: char, text: &str, part: Part) -> Result<(), AllocError>
-    ensures { OnOk result (Adds
-        (replicate (columns (is_of part) 0 (chars text.now)) mark)
+    ensures { OnOk result (AppendsCharacters
+        (replicate (columns (is_in_part part) 0 (chars text.now)) mark)
         (string_bytes out.old)
         (string_bytes out.new)) }
 {
     for (begin, c) in text.char_indices() {
-        if is_of(part, begin, begin + c.len_utf8()) {
+        if is_in_part(part, begin, begin + c.len_utf8()) {
             push_mark(out, mark, c)?;
         }
     }
     Ok(())
 }
 
-/// Appends the mark for each character that is shown for this one.
+/// Appends `mark` for each column of a character.
 fn push_mark(out: &mut String, mark: char, c: char) -> Result<(), AllocError>
-    ensures { OnOk result (Adds
+    ensures { OnOk result (AppendsCharacters
         (replicate (length (shown_for c)) mark)
         (string_bytes out.old)
         (string_bytes out.new)) }
@@ -152,9 +171,9 @@ fn push_mark(out: &mut String, mark: char, c: char) -> Result<(), AllocError>
     Ok(())
 }
 
-/// Appends what is shown for a text.
+/// Appends a text as it is shown.
 fn push_text(out: &mut String, text: &str) -> Result<(), AllocError>
-    ensures { OnOk result (Adds
+    ensures { OnOk result (AppendsCharacters
         (shown (chars text.now))
         (string_bytes out.old)
         (string_bytes out.new)) }
@@ -165,9 +184,9 @@ fn push_text(out: &mut String, text: &str) -> Result<(), AllocError>
     Ok(())
 }
 
-/// Appends what is shown for a character.
+/// Appends a character as it is shown.
 fn push_shown(out: &mut String, c: char) -> Result<(), AllocError>
-    ensures { OnOk result (Adds
+    ensures { OnOk result (AppendsCharacters
         (shown_for c)
         (string_bytes out.old)
         (string_bytes out.new)) }
@@ -181,38 +200,10 @@ fn push_shown(out: &mut String, c: char) -> Result<(), AllocError>
     Ok(())
 }
 
-/// Whether a character is shown by its code: a control character, or one that ends a line or turns its direction.
+/// Returns whether a character is shown by its code: a control character, or one that ends a line
+/// or embeds a direction.
 fn is_unprintable(c: char) -> bool
     ensures { result ≡ is_unprintable c }
 {
     c.is_control() || matches!(c, '\u{2028}'..='\u{202e}' | '\u{2066}'..='\u{2069}')
 }
-
-/// What is drawn holds no character that is not shown as itself, apart from the line feeds between its lines, and
-/// a text without such a character is shown as it is.
-pub fn shown_law()
-    ensures text { (cs : List ℕ) → All IsPrintable (shown cs) }
-    ensures line { (cs : List ℕ) (label : Mark) → All IsPrintable (label_line cs label) }
-    ensures all { (cs : List ℕ) (labels : List Mark)
-        → All (λ c. IsPrintable c ⊎ (c ≡ 10)) (drawn cs labels) }
-    ensures plain { (cs : List ℕ) → All IsPrintable cs → shown cs ≡ cs }
-{}
-
-/// Where the carets of a label stand: they begin behind what is shown for the characters before the one that the
-/// label's place is in, or behind all, and there is one below each that is shown for the characters of the span,
-/// or a single one.
-pub fn place_law()
-    ensures within { (front rest : List ℕ) (c k : ℕ)
-        → k < len_utf8 c
-        → column (size front + k) (front ++ c ∷ rest) ≡ length (shown front) }
-    ensures past { (cs : List ℕ) (o : ℕ) → size cs ≤ o → column o cs ≡ length (shown cs) }
-    ensures under { (front rest under : List ℕ) (c : ℕ)
-        → carets (size front) (size (c ∷ under)) (front ++ (c ∷ under ++ rest))
-        ≡ length (shown (c ∷ under)) }
-    ensures inside { (front rest : List ℕ) (c k n : ℕ)
-        → 0 < n
-        → k + n ≤ len_utf8 c
-        → carets (size front + k) n (front ++ c ∷ rest) ≡ length (shown_for c) }
-    ensures none { (cs : List ℕ) (o : ℕ) → carets o 0 cs ≡ 1 }
-    ensures none_past { (cs : List ℕ) (o n : ℕ) → size cs ≤ o → carets o n cs ≡ 1 }
-{}

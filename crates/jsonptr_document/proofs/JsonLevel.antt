@@ -12,7 +12,7 @@ use Rattle.jsonptr_document.specs.PrivateJson.{stands_in}
 use Rattle.jsonptr_document.proofs.LevelNodes.{IsLeaf, leaf}
 use Rattle.jsonptr_document.proofs.LevelPut.{same_content}
 
--- what stands at the root of a value is the same value
+-- what is at the root of a value is the value
 pub same_view : (v u : Value) → stands_in v [] u → view u ≡ view v
 same_view v u h = content_one (view u) (view v) (same_content content_of v u h)
 

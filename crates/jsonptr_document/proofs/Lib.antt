@@ -1,5 +1,5 @@
 -- Lemmas that several proofs of this crate cite.
-pub mod NoIndex
+pub mod BadIndex
 pub mod ChildLemmas
 pub mod LevelNodes
 pub mod LevelPut

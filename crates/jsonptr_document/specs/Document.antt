@@ -1,4 +1,4 @@
--- What one level of a document shows, whatever crate its values come from.
+-- What one level of a document shows, independently of the crate of its values.
 use Rattle.std.specs.Prelude.{◌≡◌, ℕ, ◌<◌, [], ◌∷◌, length, slice_index_or, Some, None, MatchOption}
 use Rattle.std.specs.BTreeMap.{get_by_text}
 use Rattle.jsonptr_grammar.specs.Text.{Text}
@@ -6,8 +6,8 @@ use Rattle.jsonptr_tree.specs.Node.{key, place, Path, Scalar, an_object, an_arra
 use Rattle.jsonptr_document.specs.declared.document.Node.{Node}
 use Rattle.jsonptr_document.specs.declared.document.Node.TheVariants.{Leaf, Array, Object}
 
--- the node is the one at the root of the map n, and what it lends stands one step below:
--- `stands w e` says that the document e stands at the path w
+-- `Shows n stands node`: `node` is the root of the map `n`, with its children one step below.
+-- `stands w e` says that the document `e` is at the path `w`
 abbrev pub Shows : {D : Type 0} → NodeMap → (Path → D → Type 0) → Node D → Type 0
 Shows n stands Leaf = (v : Scalar) × (n [] ≡ Some (a_leaf v))
 Shows n stands (Array v) =

@@ -1,7 +1,7 @@
--- Documents of every kind, one level after another, and one step into them (RFC 6901, section 4).
+-- Documents of every type, one level at a time, and one step into them (RFC 6901, section 4).
 pub mod Document
 pub mod Child
-pub mod Way
+pub mod ChildRef
 pub mod Writing
 pub mod Private
 pub mod PrivateJson

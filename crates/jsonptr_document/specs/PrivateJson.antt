@@ -1,19 +1,20 @@
--- Words of private clauses alone: JSON values as documents. No public clause cites them, so nothing here has
--- to be believed.
+-- JSON values as documents.
+--
+-- Used only by private contracts; no public contract depends on this file.
 use Rattle.std.specs.Prelude.{◌≡◌, Some}
 use Rattle.serde_json.specs.View.{view}
 use Rattle.serde_json.specs.declared.value.Value.{Value}
 use Rattle.jsonptr_tree.specs.Node.{Path, NodeMap}
-use Rattle.jsonptr_tree.specs.Json.{content, nodes, value_at, KeysAscend}
+use Rattle.jsonptr_tree.specs.Json.{content, nodes, value_at, HasSortedKeys}
 
--- the map of a value
+-- `nodes_of v` is the map of the value `v`
 abbrev pub nodes_of : Value → NodeMap
 nodes_of v = nodes (view v)
 
--- at the path w below v stands u
+-- `stands_in v w u`: the value `v` contains `u` at the path `w`
 abbrev pub stands_in : Value → Path → Value → Type 0
 stands_in v w u = value_at w (view v) ≡ Some (content (view u))
 
--- in each object of v the keys ascend
-abbrev pub ordered : Value → Type 0
-ordered v = KeysAscend (view v)
+-- `sorted_in v`: each object in the value `v` has its keys in ascending order
+abbrev pub sorted_in : Value → Type 0
+sorted_in v = HasSortedKeys (view v)

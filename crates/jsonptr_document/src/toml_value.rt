@@ -1,7 +1,7 @@
-//! TOML values as documents.
+//! TOML values as documents. A table is an object.
+use crate::child_ref::ChildRef;
 use crate::document::{Document, Node};
-use crate::stepping::Way;
-use crate::writing::DocumentMut;
+use crate::document_mut::DocumentMut;
 use std::alloc::{AllocError, Global};
 use toml::{Table, Value};
 
@@ -9,14 +9,14 @@ impl Document for Value {
     ghost use Rattle.std.specs.Prelude.{◌≡◌, [], ◌∷◌, Some, refl};
     ghost use Rattle.std.proofs.Common.{◌∙◌};
     ghost use Rattle.toml.specs.View.{view};
-    ghost use Rattle.jsonptr_tree.specs.TomlValue.{content, nodes as toml_nodes, value_at, KeysAscend};
+    ghost use Rattle.jsonptr_tree.specs.TomlValue.{content, nodes as toml_nodes, value_at, HasSortedKeys};
     ghost use Rattle.jsonptr_tree.proofs.TomlLemmas.{nodes-sub, value_at-below, ascends_part};
 
     ghost nodes = { λ v. toml_nodes (view v) };
 
     ghost stands_at = { λ v w u. value_at w (view v) ≡ Some (content (view u)) };
 
-    ghost in_order = { λ v. KeysAscend (view v) };
+    ghost has_sorted_keys = { λ v. HasSortedKeys (view v) };
 
     fn node(&self) -> Node<'_, Value> {
         match self {
@@ -38,7 +38,7 @@ impl Document for Value {
 
     ghost is_sub = { λ d e w h. nodes-sub w (view d) (view e) h };
 
-    ghost part_in_order = { λ d e w h a. ascends_part w (view d) (view e) a h };
+    ghost part_has_sorted_keys = { λ d e w h a. ascends_part w (view d) (view e) a h };
 }
 
 impl DocumentMut for Value {
@@ -81,12 +81,12 @@ impl DocumentMut for Value {
         Ok(())
     }
 
-    fn remove(&mut self, way: &Way<'_>) -> Option<Value> {
+    fn remove(&mut self, way: &ChildRef<'_>) -> Option<Value> {
         match (self, way) {
-            (Value::Array(elements), Way::Element(place)) if *place < elements.len() => {
+            (Value::Array(elements), ChildRef::Element(place)) if *place < elements.len() => {
                 Some(elements.remove(*place))
             }
-            (Value::Table(members), Way::Member(key)) => members.remove(key.as_str()),
+            (Value::Table(members), ChildRef::Member(key)) => members.remove(key.as_str()),
             _ => None,
         }
     }

@@ -45,15 +45,15 @@ by_zero P n z more = ⊎_elim (λ e. subst P (sym e) z) (λ h. more (omega arith
 pub AllDigits-dec : (n : ℕ) → AllDigits 10 (dec n)
 AllDigits-dec n = by_zero (λ m. AllDigits 10 (dec m)) n (lit< tt, tt) (λ h. subst (AllDigits 10) (sym (dec-digits_of n h)) (AllDigits-map (digits_of 10 n) (all_below_base_digits_of 10 n (omega arith))))
 
--- the same, by places
+-- the same, by offsets
 pub range-dec : (n k : ℕ) → k < length (dec n) → IsInRange 48 57 (slice_index (dec n) k)
 range-dec n k l = digit_at (dec n) k (AllDigits-dec n) l
 
--- a decimal text stands for its number
+-- a decimal text has its number as its value
 pub digits_value-dec : (n : ℕ) → digits_value 10 (dec n) ≡ n
 digits_value-dec n = by_zero (λ m. digits_value 10 (dec m) ≡ m) n refl (λ h. ap (digits_value 10) (dec-digits_of n h) ∙ digits_value_is 10 (map (λ d. 48 + d) (digits_of 10 n)) ∙ ap (number_from_digits 10) (map_digit_values (digits_of 10 n) (all_below_base_digits_of 10 n (omega arith))) ∙ number_digits_of 10 n (omega arith))
 
--- numbers with one decimal text are one
+-- numbers with one decimal text are equal
 pub dec_one : (i j : ℕ) → dec i ≡ dec j → i ≡ j
 dec_one i j e = sym (digits_value-dec i) ∙ ap (digits_value 10) e ∙ digits_value-dec j
 
@@ -86,7 +86,7 @@ dec_first n = by_zero (λ m. slice_index (dec m) 0 ≡ 48 → m ≡ 0) n (λ _. 
 pub length-dec_zero : (n : ℕ) → slice_index (dec n) 0 ≡ 48 → length (dec n) ≡ 1
 length-dec_zero n e = ap (λ (m : ℕ). length (dec m)) (dec_first n e)
 
--- the digits of a number above 0, with more behind them
+-- the digits of a number above 0, with more after them
 digits_of-more : (n : ℕ) (ds : List ℕ) → 0 < n → AllBelowBase 10 ds → digits_of 10 (number_from_digits_after 10 n ds) ≡ digits_of 10 n ++ ds
 digits_of-more n [] h b = sym (append-nil (digits_of 10 n))
 digits_of-more n (d ∷ ds) h b =
@@ -119,7 +119,7 @@ dec-digits_value (c ∷ cs) a p n =
 pub dec_from_digits : (s : Text) → AllDigits 10 s → 0 < length s → (slice_index s 0 ≢ 48) ⊎ (s ≡ 48 ∷ []) → s ≡ dec (digits_value 10 s)
 dec_from_digits s a p z = ⊎_elim (λ n. sym (dec-digits_value s a p n)) (λ (e : s ≡ 48 ∷ []). e ∙ sym (ap (λ (x : Text). dec (digits_value 10 x)) e)) z
 
--- the same, where the `0` is told by the length
+-- the same, with the case of `0` decided by the length
 pub dec_from_digits_length : (s : Text) → AllDigits 10 s → 0 < length s → (slice_index s 0 ≢ 48) ⊎ (length s ≡ 1) → s ≡ dec (digits_value 10 s)
 dec_from_digits_length s a p z = ⊎_elim (λ e. dec_from_digits s a p (inr (alone s z p e))) (λ n. dec_from_digits s a p (inl n)) (cases_eq (slice_index s 0) 48)
   where

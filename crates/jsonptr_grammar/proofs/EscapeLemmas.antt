@@ -30,7 +30,7 @@ pub esc-append : (s t : Text) → esc (s ++ t) ≡ esc s ++ esc t
 esc-append [] t = refl
 esc-append (b ∷ s) t = rw (esc-append s t) (sym (append_assoc (escape_of b) (esc s) (esc t)))
 
--- what is escaped in front of anything is decoded to itself
+-- encoded text before any other text decodes to itself
 pub unesc-esc_append : (s rest : Text) → unesc (esc s ++ rest) ≡ s ++ unesc rest
 unesc-esc_append [] rest = refl
 unesc-esc_append (b ∷ s) rest = ap unesc (append_assoc (escape_of b) (esc s) rest) ∙ unesc-escape_of b (esc s ++ rest) ∙ ap (λ (x : Text). b ∷ x) (unesc-esc_append s rest)
@@ -40,7 +40,7 @@ pub unesc-esc : (s : Text) → unesc (esc s) ≡ s
 unesc-esc [] = refl
 unesc-esc (b ∷ s) = unesc-escape_of b (esc s) ∙ ap (λ (x : Text). b ∷ x) (unesc-esc s)
 
--- two texts with one encoded text are one
+-- two texts with one encoded text are equal
 pub esc_one : (s t : Text) → esc s ≡ esc t → s ≡ t
 esc_one s t e = sym (unesc-esc s) ∙ ap unesc e ∙ unesc-esc t
 
@@ -65,7 +65,7 @@ pub unesc-plain : (t : Text) → All (λ b. b ≢ 126) t → unesc t ≡ t
 unesc-plain [] h = refl
 unesc-plain (b ∷ t) h = unesc-cons b t (All-head (λ c. c ≢ 126) b t h) ∙ ap (λ (x : Text). b ∷ x) (unesc-plain t (All-tail (λ c. c ≢ 126) b t h))
 
--- the same, by places
+-- the same, by offsets
 pub unesc-plain_at : (t : Text) → ((k : ℕ) → k < length t → slice_index t k ≢ 126) → unesc t ≡ t
 unesc-plain_at t h = unesc-plain t (All-from_get_or (λ c. c ≢ 126) t 0 h)
 
@@ -74,7 +74,7 @@ pub esc-plain : (t : Text) → All (λ b. b ≢ 126) t → All (λ b. b ≢ 47) 
 esc-plain [] h k = refl
 esc-plain (b ∷ t) h k = esc-cons b t (All-head (λ c. c ≢ 126) b t h) (All-head (λ c. c ≢ 47) b t k) ∙ ap (λ (x : Text). b ∷ x) (esc-plain t (All-tail (λ c. c ≢ 126) b t h) (All-tail (λ c. c ≢ 47) b t k))
 
--- the same, by places
+-- the same, by offsets
 pub esc-plain_at : (t : Text) → ((k : ℕ) → k < length t → slice_index t k ≢ 126) → ((k : ℕ) → k < length t → slice_index t k ≢ 47) → esc t ≡ t
 esc-plain_at t h k = esc-plain t (All-from_get_or (λ c. c ≢ 126) t 0 h) (All-from_get_or (λ c. c ≢ 47) t 0 k)
 
@@ -83,7 +83,7 @@ pub IsToken-plain : (t : Text) → All (λ b. b ≢ 126) t → All (λ b. b ≢ 
 IsToken-plain [] h k = end
 IsToken-plain (b ∷ t) h k = plain (All-head (λ c. c ≢ 126) b t h) (All-head (λ c. c ≢ 47) b t k) (IsToken-plain t (All-tail (λ c. c ≢ 126) b t h) (All-tail (λ c. c ≢ 47) b t k))
 
--- the same, by places
+-- the same, by offsets
 pub IsToken-plain_at : (t : Text) → ((k : ℕ) → k < length t → slice_index t k ≢ 126) → ((k : ℕ) → k < length t → slice_index t k ≢ 47) → IsToken t
 IsToken-plain_at t h k = IsToken-plain t (All-from_get_or (λ c. c ≢ 126) t 0 h) (All-from_get_or (λ c. c ≢ 47) t 0 k)
 
@@ -105,7 +105,7 @@ IsToken-append t (plain h k r) q = plain h k (IsToken-append t r q)
 IsToken-append t (tilde r) q = tilde (IsToken-append t r q)
 IsToken-append t (slash r) q = slash (IsToken-append t r q)
 
--- a token in front of anything is decoded by itself
+-- a token before any other text decodes by itself
 pub unesc-append : {s : Text} (t : Text) → IsToken s → unesc (s ++ t) ≡ unesc s ++ unesc t
 unesc-append t end = refl
 unesc-append t (plain {b} {bs} h k r) = unesc-cons b (bs ++ t) h ∙ ap (λ (x : Text). b ∷ x) (unesc-append t r) ∙ ap (λ (x : Text). x ++ unesc t) (sym (unesc-cons b bs h))
@@ -181,7 +181,7 @@ IsToken-drop : (s t : Text) → All (λ b. b ≢ 126) s → IsToken (s ++ t) →
 IsToken-drop [] t h r = r
 IsToken-drop (b ∷ s) t h r = IsToken-drop s t (All-tail (λ c. c ≢ 126) b s h) (IsToken-tail r (All-head (λ c. c ≢ 126) b s h))
 
--- what stands behind the `~` of a token: 0 or 1 and a token
+-- what follows the `~` of a token: 0 or 1 and a token
 after_tilde : {t : Text} → IsToken (126 ∷ t) → (c : ℕ) × (u : Text) × (t ≡ c ∷ u) × ((c ≡ 48) ⊎ (c ≡ 49)) × IsToken u
 after_tilde (plain h k r) = absurd (h refl)
 after_tilde (tilde {bs} r) = (48, bs, refl, inl refl, r)
@@ -191,7 +191,7 @@ after_tilde (slash {bs} r) = (49, bs, refl, inr refl, r)
 no_tilde-encode : (c : ℕ) → c ≢ 126 → All (λ b. b ≢ 126) (encode c)
 no_tilde-encode c h = All-from_get_or (λ b. b ≢ 126) (encode c) 0 (λ k l e. h (inside_one c [] (encode c) k (sym (append-nil (encode c))) l (omega arith) ∙ e))
 
--- a character other than `~`, in front of a token's characters
+-- a character other than `~`, before a token's characters
 plain_char : (c : ℕ) (cs : List ℕ) → c ≢ 126 → (IsToken (encode_utf8_all cs) → IsToken cs) → IsToken (encode_utf8_all (c ∷ cs)) → IsToken (c ∷ cs)
 plain_char c cs h more r = ⊎_elim (λ (e : c ≡ 47). absurd (All-head (λ b. b ≢ 47) 47 (encode_utf8_all cs) (no_slash-IsToken (subst (λ d. IsToken (d ++ encode_utf8_all cs)) (ap encode e ∙ encode_ascii 47 (omega arith)) r)) refl)) (λ k. plain h k (more (IsToken-drop (encode c) (encode_utf8_all cs) (no_tilde-encode c h) r))) (cases_eq c 47)
 

@@ -1,4 +1,4 @@
--- Each text is in the grammar or leaves it at one place.
+-- Each text is in the grammar or leaves it at one offset.
 use Rattle.std.proofs.Common.{◌≡◌, ℕ, suc, zero, ◌+◌, ◌-◌, ◌<◌, ◌≤◌, ◌≢◌, ◌⊎◌, ◌↔◌, List, [], ◌∷◌, ◌++◌, length, take, All, slice_index, encode_utf8_all, add-one, zero-add, suc-add, arith, refl, sym, ap, ap₂, ◌∙◌, subst, inl, inr, ⊎_elim}
 use Rattle.std.proofs.lemmas.Bool.{cases_eq, cases_lt, cases_order}
 use Rattle.std.proofs.lemmas.List.Elements.{All-head, All-tail, All-from_get_or}
@@ -11,11 +11,11 @@ use Rattle.jsonptr_grammar.specs.Text.{Text}
 use Rattle.jsonptr_grammar.specs.Grammar.{IsToken, end, plain, tilde, slash, IsPointer, root, segment}
 use Rattle.jsonptr_grammar.specs.FirstFault.{IsFirst, IsSlashAt, EndsEscape, IsTokenFault, IsLooseTilde, IsLastSlash, LacksSlash, IsTildeFault}
 
--- a slash stands at k, or an escape ends there too soon
+-- at k is a slash, or an escape ends too soon
 abbrev pub IsFaultAt : Text → ℕ → Type 0
 IsFaultAt s k = IsSlashAt s k ⊎ EndsEscape s k
 
--- the first place at which something holds is one
+-- the first offset at which something holds is unique
 pub IsFirst_one : (P : ℕ → Type 0) (i j : ℕ) → IsFirst P i → IsFirst P j → i ≡ j
 IsFirst_one P i j p q = ⊎_elim (λ e. e) (λ h. ⊎_elim (λ l. absurd (q.before i l p.here)) (λ l. absurd (p.before j l q.here)) h) (cases_order i j)
 
@@ -26,21 +26,21 @@ IsTokenFault_one s o u p q = IsFirst_one (IsFaultAt s) o u p q
 less_one : (k : ℕ) → suc k - 1 ≡ k
 less_one k = omega arith
 
--- the `~` before a fault, by its own place
+-- the `~` before a fault, by its own offset
 tilde_before : (s : Text) (k : ℕ) → EndsEscape s (suc k) → slice_index s k ≡ 126
 tilde_before s k e = ap (λ (i : ℕ). slice_index s i) (sym (less_one k)) ∙ e.after_tilde
 
 ends_escape : (s : Text) (k : ℕ) → slice_index s k ≡ 126 → slice_index s (suc k) ≢ 48 → slice_index s (suc k) ≢ 49 → slice_index s (suc k) ≢ 47 → EndsEscape s (suc k)
 ends_escape s k e x y z = record { inside = omega arith; after_tilde = ap (λ (i : ℕ). slice_index s i) (less_one k) ∙ e; no_zero = x; no_one = y; no_slash = z }
 
--- one byte in front moves each ended escape, but the one that begins there
+-- one byte before the text moves each ended escape, except the one that begins with it
 EndsEscape-tail : (b : ℕ) (s : Text) (k : ℕ) → EndsEscape (b ∷ s) (suc (suc k)) → EndsEscape s (suc k)
 EndsEscape-tail b s k e = ends_escape s k (tilde_before (b ∷ s) (suc k) e) e.no_zero e.no_one e.no_slash
 
 EndsEscape-cons : (b : ℕ) (s : Text) (k : ℕ) → EndsEscape s (suc k) → EndsEscape (b ∷ s) (suc (suc k))
 EndsEscape-cons b s k e = ends_escape (b ∷ s) (suc k) (tilde_before s k e) e.no_zero e.no_one e.no_slash
 
--- the faults behind a byte that is no `~` are those of the rest
+-- the faults after a byte that is not `~` are those of the rest
 IsFaultAt-tail : (b : ℕ) (s : Text) (k : ℕ) → b ≢ 126 → IsFaultAt (b ∷ s) (suc k) → IsFaultAt s k
 IsFaultAt-tail b s zero n (inl e) = inl e
 IsFaultAt-tail b s zero n (inr e) = absurd (n (tilde_before (b ∷ s) 0 e))
@@ -58,7 +58,7 @@ IsFaultAt-zero : (s : Text) → slice_index s 0 ≢ 47 → IsFaultAt s 0 → ⊥
 IsFaultAt-zero s n (inl e) = n e
 IsFaultAt-zero s n (inr e) = omega (arith, e.inside)
 
--- behind `~0` or `~1` the faults are those of the rest
+-- after `~0` or `~1` the faults are those of the rest
 IsFaultAt-escape : (c : ℕ) (s : Text) (k : ℕ) → c ≢ 126 → IsFaultAt (126 ∷ c ∷ s) (suc (suc k)) → IsFaultAt s k
 IsFaultAt-escape c s k n (inl e) = IsFaultAt-tail c s k n (inl e)
 IsFaultAt-escape c s k n (inr e) = IsFaultAt-tail c s k n (inr (EndsEscape-tail 126 (c ∷ s) k e))
@@ -137,7 +137,7 @@ token_or_fault (b ∷ c ∷ s) = ⊎_elim (λ (e : b ≡ 126). subst (λ x. Toke
 pub IsToken-no_fault : (s : Text) → ((o : ℕ) → IsTokenFault s o → ⊥) → IsToken s
 IsToken-no_fault s h = ⊎_elim (λ r. r) (λ (f : (o : ℕ) × IsTokenFault s o). absurd (h f.0 f.1)) (token_or_fault s)
 
--- a loose tilde, with what follows it by its own place
+-- a loose tilde, with what follows it by its own offset
 loose : (s : Text) (i : ℕ) → slice_index s i ≡ 126 → slice_index s (suc i) ≢ 48 → slice_index s (suc i) ≢ 49 → IsLooseTilde s i
 loose s i e x y = record { here = e; no_zero = rw add-one x; no_one = rw add-one y }
 
@@ -147,7 +147,7 @@ loose_no_zero s i e = let h = e.no_zero in rw add-one at h
 loose_no_one : (s : Text) (i : ℕ) → IsLooseTilde s i → slice_index s (suc i) ≢ 49
 loose_no_one s i e = let h = e.no_one in rw add-one at h
 
--- the loose tildes behind a byte are those of the rest
+-- the loose tildes after a byte are those of the rest
 IsLooseTilde-tail : (b : ℕ) (s : Text) (i : ℕ) → IsLooseTilde (b ∷ s) (suc i) → IsLooseTilde s i
 IsLooseTilde-tail b s i e = loose s i e.here (loose_no_zero (b ∷ s) (suc i) e) (loose_no_one (b ∷ s) (suc i) e)
 
@@ -173,7 +173,7 @@ NoLoose-escape c s z n (suc i) e = NoLoose-cons c s (⊎_elim (λ (e : c ≡ 48)
 NoLoose-tail : (b : ℕ) (s : Text) → NoLoose (b ∷ s) → NoLoose s
 NoLoose-tail b s n i e = n (suc i) (IsLooseTilde-cons b s i e)
 
--- a token in front brings no loose tilde
+-- a token before the text adds no loose tilde
 NoLoose-token : {t : Text} (r : Text) → IsToken t → NoLoose r → NoLoose (t ++ r)
 NoLoose-token r end n = n
 NoLoose-token r (plain {b} {bs} h k q) n = NoLoose-cons b (bs ++ r) h (NoLoose-token r q n)
@@ -202,8 +202,8 @@ cut_slash s c = record { token = []; rest = 47 ∷ s; split = refl; is_token = e
 cut_plain : (b : ℕ) (s : Text) → b ≢ 126 → b ≢ 47 → Cut s → Cut (b ∷ s)
 cut_plain b s h k c = record { token = b ∷ c.token; rest = c.rest; split = ap (λ (x : Text). b ∷ x) c.split; is_token = plain h k c.is_token; is_pointer = c.is_pointer }
 
-cut_escape : (d : ℕ) (s : Text) → (d ≡ 48) ⊎ (d ≡ 49) → Cut s → Cut (126 ∷ d ∷ s)
-cut_escape d s z c = record { token = 126 ∷ d ∷ c.token; rest = c.rest; split = ap (λ (x : Text). 126 ∷ d ∷ x) c.split; is_token = ⊎_elim (λ (e : d ≡ 48). subst (λ x. IsToken (126 ∷ x ∷ c.token)) (sym e) (tilde c.is_token)) (λ (e : d ≡ 49). subst (λ x. IsToken (126 ∷ x ∷ c.token)) (sym e) (slash c.is_token)) z; is_pointer = c.is_pointer }
+split_escape : (d : ℕ) (s : Text) → (d ≡ 48) ⊎ (d ≡ 49) → Cut s → Cut (126 ∷ d ∷ s)
+split_escape d s z c = record { token = 126 ∷ d ∷ c.token; rest = c.rest; split = ap (λ (x : Text). 126 ∷ d ∷ x) c.split; is_token = ⊎_elim (λ (e : d ≡ 48). subst (λ x. IsToken (126 ∷ x ∷ c.token)) (sym e) (tilde c.is_token)) (λ (e : d ≡ 49). subst (λ x. IsToken (126 ∷ x ∷ c.token)) (sym e) (slash c.is_token)) z; is_pointer = c.is_pointer }
 
 cut_byte : (b : ℕ) (s : Text) → b ≢ 126 → Cut s → Cut (b ∷ s)
 cut_byte b s h c = ⊎_elim (λ (e : b ≡ 47). subst (λ x. Cut (x ∷ s)) (sym e) (cut_slash s c)) (λ k. cut_plain b s h k c) (cases_eq b 47)
@@ -212,7 +212,7 @@ cut_byte b s h c = ⊎_elim (λ (e : b ≡ 47). subst (λ x. Cut (x ∷ s)) (sym
 pub cut_no_loose : (s : Text) → NoLoose s → Cut s
 cut_no_loose [] n = cut_nil
 cut_no_loose (b ∷ []) n = ⊎_elim (λ (e : b ≡ 126). absurd (n 0 (loose (b ∷ []) 0 e (grind arith) (grind arith)))) (λ h. cut_byte b [] h cut_nil) (cases_eq b 126)
-cut_no_loose (b ∷ c ∷ s) n = ⊎_elim (λ (e : b ≡ 126). subst (λ x. Cut (x ∷ c ∷ s)) (sym e) (⊎_elim (λ z. cut_escape c s (inl z) (cut_no_loose s (NoLoose-tail c s (NoLoose-tail b (c ∷ s) n)))) (λ p. ⊎_elim (λ z. cut_escape c s (inr z) (cut_no_loose s (NoLoose-tail c s (NoLoose-tail b (c ∷ s) n)))) (λ q. absurd (n 0 (loose (b ∷ c ∷ s) 0 e p q))) (cases_eq c 49)) (cases_eq c 48))) (λ h. cut_byte b (c ∷ s) h (cut_no_loose (c ∷ s) (NoLoose-tail b (c ∷ s) n))) (cases_eq b 126)
+cut_no_loose (b ∷ c ∷ s) n = ⊎_elim (λ (e : b ≡ 126). subst (λ x. Cut (x ∷ c ∷ s)) (sym e) (⊎_elim (λ z. split_escape c s (inl z) (cut_no_loose s (NoLoose-tail c s (NoLoose-tail b (c ∷ s) n)))) (λ p. ⊎_elim (λ z. split_escape c s (inr z) (cut_no_loose s (NoLoose-tail c s (NoLoose-tail b (c ∷ s) n)))) (λ q. absurd (n 0 (loose (b ∷ c ∷ s) 0 e p q))) (cases_eq c 49)) (cases_eq c 48))) (λ h. cut_byte b (c ∷ s) h (cut_no_loose (c ∷ s) (NoLoose-tail b (c ∷ s) n))) (cases_eq b 126)
 
 -- a text that a slash begins, without a loose tilde, is a pointer
 pub IsPointer-no_loose : (s : Text) → slice_index s 0 ≡ 47 → NoLoose s → IsPointer s
@@ -227,7 +227,7 @@ IsPointer-plain s h b = ⊎_elim (λ (e : slice_index s 0 ≡ 47). IsPointer-no_
     no_tilde [] h = NoLoose-nil
     no_tilde (c ∷ u) h = NoLoose-cons c u (All-head (λ b. b ≢ 126) c u h) (no_tilde u (All-tail (λ b. b ≢ 126) c u h))
 
--- the same, by places
+-- the same, by offsets
 pub IsPointer-plain_at : (s : Text) → ((k : ℕ) → k < length s → slice_index s k ≢ 126) → BeginsSegment s → IsPointer s
 IsPointer-plain_at s h b = IsPointer-plain s (All-from_get_or (λ c. c ≢ 126) s 0 h) b
 
@@ -244,11 +244,11 @@ no_tilde_fault-IsPointer p o r f = NoLoose-IsPointer r (p + o) f.tilde.here
 pub no_tilde_fault-lack : (s : Text) (p o : ℕ) → LacksSlash s → IsTildeFault s p o → ⊥
 no_tilde_fault-lack s p o l f = l.no_slash f.slash
 
--- the last slash before a place is one
+-- the last slash before an offset is unique
 pub IsLastSlash_one : (s : Text) (i p q : ℕ) → IsLastSlash s i p → IsLastSlash s i q → p ≡ q
 IsLastSlash_one s i p q x y = ⊎_elim (λ e. e) (λ h. ⊎_elim (λ (l : p < q). absurd (x.after q l y.below y.here)) (λ (l : q < p). absurd (y.after p l x.below x.here)) h) (cases_order p q)
 
--- a tilde fault is at one place, behind one slash
+-- a tilde fault is at one offset, after one slash
 pub IsTildeFault_one : (s : Text) (p o q u : ℕ) → IsTildeFault s p o → IsTildeFault s q u → (p ≡ q) × (o ≡ u)
 IsTildeFault_one s p o q u x y =
     let e : p + o ≡ q + u = IsFirst_one (IsLooseTilde s) (p + o) (q + u) x.tilde y.tilde in
@@ -282,7 +282,7 @@ pub loose_or_none : (s : Text) → LooseOrNone s
 loose_or_none [] = inr NoLoose-nil
 loose_or_none (b ∷ s) = ⊎_elim (λ e. loose_first (b ∷ s) e) (λ h. loose_later b s h (loose_or_none s)) (loose_at_zero (b ∷ s))
 
--- behind a first slash each place has a last slash before it
+-- after a first slash, each offset has a last slash before it
 pub last_slash : (s : Text) (i : ℕ) → slice_index s 0 ≡ 47 → (p : ℕ) × IsLastSlash s (suc i) p
 last_slash s zero e = (0, record { below = omega arith; here = e; after = λ k l m _. omega (arith, l, m) })
 last_slash s (suc i) e = ⊎_elim (λ f. (suc i, record { below = omega arith; here = f; after = λ k l m _. omega (arith, l, m) })) (λ n. keep n (last_slash s i e)) (cases_eq (slice_index s (suc i)) 47)
@@ -302,7 +302,7 @@ pointer_or_fault (b ∷ s) = ⊎_elim (λ (e : b ≡ 47). ⊎_elim (λ (f : (i :
         let sum : suc i ≡ l.0 + (suc i - l.0) = omega (arith, l.1.below) in
         (l.0, suc i - l.0, record { slash = e; tilde = subst (IsFirst (IsLooseTilde (b ∷ s))) sum f; last_slash = subst (λ j. IsLastSlash (b ∷ s) j l.0) sum l.1 })
 
--- the last place at which a token can have a fault is its end
+-- the last offset at which a token can have a fault is its end
 no_fault_past : (s : Text) (k : ℕ) → length s < k → IsFaultAt s k → ⊥
 no_fault_past s k l (inl e) = omega (arith, get_or_past s k 0 (omega arith))
 no_fault_past s k l (inr e) = omega (arith, e.after_tilde, get_or_past s (k - 1) 0 (omega arith))
@@ -316,7 +316,7 @@ pub no_fault_before : (s : Text) (i : ℕ) → ((k : ℕ) → k < i → slice_in
 no_fault_before s i h n k l (inl e) = n k l e
 no_fault_before s i h n k l (inr e) = let p = e.inside in h (k - 1) (omega arith) e.after_tilde
 
--- a byte of a token's plain part leaves no fault behind it, if no `~` stands before it
+-- a byte of a token's plain part causes no fault, if no `~` is before it
 pub no_fault_more : (s : Text) (i : ℕ) → ((k : ℕ) → k < i → IsFaultAt s k → ⊥) → slice_index s i ≢ 47 → (0 < i → slice_index s (i - 1) ≢ 126) → (k : ℕ) → k < i + 1 → IsFaultAt s k → ⊥
 no_fault_more s i h n before k l f = ⊎_elim (λ (e : k ≡ i). at (subst (IsFaultAt s) e f)) (λ m. h k (omega arith) f) (cases_eq k i)
   where
@@ -324,7 +324,7 @@ no_fault_more s i h n before k l f = ⊎_elim (λ (e : k ≡ i). at (subst (IsFa
     at (inl e) = n e
     at (inr e) = before e.inside e.after_tilde
 
--- a front that is a token has no fault up to its end, but a slash there
+-- a prefix that is a token has no fault up to its end, except a slash there
 no_fault_take : (s : Text) (i k : ℕ) → i ≤ length s → IsToken (take i s) → k ≤ i → EndsEscape s k → ⊥
 no_fault_take s i k l r m e = no_fault-IsToken r k (inr (record { inside = e.inside; after_tilde = get_or-take i s (k - 1) 0 (let p = e.inside in omega arith) ∙ e.after_tilde; no_zero = λ z. read 48 (omega arith) e.no_zero z; no_one = λ z. read 49 (omega arith) e.no_one z; no_slash = λ z. read 47 (omega arith) e.no_slash z }))
   where
@@ -338,11 +338,11 @@ no_fault_front : (s : Text) (i : ℕ) → i ≤ length s → IsToken (take i s) 
 no_fault_front s i l r k m (inl e) = no_slash_take s i k r m e
 no_fault_front s i l r k m (inr e) = no_fault_take s i k l r (omega arith) e
 
--- a slash behind a front that is a token is the first fault
+-- a slash after a prefix that is a token is the first fault
 pub IsTokenFault-slash : (s : Text) (i : ℕ) → i ≤ length s → IsToken (take i s) → slice_index s i ≡ 47 → IsTokenFault s i
 IsTokenFault-slash s i l r e = record { here = inl e; before = no_fault_front s i l r }
 
--- the place after a `~` behind such a front is, if neither `0` nor `1` stands there
+-- so is the offset after a `~` after such a prefix, if neither `0` nor `1` is there
 pub IsTokenFault-tilde : (s : Text) (i : ℕ) → i ≤ length s → IsToken (take i s) → slice_index s i ≡ 126 → slice_index s (i + 1) ≢ 48 → slice_index s (i + 1) ≢ 49 → IsTokenFault s (i + 1)
 IsTokenFault-tilde s i l r e n m = record { here = here; before = λ k w f. ⊎_elim (λ (z : k ≡ i). at (subst (IsFaultAt s) z f)) (λ z. no_fault_front s i l r k (omega arith) f) (cases_eq k i) }
   where
@@ -356,11 +356,11 @@ IsTokenFault-tilde s i l r e n m = record { here = here; before = λ k w f. ⊎_
     at (inl z) = omega (arith, z, e)
     at (inr z) = no_fault_take s i i l r (omega arith) z
 
--- a front that is a token, with one more byte that is no `~` and no `/`
+-- a prefix that is a token, with one more byte that is neither `~` nor `/`
 pub IsToken-take_more : (s : Text) (i : ℕ) → i < length s → IsToken (take i s) → slice_index s i ≢ 126 → slice_index s i ≢ 47 → IsToken (take (i + 1) s)
 IsToken-take_more s i l r h n = subst IsToken (sym (take_more s i 0 l)) (IsToken-append (slice_index s i ∷ []) r (plain h n end))
 
--- and with an escape more
+-- and with one more escape
 pub IsToken-take_escape : (s : Text) (i : ℕ) → i + 1 < length s → IsToken (take i s) → slice_index s i ≡ 126 → (slice_index s (i + 1) ≡ 48) ⊎ (slice_index s (i + 1) ≡ 49) → IsToken (take (i + 2) s)
 IsToken-take_escape s i l r e z =
     let one = take_more s i 0 (omega arith) in

@@ -15,7 +15,7 @@ same_byte : (b : ℕ) → nat_cmp b b ≡ Equal
 same_byte b = grind (arith, nat_tests)
 
 -- a text is less than one that goes on after it
-front_less : (s : Text) (b : ℕ) (r : Text) → slice_cmp nat_cmp s (s ++ b ∷ r) ≡ Less
+pub front_less : (s : Text) (b : ℕ) (r : Text) → slice_cmp nat_cmp s (s ++ b ∷ r) ≡ Less
 front_less [] b r = refl
 front_less (c ∷ s) b r = rw (same_byte c) (front_less s b r)
 
@@ -28,7 +28,7 @@ front_text_less s u t rest valid other e =
 pub text_less : (ts rest : List Text) (t : Text) → slice_cmp nat_cmp (text ts) (text (ts ++ t ∷ rest)) ≡ Less
 text_less ts rest t = rw (text-append ts (t ∷ rest)) (front_less (text ts) 47 (esc t ++ text rest))
 
--- a test of two pointers' texts tells whether the lists of tokens are equal
+-- comparing two pointers' texts decides whether the lists of tokens are equal
 pub equal_text : (ts us : List Text) (r : Bool) → r ≡ bytes_eq (text ts) (text us) → (r ≡ true → ts ≡ us) × (ts ≡ us → r ≡ true)
 equal_text ts us r e =
     let d = bytes_eq-Decides (text ts) (text us) in

@@ -69,15 +69,15 @@ IsPointer_iff s = (λ p. (tokens_of s, text-tokens_of p), λ (q : (ts : List Tex
 pub nil_or_slash : (s : Text) → IsPointer s → (s ≡ []) ⊎ (slice_index s 0 ≡ 47)
 nil_or_slash s p = ⊎_elim (λ e. inr e) (λ e. inl e) (BeginsSegment-IsPointer p)
 
--- a text that its tokens give back is a pointer
+-- a text that is the text of its tokens is a pointer
 pub IsPointer-from_tokens : (s : Text) → text (tokens_of s) ≡ s → IsPointer s
 IsPointer-from_tokens s e = subst IsPointer e (IsPointer-text (tokens_of s))
 
--- lists of tokens with one text are one
+-- lists of tokens with one text are equal
 pub text_one : (ts us : List Text) → text ts ≡ text us → ts ≡ us
 text_one ts us e = sym (tokens_of-text ts) ∙ ap tokens_of e ∙ tokens_of-text us
 
--- pointers with the same tokens are one text
+-- pointers with equal tokens have equal texts
 pub tokens_of_one : (s u : Text) → IsPointer s → IsPointer u → tokens_of s ≡ tokens_of u → s ≡ u
 tokens_of_one s u p q e = sym (text-tokens_of p) ∙ ap text e ∙ text-tokens_of q
 
@@ -99,11 +99,11 @@ tokens_of-append s u p q = ap tokens_of (ap₂ (λ (x y : Text). x ++ y) (sym (t
 pub tokens_of-push : (s t : Text) → IsPointer s → tokens_of (s ++ 47 ∷ esc t) ≡ tokens_of s ++ t ∷ []
 tokens_of-push s t p = ap (λ (x : Text). tokens_of (s ++ 47 ∷ x)) (sym (append-nil (esc t))) ∙ tokens_of-append s (text (t ∷ [])) p (IsPointer-text (t ∷ [])) ∙ ap (λ (x : List Text). tokens_of s ++ x) (tokens_of-text (t ∷ []))
 
--- the same of the texts
+-- the same for the texts
 pub text-push : (ts : List Text) (t : Text) → text (ts ++ t ∷ []) ≡ text ts ++ 47 ∷ esc t
 text-push ts t = text-append ts (t ∷ []) ∙ ap (λ (x : Text). text ts ++ 47 ∷ x) (append-nil (esc t))
 
--- one more token in front
+-- one more token before the others
 pub tokens_of-cons : (t s : Text) → IsPointer s → tokens_of (47 ∷ esc t ++ s) ≡ t ∷ tokens_of s
 tokens_of-cons t s p = tokens_of-segment (esc t) s (no_slash-esc t) (BeginsSegment-IsPointer p) ∙ ap (λ (x : Text). x ∷ tokens_of s) (unesc-esc t)
 

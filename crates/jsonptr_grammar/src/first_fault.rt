@@ -1,20 +1,21 @@
-//! Laws of faults: a text is in the grammar, or leaves it at one place and in one way.
+//! Laws of faults: where a text leaves the grammar.
 
 ghost use Rattle.std.specs.Prelude.{◌≡◌, ℕ, ◌⊎◌};
 ghost use Rattle.jsonptr_grammar.specs.Text.{Text};
 ghost use Rattle.jsonptr_grammar.specs.Grammar.{IsToken, IsPointer};
 ghost use Rattle.jsonptr_grammar.specs.FirstFault.{IsTokenFault, LacksSlash, IsTildeFault};
 
-/// Each text is a reference token of RFC 6901, section 3, or has a fault, and no text both; the fault is at
-/// one place.
+/// Each text either is a reference token (RFC 6901, section 3) or has a first fault, and never
+/// both. The fault is at one offset.
 pub fn token_fault_law()
     ensures fault { (s : Text) → IsToken s ⊎ ((o : ℕ) × IsTokenFault s o) }
     ensures excludes { (s : Text) (o : ℕ) → IsToken s → IsTokenFault s o → ⊥ }
     ensures one { (s : Text) (o u : ℕ) → IsTokenFault s o → IsTokenFault s u → o ≡ u }
 {}
 
-/// Each text is a JSON pointer of RFC 6901, section 3, or lacks its first slash, or has a `~` that nothing
-/// may follow so, and no text two of these; the `~` is one, and so is the slash before it.
+/// Each text is a JSON Pointer (RFC 6901, section 3), or lacks its first `/`, or contains a `~`
+/// that is not followed by `0` or `1`. These cases exclude each other. The first such `~` is at one
+/// offset, and so is the last `/` before it.
 pub fn pointer_fault_law()
     ensures fault { (s : Text)
         → IsPointer s ⊎ (LacksSlash s ⊎ ((p : ℕ) × (o : ℕ) × IsTildeFault s p o)) }

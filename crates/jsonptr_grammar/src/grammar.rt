@@ -1,11 +1,11 @@
-//! Laws of the grammar: the texts of its rules are the texts that tokens have.
+//! Laws of the grammar: the texts of its rules are those of tokens and of lists of tokens.
 
 ghost use Rattle.std.specs.Prelude.{◌≡◌, ◌↔◌, ℕ, ◌≢◌, ◌⊎◌, List, [], ◌∷◌, ◌++◌, All, slice_index};
 ghost use Rattle.jsonptr_grammar.specs.Text.{Text, esc, unesc, text, tokens_of};
 ghost use Rattle.jsonptr_grammar.specs.Grammar.{IsToken, IsPointer};
 
-/// The reference tokens of RFC 6901, section 3: they are the encoded texts, each of one decoded text, and
-/// decoding and encoding give a token back.
+/// The reference tokens of RFC 6901, section 3, are exactly the encoded texts, each of one decoded
+/// text. Decoding undoes encoding, and encoding undoes decoding a token.
 pub fn token_law()
     ensures token { (t : Text) → IsToken t ↔ ((s : Text) × (esc s ≡ t)) }
     ensures one { (s t : Text) → esc s ≡ esc t → s ≡ t }
@@ -14,8 +14,8 @@ pub fn token_law()
     ensures no_slash { (t : Text) → IsToken t → All (λ b. b ≢ 47) t }
 {}
 
-/// The JSON pointers of RFC 6901, section 3: they are the texts of lists of tokens, each of one list, and
-/// reading the tokens of a text and writing the text of tokens take each other back.
+/// The JSON Pointers of RFC 6901, section 3, are exactly the texts of lists of tokens, each of one
+/// list. Reading the tokens of a text and writing the text of tokens undo each other.
 pub fn pointer_law()
     ensures pointer { (s : Text) → IsPointer s ↔ ((ts : List Text) × (text ts ≡ s)) }
     ensures one { (ts us : List Text) → text ts ≡ text us → ts ≡ us }

@@ -5,8 +5,9 @@ ghost use Rattle.std.specs.Str.Parse.{AllDigits, digits_value};
 ghost use Rattle.jsonptr_grammar.specs.Text.{Text, esc, unesc, text, tokens_of, dec};
 ghost use Rattle.jsonptr_grammar.specs.Grammar.{IsToken, IsPointer};
 
-/// The escapes of RFC 6901, section 3: decoding takes back encoding, two texts with one encoded text are
-/// one, texts side by side are encoded side by side, and an encoded text has from one to two bytes for each.
+/// The escape sequences of RFC 6901, section 3: decoding undoes encoding, and no two texts have the
+/// same encoded text. Encoding respects concatenation, and it writes one or two bytes for each
+/// byte.
 pub fn escape_law()
     ensures decoded { (s : Text) → unesc (esc s) ≡ s }
     ensures one { (s t : Text) → esc s ≡ esc t → s ≡ t }
@@ -15,11 +16,12 @@ pub fn escape_law()
     ensures twice { (s : Text) → length (esc s) ≤ 2 * length s }
 {}
 
-/// RFC 6901, section 3, speaks of characters, and the definitions here of bytes, and both say the same: the
-/// bytes of the escaped characters are the escaped bytes, the text of tokens in bytes is that of their
-/// characters, and bytes are in the grammar where their characters are. An encoded text is UTF-8 where its
-/// decoded text is, and the characters of either are those of the other, escaped or decoded. The tokens of a
-/// pointer in UTF-8 are UTF-8.
+/// RFC 6901, section 3, is about characters, and the definitions here are about bytes. Both agree.
+///
+/// Encoding commutes with UTF-8, and so does writing the text of a list of tokens. Bytes are in the
+/// grammar exactly if their characters are. An encoded text is UTF-8 exactly if its decoded text
+/// is, and each has the characters of the other, encoded or decoded. The tokens of a pointer in
+/// UTF-8 are UTF-8.
 pub fn characters_law()
     ensures bytes { (cs : List ℕ) → esc (encode_utf8_all cs) ≡ encode_utf8_all (esc cs) }
     ensures text_bytes { (ts : List (List ℕ))
@@ -34,9 +36,11 @@ pub fn characters_law()
     ensures tokens { (s : Text) → IsPointer s → IsUtf8 s → All IsUtf8 (tokens_of s) }
 {}
 
-/// The array indices of RFC 6901, section 4: the decimal text of a number has digits only, no zero leads a
-/// longer one, each number has one of its own, and every text of digits that no zero leads is one. No
-/// escape is in it, and it is what `{n}` writes of a number of 64 bits.
+/// The array indices of RFC 6901, section 4: the decimal text of a number.
+///
+/// It has digits only, and no leading zero unless it is `0`. Each number has one such text, and
+/// each text of that form is that of a number. It contains no escape sequence. For a number of 64
+/// bits it is what `{n}` prints.
 pub fn decimal_law()
     ensures digits { (n : ℕ) → AllDigits 10 (dec n) }
     ensures some { (n : ℕ) → 0 < length (dec n) }

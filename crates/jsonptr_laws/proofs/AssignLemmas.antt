@@ -1,4 +1,4 @@
--- That in each document each list of tokens takes a value or is refused, and is refused by one error.
+-- A list of tokens takes a value or fails in each document, and fails with one error.
 use Rattle.std.proofs.Common.{◌≡◌, ℕ, ◌<◌, ◌≤◌, ◌⊎◌, inl, inr, ⊎_elim, List, Option, Result, Ok, Err, refl, sym, ap₂, ◌∙◌, subst}
 use Rattle.std.specs.Prelude.{All, IsUtf8}
 use Rattle.std.proofs.lemmas.Bool.{cases_lt}
@@ -13,7 +13,7 @@ use Rattle.jsonptr.specs.Types.Index.TheVariants.{Num, Next}
 use Rattle.jsonptr.specs.Types.OutOfBoundsError.{OutOfBoundsError}
 use Rattle.jsonptr.specs.Types.ParseIndexError.{ParseIndexError}
 use Rattle.jsonptr.specs.Index.{Reads, IsWithinOrNext}
-use Rattle.jsonptr.specs.Assign.{position_of, offset_of, cause_of, IsNoPlace, RefusesAssign}
+use Rattle.jsonptr.specs.Assign.{assign_position_of, assign_offset_of, assign_cause_of, IsIndexError, RefusesAssign}
 use Rattle.jsonptr_laws.proofs.ResolveLemmas.{next_utf8}
 use Rattle.jsonptr.specs.declared.assign.Error.{Error}
 use Rattle.jsonptr.specs.declared.assign.Error.TheVariants.{FailedToParseIndex, OutOfBounds}
@@ -26,13 +26,13 @@ above_one len index a b h k =
     let at : a.index ≡ b.index = h.2 ∙ sym k.2 in
     ap₂ (λ (l i : ℕ). record { length = l; index = i }) long at
 
--- a text reads as one index, or as one refusal
+-- a text parses as one index or fails with one error
 abbrev pub ReadsOnce : Type 0
 ReadsOnce = (s : Text) (r q : Result Index ParseIndexError) → Reads s r → Reads s q → r ≡ q
 
 module _ (reads_one : ReadsOnce) where
-  -- the errors for one token in an array of one length, at one place
-  one_reason : (len : ℕ) (x : Text) (e f : Error) → position_of e ≡ position_of f → offset_of e ≡ offset_of f → IsNoPlace len x (cause_of e) → IsNoPlace len x (cause_of f) → e ≡ f
+  -- the errors for one token in an array of one length, at one position
+  one_reason : (len : ℕ) (x : Text) (e f : Error) → assign_position_of e ≡ assign_position_of f → assign_offset_of e ≡ assign_offset_of f → IsIndexError len x (assign_cause_of e) → IsIndexError len x (assign_cause_of f) → e ≡ f
   one_reason len x (FailedToParseIndex p o s) (FailedToParseIndex q u t) here there h k =
       let read = reads_one x (Err s) (Err t) h k in
       let same : s ≡ t = cc in
@@ -51,17 +51,17 @@ module _ (reads_one : ReadsOnce) where
 
   pub refusal_one : (n : NodeMap) (tokens : List Text) (e f : Error) → RefusesAssign n tokens e → RefusesAssign n tokens f → e ≡ f
   refusal_one n tokens e f h k =
-      let s = StopsBefore_one n tokens (position_of e) (position_of f) (offset_of e) (offset_of f) (an_array h.len) (an_array k.len) h.token k.token h.nowhere.stops k.nowhere.stops in
+      let s = StopsBefore_one n tokens (assign_position_of e) (assign_position_of f) (assign_offset_of e) (assign_offset_of f) (an_array h.len) (an_array k.len) h.token k.token h.nowhere.stops k.nowhere.stops in
       let label : an_array h.len ≡ an_array k.len = s.2 in
       let long : h.len ≡ k.len = cc in
-      one_reason k.len k.token e f s.0 s.1 (subst (λ (t : Text). IsNoPlace k.len t (cause_of e)) s.3 (subst (λ (len : ℕ). IsNoPlace len h.token (cause_of e)) long h.why)) k.why
+      one_reason k.len k.token e f s.0 s.1 (subst (λ (t : Text). IsIndexError k.len t (assign_cause_of e)) s.3 (subst (λ (len : ℕ). IsIndexError len h.token (assign_cause_of e)) long h.why)) k.why
 
 pub refused_not_assigned : (n : NodeMap) (tokens : List Text) (v m : NodeMap) (old : Option NodeMap) (e : Error) → Assigns n tokens v m old → RefusesAssign n tokens e → ⊥
-refused_not_assigned n tokens v m old e a r = Assigns-LandsNowhere n tokens v m old (position_of e) (offset_of e) r.len r.token a r.nowhere
+refused_not_assigned n tokens v m old e a r = Assigns-LandsNowhere n tokens v m old (assign_position_of e) (assign_offset_of e) r.len r.token a r.nowhere
 
--- ---- each list takes the value or is refused
+-- ---- each list takes the value or fails
 
--- each text in UTF-8 reads so
+-- each UTF-8 text has a result
 abbrev pub ReadsSome : Type 0
 ReadsSome = (s : Text) → IsUtf8 s → (r : Result Index ParseIndexError) × Reads s r
 

@@ -1,4 +1,4 @@
--- Lemmas that the laws cite.
+-- Lemmas of the laws.
 pub mod AssignLemmas
 pub mod OnePointerLemmas
 pub mod PartLemmas

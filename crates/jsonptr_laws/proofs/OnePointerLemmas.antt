@@ -1,4 +1,4 @@
--- That a node whose path has UTF-8 keys has one pointer, and that the keys of Rust values are UTF-8.
+-- A node whose path has UTF-8 keys has one pointer, and the keys of Rust values are UTF-8.
 use Rattle.std.proofs.Common.{◌≡◌, ℕ, zero, suc, Bool, true, false, cond, bytes_eq, true≢false, List, [], ◌∷◌, ◌++◌, Option, Some, None, IsSome, option_map, option_and_then, String, string_bytes, Global, refl, sym, ap, ◌∙◌, subst, rules}
 use Rattle.std.specs.Prelude.{All, IsUtf8}
 use lib.Utf8.{encode}
@@ -23,7 +23,7 @@ use Rattle.jsonptr_laws.specs.OnePointer.{HasUtf8Keys, HasOnePointer}
 
 -- ---- one pointer
 
--- the token that takes a step is UTF-8, if it takes the step of a key that is
+-- the token of a step is UTF-8, if the key of the step is, where it has one
 token_utf8 : (o : Option Label) (x : Text) (s : Step) (w : Path) → NamesStep o x s → HasUtf8Keys (s ∷ w) → IsUtf8 x × HasUtf8Keys w
 token_utf8 None x s w h utf8 = absurd h
 token_utf8 (Some an_object) x (key k) w h utf8 = (subst IsUtf8 h utf8.0, utf8.1)
@@ -43,7 +43,7 @@ slash_utf8 : IsUtf8 (47 ∷ [])
 unfolding encode
 slash_utf8 = (47 ∷ [], (refl, refl))
 
--- the text of tokens in UTF-8 is UTF-8
+-- the text of UTF-8 tokens is UTF-8
 text_utf8 : (ts : List Text) → All IsUtf8 ts → IsUtf8 (text ts)
 text_utf8 [] utf8 = IsUtf8-nil
 text_utf8 (t ∷ ts) utf8 =
@@ -69,7 +69,7 @@ step_and (key k) w h utf8 = (h.0, utf8)
 step_and (place i) w h utf8 = utf8
 
 module _ {V : Type 0} (see : V → Content) where
-  -- what stands under a key that is UTF-8, or at a place, is what some value holds
+  -- the value under a UTF-8 key, or at an index, has the property of some value
   abbrev pub IsWithin : Step → Content → Type 0
   IsWithin s c = HasUtf8Keys (s ∷ []) × ((u : V) × (c ≡ see u))
 
@@ -91,7 +91,7 @@ module _ {V : Type 0} (see : V → Content) where
           (subst IsUtf8 (sym ((bytes_eq-Decides k (string_bytes e.0)).0 is)) (IsUtf8-string_bytes e.0), (e.1, same))
       by_key later false is g = later g
 
-  -- a scalar has no child, and those of an array and of an object are so
+  -- a scalar has no child, and the children of an array and of an object have the property
   pub scalar_within : (v : V) (x : Scalar) → see v ≡ scalar x → (s : Step) (c : Content) → child s (see v) ≡ Some c → IsWithin s c
   scalar_within v x is s c h = no_child s c (sym (ap (child s) is) ∙ h)
 
@@ -104,7 +104,7 @@ module _ {V : Type 0} (see : V → Content) where
       let r = member_within es k c (sym (ap (child (key k)) is) ∙ h) in ((r.0, tt), r.1)
   object_within v es is (place i) c h = no_child (place i) c (sym (ap (child (place i)) is) ∙ h)
 
-  -- where each child is so, the keys on each path are UTF-8
+  -- if each child has the property, the keys on each path are UTF-8
   pub keys_utf8 : ((v : V) (s : Step) (c : Content) → child s (see v) ≡ Some c → IsWithin s c) → (w : Path) (v : V) → IsSome (map_of (see v) w) → HasUtf8Keys w
   keys_utf8 within [] v h = tt
   keys_utf8 within (s ∷ w) v h = by_child (λ u. keys_utf8 within w u) (child s (see v)) refl h
@@ -115,7 +115,7 @@ module _ {V : Type 0} (see : V → Content) where
           let r = within v s c is in
           step_and s w r.0 (later r.1.0 (subst (λ (d : Content). IsSome (map_of d w)) r.1.1 g))
 
--- by what it holds
+-- by its content
 json_within : (v : json.Value) (o : Json-F json.Value) → json.out-Value v ≡ o → (s : Step) (c : Content) → child s (of_json.content_of v) ≡ Some c → IsWithin of_json.content_of s c
 json_within v Json-F.Null is =
     let same : v ≡ json.Null = search (rules, json.the_lemmas) in

@@ -11,7 +11,7 @@ use Rattle.jsonptr_grammar.proofs.PointerLemmas.{text-append}
 use Rattle.jsonptr.specs.Slashes.{slash_offsets}
 use Rattle.jsonptr.proofs.SlashesLemmas.{slashes_from, offsets_are, length-offsets, below_end, offset_at}
 
--- behind the first n tokens of more a slash stands
+-- if there are more than n tokens, a slash follows the first n
 begins_some : (ts : List Text) → 0 < length ts → slice_index (text ts) 0 ≡ 47
 begins_some [] some = absurd (omega (arith, some))
 begins_some (t ∷ ts) some = refl
@@ -24,7 +24,7 @@ stands_behind ts n h =
     ∙ get_or-append-add (text (take n ts)) (text (drop n ts)) 0 0
     ∙ begins_some (drop n ts) (omega (arith, h, length-drop n ts))
 
--- each slash stands behind some first tokens of more
+-- each slash follows the first n tokens of more than n
 record Behind (ts : List Text) (o : ℕ) : Type 0 where
   count : ℕ
   within : count < length ts

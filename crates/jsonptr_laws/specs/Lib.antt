@@ -1,3 +1,4 @@
--- When two answers are the same, and which pointers a node has. The laws cite the words of the crates below, too.
+-- When two results are the same, and which pointers a node has. The laws also use the definitions of the crates
+-- below.
 pub mod Answers
 pub mod OnePointer

@@ -4,13 +4,14 @@ use Rattle.jsonptr.specs.Text.{Text, tokens_of}
 use Rattle.jsonptr.specs.Grammar.{IsPointer}
 use Rattle.jsonptr.specs.Node.{key, place, Path, NodeMap, Names}
 
--- each key on the path is UTF-8
+-- `HasUtf8Keys w`: each key on path `w` is UTF-8.
 abbrev pub HasUtf8Keys : Path → Type 0
 HasUtf8Keys [] = ⊤
 HasUtf8Keys (key k ∷ w) = IsUtf8 k × HasUtf8Keys w
 HasUtf8Keys (place i ∷ w) = HasUtf8Keys w
 
--- a text in UTF-8 is that of a pointer whose tokens name the path, and no other text is that of such a pointer
+-- `HasOnePointer n w`: there is a UTF-8 pointer text whose tokens evaluate to path `w` in `n`, and no other pointer
+-- text does.
 pub record HasOnePointer (n : NodeMap) (w : Path) : Type 0 where
   pub text : Text
   pub utf8 : IsUtf8 text

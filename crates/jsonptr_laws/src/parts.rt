@@ -1,16 +1,18 @@
-//! Parts of a pointer: each call that takes one apart has one answer.
-ghost use Rattle.std.specs.Prelude.{◌≡◌, ◌↔◌, ℕ, ◌<◌, List, Contains, length, slice_index, Option};
+//! Parts of a pointer: each call that takes one apart has a unique result.
+ghost use Rattle.std.specs.Prelude.{◌≡◌, ◌↔◌, ℕ, ◌<◌, List, [], Contains, length, slice_index, Option, None};
 ghost use Rattle.std.specs.declared.ops.Bound.{Bound};
 ghost use Rattle.jsonptr.specs.Text.{Text, text};
 ghost use Rattle.jsonptr.specs.Diagnostic.{Mark};
+ghost use Rattle.jsonptr.specs.Rendering.{IsRendered};
 ghost use Rattle.jsonptr.specs.ParseError as parsing;
 ghost use Rattle.jsonptr.specs.Token as token;
 ghost use Rattle.jsonptr.specs.Index as index;
 ghost use Rattle.jsonptr.specs.Resolve as resolve;
 ghost use Rattle.jsonptr.specs.Assign as assign;
-ghost use Rattle.jsonptr.specs.Parts.{SplitsAt, IsLongestCommonFront};
+ghost use Rattle.jsonptr.specs.Ends.{IsFirstOf, IsLastOf};
+ghost use Rattle.jsonptr.specs.Parts.{SplitsAt, IsLongestCommonPrefix};
 ghost use Rattle.jsonptr.specs.Slice.{GivesRange, GivesFrom, GivesTo, GivesAll, GivesInclusive, GivesToInclusive, GivesBounds};
-ghost use Rattle.jsonptr.specs.Pointer.{IsSplitAt};
+ghost use Rattle.jsonptr.specs.Pointer.{IsSplitAt, IsParentOf, IsWithoutPrefix, IsWithoutSuffix};
 ghost use Rattle.jsonptr.specs.Slashes.{slash_offsets};
 ghost use Rattle.jsonptr.specs.Types.ParseError.{ParseError};
 ghost use Rattle.jsonptr.specs.Types.EncodingError.{EncodingError};
@@ -20,8 +22,8 @@ ghost use Rattle.jsonptr.specs.declared.assign.Error as assigning;
 ghost use Rattle.jsonptr.specs.declared.pointer.Pointer.{Pointer};
 ghost use Rattle.jsonptr_laws.specs.Answers.{SamePointer, SamePointers};
 
-/// A list of tokens is split at a byte of its text in one way, or behind a number of its tokens, and two lists
-/// have one longest front in common.
+/// States that a list of tokens has one split at a byte of its text and one after a number of
+/// tokens, and that two lists have one longest common prefix.
 pub fn split_law()
     ensures split { (ts front rest other after : List Text) (offset : ℕ)
         → SplitsAt ts offset front rest → SplitsAt ts offset other after
@@ -29,11 +31,32 @@ pub fn split_law()
     ensures position { (ts : List Text) (n : ℕ) (r q : Option (Pointer × Pointer))
         → IsSplitAt ts n r → IsSplitAt ts n q → SamePointers r q }
     ensures common { (ts us front other : List Text)
-        → IsLongestCommonFront ts us front → IsLongestCommonFront ts us other → front ≡ other }
+        → IsLongestCommonPrefix ts us front → IsLongestCommonPrefix ts us other → front ≡ other }
 {}
 
-/// The table of a list of tokens has the places of the slashes of its text, all of them and no others, and
-/// ascending.
+/// States that a list of tokens has one first token, one last token and one parent, and that the
+/// empty list has none of them.
+pub fn front_and_back_law()
+    ensures front { (ts : List Text) (r q : Option Text)
+        → IsFirstOf ts r → IsFirstOf ts q → r ≡ q }
+    ensures back { (ts : List Text) (r q : Option Text)
+        → IsLastOf ts r → IsLastOf ts q → r ≡ q }
+    ensures parent { (ts : List Text) (r q : Option Pointer)
+        → IsParentOf ts r → IsParentOf ts q → SamePointer r q }
+    ensures none { IsFirstOf [] None × IsLastOf [] None × IsParentOf [] None }
+{}
+
+/// States that a list of tokens without a prefix, or without a suffix, is one list. If the list
+/// does not start or end so, there is none.
+pub fn strip_law()
+    ensures prefix { (ts us : List Text) (r q : Option Pointer)
+        → IsWithoutPrefix ts us r → IsWithoutPrefix ts us q → SamePointer r q }
+    ensures suffix { (ts us : List Text) (r q : Option Pointer)
+        → IsWithoutSuffix ts us r → IsWithoutSuffix ts us q → SamePointer r q }
+{}
+
+/// States that the table of a list of tokens contains the offsets of all slashes of its text and no
+/// others, in ascending order.
 pub fn slashes_law()
     ensures slash { (ts : List Text) (o : ℕ)
         → Contains (slash_offsets ts) o ↔ (slice_index (text ts) o ≡ 47) }
@@ -41,7 +64,8 @@ pub fn slashes_law()
         → slice_index (slash_offsets ts) i < slice_index (slash_offsets ts) j }
 {}
 
-/// Each range of places gives one pointer of a list of tokens, or none, and so does each pair of bounds.
+/// States that a range of positions, or a pair of bounds, refers to one part of a list of tokens,
+/// or to none.
 pub fn range_law()
     ensures range { (a b : ℕ) (ts : List Text) (r q : Option Pointer)
         → GivesRange a b ts r → GivesRange a b ts q → SamePointer r q }
@@ -59,16 +83,38 @@ pub fn range_law()
         → GivesBounds a b ts r → GivesBounds a b ts q → SamePointer r q }
 {}
 
-/// Each error puts one list of labels, or none, on each subject, whether that gave the error or not.
+/// States that each error has one list of labels, or none, for each subject, whether the error is
+/// about that subject or not.
 pub fn label_law()
     ensures parsing { (e : ParseError) (len : ℕ) (r q : Option (List Mark))
-        → parsing.IsLabelled e len r → parsing.IsLabelled e len q → r ≡ q }
+        → parsing.IsParseErrorLabelled e len r → parsing.IsParseErrorLabelled e len q → r ≡ q }
     ensures encoding { (e : EncodingError) (len : ℕ) (r q : Option (List Mark))
-        → token.IsLabelled e len r → token.IsLabelled e len q → r ≡ q }
+        → token.IsEncodingErrorLabelled e len r → token.IsEncodingErrorLabelled e len q → r ≡ q }
     ensures index { (e : ParseIndexError) (s : Text) (r q : Option (List Mark))
-        → index.IsLabelled e s r → index.IsLabelled e s q → r ≡ q }
+        → index.IsIndexErrorLabelled e s r → index.IsIndexErrorLabelled e s q → r ≡ q }
     ensures resolving { (e : resolving.Error) (ts : List Text) (r q : Option (List Mark))
-        → resolve.IsLabelled e ts r → resolve.IsLabelled e ts q → r ≡ q }
+        → resolve.IsResolveErrorLabelled e ts r → resolve.IsResolveErrorLabelled e ts q → r ≡ q }
     ensures assigning { (e : assigning.Error) (ts : List Text) (r q : Option (List Mark))
-        → assign.IsLabelled e ts r → assign.IsLabelled e ts q → r ≡ q }
+        → assign.IsAssignErrorLabelled e ts r → assign.IsAssignErrorLabelled e ts q → r ≡ q }
 {}
+
+/// States that the report of each error is drawn as one text, on each subject.
+pub fn drawn_law()
+    ensures parsing { (e : ParseError) (len : ℕ) (shown s t : Text)
+        → IsRendered (parsing.IsParseErrorLabelled e len) shown s
+        → IsRendered (parsing.IsParseErrorLabelled e len) shown t → s ≡ t }
+    ensures encoding { (e : EncodingError) (len : ℕ) (shown s t : Text)
+        → IsRendered (token.IsEncodingErrorLabelled e len) shown s
+        → IsRendered (token.IsEncodingErrorLabelled e len) shown t → s ≡ t }
+    ensures index { (e : ParseIndexError) (subject shown s t : Text)
+        → IsRendered (index.IsIndexErrorLabelled e subject) shown s
+        → IsRendered (index.IsIndexErrorLabelled e subject) shown t → s ≡ t }
+    ensures resolving { (e : resolving.Error) (ts : List Text) (shown s t : Text)
+        → IsRendered (resolve.IsResolveErrorLabelled e ts) shown s
+        → IsRendered (resolve.IsResolveErrorLabelled e ts) shown t → s ≡ t }
+    ensures assigning { (e : assigning.Error) (ts : List Text) (shown s t : Text)
+        → IsRendered (assign.IsAssignErrorLabelled e ts) shown s
+        → IsRendered (assign.IsAssignErrorLabelled e ts) shown t → s ≡ t }
+{
+    label_law();
+}

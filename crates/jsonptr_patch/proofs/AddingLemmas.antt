@@ -1,4 +1,4 @@
--- Adding a value, as the code does it: what stands above the new one, and what becomes of it.
+-- The code of an addition: the parent of the new value, and the result.
 use Rattle.std.proofs.Common.{Bool, true, false, not, IsTrue, ◌↔◌, true≢false, length-append, ◌≡◌, ℕ, ◌<◌, ◌≤◌, ◌^◌, ◌⊎◌, inl, inr, ⊎_elim, List, [], ◌∷◌, ◌++◌, length, Option, Some, None, Ok, Err, IsSome, refl, sym, ap, ◌∙◌, subst, append_assoc, arith}
 use Rattle.serde_json.specs.Data.{Data, null}
 use Rattle.jsonptr.specs.Text.{Text, text}
@@ -15,11 +15,11 @@ use Rattle.jsonptr.specs.declared.assign.Error.{Error as AssignError}
 use Rattle.jsonptr.specs.declared.assign.Error.TheVariants.{FailedToParseIndex, OutOfBounds}
 use Rattle.jsonptr.specs.Assign.{RefusesAssign}
 use Rattle.jsonptr.specs.Assign as assign
-use Rattle.jsonptr.specs.Resolve.{Refuses, PutsAt, position_of, offset_of}
+use Rattle.jsonptr.specs.Resolve.{Refuses, PutsAt, resolve_position_of, resolve_offset_of}
 use Rattle.jsonptr_tree.specs.Node.{key, Path, Scalar, Label, an_object, an_array, a_leaf, NodeMap, sub, NamesStep, Names}
 use Rattle.jsonptr_tree.specs.Following.{Finds, StopsAt, StopsBefore}
 use Rattle.jsonptr_tree.specs.Removing.{Deletes}
-use Rattle.jsonptr_tree.specs.Json.{nodes, FindsValue, KeysAscend}
+use Rattle.jsonptr_tree.specs.Json.{nodes, FindsValue, HasSortedKeys}
 use Rattle.jsonptr_tree.specs.Put.{put}
 use Rattle.jsonptr_tree.specs.Landing.{LandsNowhere}
 use Rattle.jsonptr_tree.specs.Assigning.{Assigns}
@@ -27,14 +27,14 @@ use Rattle.jsonptr_tree.proofs.NodeLemmas.{sub-root, Names_one_path, Names-push}
 use Rattle.jsonptr_tree.proofs.FollowingLemmas.{stops_before, stops_in, stops-lacks, lacks_at_leaf, lacks_at_object, lacks_at_array, StopsBefore_one, Names-StopsBefore, cases_some}
 use Rattle.jsonptr_tree.proofs.AssigningLemmas.{Assigns-named, Assigns-object}
 use Rattle.jsonptr_tree.proofs.JsonLemmas.{FindsValue-Finds, ascends_part}
-use Rattle.jsonptr_walk.specs.PrivatePutting.{HasNoPlace}
+use Rattle.jsonptr_walk.specs.PrivatePutting.{HasNoIndex}
 use Rattle.jsonptr_walk.proofs.AssignLemmas.{no_index_place, above_place}
 use Rattle.jsonptr_patch.specs.Inserting.{with_place}
 use Rattle.jsonptr_patch.specs.Adding.{MeansPlace, AddsUnder, AddsBelow, LacksTarget, LacksPlace}
 use Rattle.jsonptr_patch.specs.Operating.{Takes, IsProperFront, RefusesAdd}
 use Rattle.jsonptr_patch.specs.PrivateAdding.{HasRoomAt, Inserts, told}
 
--- what the tokens name
+-- what the tokens evaluate to
 
 -- the node at their path is the root of the value that they find
 pub parent_found : (d e : Data) (tokens : List Text) → FindsValue d tokens e → (w : Path) × Names (nodes d) tokens w × (nodes d w ≡ nodes e [])
@@ -42,14 +42,14 @@ parent_found d e tokens f =
     let g = FindsValue-Finds d tokens e f in
     (g.path, g.named, sym (sub-root (nodes d) g.path) ∙ sym (ap (λ (m : NodeMap). m []) g.below))
 
--- tokens that name a path are not refused
+-- evaluating tokens that lead to a path does not fail
 pub named_refused : (n : NodeMap) (tokens : List Text) (w : Path) (e : ResolveError) → Names n tokens w → Refuses n tokens e → ⊥
-named_refused n tokens w e h r = Names-StopsBefore n tokens w (position_of e) (offset_of e) r.label r.token h r.stops
+named_refused n tokens w e h r = Names-StopsBefore n tokens w (resolve_position_of e) (resolve_offset_of e) r.label r.token h r.stops
 
 -- an array
 
--- a token that means no place of it
-pub nowhere : (n : NodeMap) (front : List Text) (x : Text) (w : Path) (len p o : ℕ) → Names n front w → n w ≡ Some (an_array len) → HasNoPlace len x → p ≡ length front → o ≡ length (text front) → LandsNowhere n (front ++ x ∷ []) p o len x
+-- a token that does not refer to an index of it
+pub nowhere : (n : NodeMap) (front : List Text) (x : Text) (w : Path) (len p o : ℕ) → Names n front w → n w ≡ Some (an_array len) → HasNoIndex len x → p ≡ length front → o ≡ length (text front) → LandsNowhere n (front ++ x ∷ []) p o len x
 nowhere n front x w len p o named array none is_p is_o = record {
   stops = subst (λ (k : ℕ). StopsBefore n (front ++ x ∷ []) p k (an_array len) x) (sym is_o) (subst (λ (k : ℕ). StopsBefore n (front ++ x ∷ []) k (length (text front)) (an_array len) x) (sym is_p)
       (stops_before n (front ++ x ∷ []) front x [] w (an_array len) refl named array (lacks_at_array n w x len array (λ i b e. none.no_place i (within i b) e))));
@@ -79,7 +79,7 @@ above_length n front x w len p o index source named array reads above is_p is_o 
 pub place_lacks : (n : NodeMap) (front : List Text) (x : Text) (w : Path) (len : ℕ) (e : AssignError) → Names n front w → n w ≡ Some (an_array len) → RefusesAssign n (front ++ x ∷ []) e → LacksPlace n (front ++ x ∷ []) e
 place_lacks n front x w len e named array refused = (record { front = front; last = x; path = w; len = len; split = refl; named = named; array = array }, refused)
 
--- a place of it
+-- an index of it
 pub room_there : (d e : Data) (tokens : List Text) (w : Path) (len i : ℕ) → Names (nodes d) tokens w → nodes d w ≡ Some (an_array len) → i ≤ len → FindsValue d tokens e → HasRoomAt (nodes e) i
 room_there d e tokens w len i named array within found =
     let r = parent_found d e tokens found in
@@ -103,7 +103,7 @@ element_added d e front x w len i f v m named array means found is puts =
 
 -- an object
 
--- the token names a member of it, or following stops there
+-- the token is the key of a member, or evaluation stops there
 pub cases_member : (n : NodeMap) (tokens front : List Text) (x : Text) (w : Path) → tokens ≡ front ++ x ∷ [] → Names n front w → n w ≡ Some an_object → Names n tokens (w ++ key x ∷ []) ⊎ StopsBefore n tokens (length front) (length (text front)) an_object x × StopsAt n tokens front w (x ∷ [])
 cases_member n tokens front x w split named object = ⊎_elim
     (λ (h : IsSome (n (w ++ key x ∷ []))). inl (subst (λ (ts : List Text). Names n ts (w ++ key x ∷ [])) (sym split) (Names-push n front x w (key x) named (subst (λ (l : Option Label). NamesStep l x (key x)) (sym object) refl) h)))
@@ -130,9 +130,9 @@ member_added n tokens front x w v m old split named object made = record {
 
 pub member_not_refused : (n : NodeMap) (tokens front : List Text) (x : Text) (w : Path) (e : AssignError) → tokens ≡ front ++ x ∷ [] → Names n front w → n w ≡ Some an_object → RefusesAssign n tokens e → ⊥
 member_not_refused n tokens front x w e split named object r = ⊎_elim
-    (λ (h : Names n tokens (w ++ key x ∷ [])). Names-StopsBefore n tokens (w ++ key x ∷ []) (assign.position_of e) (assign.offset_of e) (an_array r.len) r.token h r.nowhere.stops)
+    (λ (h : Names n tokens (w ++ key x ∷ [])). Names-StopsBefore n tokens (w ++ key x ∷ []) (assign.assign_position_of e) (assign.assign_offset_of e) (an_array r.len) r.token h r.nowhere.stops)
     (λ (s : StopsBefore n tokens (length front) (length (text front)) an_object x × StopsAt n tokens front w (x ∷ [])).
-    let same = StopsBefore_one n tokens (assign.position_of e) (length front) (assign.offset_of e) (length (text front)) (an_array r.len) an_object r.token x r.nowhere.stops s.0 in
+    let same = StopsBefore_one n tokens (assign.assign_position_of e) (length front) (assign.assign_offset_of e) (length (text front)) (an_array r.len) an_object r.token x r.nowhere.stops s.0 in
     apart same.2)
     (cases_member n tokens front x w split named object)
   where
@@ -174,27 +174,27 @@ parent_lacks n tokens front x e split r = (
   },
 )
 
--- so a fault of following them, reported for an operation, is one of adding
+-- so a fault of evaluating them, reported for an operation, is one of adding
 pub parent_refused : (T U : Type 0) (n : NodeMap) (k : ℕ) (fault : Fault ResolveError) (tokens front : List Text) (x : Text) → tokens ≡ front ++ x ∷ [] → IfRefused {T = T} (Err fault) (Refuses n front) → IfRefused {T = U} (Err (told k fault)) (RefusesAdd n k tokens)
-parent_refused T U n k (Refused e) tokens front x split r = (refl, parent_lacks n tokens front x e split r)
+parent_refused T U n k (Refused e) tokens front x split r = inl (e, refl, parent_lacks n tokens front x e split r)
 parent_refused T U n k (Memory e) tokens front x split r = tt
 
--- a copy of what the tokens name
+-- a copy of what the tokens evaluate to
 pub found_copy : (d v w : Data) (tokens : List Text) → FindsValue d tokens v → w ≡ v → Finds (nodes d) tokens (nodes w)
 found_copy d v w tokens found same = subst (λ (e : Data). Finds (nodes d) tokens (nodes e)) (sym same) (FindsValue-Finds d tokens v found)
 
--- what they name has its keys in order where the document has
-pub found_ascends : (d v : Data) (tokens : List Text) → FindsValue d tokens v → KeysAscend d → KeysAscend v
+-- the keys of what they evaluate to are sorted if those of the document are
+pub found_ascends : (d v : Data) (tokens : List Text) → FindsValue d tokens v → HasSortedKeys d → HasSortedKeys v
 found_ascends d v tokens found a = ascends_part found.path d v a found.there
 
-pub copy_ascends : (d v w : Data) (tokens : List Text) → FindsValue d tokens v → w ≡ v → KeysAscend d → KeysAscend w
-copy_ascends d v w tokens found same a = subst KeysAscend (sym same) (found_ascends d v tokens found a)
+pub copy_ascends : (d v w : Data) (tokens : List Text) → FindsValue d tokens v → w ≡ v → HasSortedKeys d → HasSortedKeys w
+copy_ascends d v w tokens found same a = subst HasSortedKeys (sym same) (found_ascends d v tokens found a)
 
--- what is taken out
+-- what is removed
 pub taken : (d e v : Data) (tokens : List Text) → FindsValue d tokens v → Deletes (nodes d) tokens (nodes null) (nodes e) → Takes (nodes d) tokens (nodes v) (nodes e)
 taken d e v tokens found left = record { found = FindsValue-Finds d tokens v found; left = left }
 
--- the tokens go on behind a front where some are left
+-- a prefix is proper if there are more tokens after it
 pub proper_front : (front path rest : List Text) (b : Bool) → path ≡ front ++ rest → IsTrue b ↔ (rest ≡ []) → IsTrue (not b) ↔ IsProperFront front path
 proper_front front path [] b split root = (λ h. absurd (no_both b (root.1 refl) h), λ r. absurd (none r.0 r.1 (sym split ∙ r.2)))
   where

@@ -1,4 +1,4 @@
--- Pointers below a base, operations whose pointers are, and operations on the copy of the node that it names.
+-- Pointers below a base, operations with such pointers, and operations on the copy of the node at the base.
 use Rattle.std.proofs.Common.{◌≡◌, ℕ, zero, suc, ◌+◌, ◌<◌, ◌≤◌, ◌^◌, inl, inr, ⊎_elim, List, [], ◌∷◌, ◌++◌, length, get_or, Result, Ok, Err, IfOk, IsSome, refl, sym, ap, ◌∙◌, subst, arith, append_assoc, length-append}
 use Rattle.std.specs.Prelude.{All}
 use Rattle.std.proofs.Math.Seq.{get_or-append_seam}
@@ -12,7 +12,7 @@ use Rattle.jsonptr.specs.Types.Fault.{Fault}
 use Rattle.jsonptr.specs.Types.Fault.TheVariants.{Refused, Memory}
 use Rattle.jsonptr.specs.Assign.{RefusesAssign}
 use Rattle.jsonptr.specs.Assign as assign
-use Rattle.jsonptr.specs.Resolve.{Refuses, PutsAt, position_of, offset_of}
+use Rattle.jsonptr.specs.Resolve.{Refuses, PutsAt, resolve_position_of, resolve_offset_of}
 use Rattle.jsonptr.specs.declared.resolve.Error.{Error as ResolveError}
 use Rattle.jsonptr.proofs.Calling.{text-append, length-le-text}
 use Rattle.jsonptr_tree.specs.Node.{Path, Label, NodeMap, sub, Names, IsTree}
@@ -29,7 +29,7 @@ use Rattle.jsonptr_patch.specs.PrivateBase.{IsBelow, IsBased, behind, AppliesBel
 use Rattle.jsonptr_patch.specs.declared.operation.Operation.{Operation}
 use Rattle.jsonptr_patch.specs.declared.operation.Operation.TheVariants.{Add, Remove, Replace, Move, Copy, Test}
 use Rattle.jsonptr_patch.specs.declared.operation.PatchError.{PatchError}
-use Rattle.jsonptr_patch.specs.declared.operation.PatchError.TheVariants.{NoTarget, BadPlace, MoveIntoSelf, TestFloat, TestFailed}
+use Rattle.jsonptr_patch.specs.declared.operation.PatchError.TheVariants.{NoTarget}
 use Rattle.jsonptr_patch.proofs.OperatingLemmas.{patches_push, refused_next}
 use Rattle.jsonptr_patch.proofs.BehindLemmas.{adds_behind, refuses_add_behind, takes_behind, refuses_target_behind, puts_behind, compares_behind, refuses_test_behind, moves_behind, refuses_move_behind, copies_behind, refuses_copy_behind}
 
@@ -70,7 +70,7 @@ based_more base shorter os n o inside is before begins here i d h = ⊎_elim
     subst (λ (k : ℕ). IsBased shorter (get_or os k d)) (sym same) (subst (IsBased shorter) (is ∙ any_default os n o d inside) here))
     (cases_lt i n)
 
--- the numbers of an error fit
+-- position and offset of an error fit
 
 length-text : (xs ys : List Text) → length (text (xs ++ ys)) ≡ length (text xs) + length (text ys)
 length-text xs ys = ap (λ (l : Text). length l) (text-append xs ys) ∙ length-append (text xs) (text ys)
@@ -87,37 +87,24 @@ stop_fits n base tokens p o l x s fits =
     (omega arith, omega arith)
 
 resolve_fits : (n : NodeMap) (base tokens : List Text) (k : ℕ) (c : ResolveError) → Refuses n tokens c → length (text (base ++ tokens)) < 2 ^ 64 → FitsBehind base (NoTarget k c)
-resolve_fits n base tokens k c r fits = stop_fits n base tokens (position_of c) (offset_of c) r.label r.token r.stops fits
+resolve_fits n base tokens k c r fits = stop_fits n base tokens (resolve_position_of c) (resolve_offset_of c) r.label r.token r.stops fits
 
 target_fits : (n : NodeMap) (base tokens : List Text) (k : ℕ) (e : PatchError) → RefusesTarget n k tokens e → length (text (base ++ tokens)) < 2 ^ 64 → FitsBehind base e
-target_fits n base tokens k (NoTarget o c) r fits = resolve_fits n base tokens o c r.1 fits
-target_fits n base tokens k (BadPlace o c) r fits = absurd r
-target_fits n base tokens k (MoveIntoSelf o) r fits = tt
-target_fits n base tokens k (TestFloat o) r fits = tt
-target_fits n base tokens k (TestFailed o) r fits = tt
+target_fits n base tokens k e r fits = subst (FitsBehind base) (sym r.1) (resolve_fits n base tokens k r.0 r.2 fits)
 
 add_fits : (n : NodeMap) (base tokens : List Text) (k : ℕ) (e : PatchError) → RefusesAdd n k tokens e → length (text (base ++ tokens)) < 2 ^ 64 → FitsBehind base e
-add_fits n base tokens k (NoTarget o c) r fits = resolve_fits n base tokens o c r.1.1 fits
-add_fits n base tokens k (BadPlace o c) r fits =
-    let s = r.1.1.nowhere.stops in
-    stop_fits n base tokens (assign.position_of c) (assign.offset_of c) _ r.1.1.token s fits
-add_fits n base tokens k (MoveIntoSelf o) r fits = tt
-add_fits n base tokens k (TestFloat o) r fits = tt
-add_fits n base tokens k (TestFailed o) r fits = tt
+add_fits n base tokens k e (inl r) fits = subst (FitsBehind base) (sym r.1) (resolve_fits n base tokens k r.0 r.2.1 fits)
+add_fits n base tokens k e (inr r) fits =
+    let s = r.2.1.nowhere.stops in
+    subst (FitsBehind base) (sym r.1) (stop_fits n base tokens (assign.assign_position_of r.0) (assign.assign_offset_of r.0) _ r.2.1.token s fits)
 
 test_fits : (n : NodeMap) (base tokens : List Text) (k : ℕ) (v : NodeMap) (e : PatchError) → RefusesTest n k tokens v e → length (text (base ++ tokens)) < 2 ^ 64 → FitsBehind base e
-test_fits n base tokens k v (NoTarget o c) r fits = resolve_fits n base tokens o c r.1 fits
-test_fits n base tokens k v (BadPlace o c) r fits = absurd r
-test_fits n base tokens k v (MoveIntoSelf o) r fits = tt
-test_fits n base tokens k v (TestFloat o) r fits = tt
-test_fits n base tokens k v (TestFailed o) r fits = tt
+test_fits n base tokens k v e (inl r) fits = target_fits n base tokens k e r fits
+test_fits n base tokens k v e (inr (inl r)) fits = subst (FitsBehind base) (sym r.0) tt
+test_fits n base tokens k v e (inr (inr r)) fits = subst (FitsBehind base) (sym r.0) tt
 
 way_fits : (base : List Text) (k : ℕ) (f p : List Text) (e : PatchError) → RefusesWay k f p e → FitsBehind base e
-way_fits base k f p (NoTarget o c) r = absurd r
-way_fits base k f p (BadPlace o c) r = absurd r
-way_fits base k f p (MoveIntoSelf o) r = tt
-way_fits base k f p (TestFloat o) r = tt
-way_fits base k f p (TestFailed o) r = tt
+way_fits base k f p e r = subst (FitsBehind base) (sym r.0) tt
 
 move_fits : (n : NodeMap) (base f p : List Text) (k : ℕ) (e : PatchError) → RefusesMove n k f p e → length (text (base ++ f)) < 2 ^ 64 → length (text (base ++ p)) < 2 ^ 64 → FitsBehind base e
 move_fits n base f p k e (inl r) a b = way_fits base k f p e r
@@ -132,7 +119,7 @@ copy_fits n base f p k e (inr r) a b = add_fits n base p k e r.2 b
 
 -- operations on a copy
 
--- the rest behind the base is empty for the root alone
+-- the rest after the base is empty for the root alone
 inside_of : (base tokens rest : List Text) → IsBelow base tokens → tokens ≡ base ++ rest → rest ≡ [] → base ≡ []
 inside_of base tokens rest r split e = r.inside (same base r.rest rest (sym r.split ∙ split) ∙ e)
   where
@@ -141,7 +128,7 @@ inside_of base tokens rest r split e = r.inside (same base r.rest rest (sym r.sp
     same (t ∷ b) xs ys h = same b xs ys (let tail : b ++ xs ≡ b ++ ys = cc in tail)
 
 module _ (base : List Text) (c : NodeMap) where
-  -- each where the pointer is that of the base and then the rest
+  -- each for a pointer that is the base and then the rest
 
   pub add_applies : (path rest : List Text) (value : Value) (d : NodeMap) → IsBelow base path → path ≡ base ++ rest → Adds c rest (nodes (view value)) d → AppliesBelow base c (Add path value) d
   add_applies path rest value d below split a n w named is = subst (λ (ts : List Text). Adds n ts (nodes (view value)) (put n w d)) (sym split) (adds_behind n base w named rest (nodes (view value)) d (inside_of base path rest below split) (subst (λ (q : NodeMap). Adds q rest (nodes (view value)) d) is a))
@@ -210,7 +197,7 @@ module _ (base : List Text) (c : NodeMap) where
           (refuses_copy_behind n base w named (subst IsTree is tree) k f p e (subst (λ (q : NodeMap). RefusesCopy q k f p e) is r)));
     }
 
--- the outcomes of the code
+-- the results of the code
 
 pub ok_op : {T E : Type 0} (r : Result T E) (P : Type 0) (base : List Text) (c d : NodeMap) (o p : Operation) → o ≡ p → (P → AppliesBelow base c p d) → IfOk r (λ _. P) → IfOk r (λ _. AppliesBelow base c o d)
 ok_op (Ok t) P base c d o p is all h = subst (λ (q : Operation). AppliesBelow base c q d) (sym is) (all h)
@@ -272,7 +259,7 @@ pub next_refused : (base : List Text) (c d : NodeMap) (all os rest : List Operat
 next_refused base c d all os rest o k (Refused e) split root done count h = patch_refused base c d all os rest o e split root done (subst (λ (j : ℕ). RefusesBelow base d j o e) count h)
 next_refused base c d all os rest o k (Memory e) split root done count h = tt
 
--- the same where the base is written in several ways
+-- the same, if the base is written in several ways
 
 pub patches_at : (n m c d : NodeMap) (base x y z : List Text) (os : List Operation) → x ≡ base → y ≡ base → z ≡ base → Finds n x c → PatchesBelow y c os d → PutsAt n z d m → Patches n os m
 patches_at n m c d base x y z os is_x is_y is_z found below puts = patches_whole n m c d base os (subst (λ (ts : List Text). Finds n ts c) is_x found) (subst (λ (ts : List Text). PatchesBelow ts c os d) is_y below) (subst (λ (ts : List Text). PutsAt n ts d m) is_z puts)

@@ -1,4 +1,4 @@
--- An operation on one node is an operation on the document: its tokens stand behind those that name the node.
+-- An operation on one node is an operation on the document: its tokens come after those of the node.
 use Rattle.std.proofs.Common.{◌≡◌, ℕ, ◌+◌, ◌⊎◌, inl, inr, List, [], ◌∷◌, ◌++◌, length, Option, Some, None, IsSome, refl, sym, ap, ◌∙◌, subst, arith, append_assoc, length-append}
 use Rattle.serde_json.specs.Data.{null}
 use Rattle.jsonptr.specs.Text.{Text, text}
@@ -23,9 +23,8 @@ use Rattle.jsonptr_tree.proofs.RemovingLemmas.{Deletes_child, Deletes_whole, Del
 use Rattle.jsonptr_patch.specs.Inserting.{with_place}
 use Rattle.jsonptr_patch.specs.Adding.{AddsUnder, Adds, LacksParent, HasArray}
 use Rattle.jsonptr_patch.specs.Operating.{Takes, IsProperFront, Moves, Copies, Compares, RefusesTarget, RefusesAdd, RefusesWay, RefusesMove, RefusesCopy, RefusesTest}
-use Rattle.jsonptr_patch.specs.PrivateBase.{resolve_behind, assign_behind, behind}
+use Rattle.jsonptr_patch.specs.PrivateBase.{shift_resolve_error, shift_assign_error, behind}
 use Rattle.jsonptr_patch.specs.declared.operation.PatchError.{PatchError}
-use Rattle.jsonptr_patch.specs.declared.operation.PatchError.TheVariants.{NoTarget, BadPlace, MoveIntoSelf, TestFloat, TestFailed}
 
 length-text : (xs ys : List Text) → length (text (xs ++ ys)) ≡ length (text xs) + length (text ys)
 length-text xs ys = ap (λ (l : Text). length l) (text-append xs ys) ∙ length-append (text xs) (text ys)
@@ -47,7 +46,7 @@ module _ (n : NodeMap) (base : List Text) (w : Path) (named : Names n base w) wh
     offset_is = omega (arith, s.offset_is, length-text base s.front);
   }
 
-  pub refuses_behind : (tokens : List Text) (c : ResolveError) → Refuses (sub n w) tokens c → Refuses n (base ++ tokens) (resolve_behind (length base) (length (text base)) c)
+  pub refuses_behind : (tokens : List Text) (c : ResolveError) → Refuses (sub n w) tokens c → Refuses n (base ++ tokens) (shift_resolve_error (length base) (length (text base)) c)
   refuses_behind tokens (resolving.FailedToParseIndex p o s) r = record { label = r.label; token = r.token; stops = stops_behind tokens p o r.label r.token r.stops; why = r.why }
   refuses_behind tokens (resolving.OutOfBounds p o s) r = record { label = r.label; token = r.token; stops = stops_behind tokens p o r.label r.token r.stops; why = r.why }
   refuses_behind tokens (resolving.NotFound p o) r = record { label = r.label; token = r.token; stops = stops_behind tokens p o r.label r.token r.stops; why = r.why }
@@ -56,11 +55,11 @@ module _ (n : NodeMap) (base : List Text) (w : Path) (named : Names n base w) wh
   nowhere_behind : (tokens : List Text) (p o len : ℕ) (x : Text) → LandsNowhere (sub n w) tokens p o len x → LandsNowhere n (base ++ tokens) (length base + p) (length (text base) + o) len x
   nowhere_behind tokens p o len x r = record { stops = stops_behind tokens p o (an_array len) x r.stops; no_dash = r.no_dash; no_place = r.no_place }
 
-  pub refuses_assign_behind : (tokens : List Text) (c : AssignError) → RefusesAssign (sub n w) tokens c → RefusesAssign n (base ++ tokens) (assign_behind (length base) (length (text base)) c)
+  pub refuses_assign_behind : (tokens : List Text) (c : AssignError) → RefusesAssign (sub n w) tokens c → RefusesAssign n (base ++ tokens) (shift_assign_error (length base) (length (text base)) c)
   refuses_assign_behind tokens (assigning.FailedToParseIndex p o s) r = record { len = r.len; token = r.token; nowhere = nowhere_behind tokens p o r.len r.token r.nowhere; why = r.why }
   refuses_assign_behind tokens (assigning.OutOfBounds p o s) r = record { len = r.len; token = r.token; nowhere = nowhere_behind tokens p o r.len r.token r.nowhere; why = r.why }
 
-  -- finding
+  -- resolving
 
   pub finds_behind : (tokens : List Text) (v : NodeMap) → Finds (sub n w) tokens v → Finds n (base ++ tokens) v
   finds_behind tokens v f = record {
@@ -128,20 +127,13 @@ module _ (n : NodeMap) (base : List Text) (w : Path) (named : Names n base w) wh
   })
 
   pub refuses_add_behind : (k : ℕ) (tokens : List Text) (e : PatchError) → RefusesAdd (sub n w) k tokens e → RefusesAdd n k (base ++ tokens) (behind base e)
-  refuses_add_behind k tokens (NoTarget o c) r = (r.0, (lacks_behind tokens r.1.0, refuses_behind tokens c r.1.1))
-  refuses_add_behind k tokens (BadPlace o c) r = (r.0, (array_behind tokens r.1.0, refuses_assign_behind tokens c r.1.1))
-  refuses_add_behind k tokens (MoveIntoSelf o) r = r
-  refuses_add_behind k tokens (TestFloat o) r = r
-  refuses_add_behind k tokens (TestFailed o) r = r
+  refuses_add_behind k tokens e (inl r) = inl (_, ap (behind base) r.1, (lacks_behind tokens r.2.0, refuses_behind tokens r.0 r.2.1))
+  refuses_add_behind k tokens e (inr r) = inr (_, ap (behind base) r.1, (array_behind tokens r.2.0, refuses_assign_behind tokens r.0 r.2.1))
 
   pub refuses_target_behind : (k : ℕ) (tokens : List Text) (e : PatchError) → RefusesTarget (sub n w) k tokens e → RefusesTarget n k (base ++ tokens) (behind base e)
-  refuses_target_behind k tokens (NoTarget o c) r = (r.0, refuses_behind tokens c r.1)
-  refuses_target_behind k tokens (BadPlace o c) r = r
-  refuses_target_behind k tokens (MoveIntoSelf o) r = r
-  refuses_target_behind k tokens (TestFloat o) r = r
-  refuses_target_behind k tokens (TestFailed o) r = r
+  refuses_target_behind k tokens e r = (_, ap (behind base) r.1, refuses_behind tokens r.0 r.2)
 
-  -- taking out
+  -- removing
 
   cases_end : (p : Path) → (p ≡ []) ⊎ ((u : Path) × (s : Step) × (p ≡ u ++ s ∷ []))
   cases_end [] = inl refl
@@ -181,11 +173,9 @@ module _ (n : NodeMap) (base : List Text) (w : Path) (named : Names n base w) wh
   compares_behind tokens v t c = record { found = finds_behind tokens t c.found; target_plain = c.target_plain; value_plain = c.value_plain }
 
   pub refuses_test_behind : (k : ℕ) (tokens : List Text) (v : NodeMap) (e : PatchError) → RefusesTest (sub n w) k tokens v e → RefusesTest n k (base ++ tokens) v (behind base e)
-  refuses_test_behind k tokens v (NoTarget o c) r = (r.0, refuses_behind tokens c r.1)
-  refuses_test_behind k tokens v (BadPlace o c) r = r
-  refuses_test_behind k tokens v (MoveIntoSelf o) r = r
-  refuses_test_behind k tokens v (TestFloat o) r = (r.0, r.1, finds_behind tokens r.1 r.2, r.3)
-  refuses_test_behind k tokens v (TestFailed o) r = (r.0, r.1, compares_behind tokens v r.1 r.2, r.3)
+  refuses_test_behind k tokens v e (inl r) = inl (refuses_target_behind k tokens e r)
+  refuses_test_behind k tokens v e (inr (inl r)) = inr (inl (ap (behind base) r.0, r.1, finds_behind tokens r.1 r.2, r.3))
+  refuses_test_behind k tokens v e (inr (inr r)) = inr (inr (ap (behind base) r.0, r.1, compares_behind tokens v r.1 r.2, r.3))
 
 -- moving
 
@@ -217,11 +207,7 @@ module _ (n : NodeMap) (base : List Text) (w : Path) (named : Names n base w) (t
   }
 
   pub refuses_way_behind : (k : ℕ) (from path : List Text) (e : PatchError) → RefusesWay k from path e → RefusesWay k (base ++ from) (base ++ path) (behind base e)
-  refuses_way_behind k from path (NoTarget o c) r = r
-  refuses_way_behind k from path (BadPlace o c) r = r
-  refuses_way_behind k from path (MoveIntoSelf o) r = (r.0, front_behind base from path r.1)
-  refuses_way_behind k from path (TestFloat o) r = r
-  refuses_way_behind k from path (TestFailed o) r = r
+  refuses_way_behind k from path e r = (ap (behind base) r.0, front_behind base from path r.1)
 
   pub refuses_move_behind : (k : ℕ) (from path : List Text) (e : PatchError) → (from ≡ [] → base ≡ []) → RefusesMove (sub n w) k from path e → RefusesMove n k (base ++ from) (base ++ path) (behind base e)
   refuses_move_behind k from path e inside (inl r) = inl (refuses_way_behind k from path e r)

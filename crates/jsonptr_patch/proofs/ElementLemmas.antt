@@ -1,12 +1,12 @@
--- An element put into the list of an array, as its map has it, and the order of keys.
+-- The list of an array's elements after an insertion, its map, and the order of keys.
 use Rattle.std.proofs.Common.{◌≡◌, ℕ, zero, suc, ◌≤◌, List, [], ◌∷◌, ◌++◌, length, take, drop, Option, Some, None, option_and_then, option_map, Vec, Global, refl, sym, ap, ◌∙◌, subst, arith}
 use mathlib.Core.Path.{fun_ext}
 use Rattle.jsonptr_tree.specs.Node.{key, place, Path, an_array}
-use Rattle.jsonptr_tree.specs.Content.{Content, array, Items, item, items_len, get_item, label_of, content_at, map_of, InOrder, ItemsInOrder}
+use Rattle.jsonptr_tree.specs.Content.{Content, array, Items, item, items_len, get_item, label_of, content_at, map_of, SortedContent, SortedItems}
 use Rattle.jsonptr_tree.proofs.LevelLemmas.{items_by}
 use Rattle.jsonptr_patch.specs.Inserting.{place_of_old, below_element, with_place}
 
--- the element at a place, new or old
+-- the element at an index, new or old
 new_or_old : Option ℕ → Content → Items → Option Content
 new_or_old None d ds = Some d
 new_or_old (Some k) d ds = get_item k ds
@@ -32,7 +32,7 @@ module _ {V : Type 0} (see : V → Content) where
   len-insert (v ∷ vs) zero x h = refl
   len-insert (v ∷ vs) (suc i) x h = ap suc (len-insert vs i x (omega arith))
 
-  items_insert : (vs : List V) (i : ℕ) (x : V) → InOrder (see x) → ItemsInOrder (items_by see vs) → ItemsInOrder (items_by see (take i vs ++ x ∷ drop i vs))
+  items_insert : (vs : List V) (i : ℕ) (x : V) → SortedContent (see x) → SortedItems (items_by see vs) → SortedItems (items_by see (take i vs ++ x ∷ drop i vs))
   items_insert [] zero x h a = (h, tt)
   items_insert [] (suc i) x h a = (h, tt)
   items_insert (v ∷ vs) zero x h a = (h, a)
@@ -52,6 +52,6 @@ module _ {V : Type 0} (see : V → Content) where
         at (key k ∷ p) = refl
         at (place j ∷ p) = ap (λ (o : Option Content). option_map label_of (option_and_then (content_at p) o)) (get_item-insert v.items i j x h) ∙ by_place p (place_of_old i j)
 
-    -- the keys ascend in each element as before, and in the new one
-    pub ascends_inserted : (v w : Vec V Global) (i : ℕ) (x : V) → w.items ≡ take i v.items ++ x ∷ drop i v.items → InOrder (see x) → InOrder (see (Array v)) → InOrder (see (Array w))
-    ascends_inserted v w i x e h a = subst InOrder (sym (array_is w)) (subst (λ (vs : List V). ItemsInOrder (items_by see vs)) (sym e) (items_insert v.items i x h (subst InOrder (array_is v) a)))
+    -- the keys of each old element and of the new one are sorted
+    pub ascends_inserted : (v w : Vec V Global) (i : ℕ) (x : V) → w.items ≡ take i v.items ++ x ∷ drop i v.items → SortedContent (see x) → SortedContent (see (Array v)) → SortedContent (see (Array w))
+    ascends_inserted v w i x e h a = subst SortedContent (sym (array_is w)) (subst (λ (vs : List V). SortedItems (items_by see vs)) (sym e) (items_insert v.items i x h (subst SortedContent (array_is v) a)))

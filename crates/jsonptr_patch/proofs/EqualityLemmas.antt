@@ -27,7 +27,7 @@ same_back (Some (a_leaf a)) (Some an_object) h = absurd h
 same_back (Some (a_leaf a)) (Some (an_array k)) h = absurd h
 same_back (Some (a_leaf a)) (Some (a_leaf b)) h = (h.0, h.2, h.1)
 
--- what is the same as a node is one of its kind
+-- a node that is equal to one of a kind is of that kind
 array_alone : (len : ℕ) (k : Option Label) → SameNode (Some (an_array len)) k → k ≡ Some (an_array len)
 array_alone len None h = absurd h
 array_alone len (Some an_object) h = absurd h
@@ -130,14 +130,14 @@ whole_of : (o : Option ℤ) (r : Reading) → option_map whole o ≡ Some r → 
 whole_of None r h = let none : ⊥ = cc in absurd none
 whole_of (Some z) r h = let same : r ≡ whole z = cc in (z, refl, same)
 
--- the value of which a reading is
+-- `IsRead r d`: the value `d` has the reading `r`
 abbrev pub IsRead : Reading → Data → Type 0
 IsRead nothing d = d ≡ null
 IsRead (truth b) d = d ≡ boolean b
 IsRead (words s) d = d ≡ string s
 IsRead (whole z) d = (b : Num) × (d ≡ number b) × (as_integer b ≡ Some z)
 
--- what is equal to a scalar of a reading is of that reading
+-- what is equal to a scalar with a reading has that reading
 read_alone : (a : Scalar) (r : Reading) (d : Data) → reading a ≡ Some r → IsEqual (map_of (scalar a)) (nodes d) → IsRead r d
 read_alone a r d known h = by_value d (h [])
   where

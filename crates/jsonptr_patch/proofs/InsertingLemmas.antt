@@ -1,4 +1,4 @@
--- What an insertion makes of an array: it takes back a deletion at the place, and a deletion there takes it back.
+-- Insertion into an array: it undoes a deletion at the same index, and a deletion there undoes it.
 use Rattle.std.proofs.Common.{◌≡◌, ℕ, zero, suc, ◌-◌, ◌<◌, ◌≤◌, [], ◌∷◌, ◌++◌, map, Contains, Option, Some, None, option_map, IsSome, ◌⊎◌, inl, inr, ⊎_elim, refl, sym, ap, ◌∙◌, subst, arith}
 use Rattle.std.proofs.lemmas.Bool.{cases_lt}
 use Rattle.std.proofs.lemmas.List.Elements.{Contains-append_left, Contains-append_right}
@@ -10,7 +10,7 @@ use Rattle.jsonptr_tree.proofs.RemovingLemmas.{place_before-below, place_before-
 use Rattle.jsonptr_tree.proofs.TreeLemmas.{IsTree-level, IsTree-child}
 use Rattle.jsonptr_patch.specs.Inserting.{one_more, place_of_old, below_element, with_place}
 
--- places
+-- indices
 
 pub place_of_old-same : (i : ℕ) → place_of_old i i ≡ None
 place_of_old-same zero = refl
@@ -26,7 +26,7 @@ place_of_old-above zero j h = refl
 place_of_old-above (suc i) zero h = absurd (omega arith)
 place_of_old-above (suc i) (suc j) h = ap (option_map suc) (place_of_old-above i j (omega arith))
 
--- a place is below the new one, the new one, or the next of one from there on
+-- an index is less than the new one, equal to it, or the successor of one that is not less
 pub cases_place : (i j : ℕ) → (j < i) ⊎ ((j ≡ i) ⊎ ((k : ℕ) × (j ≡ suc k) × (i ≤ k)))
 cases_place zero zero = inr (inl refl)
 cases_place zero (suc j) = inr (inr (j, refl, omega arith))
@@ -155,7 +155,7 @@ more_some : (o : Option Label) → IsSome (one_more o) → IsSome o
 more_some None h = h
 more_some (Some l) h = refl
 
--- a path of the array with each place one higher
+-- a path of the array, with its index larger by one
 higher : Path → Path
 higher [] = []
 higher (key k ∷ p) = key k ∷ p

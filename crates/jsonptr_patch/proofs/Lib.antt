@@ -1,4 +1,4 @@
--- Lemmas on insertions, on adding, on tests, on whole patches, and on the laws of patches.
+-- Lemmas on insertions, additions, tests, whole patches, and the laws of patches.
 pub mod InsertingLemmas
 pub mod AddingLemmas
 pub mod ElementLemmas

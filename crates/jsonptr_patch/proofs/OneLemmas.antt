@@ -1,4 +1,4 @@
--- That an operation makes one map or is refused in one way, and not both.
+-- An operation either makes exactly one map or fails with exactly one error.
 use Rattle.std.proofs.Common.{◌≡◌, ℕ, ◌<◌, ◌≤◌, ◌⊎◌, inl, inr, ⊎_elim, List, [], ◌∷◌, ◌++◌, length, codes, Option, Some, None, IsSome, refl, sym, ap, ◌∙◌, subst, arith}
 use Rattle.std.proofs.lemmas.Bool.{cases_lt}
 use Rattle.serde_json.specs.Data.{null}
@@ -22,13 +22,13 @@ use Rattle.jsonptr_tree.proofs.TreeLemmas.{IsTree-put}
 use Rattle.jsonptr_tree.proofs.ContentLemmas.{map_of-IsTree, map_of-finite}
 use Rattle.jsonptr_tree.proofs.RemovingLemmas.{Deletes_one, Deletes-tree, Deletes-finite}
 use Rattle.jsonptr_patch.specs.Inserting.{with_place}
-use Rattle.jsonptr_patch.specs.Adding.{MeansPlace, AddsUnder, Adds, LacksParent, HasArray, LacksTarget, LacksPlace}
-use Rattle.jsonptr_patch.specs.Operating.{Takes, IsProperFront, Moves, Compares, Passes, Applies, RefusesTarget, RefusesAdd, RefusesWay, RefusesMove, RefusesCopy, RefusesTest, RefusesOperation}
+use Rattle.jsonptr_patch.specs.Adding.{MeansPlace, AddsUnder, Adds, LacksParent, HasArray, LacksPlace}
+use Rattle.jsonptr_patch.specs.Operating.{Takes, Moves, Compares, Passes, Applies, RefusesTarget, RefusesAdd, RefusesMove, RefusesCopy, RefusesTest, RefusesOperation}
 use Rattle.jsonptr_patch.specs.Testing.{IsEqual, HasFloat}
 use Rattle.jsonptr_patch.specs.declared.operation.Operation.{Operation}
 use Rattle.jsonptr_patch.specs.declared.operation.Operation.TheVariants.{Add, Remove, Replace, Move, Copy, Test}
 use Rattle.jsonptr_patch.specs.declared.operation.PatchError.{PatchError}
-use Rattle.jsonptr_patch.specs.declared.operation.PatchError.TheVariants.{NoTarget, BadPlace, MoveIntoSelf, TestFloat, TestFailed}
+use Rattle.jsonptr_patch.specs.declared.operation.PatchError.TheVariants.{NoTarget, BadPlace}
 use Rattle.jsonptr_patch.proofs.InsertingLemmas.{IsTree-with_place, IsListed-with_place}
 use Rattle.jsonptr_tree.proofs.AssigningLemmas.{Assigns_named, Assigns_object, Assigns-tree}
 use Rattle.jsonptr_patch.proofs.AddingLemmas.{named_refused, cases_member}
@@ -53,7 +53,7 @@ last_one (a ∷ f) (b ∷ g) x y e =
     let r = last_one f g x y tail in
     (subst (λ (t : Text). a ∷ f ≡ t ∷ g) head (ap (λ (l : List Text). a ∷ l) r.0), r.1)
 
--- places
+-- indices
 
 place_one : (len : ℕ) (x : Text) (i j : ℕ) → MeansPlace len x i → MeansPlace len x j → i ≡ j
 place_one len x i j h k = go h.1 k.1
@@ -82,7 +82,7 @@ adds_one n tokens v m k (inr a) (inr b) =
     let made : AddsUnder n b.path (n b.path) b.last v m = subst (λ (w : Path). AddsUnder n w (n w) b.last v m) here (subst (λ (x : Text). AddsUnder n a.path (n a.path) x v m) same.1 a.made) in
     under_one n b.path (n b.path) b.last v m k made b.made
 
--- where a scalar or nothing is above, nothing is added
+-- nothing is added below a scalar or a node that does not exist
 under_scalar : (n : NodeMap) (w : Path) (l : Option Label) (x : Text) (v m : NodeMap) (s : Scalar) → l ≡ Some (a_leaf s) → AddsUnder n w l x v m → ⊥
 under_scalar n w None x v m s e h = h
 under_scalar n w (Some an_object) x v m s e h = cc
@@ -96,7 +96,7 @@ adds_lacks_target n tokens v m (inr a) b =
     let s = b.scalar a.path (subst (λ (ts : List Text). Names n ts a.path) same.0 a.named) in
     under_scalar n a.path (n a.path) a.last v m s.0 s.1 a.made
 
--- a token that means a place of an array does not lack one
+-- a token that refers to an index of an array does not lack one
 place_stops : (n : NodeMap) (tokens front : List Text) (x : Text) (w : Path) (len i : ℕ) (e : AssignError) → IsTree n → tokens ≡ front ++ x ∷ [] → Names n front w → n w ≡ Some (an_array len) → MeansPlace len x i → RefusesAssign n tokens e → ⊥
 place_stops n tokens front x w len i e tree split named array means r = ⊎_elim
     (λ (b : i < len). inside b means.1)
@@ -105,7 +105,7 @@ place_stops n tokens front x w len i e tree split named array means r = ⊎_elim
   where
     stops_at : StopsBefore n tokens (length front) (length (text front)) (an_array len) x → ⊥
     stops_at s =
-        let same = StopsBefore_one n tokens (assign.position_of e) (length front) (assign.offset_of e) (length (text front)) (an_array r.len) (an_array len) r.token x r.nowhere.stops s in
+        let same = StopsBefore_one n tokens (assign.assign_position_of e) (length front) (assign.assign_offset_of e) (length (text front)) (an_array r.len) (an_array len) r.token x r.nowhere.stops s in
         let long : r.len ≡ len = one same.2 in
         ⊎_elim
         (λ (d : x ≡ dec i). r.nowhere.no_place i (omega (arith, means.0, long)) (same.3 ∙ d))
@@ -122,7 +122,7 @@ place_stops n tokens front x w len i e tree split named array means r = ⊎_elim
         means.1
 
     inside : i < len → (x ≡ dec i) ⊎ ((x ≡ codes "-") × (i ≡ len)) → ⊥
-    inside b (inl d) = Names-StopsBefore n tokens (w ++ place i ∷ []) (assign.position_of e) (assign.offset_of e) (an_array r.len) r.token (subst (λ (ts : List Text). Names n ts (w ++ place i ∷ [])) (sym split) (Names-push n front x w (place i) named (subst (λ (l : Option Label). NamesStep l x (place i)) (sym array) (b, d)) (tree.full w len i array b))) r.nowhere.stops
+    inside b (inl d) = Names-StopsBefore n tokens (w ++ place i ∷ []) (assign.assign_position_of e) (assign.assign_offset_of e) (an_array r.len) r.token (subst (λ (ts : List Text). Names n ts (w ++ place i ∷ [])) (sym split) (Names-push n front x w (place i) named (subst (λ (l : Option Label). NamesStep l x (place i)) (sym array) (b, d)) (tree.full w len i array b))) r.nowhere.stops
     inside b (inr d) = absurd (omega (arith, d.1))
 
 under_array : (n : NodeMap) (w : Path) (l : Option Label) (x : Text) (v m : NodeMap) (len : ℕ) → l ≡ Some (an_array len) → AddsUnder n w l x v m → (i : ℕ) × MeansPlace len x i
@@ -142,13 +142,10 @@ adds_lacks_place n tokens v m e tree (inr a) r =
     place_stops n tokens a.front a.last a.path b.len means.0 e tree a.split a.named array means.1 r.1
 
 pub adds_refused : (n : NodeMap) (k : ℕ) (tokens : List Text) (v m : NodeMap) (e : PatchError) → IsTree n → Adds n tokens v m → RefusesAdd n k tokens e → ⊥
-adds_refused n k tokens v m (NoTarget o c) tree a r = adds_lacks_target n tokens v m a r.1.0
-adds_refused n k tokens v m (BadPlace o c) tree a r = adds_lacks_place n tokens v m c tree a r.1
-adds_refused n k tokens v m (MoveIntoSelf o) tree a r = r
-adds_refused n k tokens v m (TestFloat o) tree a r = r
-adds_refused n k tokens v m (TestFailed o) tree a r = r
+adds_refused n k tokens v m e tree a (inl r) = adds_lacks_target n tokens v m a r.2.0
+adds_refused n k tokens v m e tree a (inr r) = adds_lacks_place n tokens v m r.0 tree a r.2
 
--- a parent is not both an array and none
+-- a parent is not both an array and missing
 target_or_place : (n : NodeMap) (tokens : List Text) → LacksParent n tokens → HasArray n tokens → ⊥
 target_or_place n tokens a b =
     let same = last_one a.front b.front a.last b.last (sym a.split ∙ b.split) in
@@ -158,54 +155,25 @@ target_or_place n tokens a b =
     apart : (s : Scalar) → Some (a_leaf s) ≡ Some (an_array b.len) → ⊥
     apart s e = cc
 
--- which refusals there are
-
-pub target_view : (n : NodeMap) (k : ℕ) (tokens : List Text) (e : PatchError) → RefusesTarget n k tokens e → (c : ResolveError) × (e ≡ NoTarget k c) × Refuses n tokens c
-target_view n k tokens (NoTarget o c) h = (c, ap (λ (j : ℕ). NoTarget j c) h.0, h.1)
-target_view n k tokens (BadPlace o c) h = absurd h
-target_view n k tokens (MoveIntoSelf o) h = absurd h
-target_view n k tokens (TestFloat o) h = absurd h
-target_view n k tokens (TestFailed o) h = absurd h
-
-add_view : (n : NodeMap) (k : ℕ) (tokens : List Text) (e : PatchError) → RefusesAdd n k tokens e → ((c : ResolveError) × (e ≡ NoTarget k c) × LacksTarget n tokens c) ⊎ ((c : AssignError) × (e ≡ BadPlace k c) × LacksPlace n tokens c)
-add_view n k tokens (NoTarget o c) h = inl (c, ap (λ (j : ℕ). NoTarget j c) h.0, h.1)
-add_view n k tokens (BadPlace o c) h = inr (c, ap (λ (j : ℕ). BadPlace j c) h.0, h.1)
-add_view n k tokens (MoveIntoSelf o) h = absurd h
-add_view n k tokens (TestFloat o) h = absurd h
-add_view n k tokens (TestFailed o) h = absurd h
-
-way_view : (k : ℕ) (from path : List Text) (e : PatchError) → RefusesWay k from path e → (e ≡ MoveIntoSelf k) × IsProperFront from path
-way_view k from path (NoTarget o c) h = absurd h
-way_view k from path (BadPlace o c) h = absurd h
-way_view k from path (MoveIntoSelf o) h = (ap MoveIntoSelf h.0, h.1)
-way_view k from path (TestFloat o) h = absurd h
-way_view k from path (TestFailed o) h = absurd h
-
--- the two causes are one
+-- the two causes are equal
 
 module _ (resolve_one : (n : NodeMap) (tokens : List Text) (e f : ResolveError) → Refuses n tokens e → Refuses n tokens f → e ≡ f) (assign_one : (n : NodeMap) (tokens : List Text) (e f : AssignError) → RefusesAssign n tokens e → RefusesAssign n tokens f → e ≡ f) where
   pub target_one : (n : NodeMap) (k : ℕ) (tokens : List Text) (e f : PatchError) → RefusesTarget n k tokens e → RefusesTarget n k tokens f → e ≡ f
-  target_one n k tokens e f h i =
-      let a = target_view n k tokens e h in
-      let b = target_view n k tokens f i in
-      a.1 ∙ ap (NoTarget k) (resolve_one n tokens a.0 b.0 a.2 b.2) ∙ sym b.1
+  target_one n k tokens e f a b = a.1 ∙ ap (NoTarget k) (resolve_one n tokens a.0 b.0 a.2 b.2) ∙ sym b.1
 
   pub add_one : (n : NodeMap) (k : ℕ) (tokens : List Text) (e f : PatchError) → RefusesAdd n k tokens e → RefusesAdd n k tokens f → e ≡ f
-  add_one n k tokens e f h i = both (add_view n k tokens e h) (add_view n k tokens f i)
-    where
-      both : ((c : ResolveError) × (e ≡ NoTarget k c) × LacksTarget n tokens c) ⊎ ((c : AssignError) × (e ≡ BadPlace k c) × LacksPlace n tokens c) → ((c : ResolveError) × (f ≡ NoTarget k c) × LacksTarget n tokens c) ⊎ ((c : AssignError) × (f ≡ BadPlace k c) × LacksPlace n tokens c) → e ≡ f
-      both (inl a) (inl b) = a.1 ∙ ap (NoTarget k) (resolve_one n tokens a.0 b.0 a.2.1 b.2.1) ∙ sym b.1
-      both (inr a) (inr b) = a.1 ∙ ap (BadPlace k) (assign_one n tokens a.0 b.0 a.2.1 b.2.1) ∙ sym b.1
-      both (inl a) (inr b) = absurd (target_or_place n tokens a.2.0 b.2.0)
-      both (inr a) (inl b) = absurd (target_or_place n tokens b.2.0 a.2.0)
+  add_one n k tokens e f (inl a) (inl b) = a.1 ∙ ap (NoTarget k) (resolve_one n tokens a.0 b.0 a.2.1 b.2.1) ∙ sym b.1
+  add_one n k tokens e f (inr a) (inr b) = a.1 ∙ ap (BadPlace k) (assign_one n tokens a.0 b.0 a.2.1 b.2.1) ∙ sym b.1
+  add_one n k tokens e f (inl a) (inr b) = absurd (target_or_place n tokens a.2.0 b.2.0)
+  add_one n k tokens e f (inr a) (inl b) = absurd (target_or_place n tokens b.2.0 a.2.0)
 
--- taking out
+-- removing
 
 pub takes_one : (n : NodeMap) (tokens : List Text) (v u m k : NodeMap) → IsTree n → Takes n tokens v m → Takes n tokens u k → (v ≡ u) × (m ≡ k)
 takes_one n tokens v u m k tree a b = (Finds_one n tokens v u a.found b.found, Deletes_one n (nodes null) tokens m k tree a.left b.left)
 
 found_refused : (n : NodeMap) (tokens : List Text) (m : NodeMap) (k : ℕ) (e : PatchError) → Finds n tokens m → RefusesTarget n k tokens e → ⊥
-found_refused n tokens m k e f h = let a = target_view n k tokens e h in named_refused n tokens f.path a.0 f.named a.2
+found_refused n tokens m k e f h = named_refused n tokens f.path h.0 f.named h.2
 
 -- documents
 
@@ -242,18 +210,16 @@ applies_one n m l (Copy from path) tree a b =
 applies_one n m l (Test path value) tree a b = a.1 ∙ sym b.1
 
 test_refused : (n : NodeMap) (k : ℕ) (tokens : List Text) (v : NodeMap) (e : PatchError) → Passes n tokens v → RefusesTest n k tokens v e → ⊥
-test_refused n k tokens v (NoTarget o c) a h = named_refused n tokens a.1.found.path c a.1.found.named h.1
-test_refused n k tokens v (BadPlace o c) a h = h
-test_refused n k tokens v (MoveIntoSelf o) a h = h
-test_refused n k tokens v (TestFloat o) a h =
+test_refused n k tokens v e a (inl h) = named_refused n tokens a.1.found.path h.0 a.1.found.named h.2
+test_refused n k tokens v e a (inr (inl h)) =
     let same = Finds_one n tokens h.1 a.0 h.2 a.1.found in
     ⊎_elim (λ (f : HasFloat h.1). a.1.target_plain (subst HasFloat same f)) (λ (f : HasFloat v). a.1.value_plain f) h.3
-test_refused n k tokens v (TestFailed o) a h =
+test_refused n k tokens v e a (inr (inr h)) =
     let same = Finds_one n tokens h.1 a.0 h.2.found a.1.found in
     h.3 (subst (λ (q : NodeMap). IsEqual q v) (sym same) a.2)
 
 move_refused : (n m : NodeMap) (k : ℕ) (from path : List Text) (e : PatchError) → IsTree n → Moves n from path m → RefusesMove n k from path e → ⊥
-move_refused n m k from path e tree a (inl h) = a.apart ((way_view k from path e h).1)
+move_refused n m k from path e tree a (inl h) = a.apart h.1
 move_refused n m k from path e tree a (inr h) = go h.1
   where
     go : RefusesTarget n k from e ⊎ ((node left : NodeMap) × Takes n from node left × RefusesAdd left k path e) → ⊥
@@ -266,20 +232,13 @@ move_refused n m k from path e tree a (inr h) = go h.1
 pub applies_refused : (n m : NodeMap) (k : ℕ) (o : Operation) (e : PatchError) → IsTree n → Applies n o m → RefusesOperation n k o e → ⊥
 applies_refused n m k (Add path value) e tree a h = adds_refused n k path (nodes (view value)) m e tree a h
 applies_refused n m k (Remove path) e tree a h = found_refused n path a.0 k e a.1.found h
-applies_refused n m k (Replace path value) e tree a h = let c = target_view n k path e h in named_refused n path a.path c.0 a.named c.2
+applies_refused n m k (Replace path value) e tree a h = named_refused n path a.path h.0 a.named h.2
 applies_refused n m k (Move from path) e tree a h = move_refused n m k from path e tree a h
 applies_refused n m k (Copy from path) e tree a (inl h) = found_refused n from a.node k e a.found h
 applies_refused n m k (Copy from path) e tree a (inr h) = adds_refused n k path a.node m e tree a.added h.2
 applies_refused n m k (Test path value) e tree a h = test_refused n k path (nodes (view value)) e a.0 h
 
--- one refusal
-
-test_view : (n : NodeMap) (k : ℕ) (tokens : List Text) (v : NodeMap) (e : PatchError) → RefusesTest n k tokens v e → RefusesTarget n k tokens e ⊎ (((e ≡ TestFloat k) × (target : NodeMap) × Finds n tokens target × (HasFloat target ⊎ HasFloat v)) ⊎ ((e ≡ TestFailed k) × (target : NodeMap) × Compares n tokens v target))
-test_view n k tokens v (NoTarget o c) h = inl h
-test_view n k tokens v (BadPlace o c) h = absurd h
-test_view n k tokens v (MoveIntoSelf o) h = absurd h
-test_view n k tokens v (TestFloat o) h = inr (inl (ap TestFloat h.0, h.1, h.2, h.3))
-test_view n k tokens v (TestFailed o) h = inr (inr (ap TestFailed h.0, h.1, h.2))
+-- the error is unique
 
 float_and_plain : (n : NodeMap) (tokens : List Text) (v t u : NodeMap) → Finds n tokens t → (HasFloat t ⊎ HasFloat v) → Compares n tokens v u → ⊥
 float_and_plain n tokens v t u f h c =
@@ -288,24 +247,20 @@ float_and_plain n tokens v t u f h c =
 
 module _ (resolve_one : (n : NodeMap) (tokens : List Text) (e f : ResolveError) → Refuses n tokens e → Refuses n tokens f → e ≡ f) (assign_one : (n : NodeMap) (tokens : List Text) (e f : AssignError) → RefusesAssign n tokens e → RefusesAssign n tokens f → e ≡ f) where
   test_one : (n : NodeMap) (k : ℕ) (tokens : List Text) (v : NodeMap) (e f : PatchError) → RefusesTest n k tokens v e → RefusesTest n k tokens v f → e ≡ f
-  test_one n k tokens v e f h i = both (test_view n k tokens v e h) (test_view n k tokens v f i)
-    where
-      both : RefusesTarget n k tokens e ⊎ (((e ≡ TestFloat k) × (target : NodeMap) × Finds n tokens target × (HasFloat target ⊎ HasFloat v)) ⊎ ((e ≡ TestFailed k) × (target : NodeMap) × Compares n tokens v target))
-          → RefusesTarget n k tokens f ⊎ (((f ≡ TestFloat k) × (target : NodeMap) × Finds n tokens target × (HasFloat target ⊎ HasFloat v)) ⊎ ((f ≡ TestFailed k) × (target : NodeMap) × Compares n tokens v target)) → e ≡ f
-      both (inl a) (inl b) = target_one resolve_one assign_one n k tokens e f a b
-      both (inl a) (inr (inl b)) = absurd (found_refused n tokens b.1 k e b.2 a)
-      both (inl a) (inr (inr b)) = absurd (found_refused n tokens b.1 k e b.2.found a)
-      both (inr (inl a)) (inl b) = absurd (found_refused n tokens a.1 k f a.2 b)
-      both (inr (inl a)) (inr (inl b)) = a.0 ∙ sym b.0
-      both (inr (inl a)) (inr (inr b)) = absurd (float_and_plain n tokens v a.1 b.1 a.2 a.3 b.2)
-      both (inr (inr a)) (inl b) = absurd (found_refused n tokens a.1 k f a.2.found b)
-      both (inr (inr a)) (inr (inl b)) = absurd (float_and_plain n tokens v b.1 a.1 b.2 b.3 a.2)
-      both (inr (inr a)) (inr (inr b)) = a.0 ∙ sym b.0
+  test_one n k tokens v e f (inl a) (inl b) = target_one resolve_one assign_one n k tokens e f a b
+  test_one n k tokens v e f (inl a) (inr (inl b)) = absurd (found_refused n tokens b.1 k e b.2 a)
+  test_one n k tokens v e f (inl a) (inr (inr b)) = absurd (found_refused n tokens b.1 k e b.2.found a)
+  test_one n k tokens v e f (inr (inl a)) (inl b) = absurd (found_refused n tokens a.1 k f a.2 b)
+  test_one n k tokens v e f (inr (inl a)) (inr (inl b)) = a.0 ∙ sym b.0
+  test_one n k tokens v e f (inr (inl a)) (inr (inr b)) = absurd (float_and_plain n tokens v a.1 b.1 a.2 a.3 b.2)
+  test_one n k tokens v e f (inr (inr a)) (inl b) = absurd (found_refused n tokens a.1 k f a.2.found b)
+  test_one n k tokens v e f (inr (inr a)) (inr (inl b)) = absurd (float_and_plain n tokens v b.1 a.1 b.2 b.3 a.2)
+  test_one n k tokens v e f (inr (inr a)) (inr (inr b)) = a.0 ∙ sym b.0
 
   move_one : (n : NodeMap) (k : ℕ) (from path : List Text) (e f : PatchError) → IsTree n → RefusesMove n k from path e → RefusesMove n k from path f → e ≡ f
-  move_one n k from path e f tree (inl h) (inl i) = (way_view k from path e h).0 ∙ sym ((way_view k from path f i).0)
-  move_one n k from path e f tree (inl h) (inr i) = absurd (i.0 ((way_view k from path e h).1))
-  move_one n k from path e f tree (inr h) (inl i) = absurd (h.0 ((way_view k from path f i).1))
+  move_one n k from path e f tree (inl h) (inl i) = h.0 ∙ sym i.0
+  move_one n k from path e f tree (inl h) (inr i) = absurd (i.0 h.1)
+  move_one n k from path e f tree (inr h) (inl i) = absurd (h.0 i.1)
   move_one n k from path e f tree (inr h) (inr i) = both h.1 i.1
     where
       both : RefusesTarget n k from e ⊎ ((node left : NodeMap) × Takes n from node left × RefusesAdd left k path e) → RefusesTarget n k from f ⊎ ((node left : NodeMap) × Takes n from node left × RefusesAdd left k path f) → e ≡ f
@@ -330,7 +285,7 @@ module _ (resolve_one : (n : NodeMap) (tokens : List Text) (e f : ResolveError) 
   refused_one n k (Copy from path) e f tree h i = copy_one n k from path e f h i
   refused_one n k (Test path value) e f tree h i = test_one n k path (nodes (view value)) e f h i
 
--- what is made is a document
+-- the result is a document
 
 object_tree : (n : NodeMap) (front : List Text) (x : Text) (w : Path) (v : NodeMap) → IsTree n → IsTree v → Names n front w → n w ≡ Some an_object → IsTree (put n (w ++ key x ∷ []) v)
 object_tree n front x w v tree new named object = ⊎_elim

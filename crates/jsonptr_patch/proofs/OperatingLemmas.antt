@@ -1,5 +1,5 @@
 -- Whole operations, and lists of them.
-use Rattle.std.proofs.Common.{◌≡◌, ℕ, inr, List, [], ◌∷◌, ◌++◌, length, Result, Ok, Err, IfOk, refl, subst}
+use Rattle.std.proofs.Common.{◌≡◌, ℕ, inl, inr, List, [], ◌∷◌, ◌++◌, length, Result, Ok, Err, IfOk, refl, subst}
 use Rattle.serde_json.specs.Data.{Data}
 use Rattle.serde_json.specs.View.{view}
 use Rattle.serde_json.specs.declared.value.Value.{Value}
@@ -15,7 +15,6 @@ use Rattle.jsonptr_patch.specs.Patching.{Patches, RefusesPatch}
 use Rattle.jsonptr_patch.specs.PrivateTesting.{IsPlain, RefusesCompare, SameValue}
 use Rattle.jsonptr_patch.specs.declared.operation.Operation.{Operation}
 use Rattle.jsonptr_patch.specs.declared.operation.PatchError.{PatchError}
-use Rattle.jsonptr_patch.specs.declared.operation.PatchError.TheVariants.{NoTarget, BadPlace, MoveIntoSelf, TestFloat, TestFailed}
 
 -- tests
 
@@ -26,11 +25,8 @@ test_passes d tokens v w (Err e) found h = tt
 pub test_refused : {T : Type 0} (d : Data) (k : ℕ) (tokens : List Text) (v w : Value) (r : Result T (Fault PatchError)) → FindsValue d tokens (view v) → IfRefused r (RefusesCompare k v w) → IfRefused r (RefusesTest (nodes d) k tokens (nodes (view w)))
 test_refused d k tokens v w (Ok t) found h = tt
 test_refused d k tokens v w (Err (Memory e)) found h = tt
-test_refused d k tokens v w (Err (Refused (NoTarget n cause))) found h = absurd h
-test_refused d k tokens v w (Err (Refused (BadPlace n cause))) found h = absurd h
-test_refused d k tokens v w (Err (Refused (MoveIntoSelf n))) found h = absurd h
-test_refused d k tokens v w (Err (Refused (TestFloat n))) found h = (h.0, nodes (view v), FindsValue-Finds d tokens (view v) found, h.1)
-test_refused d k tokens v w (Err (Refused (TestFailed n))) found h = (h.0, nodes (view v), record { found = FindsValue-Finds d tokens (view v) found; target_plain = h.1; value_plain = h.2 }, h.3)
+test_refused d k tokens v w (Err (Refused e)) found (inl h) = inr (inl (h.0, nodes (view v), FindsValue-Finds d tokens (view v) found, h.1))
+test_refused d k tokens v w (Err (Refused e)) found (inr h) = inr (inr (h.0, nodes (view v), record { found = FindsValue-Finds d tokens (view v) found; target_plain = h.1; value_plain = h.2 }, h.3))
 
 -- lists
 
@@ -39,7 +35,7 @@ pub patches_push : (n m k : NodeMap) (os : List Operation) (o : Operation) → P
 patches_push n m k [] o h a = (k, subst (λ (l : NodeMap). Applies l o k) h a, refl)
 patches_push n m k (p ∷ os) o h a = (h.0, h.1, patches_push h.0 m k os o h.2 a)
 
--- the next operation is refused
+-- the next operation fails
 pub refused_next : (n m : NodeMap) (all os rest : List Operation) (o : Operation) (e : PatchError) → all ≡ os ++ o ∷ rest → Patches n os m → RefusesOperation m (length os) o e → RefusesPatch n all e
 refused_next n m all os rest o e split done refused = record {
   done = os;
@@ -51,7 +47,7 @@ refused_next n m all os rest o e split done refused = record {
   refused = refused;
 }
 
--- refusals
+-- errors
 
 pub refused_all : {T E : Type 0} (r : Result T (Fault E)) (P Q : E → Type 0) → ((e : E) → P e → Q e) → IfRefused r P → IfRefused r Q
 refused_all (Ok t) P Q all h = tt

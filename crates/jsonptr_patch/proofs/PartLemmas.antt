@@ -1,4 +1,4 @@
--- Moving and copying by their parts, and what brings back what is deleted.
+-- Moving and copying by their parts, and the addition that restores what was deleted.
 use Rattle.std.proofs.Common.{List, sym, subst}
 use Rattle.serde_json.specs.Data.{null}
 use Rattle.serde_json.specs.View.{view}
@@ -12,7 +12,7 @@ use Rattle.jsonptr_tree.proofs.FollowingLemmas.{Finds_one}
 use Rattle.jsonptr_patch.specs.Adding.{Adds}
 use Rattle.jsonptr_patch.specs.Operating.{IsProperFront, Applies, RestoresAt}
 use Rattle.jsonptr_patch.specs.declared.operation.Operation.{Operation}
-use Rattle.jsonptr_patch.specs.declared.operation.Operation.TheVariants.{Add, Remove, Replace, Move, Copy, Test}
+use Rattle.jsonptr_patch.specs.declared.operation.Operation.TheVariants.{Add, Remove, Move, Copy}
 use Rattle.jsonptr_patch.proofs.RestoringLemmas.{restored}
 
 pub move_parts : (n m : NodeMap) (from path : List Text) (value : Value) → Applies n (Move from path) m → Finds n from (nodes (view value)) → (left : NodeMap) × Applies n (Remove from) left × Applies left (Add path value) m
@@ -34,9 +34,4 @@ pub copy_whole : (n m : NodeMap) (from path : List Text) (value : Value) → Fin
 copy_whole n m from path value found added = record { node = nodes (view value); found = found; added = added }
 
 pub restoring : (n m : NodeMap) (tokens : List Text) (o : Operation) → RestoresAt n tokens o → Deletes n tokens (nodes null) m → Applies m o n
-restoring n m tokens (Add path value) r gone = subst (λ (ts : List Text). Adds m ts (nodes (view value)) n) (sym r.0) (restored n m (nodes (view value)) (nodes null) tokens r.1 gone)
-restoring n m tokens (Remove path) r gone = absurd r
-restoring n m tokens (Replace path value) r gone = absurd r
-restoring n m tokens (Move from path) r gone = absurd r
-restoring n m tokens (Copy from path) r gone = absurd r
-restoring n m tokens (Test path value) r gone = absurd r
+restoring n m tokens o r gone = subst (λ (q : Operation). Applies m q n) (sym r.1) (restored n m (nodes (view r.0)) (nodes null) tokens r.2 gone)

@@ -1,4 +1,4 @@
--- Lists of operations: one outcome, and one list behind another.
+-- Lists of operations: their unique outcome, and one list after another.
 use Rattle.std.proofs.Common.{◌≡◌, ℕ, suc, ◌⊎◌, inl, inr, ⊎_elim, List, [], ◌∷◌, ◌++◌, length, refl, sym, ap, ap₂, ◌∙◌, subst, arith, append_assoc, append-nil}
 use Rattle.std.specs.Prelude.{All}
 use Rattle.jsonptr.specs.Documents.{IsDocument}
@@ -10,7 +10,7 @@ use Rattle.jsonptr_patch.specs.declared.operation.PatchError.{PatchError}
 use Rattle.jsonptr_patch.proofs.OperatingLemmas.{patches_push, refused_next}
 use Rattle.jsonptr_patch.specs.Operations.{IsOperation}
 
--- a list behind another
+-- a list after another
 
 pub patches_behind : (n m : NodeMap) (os ps : List Operation) → Patches n (os ++ ps) m → (l : NodeMap) × Patches n os l × Patches l ps m
 patches_behind n m [] ps h = (n, refl, h)
@@ -22,7 +22,7 @@ pub patches_both : (n l m : NodeMap) (os ps : List Operation) → Patches n os l
 patches_both n l m [] ps a b = subst (λ (q : NodeMap). Patches q ps m) a b
 patches_both n l m (o ∷ os) ps a b = (a.0, a.1, patches_both a.0 l m os ps a.2 b)
 
--- two refusals
+-- two errors
 
 prefix_cases : (f g : List Operation) (x y : Operation) (r s : List Operation) → f ++ x ∷ r ≡ g ++ y ∷ s → ((f ≡ g) × (x ≡ y)) ⊎ (((more : List Operation) × (f ≡ g ++ y ∷ more)) ⊎ ((more : List Operation) × (g ≡ f ++ x ∷ more)))
 prefix_cases [] [] x y r s e = inl (refl, cc)
@@ -54,7 +54,7 @@ module _ (applies_one : (n m l : NodeMap) (o : Operation) → IsTree n → Appli
   patches_document n m (o ∷ os) d a = patches_document a.0 m os (applies_document n a.0 o d a.1) a.2
 
   module _ (applies_refused : (n m : NodeMap) (k : ℕ) (o : Operation) (e : PatchError) → IsTree n → Applies n o m → RefusesOperation n k o e → ⊥) where
-    -- the operation behind others is applied, and so not refused
+    -- the operation after the others is applied, and so does not fail
     later_refused : (n left m : NodeMap) (done rest : List Operation) (o : Operation) (k : ℕ) (e : PatchError) → IsDocument n → Patches n done left → RefusesOperation left k o e → Patches n (done ++ o ∷ rest) m → ⊥
     later_refused n left m done rest o k e d a r h =
         let parts = patches_behind n m done (o ∷ rest) h in
@@ -76,7 +76,7 @@ module _ (applies_one : (n m l : NodeMap) (o : Operation) → IsTree n → Appli
           go (inr (inl h)) = absurd (later_refused n b.left a.left b.done h.0 b.fails (length b.done) f d b.applied b.refused (subst (λ (l : List Operation). Patches n l a.left) h.1 a.applied))
           go (inr (inr h)) = absurd (later_refused n a.left b.left a.done h.0 a.fails (length a.done) e d a.applied a.refused (subst (λ (l : List Operation). Patches n l b.left) h.1 b.applied))
 
--- some outcome
+-- there is an outcome
 
 all_head : (o : Operation) (os : List Operation) → All IsOperation (o ∷ os) → IsOperation o
 all_head o os all = all 0 o (omega arith)

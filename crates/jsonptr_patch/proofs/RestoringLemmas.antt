@@ -1,4 +1,4 @@
--- What is taken out comes back where it is added.
+-- What was removed is restored by adding it.
 use Rattle.std.proofs.Common.{◌≡◌, ◌-◌, ◌≤◌, ◌⊎◌, inl, inr, false, List, [], ◌∷◌, ◌++◌, Option, Some, None, IsSome, refl, sym, ap, ◌∙◌, subst, arith}
 use mathlib.Core.Path.{fun_ext}
 use Rattle.serde_json.specs.Data.{Data, null}
@@ -25,7 +25,7 @@ cases_token (t ∷ ts) = go (cases_token ts)
     go (inl e) = inr ([], t, ap (λ (l : List Text). t ∷ l) e)
     go (inr r) = inr (t ∷ r.0, r.1, ap (λ (l : List Text). t ∷ l) r.2)
 
--- a member put back where it was
+-- a member added again under its key
 pub put_without : (n : NodeMap) (k : Text) → put (without_key k n) (key k ∷ []) (sub n (key k ∷ [])) ≡ n
 put_without n k = same_by_step (put (without_key k n) (key k ∷ []) (sub n (key k ∷ []))) n refl below
   where
@@ -98,7 +98,7 @@ under n m v w x (place i) (Some (an_array len)) is h found made = subst (λ (o :
         ∙ put-sub n w
 under n m v w x s (Some (a_leaf a)) is h found made = absurd h
 
--- added at the tokens that named it, it gives the old map
+-- added at its tokens again, it makes the old map
 pub restored : (n m v blank : NodeMap) (tokens : List Text) → Finds n tokens v → Deletes n tokens blank m → Adds m tokens v n
 restored n m v blank tokens found gone = go (cases_token tokens)
   where
@@ -121,6 +121,6 @@ restored n m v blank tokens found gone = go (cases_token tokens)
           made = under n m v parts.0 r.1 parts.1 (n parts.0) refl parts.4 value made;
         })
 
--- the same of values
+-- the same for values
 pub restored_at : (d e v : Data) (path tokens : List Text) → path ≡ tokens → FindsValue d tokens v → Deletes (nodes d) tokens (nodes null) (nodes e) → Adds (nodes e) path (nodes v) (nodes d)
 restored_at d e v path tokens is found gone = subst (λ (ts : List Text). Adds (nodes e) ts (nodes v) (nodes d)) (sym is) (restored (nodes d) (nodes e) (nodes v) (nodes null) tokens (FindsValue-Finds d tokens v found) gone)

@@ -1,4 +1,4 @@
--- That an operation makes a map of a document, or is refused.
+-- An operation makes a map of a document, or fails.
 use Rattle.std.proofs.Common.{◌≡◌, ℕ, zero, suc, ◌<◌, ◌⊎◌, inl, inr, ⊎_elim, ℤ, Float, Bool, true, false, List, [], ◌∷◌, ◌++◌, length, get_or, codes, Contains, Option, Some, None, IsSome, refl, sym, ap, ◌∙◌, subst, arith, true≢false, length-append}
 use Rattle.std.specs.Prelude.{All, IsUtf8}
 use Rattle.std.proofs.lemmas.Bool.{cases_eq}
@@ -27,7 +27,7 @@ use Rattle.jsonptr_tree.proofs.FollowingLemmas.{cases_dec, cases_some, the_label
 use Rattle.jsonptr_tree.proofs.ListedLemmas.{IsListed-sub}
 use Rattle.jsonptr_tree.proofs.NodeLemmas.{Names-here}
 use Rattle.jsonptr_tree.proofs.RemovingLemmas.{Deletes-some}
-use Rattle.jsonptr_walk.specs.PrivatePutting.{HasNoPlace}
+use Rattle.jsonptr_walk.specs.PrivatePutting.{HasNoIndex}
 use Rattle.jsonptr_patch.specs.Inserting.{with_place}
 use Rattle.jsonptr_patch.specs.Adding.{MeansPlace, AddsUnder, Adds}
 use Rattle.jsonptr_patch.specs.Operating.{Takes, IsProperFront, Passes, Applies, RefusesTarget, RefusesAdd, RefusesTest, RefusesOperation}
@@ -41,7 +41,7 @@ use Rattle.jsonptr_patch.proofs.RestoringLemmas.{cases_token}
 use Rattle.jsonptr_patch.proofs.OneLemmas.{takes_tree}
 use Rattle.jsonptr_patch.specs.Operations.{IsOperation}
 
--- ---- what can be decided
+-- ---- decidable properties
 
 cases_text : (x y : Text) → (x ≡ y) ⊎ (x ≡ y → ⊥)
 cases_text x y = by_test (bytes_eq x y) refl
@@ -81,7 +81,7 @@ cases_reading (whole x) nothing = inr (λ h. cc)
 cases_reading (whole x) (truth y) = inr (λ h. cc)
 cases_reading (whole x) (words y) = inr (λ h. cc)
 
--- two scalars have one reading, or they do not
+-- two scalars have the same reading, or they do not
 cases_readings : (o p : Option Reading) → ((r : Reading) × (o ≡ Some r) × (p ≡ Some r)) ⊎ (((r : Reading) × (o ≡ Some r) × (p ≡ Some r)) → ⊥)
 cases_readings None p = inr (λ h. let none : None ≡ Some h.0 = h.1 in cc)
 cases_readings (Some r) None = inr (λ h. let none : None ≡ Some h.0 = h.2 in cc)
@@ -106,7 +106,7 @@ cases_node (Some (a_leaf s)) (Some an_object) = inr (λ h. h)
 cases_node (Some (a_leaf s)) (Some (an_array k)) = inr (λ h. h)
 cases_node (Some (a_leaf s)) (Some (a_leaf t)) = cases_readings (reading s) (reading t)
 
--- a float stands at a node, or none does
+-- there is a float at a node, or there is none
 abbrev FloatAt : Option Label → Type 0
 FloatAt o = (x : Float) × (o ≡ Some (a_leaf (of_json (json.number (json.float x)))))
 
@@ -175,7 +175,7 @@ cases_equal n m h k = ⊎_elim
         (cases_some (m w)))
         (cases_some (n w))
 
--- ---- a beginning of a list
+-- ---- a prefix of a list
 
 cases_proper : (f p : List Text) → IsProperFront f p ⊎ (IsProperFront f p → ⊥)
 cases_proper [] [] = inr (λ r. let e : [] ≡ r.0 ∷ r.1 = r.2 in cc)
@@ -209,7 +209,7 @@ module _ (resolve_some : ResolveSome) (assign_some : AssignSome) where
   -- a value is added, or why not
   adds_under : (n : NodeMap) (k : ℕ) (front : List Text) (x : Text) (v : NodeMap) (w : Path) (l : Label) → IsTree n → All IsUtf8 (front ++ x ∷ []) → Names n front w → n w ≡ Some l → ((m : NodeMap) × Adds n (front ++ x ∷ []) v m) ⊎ ((e : PatchError) × RefusesAdd n k (front ++ x ∷ []) e)
   adds_under n k front x v w an_object tree utf8 named is = inl (put n (w ++ key x ∷ []) v, inr (record { front = front; last = x; path = w; split = refl; named = named; made = subst (λ (o : Option Label). AddsUnder n w o x v (put n (w ++ key x ∷ []) v)) (sym is) refl }))
-  adds_under n k front x v w (a_leaf a) tree utf8 named is = inr (NoTarget k (Unreachable (length front) (length (text front))), (refl, scalar_lacks n (front ++ x ∷ []) front x w a (length front) (length (text front)) refl named is refl refl))
+  adds_under n k front x v w (a_leaf a) tree utf8 named is = inr (NoTarget k (Unreachable (length front) (length (text front))), inl (_, refl, scalar_lacks n (front ++ x ∷ []) front x w a (length front) (length (text front)) refl named is refl refl))
   adds_under n k front x v w (an_array len) tree utf8 named is = ⊎_elim
       (λ (r : (i : ℕ) × (i < suc len) × (x ≡ dec i)). at r.0 (omega (arith, r.1), inl r.2))
       (λ (none : (i : ℕ) → i < suc len → x ≡ dec i → ⊥). ⊎_elim
@@ -221,10 +221,10 @@ module _ (resolve_some : ResolveSome) (assign_some : AssignSome) where
       at : (i : ℕ) → MeansPlace len x i → ((m : NodeMap) × Adds n (front ++ x ∷ []) v m) ⊎ ((e : PatchError) × RefusesAdd n k (front ++ x ∷ []) e)
       at i means = inl (put n w (with_place i v (sub n w)), inr (record { front = front; last = x; path = w; split = refl; named = named; made = subst (λ (o : Option Label). AddsUnder n w o x v (put n w (with_place i v (sub n w)))) (sym is) (i, means, refl) }))
 
-      lacks : HasNoPlace len x → ((m : NodeMap) × Adds n (front ++ x ∷ []) v m) ⊎ ((e : PatchError) × RefusesAdd n k (front ++ x ∷ []) e)
+      lacks : HasNoIndex len x → ((m : NodeMap) × Adds n (front ++ x ∷ []) v m) ⊎ ((e : PatchError) × RefusesAdd n k (front ++ x ∷ []) e)
       lacks none = ⊎_elim
           (λ (r : (m : NodeMap) × (old : Option NodeMap) × Assigns n (front ++ x ∷ []) v m old). absurd (Assigns-LandsNowhere n (front ++ x ∷ []) v r.0 r.1 (length front) (length (text front)) len x r.2 (nowhere n front x w len (length front) (length (text front)) named is none refl refl)))
-          (λ (r : (e : AssignError) × RefusesAssign n (front ++ x ∷ []) e). inr (BadPlace k r.0, (refl, place_lacks n front x w len r.0 named is r.1)))
+          (λ (r : (e : AssignError) × RefusesAssign n (front ++ x ∷ []) e). inr (BadPlace k r.0, inr (r.0, refl, place_lacks n front x w len r.0 named is r.1)))
           (assign_some n (front ++ x ∷ []) v tree utf8)
 
   pub adds_some : (n : NodeMap) (k : ℕ) (tokens : List Text) (v : NodeMap) → IsTree n → All IsUtf8 tokens → ((m : NodeMap) × Adds n tokens v m) ⊎ ((e : PatchError) × RefusesAdd n k tokens e)
@@ -235,7 +235,7 @@ module _ (resolve_some : ResolveSome) (assign_some : AssignSome) where
           (λ (r : (m : NodeMap) × Finds n front m).
           let label = the_label (n r.1.path) (Names-here n front r.1.path r.1.named) in
           adds_under n k front x v r.1.path label.0 tree all r.1.named label.1)
-          (λ (r : (e : ResolveError) × Refuses n front e). inr (NoTarget k r.0, (refl, parent_lacks n (front ++ x ∷ []) front x r.0 refl r.1)))
+          (λ (r : (e : ResolveError) × Refuses n front e). inr (NoTarget k r.0, inl (r.0, refl, parent_lacks n (front ++ x ∷ []) front x r.0 refl r.1)))
           (resolve_some n front tree (utf8_front front x all))
 
       go : (tokens ≡ []) ⊎ ((front : List Text) × (x : Text) × (tokens ≡ front ++ x ∷ [])) → ((m : NodeMap) × Adds n tokens v m) ⊎ ((e : PatchError) × RefusesAdd n k tokens e)
@@ -247,23 +247,23 @@ module _ (resolve_some : ResolveSome) (assign_some : AssignSome) where
       (λ (r : (m : NodeMap) × Finds n tokens m).
       let gone = Deletes-some n (nodes json.null) tokens tree in
       inl (r.0, gone.0, record { found = r.1; left = gone.1 }))
-      (λ (r : (e : ResolveError) × Refuses n tokens e). inr (NoTarget k r.0, (refl, r.1)))
+      (λ (r : (e : ResolveError) × Refuses n tokens e). inr (NoTarget k r.0, (r.0, refl, r.1)))
       (resolve_some n tokens tree utf8)
 
   tests_some : (n : NodeMap) (k : ℕ) (tokens : List Text) (v : NodeMap) → IsDocument n → IsListed v → All IsUtf8 tokens → Passes n tokens v ⊎ ((e : PatchError) × RefusesTest n k tokens v e)
   tests_some n k tokens v document listed utf8 = ⊎_elim
       (λ (r : (m : NodeMap) × Finds n tokens m). found r.0 r.1 (subst IsListed (sym r.1.below) (IsListed-sub n r.1.path document.1)))
-      (λ (r : (e : ResolveError) × Refuses n tokens e). inr (NoTarget k r.0, (refl, r.1)))
+      (λ (r : (e : ResolveError) × Refuses n tokens e). inr (NoTarget k r.0, inl (r.0, refl, r.1)))
       (resolve_some n tokens document.0 utf8)
     where
       found : (t : NodeMap) → Finds n tokens t → IsListed t → Passes n tokens v ⊎ ((e : PatchError) × RefusesTest n k tokens v e)
       found t f finite = ⊎_elim
-          (λ (a : HasFloat t). inr (TestFloat k, (refl, t, f, inl a)))
+          (λ (a : HasFloat t). inr (TestFloat k, inr (inl (refl, t, f, inl a))))
           (λ (a : HasFloat t → ⊥). ⊎_elim
-          (λ (b : HasFloat v). inr (TestFloat k, (refl, t, f, inr b)))
+          (λ (b : HasFloat v). inr (TestFloat k, inr (inl (refl, t, f, inr b))))
           (λ (b : HasFloat v → ⊥). ⊎_elim
           (λ (s : IsEqual t v). inl (t, record { found = f; target_plain = a; value_plain = b }, s))
-          (λ (d : IsEqual t v → ⊥). inr (TestFailed k, (refl, t, record { found = f; target_plain = a; value_plain = b }, d)))
+          (λ (d : IsEqual t v → ⊥). inr (TestFailed k, inr (inr (refl, t, record { found = f; target_plain = a; value_plain = b }, d))))
           (cases_equal t v finite listed))
           (cases_has_float v listed))
           (cases_has_float t finite)
@@ -276,7 +276,7 @@ module _ (resolve_some : ResolveSome) (assign_some : AssignSome) where
       (takes_some n k path document.0 utf8)
   applies_some n k (Replace path value) document utf8 = ⊎_elim
       (λ (r : (m : NodeMap) × Finds n path m). inl (put n r.1.path (nodes (view value)), record { path = r.1.path; named = r.1.named; made = refl }))
-      (λ (r : (e : ResolveError) × Refuses n path e). inr (NoTarget k r.0, (refl, r.1)))
+      (λ (r : (e : ResolveError) × Refuses n path e). inr (NoTarget k r.0, (r.0, refl, r.1)))
       (resolve_some n path document.0 utf8)
   applies_some n k (Move from path) document utf8 = ⊎_elim
       (λ (f : IsProperFront from path). inr (MoveIntoSelf k, inl (refl, f)))
@@ -293,7 +293,7 @@ module _ (resolve_some : ResolveSome) (assign_some : AssignSome) where
       (λ (a : (m : NodeMap) × Adds n path r.0 m). inl (a.0, record { node = r.0; found = r.1; added = a.1 }))
       (λ (a : (e : PatchError) × RefusesAdd n k path e). inr (a.0, inr (r.0, r.1, a.1)))
       (adds_some n k path r.0 document.0 utf8.1))
-      (λ (r : (e : ResolveError) × Refuses n from e). inr (NoTarget k r.0, inl (refl, r.1)))
+      (λ (r : (e : ResolveError) × Refuses n from e). inr (NoTarget k r.0, inl (r.0, refl, r.1)))
       (resolve_some n from document.0 utf8.0)
   applies_some n k (Test path value) document utf8 = ⊎_elim
       (λ (p : Passes n path (nodes (view value))). inl (n, (p, refl)))

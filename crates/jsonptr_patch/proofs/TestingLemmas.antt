@@ -44,7 +44,7 @@ abbrev pub AllKeysIn : tested.Object → List Entry → Type 0
 AllKeysIn m [] = ⊤
 AllKeysIn m (e ∷ es) = IsSome (get_by_text m (string_bytes e.0)) × AllKeysIn m es
 
--- the value under a text among entries
+-- a string
 abbrev pub found_under : List ℕ → List Entry → Option Value
 found_under k es = lookup (is_at (λ l. slice_cmp nat_cmp k (string_bytes l))) es
 
@@ -61,7 +61,7 @@ found_middle (first ∷ done) e more h =
     nat_list_cmp_total.antisymm (string_bytes e.0) (string_bytes first.0) ∙ ap ordering_reverse (below_middle first done e more h.0) in
     ap (λ (o : Ordering). cond (is_eq o) (Some first.1) (found_under (string_bytes e.0) (done ++ e ∷ more))) above ∙ found_middle done e more h.1
 
--- what is found under a text is an entry, whose key it is
+-- the value that is found under a text is an entry with that key
 found_among : (P : List ℕ → Value → Type 0) (b : Bool) (k l : List ℕ) (u v : Value) (rest : Option Value) → is_eq (slice_cmp nat_cmp k l) ≡ b → P l u → (rest ≡ Some v → P k v) → cond b (Some u) rest ≡ Some v → P k v
 found_among P true k l u v rest is here later e =
     let same : u ≡ v = cc in
@@ -72,7 +72,7 @@ found_among P false k l u v rest is here later e = later e
 no_none : {A B : Type 0} (a : A) → None ≡ Some a → B
 no_none a e = let none : ⊥ = cc in absurd none
 
--- what holds of each entry holds of what is found
+-- a property of each entry is one of the value that is found
 pub found_float : (es : List Entry) → NoFloats es → (k : List ℕ) (v : Value) → found_under k es ≡ Some v → FloatIn v → ⊥
 found_float [] none k v e = no_none v e
 found_float (x ∷ es) none k v e = found_among (λ _ u. FloatIn u → ⊥) (is_eq (slice_cmp nat_cmp k (string_bytes x.0))) k (string_bytes x.0) x.1 v (found_under k es) refl none.0 (found_float es none.1 k v) e
@@ -273,7 +273,7 @@ number_float (json.float x) = (λ e. ([], x, refl), λ h. refl)
 
 -- ---- a scalar and another value
 
--- what a test reads of a value
+-- what a test reads from a value
 abbrev pub reading_of : json.Data → Option Reading
 reading_of json.null = Some nothing
 reading_of (json.boolean b) = Some (truth b)
@@ -310,7 +310,7 @@ reading_equal a r e is = (to e, from e)
     from (json.array ds) g = no_none r g
     from (json.object ms) g = no_none r g
 
--- and one that has none equals no value
+-- a scalar without a reading equals no value
 pub unread_equal : (a : Scalar) (e : json.Data) → reading a ≡ None → IsEqual (map_of (scalar a)) (nodes e) → ⊥
 unread_equal a e is h = by_value e (h [])
   where
@@ -325,7 +325,7 @@ unread_equal a e is h = by_value e (h [])
     by_value (json.array ds) i = i
     by_value (json.object ms) i = i
 
--- ---- the arms of the code
+-- ---- the match arms of the code
 
 pub never : (P : Type 0) → (P → ⊥) → IsTrue false ↔ P
 never P none = (λ h. absurd (true≢false (sym h)), λ p. absurd (none p))
@@ -333,7 +333,7 @@ never P none = (λ h. absurd (true≢false (sym h)), λ p. absurd (none p))
 pub always : (P : Type 0) → P → IsTrue true ↔ P
 always P p = (λ h. p, λ h. refl)
 
--- what a value of this content has
+-- whether a value with this content contains a float
 pub float_as : (v : Value) (d : Content) → content_of v ≡ d → (HasFloat (map_of d) → ⊥) → IsTrue false ↔ FloatIn v
 float_as v d is none = never (FloatIn v) (λ h. none (subst (λ (c : Content). HasFloat (map_of c)) is h))
 
@@ -358,7 +358,7 @@ same_as P v w d e b is other here there = (λ h. back (there.0 (here.0 h)), λ h
 iff_flip : {A B : Type 0} → A ↔ B → B ↔ A
 iff_flip h = (h.1, h.0)
 
--- a whole number reads as itself, and a float as nothing
+-- an integer reads as itself, and a float has no reading
 whole_of : (n : json.Num) (r : Reading) → option_map whole (as_integer n) ≡ Some r → (z : ℤ) × (as_integer n ≡ Some z) × (r ≡ whole z)
 whole_of n r e = by_value (as_integer n) e
   where
@@ -366,7 +366,7 @@ whole_of n r e = by_value (as_integer n) e
     by_value None f = no_none r f
     by_value (Some z) f = (z, refl, cc)
 
--- which whole number does not read as this
+-- no number has a reading that is not an integer
 no_whole : (n : json.Num) (r : Reading) → ((z : ℤ) → r ≡ whole z → ⊥) → option_map whole (as_integer n) ≡ Some r → ⊥
 no_whole n r apart e = let w = whole_of n r e in apart w.0 w.2
 
@@ -391,7 +391,7 @@ null_reads (json.object ms) b is = (λ h. absurd (true≢false (sym h ∙ is)), 
 pub null_same : (v w : Value) (b : Bool) → content_of v ≡ scalar (of_json json.null) → b ≡ is_some (as_null (view w)) → IsTrue b ↔ SameValue v w
 null_same v w b is by = same_as (reading_of (view w) ≡ Some nothing) v w (scalar (of_json json.null)) (content_of w) b is refl (null_reads (view w) b by) (iff_flip (reading_equal (of_json json.null) nothing (view w) refl))
 
--- a truth value
+-- a boolean
 truth_reads : (e : json.Data) (t o : Bool) → Some o ≡ as_bool e → IsTrue (beq t o) ↔ (reading_of e ≡ Some (truth t))
 truth_reads json.null t o e = let none : ⊥ = cc in absurd none
 truth_reads (json.boolean x) t o e = by_value t o (let same : o ≡ x = cc in same)

@@ -1,5 +1,5 @@
--- What the operations of a patch make of a document, when they are refused, what a whole list of them does, and
--- which operations a patch has (RFC 6902).
+-- What each operation of a patch makes of a document, when it fails, what a whole list of operations does, and which
+-- operations a patch has (RFC 6902).
 pub mod Inserting
 pub mod Adding
 pub mod Testing

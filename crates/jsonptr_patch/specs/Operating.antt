@@ -1,13 +1,16 @@
--- What one operation makes of a document, and when it is refused (RFC 6902, section 4).
+-- What one operation makes of a document, and when it fails (RFC 6902, section 4).
 use Rattle.std.specs.Prelude.{◌≡◌, ℕ, ◌⊎◌, List, ◌∷◌, ◌++◌}
 use Rattle.serde_json.specs.Data.{null}
 use Rattle.serde_json.specs.View.{view}
+use Rattle.serde_json.specs.declared.value.Value.{Value}
 use Rattle.jsonptr.specs.Text.{Text}
 use Rattle.jsonptr.specs.Node.{NodeMap}
 use Rattle.jsonptr.specs.Following.{Finds}
 use Rattle.jsonptr.specs.Json.{nodes}
 use Rattle.jsonptr.specs.Removing.{Deletes}
 use Rattle.jsonptr.specs.Resolve.{Refuses, PutsAt}
+use Rattle.jsonptr.specs.declared.resolve.Error.{Error as ResolveError}
+use Rattle.jsonptr.specs.declared.assign.Error.{Error as AssignError}
 use Rattle.jsonptr_patch.specs.Adding.{Adds, LacksTarget, LacksPlace}
 use Rattle.jsonptr_patch.specs.Testing.{IsEqual, HasFloat}
 use Rattle.jsonptr_patch.specs.declared.operation.Operation.{Operation}
@@ -15,18 +18,18 @@ use Rattle.jsonptr_patch.specs.declared.operation.Operation.TheVariants.{Add, Re
 use Rattle.jsonptr_patch.specs.declared.operation.PatchError.{PatchError}
 use Rattle.jsonptr_patch.specs.declared.operation.PatchError.TheVariants.{NoTarget, BadPlace, MoveIntoSelf, TestFloat, TestFailed}
 
--- the tokens name a node, which has the map v, and m is what is left of n without it; of the whole document null is
--- left
+-- `Takes n tokens v m`: `tokens` evaluate to the map `v` in `n`, and `m` is `n` without it. Removing the root leaves
+-- `null`.
 pub record Takes (n : NodeMap) (tokens : List Text) (v m : NodeMap) : Type 0 where
   pub found : Finds n tokens v
   pub left : Deletes n tokens (nodes null) m
 
--- the first list is the beginning of the other, and shorter
+-- `IsProperFront front tokens`: `front` is a proper prefix of `tokens`.
 abbrev pub IsProperFront : List Text → List Text → Type 0
 IsProperFront front tokens = (x : Text) × (rest : List Text) × (tokens ≡ front ++ x ∷ rest)
 
--- moving the node that `from` names to `path` makes m of n: it is taken out, and then added to what is left (RFC 6902,
--- section 4.4)
+-- `Moves n from path m`: moving the node at `from` to `path` turns `n` into `m`. It is removed, and then added to
+-- what is left (RFC 6902, section 4.4).
 pub record Moves (n : NodeMap) (from path : List Text) (m : NodeMap) : Type 0 where
   pub node : NodeMap
   pub left : NodeMap
@@ -34,23 +37,23 @@ pub record Moves (n : NodeMap) (from path : List Text) (m : NodeMap) : Type 0 wh
   pub taken : Takes n from node left
   pub added : Adds left path node m
 
--- copying the node that `from` names to `path` makes m of n (RFC 6902, section 4.5)
+-- `Copies n from path m`: adding a copy of the node at `from` at `path` turns `n` into `m` (RFC 6902, section 4.5).
 pub record Copies (n : NodeMap) (from path : List Text) (m : NodeMap) : Type 0 where
   pub node : NodeMap
   pub found : Finds n from node
   pub added : Adds n path node m
 
--- the node that the tokens name is tested against v: neither has a float
+-- `Compares n tokens v target`: `target` is the node at `tokens` in `n`, and neither it nor `v` contains a float.
 pub record Compares (n : NodeMap) (tokens : List Text) (v target : NodeMap) : Type 0 where
   pub found : Finds n tokens target
   pub target_plain : HasFloat target → ⊥
   pub value_plain : HasFloat v → ⊥
 
--- the test of what the tokens name against v holds (RFC 6902, section 4.6)
+-- `Passes n tokens v`: the test that the node at `tokens` equals `v` passes (RFC 6902, section 4.6).
 abbrev pub Passes : NodeMap → List Text → NodeMap → Type 0
 Passes n tokens v = (target : NodeMap) × Compares n tokens v target × IsEqual target v
 
--- the operation makes m of n
+-- `Applies n o m`: operation `o` turns `n` into `m`.
 abbrev pub Applies : NodeMap → Operation → NodeMap → Type 0
 Applies n (Add path value) m = Adds n path (nodes (view value)) m
 Applies n (Remove path) m = (v : NodeMap) × Takes n path v m
@@ -59,31 +62,22 @@ Applies n (Move from path) m = Moves n from path m
 Applies n (Copy from path) m = Copies n from path m
 Applies n (Test path value) m = Passes n path (nodes (view value)) × (m ≡ n)
 
--- the tokens name nothing, which the error tells of the operation with this number
+-- `RefusesTarget n k tokens e`: evaluating `tokens` fails, and `e` reports why, for operation number `k`.
 abbrev pub RefusesTarget : NodeMap → ℕ → List Text → PatchError → Type 0
-RefusesTarget n k tokens (NoTarget number cause) = (number ≡ k) × Refuses n tokens cause
-RefusesTarget n k tokens (BadPlace number cause) = ⊥
-RefusesTarget n k tokens (MoveIntoSelf number) = ⊥
-RefusesTarget n k tokens (TestFloat number) = ⊥
-RefusesTarget n k tokens (TestFailed number) = ⊥
+RefusesTarget n k tokens e = (cause : ResolveError) × (e ≡ NoTarget k cause) × Refuses n tokens cause
 
--- nothing can be added at the tokens
+-- `RefusesAdd n k tokens e`: nothing can be added at `tokens`, and `e` reports why, for operation number `k`.
 abbrev pub RefusesAdd : NodeMap → ℕ → List Text → PatchError → Type 0
-RefusesAdd n k tokens (NoTarget number cause) = (number ≡ k) × LacksTarget n tokens cause
-RefusesAdd n k tokens (BadPlace number cause) = (number ≡ k) × LacksPlace n tokens cause
-RefusesAdd n k tokens (MoveIntoSelf number) = ⊥
-RefusesAdd n k tokens (TestFloat number) = ⊥
-RefusesAdd n k tokens (TestFailed number) = ⊥
+RefusesAdd n k tokens e =
+    ((cause : ResolveError) × (e ≡ NoTarget k cause) × LacksTarget n tokens cause)
+    ⊎ ((cause : AssignError) × (e ≡ BadPlace k cause) × LacksPlace n tokens cause)
 
--- a node is not moved below itself
+-- `RefusesWay k from path e`: a node cannot be moved below itself, and `e` reports that, for operation number `k`.
 abbrev pub RefusesWay : ℕ → List Text → List Text → PatchError → Type 0
-RefusesWay k from path (NoTarget number cause) = ⊥
-RefusesWay k from path (BadPlace number cause) = ⊥
-RefusesWay k from path (MoveIntoSelf number) = (number ≡ k) × IsProperFront from path
-RefusesWay k from path (TestFloat number) = ⊥
-RefusesWay k from path (TestFailed number) = ⊥
+RefusesWay k from path e = (e ≡ MoveIntoSelf k) × IsProperFront from path
 
--- nor is one moved that is not there, or to where it cannot be added once it is taken out
+-- `RefusesMove n k from path e`: moving from `from` to `path` fails with `e`. The node would be moved below itself,
+-- or does not exist, or cannot be added to what is left without it.
 abbrev pub RefusesMove : NodeMap → ℕ → List Text → List Text → PatchError → Type 0
 RefusesMove n k from path e =
     RefusesWay k from path e
@@ -91,23 +85,21 @@ RefusesMove n k from path e =
     × (RefusesTarget n k from e
     ⊎ ((node left : NodeMap) × Takes n from node left × RefusesAdd left k path e)))
 
--- a node is copied neither where there is none, nor to where it cannot be added
+-- `RefusesCopy n k from path e`: copying from `from` to `path` fails with `e`. The node does not exist, or cannot be
+-- added.
 abbrev pub RefusesCopy : NodeMap → ℕ → List Text → List Text → PatchError → Type 0
 RefusesCopy n k from path e =
     RefusesTarget n k from e ⊎ ((node : NodeMap) × Finds n from node × RefusesAdd n k path e)
 
--- a test is refused where there is no node, then where a float stands in the node or in v, and then where the two
--- differ
+-- `RefusesTest n k tokens v e`: the test fails with `e`. There is no node at `tokens`, or it or `v` contains a float,
+-- or the two differ; the first of these is reported.
 abbrev pub RefusesTest : NodeMap → ℕ → List Text → NodeMap → PatchError → Type 0
-RefusesTest n k tokens v (NoTarget number cause) = (number ≡ k) × Refuses n tokens cause
-RefusesTest n k tokens v (BadPlace number cause) = ⊥
-RefusesTest n k tokens v (MoveIntoSelf number) = ⊥
-RefusesTest n k tokens v (TestFloat number) =
-    (number ≡ k) × (target : NodeMap) × Finds n tokens target × (HasFloat target ⊎ HasFloat v)
-RefusesTest n k tokens v (TestFailed number) =
-    (number ≡ k) × (target : NodeMap) × Compares n tokens v target × (IsEqual target v → ⊥)
+RefusesTest n k tokens v e =
+    RefusesTarget n k tokens e
+    ⊎ (((e ≡ TestFloat k) × (target : NodeMap) × Finds n tokens target × (HasFloat target ⊎ HasFloat v))
+    ⊎ ((e ≡ TestFailed k) × (target : NodeMap) × Compares n tokens v target × (IsEqual target v → ⊥)))
 
--- the operation with this number is refused at n, which the error tells
+-- `RefusesOperation n k o e`: operation `o`, with number `k`, fails on `n` with `e`.
 abbrev pub RefusesOperation : NodeMap → ℕ → Operation → PatchError → Type 0
 RefusesOperation n k (Add path value) e = RefusesAdd n k path e
 RefusesOperation n k (Remove path) e = RefusesTarget n k path e
@@ -116,11 +108,6 @@ RefusesOperation n k (Move from path) e = RefusesMove n k from path e
 RefusesOperation n k (Copy from path) e = RefusesCopy n k from path e
 RefusesOperation n k (Test path value) e = RefusesTest n k path (nodes (view value)) e
 
--- the operation adds at the tokens what they find in n
+-- `RestoresAt n tokens o`: operation `o` adds at `tokens` the value that is there in `n`.
 abbrev pub RestoresAt : NodeMap → List Text → Operation → Type 0
-RestoresAt n tokens (Add path value) = (path ≡ tokens) × Finds n tokens (nodes (view value))
-RestoresAt n tokens (Remove path) = ⊥
-RestoresAt n tokens (Replace path value) = ⊥
-RestoresAt n tokens (Move from path) = ⊥
-RestoresAt n tokens (Copy from path) = ⊥
-RestoresAt n tokens (Test path value) = ⊥
+RestoresAt n tokens o = (value : Value) × (o ≡ Add tokens value) × Finds n tokens (nodes (view value))

@@ -1,16 +1,16 @@
--- The order of the keys in the values that a patch puts into a document.
+-- The order of keys in the values that a patch adds to a document.
 use Rattle.std.specs.Prelude.{⊤}
 use Rattle.serde_json.specs.View.{view}
-use Rattle.jsonptr.specs.Json.{KeysAscend}
+use Rattle.jsonptr.specs.Json.{HasSortedKeys}
 use Rattle.jsonptr_patch.specs.declared.operation.Operation.{Operation}
 use Rattle.jsonptr_patch.specs.declared.operation.Operation.TheVariants.{Add, Remove, Replace, Move, Copy, Test}
 
--- in each object of the value that the operation puts into the document the keys ascend; the value of a test is
--- only compared
-abbrev pub IsInOrder : Operation → Type 0
-IsInOrder (Add path value) = KeysAscend (view value)
-IsInOrder (Remove path) = ⊤
-IsInOrder (Replace path value) = KeysAscend (view value)
-IsInOrder (Move from path) = ⊤
-IsInOrder (Copy from path) = ⊤
-IsInOrder (Test path value) = ⊤
+-- `OperationHasSortedKeys o`: the keys of each object in the value that `o` adds to the document are in ascending
+-- order. The value of a test is only compared.
+abbrev pub OperationHasSortedKeys : Operation → Type 0
+OperationHasSortedKeys (Add path value) = HasSortedKeys (view value)
+OperationHasSortedKeys (Remove path) = ⊤
+OperationHasSortedKeys (Replace path value) = HasSortedKeys (view value)
+OperationHasSortedKeys (Move from path) = ⊤
+OperationHasSortedKeys (Copy from path) = ⊤
+OperationHasSortedKeys (Test path value) = ⊤

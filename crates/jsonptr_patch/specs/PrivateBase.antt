@@ -1,5 +1,5 @@
--- Words of private clauses alone: operations on the copy of one node, whose pointers stand behind those of a base. No
--- public clause cites them, so nothing here has to be believed.
+-- Operations on a copy of the node at a base, with pointers that continue after it. Used only by private contracts;
+-- no public contract depends on this file.
 use Rattle.std.specs.Prelude.{◌≡◌, ℕ, ◌+◌, ◌<◌, ◌^◌, List, [], ◌++◌, length, ⊤}
 use Rattle.jsonptr.specs.Text.{Text, text}
 use Rattle.jsonptr.specs.Node.{Path, NodeMap, sub, Names}
@@ -17,13 +17,13 @@ use Rattle.jsonptr_patch.specs.declared.operation.Operation.TheVariants.{Add, Re
 use Rattle.jsonptr_patch.specs.declared.operation.PatchError.{PatchError}
 use Rattle.jsonptr_patch.specs.declared.operation.PatchError.TheVariants.{NoTarget, BadPlace, MoveIntoSelf, TestFloat, TestFailed}
 
--- the tokens are those of the base and more, at least one unless the base has none
+-- `IsBelow base tokens`: `base` is a prefix of `tokens`, and a proper one unless it is empty.
 pub record IsBelow (base tokens : List Text) : Type 0 where
   pub rest : List Text
   pub split : tokens ≡ base ++ rest
   pub inside : rest ≡ [] → base ≡ []
 
--- so are those of each pointer of the operation
+-- `IsBased base o`: each pointer of operation `o` is below `base`.
 abbrev pub IsBased : List Text → Operation → Type 0
 IsBased base (Add path value) = IsBelow base path
 IsBased base (Remove path) = IsBelow base path
@@ -32,7 +32,7 @@ IsBased base (Move from path) = IsBelow base from × IsBelow base path
 IsBased base (Copy from path) = IsBelow base from × IsBelow base path
 IsBased base (Test path value) = IsBelow base path
 
--- the tokens at which the operation ends
+-- `path_of o`: the tokens of the target location of `o`.
 abbrev pub path_of : Operation → List Text
 path_of (Add path value) = path
 path_of (Remove path) = path
@@ -41,72 +41,77 @@ path_of (Move from path) = path
 path_of (Copy from path) = path
 path_of (Test path value) = path
 
--- the same error, told of tokens that stand behind this many others, whose text has this many bytes
-abbrev pub resolve_behind : ℕ → ℕ → resolve.Error → resolve.Error
-resolve_behind p o (resolving.FailedToParseIndex position offset source) =
+-- `shift_resolve_error p o e`: the error `e`, with `p` added to its position and `o` to its offset. The two
+-- definitions below do the same for other errors.
+abbrev pub shift_resolve_error : ℕ → ℕ → resolve.Error → resolve.Error
+shift_resolve_error p o (resolving.FailedToParseIndex position offset source) =
     resolving.FailedToParseIndex (p + position) (o + offset) source
-resolve_behind p o (resolving.OutOfBounds position offset source) =
+shift_resolve_error p o (resolving.OutOfBounds position offset source) =
     resolving.OutOfBounds (p + position) (o + offset) source
-resolve_behind p o (resolving.NotFound position offset) =
+shift_resolve_error p o (resolving.NotFound position offset) =
     resolving.NotFound (p + position) (o + offset)
-resolve_behind p o (resolving.Unreachable position offset) =
+shift_resolve_error p o (resolving.Unreachable position offset) =
     resolving.Unreachable (p + position) (o + offset)
 
-abbrev pub assign_behind : ℕ → ℕ → assign.Error → assign.Error
-assign_behind p o (assigning.FailedToParseIndex position offset source) =
+abbrev pub shift_assign_error : ℕ → ℕ → assign.Error → assign.Error
+shift_assign_error p o (assigning.FailedToParseIndex position offset source) =
     assigning.FailedToParseIndex (p + position) (o + offset) source
-assign_behind p o (assigning.OutOfBounds position offset source) =
+shift_assign_error p o (assigning.OutOfBounds position offset source) =
     assigning.OutOfBounds (p + position) (o + offset) source
 
 abbrev pub error_behind : ℕ → ℕ → PatchError → PatchError
-error_behind p o (NoTarget k cause) = NoTarget k (resolve_behind p o cause)
-error_behind p o (BadPlace k cause) = BadPlace k (assign_behind p o cause)
+error_behind p o (NoTarget k cause) = NoTarget k (shift_resolve_error p o cause)
+error_behind p o (BadPlace k cause) = BadPlace k (shift_assign_error p o cause)
 error_behind p o (MoveIntoSelf k) = MoveIntoSelf k
 error_behind p o (TestFloat k) = TestFloat k
 error_behind p o (TestFailed k) = TestFailed k
 
--- the error of tokens that stand behind the base
+-- `behind base e`: the error `e` of the rest of a pointer after `base`, as one of the whole pointer.
 abbrev pub behind : List Text → PatchError → PatchError
 behind base e = error_behind (length base) (length (text base)) e
 
--- wherever the base names a node with the map c, the operation makes d of it, and nothing else changes
+-- `AppliesBelow base c o d`: wherever `base` evaluates to the map `c`, operation `o` replaces it by `d`, and changes
+-- nothing else.
 abbrev pub AppliesBelow : List Text → NodeMap → Operation → NodeMap → Type 0
 AppliesBelow base c o d =
     (n : NodeMap) (w : Path) → Names n base w → c ≡ sub n w → Applies n o (put n w d)
 
--- wherever the base names a node with the map c, the operation with this number is refused
+-- `RefusesBelow base c k o e`: wherever `base` evaluates to the map `c`, operation `o`, with number `k`, fails with
+-- `e`.
 abbrev pub RefusesBelow : List Text → NodeMap → ℕ → Operation → PatchError → Type 0
 RefusesBelow base c k o e =
     (n : NodeMap) (w : Path) → Names n base w → c ≡ sub n w → RefusesOperation n k o e
 
--- the same of a list
+-- `PatchesBelow base c os d`: wherever `base` evaluates to the map `c`, the operations `os` replace it by `d`.
 abbrev pub PatchesBelow : List Text → NodeMap → List Operation → NodeMap → Type 0
 PatchesBelow base c os d =
     (n : NodeMap) (w : Path) → Names n base w → c ≡ sub n w → Patches n os (put n w d)
 
+-- `RefusesPatchBelow base c os e`: wherever `base` evaluates to the map `c`, the operations `os` fail with `e`.
 abbrev pub RefusesPatchBelow : List Text → NodeMap → List Operation → PatchError → Type 0
 RefusesPatchBelow base c os e =
     (n : NodeMap) (w : Path) → Names n base w → c ≡ sub n w → RefusesPatch n os e
 
--- an error of tokens behind the base, told in numbers of `usize`
+-- `FitsBehind base e`: position and offset of `behind base e` fit into `usize`.
 abbrev pub FitsBehind : List Text → PatchError → Type 0
 FitsBehind base (NoTarget k cause) =
-    (length base + resolve_words.position_of cause < 2 ^ 64)
-    × (length (text base) + resolve_words.offset_of cause < 2 ^ 64)
+    (length base + resolve_words.resolve_position_of cause < 2 ^ 64)
+    × (length (text base) + resolve_words.resolve_offset_of cause < 2 ^ 64)
 FitsBehind base (BadPlace k cause) =
-    (length base + assign_words.position_of cause < 2 ^ 64)
-    × (length (text base) + assign_words.offset_of cause < 2 ^ 64)
+    (length base + assign_words.assign_position_of cause < 2 ^ 64)
+    × (length (text base) + assign_words.assign_offset_of cause < 2 ^ 64)
 FitsBehind base (MoveIntoSelf k) = ⊤
 FitsBehind base (TestFloat k) = ⊤
 FitsBehind base (TestFailed k) = ⊤
 
--- on the copy c of the node that the base names, with pointers cut behind it, the operation is refused by e
+-- `RefusesCut base c k o e`: on the copy `c` of the node at `base`, operation `o` fails with `e`, whose position and
+-- offset count from the end of `base`.
 pub record RefusesCut (base : List Text) (c : NodeMap) (k : ℕ) (o : Operation)
     (e : PatchError) : Type 0 where
   pub fits : FitsBehind base e
   pub refused : RefusesBelow base c k o (behind base e)
 
--- the operation is a test
+-- `IsTest o`: operation `o` is a test.
 abbrev pub IsTest : Operation → Type 0
 IsTest (Add path value) = ⊥
 IsTest (Remove path) = ⊥

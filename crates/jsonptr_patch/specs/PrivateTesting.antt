@@ -1,5 +1,4 @@
--- Words of private clauses alone: what a test finds in the parts of a value. No public clause cites them, so nothing
--- here has to be believed.
+-- What a test finds in the parts of a value. Used only by private contracts; no public contract depends on this file.
 use Rattle.std.specs.Prelude.{◌≡◌, ℕ, ◌<◌, ◌⊎◌, ℤ, List, length, slice_index_or, String, Option, Some, None, IsSome, ⊤}
 use Rattle.std.specs.BTreeMap.{BTreeMap, get_by_text}
 use Rattle.std.specs.declared.alloc.Global.{Global}
@@ -11,61 +10,58 @@ use Rattle.jsonptr.specs.Json.{nodes}
 use Rattle.jsonptr.specs.Text.{Text}
 use Rattle.jsonptr_patch.specs.Testing.{IsEqual, HasFloat}
 use Rattle.jsonptr_patch.specs.declared.operation.PatchError.{PatchError}
-use Rattle.jsonptr_patch.specs.declared.operation.PatchError.TheVariants.{NoTarget, BadPlace, MoveIntoSelf, TestFloat, TestFailed}
+use Rattle.jsonptr_patch.specs.declared.operation.PatchError.TheVariants.{TestFloat, TestFailed}
 
--- the two values are equal for a test
+-- `SameValue v w`: the two values are equal for a test.
 abbrev pub SameValue : Value → Value → Type 0
 SameValue v w = IsEqual (nodes (view v)) (nodes (view w))
 
--- a float stands in the value
+-- `FloatIn v`: value `v` contains a float.
 abbrev pub FloatIn : Value → Type 0
 FloatIn v = HasFloat (nodes (view v))
 
--- a float stands in an element
+-- `FloatAmong vs`: one of the elements `vs` contains a float.
 abbrev pub FloatAmong : List Value → Type 0
 FloatAmong vs = (i : ℕ) × (x : Value) × (i < length vs) × FloatIn (slice_index_or vs i x)
 
 abbrev pub Object : Type 0
 Object = BTreeMap (String Global) Value
 
--- a float stands in a member
+-- `FloatUnder m`: one of the members of `m` contains a float.
 abbrev pub FloatUnder : Object → Type 0
 FloatUnder m = (k : Text) × (v : Value) × (get_by_text m k ≡ Some v) × FloatIn v
 
--- both numbers are one whole number
+-- `SameNumber n m`: both numbers are the same integer.
 abbrev pub SameNumber : Num → Num → Type 0
 SameNumber n m = (z : ℤ) × (as_integer n ≡ Some z) × (as_integer m ≡ Some z)
 
--- the elements are as many, and equal
+-- `SameElements vs ws`: there are as many elements in `vs` as in `ws`, and they are equal.
 abbrev pub SameElements : List Value → List Value → Type 0
 SameElements vs ws =
     (length vs ≡ length ws)
     × ((i : ℕ) (x : Value) → i < length vs
     → SameValue (slice_index_or vs i x) (slice_index_or ws i x))
 
--- there is neither value, or they are equal
+-- `SameMember o p`: neither value exists, or they are equal.
 abbrev pub SameMember : Option Value → Option Value → Type 0
 SameMember None None = ⊤
 SameMember (Some v) (Some w) = SameValue v w
 SameMember o p = ⊥
 
--- under each key the objects have equal members
+-- `SameMembers m n`: the objects have equal members under each key.
 abbrev pub SameMembers : Object → Object → Type 0
 SameMembers m n = (k : Text) → SameMember (get_by_text m k) (get_by_text n k)
 
--- the object has a member under each key of the other
+-- `HasKeys m n`: `m` has a member under each key of `n`.
 abbrev pub HasKeys : Object → Object → Type 0
 HasKeys m n = (k : Text) → IsSome (get_by_text n k) → IsSome (get_by_text m k)
 
--- no float stands in the value
+-- `IsPlain v`: value `v` contains no float.
 abbrev pub IsPlain : Value → Type 0
 IsPlain v = FloatIn v → ⊥
 
--- the test of a value against w is refused, which the error tells of the operation with this number
+-- `RefusesCompare k v w e`: comparing `v` with `w` fails with `e`, for operation number `k`.
 abbrev pub RefusesCompare : ℕ → Value → Value → PatchError → Type 0
-RefusesCompare k v w (NoTarget number cause) = ⊥
-RefusesCompare k v w (BadPlace number cause) = ⊥
-RefusesCompare k v w (MoveIntoSelf number) = ⊥
-RefusesCompare k v w (TestFloat number) = (number ≡ k) × (FloatIn v ⊎ FloatIn w)
-RefusesCompare k v w (TestFailed number) =
-    (number ≡ k) × IsPlain v × IsPlain w × (SameValue v w → ⊥)
+RefusesCompare k v w e =
+    ((e ≡ TestFloat k) × (FloatIn v ⊎ FloatIn w))
+    ⊎ ((e ≡ TestFailed k) × IsPlain v × IsPlain w × (SameValue v w → ⊥))

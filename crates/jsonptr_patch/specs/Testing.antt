@@ -5,14 +5,14 @@ use Rattle.serde_json.specs.Find.{as_integer}
 use Rattle.jsonptr.specs.Text.{Text}
 use Rattle.jsonptr.specs.Node.{Path, Scalar, of_json, of_toml, Label, an_object, an_array, a_leaf, NodeMap}
 
--- what a test reads of a scalar: null, a truth value, a text, or a whole number, however that is kept
+-- What a test reads from a scalar: null, a boolean, a string, or an integer, however that is stored.
 pub data Reading : Type 0 where
   nothing : Reading
   truth : Bool → Reading
   words : Text → Reading
   whole : ℤ → Reading
 
--- a float has no reading
+-- `reading a`: what a test reads from the scalar `a`. A float has no reading.
 abbrev pub reading : Scalar → Option Reading
 reading (of_json null) = Some nothing
 reading (of_json (boolean b)) = Some (truth b)
@@ -22,7 +22,8 @@ reading (of_json (array ds)) = None
 reading (of_json (object ms)) = None
 reading (of_toml d) = None
 
--- the two nodes are equal: both are objects, or arrays of one length, or scalars of one reading, or there is neither
+-- `SameNode l k`: nodes with these labels are equal. Both are objects, or arrays of the same length, or scalars with
+-- the same reading, or neither exists.
 abbrev pub SameNode : Option Label → Option Label → Type 0
 SameNode None None = ⊤
 SameNode (Some an_object) (Some an_object) = ⊤
@@ -31,10 +32,10 @@ SameNode (Some (a_leaf a)) (Some (a_leaf b)) =
     (r : Reading) × (reading a ≡ Some r) × (reading b ≡ Some r)
 SameNode l k = ⊥
 
--- the two maps are equal for a test: they have the same paths, with equal nodes
+-- `IsEqual n m`: the two maps are equal for a test. They have the same paths, and equal nodes at each.
 abbrev pub IsEqual : NodeMap → NodeMap → Type 0
 IsEqual n m = (w : Path) → SameNode (n w) (m w)
 
--- somewhere in the map stands a float
+-- `HasFloat n`: a float is at some path of `n`.
 abbrev pub HasFloat : NodeMap → Type 0
 HasFloat n = (w : Path) × (x : Float) × (n w ≡ Some (a_leaf (of_json (number (float x)))))

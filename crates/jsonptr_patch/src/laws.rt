@@ -1,8 +1,11 @@
-//! Laws of patches (RFC 6902): insertion in an array, the unique outcome of each operation and of each list of
-//! operations, how lists follow one another, and which values a test calls equal. Each law is the contract of a
-//! function that does nothing.
+//! Laws of patches (RFC 6902). Each law is the contract of a function that does nothing.
+//!
+//! - [`equality`]: which values a test calls equal.
+//! - [`insert`]: insertion into an array.
+//! - [`operation`]: each operation has exactly one outcome.
+//! - [`patch`]: so has each list of operations, and how lists follow one another.
 
-pub mod inserting;
-pub mod operating;
-pub mod patching;
-pub mod testing;
+pub mod equality;
+pub mod insert;
+pub mod operation;
+pub mod patch;

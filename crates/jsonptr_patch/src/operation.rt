@@ -1,94 +1,119 @@
-//! The operations of a patch (RFC 6902, section 4), and why one is refused.
+//! The operations of a patch (RFC 6902, section 4), and their errors.
 
 use jsonptr::{PointerBuf, assign, resolve};
 use serde_json::Value;
 use thiserror::Error;
 
-/// What is done to a document. It owns its pointers and its value.
+/// An operation of a patch. It owns its pointers and its value.
+///
+/// ```rust
+/// let mut document = json!(in alloc; {"draft": {"title": "A"}})?;
+/// let from = PointerBuf::from_text(alloc, "/draft/title")?;
+/// let path = PointerBuf::from_text(alloc, "/title")?;
+/// let patch = vec![in alloc; Operation::Move { from, path }]?;
+/// apply(alloc, &mut document, patch)?;
+/// assert_eq!(rt; document.to_string(alloc)?.as_str(), r#"{"draft":{},"title":"A"}"#);
+/// ```
 #[derive(Debug, Drop)]
 pub enum Operation {
-    /// Adds a value (RFC 6902, section 4.1): as a member of an object, in place of one that has the key, as an
-    /// element of an array, before the one that has the place, or in place of the whole document.
+    /// Adds a value (RFC 6902, section 4.1).
+    ///
+    /// - In an object it adds a member, or replaces the member that has the key.
+    /// - In an array it inserts an element before the one at the index, or after the last one.
+    /// - At the root it replaces the whole document.
     Add {
-        /// Where the value is added; `-` as its last token means the place behind the last element.
+        /// The target location. A last token `-` refers to the position after the last element.
         path: PointerBuf,
-        /// What is added.
+        /// The value.
         value: Value,
     },
-    /// Removes the value at `path` (RFC 6902, section 4.2). Of the whole document null is left.
+    /// Removes the value at `path` (RFC 6902, section 4.2). Removing the root leaves `null`.
     Remove {
-        /// Names the value.
+        /// The target location.
         path: PointerBuf,
     },
-    /// Puts a value in place of the one at `path` (RFC 6902, section 4.3).
+    /// Replaces the value at `path` (RFC 6902, section 4.3).
     Replace {
-        /// Names the value that goes.
+        /// The target location.
         path: PointerBuf,
-        /// What stands there instead.
+        /// The new value.
         value: Value,
     },
     /// Removes the value at `from`, and then adds it at `path` (RFC 6902, section 4.4).
     Move {
-        /// Names the value. It is no proper front of `path`.
+        /// The location of the value. It must not be a proper prefix of `path`.
         from: PointerBuf,
-        /// Where the value is added, to the document that is left without it.
+        /// The target location, in the document without the value.
         path: PointerBuf,
     },
     /// Adds a copy of the value at `from` (RFC 6902, section 4.5).
     Copy {
-        /// Names the value.
+        /// The location of the value.
         from: PointerBuf,
-        /// Where the copy is added.
+        /// The target location.
         path: PointerBuf,
     },
-    /// Tests that the value at `path` equals another (RFC 6902, section 4.6). Floats are not tested.
+    /// Tests that the value at `path` equals another one (RFC 6902, section 4.6). Fails if either
+    /// contains a float.
     Test {
-        /// Names the value.
+        /// The target location.
         path: PointerBuf,
-        /// What it is to equal.
+        /// The value to compare with.
         value: Value,
     },
 }
 
-// What a failed test displays: the kit takes an attribute that has the word itself for one of a test function.
+// The text of a failed test is a constant, since an attribute that contains the word "test" counts
+// as one of a test function.
 const TEST_FAILED: &str = "test failed";
 
-/// Why an operation of a patch is refused. `operation` is its place in the list, from 0.
+/// Why an operation of a patch fails. `operation` is its position in the list, from 0. Positions
+/// and offsets in a `cause` are those of the operation's whole pointer.
+///
+/// ```rust
+/// let mut document = json!(in alloc; {"tags": []})?;
+/// let path = PointerBuf::from_text(alloc, "/size")?;
+/// let patch = vec![in alloc; Operation::Remove { path }]?;
+/// let applied = apply(alloc, &mut document, patch);
+/// let error = applied.err().ok_or("an error")?.refused()?;
+/// assert!(rt; matches!(error, PatchError::NoTarget { operation: 0, .. }));
+/// ```
 #[derive(Clone, Debug, PartialEq, Eq, Drop, Error)]
 pub enum PatchError {
-    /// A pointer names no value that the operation works on: the one at `from` or `path`, or the one below
-    /// which something is added, where that is none or a scalar.
+    /// A pointer does not resolve to a value: `from` or `path`, or the parent of an addition. A
+    /// parent must be an object or an array.
     #[error("patch failed at operation {operation}: {cause}")]
     NoTarget {
-        /// The operation's place in the list.
+        /// The position of the operation in the list.
         operation: usize,
-        /// Why the pointer names no value.
+        /// Why the pointer does not resolve.
         cause: resolve::Error,
     },
-    /// A value is added to an array, and the last token is no index up to its length.
+    /// A value is added to an array, and the last token is neither `-` nor an index up to the
+    /// length.
     #[error("patch failed at operation {operation}: {cause}")]
     BadPlace {
-        /// The operation's place in the list.
+        /// The position of the operation in the list.
         operation: usize,
-        /// Why the last token is no place.
+        /// Why the last token is not a valid index.
         cause: assign::Error,
     },
     /// A value is moved below itself (RFC 6902, section 4.4).
     #[error("patch failed at operation {operation}: from is a proper prefix of path")]
     MoveIntoSelf {
-        /// The operation's place in the list.
+        /// The position of the operation in the list.
         operation: usize,
     },
-    /// A float stands in the value that is tested, or in the one that it is tested against.
+    /// One of the two values of a test contains a float.
     #[error("patch failed at operation {operation}: a float cannot be tested")]
     TestFloat {
-        /// The operation's place in the list.
+        /// The position of the operation in the list.
         operation: usize,
     },
     /// The two values of a test differ.
     #[error("patch failed at operation {operation}: {}", TEST_FAILED)]
     TestFailed {
-        /// The operation's place in the list.
+        /// The position of the operation in the list.
         operation: usize,
     },
 }

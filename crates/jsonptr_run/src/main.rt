@@ -1,6 +1,7 @@
-//! The program: a pointer and a JSON document in, one line out.
+//! The program `jsonptr_run`: reads a pointer and a JSON document, and prints one line.
 #![tactic(auto)]
 
+use jsonptr_command::arguments::words_after_name;
 use jsonptr_command::fault::{RunFault, exit_code};
 use jsonptr_command::run::run_program;
 use std::alloc::AllocError;
@@ -11,7 +12,7 @@ use std::process::ExitCode;
 fn main(rt: HostRuntime) -> ExitCode {
     let outcome = run_on_streams(&rt);
     if let Err(fault) = &outcome {
-        // There is nobody left to tell where standard error fails too.
+        // If standard error fails too, there is nowhere to report it.
         let _ = eprintln!(rt; "{fault}");
     }
     exit_code(&outcome)
@@ -28,18 +29,11 @@ fn run_on_streams(rt: &HostRuntime) -> Result<(), RunFault> {
     )
 }
 
-/// The words after the program's own name. Words that are not UTF-8 are as good as unknown ones.
+/// Returns the words after the program's own name. Words that are not UTF-8 count as unknown ones.
 fn words(rt: &HostRuntime) -> Result<Vec<String>, RunFault> {
-    let args = match env::args(rt) {
-        Ok(args) => args,
-        Err(error) if error.kind() == ErrorKind::OutOfMemory => {
-            return Err(RunFault::Memory(AllocError));
-        }
-        Err(_) => return Err(RunFault::Usage),
-    };
-    let mut words = Vec::new(rt.alloc());
-    for word in args.skip(1) {
-        words.push(word).map_err(AllocError::from)?;
+    match env::args(rt) {
+        Ok(args) => Ok(words_after_name(rt.alloc(), args)?),
+        Err(error) if error.kind() == ErrorKind::OutOfMemory => Err(RunFault::Memory(AllocError)),
+        Err(_) => Err(RunFault::Usage),
     }
-    Ok(words)
 }

@@ -1,4 +1,4 @@
--- Lemmas on runs, on what is found in a document, on taking assignments back, and on the laws of the machine.
+-- Lemmas on runs, on what is found in a document, on undoing assignments, and on the laws of the machine.
 pub mod RunLemmas
 pub mod FoundLemmas
 pub mod UndoLemmas

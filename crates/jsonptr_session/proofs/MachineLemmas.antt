@@ -1,4 +1,4 @@
--- That the machine has one answer and one next state, which is a session's again.
+-- The machine's answer and next state exist and are unique, and the next state is one of a session.
 use Rattle.std.proofs.Common.{◌≡◌, ℕ, ◌<◌, ◌≤◌, ◌⊎◌, inl, inr, ⊎_elim, List, [], ◌∷◌, ◌++◌, length, Option, Some, None, refl, sym, ap, ap₂, ◌∙◌, subst, arith}
 use Rattle.std.specs.Prelude.{◌↔◌, All, IsUtf8, IsSome, slice_get, slice_set}
 use Rattle.std.proofs.lemmas.Bool.{cases_lt}
@@ -11,30 +11,29 @@ use Rattle.jsonptr.specs.Following.{Finds, StopsBefore}
 use Rattle.jsonptr.specs.Assigning.{Assigns}
 use Rattle.jsonptr.specs.Removing.{Deletes}
 use Rattle.jsonptr.specs.Ends.{PopsFront, PopsBack}
-use Rattle.jsonptr.specs.ParseError.{TellsPointerFault}
+use Rattle.jsonptr.specs.ParseError.{IsParseErrorOf}
 use Rattle.jsonptr.specs.Resolve.{Refuses, PutsAt}
 use Rattle.jsonptr.specs.Assign.{RefusesAssign}
 use Rattle.jsonptr.specs.Types.ParseError.{ParseError}
 use Rattle.jsonptr.specs.declared.pointer.buf.ReplaceError.{ReplaceError}
 use Rattle.jsonptr.specs.declared.resolve.Error.{Error as ResolveError}
 use Rattle.jsonptr.specs.declared.assign.Error.{Error as AssignError}
-use Rattle.jsonptr_grammar.proofs.PointerLemmas.{IsPointer-text, text-tokens_of, tokens_of-text, text_one}
-use Rattle.jsonptr_grammar.proofs.Utf8Lemmas.{IsUtf8-tokens_of}
+use Rattle.jsonptr.proofs.Calling.{IsPointer-text, text-tokens_of, tokens_of-text, text_one, IsUtf8-tokens_of}
 use Rattle.jsonptr_tree.proofs.NodeLemmas.{Names-here, Names_one_path, Names_one_list, IsTree-named}
 use Rattle.jsonptr_tree.proofs.TreeLemmas.{IsTree-put}
 use Rattle.jsonptr_tree.proofs.ListedLemmas.{IsListed-put}
 use Rattle.jsonptr_tree.proofs.FollowingLemmas.{Finds_one, Names-StopsBefore, follows}
 use Rattle.jsonptr_tree.proofs.AssigningLemmas.{Assigns_one, Assigns-tree, Assigns-finite}
 use Rattle.jsonptr_tree.proofs.RemovingLemmas.{Deletes-some, Deletes-tree, Deletes-finite}
-use Rattle.jsonptr_session.specs.Machine.{State, Command, parse, push_back, push_front, pop_back, pop_front, replace, append, clear, resolve, write, assign, delete, Answer, done, bad_pointer, token, bad_position, value, no_value, assigned, bad_place, deleted, Moves}
+use Rattle.jsonptr_session.specs.Machine.{State, Command, parse, push_back, push_front, pop_back, pop_front, replace, append, clear, resolve, write, assign, delete, Answer, done, bad_pointer, token, bad_position, value, no_value, assigned, bad_place, deleted, Transition}
 use Rattle.jsonptr.specs.Documents.{IsDocument}
 use Rattle.jsonptr_session.specs.States.{IsState, IsCommand}
 
--- the laws of the calls that a move rests on
+-- the laws of the calls that a transition depends on
 pub record Laws : Type 0 where
-  pub parse_some : (s : Text) → IsPointer s ⊎ ((e : ParseError) × TellsPointerFault s e)
-  pub parse_both : (s : Text) (e : ParseError) → IsPointer s → TellsPointerFault s e → ⊥
-  pub parse_one : (s : Text) (e f : ParseError) → TellsPointerFault s e → TellsPointerFault s f → e ≡ f
+  pub parse_some : (s : Text) → IsPointer s ⊎ ((e : ParseError) × IsParseErrorOf s e)
+  pub parse_both : (s : Text) (e : ParseError) → IsPointer s → IsParseErrorOf s e → ⊥
+  pub parse_one : (s : Text) (e f : ParseError) → IsParseErrorOf s e → IsParseErrorOf s f → e ≡ f
   pub resolve_some : (n : NodeMap) (tokens : List Text) → IsTree n → All IsUtf8 tokens → ((m : NodeMap) × Finds n tokens m) ⊎ ((e : ResolveError) × Refuses n tokens e)
   pub resolve_both : (n : NodeMap) (tokens : List Text) (m : NodeMap) (e : ResolveError) → Finds n tokens m → Refuses n tokens e → ⊥
   pub resolve_one : (n : NodeMap) (tokens : List Text) (e f : ResolveError) → Refuses n tokens e → Refuses n tokens f → e ≡ f
@@ -42,7 +41,7 @@ pub record Laws : Type 0 where
   pub assign_both : (n : NodeMap) (tokens : List Text) (v m : NodeMap) (old : Option NodeMap) (e : AssignError) → Assigns n tokens v m old → RefusesAssign n tokens e → ⊥
   pub assign_one : (n : NodeMap) (tokens : List Text) (e f : AssignError) → RefusesAssign n tokens e → RefusesAssign n tokens f → e ≡ f
 
--- ---- one answer, and one next state
+-- ---- the answer and the next state are unique
 
 state_one : (s t : State) → s.tokens ≡ t.tokens → s.nodes ≡ t.nodes → s ≡ t
 state_one s t tokens nodes = ap₂ (λ (ts : List Text) (n : NodeMap). let u : State = record { tokens = ts; nodes = n } in u) tokens nodes
@@ -103,7 +102,7 @@ deleted_one n blank (x ∷ xs) w m k h a b = ⊎_elim
     (cases_last w)
 
 module _ (laws : Laws) (blank : NodeMap) where
-  pub moves_one : (old new mid : State) (c : Command) (a b : Answer) → Moves blank old c a new → Moves blank old c b mid → (a ≡ b) × (new ≡ mid)
+  pub moves_one : (old new mid : State) (c : Command) (a b : Answer) → Transition blank old c a new → Transition blank old c b mid → (a ≡ b) × (new ≡ mid)
   moves_one old new mid (parse s) done done h k = (refl, state_one new mid (text_one _ _ (h.0 ∙ sym k.0)) (h.1 ∙ sym k.1))
   moves_one old new mid (parse s) done (bad_pointer e t) h k = absurd (laws.parse_both s e (subst IsPointer h.0 (IsPointer-text new.tokens)) k.0)
   moves_one old new mid (parse s) (bad_pointer e t) done h k = absurd (laws.parse_both s e (subst IsPointer k.0 (IsPointer-text mid.tokens)) h.0)
@@ -148,19 +147,19 @@ module _ (laws : Laws) (blank : NodeMap) where
   moves_one old new mid delete (deleted None) (deleted None) h k = (refl, h.1 ∙ sym k.1)
   moves_one old new mid c a b h k = absurd assumption
 
-  -- ---- some answer, and some next state
+  -- ---- there is an answer and a next state
 
-  popped_back_some : (old : State) → (a : Answer) × (new : State) × Moves blank old pop_back a new
+  popped_back_some : (old : State) → (a : Answer) × (new : State) × Transition blank old pop_back a new
   popped_back_some old = ⊎_elim
       (λ (none : old.tokens ≡ []). (token None, record old { tokens = [] }, ((none, refl), refl)))
       (λ (r : (ys : List Text) × (y : Text) × (old.tokens ≡ ys ++ y ∷ [])). (token (Some r.1), record old { tokens = r.0 }, (r.2, refl)))
       (cases_last old.tokens)
 
-  popped_front_some : (ts : List Text) (n : NodeMap) → (a : Answer) × (new : State) × Moves blank (record { tokens = ts; nodes = n }) pop_front a new
+  popped_front_some : (ts : List Text) (n : NodeMap) → (a : Answer) × (new : State) × Transition blank (record { tokens = ts; nodes = n }) pop_front a new
   popped_front_some [] n = (token None, record { tokens = []; nodes = n }, ((refl, refl), refl))
   popped_front_some (t ∷ ts) n = (token (Some t), record { tokens = ts; nodes = n }, (refl, refl))
 
-  deleted_some : (old : State) → IsState old → (a : Answer) × (new : State) × Moves blank old delete a new
+  deleted_some : (old : State) → IsState old → (a : Answer) × (new : State) × Transition blank old delete a new
   deleted_some old is = ⊎_elim
       (λ (r : (w : Path) × Names old.nodes old.tokens w).
       let made = Deletes-some old.nodes blank old.tokens is.nodes.0 in
@@ -169,10 +168,10 @@ module _ (laws : Laws) (blank : NodeMap) where
       (deleted None, old, ((λ w h. Names-StopsBefore old.nodes old.tokens w r.0 r.1 r.2 r.3 h r.4), refl)))
       (follows old.nodes old.tokens is.nodes.0)
 
-  pub moves_some : (old : State) (c : Command) → IsState old → IsCommand c → (a : Answer) × (new : State) × Moves blank old c a new
+  pub moves_some : (old : State) (c : Command) → IsState old → IsCommand c → (a : Answer) × (new : State) × Transition blank old c a new
   moves_some old (parse s) is told = ⊎_elim
       (λ (p : IsPointer s). (done, record old { tokens = tokens_of s }, (text-tokens_of p, refl)))
-      (λ (r : (e : ParseError) × TellsPointerFault s e). (bad_pointer r.0 s, old, (r.1, refl, refl)))
+      (λ (r : (e : ParseError) × IsParseErrorOf s e). (bad_pointer r.0 s, old, (r.1, refl, refl)))
       (laws.parse_some s)
   moves_some old (push_back s) is told = (done, _, refl)
   moves_some old (push_front s) is told = (done, _, refl)
@@ -199,7 +198,7 @@ module _ (laws : Laws) (blank : NodeMap) where
       (laws.assign_some old.nodes old.tokens v is.nodes.0 is.tokens)
   moves_some old delete is told = deleted_some old is
 
--- ---- the next state is a session's
+-- ---- the next state is one of a session
 
 popped_tokens : (old new : List Text) (t : Option Text) → PopsBack old t new → All IsUtf8 old → All IsUtf8 new
 popped_tokens old new None h utf8 = subst (λ (ts : List Text). All IsUtf8 ts) (sym h.1) (All-nil IsUtf8)
@@ -227,7 +226,7 @@ written n tokens v m old new p = subst IsDocument (sym p.made) (IsTree-put n p.p
 set_tokens : (old new : State) (ts : List Text) → IsState old → new ≡ record old { tokens = ts } → All IsUtf8 ts → IsState new
 set_tokens old new ts is e utf8 = subst IsState (sym e) (record { tokens = utf8; nodes = is.nodes })
 
-pub moves_state : (blank : NodeMap) (old new : State) (c : Command) (a : Answer) → IsDocument blank → IsState old → IsCommand c → Moves blank old c a new → IsState new
+pub moves_state : (blank : NodeMap) (old new : State) (c : Command) (a : Answer) → IsDocument blank → IsState old → IsCommand c → Transition blank old c a new → IsState new
 moves_state blank old new (parse s) done plain is told h = with_tokens old new is h.1 (parsed_tokens s new.tokens h.0 told)
 moves_state blank old new (parse s) (bad_pointer e t) plain is told h = subst IsState (sym h.2) is
 moves_state blank old new (push_back s) done plain is told h = set_tokens old new _ is h (All-push IsUtf8 old.tokens s is.tokens told)
@@ -250,53 +249,53 @@ moves_state blank old new delete (deleted (Some m)) plain is told h =
 moves_state blank old new delete (deleted None) plain is told h = subst IsState (sym h.1) is
 moves_state blank old new c a plain is told h = absurd h
 
--- ---- what is refused
+-- ---- errors
 
-pub pointer_refused : (blank : NodeMap) (old new : State) (c : Command) (e : ParseError) (s : Text) → Moves blank old c (bad_pointer e s) new → new ≡ old
+pub pointer_refused : (blank : NodeMap) (old new : State) (c : Command) (e : ParseError) (s : Text) → Transition blank old c (bad_pointer e s) new → new ≡ old
 pointer_refused blank old new (parse s) e t h = h.2
 pointer_refused blank old new c e t h = absurd h
 
-pub position_refused : (blank : NodeMap) (old new : State) (c : Command) (e : ReplaceError) → Moves blank old c (bad_position e) new → new ≡ old
+pub position_refused : (blank : NodeMap) (old new : State) (c : Command) (e : ReplaceError) → Transition blank old c (bad_position e) new → new ≡ old
 position_refused blank old new (replace i s) e h = h.3
 position_refused blank old new c e h = absurd h
 
-pub value_refused : (blank : NodeMap) (old new : State) (c : Command) (e : ResolveError) → Moves blank old c (no_value e) new → new ≡ old
+pub value_refused : (blank : NodeMap) (old new : State) (c : Command) (e : ResolveError) → Transition blank old c (no_value e) new → new ≡ old
 value_refused blank old new resolve e h = h.1
 value_refused blank old new (write v) e h = h.1
 value_refused blank old new c e h = absurd h
 
-pub place_refused : (blank : NodeMap) (old new : State) (c : Command) (e : AssignError) → Moves blank old c (bad_place e) new → new ≡ old
+pub place_refused : (blank : NodeMap) (old new : State) (c : Command) (e : AssignError) → Transition blank old c (bad_place e) new → new ≡ old
 place_refused blank old new (assign v) e h = h.1
 place_refused blank old new c e h = absurd h
 
-pub nothing_deleted : (blank : NodeMap) (old new : State) (c : Command) → Moves blank old c (deleted None) new → new ≡ old
+pub nothing_deleted : (blank : NodeMap) (old new : State) (c : Command) → Transition blank old c (deleted None) new → new ≡ old
 nothing_deleted blank old new delete h = h.1
 nothing_deleted blank old new c h = absurd h
 
 -- ---- parsing, and finding each node
 
-pub parsed_iff : (blank : NodeMap) (old : State) (s : Text) → ((new : State) × Moves blank old (parse s) done new) ↔ IsPointer s
+pub parsed_iff : (blank : NodeMap) (old : State) (s : Text) → ((new : State) × Transition blank old (parse s) done new) ↔ IsPointer s
 parsed_iff blank old s = (
-  (λ (r : (new : State) × Moves blank old (parse s) done new). subst IsPointer r.1.0 (IsPointer-text r.0.tokens)),
+  (λ (r : (new : State) × Transition blank old (parse s) done new). subst IsPointer r.1.0 (IsPointer-text r.0.tokens)),
   (λ (p : IsPointer s). (record old { tokens = tokens_of s }, (text-tokens_of p, refl))),
 )
 
-pub unparsed_iff : ((s : Text) → IsPointer s ⊎ ((e : ParseError) × TellsPointerFault s e))
-    → ((s : Text) (e : ParseError) → IsPointer s → TellsPointerFault s e → ⊥)
+pub unparsed_iff : ((s : Text) → IsPointer s ⊎ ((e : ParseError) × IsParseErrorOf s e))
+    → ((s : Text) (e : ParseError) → IsPointer s → IsParseErrorOf s e → ⊥)
     → (blank : NodeMap) (old : State) (s : Text)
-    → ((e : ParseError) × (new : State) × Moves blank old (parse s) (bad_pointer e s) new) ↔ (IsPointer s → ⊥)
+    → ((e : ParseError) × (new : State) × Transition blank old (parse s) (bad_pointer e s) new) ↔ (IsPointer s → ⊥)
 unparsed_iff parse_some parse_both blank old s = (
-  (λ (r : (e : ParseError) × (new : State) × Moves blank old (parse s) (bad_pointer e s) new). λ (p : IsPointer s). parse_both s r.0 p r.2.0),
+  (λ (r : (e : ParseError) × (new : State) × Transition blank old (parse s) (bad_pointer e s) new). λ (p : IsPointer s). parse_both s r.0 p r.2.0),
   (λ (no_pointer : IsPointer s → ⊥). ⊎_elim
       (λ (p : IsPointer s). absurd (no_pointer p))
-      (λ (r : (e : ParseError) × TellsPointerFault s e). (r.0, old, (r.1, refl, refl)))
+      (λ (r : (e : ParseError) × IsParseErrorOf s e). (r.0, old, (r.1, refl, refl)))
       (parse_some s)),
 )
 
 pub node_named : (blank : NodeMap) (old : State) → IsTree old.nodes → (w : Path) → IsSome (old.nodes w)
     → (ts : List Text)
     × Names old.nodes ts w
-    × Moves blank (record old { tokens = ts }) resolve (value (sub old.nodes w)) (record old { tokens = ts })
+    × Transition blank (record old { tokens = ts }) resolve (value (sub old.nodes w)) (record old { tokens = ts })
     × ((us : List Text) → Names old.nodes us w → us ≡ ts)
 node_named blank old tree w there =
     let named = IsTree-named old.nodes tree w there in

@@ -1,21 +1,21 @@
--- That a list of commands has one run, which is a session's.
+-- A list of commands has one run, which is one of a session.
 use Rattle.std.proofs.Common.{◌≡◌, List, [], ◌∷◌, ◌++◌, length, map, Option, Some, None, refl, sym, ap, ◌∙◌, subst}
 use Rattle.std.specs.Prelude.{All, IsSome}
 use Rattle.std.proofs.lemmas.List.Elements.{All-head, All-tail}
 use Rattle.jsonptr.specs.Node.{NodeMap}
-use Rattle.jsonptr_session.specs.Machine.{State, Command, Answer, Moves, Runs}
+use Rattle.jsonptr_session.specs.Machine.{State, Command, Answer, Transition, NeedsNoMemory, Runs}
 use Rattle.jsonptr.specs.Documents.{IsDocument}
 use Rattle.jsonptr_session.specs.States.{IsState, IsCommand}
 
--- one answer and one next state; some; and a state of a session
+-- the answer and the next state are unique; they exist; and the next state is one of a session
 abbrev pub MovesOne : Type 0
-MovesOne = (blank : NodeMap) (old new next : State) (c : Command) (a b : Answer) → Moves blank old c a new → Moves blank old c b next → (a ≡ b) × (new ≡ next)
+MovesOne = (blank : NodeMap) (old new next : State) (c : Command) (a b : Answer) → Transition blank old c a new → Transition blank old c b next → (a ≡ b) × (new ≡ next)
 
 abbrev pub MovesSome : Type 0
-MovesSome = (blank : NodeMap) (old : State) (c : Command) → IsState old → IsCommand c → (a : Answer) × (new : State) × Moves blank old c a new
+MovesSome = (blank : NodeMap) (old : State) (c : Command) → IsState old → IsCommand c → (a : Answer) × (new : State) × Transition blank old c a new
 
 abbrev pub MovesState : Type 0
-MovesState = (blank : NodeMap) (old new : State) (c : Command) (a : Answer) → IsDocument blank → IsState old → IsCommand c → Moves blank old c a new → IsState new
+MovesState = (blank : NodeMap) (old new : State) (c : Command) (a : Answer) → IsDocument blank → IsState old → IsCommand c → Transition blank old c a new → IsState new
 
 pub runs_one : (moves_one : MovesOne) (blank : NodeMap) (old new next : State) (cs : List Command) (xs ys : List Answer)
     → Runs blank old cs (map (λ a. Some a) xs) new
@@ -34,7 +34,7 @@ runs_one moves_one blank old new next (c ∷ cs) (x ∷ xs) (y ∷ ys) h k =
 not_some : IsSome {T = Answer} None → ⊥
 not_some h = cc
 
--- the same, where it is told of each answer that it is one
+-- the runs are equal, if each answer is `Some`
 pub runs_same : (moves_one : MovesOne) (blank : NodeMap) (old new next : State) (cs : List Command) (xs ys : List (Option Answer))
     → All IsSome xs
     → All IsSome ys
@@ -96,13 +96,22 @@ runs_after blank old mid new [] ds (x ∷ xs) ys h k = absurd h
 runs_after blank old mid new (c ∷ cs) ds [] ys h k = absurd h
 runs_after blank old mid new (c ∷ cs) ds (x ∷ xs) ys h k = (h.0, h.1, runs_after blank h.0 mid new cs ds xs ys h.2 k)
 
+pub runs_needed : (blank : NodeMap) (old new : State) (cs ds : List Command) (c : Command) (xs ys : List (Option Answer))
+    → length xs ≡ length cs
+    → Runs blank old (cs ++ c ∷ ds) (xs ++ None ∷ ys) new
+    → (mid : State) × Runs blank old cs xs mid × (NeedsNoMemory mid c → ⊥) × Runs blank mid ds ys new
+runs_needed blank old new [] ds c [] ys e h = (old, refl, h.1.0, subst (λ (s : State). Runs blank s ds ys new) h.1.1 h.2)
+runs_needed blank old new [] ds c (x ∷ xs) ys e h = absurd cc
+runs_needed blank old new (d ∷ cs) ds c [] ys e h = absurd cc
+runs_needed blank old new (d ∷ cs) ds c (x ∷ xs) ys e h =
+    let rest : length xs ≡ length cs = cc in
+    let more = runs_needed blank h.0 new cs ds c xs ys rest h.2 in
+    (more.0, (h.0, h.1, more.1), more.2, more.3)
+
 pub runs_without : (blank : NodeMap) (old new : State) (cs ds : List Command) (c : Command) (xs ys : List (Option Answer))
     → length xs ≡ length cs
     → Runs blank old (cs ++ c ∷ ds) (xs ++ None ∷ ys) new
     → Runs blank old (cs ++ ds) (xs ++ ys) new
-runs_without blank old new [] ds c [] ys e h = subst (λ (s : State). Runs blank s ds ys new) h.1.1 h.2
-runs_without blank old new [] ds c (x ∷ xs) ys e h = absurd cc
-runs_without blank old new (d ∷ cs) ds c [] ys e h = absurd cc
-runs_without blank old new (d ∷ cs) ds c (x ∷ xs) ys e h =
-    let rest : length xs ≡ length cs = cc in
-    (h.0, h.1, runs_without blank h.0 new cs ds c xs ys rest h.2)
+runs_without blank old new cs ds c xs ys e h =
+    let parts = runs_needed blank old new cs ds c xs ys e h in
+    runs_after blank old parts.0 new cs ds xs ys parts.1 parts.3

@@ -1,4 +1,4 @@
--- A run goes on by one step, and what holds of all calls holds of the next.
+-- One more step of a run. A property of all calls is one of the next call.
 use Rattle.std.proofs.Common.{◌≡◌, List, [], ◌∷◌, ◌++◌, Option, refl, sym, subst}
 use Rattle.std.specs.Prelude.{All}
 use Rattle.std.proofs.lemmas.List.Elements.{All-head, All-tail}

@@ -1,4 +1,4 @@
--- Taking an assignment back: which tokens name where the value lands, and what is left once they are used.
+-- Undoing an assignment: which tokens evaluate to the location of the value, and what is left after the undo.
 use Rattle.std.proofs.Common.{◌≡◌, ℕ, ◌+◌, ◌-◌, ◌<◌, codes, List, [], ◌∷◌, ◌++◌, length, take, Option, Result, Ok, Err, IfOk, option_map, IsSome, ⊎_elim, refl, sym, ap, ◌∙◌, subst, arith}
 use Rattle.std.specs.Prelude.{slice_range}
 use Rattle.std.proofs.Math.Seq.{take-append-add}
@@ -27,7 +27,8 @@ use Rattle.jsonptr_session.specs.declared.undo.Undo.TheVariants.{Put, Remove}
 
 -- parts of a list
 
--- p is the front of this many tokens, and p that front and the token behind it
+-- `IsFront ts count p`: `p` are the first `count` tokens of `ts`. `IsThrough ts count p`: `p` are those and the next
+-- one.
 abbrev pub IsFront : List Text → ℕ → List Text → Type 0
 IsFront ts count p = (front rest : List Text) → ts ≡ front ++ rest → count ≡ length front → p ≡ front
 
@@ -40,7 +41,7 @@ through_part ts part position (Ok p) is copy = λ front x rest split at.
     let count : position + 1 - 0 ≡ length front + 1 = omega arith in
     copy ∙ is ∙ ap (λ (l : List Text). slice_range l 0 (position + 1)) split ∙ ap (λ (k : ℕ). take k (front ++ x ∷ rest)) count ∙ take-append-add front (x ∷ rest) 1
 
--- where a value lands
+-- the location of an assigned value
 
 -- at a scalar
 pub landing_unreachable : {E : Type 0} (ts : List Text) (position offset : ℕ) (e : Error) (r : Result (List Text) E) → e ≡ Unreachable position offset → IfOk r (IsFront ts position) → IfOk r (λ landing. (n : NodeMap) → Refuses n ts e → NamesLanding n ts landing)
@@ -66,7 +67,7 @@ landing_not_found ts position offset e (Ok p) is part = λ n refused. at n (subs
         let same : p ≡ stops.front ++ r.token ∷ [] = part stops.front r.token stops.rest stops.stops.split stops.position_is in
         subst (λ (l : List Text). NamesLanding n ts l) (sym same) (landing_member n ts position offset r.token stops)
 
--- at an array, before a token that is no index
+-- at an array, with a token that is not an index
 
 dash_is_index : (source : ParseIndexError) → Reads (codes "-") (Err source) → ⊥
 dash_is_index (InvalidInteger Empty) h = cc
@@ -91,7 +92,7 @@ landing_no_index ts position offset source e (Ok p) is part = λ n refused. at n
         (λ (end : r.token ≡ dec why.0). subst (λ (l : List Text). (v : NodeMap) → IsSome (v []) → Names (put (with_room n q) q v) l q) (sym (same ∙ ap (λ (x : Text). stops.front ++ x ∷ []) end)) (landing_end n ts position offset why.0 r.token stops q left lands))
         (landing_means n ts position offset why.0 r.token stops q left lands)
 
--- or before one that is, and whose place it lacks
+-- or with one that is an index out of bounds
 
 beyond_length : (index : Index) (len : ℕ) (source : OutOfBoundsError) → IsBeyond index len source → source.length ≡ len
 beyond_length (Num i) len source h = h.1
@@ -109,20 +110,20 @@ landing_out_of_bounds ts part landing position offset source e is front pushed n
         let all : landing ≡ stops.front ++ dec why.0 ∷ [] = pushed ∙ ap (λ (l : List Text). l ++ dec source.length ∷ []) same ∙ ap (λ (k : ℕ). stops.front ++ dec k ∷ []) long in
         subst (λ (l : List Text). NamesLanding n ts l) (sym all) (landing_end n ts position offset why.0 r.token stops)
 
--- where the tokens name a value
+-- if the tokens resolve to a value
 pub landing_found : {E : Type 0} (n : NodeMap) (ts : List Text) (r : Result (List Text) E) → (w : Path) × Names n ts w → IfOk r (λ p. p ≡ ts) → IfOk r (NamesLanding n ts)
 landing_found n ts (Err error) found copy = tt
 landing_found n ts (Ok p) found copy = subst (λ (l : List Text). NamesLanding n ts l) (sym copy) (landing_named_path n ts found.0 found.1)
 
--- and where they name none
+-- and if they do not
 pub landing_refused : {E : Type 0} (n : NodeMap) (ts : List Text) (e : Error) (r : Result (List Text) E) → Refuses n ts e → IfOk r (λ landing. (k : NodeMap) → Refuses k ts e → NamesLanding k ts landing) → IfOk r (NamesLanding n ts)
 landing_refused n ts e (Err error) refused lands = tt
 landing_refused n ts e (Ok p) refused lands = lands n refused
 
--- taking back
+-- undoing
 
 module _ {V : Type 0} (nodes : V → NodeMap) where
-  -- what is answered
+  -- what an assignment returns
   pub with_undo : (n : NodeMap) (ts : List Text) (v m : NodeMap) (u : Undo V) (old : Option V) → IsTree v → NamesLanding n ts (tokens_at u) → old ≡ put_by u → Assigns n ts v m (option_map nodes old) → AssignsWithUndo nodes n ts v m u
   with_undo n ts v m u old tree lands is made =
       let here : Assigns n ts v m (option_map nodes (put_by u)) = subst (λ (o : Option V). Assigns n ts v m (option_map nodes o)) is made in
@@ -131,7 +132,7 @@ module _ {V : Type 0} (nodes : V → NodeMap) where
         landing = landing_names n ts (tokens_at u) v m (option_map nodes (put_by u)) lands tree here;
       }
 
-  -- and what it makes of the document is the old one
+  -- the undo leads back to the old map
   pub undone : (n : NodeMap) (ts : List Text) (v m blank : NodeMap) (u : Undo V) → IsTree n → AssignsWithUndo nodes n ts v m u → (k : NodeMap) → Undoes nodes blank m u k → k ≡ n
   undone n ts v m blank (Put p w) tree a k puts =
       puts.made
@@ -139,7 +140,7 @@ module _ {V : Type 0} (nodes : V → NodeMap) where
       ∙ put_back n ts v m (nodes w) tree a.assigned
   undone n ts v m blank (Remove p) tree a k removes = deleted_again n ts v m tree a.assigned p blank k a.landing removes.1
 
--- a value of which the map tells all
+-- a value that is determined by its map
 pub restored : {D U E : Type 0} (map : D → NodeMap) (ascend : D → Type 0) (one : (d e : D) → ascend d → ascend e → map d ≡ map e → d ≡ e) (undoes : U → NodeMap → Type 0) (old : D) (r : Result U E) → IfOk r (λ u. (m : NodeMap) → undoes u m → m ≡ map old) → IfOk r (λ u. (d : D) → undoes u (map d) → ascend old → ascend d → d ≡ old)
 restored map ascend one undoes old (Err e) back = tt
 restored map ascend one undoes old (Ok u) back = λ d h a b. one d old b a (back (map d) h)

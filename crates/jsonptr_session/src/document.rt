@@ -1,63 +1,68 @@
 //! What a session does to its document.
-ghost use Rattle.std.specs.Prelude.{◌≡◌, ⊤, IfOk, IfSome, OnErr, MatchOption, option_map};
+ghost use Rattle.std.specs.Prelude.{◌≡◌, ⊤, IsOk, IfOk, IfSome, OnErr, MatchOption, option_map};
 ghost use Rattle.jsonptr.specs.Node.{Path, NodeMap, Names, IsTree};
 ghost use Rattle.jsonptr.specs.Following.{Finds};
 ghost use Rattle.jsonptr.specs.Assigning.{Assigns};
 ghost use Rattle.jsonptr.specs.Removing.{Deletes};
-ghost use Rattle.jsonptr.specs.Fault.{IfRefused};
+ghost use Rattle.jsonptr.specs.Fault.{IfRefused, HasMemory};
 ghost use Rattle.jsonptr.specs.Pointer.{tokens};
 ghost use Rattle.jsonptr.specs.Resolve.{Refuses, PutsAt};
-ghost use Rattle.jsonptr.specs.Assign.{RefusesAssign};
+ghost use Rattle.jsonptr.specs.Assign.{RefusesAssign, NeedsNothing};
 ghost use Rattle.jsonptr.specs.Delete.{NamesNothing};
+ghost use Rattle.jsonptr.specs.Text.{HasNoTilde, text};
 
 use jsonptr::{Fault, Pointer, ResolveMut, assign, resolve};
 use std::alloc::{AllocError, Global};
 use std::mem;
 
-/// A document that a session works on. Contracts see it as its map, `nodes`; `blank` is that of the document
-/// that is left where the whole is deleted. `is_same` says that the second document is the first, unchanged, and
-/// `in_order` that in each of its objects the keys ascend.
-pub trait Document: Sized + Drop {
+/// A document that a session works on.
+///
+/// Contracts view it as its node map, `nodes`. The map `blank` is that of the document after the
+/// root is removed. `is_same d e` means that `e` is `d` unchanged, and `has_sorted_keys d` that the
+/// keys of each object in `d` are in ascending order.
+pub trait SessionDocument: Sized + Drop {
     // the map of the document
     ghost nodes: { Self → NodeMap };
 
-    // the map that is left where the whole document is deleted
+    // the map that is left after the root is removed
     ghost blank: { NodeMap };
 
     // the second document is the first, unchanged
     ghost is_same: { Self → Self → Type 0 };
 
-    // in each object of the document the keys ascend
-    ghost in_order: { Self → Type 0 };
+    // the keys of each object of the document are in ascending order
+    ghost has_sorted_keys: { Self → Type 0 };
 
-    /// Finds that the pointer names a value.
+    /// Checks that the pointer resolves to a value.
     ///
     /// # Errors
     ///
-    /// [`Fault::Refused`] where the pointer names no value, and [`Fault::Memory`] where a request for memory
-    /// is refused.
+    /// [`Fault::Refused`] if it does not, and [`Fault::Memory`] if an allocation fails.
     fn find_at(&self, alloc: Global, ptr: Pointer<'_>) -> Result<(), Fault<resolve::Error>>
         ensures found { IfOk result (λ _.
             (w : Path) × Names (nodes self.now) (tokens ptr.entry) w) }
-        ensures refused { IfRefused result (Refuses (nodes self.now) (tokens ptr.entry)) };
+        ensures refused { IfRefused result (Refuses (nodes self.now) (tokens ptr.entry)) }
+        ensures no_memory { HasNoTilde (text (tokens ptr.entry)) → HasMemory result };
 
-    /// A copy of the value that the pointer names.
+    /// Returns a copy of the value that the pointer resolves to.
     ///
     /// # Errors
     ///
-    /// [`Fault::Refused`] where the pointer names no value, and [`Fault::Memory`] where a request for memory
-    /// is refused.
+    /// [`Fault::Refused`] if the pointer does not resolve to a value, and [`Fault::Memory`] if an
+    /// allocation fails.
     fn copy_at(&self, alloc: Global, ptr: Pointer<'_>) -> Result<Self, Fault<resolve::Error>>
         ensures found { IfOk result (λ v. Finds (nodes self.now) (tokens ptr.entry) (nodes v)) }
-        ensures given_in_order { IfOk result (λ v. in_order self.now → in_order v) }
-        ensures refused { IfRefused result (Refuses (nodes self.now) (tokens ptr.entry)) };
+        ensures given_sorted { IfOk result (λ v. has_sorted_keys self.now → has_sorted_keys v) }
+        ensures refused { IfRefused result (Refuses (nodes self.now) (tokens ptr.entry)) }
+        ensures no_memory { HasNoTilde (text (tokens ptr.entry))
+            → NamesNothing (nodes self.now) (tokens ptr.entry) → HasMemory result };
 
-    /// Swaps a value and the one that the pointer names.
+    /// Swaps `value` with the value that the pointer resolves to.
     ///
     /// # Errors
     ///
-    /// [`Fault::Refused`] where the pointer names no value, and [`Fault::Memory`] where a request for memory
-    /// is refused. Document and value are then as they were.
+    /// [`Fault::Refused`] if the pointer does not resolve to a value, and [`Fault::Memory`] if an
+    /// allocation fails. The document and `value` are unchanged.
     fn swap_at(
         &mut self,
         alloc: Global,
@@ -68,20 +73,22 @@ pub trait Document: Sized + Drop {
             Finds (nodes self.old) (tokens ptr.entry) (nodes value.new)) }
         ensures written { IfOk result (λ _.
             PutsAt (nodes self.old) (tokens ptr.entry) (nodes value.old) (nodes self.new)) }
-        ensures order { IfOk result (λ _.
-            in_order value.old → in_order self.old → in_order self.new) }
-        ensures given_in_order { IfOk result (λ _. in_order self.old → in_order value.new) }
+        ensures sorted { IfOk result (λ _.
+            has_sorted_keys value.old → has_sorted_keys self.old → has_sorted_keys self.new) }
+        ensures given_sorted { IfOk result (λ _.
+            has_sorted_keys self.old → has_sorted_keys value.new) }
         ensures refused { IfRefused result (Refuses (nodes self.old) (tokens ptr.entry)) }
         ensures unchanged { OnErr result (nodes self.new ≡ nodes self.old) }
         ensures same { OnErr result (is_same self.old self.new) }
-        ensures kept { OnErr result (value.new ≡ value.old) };
+        ensures kept { OnErr result (value.new ≡ value.old) }
+        ensures no_memory { HasNoTilde (text (tokens ptr.entry)) → HasMemory result };
 
-    /// Assigns a value at the pointer, and gives back what stood there.
+    /// Assigns a value at the pointer, and returns the value that it replaced, if any.
     ///
     /// # Errors
     ///
-    /// [`Fault::Refused`] where no value can be assigned there, and [`Fault::Memory`] where a request for
-    /// memory is refused. The document is then as it was.
+    /// [`Fault::Refused`] if no value can be assigned there, and [`Fault::Memory`] if an allocation
+    /// fails. The document is unchanged.
     fn assign_at(
         &mut self,
         alloc: Global,
@@ -90,30 +97,33 @@ pub trait Document: Sized + Drop {
     ) -> Result<Option<Self>, Fault<assign::Error>>
         ensures assigned { IfOk result (λ r. Assigns (nodes self.old) (tokens ptr.entry)
             (nodes value) (nodes self.new) (option_map nodes r)) }
-        ensures order { IfOk result (λ _.
-            in_order value → in_order self.old → in_order self.new) }
-        ensures given_in_order { IfOk result (λ r.
-            IfSome r (λ v. in_order self.old → in_order v)) }
+        ensures sorted { IfOk result (λ _.
+            has_sorted_keys value → has_sorted_keys self.old → has_sorted_keys self.new) }
+        ensures given_sorted { IfOk result (λ r.
+            IfSome r (λ v. has_sorted_keys self.old → has_sorted_keys v)) }
         ensures refused { IfRefused result (RefusesAssign (nodes self.old) (tokens ptr.entry)) }
         ensures unchanged { OnErr result (nodes self.new ≡ nodes self.old) }
-        ensures same { OnErr result (is_same self.old self.new) };
+        ensures same { OnErr result (is_same self.old self.new) }
+        ensures no_memory { NeedsNothing (nodes self.old) (tokens ptr.entry) → HasMemory result };
 
-    /// Takes out the value that the pointer names, if it names one.
+    /// Removes the value that the pointer resolves to, and returns it. Returns `None` if there is
+    /// none.
     ///
     /// # Errors
     ///
-    /// [`AllocError`] where a request for memory is refused. The document is then as it was.
+    /// [`AllocError`] if an allocation fails. The document is unchanged.
     fn delete_at(&mut self, alloc: Global, ptr: Pointer<'_>) -> Result<Option<Self>, AllocError>
         ensures deleted { IfOk result (λ r. MatchOption r
             (NamesNothing (nodes self.old) (tokens ptr.entry) × (nodes self.new ≡ nodes self.old))
             (λ v. Finds (nodes self.old) (tokens ptr.entry) (nodes v)
             × Deletes (nodes self.old) (tokens ptr.entry) blank (nodes self.new))) }
-        ensures order { IfOk result (λ _. in_order self.old → in_order self.new) }
-        ensures given_in_order { IfOk result (λ r.
-            IfSome r (λ v. in_order self.old → in_order v)) }
+        ensures sorted { IfOk result (λ _. has_sorted_keys self.old → has_sorted_keys self.new) }
+        ensures given_sorted { IfOk result (λ r.
+            IfSome r (λ v. has_sorted_keys self.old → has_sorted_keys v)) }
         ensures stays { IfOk result (λ r. MatchOption r (is_same self.old self.new) (λ _. ⊤)) }
         ensures unchanged { OnErr result (nodes self.new ≡ nodes self.old) }
-        ensures same { OnErr result (is_same self.old self.new) };
+        ensures same { OnErr result (is_same self.old self.new) }
+        ensures no_memory { HasNoTilde (text (tokens ptr.entry)) → IsOk result };
 
     // the map of a document is a tree
     ghost is_tree: { (d : Self) → IsTree (nodes d) };
@@ -121,18 +131,19 @@ pub trait Document: Sized + Drop {
     // a document is the same as itself
     ghost same_self: { (d : Self) → is_same d d };
 
-    // and in order as the same document is
-    ghost same_order: { (d e : Self) → is_same d e → in_order d → in_order e };
+    // if `e` is the same document as `d`, and the keys of `d` are in ascending order, those of `e`
+    // are
+    ghost same_order: { (d e : Self) → is_same d e → has_sorted_keys d → has_sorted_keys e };
 }
 
-/// Swaps a value and the one that a pointer names in a document of any kind.
+/// Swaps `value` with the value that a pointer resolves to in a document of any type.
 ///
 /// # Errors
 ///
-/// Those of [`ResolveMut::resolve_mut`]. Document and value are then as they were.
+/// Those of [`ResolveMut::resolve_mut`]. The document and `value` are unchanged.
 pub fn swap<D: ResolveMut>(
-    document: &mut D,
     alloc: Global,
+    document: &mut D,
     ptr: Pointer<'_>,
     value: &mut D::Value,
 ) -> Result<(), Fault<D::Error>>
@@ -142,6 +153,7 @@ pub fn swap<D: ResolveMut>(
     ensures refused { IfRefused result (D.refuses document.old (tokens ptr.entry)) }
     ensures unchanged { OnErr result (D.is_same document.old document.new) }
     ensures kept { OnErr result (value.new ≡ value.old) }
+    ensures no_memory { D.needs_no_memory document.old (tokens ptr.entry) → HasMemory result }
 {
     let place = document.resolve_mut(alloc, ptr)?;
     mem::swap(place, value);

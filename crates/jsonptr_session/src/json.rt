@@ -1,15 +1,15 @@
 //! Sessions over JSON documents.
 
-use crate::document::{Document, swap};
+use crate::document::{SessionDocument, swap};
 use jsonptr::{Fault, Pointer, assign, resolve};
 use serde_json::Value;
 use std::alloc::{AllocError, Global};
 
-impl Document for Value {
+impl SessionDocument for Value {
     ghost use Rattle.std.specs.Prelude.{◌≡◌, refl};
     ghost use Rattle.std.proofs.Common.{sym, subst};
     ghost use Rattle.serde_json.specs.View.{view};
-    ghost use Rattle.jsonptr.specs.Json.{content, KeysAscend};
+    ghost use Rattle.jsonptr.specs.Json.{content, HasSortedKeys};
     ghost use Rattle.jsonptr.proofs.Calling.{map_of-IsTree};
     ghost use Rattle.jsonptr.specs.Documents.{json_map, json_blank};
 
@@ -19,7 +19,7 @@ impl Document for Value {
 
     ghost is_same = { λ d e. view e ≡ view d };
 
-    ghost in_order = { λ d. KeysAscend (view d) };
+    ghost has_sorted_keys = { λ d. HasSortedKeys (view d) };
 
     fn find_at(&self, alloc: Global, ptr: Pointer<'_>) -> Result<(), Fault<resolve::Error>> {
         ptr.resolve(alloc, self)?;
@@ -36,7 +36,7 @@ impl Document for Value {
         ptr: Pointer<'_>,
         value: &mut Value,
     ) -> Result<(), Fault<resolve::Error>> {
-        swap(self, alloc, ptr, value)
+        swap(alloc, self, ptr, value)
     }
 
     fn assign_at(
@@ -56,5 +56,5 @@ impl Document for Value {
 
     ghost same_self = { λ d. refl };
 
-    ghost same_order = { λ d e same ordered. subst KeysAscend (sym same) ordered };
+    ghost same_order = { λ d e same ordered. subst HasSortedKeys (sym same) ordered };
 }

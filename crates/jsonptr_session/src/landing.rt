@@ -1,4 +1,4 @@
-//! The place where a value lands that is assigned at a pointer, as a pointer of its own.
+//! The location at which an assignment stores its value, as a pointer.
 ghost use Rattle.std.specs.Prelude.{◌≡◌, [], ◌∷◌, ◌++◌, length, List, IfOk};
 ghost use Rattle.jsonptr.specs.Node.{NodeMap};
 ghost use Rattle.jsonptr.specs.Pointer.{tokens};
@@ -6,17 +6,18 @@ ghost use Rattle.jsonptr.specs.Resolve.{Refuses};
 ghost use Rattle.jsonptr.specs.Text.{Text};
 ghost use Rattle.jsonptr_tree.specs.PrivateUndoing.{NamesLanding};
 
-use crate::document::Document;
+use crate::document::SessionDocument;
 use jsonptr::resolve::Error;
 use jsonptr::{Pointer, PointerBuf, Token};
 use std::alloc::{AllocError, Global};
 
-/// The pointer of the place where a value lands that is assigned at `ptr`; no matter which where none lands.
+/// Returns a pointer to the location where `assign(ptr, ..)` would store its value. The result is
+/// unspecified if it would fail.
 ///
 /// # Errors
 ///
-/// [`AllocError`] where a request for memory is refused.
-pub fn landing_of<D: Document>(
+/// [`AllocError`] if an allocation fails.
+pub fn landing_of<D: SessionDocument>(
     alloc: Global,
     doc: &D,
     ptr: Pointer<'_>,
@@ -29,12 +30,13 @@ pub fn landing_of<D: Document>(
     }
 }
 
-/// The same where following the pointer stops as the error tells: a scalar gives way, an object has a new member
-/// under the token at fault, and an array a new element behind its last.
+/// Returns the location of an assignment at a pointer whose evaluation fails with `error`. A scalar
+/// is replaced, an object gets a new member named by the token at fault, and an array gets a new
+/// last element.
 ///
 /// # Errors
 ///
-/// [`AllocError`] where a request for memory is refused.
+/// [`AllocError`] if an allocation fails.
 fn landing_before(alloc: Global, ptr: Pointer<'_>, error: &Error) -> Result<PointerBuf, AllocError>
     ensures { IfOk result (λ landing. (n : NodeMap)
         → Refuses n (tokens ptr.entry) error.now
@@ -43,7 +45,8 @@ fn landing_before(alloc: Global, ptr: Pointer<'_>, error: &Error) -> Result<Poin
     match error {
         Error::Unreachable { position, .. } => before(alloc, ptr, *position),
         Error::NotFound { position, .. } => through(alloc, ptr, *position),
-        // It is the array's length where a value lands here, and only of a length past `usize` is it no index.
+        // The value becomes the last element, whose index is the array's length. The token fails to
+        // parse as that index only if the length exceeds `usize`.
         Error::FailedToParseIndex { position, .. } => through(alloc, ptr, *position),
         Error::OutOfBounds {
             position,
@@ -57,11 +60,11 @@ fn landing_before(alloc: Global, ptr: Pointer<'_>, error: &Error) -> Result<Poin
     }
 }
 
-/// The tokens before this position.
+/// Returns a copy of the pointer of the tokens before `position`.
 ///
 /// # Errors
 ///
-/// [`AllocError`] where a request for memory is refused.
+/// [`AllocError`] if an allocation fails.
 fn before(alloc: Global, ptr: Pointer<'_>, position: usize) -> Result<PointerBuf, AllocError>
     ensures { IfOk result (λ part. (front rest : List Text)
         → tokens ptr.entry ≡ front ++ rest
@@ -74,11 +77,11 @@ fn before(alloc: Global, ptr: Pointer<'_>, position: usize) -> Result<PointerBuf
     }
 }
 
-/// The tokens up to this position, and the one there.
+/// Returns a copy of the pointer of the tokens up to `position`, and the token at it.
 ///
 /// # Errors
 ///
-/// [`AllocError`] where a request for memory is refused.
+/// [`AllocError`] if an allocation fails.
 fn through(alloc: Global, ptr: Pointer<'_>, position: usize) -> Result<PointerBuf, AllocError>
     ensures { IfOk result (λ part. (front : List Text) (x : Text) (rest : List Text)
         → tokens ptr.entry ≡ front ++ x ∷ rest

@@ -1,25 +1,25 @@
-//! The calls of a session, in turn.
+//! The calls of a session, one after the other.
 ghost use Rattle.std.specs.Prelude.{◌≡◌, All, IfOk, OnErr, map, string_bytes};
 ghost use Rattle.jsonptr.specs.Pointer.{tokens};
 ghost use Rattle.jsonptr_session.specs.Machine.{State, Steps, Runs};
 ghost use Rattle.jsonptr_session.specs.Machine as machine;
-ghost use Rattle.jsonptr_session.specs.Session.{tells, says};
-ghost use Rattle.jsonptr_session.specs.Order.{Brings, Gives};
+ghost use Rattle.jsonptr_session.specs.Session.{command_of, answer_of};
+ghost use Rattle.jsonptr_session.specs.Order.{CallHas, ReplyHas};
 ghost use Rattle.jsonptr_session.specs.PrivateTurn.{answered, StepsOnNodes, StepsOnTokens};
 
-use crate::document::Document;
+use crate::document::SessionDocument;
 use crate::session::{Call, Reply};
-use jsonptr::{Pointer, PointerBuf, Token};
+use jsonptr::{Fault, Pointer, PointerBuf, ReplaceError, Token};
 use jsonptr_tabled::EditPointer;
 use std::alloc::{AllocError, Global};
 use std::borrow::CowStr;
 
-/// The calls in their order, with one reply to each.
+/// Makes the calls in order, and returns one reply for each.
 ///
 /// # Errors
 ///
-/// [`AllocError`] where there is no memory for all the replies; no call is then made.
-pub fn run<P: EditPointer, D: Document>(
+/// [`AllocError`] if there is no memory for the list of replies. No call is then made.
+pub fn run<P: EditPointer, D: SessionDocument>(
     alloc: Global,
     ptr: &mut P,
     doc: &mut D,
@@ -27,13 +27,14 @@ pub fn run<P: EditPointer, D: Document>(
 ) -> Result<Vec<Reply<D>>, AllocError>
     ensures runs { IfOk result (λ replies. Runs D.blank
         (record { tokens = P.list ptr.old; nodes = D.nodes doc.old })
-        (map (tells D.nodes) calls.items) (map (says D.nodes) replies.items)
+        (map (command_of D.nodes) calls.items) (map (answer_of D.nodes) replies.items)
         (record { tokens = P.list ptr.new; nodes = D.nodes doc.new })) }
-    ensures order { IfOk result (λ _.
-        All (Brings D.in_order) calls.items → D.in_order doc.old → D.in_order doc.new) }
-    ensures given_in_order { IfOk result (λ replies.
-        All (Brings D.in_order) calls.items → D.in_order doc.old
-        → All (Gives D.in_order) replies.items) }
+    ensures sorted { IfOk result (λ _.
+        All (CallHas D.has_sorted_keys) calls.items → D.has_sorted_keys doc.old
+        → D.has_sorted_keys doc.new) }
+    ensures given_sorted { IfOk result (λ replies.
+        All (CallHas D.has_sorted_keys) calls.items → D.has_sorted_keys doc.old
+        → All (ReplyHas D.has_sorted_keys) replies.items) }
     ensures unchanged { OnErr result ((ptr.new ≡ ptr.old) × (doc.new ≡ doc.old)) }
 {
     let mut replies = Vec::with_capacity(alloc, calls.len())?;
@@ -44,18 +45,19 @@ pub fn run<P: EditPointer, D: Document>(
     Ok(replies)
 }
 
-/// One call.
-fn turn<P: EditPointer, D: Document>(
+/// Makes one call. Replies [`Reply::Memory`] if an allocation fails.
+fn turn<P: EditPointer, D: SessionDocument>(
     alloc: Global,
     ptr: &mut P,
     doc: &mut D,
     call: Call<D>,
 ) -> Reply<D>
     ensures steps { Steps D.blank (record { tokens = P.list ptr.old; nodes = D.nodes doc.old })
-        (tells D.nodes call) (says D.nodes result)
+        (command_of D.nodes call) (answer_of D.nodes result)
         (record { tokens = P.list ptr.new; nodes = D.nodes doc.new }) }
-    ensures order { Brings D.in_order call → D.in_order doc.old → D.in_order doc.new }
-    ensures given_in_order { D.in_order doc.old → Gives D.in_order result }
+    ensures sorted { CallHas D.has_sorted_keys call → D.has_sorted_keys doc.old
+        → D.has_sorted_keys doc.new }
+    ensures given_sorted { D.has_sorted_keys doc.old → ReplyHas D.has_sorted_keys result }
 {
     match answer(alloc, ptr, doc, call) {
         Ok(reply) => reply,
@@ -63,22 +65,24 @@ fn turn<P: EditPointer, D: Document>(
     }
 }
 
-/// The reply to a call, apart from want of memory.
+/// Makes one call.
 ///
 /// # Errors
 ///
-/// [`AllocError`] where a request for memory is refused. Pointer and document are then as they were.
-fn answer<P: EditPointer, D: Document>(
+/// [`AllocError`] if an allocation fails. The pointer and the document are unchanged.
+fn answer<P: EditPointer, D: SessionDocument>(
     alloc: Global,
     ptr: &mut P,
     doc: &mut D,
     call: Call<D>,
 ) -> Result<Reply<D>, AllocError>
     ensures steps { Steps D.blank (record { tokens = P.list ptr.old; nodes = D.nodes doc.old })
-        (tells D.nodes call) (answered D.nodes result)
+        (command_of D.nodes call) (answered D.nodes result)
         (record { tokens = P.list ptr.new; nodes = D.nodes doc.new }) }
-    ensures order { Brings D.in_order call → D.in_order doc.old → D.in_order doc.new }
-    ensures given_in_order { IfOk result (λ reply. D.in_order doc.old → Gives D.in_order reply) }
+    ensures sorted { CallHas D.has_sorted_keys call → D.has_sorted_keys doc.old
+        → D.has_sorted_keys doc.new }
+    ensures given_sorted { IfOk result (λ reply.
+        D.has_sorted_keys doc.old → ReplyHas D.has_sorted_keys reply) }
 {
     match call {
         Call::Parse(text) => parse(ptr, text),
@@ -96,66 +100,70 @@ fn answer<P: EditPointer, D: Document>(
     }
 }
 
-/// The answer to `Call::Parse`.
-fn parse<P: EditPointer, D: Document>(ptr: &mut P, text: String) -> Result<Reply<D>, AllocError>
+/// Makes the call `Call::Parse`.
+fn parse<P: EditPointer, D: SessionDocument>(
+    ptr: &mut P,
+    text: String,
+) -> Result<Reply<D>, AllocError>
     ensures steps { StepsOnTokens D.blank (P.list ptr.old) (machine.parse (string_bytes text))
         (answered D.nodes result) (P.list ptr.new) }
-    ensures given_in_order { IfOk result (Gives D.in_order) }
+    ensures given_sorted { IfOk result (ReplyHas D.has_sorted_keys) }
 {
     match ptr.set_text(text) {
         Ok(()) => Ok(Reply::Done),
-        Err(fault) => Ok(Reply::BadPointer(fault.refused()?)),
+        Err(Fault::Refused(report)) => Ok(Reply::BadPointer(report)),
+        Err(Fault::Memory(error)) => Err(error),
     }
 }
 
-/// The answer to `Call::PushBack`.
-fn push_back<P: EditPointer, D: Document>(
+/// Makes the call `Call::PushBack`.
+fn push_back<P: EditPointer, D: SessionDocument>(
     alloc: Global,
     ptr: &mut P,
     text: String,
 ) -> Result<Reply<D>, AllocError>
     ensures steps { StepsOnTokens D.blank (P.list ptr.old) (machine.push_back (string_bytes text))
         (answered D.nodes result) (P.list ptr.new) }
-    ensures given_in_order { IfOk result (Gives D.in_order) }
+    ensures given_sorted { IfOk result (ReplyHas D.has_sorted_keys) }
 {
     ptr.push_back(Token::new(alloc, CowStr::Owned(text))?)?;
     Ok(Reply::Done)
 }
 
-/// The answer to `Call::PushFront`.
-fn push_front<P: EditPointer, D: Document>(
+/// Makes the call `Call::PushFront`.
+fn push_front<P: EditPointer, D: SessionDocument>(
     alloc: Global,
     ptr: &mut P,
     text: String,
 ) -> Result<Reply<D>, AllocError>
     ensures steps { StepsOnTokens D.blank (P.list ptr.old) (machine.push_front (string_bytes text))
         (answered D.nodes result) (P.list ptr.new) }
-    ensures given_in_order { IfOk result (Gives D.in_order) }
+    ensures given_sorted { IfOk result (ReplyHas D.has_sorted_keys) }
 {
     ptr.push_front(Token::new(alloc, CowStr::Owned(text))?)?;
     Ok(Reply::Done)
 }
 
-/// The answer to `Call::PopBack`.
-fn pop_back<P: EditPointer, D: Document>(ptr: &mut P) -> Result<Reply<D>, AllocError>
+/// Makes the call `Call::PopBack`.
+fn pop_back<P: EditPointer, D: SessionDocument>(ptr: &mut P) -> Result<Reply<D>, AllocError>
     ensures steps { StepsOnTokens D.blank (P.list ptr.old) machine.pop_back
         (answered D.nodes result) (P.list ptr.new) }
-    ensures given_in_order { IfOk result (Gives D.in_order) }
+    ensures given_sorted { IfOk result (ReplyHas D.has_sorted_keys) }
 {
     Ok(Reply::Token(ptr.pop_back()?))
 }
 
-/// The answer to `Call::PopFront`.
-fn pop_front<P: EditPointer, D: Document>(ptr: &mut P) -> Result<Reply<D>, AllocError>
+/// Makes the call `Call::PopFront`.
+fn pop_front<P: EditPointer, D: SessionDocument>(ptr: &mut P) -> Result<Reply<D>, AllocError>
     ensures steps { StepsOnTokens D.blank (P.list ptr.old) machine.pop_front
         (answered D.nodes result) (P.list ptr.new) }
-    ensures given_in_order { IfOk result (Gives D.in_order) }
+    ensures given_sorted { IfOk result (ReplyHas D.has_sorted_keys) }
 {
     Ok(Reply::Token(ptr.pop_front()?))
 }
 
-/// The answer to `Call::Replace`.
-fn replace<P: EditPointer, D: Document>(
+/// Makes the call `Call::Replace`. Tests the position before it makes the token.
+fn replace<P: EditPointer, D: SessionDocument>(
     alloc: Global,
     ptr: &mut P,
     index: usize,
@@ -163,43 +171,51 @@ fn replace<P: EditPointer, D: Document>(
 ) -> Result<Reply<D>, AllocError>
     ensures steps { StepsOnTokens D.blank (P.list ptr.old)
         (machine.replace index (string_bytes text)) (answered D.nodes result) (P.list ptr.new) }
-    ensures given_in_order { IfOk result (Gives D.in_order) }
+    ensures given_sorted { IfOk result (ReplyHas D.has_sorted_keys) }
 {
-    let token = Token::new(alloc, CowStr::Owned(text))?;
-    match ptr.replace(index, token) {
+    let count = ptr.as_ptr().count();
+    if count <= index {
+        return Ok(Reply::BadPosition(ReplaceError { index, count }));
+    }
+    match ptr.replace(index, Token::new(alloc, CowStr::Owned(text))?) {
         Ok(old) => Ok(Reply::Token(old)),
         Err(fault) => Ok(Reply::BadPosition(fault.refused()?)),
     }
 }
 
-/// The answer to `Call::Append`.
-fn append<P: EditPointer, D: Document>(
+/// Makes the call `Call::Append`.
+fn append<P: EditPointer, D: SessionDocument>(
     ptr: &mut P,
     other: PointerBuf,
 ) -> Result<Reply<D>, AllocError>
     ensures steps { StepsOnTokens D.blank (P.list ptr.old) (machine.append other)
         (answered D.nodes result) (P.list ptr.new) }
-    ensures given_in_order { IfOk result (Gives D.in_order) }
+    ensures given_sorted { IfOk result (ReplyHas D.has_sorted_keys) }
 {
     ptr.append(other.as_ptr())?;
     Ok(Reply::Done)
 }
 
-/// The answer to `Call::Clear`, which takes no memory.
-fn clear<P: EditPointer, D: Document>(ptr: &mut P) -> Result<Reply<D>, AllocError>
+/// Makes the call `Call::Clear`. Needs no allocation.
+fn clear<P: EditPointer, D: SessionDocument>(ptr: &mut P) -> Result<Reply<D>, AllocError>
     ensures steps { StepsOnTokens D.blank (P.list ptr.old) machine.clear
         (answered D.nodes result) (P.list ptr.new) }
-    ensures given_in_order { IfOk result (Gives D.in_order) }
+    ensures given_sorted { IfOk result (ReplyHas D.has_sorted_keys) }
 {
     ptr.clear();
     Ok(Reply::Done)
 }
 
-/// The answer to `Call::Resolve`.
-fn resolve<D: Document>(alloc: Global, ptr: Pointer<'_>, doc: &D) -> Result<Reply<D>, AllocError>
+/// Makes the call `Call::Resolve`.
+fn resolve<D: SessionDocument>(
+    alloc: Global,
+    ptr: Pointer<'_>,
+    doc: &D,
+) -> Result<Reply<D>, AllocError>
     ensures steps { StepsOnNodes D.blank (tokens ptr.entry) (D.nodes doc.now) machine.resolve
         (answered D.nodes result) (D.nodes doc.now) }
-    ensures given_in_order { IfOk result (λ reply. D.in_order doc.now → Gives D.in_order reply) }
+    ensures given_sorted { IfOk result (λ reply.
+        D.has_sorted_keys doc.now → ReplyHas D.has_sorted_keys reply) }
 {
     match doc.copy_at(alloc, ptr) {
         Ok(value) => Ok(Reply::Value(value)),
@@ -207,8 +223,8 @@ fn resolve<D: Document>(alloc: Global, ptr: Pointer<'_>, doc: &D) -> Result<Repl
     }
 }
 
-/// The answer to `Call::Write`.
-fn write<D: Document>(
+/// Makes the call `Call::Write`.
+fn write<D: SessionDocument>(
     alloc: Global,
     ptr: Pointer<'_>,
     doc: &mut D,
@@ -216,8 +232,10 @@ fn write<D: Document>(
 ) -> Result<Reply<D>, AllocError>
     ensures steps { StepsOnNodes D.blank (tokens ptr.entry) (D.nodes doc.old)
         (machine.write (D.nodes value)) (answered D.nodes result) (D.nodes doc.new) }
-    ensures order { D.in_order value → D.in_order doc.old → D.in_order doc.new }
-    ensures given_in_order { IfOk result (λ reply. D.in_order doc.old → Gives D.in_order reply) }
+    ensures sorted { D.has_sorted_keys value → D.has_sorted_keys doc.old
+        → D.has_sorted_keys doc.new }
+    ensures given_sorted { IfOk result (λ reply.
+        D.has_sorted_keys doc.old → ReplyHas D.has_sorted_keys reply) }
 {
     let mut value = value;
     match doc.swap_at(alloc, ptr, &mut value) {
@@ -226,8 +244,8 @@ fn write<D: Document>(
     }
 }
 
-/// The answer to `Call::Assign`.
-fn assign<D: Document>(
+/// Makes the call `Call::Assign`.
+fn assign<D: SessionDocument>(
     alloc: Global,
     ptr: Pointer<'_>,
     doc: &mut D,
@@ -235,8 +253,10 @@ fn assign<D: Document>(
 ) -> Result<Reply<D>, AllocError>
     ensures steps { StepsOnNodes D.blank (tokens ptr.entry) (D.nodes doc.old)
         (machine.assign (D.nodes value)) (answered D.nodes result) (D.nodes doc.new) }
-    ensures order { D.in_order value → D.in_order doc.old → D.in_order doc.new }
-    ensures given_in_order { IfOk result (λ reply. D.in_order doc.old → Gives D.in_order reply) }
+    ensures sorted { D.has_sorted_keys value → D.has_sorted_keys doc.old
+        → D.has_sorted_keys doc.new }
+    ensures given_sorted { IfOk result (λ reply.
+        D.has_sorted_keys doc.old → ReplyHas D.has_sorted_keys reply) }
 {
     match doc.assign_at(alloc, ptr, value) {
         Ok(old) => Ok(Reply::Assigned(old)),
@@ -244,12 +264,17 @@ fn assign<D: Document>(
     }
 }
 
-/// The answer to `Call::Delete`.
-fn delete<D: Document>(alloc: Global, ptr: Pointer<'_>, doc: &mut D) -> Result<Reply<D>, AllocError>
+/// Makes the call `Call::Delete`.
+fn delete<D: SessionDocument>(
+    alloc: Global,
+    ptr: Pointer<'_>,
+    doc: &mut D,
+) -> Result<Reply<D>, AllocError>
     ensures steps { StepsOnNodes D.blank (tokens ptr.entry) (D.nodes doc.old) machine.delete
         (answered D.nodes result) (D.nodes doc.new) }
-    ensures order { D.in_order doc.old → D.in_order doc.new }
-    ensures given_in_order { IfOk result (λ reply. D.in_order doc.old → Gives D.in_order reply) }
+    ensures sorted { D.has_sorted_keys doc.old → D.has_sorted_keys doc.new }
+    ensures given_sorted { IfOk result (λ reply.
+        D.has_sorted_keys doc.old → ReplyHas D.has_sorted_keys reply) }
 {
     Ok(Reply::Deleted(doc.delete_at(alloc, ptr)?))
 }

@@ -1,24 +1,46 @@
-//! Taking assignments back: each answers what undoes it.
+//! Assignments that can be undone. The modules [`json`] and [`toml_value`] have the functions for
+//! either type of document.
+//!
+//! An assignment returns an [`Undo`], which undoes it in the document that the assignment left.
 
 pub mod json;
 pub mod toml_value;
 
 use jsonptr::{Fault, PointerBuf, resolve};
 
-/// How an assignment is taken back. It owns its pointer and its value; `V` is the type of the document.
+/// How to undo an assignment. It owns its pointer and its value. `V` is the type of the document.
+///
+/// ```rust
+/// let mut document = json!(in alloc; {"size": 3})?;
+/// let size = Pointer::parse("/size")?;
+/// let back = assign_with_undo(alloc, &mut document, size, Value::from(4))?;
+/// assert!(rt; matches!(&back, Undo::Put(_, old) if *old == Value::from(3)));
+/// let place = Pointer::parse("/depth")?;
+/// let back = assign_with_undo(alloc, &mut document, place, Value::from(9))?;
+/// assert!(rt; matches!(&back, Undo::Remove(pointer) if pointer.as_ptr() == place));
+/// ```
 #[derive(Debug, Drop)]
 pub enum Undo<V> {
-    /// Puts the value in the place of the one that the pointer names.
+    /// Replaces the value that the pointer resolves to by this one, which the assignment had
+    /// replaced.
     Put(PointerBuf, V),
-    /// Takes out the value that the pointer names.
+    /// Removes the value that the pointer resolves to, which the assignment had added.
     Remove(PointerBuf),
 }
 
-/// Why nothing was undone. The document is as it was.
+/// The error of an undo. The document is unchanged.
+///
+/// ```rust
+/// let mut document = json!(in alloc; {"size": 3})?;
+/// let back = Undo::Remove(PointerBuf::from_text(alloc, "/depth")?);
+/// let undone = undo(alloc, &mut document, back);
+/// let UndoRefused { undo: _, cause } = undone.err().ok_or("an error")?;
+/// assert!(rt; cause.refused()?.is_not_found());
+/// ```
 #[derive(Debug, Drop)]
 pub struct UndoRefused<V> {
-    /// What was to be done, handed back.
+    /// The undo, which can be used again.
     pub undo: Undo<V>,
-    /// Why its pointer names no value, or that a request for memory was refused.
+    /// Why its pointer does not resolve to a value, or that an allocation failed.
     pub cause: Fault<resolve::Error>,
 }

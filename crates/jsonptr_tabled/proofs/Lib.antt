@@ -1,3 +1,3 @@
--- Lemmas on tables of places, and on reading the ends of a list.
+-- Lemmas on tables of offsets, and on reading the first and the last token of a list.
 pub mod TableLemmas
 pub mod ReadingLemmas

@@ -1,4 +1,4 @@
--- The ends of a list of tokens, read by their places.
+-- The first and the last token of a list, and all but the last, read by position.
 use Rattle.std.proofs.Common.{◌≡◌, ℕ, suc, zero, ◌+◌, List, [], ◌∷◌, ◌++◌, Option, Some, None, length, take, slice_get, refl, sym, ap, ◌∙◌, subst, arith}
 use Rattle.jsonptr.specs.Text.{Text}
 use Rattle.jsonptr.specs.Ends.{IsFirstOf, IsLastOf}

@@ -1,4 +1,4 @@
--- Tables of places, filled and moved.
+-- Tables of offsets, filled and moved.
 use Rattle.std.proofs.Common.{◌≡◌, ◌≢◌, ℕ, suc, zero, ◌+◌, ◌-◌, ◌^◌, ◌<◌, ◌≤◌, List, [], ◌∷◌, ◌++◌, Some, None, Option, length, take, set, slice_index, slice_set, refl, sym, ap, ap₂, ◌∙◌, subst, ⊎_elim, arith, length-append, append_assoc, drop}
 use Rattle.std.proofs.lemmas.List.{length-set, length-drop, length-take-le, length-map, get_or-set_same, get_or-set_other, get_or-drop, get_or-take, get_or-map, take_at, take_more, take_more_set, drop_more, drop-set-lt, map-append}
 use Rattle.std.proofs.lemmas.Bool.{cases_eq}
@@ -8,9 +8,9 @@ use Rattle.jsonptr.specs.Ends.{PopsFront, PopsBack}
 use Rattle.jsonptr.proofs.Calling.{text-append}
 use Rattle.jsonptr.specs.Slashes.{slash_offsets}
 use Rattle.jsonptr.proofs.SlashesLemmas.{slashes_from, offsets_are, from_moved, length-from, length-offsets, offset_below, below_end, offsets-append, offsets-push, offsets-cons, offsets-set}
-use Rattle.jsonptr_tabled.specs.Private.{offsets_up_to, moved_up, moved_down, CanMoveUp, CanMoveDown, CanMove, Moves}
+use Rattle.jsonptr_tabled.specs.Private.{offsets_up_to, moved_up, moved_down, CanMoveUp, CanMoveDown, CanMove, MovesOffsets}
 
--- ---- the places from `from` up to i moved, and the others not yet
+-- ---- the offsets from `from` up to i moved, and the others not yet
 
 pub record MovedUpTo (old now : List ℕ) (from before after i : ℕ) : Type 0 where
   pub len : length now ≡ length old
@@ -26,7 +26,7 @@ moved_none old from before after = record {
   ahead = λ k a. refl;
 }
 
--- the place at i may be moved
+-- the offset at i may be moved
 pub can_move : (old now : List ℕ) (from before after i : ℕ) → CanMove old from before after → MovedUpTo old now from before after i → from ≤ i → i < length now
     → (slice_index now i ≤ before) × (before ≤ slice_index now i + after)
 can_move old now from before after i can so_far low high =
@@ -50,14 +50,14 @@ moved_more old now from before after i x can so_far low high e =
       ahead = λ k a. get_or-set_other now i k x 0 (λ at. omega (arith, a, at)) ∙ so_far.ahead k (omega (arith, a));
     }
 
-pub moved_all : (old now : List ℕ) (from before after i : ℕ) → MovedUpTo old now from before after i → length now ≤ i → Moves old now from before after
+pub moved_all : (old now : List ℕ) (from before after i : ℕ) → MovedUpTo old now from before after i → length now ≤ i → MovesOffsets old now from before after
 moved_all old now from before after i so_far end = record {
   len = so_far.len;
   kept = so_far.kept;
   moved = λ k a b. so_far.done k a (omega (arith, b, so_far.len, end)) b;
 }
 
--- ---- the places moved up, written behind i over the places; up to i stands what they were
+-- ---- the offsets moved up, written after i over the offsets; up to i they are unchanged
 
 pub record ShiftedUp (old now : List ℕ) (by i : ℕ) : Type 0 where
   pub len : length now ≡ length old
@@ -73,7 +73,7 @@ shifted_none old by i some e = record {
   done = λ k a b. absurd (omega (arith, a, b, e));
 }
 
--- the place before i may be moved up
+-- the offset before i may be moved up
 pub can_shift_up : (old now : List ℕ) (by i : ℕ) → CanMoveUp (take (length old - 1) old) by → ShiftedUp old now by i → 0 < i → slice_index now (i - 1) + by < 2 ^ 64
 can_shift_up old now by i can so_far low =
     let within : i - 1 < length old - 1 = omega (arith, low, so_far.inside) in
@@ -127,8 +127,8 @@ same_tail now old i len e high =
     let both : slice_index now i ∷ drop (i + 1) now ≡ slice_index old i ∷ drop (i + 1) old = sym (drop_more now i 0 high) ∙ e ∙ drop_more old i 0 (omega (arith, high, len)) in
     (cc, cc)
 
--- ---- the places behind the first moved down, written up to i - 1 from the first place on; at i and behind stands
--- what they were
+-- ---- the offsets after the first moved down, written up to i - 1 from the first position on; at i and after they
+-- are unchanged
 
 pub record ShiftedDown (old now : List ℕ) (by i : ℕ) : Type 0 where
   pub len : length now ≡ length old
@@ -157,7 +157,7 @@ shifted_down_more old now by i x so_far low high e =
           (shifted_part old now by (i - 1) x so_far.len so_far.so_far (omega (arith, low, high)) x_is);
     }
 
--- ---- the places of a text that ends at `end`
+-- ---- the offsets of a text that ends at `end`
 
 pub up_to_is : (end : ℕ) (ts : List Text) → offsets_up_to end ts ≡ slashes_from (end - length (text ts)) ts
 up_to_is end ts = sym (from_moved (end - length (text ts)) ts)
@@ -172,23 +172,23 @@ behind_within ts rest t end e within =
     let longer = ap (λ (l : List Text). length (text l)) e in
     omega (arith, longer, within, length-append (esc t) (text rest))
 
--- one place put behind the others
+-- one offset appended
 pub filled_more : (items old : List ℕ) (end : ℕ) (all : List Text) (ts rest : List Text) (t : Text) (x : ℕ) → items ++ offsets_up_to end ts ≡ old ++ offsets_up_to end all → ts ≡ t ∷ rest → length (text ts) ≤ end → x ≡ end - length (text ts)
     → (items ++ x ∷ []) ++ offsets_up_to end rest ≡ old ++ offsets_up_to end all
 filled_more items old end all ts rest t x so_far e within is =
     let whole : offsets_up_to end ts ≡ x ∷ offsets_up_to end rest = rw e (up_to_cons end t rest (subst (λ (l : List Text). length (text l) ≤ end) e within) ∙ ap (λ (n : ℕ). n ∷ offsets_up_to end rest) (sym (rw e at is))) in
     append_assoc items (x ∷ []) (offsets_up_to end rest) ∙ ap (λ (l : List ℕ). items ++ l) (sym whole) ∙ so_far
 
--- ---- which places may be moved
+-- ---- which offsets may be moved
 
--- before a token is put in front
+-- before a token is inserted before the others
 pub can_move_up : (os : List ℕ) (ts new : List Text) (t : Text) (before after : ℕ) → os ≡ slash_offsets ts → new ≡ t ∷ ts → before ≡ length (text ts) → after ≡ length (text new) → after < 2 ^ 64 → CanMoveUp os (after - before)
 can_move_up os ts new t before after was e b a fits k high =
     let longer = ap (λ (l : List Text). length (text l)) e in
     let below : slice_index os k < length (text ts) = rw was (offset_below ts k (omega (arith, high, ap length was, length-offsets ts))) in
     omega (arith, below, fits, b, a, longer, length-append (esc t) (text ts))
 
--- behind a token that was taken off
+-- after a token that was removed
 behind_first : (ts : List Text) (t : Text) (k : ℕ) → 0 < k → k < length (slash_offsets (t ∷ ts)) → 1 + length (esc t) ≤ slice_index (slash_offsets (t ∷ ts)) k
 behind_first ts t zero low high = absurd (omega (arith, low))
 behind_first ts t (suc k) low high =
@@ -203,7 +203,7 @@ can_move_down os ts new (Some t) before after was pops b a k low high =
     let far : 1 + length (esc t) ≤ slice_index os k = rw table (behind_first new t k low (omega (arith, high, ap length table))) in
     omega (arith, far, b, a, longer, length-append (esc t) (text new))
 
--- behind a token that was put in the place of another
+-- after a token that replaced another
 far_from_end : (a : ℕ) (ts : List Text) (i : ℕ) (t : Text) (k : ℕ) → i < k → k < length ts → a + length (text ts) ≤ slice_index (slashes_from a ts) k + length (text (slice_set ts i t))
 far_from_end a [] i t k l h = absurd (omega (arith, h))
 far_from_end a (x ∷ ts) i t zero l h = absurd (omega (arith, l))
@@ -228,7 +228,7 @@ can_move_behind os ts i t before after e b a =
 pub filled : (items : List ℕ) (ts : List Text) (end : ℕ) → end ≡ length (text ts) → items ≡ [] ++ offsets_up_to end ts → items ≡ slash_offsets ts
 filled items ts end e is = is ∙ up_to_is end ts ∙ ap (λ (n : ℕ). slashes_from n ts) (omega (arith, e)) ∙ sym (offsets_are ts)
 
--- another list behind
+-- another list appended
 pub end_within : (ts us new : List Text) (end : ℕ) → new ≡ ts ++ us → end ≡ length (text new) → length (text us) ≤ end
 end_within ts us new end e len =
     let both : length (text (ts ++ us)) ≡ length (text ts) + length (text us) = ap length (text-append ts us) ∙ length-append (text ts) (text us) in
@@ -242,11 +242,11 @@ joined old items ts us new end was e len is =
     rw (is, was, e, offsets-append ts us, up_to_is end us)
     (ap (λ (n : ℕ). slash_offsets ts ++ slashes_from n us) (omega (arith, both, len, whole)))
 
--- one token behind
+-- one token appended
 pub pushed_back : (old items : List ℕ) (ts new : List Text) (t : Text) (before : ℕ) → old ≡ slash_offsets ts → before ≡ length (text ts) → items ≡ old ++ before ∷ [] → new ≡ ts ++ t ∷ [] → items ≡ slash_offsets new
 pushed_back old items ts new t before was len is e = rw (is, was, len, e, offsets-push ts t) refl
 
--- one token in front
+-- one token inserted before the others
 in_front : (t : Text) (ts : List Text) (by : ℕ) → by ≡ 1 + length (esc t) → slash_offsets (t ∷ ts) ≡ 0 ∷ moved_up by (slash_offsets ts)
 in_front t ts by e = offsets-cons t ts ∙ ap (λ (l : List ℕ). 0 ∷ l) (from_moved (1 + length (esc t)) ts ∙ ap (λ (n : ℕ). moved_up n (slash_offsets ts)) (sym e))
 
@@ -258,7 +258,7 @@ pushed_front items old ts new t before after is was e b a =
     (is ∙ ap (λ (l : List ℕ). 0 ∷ moved_up (after - before) l) was
     ∙ sym (in_front t ts (after - before) (omega (arith, b, a, longer, length-append (esc t) (text ts)))))
 
--- the first token gone
+-- the first token removed
 down_again : (by : ℕ) (os : List ℕ) → moved_down by (moved_up by os) ≡ os
 down_again by [] = refl
 down_again by (o ∷ os) = ap₂ (λ (x : ℕ) (xs : List ℕ). x ∷ xs) (omega arith) (down_again by os)
@@ -272,7 +272,7 @@ popped_front items old ts new (Some t) before after is was pops b a =
     let table : old ≡ 0 ∷ moved_up (before - after) (slash_offsets new) = was ∙ ap slash_offsets pops ∙ in_front t new (before - after) (omega (arith, b, a, longer, length-append (esc t) (text new))) in
     is ∙ ap (λ (l : List ℕ). moved_down (before - after) (drop 1 l)) table ∙ down_again (before - after) (slash_offsets new)
 
--- the last token gone
+-- the last token removed
 take_none : (n : ℕ) → take {A = ℕ} n [] ≡ []
 take_none zero = refl
 take_none (suc n) = refl
@@ -285,8 +285,8 @@ popped_back old items ts new (Some t) n len was pops rest =
     rest ∙ ap (λ (os : List ℕ). take (n - 1) os) table
     ∙ take_at (slash_offsets new) (length (text new) ∷ []) (n - 1) (omega (arith, len, ap length table, length-append (slash_offsets new) (length (text new) ∷ [])))
 
--- one token in the place of another
-pub replaced : (old moved : List ℕ) (ts new : List Text) (i : ℕ) (t : Text) (before after : ℕ) → old ≡ slash_offsets ts → i < length ts → new ≡ slice_set ts i t → before ≡ length (text ts) → after ≡ length (text new) → Moves old moved (i + 1) before after → moved ≡ slash_offsets new
+-- one token replaced
+pub replaced : (old moved : List ℕ) (ts new : List Text) (i : ℕ) (t : Text) (before after : ℕ) → old ≡ slash_offsets ts → i < length ts → new ≡ slice_set ts i t → before ≡ length (text ts) → after ≡ length (text new) → MovesOffsets old moved (i + 1) before after → moved ≡ slash_offsets new
 replaced old moved ts new i t before after was within e b a h =
     rw e (offsets-set ts i t moved before after within b (a ∙ ap (λ (l : List Text). length (text l)) e) (h.len ∙ ap length was)
     (λ k l. h.kept k (omega (arith, l)) ∙ ap (λ (os : List ℕ). slice_index os k) was)

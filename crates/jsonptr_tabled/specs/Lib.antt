@@ -1,2 +1,2 @@
--- What contracts say of tabled pointers beside the words of `jsonptr`.
+-- Definitions of this crate's contracts, beside those of `jsonptr`.
 pub mod Private

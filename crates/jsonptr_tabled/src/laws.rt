@@ -9,9 +9,10 @@ ghost use Rattle.jsonptr.specs.Text.{Text, text};
 use crate::TabledPointer;
 use std::hash::Hash;
 
-/// States that tabled pointers are equal where they have the same tokens, and are ordered as their texts are by
-/// bytes. Only equal ones tie, and a pointer is less than one that continues after its tokens. A tabled pointer
-/// is hashed as its text.
+/// States how tabled pointers are compared and hashed. They are equal exactly if they have the same
+/// tokens, and are ordered as their texts are by bytes. Only equal ones compare as equal, and a
+/// pointer is less than one that continues after its tokens. A tabled pointer has the hash of its
+/// text.
 pub fn tabled_comparison_law()
     ensures equal { (ts us : List Text)
         → IsTrue (⟦<TabledPointer as PartialEq>⟧.eq ts us) ↔ (ts ≡ us) }

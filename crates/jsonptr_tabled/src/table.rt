@@ -1,20 +1,21 @@
-//! A table of the places of a pointer's slashes, apart from the pointer.
+//! A table of the byte offsets of a pointer's slashes, apart from the pointer.
 ghost use Rattle.std.specs.Prelude.{◌≡◌, ◌+◌, ◌-◌, ◌<◌, ◌≤◌, [], ◌∷◌, ◌++◌, length, drop, take, vec_len, vec_capacity, IfOk};
 ghost use Rattle.jsonptr.specs.Text.{text};
 ghost use Rattle.jsonptr.specs.Pointer.{tokens};
-ghost use Rattle.jsonptr_tabled.specs.Private.{offsets_up_to, moved_up, moved_down, CanMoveUp, CanMoveDown, CanMove, Moves};
+ghost use Rattle.jsonptr_tabled.specs.Private.{offsets_up_to, moved_up, moved_down, CanMoveUp, CanMoveDown, CanMove, MovesOffsets};
 
 use jsonptr::Pointer;
 use std::alloc::AllocError;
 
-/// How many places more a full table asks for at least, so that a short one grows once.
+/// How many offsets a full table makes room for at least, so that a short table is enlarged only
+/// once.
 const ROOM: usize = 32;
 
-/// Makes room for one more place.
+/// Makes room for one more offset. Does nothing if there is room.
 ///
 /// # Errors
 ///
-/// [`AllocError`] where there is none and no memory for more; the places stay.
+/// [`AllocError`] if an allocation fails. The offsets are unchanged.
 #[inline(always)]
 pub(crate) fn make_room(offsets: &mut Vec<usize>) -> Result<(), AllocError>
     ensures items { offsets.new.items ≡ offsets.old.items }
@@ -27,7 +28,11 @@ pub(crate) fn make_room(offsets: &mut Vec<usize>) -> Result<(), AllocError>
     Ok(())
 }
 
-/// Puts the places of a pointer's slashes behind the others, where its text ends at `end`. There is room for them.
+/// Appends the offsets of the slashes of `pointer`, whose text ends at `end`.
+///
+/// # Conditions
+///
+/// The text of `pointer` has at most `end` bytes, and the table has room for all of its slashes.
 pub(crate) fn extend(offsets: &mut Vec<usize>, end: usize, pointer: Pointer<'_>)
     requires within { length (text (tokens pointer)) ≤ end }
     requires room { vec_len offsets.old + length (tokens pointer) ≤ vec_capacity offsets.old }
@@ -40,7 +45,11 @@ pub(crate) fn extend(offsets: &mut Vec<usize>, end: usize, pointer: Pointer<'_>)
     }
 }
 
-/// Puts the place 0 before the others, each of which moves up by this many bytes. There is room for it.
+/// Inserts the offset 0 before all others, and adds `by` to each of them.
+///
+/// # Conditions
+///
+/// The table has room for one more offset, and no sum overflows.
 pub(crate) fn push_front(offsets: &mut Vec<usize>, by: usize)
     requires places { CanMoveUp offsets.old.items by }
     requires room { vec_len offsets.old < vec_capacity offsets.old }
@@ -50,7 +59,11 @@ pub(crate) fn push_front(offsets: &mut Vec<usize>, by: usize)
     shift_up(offsets, by);
 }
 
-/// Puts 0 and then all places but the last, each moved up by this many bytes, in the place of the places.
+/// Drops the last offset, adds `by` to each of the others, and inserts 0 before them.
+///
+/// # Conditions
+///
+/// There is an offset, and no sum overflows.
 fn shift_up(offsets: &mut [usize], by: usize)
     requires some { 0 < length offsets.old }
     requires places { CanMoveUp (take (length offsets.old - 1) offsets.old) by }
@@ -64,7 +77,11 @@ fn shift_up(offsets: &mut [usize], by: usize)
     offsets[0] = 0;
 }
 
-/// Takes the first place off, and moves the others down by this many bytes.
+/// Removes the first offset, and subtracts `by` from each of the others.
+///
+/// # Conditions
+///
+/// Each offset after the first is at least `by`.
 pub(crate) fn pop_front(offsets: &mut Vec<usize>, by: usize)
     requires { CanMoveDown offsets.old.items by }
     ensures { offsets.new.items ≡ moved_down by (drop 1 offsets.old.items) }
@@ -73,8 +90,12 @@ pub(crate) fn pop_front(offsets: &mut Vec<usize>, by: usize)
     offsets.pop();
 }
 
-/// Puts the places behind the first, each moved down by this many bytes, from the first place on; the last place
-/// stays.
+/// Writes each offset after the first, less `by`, one position earlier. The last offset is
+/// unchanged.
+///
+/// # Conditions
+///
+/// Each offset after the first is at least `by`.
 fn shift_down(offsets: &mut [usize], by: usize)
     requires { CanMoveDown offsets.old by }
     ensures len { length offsets.new ≡ length offsets.old }
@@ -86,11 +107,16 @@ fn shift_down(offsets: &mut [usize], by: usize)
     }
 }
 
-/// Moves the places from the `from`th on to where they stand in a text that has `after` bytes in place of
-/// `before`: each keeps its distance from the end.
+/// Moves each offset from position `from` on, so that it keeps its distance from the end of the
+/// text. The text had `before` bytes, and now has `after`.
+///
+/// # Conditions
+///
+/// Each offset that is moved is at most `before`, and its distance from `before` is at most
+/// `after`.
 pub(crate) fn move_places(offsets: &mut [usize], from: usize, before: usize, after: usize)
     requires { CanMove offsets.old from before after }
-    ensures { Moves offsets.old offsets.new from before after }
+    ensures { MovesOffsets offsets.old offsets.new from before after }
 {
     for i in from..offsets.len() {
         offsets[i] = after - (before - offsets[i]);

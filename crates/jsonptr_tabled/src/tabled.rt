@@ -12,7 +12,7 @@ ghost use Rattle.jsonptr.specs.Text.{text};
 ghost use Rattle.jsonptr.specs.Grammar.{IsPointer};
 ghost use Rattle.jsonptr.specs.Fault.{IfRefused, IsRefused};
 ghost use Rattle.jsonptr.specs.Report.{original_of, subject_of};
-ghost use Rattle.jsonptr.specs.ParseError.{TellsPointerFault};
+ghost use Rattle.jsonptr.specs.ParseError.{IsParseErrorOf};
 ghost use Rattle.jsonptr.specs.Ends.{IsFirstOf, IsLastOf, PushesFront, PushesBack, PopsFront, PopsBack};
 ghost use Rattle.jsonptr.specs.Pointer.{tokens, text_of, IsParentOf, IsSplitAt, IsSplitOf};
 ghost use Rattle.jsonptr.specs.PointerBuf.{Replaces, RefusesReplace};
@@ -26,10 +26,17 @@ use std::fmt;
 use std::hash::{Hash, Hasher};
 use std::marker::Model;
 
-/// A JSON Pointer that owns its text, and beside it a table of the places, in bytes, of all slashes of the text.
-/// It is a [`PointerBuf`] whose reading calls find their places in the table.
+/// A JSON Pointer that owns its text and a table of the byte offsets of all slashes in it. It is a
+/// [`PointerBuf`] whose reading calls look positions up in the table.
 ///
-/// Contracts see it as the list of its decoded tokens; its text is the text of that list.
+/// Contracts view it as the list of its decoded tokens. Its text is the text of that list.
+///
+/// ```rust
+/// let plain = PointerBuf::from_text(alloc, "/files/src~1lib.rt/7")?;
+/// let pointer = TabledPointer::from_plain(alloc, plain)?;
+/// assert_eq!(rt; pointer.offsets(), [0, 6, 18].as_slice());
+/// assert_eq!(rt; pointer.get(2), Some(Token::from_number(alloc, 7)?));
+/// ```
 #[derive(Debug, Drop)]
 pub struct TabledPointer {
     plain: PointerBuf,
@@ -48,7 +55,13 @@ impl Model for TabledPointer {
 }
 
 impl TabledPointer {
-    /// The pointer of no token, which names the whole document; no memory is taken.
+    /// Returns the pointer without tokens, which refers to the whole document. Allocates nothing.
+    ///
+    /// ```rust
+    /// let root = TabledPointer::new(alloc);
+    /// assert!(rt; root.as_ptr().is_root());
+    /// assert_eq!(rt; root.count(), 0);
+    /// ```
     pub fn new(alloc: Global) -> TabledPointer
         ensures { result ≡ [] }
     {
@@ -58,17 +71,26 @@ impl TabledPointer {
         }
     }
 
-    /// The pointer with this text, which it keeps; memory is taken for the table.
+    /// Parses a pointer that keeps `s` as its text. Allocates the table.
+    ///
+    /// ```rust
+    /// let text = String::from_str(alloc, "/lines/~7")?;
+    /// let parsed = TabledPointer::parse(alloc, text);
+    /// let report = parsed.err().ok_or("an error")?.refused()?;
+    /// assert_eq!(rt; report.original().pointer_offset(), 6);
+    /// assert_eq!(rt; report.subject().as_str(), "/lines/~7");
+    /// ```
     ///
     /// # Errors
     ///
-    /// [`RichParseError`] where the text is no pointer (RFC 6901, section 3): its first fault, and the text
-    /// itself; [`AllocError`] where there is no memory for the table, and the text is dropped.
+    /// [`Fault::Refused`] if `s` is not a valid JSON Pointer (RFC 6901, section 3). The
+    /// [`RichParseError`] in it has the first error and `s` itself. [`Fault::Memory`] if there is
+    /// no memory for the table; `s` is then dropped.
     pub fn parse(alloc: Global, s: String) -> Result<TabledPointer, Fault<RichParseError>>
         ensures text { IfOk result (λ p. text p ≡ string_bytes s) }
         ensures refused { IsRefused result ↔ (IsPointer (string_bytes s) → ⊥) }
         ensures fault { IfRefused result
-            (λ report. TellsPointerFault (string_bytes s) (original_of report)) }
+            (λ report. IsParseErrorOf (string_bytes s) (original_of report)) }
         ensures subject { IfRefused result (λ report. subject_of report ≡ s) }
     {
         match PointerBuf::parse(s) {
@@ -77,11 +99,18 @@ impl TabledPointer {
         }
     }
 
-    /// The pointer with its table, which memory is taken for.
+    /// Converts a pointer without a table to one with a table. Keeps its text, and allocates the
+    /// table in one pass over it.
+    ///
+    /// ```rust
+    /// let plain = PointerBuf::from_text(alloc, "/lines/7")?;
+    /// let pointer = TabledPointer::from_plain(alloc, plain)?;
+    /// assert_eq!(rt; pointer.offsets(), [0, 6].as_slice());
+    /// ```
     ///
     /// # Errors
     ///
-    /// [`AllocError`] where there is no memory for the table; the pointer is dropped.
+    /// [`AllocError`] if there is no memory for the table. The pointer is then dropped.
     pub fn from_plain(alloc: Global, plain: PointerBuf) -> Result<TabledPointer, AllocError>
         ensures { IfOk result (λ p. p ≡ plain) }
     {
@@ -90,7 +119,13 @@ impl TabledPointer {
         Ok(TabledPointer { plain, offsets })
     }
 
-    /// The pointer without its table.
+    /// Converts the pointer to one without a table. Keeps its text, and allocates nothing.
+    ///
+    /// ```rust
+    /// let mut pointer = TabledPointer::new(alloc);
+    /// pointer.push_back(Token::from_number(alloc, 7)?)?;
+    /// assert_eq!(rt; pointer.into_plain(), PointerBuf::from_usize(alloc, 7)?);
+    /// ```
     pub fn into_plain(self) -> PointerBuf
         ensures { result ≡ self }
     {
@@ -98,7 +133,7 @@ impl TabledPointer {
         plain
     }
 
-    /// A view of the pointer.
+    /// Returns a view of the pointer, which borrows its text.
     pub fn as_ptr(&self) -> Pointer<'_>
         ensures tokens { tokens result ≡ self.now }
         ensures text { text_of result ≡ text self.now }
@@ -106,29 +141,35 @@ impl TabledPointer {
         self.plain.as_ptr()
     }
 
-    /// The table: the places of the slashes in the text, in bytes from 0, ascending; before each token stands
-    /// one.
+    /// Returns the table: the byte offsets of all slashes in the text, in ascending order. Each is
+    /// the offset at which a token's slash is.
+    ///
+    /// ```text
+    /// text     /lines/7/text
+    ///          ^     ^ ^
+    /// offsets  0     6 8
+    /// ```
     pub fn offsets(&self) -> &[usize]
         ensures { result.now ≡ slash_offsets self.now }
     {
         self.offsets.as_slice()
     }
 
-    /// How many tokens the pointer has: the length of the table.
+    /// Returns the number of tokens, which is the length of the table.
     pub fn count(&self) -> usize
         ensures { result ≡ length self.now }
     {
         self.offsets().len()
     }
 
-    /// The first token, or `None` at the root.
+    /// Returns the first token, or `None` at the root.
     pub fn front(&self) -> Option<Token<'_>>
         ensures { IsFirstOf self.now result }
     {
         self.get(0)
     }
 
-    /// The last token, or `None` at the root.
+    /// Returns the last token, or `None` at the root.
     pub fn back(&self) -> Option<Token<'_>>
         ensures { IsLastOf self.now result }
     {
@@ -136,7 +177,14 @@ impl TabledPointer {
         self.get(last)
     }
 
-    /// The pointer of the tokens before the last one, or `None` at the root.
+    /// Returns the pointer of all tokens except the last, or `None` at the root. Borrows from this
+    /// pointer's text.
+    ///
+    /// ```rust
+    /// let plain = PointerBuf::from_text(alloc, "/lines/7")?;
+    /// let pointer = TabledPointer::from_plain(alloc, plain)?;
+    /// assert_eq!(rt; pointer.parent(), Some(Pointer::parse("/lines")?));
+    /// ```
     pub fn parent(&self) -> Option<Pointer<'_>>
         ensures { IsParentOf self.now result }
     {
@@ -144,8 +192,22 @@ impl TabledPointer {
         self.get(..last)
     }
 
-    /// The pointers of the tokens before a slash and from it on, where byte `offset` of the text is that
-    /// slash; elsewhere `None`. That byte alone is looked at.
+    /// Splits the pointer before the slash at byte `offset` of its text. Returns `None` if there is
+    /// no slash at that offset. Reads only that byte, and not the table.
+    ///
+    /// ```text
+    /// /lines/7/text
+    ///       ^ offset 6
+    /// "/lines"  "/7/text"
+    /// ```
+    ///
+    /// ```rust
+    /// let plain = PointerBuf::from_text(alloc, "/lines/7/text")?;
+    /// let pointer = TabledPointer::from_plain(alloc, plain)?;
+    /// let (front, rest) = pointer.split_at_offset(6).ok_or("a slash")?;
+    /// assert_eq!(rt; (front.as_str(), rest.as_str()), ("/lines", "/7/text"));
+    /// assert_eq!(rt; pointer.split_at_offset(7), None);
+    /// ```
     pub fn split_at_offset(&self, offset: usize) -> Option<(Pointer<'_>, Pointer<'_>)>
         ensures slash { IsSome result ↔ (slice_index (text self.now) offset ≡ 47) }
         ensures split { IsSplitOf self.now offset result }
@@ -153,8 +215,16 @@ impl TabledPointer {
         self.as_ptr().split_at_offset(offset)
     }
 
-    /// The pointers of the first `position` tokens and of those after them; `None` where there are fewer. The
-    /// place where they meet is looked up in the table.
+    /// Splits the pointer after its first `position` tokens. Returns `None` if it has fewer. Looks
+    /// the offset up in the table.
+    ///
+    /// ```rust
+    /// let plain = PointerBuf::from_text(alloc, "/lines/7/text")?;
+    /// let pointer = TabledPointer::from_plain(alloc, plain)?;
+    /// let (front, rest) = pointer.split_at(2).ok_or("two tokens")?;
+    /// assert_eq!(rt; (front.as_str(), rest.as_str()), ("/lines/7", "/text"));
+    /// assert_eq!(rt; pointer.split_at(4), None);
+    /// ```
     pub fn split_at(&self, position: usize) -> Option<(Pointer<'_>, Pointer<'_>)>
         ensures { IsSplitAt self.now position result }
     {
@@ -165,19 +235,37 @@ impl TabledPointer {
         }
     }
 
-    /// The token at a place from 0, or the pointer of the tokens in a range of such places; `None` where the
-    /// places are not all in the pointer. A range with a start asks for a token to stand at that start.
+    /// Returns the token at a position, or the pointer of the tokens in a range of positions. The
+    /// first token is at position 0. Returns `None` if the pointer does not have all of these
+    /// positions. A range with a start requires a token at that start.
+    ///
+    /// ```rust
+    /// let plain = PointerBuf::from_text(alloc, "/lines/7/text")?;
+    /// let pointer = TabledPointer::from_plain(alloc, plain)?;
+    /// assert_eq!(rt; pointer.get(1), Some(Token::from_number(alloc, 7)?));
+    /// assert_eq!(rt; pointer.get(1..), Some(Pointer::parse("/7/text")?));
+    /// assert_eq!(rt; pointer.get(3), None);
+    /// ```
     pub fn get<'a, I: PointerIndex<'a>>(&'a self, index: I) -> Option<I::Output>
         ensures { I.gives index self.now result }
     {
         index.get_tabled(self.as_ptr(), self.offsets())
     }
 
-    /// Puts a token before the others.
+    /// Inserts a token before all others. Moves the text and every offset.
+    ///
+    /// ```rust
+    /// let plain = PointerBuf::from_text(alloc, "/text")?;
+    /// let mut pointer = TabledPointer::from_plain(alloc, plain)?;
+    /// pointer.push_front(Token::from_number(alloc, 7)?)?;
+    /// assert_eq!(rt; pointer.as_ptr().as_str(), "/7/text");
+    /// assert_eq!(rt; pointer.offsets(), [0, 2].as_slice());
+    /// ```
     ///
     /// # Errors
     ///
-    /// [`AllocError`] where text or table has no room and there is no memory for more; the pointer stays.
+    /// [`AllocError`] if the text or the table has no room and an allocation fails. The pointer is
+    /// unchanged.
     #[inline(always)]
     pub fn push_front(&mut self, token: Token<'_>) -> Result<(), AllocError>
         ensures pushed { IfOk result (λ _. PushesFront self.old token.entry self.new) }
@@ -190,11 +278,20 @@ impl TabledPointer {
         Ok(())
     }
 
-    /// Puts a token behind the others.
+    /// Appends a token.
+    ///
+    /// ```rust
+    /// let mut pointer = TabledPointer::new(alloc);
+    /// pointer.push_back(Token::from_number(alloc, 7)?)?;
+    /// pointer.push_back(Token::from_number(alloc, 0)?)?;
+    /// assert_eq!(rt; pointer.as_ptr().as_str(), "/7/0");
+    /// assert_eq!(rt; pointer.offsets(), [0, 2].as_slice());
+    /// ```
     ///
     /// # Errors
     ///
-    /// [`AllocError`] where text or table has no room and there is no memory for more; the pointer stays.
+    /// [`AllocError`] if the text or the table has no room and an allocation fails. The pointer is
+    /// unchanged.
     #[inline(always)]
     pub fn push_back(&mut self, token: Token<'_>) -> Result<(), AllocError>
         ensures pushed { IfOk result (λ _. PushesBack self.old token.entry self.new) }
@@ -207,11 +304,21 @@ impl TabledPointer {
         Ok(())
     }
 
-    /// Takes the first token off; `None` at the root. The rest of the text moves down in place.
+    /// Removes the first token and returns it, or returns `None` at the root. The token owns its
+    /// text. The rest of the text and the offsets move down in place.
+    ///
+    /// ```rust
+    /// let plain = PointerBuf::from_text(alloc, "/7/text/0")?;
+    /// let mut pointer = TabledPointer::from_plain(alloc, plain)?;
+    /// assert_eq!(rt; pointer.pop_front()?, Some(Token::from_number(alloc, 7)?));
+    /// assert_eq!(rt; pointer.as_ptr().as_str(), "/text/0");
+    /// assert_eq!(rt; pointer.offsets(), [0, 5].as_slice());
+    /// ```
     ///
     /// # Errors
     ///
-    /// [`AllocError`] where there is no memory for the token; the pointer stays. The root asks for none.
+    /// [`AllocError`] if there is no memory for the token. The pointer is unchanged. The root needs
+    /// no allocation.
     #[inline(always)]
     pub fn pop_front(&mut self) -> Result<Option<Token<'static>>, AllocError>
         ensures popped { IfOk result (λ r. PopsFront self.old r self.new) }
@@ -224,11 +331,20 @@ impl TabledPointer {
         Ok(first)
     }
 
-    /// Takes the last token off; `None` at the root.
+    /// Removes the last token and returns it, or returns `None` at the root. The token owns its
+    /// text.
+    ///
+    /// ```rust
+    /// let plain = PointerBuf::from_text(alloc, "/7")?;
+    /// let mut pointer = TabledPointer::from_plain(alloc, plain)?;
+    /// assert_eq!(rt; pointer.pop_back()?, Some(Token::from_number(alloc, 7)?));
+    /// assert_eq!(rt; pointer.pop_back()?, None);
+    /// ```
     ///
     /// # Errors
     ///
-    /// [`AllocError`] where there is no memory for the token; the pointer stays. The root asks for none.
+    /// [`AllocError`] if there is no memory for the token. The pointer is unchanged. The root needs
+    /// no allocation.
     #[inline(always)]
     pub fn pop_back(&mut self) -> Result<Option<Token<'static>>, AllocError>
         ensures popped { IfOk result (λ r. PopsBack self.old r self.new) }
@@ -240,13 +356,22 @@ impl TabledPointer {
         Ok(last)
     }
 
-    /// Puts a token in the place of the one at `index`, and gives that one back: never `Ok(None)`.
+    /// Replaces the token at position `index`, and returns the old one. Never returns `Ok(None)`.
+    /// The first token is at position 0.
+    ///
+    /// ```rust
+    /// let plain = PointerBuf::from_text(alloc, "/lines/7/text")?;
+    /// let mut pointer = TabledPointer::from_plain(alloc, plain)?;
+    /// let old = pointer.replace(1, Token::from_number(alloc, 10)?)?;
+    /// assert_eq!(rt; old, Some(Token::from_number(alloc, 7)?));
+    /// assert_eq!(rt; pointer.offsets(), [0, 6, 9].as_slice());
+    /// ```
     ///
     /// # Errors
     ///
-    /// [`ReplaceError`] where `index` is not below the count of tokens, which is tested before memory is
-    /// asked for; [`AllocError`] where there is no memory for the old token or for a longer text. The
-    /// pointer stays.
+    /// [`Fault::Refused`] with a [`ReplaceError`] if `index` is not less than the number of tokens.
+    /// This is checked before anything is allocated. [`Fault::Memory`] if there is no memory for
+    /// the old token or for a longer text. The pointer is unchanged.
     pub fn replace(
         &mut self,
         index: usize,
@@ -263,11 +388,20 @@ impl TabledPointer {
         Ok(old)
     }
 
-    /// Puts the tokens of another pointer behind this one's.
+    /// Appends the tokens of another pointer.
+    ///
+    /// ```rust
+    /// let plain = PointerBuf::from_text(alloc, "/lines")?;
+    /// let mut pointer = TabledPointer::from_plain(alloc, plain)?;
+    /// pointer.append(Pointer::parse("/7/text")?)?;
+    /// assert_eq!(rt; pointer.as_ptr().as_str(), "/lines/7/text");
+    /// assert_eq!(rt; pointer.offsets(), [0, 6, 8].as_slice());
+    /// ```
     ///
     /// # Errors
     ///
-    /// [`AllocError`] where text or table has no room and there is no memory for more; the pointer stays.
+    /// [`AllocError`] if the text or the table has no room and an allocation fails. The pointer is
+    /// unchanged.
     pub fn append(&mut self, other: Pointer<'_>) -> Result<(), AllocError>
         ensures joined { IfOk result (λ _. self.new ≡ self.old ++ tokens other.entry) }
         ensures unchanged { IfErr result (λ _. self.new ≡ self.old) }
@@ -278,7 +412,15 @@ impl TabledPointer {
         Ok(())
     }
 
-    /// Makes the pointer the root; the room of text and table is kept.
+    /// Removes all tokens. The pointer is then the root, and keeps the room of its text and its
+    /// table.
+    ///
+    /// ```rust
+    /// let mut pointer = TabledPointer::new(alloc);
+    /// pointer.push_back(Token::from_number(alloc, 7)?)?;
+    /// pointer.clear();
+    /// assert!(rt; pointer.as_ptr().is_root() && pointer.offsets().is_empty());
+    /// ```
     pub fn clear(&mut self)
         ensures { self.new ≡ [] }
     {
@@ -286,13 +428,13 @@ impl TabledPointer {
         self.offsets.clear();
     }
 
-    /// The allocator of the table.
+    /// Returns the allocator of the table.
     pub(crate) fn allocator(&self) -> Global {
         *self.offsets.allocator()
     }
 }
 
-/// Puts the tokens of another pointer behind those of a plain one.
+/// Appends the tokens of another pointer to a plain one.
 fn join(plain: &mut PointerBuf, other: Pointer<'_>) -> Result<(), AllocError>
     ensures joined { IfOk result (λ _. plain.new ≡ plain.old ++ tokens other.entry) }
     ensures unchanged { IfErr result (λ _. plain.new ≡ plain.old) }
@@ -301,7 +443,7 @@ fn join(plain: &mut PointerBuf, other: Pointer<'_>) -> Result<(), AllocError>
     Ok(())
 }
 
-/// How many bytes a pointer's text has.
+/// Returns the length of a pointer's text, in bytes.
 fn len_of(plain: &PointerBuf) -> usize
     ensures { result ≡ length (text plain.now) }
 {
@@ -318,7 +460,7 @@ impl Clone for TabledPointer {
     }
 }
 
-/// By the texts; they are equal exactly where the lists of tokens are.
+/// Compares the texts, which are equal exactly if the lists of tokens are.
 impl PartialEq for TabledPointer {
     ghost eq = { λ p q. bytes_eq (text p) (text q) };
 
@@ -346,7 +488,7 @@ impl PartialOrd for TabledPointer {
     }
 }
 
-/// By the bytes of the texts.
+/// Compares the texts by their bytes.
 impl Ord for TabledPointer {
     ghost cmp = { λ p q. slice_cmp nat_cmp (text p) (text q) };
 
@@ -371,7 +513,7 @@ impl Hash for TabledPointer {
     }
 }
 
-/// The text; no memory is taken.
+/// Writes the text. Allocates nothing.
 impl fmt::Display for TabledPointer {
     ghost output = { λ p. Some (text p) };
 

@@ -1,4 +1,4 @@
-//! A pointer's text that is owned, and edited in place. After an error it is unchanged.
+//! A pointer's text that is owned and edited in place. A failed call leaves it unchanged.
 ghost use Rattle.std.specs.Prelude.{◌≡◌, ◌≢◌, ◌<◌, ◌≤◌, [], ◌∷◌, ◌++◌, length, slice_get, slice_set, string_bytes, IsOk, IfOk, IfErr, MatchOption};
 ghost use Rattle.jsonptr_grammar.specs.Text.{text};
 ghost use Rattle.jsonptr_grammar.specs.Grammar.{IsPointer};
@@ -10,7 +10,7 @@ use std::alloc::{AllocError, Global};
 use std::fmt;
 use std::marker::Model;
 
-/// An owned text that is a pointer's (RFC 6901, section 3).
+/// An owned text that is a JSON Pointer (RFC 6901, section 3).
 ///
 /// Contracts see it as the list of its decoded tokens; its text is the text of that list.
 #[derive(Drop)]
@@ -54,7 +54,11 @@ impl PointerTextBuf {
         })
     }
 
-    /// Wraps a text that is known to be a pointer's. Nothing is tested.
+    /// Wraps a text that is known to be a pointer, without checking it.
+    ///
+    /// # Conditions
+    ///
+    /// `s` is a pointer (RFC 6901, section 3).
     pub fn new_unchecked(s: String) -> PointerTextBuf
         requires { IsPointer (string_bytes s) }
         ensures { text result ≡ string_bytes s }
@@ -70,12 +74,12 @@ impl PointerTextBuf {
         PointerText::new(self.inner.as_str())
     }
 
-    /// Returns the allocator that the text is in.
+    /// Returns the allocator of the text.
     pub fn allocator(&self) -> Global {
         *self.inner.allocator()
     }
 
-    /// Makes the text that of the root pointer, and keeps its capacity.
+    /// Makes it the root pointer: removes all tokens, and keeps the capacity.
     pub fn clear(&mut self)
         ensures { self.new ≡ [] }
     {
@@ -123,7 +127,8 @@ impl PointerTextBuf {
         Ok(())
     }
 
-    /// Removes the first token and returns it, or `None` at the root. The rest of the text moves down in place.
+    /// Removes the first token and returns it, or `None` at the root. Moves the rest of the text
+    /// in place.
     ///
     /// # Errors
     ///
@@ -161,12 +166,12 @@ impl PointerTextBuf {
         Ok(Some(last))
     }
 
-    /// Replaces the token at `index` and returns the old one, or `None` if there is no such token, which needs no
-    /// allocation.
+    /// Replaces the token at `index` and returns the old one, or `None` if there is no such token.
     ///
     /// # Errors
     ///
-    /// [`AllocError`] if the allocation of the old token or of a longer text fails.
+    /// [`AllocError`] if the allocation of the old token or of a longer text fails. `None` needs
+    /// none.
     pub fn replace(
         &mut self,
         index: usize,
@@ -198,8 +203,8 @@ impl fmt::Debug for PointerTextBuf {
     }
 }
 
-/// Splits a text around the token at `index`: the tokens before it, that token, and the tokens after it. Returns
-/// `None` if there is no such token.
+/// Splits a text around the token at `index`: the tokens before it, that token, and the tokens
+/// after it. Returns `None` if there is no such token.
 fn split_around<'a>(
     pointer: PointerText<'a>,
     index: usize,
@@ -214,8 +219,8 @@ fn split_around<'a>(
     Some((front, token, rest))
 }
 
-/// Inserts a slash and a token's text before a text. A text without room is written to a new allocation, so that
-/// nothing is moved twice.
+/// Inserts a slash and a token's text before a text. A text without room is written to a new
+/// allocation, so that nothing is moved twice.
 fn insert_segment(text: &mut String, token: &str) -> Result<(), AllocError>
     ensures inserted { IfOk result
         (λ _. string_bytes text.new ≡ 47 ∷ token.now ++ string_bytes text.old) }
@@ -237,7 +242,8 @@ fn insert_segment(text: &mut String, token: &str) -> Result<(), AllocError>
     Ok(())
 }
 
-/// Appends a slash and a token's text to a text. If there is no room for the token, the slash is removed again.
+/// Appends a slash and a token's text to a text. If there is no room for the token, the slash is
+/// removed again.
 #[inline(always)]
 fn push_segment(text: &mut String, token: &str) -> Result<(), AllocError>
     ensures pushed { IfOk result

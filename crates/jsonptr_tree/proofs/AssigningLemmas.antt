@@ -1,11 +1,11 @@
--- What an assignment makes of a document: one map, a tree, and all else as it was.
+-- What an assignment makes of a document: one map, a tree, with all else unchanged.
 use Rattle.std.proofs.Common.{◌≡◌, ◌≢◌, codes, ℕ, suc, ◌<◌, ◌≤◌, max, true, false, List, [], ◌∷◌, ◌++◌, Option, Some, None, option_map, IsSome, ◌↔◌, ◌⊎◌, inl, inr, ⊎_elim, refl, sym, ap, ap₂, ◌∙◌, subst, arith, true≢false, append-nil, append_assoc}
 use mathlib.Core.Path.{fun_ext}
 use Rattle.jsonptr_grammar.specs.Text.{Text, dec}
 use Rattle.jsonptr_tree.specs.Node.{Step, key, place, Path, Scalar, Label, an_object, an_array, a_leaf, NodeMap, sub, NamesStep, Names, MayHave, IsTree, IsListed}
 use Rattle.jsonptr_tree.specs.Following.{Finds, StopsAt}
 use Rattle.jsonptr_tree.specs.Put.{GoesThrough, same_step, rest_after, put}
-use Rattle.jsonptr_tree.specs.Growing.{means_end, grown, LacksDash}
+use Rattle.jsonptr_tree.specs.Growing.{is_append_index, grown, LacksDash}
 use Rattle.jsonptr_tree.specs.Landing.{LandsFrom, Lands, LandsNowhere}
 use Rattle.jsonptr_tree.specs.Assigning.{long_enough, with_room, found_at, Assigns}
 use Rattle.jsonptr_tree.proofs.NodeLemmas.{sub-root, sub-sub, Names-here, Names-root, Names-append, IsTree-sub}
@@ -24,7 +24,7 @@ other_flip s t e = ⊎_elim
     (λ (f : same_step t s ≡ false). f)
     (cases_same t s)
 
--- a node that has the next place is long enough
+-- a node that has the next index is long enough
 pub long_enough_named : (o : Option Label) (x : Text) (t : Step) (p : Path) → NamesStep o x t → long_enough (Some (t ∷ p)) o ≡ o
 long_enough_named None x t p h = absurd h
 long_enough_named (Some an_object) x (key k) p h = refl
@@ -161,7 +161,7 @@ CanHave-MayHave (Some (an_array len)) (place i) h =
     omega arith
 CanHave-MayHave (Some (a_leaf v)) s h = absurd h
 
--- each place of the longer array but the new one was there
+-- each index of the longer array except the new one was there
 place-before : (o : Option Label) (s : Step) (len i : ℕ) → CanHave o s → long_enough (Some (s ∷ [])) o ≡ Some (an_array len) → i < len → same_step s (place i) ≡ false → (k : ℕ) × (o ≡ Some (an_array k)) × (i < k)
 unfolding CanHave
 place-before None s len i h e b f = absurd h
@@ -227,11 +227,11 @@ Assigns-some n tokens v tree = ⊎_elim
 pub Assigns-LandsNowhere : (n : NodeMap) (tokens : List Text) (v m : NodeMap) (old : Option NodeMap) (position offset len : ℕ) (x : Text) → Assigns n tokens v m old → LandsNowhere n tokens position offset len x → ⊥
 Assigns-LandsNowhere n tokens v m old position offset len x a r = Lands-LandsNowhere n tokens position offset len x a.path a.left a.lands r
 
--- the value stands where it lands, grown
+-- the expanded value is where it lands
 pub Assigns-there : (n : NodeMap) (tokens : List Text) (v m : NodeMap) (old : Option NodeMap) (r : Assigns n tokens v m old) → sub m r.path ≡ grown r.left v
 Assigns-there n tokens v m old r = ap (λ (k : NodeMap). sub k r.path) r.made ∙ sub-put (with_room n r.path) r.path (grown r.left v)
 
--- all that stands apart from there stays
+-- all that is apart from there is unchanged
 pub Assigns-frame : (n : NodeMap) (tokens : List Text) (v m : NodeMap) (old : Option NodeMap) (r : Assigns n tokens v m old) (xs : List Text) (q : Path) → Names n xs q → (GoesThrough r.path q → ⊥) → (GoesThrough q r.path → ⊥) → Names m xs q × (sub m q ≡ sub n q)
 Assigns-frame n tokens v m old r xs q h a b = subst (λ (k : NodeMap). Names k xs q × (sub k q ≡ sub n q)) (sym r.made) (made_frame n r.path (grown r.left v) xs q h a b)
 
@@ -261,7 +261,7 @@ Assigns-tree n tokens v m old tree new r = subst IsTree (sym r.made) (IsTree-fro
 
 -- by where it lands
 
--- what stands at a node
+-- the map at a node
 pub found_at-some : (n : NodeMap) (w : Path) → IsSome (n w) → found_at n w ≡ Some (sub n w)
 found_at-some n w h = at (n w) h
   where
@@ -321,8 +321,8 @@ Assigns_object n tokens front x rest v w s e = record {
       (cases_some (n (w ++ key x ∷ [])))));
 }
 
--- behind the elements of an array
-pub Assigns_end : (n : NodeMap) (tokens front : List Text) (x : Text) (rest : List Text) (v : NodeMap) (w : Path) (len : ℕ) → IsTree n → StopsAt n tokens front w (x ∷ rest) → n w ≡ Some (an_array len) → means_end len x ≡ true → Assigns n tokens v (made n (w ++ place len ∷ []) (grown rest v)) None
+-- after the elements of an array
+pub Assigns_end : (n : NodeMap) (tokens front : List Text) (x : Text) (rest : List Text) (v : NodeMap) (w : Path) (len : ℕ) → IsTree n → StopsAt n tokens front w (x ∷ rest) → n w ≡ Some (an_array len) → is_append_index len x ≡ true → Assigns n tokens v (made n (w ++ place len ∷ []) (grown rest v)) None
 Assigns_end n tokens front x rest v w len tree s e h = record {
   path = w ++ place len ∷ [];
   left = rest;
@@ -338,7 +338,7 @@ Assigns_end n tokens front x rest v w len tree s e h = record {
     past h = omega arith
 
 -- the same, seen in the map below the array
-pub Assigns_end_below : (n : NodeMap) (tokens front : List Text) (x : Text) (rest : List Text) (v : NodeMap) (w : Path) (len : ℕ) → IsTree n → StopsAt n tokens front w (x ∷ rest) → n w ≡ Some (an_array len) → means_end len x ≡ true → Assigns n tokens v (put n w (made (sub n w) (place len ∷ []) (grown rest v))) None
+pub Assigns_end_below : (n : NodeMap) (tokens front : List Text) (x : Text) (rest : List Text) (v : NodeMap) (w : Path) (len : ℕ) → IsTree n → StopsAt n tokens front w (x ∷ rest) → n w ≡ Some (an_array len) → is_append_index len x ≡ true → Assigns n tokens v (put n w (made (sub n w) (place len ∷ []) (grown rest v))) None
 Assigns_end_below n tokens front x rest v w len tree s e h = subst (λ (m : NodeMap). Assigns n tokens v m None) (made_below n front w (place len ∷ []) (grown rest v) s.named) (Assigns_end n tokens front x rest v w len tree s e h)
 
 -- and in the map below the object
@@ -361,10 +361,10 @@ Assigns-leaf n tokens front x rest v m old w a s e = Assigns-iff n tokens v (put
 pub Assigns-object : (n : NodeMap) (tokens front : List Text) (x : Text) (rest : List Text) (v m : NodeMap) (old : Option NodeMap) (w : Path) → StopsAt n tokens front w (x ∷ rest) → n w ≡ Some an_object → Assigns n tokens v m old ↔ ((m ≡ put n (w ++ key x ∷ []) (grown rest v)) × (old ≡ None))
 Assigns-object n tokens front x rest v m old w s e = Assigns-iff n tokens v (put n (w ++ key x ∷ []) (grown rest v)) None (Assigns_object n tokens front x rest v w s e) m old
 
-pub Assigns-end : (n : NodeMap) (tokens front : List Text) (x : Text) (rest : List Text) (v m : NodeMap) (old : Option NodeMap) (w : Path) (len : ℕ) → IsTree n → StopsAt n tokens front w (x ∷ rest) → n w ≡ Some (an_array len) → means_end len x ≡ true → Assigns n tokens v m old ↔ ((m ≡ put (with_room n (w ++ place len ∷ [])) (w ++ place len ∷ []) (grown rest v)) × (old ≡ None))
+pub Assigns-end : (n : NodeMap) (tokens front : List Text) (x : Text) (rest : List Text) (v m : NodeMap) (old : Option NodeMap) (w : Path) (len : ℕ) → IsTree n → StopsAt n tokens front w (x ∷ rest) → n w ≡ Some (an_array len) → is_append_index len x ≡ true → Assigns n tokens v m old ↔ ((m ≡ put (with_room n (w ++ place len ∷ [])) (w ++ place len ∷ []) (grown rest v)) × (old ≡ None))
 Assigns-end n tokens front x rest v m old w len tree s e h = Assigns-iff n tokens v (made n (w ++ place len ∷ []) (grown rest v)) None (Assigns_end n tokens front x rest v w len tree s e h) m old
 
--- labels on the way
+-- labels on the path
 
 made_above : (n : NodeMap) (w : Path) (s : Step) (u : Path) (v : NodeMap) → made n (w ++ s ∷ u) v w ≡ long_enough (Some (s ∷ u)) (n w)
 made_above n w s u v = put_none (with_room n (w ++ s ∷ u)) (w ++ s ∷ u) v w (rest_after-shorter w s u) ∙ ap (λ (r : Option Path). long_enough r (n w)) (rest_after-append w (s ∷ u))
@@ -380,11 +380,11 @@ long_enough_child (Some (an_array len)) (place i) u h =
     ap (λ (k : ℕ). Some (an_array k)) same
 long_enough_child (Some (a_leaf v)) s u h = absurd h
 
--- a node on the way keeps its label, if it may have the next step
+-- a node on the path keeps its label, if it may have the next step
 pub Assigns-above : (n : NodeMap) (tokens : List Text) (v m : NodeMap) (old : Option NodeMap) (r : Assigns n tokens v m old) (w : Path) (s : Step) (u : Path) → r.path ≡ w ++ s ∷ u → MayHave (n w) s → m w ≡ n w
 Assigns-above n tokens v m old r w s u e h = ap (λ (k : NodeMap). k w) (r.made ∙ ap (λ (p : Path). made n p (grown r.left v)) e) ∙ made_above n w s u (grown r.left v) ∙ long_enough_child (n w) s u h
 
--- an array has one element more, if the value lands behind its last
+-- an array has one more element, if the value lands after its last
 pub Assigns-longer : (n : NodeMap) (tokens : List Text) (v m : NodeMap) (old : Option NodeMap) (r : Assigns n tokens v m old) (w : Path) (len : ℕ) → r.path ≡ w ++ place len ∷ [] → n w ≡ Some (an_array len) → m w ≡ Some (an_array (suc len))
 Assigns-longer n tokens v m old r w len e l =
     let more : max len (suc len) ≡ suc len = omega arith in
@@ -408,8 +408,8 @@ Finds-child n x xs s u v h f = record {
   below = f.below ∙ ap (λ (k : NodeMap). sub k f.path) (sym (made-step n s [] u));
 }
 
--- the token that means the end of an array and is not `-` names the new element
-names_end : (len : ℕ) (x : Text) → means_end len x ≡ true → x ≢ codes "-" → NamesStep (long_enough (Some (place len ∷ [])) (Some (an_array len))) x (place len)
+-- the token for the end of an array that is not `-` names the new element
+names_end : (len : ℕ) (x : Text) → is_append_index len x ≡ true → x ≢ codes "-" → NamesStep (long_enough (Some (place len ∷ [])) (Some (an_array len))) x (place len)
 names_end len x h dash = (omega arith, ⊎_elim (λ (e : x ≡ codes "-"). absurd (dash e)) (λ (e : x ≡ dec len). e) (means_end-cases len x h))
 
 Finds-from : (n : NodeMap) (front : List Text) (w : Path) (rest : List Text) (p : Path) (left : List Text) (v : NodeMap) (l : Option Label) → IsSome (v []) → LacksDash rest → Names n front w → n w ≡ l → LandsFrom w l rest p left → Finds (made n p (grown left v)) (front ++ rest) v
@@ -434,7 +434,7 @@ Finds-from n front w (x ∷ rest) p left v (Some (a_leaf a)) i dash h e r =
     let all = Finds-below n front (x ∷ rest) w (grown (x ∷ rest) v) v h root inner in
     subst (λ (ts : List Text). Finds (made n p (grown ts v)) (front ++ x ∷ rest) v) (sym r.1) (subst (λ (u : Path). Finds (made n u (grown (x ∷ rest) v)) (front ++ x ∷ rest) v) (sym r.0) (subst (λ (k : NodeMap). Finds k (front ++ x ∷ rest) v) (sym (made_named n front w (grown (x ∷ rest) v) h)) all))
 
--- tokens of which none is `-` find the value that was assigned at them
+-- tokens without `-` find the value that was assigned at them
 pub Assigns-Finds : (n : NodeMap) (tokens : List Text) (v m : NodeMap) (old : Option NodeMap) → Assigns n tokens v m old → LacksDash tokens → IsSome (v []) → Finds m tokens v
 Assigns-Finds n tokens v m old r dash i =
     let s = r.lands.stops in

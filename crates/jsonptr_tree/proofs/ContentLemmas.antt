@@ -21,7 +21,7 @@ pub content_at-append : (w v : Path) (d : Content) → content_at (w ++ v) d ≡
 content_at-append [] v d = refl
 content_at-append (s ∷ w) v d = and_then_from (content_at (w ++ v)) (content_at w) (content_at v) (content_at-append w v) (child s d)
 
--- the same where content stands at the path
+-- the same where there is content at the path
 pub content_at-below : (w v : Path) (d e : Content) → content_at w d ≡ Some e → content_at (w ++ v) d ≡ content_at v e
 content_at-below w v d e h = content_at-append w v d ∙ ap (option_and_then (content_at v)) h
 
@@ -37,7 +37,7 @@ content_at-push w s d e h = content_at-below w (s ∷ []) d e h ∙ and_then_som
 pub map_of-sub : (w : Path) (d e : Content) → content_at w d ≡ Some e → map_of e ≡ sub (map_of d) w
 map_of-sub w d e h = fun_ext (λ (p : Path). ap (option_map label_of) (sym (content_at-below w p d e h)))
 
--- where the map has a node, content stands
+-- where the map has a node there is content
 pub content_at-there : (w : Path) (d : Content) → IsSome (map_of d w) → (e : Content) × (content_at w d ≡ Some e)
 content_at-there w d h = there (content_at w d) h
   where
@@ -56,7 +56,7 @@ FindsContent_one d tokens e f h k =
     let both : Some e ≡ Some f = sym h.there ∙ ap (λ (w : Path). content_at w d) same ∙ k.there in
     cc both
 
--- where each child is what some value holds, so is all that stands at a path
+-- if each child is what some value holds, then so is the content at each path
 pub content_at-of : {D : Type 0} (content : D → Content) → ((s : Step) (d : D) (c : Content) → child s (content d) ≡ Some c → (e : D) × (c ≡ content e)) → (w : Path) (d : D) (c : Content) → content_at w (content d) ≡ Some c → (e : D) × (c ≡ content e)
 content_at-of content of_child [] d c h = let same : c ≡ content d = cc in (d, same)
 content_at-of {D} content of_child (s ∷ w) d c h = below (λ e. content_at-of content of_child w e c) (child s (content d)) refl h
@@ -123,7 +123,7 @@ mutual
   paths (array ds) = [] ∷ item_paths 0 ds
   paths (object ms) = [] ∷ member_paths ms
 
-  -- of the elements from place i on
+  -- of the elements from index i on
   item_paths : ℕ → Items → List Path
   item_paths i no_items = []
   item_paths i (item d ds) = map (λ (w : Path). place i ∷ w) (paths d) ++ item_paths (suc i) ds

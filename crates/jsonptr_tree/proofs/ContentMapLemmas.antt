@@ -1,4 +1,4 @@
--- Two contents with one map are one, where the keys of their objects ascend.
+-- Two contents with one map are equal, if the keys of their objects are sorted.
 use Rattle.std.proofs.Common.{◌≡◌, ℕ, suc, Bool, true, false, cond, Ordering, Less, Equal, Greater, nat_cmp, is_eq, bytes_eq, [], ◌∷◌, Option, Some, None, option_and_then, option_map, refl, sym, ap, ap₂, ◌∙◌, subst}
 use mathlib.Core.Path.{fun_ext}
 use Rattle.std.specs.Cmp.Lexicographic.{slice_cmp}
@@ -8,7 +8,7 @@ use Rattle.std.proofs.lemmas.Map.Text.{is_eq-slice_cmp}
 use Rattle.std.proofs.lemmas.Slice.Eq.{bytes_eq-Decides}
 use Rattle.jsonptr_grammar.specs.Text.{Text}
 use Rattle.jsonptr_tree.specs.Node.{Scalar, key, place, Path, Label, a_leaf, NodeMap}
-use Rattle.jsonptr_tree.specs.Content.{Content, scalar, array, object, Items, no_items, item, Members, no_members, member, get_item, get_member, label_of, content_at, map_of, KeysAbove, InOrder, ItemsInOrder, MembersInOrder}
+use Rattle.jsonptr_tree.specs.Content.{Content, scalar, array, object, Items, no_items, item, Members, no_members, member, get_item, get_member, label_of, content_at, map_of, KeysAbove, SortedContent, SortedItems, SortedMembers}
 
 -- the label at a path, if there is one
 seen : Path → Option Content → Option Label
@@ -54,7 +54,7 @@ tails q k d e ms fs p h g same = by_test (bytes_eq q k) refl
         ∙ sym (ap (seen p) (subst (λ (l : Text). KeysAbove l fs → get_member l fs ≡ None) (sym one) (above_none k fs) (subst (λ (l : Text). KeysAbove l fs) (sym one) g)))
     by_test false is = subst (λ (b : Bool). seen p (cond b (Some d) (get_member q ms)) ≡ seen p (cond b (Some e) (get_member q fs))) is same
 
--- a scalar's label tells it
+-- a scalar's label determines it
 leaf_only : (e : Content) (v : Scalar) → label_of e ≡ a_leaf v → e ≡ scalar v
 leaf_only (scalar u) v h = let same : u ≡ v = cc in ap scalar same
 leaf_only (array ds) v h = cc
@@ -68,7 +68,7 @@ same_root d e h =
 mutual
   unfolding seen
 
-  same_content : (d e : Content) → InOrder d → InOrder e → map_of d ≡ map_of e → d ≡ e
+  same_content : (d e : Content) → SortedContent d → SortedContent e → map_of d ≡ map_of e → d ≡ e
   same_content (scalar v) e a b h = sym (leaf_only e v (same_root (scalar v) e h))
   same_content (array ds) (scalar v) a b h = absurd (other (same_root (array ds) (scalar v) h))
     where
@@ -89,14 +89,14 @@ mutual
       other f = cc
   same_content (object ms) (object fs) a b h = ap object (same_members ms fs a b (λ k p. ap (λ (n : NodeMap). n (key k ∷ p)) h))
 
-  same_items : (ds es : Items) → ItemsInOrder ds → ItemsInOrder es → ((i : ℕ) (p : Path) → seen p (get_item i ds) ≡ seen p (get_item i es)) → ds ≡ es
+  same_items : (ds es : Items) → SortedItems ds → SortedItems es → ((i : ℕ) (p : Path) → seen p (get_item i ds) ≡ seen p (get_item i es)) → ds ≡ es
   same_items no_items no_items a b h = refl
   same_items no_items (item e es) a b h = not_there (Some e) None e (sym (h 0 [])) refl refl
   same_items (item d ds) no_items a b h = not_there (Some d) None d (h 0 []) refl refl
   same_items (item d ds) (item e es) a b h =
       ap₂ item (same_content d e a.0 b.0 (fun_ext (h 0))) (same_items ds es a.1 b.1 (λ i p. h (suc i) p))
 
-  same_members : (ms fs : Members) → MembersInOrder ms → MembersInOrder fs → ((k : Text) (p : Path) → seen p (get_member k ms) ≡ seen p (get_member k fs)) → ms ≡ fs
+  same_members : (ms fs : Members) → SortedMembers ms → SortedMembers fs → ((k : Text) (p : Path) → seen p (get_member k ms) ≡ seen p (get_member k fs)) → ms ≡ fs
   same_members no_members no_members a b h = refl
   same_members no_members (member l e fs) a b h = not_there (get_member l (member l e fs)) None e (sym (h l [])) (first_found l e fs) refl
   same_members (member k d ms) no_members a b h = not_there (get_member k (member k d ms)) None d (h k []) (first_found k d ms) refl
@@ -115,6 +115,6 @@ mutual
           let left : ms ≡ fs = rest (λ q p. tails q k d e ms fs p a.1 above (all q p)) in
           cc
 
--- two contents with one map are one
-pub map_of_one : (d e : Content) → InOrder d → InOrder e → map_of d ≡ map_of e → d ≡ e
+-- two contents with one map are equal
+pub map_of_one : (d e : Content) → SortedContent d → SortedContent e → map_of d ≡ map_of e → d ≡ e
 map_of_one = same_content

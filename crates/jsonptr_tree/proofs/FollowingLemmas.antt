@@ -1,4 +1,4 @@
--- Where following a list of tokens stops: that it stops at one place, at which place, and that it does.
+-- Where following a list of tokens stops: that this is unique, where it is, and that it exists.
 use Rattle.std.proofs.Common.{◌≡◌, ℕ, zero, suc, ◌+◌, ◌<◌, ◌≤◌, Bool, true, false, bytes_eq, is_some, List, [], ◌∷◌, ◌++◌, length, Option, Some, None, IsSome, ◌↔◌, ◌⊎◌, inl, inr, ⊎_elim, refl, sym, ap, ap₂, ◌∙◌, subst, arith, append-nil, append_assoc, length-append, true≢false}
 use Rattle.std.proofs.lemmas.Bool.{cases_lt}
 use Rattle.std.proofs.lemmas.Slice.Eq.{bytes_eq-Decides}
@@ -9,7 +9,7 @@ use Rattle.jsonptr_tree.proofs.NodeLemmas.{sub-root, NamesStep_one_step, Names-h
 
 -- lists with one beginning
 
--- a longer front of one list goes on with the next element
+-- a longer prefix of one list continues with the next element
 longer_front : {A : Type 0} (front : List A) (x : A) (rest longer after : List A) → front ++ x ∷ rest ≡ longer ++ after → length front < length longer → (more : List A) × (longer ≡ front ++ x ∷ more)
 longer_front [] x rest [] after e h = absurd (omega arith)
 longer_front [] x rest (y ∷ ys) after e h = (ys, cc)
@@ -19,7 +19,7 @@ longer_front (f ∷ front) x rest (y ∷ ys) after e h =
     let same : y ≡ f = cc in
     (r.0, ap₂ (λ z zs. z ∷ zs) same r.1)
 
--- fronts of one length are one front
+-- prefixes of equal length are equal
 same_front : {A : Type 0} (xs ys us vs : List A) → xs ++ us ≡ ys ++ vs → length xs ≡ length ys → (xs ≡ ys) × (us ≡ vs)
 same_front [] [] us vs e h = (refl, e)
 same_front [] (y ∷ ys) us vs e h = absurd (omega arith)
@@ -31,7 +31,7 @@ same_front (x ∷ xs) (y ∷ ys) us vs e h =
 
 -- stopping
 
--- where no child is the one that x names, no longer front names a path
+-- if x names no child, then no longer prefix names a path
 no_longer : (n : NodeMap) (front : List Text) (x : Text) (more : List Text) (w v : Path) → Names n front w → LacksStep n w x → Names n (front ++ x ∷ more) v → ⊥
 no_longer n [] x more [] [] h lacks k = k
 no_longer n [] x more [] (s ∷ v) h lacks k = lacks s k.0 (Names-root (sub n (s ∷ [])) more v k.1)
@@ -42,7 +42,7 @@ no_longer n (y ∷ front) x more (t ∷ w) (s ∷ v) h lacks k =
     let e : s ≡ t = NamesStep_one_step (n []) y s t k.0 h.0 in
     no_longer (sub n (t ∷ [])) front x more w v h.1 lacks (subst (λ (r : Step). Names (sub n (r ∷ [])) (front ++ x ∷ more) v) e k.1)
 
--- following stops at a front after which no child is the one that the next token names
+-- following stops at a prefix after which the next token names no child
 pub stops_here : (n : NodeMap) (front : List Text) (x : Text) (rest : List Text) (w : Path) → Names n front w → LacksStep n w x → StopsAt n (front ++ x ∷ rest) front w (x ∷ rest)
 stops_here n front x rest w h lacks = record {
   split = refl;
@@ -55,7 +55,7 @@ stops_here n front x rest w h lacks = record {
       (cases_lt (length front) (length longer));
 }
 
--- the same of tokens that are split so
+-- the same for tokens that are split so
 pub stops_in : (n : NodeMap) (tokens front : List Text) (x : Text) (rest : List Text) (w : Path) → tokens ≡ front ++ x ∷ rest → Names n front w → LacksStep n w x → StopsAt n tokens front w (x ∷ rest)
 stops_in n tokens front x rest w e h lacks = subst (λ (ts : List Text). StopsAt n ts front w (x ∷ rest)) (sym e) (stops_here n front x rest w h lacks)
 
@@ -79,11 +79,11 @@ place_absent : (len : ℕ) (x : Text) (s : Step) → ((i : ℕ) → i < len → 
 place_absent len x (key k) none h = h
 place_absent len x (place i) none h = none i h.0 h.1
 
--- an array has no place of which x is the decimal text
+-- an array has no index of which x is the decimal text
 pub lacks_at_array : (n : NodeMap) (w : Path) (x : Text) (len : ℕ) → n w ≡ Some (an_array len) → ((i : ℕ) → i < len → x ≡ dec i → ⊥) → LacksStep n w x
 lacks_at_array n w x len e none s h i = place_absent len x s none (subst (λ (o : Option Label). NamesStep o x s) e h)
 
--- an array has no place i, of which x is the decimal text
+-- an array has no index i, of which x is the decimal text
 pub lacks_past_array : (n : NodeMap) (w : Path) (x : Text) (len i : ℕ) → n w ≡ Some (an_array len) → x ≡ dec i → len ≤ i → LacksStep n w x
 lacks_past_array n w x len i e d past = lacks_at_array n w x len e (λ j h f.
     let here : NamesStep (Some (an_array (suc (i + j)))) x (place i) = (omega arith, d) in
@@ -92,7 +92,7 @@ lacks_past_array n w x len i e d past = lacks_at_array n w x len e (λ j h f.
     let one : i ≡ j = cc same in
     omega arith)
 
--- following stops before x, behind a front that names w
+-- following stops before x, after a prefix that names w
 pub stops_before : (n : NodeMap) (tokens front : List Text) (x : Text) (rest : List Text) (w : Path) (label : Label) → tokens ≡ front ++ x ∷ rest → Names n front w → n w ≡ Some label → LacksStep n w x → StopsBefore n tokens (length front) (length (text front)) label x
 stops_before n tokens front x rest w label e h is lacks = record {
   front = front;
@@ -112,13 +112,13 @@ stops-lacks n tokens front x rest w r s h i =
     let long : length (front ++ x ∷ []) ≡ length front + 1 = length-append front (x ∷ []) in
     omega arith
 
--- so it stops where the front before names a path, and the next token no child there
+-- so it stops where the prefix names a path, and the next token no child there
 pub StopsAt-iff : (n : NodeMap) (tokens front : List Text) (x : Text) (rest : List Text) (w : Path) → StopsAt n tokens front w (x ∷ rest) ↔ ((tokens ≡ front ++ x ∷ rest) × Names n front w × LacksStep n w x)
 StopsAt-iff n tokens front x rest w = (λ r. (r.split, r.named, stops-lacks n tokens front x rest w r), λ r. stops_in n tokens front x rest w r.0 r.1 r.2)
 
--- one place to stop
+-- one position to stop
 
--- following stops at one front, with one path and one rest
+-- following stops at one prefix, with one path and one rest
 pub StopsAt_one : (n : NodeMap) (tokens f g : List Text) (w v : Path) (r q : List Text) → StopsAt n tokens f w r → StopsAt n tokens g v q → (f ≡ g) × (w ≡ v) × (r ≡ q)
 StopsAt_one n tokens f g w v r q a b =
     let above : length g ≤ length f = a.longest g q v b.split b.named in
@@ -156,7 +156,7 @@ Finds-StopsBefore n tokens m p o l x a r = Names-StopsBefore n tokens a.path p o
 pub StopsBefore-object : (n : NodeMap) (tokens : List Text) (p o : ℕ) (x : Text) (r : StopsBefore n tokens p o an_object x) → IsSome (n (r.path ++ key x ∷ [])) → ⊥
 StopsBefore-object n tokens p o x r i = stops-lacks n tokens r.front x r.rest r.path r.stops (key x) (subst (λ (l : Option Label). NamesStep l x (key x)) (sym r.label_is) refl) i
 
--- at an array of a tree, the token is the decimal text of no place
+-- at an array of a tree, the token is not the decimal text of an index
 pub StopsBefore-array : (n : NodeMap) (tokens : List Text) (p o len i : ℕ) (x : Text) → IsTree n → StopsBefore n tokens p o (an_array len) x → i < len → x ≡ dec i → ⊥
 StopsBefore-array n tokens p o len i x tree r h e = stops-lacks n tokens r.front x r.rest r.path r.stops (place i) (subst (λ (l : Option Label). NamesStep l x (place i)) (sym r.label_is) (h, e)) (tree.full r.path len i r.label_is h)
 
@@ -210,7 +210,7 @@ cases_step n w x tree = go (n w) refl
     go (Some (an_array len)) e = element len e (cases_dec len x)
     go (Some (a_leaf v)) e = inr (lacks_at_leaf n w x v e)
 
--- from a front that names w, the tokens name a path, or following stops before one of them
+-- after a prefix that names w, the tokens name a path, or following stops before one of them
 Follows : NodeMap → List Text → Type 0
 Follows n tokens = ((w : Path) × Names n tokens w) ⊎ ((p o : ℕ) × (l : Label) × (x : Text) × StopsBefore n tokens p o l x)
 

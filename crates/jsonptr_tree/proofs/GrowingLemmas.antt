@@ -1,11 +1,11 @@
--- What tokens grow round a value: a tree, in which they find it.
+-- What tokens expand a value to: a tree, in which they find it.
 use Rattle.std.proofs.Common.{◌≡◌, ◌≢◌, codes, ℕ, ◌<◌, Bool, true, false, cond, is_some, List, [], ◌∷◌, map, Contains, Option, Some, None, IsSome, ◌⊎◌, inl, inr, ⊎_elim, refl, sym, ap, ◌∙◌, subst, arith, true≢false}
 use mathlib.Core.Path.{fun_ext}
 use Rattle.jsonptr_grammar.specs.Text.{Text, dec}
 use Rattle.jsonptr_tree.specs.Node.{Step, key, place, Path, Label, an_object, an_array, NodeMap, sub, Names, MayHave, IsTree, IsListed}
 use Rattle.jsonptr_tree.specs.Following.{Finds}
 use Rattle.jsonptr_tree.specs.Put.{same_step}
-use Rattle.jsonptr_tree.specs.Growing.{means_end, with_one, grown, LacksDash}
+use Rattle.jsonptr_tree.specs.Growing.{is_append_index, with_one, grown, LacksDash}
 use Rattle.jsonptr_tree.proofs.PutLemmas.{same_step-refl, cases_same}
 use Rattle.jsonptr_tree.proofs.ListedLemmas.{Contains-cons, Contains-map}
 use Rattle.jsonptr_tree.proofs.TreeLemmas.{IsTree-level}
@@ -33,10 +33,10 @@ IsTree-with_one l s m may only tree = IsTree-level (with_one l s m) refl child f
         let here : s ≡ place i = only len i (cc) b in
         subst (λ (a : Step). IsSome (with_one l s m (a ∷ []))) here (subst (λ (k : NodeMap). IsSome (k [])) (sym (with_one-step l s m)) tree.root)
 
--- what tokens grow round a tree
+-- what tokens expand a tree to
 pub IsTree-grown : (xs : List Text) (v : NodeMap) → IsTree v → IsTree (grown xs v)
 IsTree-grown [] v tree = tree
-IsTree-grown (x ∷ xs) v tree = go (means_end 0 x) (IsTree-grown xs v tree)
+IsTree-grown (x ∷ xs) v tree = go (is_append_index 0 x) (IsTree-grown xs v tree)
   where
     first : (len i : ℕ) → an_array 1 ≡ an_array len → i < len → place 0 ≡ place i
     first len i e b =
@@ -66,7 +66,7 @@ IsListed-with_one l s m h = ([] ∷ map (λ (p : Path). s ∷ p) h.0, listed)
 
 pub IsListed-grown : (xs : List Text) (v : NodeMap) → IsListed v → IsListed (grown xs v)
 IsListed-grown [] v h = h
-IsListed-grown (x ∷ xs) v h = go (means_end 0 x) (IsListed-grown xs v h)
+IsListed-grown (x ∷ xs) v h = go (is_append_index 0 x) (IsListed-grown xs v h)
   where
     go : (b : Bool) → IsListed (grown xs v) → IsListed (cond b (with_one (an_array 1) (place 0) (grown xs v)) (with_one an_object (key x) (grown xs v)))
     go true inner = IsListed-with_one (an_array 1) (place 0) (grown xs v) inner
@@ -74,9 +74,9 @@ IsListed-grown (x ∷ xs) v h = go (means_end 0 x) (IsListed-grown xs v h)
 
 -- in words
 
--- the token that means the end of no elements grows an array of one
+-- a token for the end of an empty array makes an array of one element
 pub grown_array : (x : Text) (xs : List Text) (v : NodeMap) → (x ≡ codes "-") ⊎ (x ≡ codes "0") → (grown (x ∷ xs) v [] ≡ Some (an_array 1)) × (sub (grown (x ∷ xs) v) (place 0 ∷ []) ≡ grown xs v)
-grown_array x xs v h = go (means_end 0 x) (⊎_elim (λ (e : x ≡ codes "-"). means_end-dash 0 x e) (λ (e : x ≡ dec 0). means_end-dec 0 x e) h)
+grown_array x xs v h = go (is_append_index 0 x) (⊎_elim (λ (e : x ≡ codes "-"). means_end-dash 0 x e) (λ (e : x ≡ dec 0). means_end-dec 0 x e) h)
   where
     go : (b : Bool) → b ≡ true → (cond b (with_one (an_array 1) (place 0) (grown xs v)) (with_one an_object (key x) (grown xs v)) [] ≡ Some (an_array 1)) × (sub (cond b (with_one (an_array 1) (place 0) (grown xs v)) (with_one an_object (key x) (grown xs v))) (place 0 ∷ []) ≡ grown xs v)
     go true e = (refl, with_one-step (an_array 1) (place 0) (grown xs v))
@@ -84,7 +84,7 @@ grown_array x xs v h = go (means_end 0 x) (⊎_elim (λ (e : x ≡ codes "-"). m
 
 -- every other an object of one member
 pub grown_object : (x : Text) (xs : List Text) (v : NodeMap) → x ≢ codes "-" → x ≢ codes "0" → (grown (x ∷ xs) v [] ≡ Some an_object) × (sub (grown (x ∷ xs) v) (key x ∷ []) ≡ grown xs v) × ((k : Text) → k ≢ x → grown (x ∷ xs) v (key k ∷ []) ≡ None)
-grown_object x xs v dash nought = go (means_end 0 x) refl
+grown_object x xs v dash nought = go (is_append_index 0 x) refl
   where
     other : (k : Text) → k ≢ x → with_one an_object (key x) (grown xs v) (key k ∷ []) ≡ None
     other k apart = ⊎_elim
@@ -92,21 +92,21 @@ grown_object x xs v dash nought = go (means_end 0 x) refl
         (λ (e : same_step (key x) (key k) ≡ false). with_one-other an_object (key x) (key k) (grown xs v) [] e)
         (cases_same (key x) (key k))
 
-    go : (b : Bool) → means_end 0 x ≡ b → (cond b (with_one (an_array 1) (place 0) (grown xs v)) (with_one an_object (key x) (grown xs v)) [] ≡ Some an_object) × (sub (cond b (with_one (an_array 1) (place 0) (grown xs v)) (with_one an_object (key x) (grown xs v))) (key x ∷ []) ≡ grown xs v) × ((k : Text) → k ≢ x → cond b (with_one (an_array 1) (place 0) (grown xs v)) (with_one an_object (key x) (grown xs v)) (key k ∷ []) ≡ None)
+    go : (b : Bool) → is_append_index 0 x ≡ b → (cond b (with_one (an_array 1) (place 0) (grown xs v)) (with_one an_object (key x) (grown xs v)) [] ≡ Some an_object) × (sub (cond b (with_one (an_array 1) (place 0) (grown xs v)) (with_one an_object (key x) (grown xs v))) (key x ∷ []) ≡ grown xs v) × ((k : Text) → k ≢ x → cond b (with_one (an_array 1) (place 0) (grown xs v)) (with_one an_object (key x) (grown xs v)) (key k ∷ []) ≡ None)
     go true e = absurd (⊎_elim (λ (d : x ≡ codes "-"). dash d) (λ (d : x ≡ dec 0). nought d) (means_end-cases 0 x e))
     go false e = (refl, with_one-step an_object (key x) (grown xs v), other)
 
 -- finding
 
--- tokens of which none is `-` find the value in what they grow
+-- tokens without `-` find the value in what they expand it to
 pub Finds-grown : (xs : List Text) (v : NodeMap) → LacksDash xs → IsSome (v []) → Finds (grown xs v) xs v
 Finds-grown [] v dash i = record { path = []; named = i; below = refl }
-Finds-grown (x ∷ xs) v dash i = go (means_end 0 x) refl (Finds-grown xs v (λ ys zs e. dash (x ∷ ys) zs (ap (λ (ts : List Text). x ∷ ts) e)) i)
+Finds-grown (x ∷ xs) v dash i = go (is_append_index 0 x) refl (Finds-grown xs v (λ ys zs e. dash (x ∷ ys) zs (ap (λ (ts : List Text). x ∷ ts) e)) i)
   where
-    is_zero : means_end 0 x ≡ true → x ≡ dec 0
+    is_zero : is_append_index 0 x ≡ true → x ≡ dec 0
     is_zero h = ⊎_elim (λ (e : x ≡ codes "-"). absurd (dash [] xs (ap (λ (t : Text). t ∷ xs) e))) (λ (e : x ≡ dec 0). e) (means_end-cases 0 x h)
 
-    go : (b : Bool) → means_end 0 x ≡ b → Finds (grown xs v) xs v → Finds (cond b (with_one (an_array 1) (place 0) (grown xs v)) (with_one an_object (key x) (grown xs v))) (x ∷ xs) v
+    go : (b : Bool) → is_append_index 0 x ≡ b → Finds (grown xs v) xs v → Finds (cond b (with_one (an_array 1) (place 0) (grown xs v)) (with_one an_object (key x) (grown xs v))) (x ∷ xs) v
     go true e f = record {
       path = place 0 ∷ f.path;
       named = ((omega arith, is_zero e), subst (λ (k : NodeMap). Names k xs f.path) (sym (with_one-step (an_array 1) (place 0) (grown xs v))) f.named);

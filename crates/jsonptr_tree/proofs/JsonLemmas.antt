@@ -9,13 +9,13 @@ use Rattle.jsonptr_grammar.specs.Text.{Text}
 use Rattle.jsonptr_tree.specs.Node.{Step, key, place, Path, of_json, of_toml, sub}
 use Rattle.jsonptr_tree.specs.Following.{Finds}
 use Rattle.jsonptr_tree.specs.Content.{Content, scalar, array, object, Items, no_items, item, Members, no_members, member, get_item, get_member, child}
-use Rattle.jsonptr_tree.specs.Json.{content, items, members, nodes, value_at, FindsValue, KeysAscend}
+use Rattle.jsonptr_tree.specs.Json.{content, items, members, nodes, value_at, FindsValue, HasSortedKeys}
 use Rattle.jsonptr_tree.proofs.ContentLemmas.{content_at-below, map_of-sub, FindsContent-Finds, FindsContent_one, content_at-of}
 use Rattle.jsonptr_tree.proofs.ContentMapLemmas.{map_of_one}
-use Rattle.jsonptr_tree.proofs.ContentOrderLemmas.{part_in_order}
+use Rattle.jsonptr_tree.proofs.ContentOrderLemmas.{part_has_sorted_keys}
 use Rattle.jsonptr_tree.proofs.LevelLemmas.{items_by, members_by}
 
--- what it holds tells the value
+-- what it contains determines the value
 
 mutual
   value : Content → json.Data
@@ -51,11 +51,11 @@ mutual
   entries-members json.no_members = refl
   entries-members (json.member k d ms) = ap₂ (json.member k) (value-content d) (entries-members ms)
 
--- two values that hold the same are one
+-- two values with equal content are equal
 pub content_one : (d e : json.Data) → content d ≡ content e → d ≡ e
 content_one d e h = sym (value-content d) ∙ ap value h ∙ value-content e
 
--- what stands in a value is a value
+-- each part of a value is a value
 
 item_value : (ds : json.Items) (i : ℕ) (c : Content) → get_item i (items ds) ≡ Some c → (e : json.Data) × (c ≡ content e)
 item_value json.no_items i c h = let none : ⊥ = cc in absurd none
@@ -80,11 +80,11 @@ child_value (place i) (json.array ds) c h = item_value ds i c h
 child_value (key k) (json.object ms) c h = member_value k ms c h
 child_value (place i) (json.object ms) c h = let none : ⊥ = cc in absurd none
 
--- what stands at a path of a value is what a value holds
+-- the content at a path of a value is the content of a value
 pub value_at-value : (w : Path) (d : json.Data) (c : Content) → value_at w d ≡ Some c → (e : json.Data) × (c ≡ content e)
 value_at-value = content_at-of content child_value
 
--- what stands below a path
+-- the content below a path
 pub value_at-below : (w v : Path) (d e : json.Data) → value_at w d ≡ Some (content e) → value_at (w ++ v) d ≡ value_at v e
 value_at-below w v d e = content_at-below w v (content d) (content e)
 
@@ -100,13 +100,13 @@ FindsValue-Finds d tokens e = FindsContent-Finds (content d) tokens (content e)
 pub FindsValue_one : (d : json.Data) (tokens : List Text) (e f : json.Data) → FindsValue d tokens e → FindsValue d tokens f → e ≡ f
 FindsValue_one d tokens e f h k = content_one e f (FindsContent_one (content d) tokens (content e) (content f) h k)
 
--- two values with one map are one value
-pub nodes_one : (d e : json.Data) → KeysAscend d → KeysAscend e → nodes d ≡ nodes e → d ≡ e
+-- two values with one map are equal
+pub nodes_one : (d e : json.Data) → HasSortedKeys d → HasSortedKeys e → nodes d ≡ nodes e → d ≡ e
 nodes_one d e a b h = content_one d e (map_of_one (content d) (content e) a b h)
 
--- in each part of a value the keys ascend as they do in the value
-pub ascends_part : (w : Path) (d e : json.Data) → KeysAscend d → value_at w d ≡ Some (content e) → KeysAscend e
-ascends_part w d e = part_in_order w (content d) (content e)
+-- each part of a value with sorted keys has sorted keys
+pub ascends_part : (w : Path) (d e : json.Data) → HasSortedKeys d → value_at w d ≡ Some (content e) → HasSortedKeys e
+ascends_part w d e = part_has_sorted_keys w (content d) (content e)
 
 -- one level of a Rust value
 

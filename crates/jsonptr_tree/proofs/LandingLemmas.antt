@@ -1,4 +1,4 @@
--- Where a value lands: at one place, or at none.
+-- Where a value lands: at one path, or at none.
 use Rattle.std.proofs.Common.{◌≡◌, ◌≢◌, ℕ, zero, suc, ◌+◌, ◌<◌, ◌≤◌, Bool, true, false, bytes_eq, ◌||◌, codes, List, [], ◌∷◌, ◌++◌, map, length, Option, Some, None, ◌⊎◌, inl, inr, ⊎_elim, refl, sym, ap, ◌∙◌, subst, arith, true≢false, append-nil, length-append}
 use Rattle.std.specs.Int.Digits.{digits_of}
 use Rattle.std.proofs.lemmas.Bool.{cases_lt}
@@ -6,7 +6,7 @@ use Rattle.std.proofs.lemmas.Slice.Eq.{bytes_eq-Decides}
 use Rattle.jsonptr_grammar.specs.Text.{Text, dec}
 use Rattle.jsonptr_tree.specs.Node.{key, place, Path, Scalar, Label, an_object, an_array, a_leaf, NodeMap, Names, IsTree}
 use Rattle.jsonptr_tree.specs.Following.{StopsAt, LacksStep, StopsBefore}
-use Rattle.jsonptr_tree.specs.Growing.{means_end}
+use Rattle.jsonptr_tree.specs.Growing.{is_append_index}
 use Rattle.jsonptr_tree.specs.Landing.{LandsFrom, Lands, LandsNowhere}
 use Rattle.jsonptr_tree.proofs.NodeLemmas.{dec_above}
 use Rattle.jsonptr_tree.proofs.FollowingLemmas.{StopsAt_one, lacks_at_array, lacks_past_array, StopsBefore-array, follows}
@@ -25,17 +25,17 @@ or_second : (a b : Bool) → b ≡ true → (a || b) ≡ true
 or_second true b e = refl
 or_second false b e = e
 
--- the token that means the end is `-` or the decimal text of the length
-pub means_end-cases : (len : ℕ) (x : Text) → means_end len x ≡ true → (x ≡ codes "-") ⊎ (x ≡ dec len)
+-- the token for the end is `-` or the decimal text of the length
+pub means_end-cases : (len : ℕ) (x : Text) → is_append_index len x ≡ true → (x ≡ codes "-") ⊎ (x ≡ dec len)
 means_end-cases len x e = ⊎_elim
     (λ (a : bytes_eq x (codes "-") ≡ true). inl ((bytes_eq-Decides x (codes "-")).0 a))
     (λ (b : bytes_eq x (dec len) ≡ true). inr ((bytes_eq-Decides x (dec len)).0 b))
     (or_cases (bytes_eq x (codes "-")) (bytes_eq x (dec len)) e)
 
-pub means_end-dash : (len : ℕ) (x : Text) → x ≡ codes "-" → means_end len x ≡ true
+pub means_end-dash : (len : ℕ) (x : Text) → x ≡ codes "-" → is_append_index len x ≡ true
 means_end-dash len x e = or_first (bytes_eq x (codes "-")) (bytes_eq x (dec len)) ((bytes_eq-Decides x (codes "-")).1 e)
 
-pub means_end-dec : (len : ℕ) (x : Text) → x ≡ dec len → means_end len x ≡ true
+pub means_end-dec : (len : ℕ) (x : Text) → x ≡ dec len → is_append_index len x ≡ true
 means_end-dec len x e = or_second (bytes_eq x (codes "-")) (bytes_eq x (dec len)) ((bytes_eq-Decides x (dec len)).1 e)
 
 -- no decimal text is `-`
@@ -55,7 +55,7 @@ dec_no_dash zero e = apart 45 48 (omega arith) e
 dec_no_dash (suc i) e = no_dash_digits (digits_of 10 (suc i)) (e ∙ dec_above (suc i) (omega arith))
 
 -- an array has no element at its end
-pub lacks_at_end : (n : NodeMap) (w : Path) (x : Text) (len : ℕ) → n w ≡ Some (an_array len) → means_end len x ≡ true → LacksStep n w x
+pub lacks_at_end : (n : NodeMap) (w : Path) (x : Text) (len : ℕ) → n w ≡ Some (an_array len) → is_append_index len x ≡ true → LacksStep n w x
 lacks_at_end n w x len e h = ⊎_elim
     (λ (a : x ≡ codes "-"). lacks_at_array n w x len e (λ i below d. dec_no_dash i (sym a ∙ d)))
     (λ (b : x ≡ dec len). lacks_past_array n w x len len e b (omega arith))
@@ -104,8 +104,8 @@ Lands_object n tokens front x rest w s e = record {
   lands = subst (λ (l : Option Label). LandsFrom w l (x ∷ rest) (w ++ key x ∷ []) rest) (sym e) (refl, refl);
 }
 
--- behind the elements of an array
-pub Lands_end : (n : NodeMap) (tokens front : List Text) (x : Text) (rest : List Text) (w : Path) (len : ℕ) → StopsAt n tokens front w (x ∷ rest) → n w ≡ Some (an_array len) → means_end len x ≡ true → Lands n tokens (w ++ place len ∷ []) rest
+-- after the elements of an array
+pub Lands_end : (n : NodeMap) (tokens front : List Text) (x : Text) (rest : List Text) (w : Path) (len : ℕ) → StopsAt n tokens front w (x ∷ rest) → n w ≡ Some (an_array len) → is_append_index len x ≡ true → Lands n tokens (w ++ place len ∷ []) rest
 Lands_end n tokens front x rest w len s e h = record {
   front = front;
   path = w;
@@ -121,7 +121,7 @@ LandsFrom_one w (Some an_object) (x ∷ rest) p q a b h k = (h.0 ∙ sym k.0, h.
 LandsFrom_one w (Some (an_array len)) (x ∷ rest) p q a b h k = (h.1 ∙ sym k.1, h.2 ∙ sym k.2)
 LandsFrom_one w (Some (a_leaf v)) (x ∷ rest) p q a b h k = (h.0 ∙ sym k.0, h.1 ∙ sym k.1)
 
--- a value lands at one path, with one rest to grow
+-- a value lands at one path, with one rest to expand
 pub Lands_one : (n : NodeMap) (tokens : List Text) (p q : Path) (a b : List Text) → Lands n tokens p a → Lands n tokens q b → (p ≡ q) × (a ≡ b)
 Lands_one n tokens p q a b h k =
     let same = StopsAt_one n tokens h.front k.front h.path k.path h.rest k.rest h.stops k.stops in
@@ -130,30 +130,31 @@ Lands_one n tokens p q a b h k =
 
 -- landing nowhere
 
-from_end : (w : Path) (l : Option Label) (len : ℕ) (x : Text) (rest : List Text) (p : Path) (a : List Text) → l ≡ Some (an_array len) → LandsFrom w l (x ∷ rest) p a → means_end len x ≡ true
+from_end : (w : Path) (l : Option Label) (len : ℕ) (x : Text) (rest : List Text) (p : Path) (a : List Text) → l ≡ Some (an_array len) → LandsFrom w l (x ∷ rest) p a → is_append_index len x ≡ true
 from_end w None len x rest p a e h = absurd h
 from_end w (Some an_object) len x rest p a e h = cc
 from_end w (Some (an_array k)) len x rest p a e h =
     let same : k ≡ len = cc in
-    subst (λ (j : ℕ). means_end j x ≡ true) same h.0
+    subst (λ (j : ℕ). is_append_index j x ≡ true) same h.0
 from_end w (Some (a_leaf v)) len x rest p a e h = cc
 
--- where following stops at an array and a value lands, the token means its end
-pub Lands-means_end : (n : NodeMap) (tokens : List Text) (position offset len : ℕ) (x : Text) (p : Path) (a : List Text) → StopsBefore n tokens position offset (an_array len) x → Lands n tokens p a → means_end len x ≡ true
+-- if following stops at an array and a value lands, then the token names its end
+pub Lands-means_end : (n : NodeMap) (tokens : List Text) (position offset len : ℕ) (x : Text) (p : Path) (a : List Text) → StopsBefore n tokens position offset (an_array len) x → Lands n tokens p a → is_append_index len x ≡ true
 Lands-means_end n tokens position offset len x p a r h =
     let same = StopsAt_one n tokens h.front r.front h.path r.path h.rest (x ∷ r.rest) h.stops r.stops in
     let there : LandsFrom h.path (n h.path) (x ∷ r.rest) p a = subst (λ (rest : List Text). LandsFrom h.path (n h.path) rest p a) same.2 h.lands in
     from_end h.path (n h.path) len x r.rest p a (ap n same.1 ∙ r.label_is) there
 
--- a value does not land and land nowhere
+-- a value cannot both land and fail to land
 pub Lands-LandsNowhere : (n : NodeMap) (tokens : List Text) (position offset len : ℕ) (x : Text) (p : Path) (a : List Text) → Lands n tokens p a → LandsNowhere n tokens position offset len x → ⊥
 Lands-LandsNowhere n tokens position offset len x p a h r = ⊎_elim
     (λ (e : x ≡ codes "-"). r.no_dash e)
     (λ (e : x ≡ dec len). r.no_place len (omega arith) e)
     (means_end-cases len x (Lands-means_end n tokens position offset len x p a r.stops h))
 
--- a token that does not mean the end of the array at which following stops is the decimal text of no number up to its length
-pub lands_nowhere : (n : NodeMap) (tokens : List Text) (position offset len : ℕ) (x : Text) → IsTree n → StopsBefore n tokens position offset (an_array len) x → means_end len x ≡ false → LandsNowhere n tokens position offset len x
+-- a token that does not name the end of the array where following stops is not the decimal text of a
+-- number up to its length
+pub lands_nowhere : (n : NodeMap) (tokens : List Text) (position offset len : ℕ) (x : Text) → IsTree n → StopsBefore n tokens position offset (an_array len) x → is_append_index len x ≡ false → LandsNowhere n tokens position offset len x
 lands_nowhere n tokens position offset len x tree r e = record {
   stops = r;
   no_dash = λ d. true≢false (sym (means_end-dash len x d) ∙ e);
@@ -166,11 +167,11 @@ lands_nowhere n tokens position offset len x tree r e = record {
     last : (i : ℕ) → i ≤ len → len ≤ i → i ≡ len
     last i near at = omega arith
 
--- the same of a token that is neither `-` nor the decimal text of the length
+-- the same for a token that is neither `-` nor the decimal text of the length
 pub lands_nowhere_at : (n : NodeMap) (tokens : List Text) (position offset len : ℕ) (x : Text) → IsTree n → StopsBefore n tokens position offset (an_array len) x → x ≢ codes "-" → x ≢ dec len → LandsNowhere n tokens position offset len x
-lands_nowhere_at n tokens position offset len x tree r dash end = by_test (means_end len x) refl
+lands_nowhere_at n tokens position offset len x tree r dash end = by_test (is_append_index len x) refl
   where
-    by_test : (b : Bool) → means_end len x ≡ b → LandsNowhere n tokens position offset len x
+    by_test : (b : Bool) → is_append_index len x ≡ b → LandsNowhere n tokens position offset len x
     by_test true e = absurd (⊎_elim (λ (a : x ≡ codes "-"). dash a) (λ (b : x ≡ dec len). end b) (means_end-cases len x e))
     by_test false e = lands_nowhere n tokens position offset len x tree r e
 
@@ -181,11 +182,11 @@ lands n tokens tree = ⊎_elim
     (λ (r : (p o : ℕ) × (l : Label) × (x : Text) × StopsBefore n tokens p o l x). stopped r.0 r.1 r.2 r.3 r.4)
     (follows n tokens tree)
   where
-    at_array : (p o len : ℕ) (x : Text) → StopsBefore n tokens p o (an_array len) x → (b : Bool) → means_end len x ≡ b → ((p : Path) × (left : List Text) × Lands n tokens p left) ⊎ ((position offset len : ℕ) × (x : Text) × LandsNowhere n tokens position offset len x)
+    at_array : (p o len : ℕ) (x : Text) → StopsBefore n tokens p o (an_array len) x → (b : Bool) → is_append_index len x ≡ b → ((p : Path) × (left : List Text) × Lands n tokens p left) ⊎ ((position offset len : ℕ) × (x : Text) × LandsNowhere n tokens position offset len x)
     at_array p o len x r true e = inl (r.path ++ place len ∷ [], r.rest, Lands_end n tokens r.front x r.rest r.path len r.stops r.label_is e)
     at_array p o len x r false e = inr (p, o, len, x, lands_nowhere n tokens p o len x tree r e)
 
     stopped : (p o : ℕ) (l : Label) (x : Text) → StopsBefore n tokens p o l x → ((p : Path) × (left : List Text) × Lands n tokens p left) ⊎ ((position offset len : ℕ) × (x : Text) × LandsNowhere n tokens position offset len x)
     stopped p o an_object x r = inl (r.path ++ key x ∷ [], r.rest, Lands_object n tokens r.front x r.rest r.path r.stops r.label_is)
-    stopped p o (an_array len) x r = at_array p o len x r (means_end len x) refl
+    stopped p o (an_array len) x r = at_array p o len x r (is_append_index len x) refl
     stopped p o (a_leaf v) x r = inl (r.path, x ∷ r.rest, Lands_leaf n tokens r.front x r.rest r.path v r.stops r.label_is)

@@ -130,7 +130,7 @@ module _ {V : Type 0} (see : V → Content) where
     pub map_of-Array : (v : Vec V Global) → map_of (see (Array v)) [] ≡ Some (an_array (length v.items))
     map_of-Array v = rw (array_is v) (ap (λ (len : ℕ). Some (an_array len)) (items_len-by v.items))
 
-    -- below it, at a place within the list, stands the element there
+    -- below it, at an index within the list, is the element there
     pub content_at-Array : (v : Vec V Global) (i : ℕ) (x : V) → i < length v.items → content_at (place i ∷ []) (see (Array v)) ≡ Some (see (get_or v.items i x))
     content_at-Array v i x h = rw (array_is v) (content_at-push [] (place i) (array (items_by v.items)) (array (items_by v.items)) refl ∙ get_item-by v.items i x h)
 
@@ -144,7 +144,7 @@ module _ {V : Type 0} (see : V → Content) where
         at (key k ∷ p) = refl
         at (place j ∷ p) = ap (label_at p) (get_item-set v.items i j x h) ∙ label_at-or p (same_place i j) (see x) (get_item j (items_by v.items)) ∙ sym (put_one (map_of (array (items_by v.items))) (place i) (place j) (map_of (see x)) p)
 
-    -- an element added behind the last
+    -- an element appended
     pub map_of-push : (v w : Vec V Global) (x : V) → w.items ≡ v.items ++ x ∷ [] → map_of (see (Array w)) ≡ made (map_of (see (Array v))) (place (length v.items) ∷ []) (map_of (see x))
     unfolding label_at
     map_of-push v w x e = ap map_of (array_is w) ∙ ap (λ (vs : List V). map_of (array (items_by vs))) e ∙ fun_ext at ∙ sym (ap (λ (d : Content). made (map_of d) (place (length v.items) ∷ []) (map_of (see x))) (array_is v))
@@ -160,7 +160,7 @@ module _ {V : Type 0} (see : V → Content) where
         at (key k ∷ p) = refl
         at (place j ∷ p) = ap (label_at p) (get_item-push v.items j x) ∙ label_at-or p (same_place (length v.items) j) (see x) (get_item j (items_by v.items)) ∙ sym (made_one (map_of (array (items_by v.items))) (place (length v.items)) (place j) (map_of (see x)) p)
 
-    -- an element taken out
+    -- an element removed
     pub map_of-remove : (v w : Vec V Global) (i : ℕ) → i < length v.items → w.items ≡ remove v.items i → map_of (see (Array w)) ≡ without_step (place i) (map_of (see (Array v)))
     unfolding label_at
     map_of-remove v w i h e = ap map_of (array_is w) ∙ ap (λ (vs : List V). map_of (array (items_by vs))) e ∙ fun_ext at ∙ sym (ap (λ (d : Content). without_step (place i) (map_of d)) (array_is v))
@@ -185,7 +185,7 @@ module _ {V : Type 0} (see : V → Content) where
     pub map_of-Object : (m : BTreeMap (String Global) V) → map_of (see (Object m)) [] ≡ Some an_object
     map_of-Object m = rw (object_is m) refl
 
-    -- below it, at a key, stands what the map has there
+    -- below it, at a key, is what the map has there
     pub content_at-Object : (m : BTreeMap (String Global) V) (k : Text) → content_at (key k ∷ []) (see (Object m)) ≡ option_map see (get_by_text m k)
     content_at-Object m k = rw (object_is m) (content_at-push [] (key k) (object (members_by m.entries)) (object (members_by m.entries)) refl ∙ get_member-by m k)
 
@@ -207,7 +207,7 @@ module _ {V : Type 0} (see : V → Content) where
         at (key q ∷ p) = ap (label_at p) (get_member-by n q ∙ ap (option_map see) (h q) ∙ some_view (bytes_eq k q) (get_by_text m q) ∙ ap (cond (bytes_eq k q) (Some (see x))) (sym (get_member-by m q))) ∙ label_at-or p (bytes_eq k q) (see x) (get_member q (members_by m.entries)) ∙ sym (put_one (map_of (object (members_by m.entries))) (key k) (key q) (map_of (see x)) p)
         at (place j ∷ p) = refl
 
-    -- a member taken out
+    -- a member removed
     pub map_of-remove_member : (m n : BTreeMap (String Global) V) (k : Text) → ((q : Text) → get_by_text n q ≡ update bytes_eq (get_by_text m) k None q) → map_of (see (Object n)) ≡ without_step (key k) (map_of (see (Object m)))
     unfolding label_at
     map_of-remove_member m n k h = ap map_of (object_is n) ∙ fun_ext at ∙ sym (ap (λ (d : Content). without_step (key k) (map_of d)) (object_is m))

@@ -1,4 +1,4 @@
--- Naming a path of a document: fronts, one step more, and one path for one list.
+-- Naming a path of a document: prefixes, one more step, and one path for one list.
 use Rattle.std.proofs.Common.{◌≡◌, ℕ, zero, suc, ◌+◌, ◌<◌, Bool, cond, List, [], ◌∷◌, ◌++◌, map, length, get_or, Option, Some, None, IsSome, ◌↔◌, refl, sym, ap, ap₂, ◌∙◌, subst, arith, ne_eqb, append-nil, append_assoc}
 use mathlib.Core.Path.{fun_ext}
 use Rattle.std.proofs.lemmas.Int.Digits.{same_from_digits_of, first_digits_of}
@@ -158,14 +158,14 @@ Names_one_list n (x ∷ xs) (y ∷ ys) (s ∷ w) h k =
 
 -- in words of the whole lists
 
--- the token behind a front takes the step behind a front of as many steps
+-- the token after a prefix selects the step after a prefix of as many steps
 pub Names-at : (n : NodeMap) (ys : List Text) (x : Text) (zs : List Text) (u : Path) (s : Step) (v : Path) → length ys ≡ length u → Names n (ys ++ x ∷ zs) (u ++ s ∷ v) → NamesStep (n u) x s
 Names-at n [] x zs [] s v e h = h.0
 Names-at n [] x zs (t ∷ u) s v e h = absurd (omega arith)
 Names-at n (y ∷ ys) x zs [] s v e h = absurd (omega arith)
 Names-at n (y ∷ ys) x zs (t ∷ u) s v e h = Names-at (sub n (t ∷ [])) ys x zs u s v (omega arith) h.1
 
--- naming gives what holds of the whole lists
+-- naming implies what holds of the whole lists
 pub IsNaming-Names : (n : NodeMap) (xs : List Text) (w : Path) → Names n xs w → IsNaming n xs w
 IsNaming-Names n xs w h = record {
   as_many = Names-length n xs w h;
@@ -173,7 +173,7 @@ IsNaming-Names n xs w h = record {
   each = λ ys x zs u s v e f l. Names-at n ys x zs u s v l (subst (λ (p : Path). Names n (ys ++ x ∷ zs) p) f (subst (λ (ts : List Text). Names n ts w) e h));
 }
 
--- what holds of the whole lists gives naming
+-- what holds of the whole lists implies naming
 pub Names-IsNaming : (n : NodeMap) (xs : List Text) (w : Path) → IsNaming n xs w → Names n xs w
 Names-IsNaming n [] [] r = r.is_there
 Names-IsNaming n [] (s ∷ w) r = absurd (omega (arith, r.as_many))
@@ -197,12 +197,12 @@ MayHave-some : (o : Option Label) (s : Step) → MayHave o s → IsSome o
 MayHave-some None s h = absurd h
 MayHave-some (Some l) s h = refl
 
--- above each node stands a node
+-- above each node is a node
 pub IsTree-above : (n : NodeMap) → IsTree n → (w v : Path) → IsSome (n (w ++ v)) → IsSome (n w)
 IsTree-above n tree w [] h = subst (λ (p : Path). IsSome (n p)) (append-nil w) h
 IsTree-above n tree w (s ∷ v) h = MayHave-some (n w) s (tree.parent w s (IsTree-above n tree (w ++ s ∷ []) v (subst (λ (p : Path). IsSome (n p)) (sym (append_assoc w (s ∷ []) v)) h)))
 
--- below each node of a tree stands a tree
+-- below each node of a tree is a tree
 pub IsTree-sub : (n : NodeMap) (w : Path) → IsTree n → IsSome (n w) → IsTree (sub n w)
 IsTree-sub n w tree h = record {
   root = subst (λ (p : Path). IsSome (n p)) (sym (append-nil w)) h;

@@ -29,7 +29,7 @@ pub same_step-refl : (s : Step) → same_step s s ≡ true
 same_step-refl (key k) = (bytes_eq-Decides k k).1 refl
 same_step-refl (place i) = same_place-refl i
 
--- two steps are one, or they are not
+-- two steps are equal, or they are not
 pub cases_same : (s t : Step) → (s ≡ t) ⊎ (same_step s t ≡ false)
 cases_same s t = go (same_step s t) refl
   where
@@ -37,7 +37,7 @@ cases_same s t = go (same_step s t) refl
     go true e = inl (same_step-eq s t e)
     go false e = inr e
 
--- what follows a front
+-- what follows a prefix
 
 pub rest_after-step : (s : Step) (w p : Path) → rest_after (s ∷ w) (s ∷ p) ≡ rest_after w p
 rest_after-step s w p = ap (λ (b : Bool). cond b (rest_after w p) None) (same_step-refl s)
@@ -64,7 +64,7 @@ cases_front (s ∷ w) (t ∷ p) = go (cases_same s t) (cases_front w p)
 pub rest_after-none : (w p : Path) → (GoesThrough p w → ⊥) → rest_after w p ≡ None
 rest_after-none w p h = ⊎_elim (λ (r : GoesThrough p w). absurd (h r)) (λ (e : rest_after w p ≡ None). e) (cases_front w p)
 
--- below a front
+-- below a prefix
 pub rest_after-below : (w u p : Path) → rest_after (w ++ u) (w ++ p) ≡ rest_after u p
 rest_after-below [] u p = refl
 rest_after-below (s ∷ w) u p = rest_after-step s (w ++ u) (w ++ p) ∙ rest_after-below w u p
@@ -74,7 +74,7 @@ pub rest_after-shorter : (w : Path) (s : Step) (u : Path) → rest_after (w ++ s
 rest_after-shorter [] s u = refl
 rest_after-shorter (t ∷ w) s u = rest_after-step t (w ++ s ∷ u) w ∙ rest_after-shorter w s u
 
--- nor does anything follow a longer front
+-- nor does anything follow a longer prefix
 pub rest_after-longer : (w u p : Path) → rest_after w p ≡ None → rest_after (w ++ u) p ≡ None
 rest_after-longer [] u p e = cc
 rest_after-longer (s ∷ w) u [] e = refl
@@ -86,11 +86,11 @@ rest_after-longer (s ∷ w) u (t ∷ p) e = go (cases_same s t) (rest_after-long
 
 -- putting
 
--- behind w stands what was put there
+-- below w is what was put there
 pub put_behind : (n : NodeMap) (w : Path) (v : NodeMap) (p : Path) → put n w v (w ++ p) ≡ v p
 put_behind n w v p = ap (λ (o : Option Path). label_or o v (n (w ++ p))) (rest_after-append w p)
 
--- where no path goes on behind w, all stays as it was
+-- paths that do not go through w are unchanged
 pub put_none : (n : NodeMap) (w : Path) (v : NodeMap) (p : Path) → rest_after w p ≡ None → put n w v p ≡ n p
 put_none n w v p e = ap (λ (o : Option Path). label_or o v (n p)) e
 
@@ -98,14 +98,14 @@ put_none n w v p e = ap (λ (o : Option Path). label_or o v (n p)) e
 pub put_other : (n : NodeMap) (w : Path) (v : NodeMap) (p : Path) → (GoesThrough p w → ⊥) → put n w v p ≡ n p
 put_other n w v p h = put_none n w v p (rest_after-none w p h)
 
--- two maps are one if they agree behind w and on the paths that do not begin with w
+-- two maps are equal if they agree below w and on the paths that do not begin with w
 pub same_by_front : (m k : NodeMap) (w : Path) → ((p : Path) → m (w ++ p) ≡ k (w ++ p)) → ((p : Path) → rest_after w p ≡ None → m p ≡ k p) → m ≡ k
 same_by_front m k w behind other = fun_ext (λ (p : Path). ⊎_elim
     (λ (r : GoesThrough p w). ap m r.1 ∙ behind r.0 ∙ sym (ap k r.1))
     (λ (e : rest_after w p ≡ None). other p e)
     (cases_front w p))
 
--- and no other map has what was put behind w, and all else as it was
+-- and no other map has what was put below w, and all else unchanged
 pub put_only : (n : NodeMap) (w : Path) (v m : NodeMap) → ((p : Path) → m (w ++ p) ≡ v p) → ((p : Path) → (GoesThrough p w → ⊥) → m p ≡ n p) → m ≡ put n w v
 put_only n w v m behind other = same_by_front m (put n w v) w (λ p. behind p ∙ sym (put_behind n w v p)) (λ p e. other p (λ r. not_none r.0 (sym (rest_after-append w r.0) ∙ sym (ap (rest_after w) r.1) ∙ e)) ∙ sym (put_none n w v p e))
   where
@@ -127,11 +127,11 @@ sub-put n w v = fun_ext (put_behind n w v)
 pub put_at : (n : NodeMap) (w : Path) (v : NodeMap) → put n w v w ≡ v []
 put_at n w v = ap (put n w v) (sym (append-nil w)) ∙ put_behind n w v []
 
--- what stands at w, put there, changes nothing
+-- putting back the subtree at w changes nothing
 pub put-sub : (n : NodeMap) (w : Path) → put n w (sub n w) ≡ n
 put-sub n w = same_by_front (put n w (sub n w)) n w (put_behind n w (sub n w)) (put_none n w (sub n w))
 
--- what is put last at w is there
+-- the last of two puts at w wins
 pub put-put : (n : NodeMap) (w : Path) (v u : NodeMap) → put (put n w v) w u ≡ put n w u
 put-put n w v u = same_by_front (put (put n w v) w u) (put n w u) w
     (λ p. put_behind (put n w v) w u p ∙ sym (put_behind n w u p))
@@ -145,7 +145,7 @@ put_below n w u v = same_by_front (put n (w ++ u) v) (put n w (put (sub n w) u v
 
 -- step by step
 
--- two maps are one if they agree at the root and below each step
+-- two maps are equal if they agree at the root and below each step
 pub same_by_step : (m k : NodeMap) → m [] ≡ k [] → ((s : Step) → sub m (s ∷ []) ≡ sub k (s ∷ [])) → m ≡ k
 same_by_step m k root below = fun_ext (go)
   where
@@ -157,7 +157,7 @@ same_by_step m k root below = fun_ext (go)
 pub put-step : (n : NodeMap) (s : Step) (w : Path) (v : NodeMap) → sub (put n (s ∷ w) v) (s ∷ []) ≡ put (sub n (s ∷ [])) w v
 put-step n s w v = fun_ext (λ (p : Path). ap (λ (o : Option Path). label_or o v (n (s ∷ p))) (rest_after-step s w p))
 
--- below another step all stays as it was
+-- below another step all is unchanged
 pub put-other_step : (n : NodeMap) (s t : Step) (w : Path) (v : NodeMap) → same_step s t ≡ false → sub (put n (s ∷ w) v) (t ∷ []) ≡ sub n (t ∷ [])
 put-other_step n s t w v e = fun_ext (λ (p : Path). ap (λ (o : Option Path). label_or o v (n (t ∷ p))) (rest_after-other s t w p e))
 
@@ -186,7 +186,7 @@ through_cases (s ∷ q) p (t ∷ w) r e = go (through_cases q p w r (cc)) (cc)
     go (inl c) e = inl (c.0, ap₂ (λ (a : Step) (u : Path). a ∷ u) e c.1)
     go (inr c) e = inr (c.0, ap₂ (λ (a : Step) (u : Path). a ∷ u) (sym e) c.1)
 
--- naming reads the labels on the way alone
+-- naming depends only on the labels on the path
 pub Names-along : (n m : NodeMap) (xs : List Text) (q : Path) → ((p u : Path) → q ≡ p ++ u → m p ≡ n p) → Names n xs q → Names m xs q
 Names-along n m [] [] same h = subst (λ (o : Option Label). IsSome o) (sym (same [] [] refl)) h
 Names-along n m [] (s ∷ q) same h = absurd h

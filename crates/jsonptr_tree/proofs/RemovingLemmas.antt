@@ -1,4 +1,4 @@
--- What a deletion makes of a document: one map, a tree, and all else as it was.
+-- What a deletion makes of a document: one map, a tree, with all else unchanged.
 use Rattle.std.proofs.Common.{◌≡◌, ℕ, zero, suc, ◌-◌, ◌<◌, ◌≤◌, Bool, true, false, cond, is_some, List, [], ◌∷◌, ◌++◌, map, Contains, Option, Some, None, IsSome, ◌⊎◌, inl, inr, ⊎_elim, refl, sym, ap, ap₂, ◌∙◌, subst, arith, true≢false, append-nil, append_assoc, length, length-append, ◌+◌}
 use Rattle.std.proofs.lemmas.Bool.{cases_lt}
 use Rattle.std.proofs.lemmas.List.Elements.{Contains-append_left, Contains-append_right}
@@ -119,7 +119,7 @@ Deletes_one n blank tokens m k tree a b = ⊎_elim
         let there : Names n tokens (r.0 ++ r.1 ∷ []) = subst (λ (p : Path). Names n tokens p) r.2 h in
         a.child r.0 r.1 there ∙ sym (b.child r.0 r.1 there)
 
--- places
+-- indices
 
 pub place_before-below : (i j : ℕ) → j < i → place_before i j ≡ j
 place_before-below zero j h = absurd (omega arith)
@@ -131,7 +131,7 @@ place_before-from zero j h = refl
 place_before-from (suc i) zero h = absurd (omega arith)
 place_before-from (suc i) (suc j) h = ap suc (place_before-from i j (omega arith))
 
--- the places of the shorter array are those of the longer one but i
+-- the indices of the shorter array are those of the longer one except i
 place_before-inside : (i j len : ℕ) → i < len → place_before i j < len → j < len - 1
 place_before-inside i j len h b = ⊎_elim
     (λ (below : j < i). omega arith)
@@ -228,7 +228,7 @@ IsTree-without n (place j) tree i = IsTree-without_place j n tree (tree.parent [
 
 -- finite maps
 
--- a path of the longer array with each place but the first one lower
+-- a path of the longer array, with each index except the first lower by one
 lower : Path → Path
 lower [] = []
 lower (key k ∷ p) = key k ∷ p
@@ -270,7 +270,7 @@ IsListed-without n (place j) h = IsListed-without_place j n h
 
 -- what a deletion in a tree leaves
 
--- the blank document, or all but one node and what stands below it, or all
+-- the blank document, or all except one node and what is below it, or all
 Deletes-cases : (n blank : NodeMap) (tokens : List Text) (m : NodeMap) → IsTree n → Deletes n tokens blank m → (m ≡ blank) ⊎ (((w : Path) × (s : Step) × Names n tokens (w ++ s ∷ []) × (m ≡ put n w (without_step s (sub n w)))) ⊎ (m ≡ n))
 Deletes-cases n blank tokens m tree a = ⊎_elim
     (λ (r : (w : Path) × Names n tokens w). named r.0 r.1 (cases_last r.0))
@@ -322,7 +322,7 @@ Deletes-finite n blank tokens m tree a b r = ⊎_elim
 pub member_gone : (n blank : NodeMap) (tokens : List Text) (m : NodeMap) (w : Path) (k : Text) (p : Path) → Deletes n tokens blank m → Names n tokens (w ++ key k ∷ []) → m (w ++ key k ∷ p) ≡ None
 member_gone n blank tokens m w k p r h = ap (λ (q : NodeMap). q (w ++ key k ∷ p)) (r.child w (key k) h) ∙ put_behind n w (without_key k (sub n w)) (key k ∷ p) ∙ without_key-same k (sub n w) p
 
--- and every other one stays as it was
+-- and every other one is unchanged
 pub member_others : (n blank : NodeMap) (tokens : List Text) (m : NodeMap) (w : Path) (k : Text) (p : Path) → Deletes n tokens blank m → Names n tokens (w ++ key k ∷ []) → (GoesThrough p (w ++ key k ∷ []) → ⊥) → m p ≡ n p
 member_others n blank tokens m w k p r h away = ap (λ (q : NodeMap). q p) (r.child w (key k) h) ∙ ⊎_elim
     (λ (c : GoesThrough p w). ap (put n w (without_key k (sub n w))) c.1 ∙ put_behind n w (without_key k (sub n w)) c.0 ∙ behind c.0 (λ q e. away (q, c.1 ∙ ap (λ (u : Path). w ++ u) e ∙ sym (append_assoc w (key k ∷ []) q))) ∙ sym (ap n c.1))
@@ -344,25 +344,25 @@ element_made n blank tokens m w i p r h = ap (λ (q : NodeMap). q (w ++ p)) (r.c
 at_place : (n : NodeMap) (w : Path) (j : ℕ) (p : Path) → n (w ++ place j ∷ p) ≡ n ((w ++ place j ∷ []) ++ p)
 at_place n w j p = ap n (sym (append_assoc w (place j ∷ []) p))
 
--- its array has one less
+-- its array has one element less
 pub element_less : (n blank : NodeMap) (tokens : List Text) (m : NodeMap) (w : Path) (i len : ℕ) → Deletes n tokens blank m → Names n tokens (w ++ place i ∷ []) → n w ≡ Some (an_array len) → m w ≡ Some (an_array (len - 1))
 element_less n blank tokens m w i len r h e = ap m (sym (append-nil w)) ∙ element_made n blank tokens m w i [] r h ∙ ap one_less (sub-root n w ∙ e)
 
--- an earlier one stands where it was
+-- an earlier one keeps its index
 pub element_before : (n blank : NodeMap) (tokens : List Text) (m : NodeMap) (w : Path) (i j : ℕ) → Deletes n tokens blank m → Names n tokens (w ++ place i ∷ []) → j < i → sub m (w ++ place j ∷ []) ≡ sub n (w ++ place j ∷ [])
 element_before n blank tokens m w i j r h b = fun_ext (λ (p : Path). sym (at_place m w j p) ∙ element_made n blank tokens m w i (place j ∷ p) r h ∙ ap (λ (k : ℕ). n (w ++ place k ∷ p)) (place_before-below i j b) ∙ at_place n w j p)
 
--- a later one stands one place lower
+-- a later one has an index that is lower by one
 pub element_after : (n blank : NodeMap) (tokens : List Text) (m : NodeMap) (w : Path) (i j : ℕ) → Deletes n tokens blank m → Names n tokens (w ++ place i ∷ []) → i ≤ j → sub m (w ++ place j ∷ []) ≡ sub n (w ++ place (suc j) ∷ [])
 element_after n blank tokens m w i j r h b = fun_ext (λ (p : Path). sym (at_place m w j p) ∙ element_made n blank tokens m w i (place j ∷ p) r h ∙ ap (λ (k : ℕ). n (w ++ place k ∷ p)) (place_before-from i j b) ∙ at_place n w (suc j) p)
 
--- all that does not stand below the array stays as it was
+-- all that is not below the array is unchanged
 pub element_others : (n blank : NodeMap) (tokens : List Text) (m : NodeMap) (w : Path) (i : ℕ) (p : Path) → Deletes n tokens blank m → Names n tokens (w ++ place i ∷ []) → (GoesThrough p w → ⊥) → m p ≡ n p
 element_others n blank tokens m w i p r h away = ap (λ (q : NodeMap). q p) (r.child w (place i) h) ∙ put_other n w (without_place i (sub n w)) p away
 
 -- finding, after a deletion
 
--- what does not stand at the member or below it is found as before
+-- what is neither the member nor below it is found as before
 pub member_frame : (n blank : NodeMap) (tokens : List Text) (m : NodeMap) (w : Path) (k : Text) → Deletes n tokens blank m → Names n tokens (w ++ key k ∷ []) → (others : List Text) (q : Path) → Names n others q → (GoesThrough q (w ++ key k ∷ []) → ⊥) → Names m others q × ((GoesThrough (w ++ key k ∷ []) q → ⊥) → sub m q ≡ sub n q)
 member_frame n blank tokens m w k r h others q names away = frame n m (w ++ key k ∷ []) (λ p a. member_others n blank tokens m w k p r h a) others q names away
 
@@ -376,14 +376,14 @@ array_at (Some an_object) x i h = absurd h
 array_at (Some (an_array len)) x i h = (len, refl, h.0)
 array_at (Some (a_leaf v)) x i h = absurd h
 
--- above an element stands an array that has its place
+-- above an element is an array that has its index
 array_above : (n : NodeMap) (tokens : List Text) (w : Path) (i : ℕ) → Names n tokens (w ++ place i ∷ []) → (len : ℕ) × (n w ≡ Some (an_array len)) × (i < len)
 array_above n [] [] i h = absurd h
 array_above n [] (t ∷ w) i h = absurd h
 array_above n (x ∷ xs) [] i h = array_at (n []) x i h.0
 array_above n (x ∷ xs) (t ∷ w) i h = array_above (sub n (t ∷ [])) xs w i h.1
 
--- tokens that found something through a place find it through the place where it stands now
+-- tokens that found something through an index find it through its new index
 moved : (n blank : NodeMap) (tokens : List Text) (m k : NodeMap) (w : Path) (i j : ℕ) (front rest : List Text) → Deletes n tokens blank m → Names n tokens (w ++ place i ∷ []) → Names n front w → Finds n (front ++ dec (place_before i j) ∷ rest) k → Finds m (front ++ dec j ∷ rest) k
 moved n blank tokens m k w i j front rest r h names f =
     let parts = Names-split n front (dec (place_before i j) ∷ rest) f.path f.named in
@@ -425,15 +425,15 @@ moved n blank tokens m k w i j front rest r h names f =
           below = is ∙ ap (λ (a : Step). sub n (w ++ a ∷ u)) at.0 ∙ fun_ext (λ (p : Path). ap n (append_assoc w (place (place_before i j) ∷ u) p) ∙ sym (there u p) ∙ sym (ap m (append_assoc w (place j ∷ u) p)));
         }
 
--- a later element is found one place lower
+-- a later element is found at the index before its own
 pub element_lower : (n blank : NodeMap) (tokens : List Text) (m k : NodeMap) (w : Path) (i j : ℕ) (front rest : List Text) → Deletes n tokens blank m → Names n tokens (w ++ place i ∷ []) → Names n front w → i ≤ j → Finds n (front ++ dec (suc j) ∷ rest) k → Finds m (front ++ dec j ∷ rest) k
 element_lower n blank tokens m k w i j front rest r h names b f = moved n blank tokens m k w i j front rest r h names (subst (λ (a : ℕ). Finds n (front ++ dec a ∷ rest) k) (sym (place_before-from i j b)) f)
 
--- an earlier one where it was
+-- an earlier one at its own
 pub element_kept : (n blank : NodeMap) (tokens : List Text) (m k : NodeMap) (w : Path) (i j : ℕ) (front rest : List Text) → Deletes n tokens blank m → Names n tokens (w ++ place i ∷ []) → Names n front w → j < i → Finds n (front ++ dec j ∷ rest) k → Finds m (front ++ dec j ∷ rest) k
 element_kept n blank tokens m k w i j front rest r h names b f = moved n blank tokens m k w i j front rest r h names (subst (λ (a : ℕ). Finds n (front ++ dec a ∷ rest) k) (sym (place_before-below i j b)) f)
 
--- tokens name one path in two maps that agree on the way to it
+-- tokens name one path in two maps that agree on the labels above it
 same_way : (n m : NodeMap) (xs : List Text) (q p : Path) → ((v u : Path) (s : Step) → q ≡ v ++ s ∷ u → m v ≡ n v) → Names n xs q → Names m xs p → p ≡ q
 same_way n m [] [] [] same h k = refl
 same_way n m [] [] (t ∷ p) same h k = absurd k

@@ -5,8 +5,8 @@ use Rattle.jsonptr_tree.specs.Put.{same_step, put}
 use Rattle.jsonptr_tree.proofs.NodeLemmas.{IsTree-above, IsTree-sub}
 use Rattle.jsonptr_tree.proofs.PutLemmas.{cases_same, put-step, put-other_step}
 
--- a map is a tree if it has a root, the root may have each child that it has, a tree stands below each, and
--- an array at the root is full
+-- a map is a tree if it has a root, the root may have each child that it has, each child is a tree, and an
+-- array at the root is full
 pub IsTree-level : (n : NodeMap) → IsSome (n []) → ((s : Step) (w : Path) → IsSome (n (s ∷ w)) → MayHave (n []) s × IsTree (sub n (s ∷ []))) → ((len i : ℕ) → n [] ≡ Some (an_array len) → i < len → IsSome (n (place i ∷ []))) → IsTree n
 IsTree-level n root child full = record {
   root = root;

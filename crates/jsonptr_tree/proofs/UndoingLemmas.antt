@@ -1,4 +1,4 @@
--- Taking an assignment back: which tokens name where the value landed, and what is left once they are used.
+-- Undoing an assignment: which tokens name where the value landed, and what is left once they are used.
 use Rattle.std.proofs.Common.{◌≡◌, ℕ, suc, ◌-◌, ◌<◌, ◌≤◌, max, false, codes, List, [], ◌∷◌, ◌++◌, Option, Some, None, IsSome, ◌⊎◌, inl, inr, ⊎_elim, refl, sym, ap, ◌∙◌, subst, arith, append_assoc}
 use mathlib.Core.Path.{fun_ext}
 use Rattle.std.proofs.lemmas.Bool.{cases_lt}
@@ -19,7 +19,7 @@ use Rattle.jsonptr_tree.proofs.LandingLemmas.{means_end-cases, Lands_one, Lands_
 use Rattle.jsonptr_tree.proofs.AssigningLemmas.{made, made-step, made-other_step, made_below, made_named, found_at-some, found_at-none, some-room, Assigns-tree}
 use Rattle.jsonptr_tree.proofs.RemovingLemmas.{without_key-same, without_key-other, place_before-below, place_before-from}
 
--- what stood at the place
+-- what was at the path before
 
 some_found : (n : NodeMap) (p : Path) (old : NodeMap) → Some old ≡ found_at n p → IsSome (n p) × (old ≡ sub n p)
 some_found n p old e = ⊎_elim
@@ -41,16 +41,16 @@ none_found n p e h = apart (e ∙ found_at-some n p h)
     apart : None ≡ Some (sub n p) → ⊥
     apart f = cc
 
--- nothing stands below a place of a tree where nothing does
+-- below a path of a tree with no node there is no node
 none_below : (n : NodeMap) (p q : Path) → IsTree n → (IsSome (n p) → ⊥) → n (p ++ q) ≡ None
 none_below n p q tree none = ⊎_elim
     (λ (h : IsSome (n (p ++ q))). absurd (none (IsTree-above n tree p q h)))
     (λ (e : n (p ++ q) ≡ None). e)
     (cases_some (n (p ++ q)))
 
--- what was there before comes back
+-- what was there before is restored
 
--- put where it stood
+-- put where it was
 pub put_back : (n : NodeMap) (tokens : List Text) (v m old : NodeMap) → IsTree n → (r : Assigns n tokens v m (Some old)) → put m r.path old ≡ n
 put_back n tokens v m old tree r =
     let was = some_found n r.path old r.replaced in
@@ -118,7 +118,7 @@ without_new n front w s g h same =
     ∙ ap (put n w) same
     ∙ put-sub n w
 
--- what is left where the tokens that name the new place delete it
+-- what is left when the tokens that name the new path delete it
 left_from : (n : NodeMap) (front : List Text) (w : Path) (rest : List Text) (p : Path) (left : List Text) (l : Option Label) (g : NodeMap) → IsTree n → Names n front w → n w ≡ l → LandsFrom w l rest p left → (IsSome (n p) → ⊥) → (landing : List Text) (blank k : NodeMap) → Names (made n p g) landing p → Deletes (made n p g) landing blank k → k ≡ n
 left_from n front w [] p left l g tree h e r none landing blank k there d = absurd (none (subst (λ (u : Path). IsSome (n u)) (sym r.0) (Names-here n front w h)))
 left_from n front w (x ∷ rest) p left None g tree h e r none landing blank k there d = absurd r
@@ -146,7 +146,7 @@ deleted_again n tokens v m tree r landing blank k there d =
     (subst (λ (q : NodeMap). Names q landing r.path) r.made there)
     (subst (λ (q : NodeMap). Deletes q landing blank k) r.made d)
 
--- tokens that name the place
+-- tokens that name the path
 
 -- one list of them does
 pub landing_named : (n : NodeMap) (tokens : List Text) (v m : NodeMap) (old : Option NodeMap) → IsTree n → IsTree v → (r : Assigns n tokens v m old) → (landing : List Text) × Names m landing r.path × ((others : List Text) → Names m others r.path → others ≡ landing)
@@ -155,7 +155,7 @@ landing_named n tokens v m old tree new r =
     let named = IsTree-named m (Assigns-tree n tokens v m old tree new r) r.path root in
     (named.0, named.1, λ others h. Names_one_list m others named.0 r.path h named.1)
 
--- the place is known before the value stands there
+-- the path is known before the value is there
 
 -- tokens that name where a value lands name it in what an assignment makes
 pub landing_names : (n : NodeMap) (tokens landing : List Text) (v m : NodeMap) (old : Option NodeMap) → NamesLanding n tokens landing → IsTree v → (r : Assigns n tokens v m old) → Names m landing r.path
@@ -165,7 +165,7 @@ landing_names n tokens landing v m old names new r = subst (λ (q : NodeMap). Na
 named_anew : (n : NodeMap) (xs : List Text) (w : Path) → Names n xs w → (u : NodeMap) → IsSome (u []) → Names (made n w u) xs w
 named_anew n xs w h u i = subst (λ (m : NodeMap). Names m xs w) (sym (made_named n xs w u h)) (Names-put n xs w u h i)
 
--- and with one behind them that takes a step for which there is room, they name the child
+-- and with one more that selects a step for which there is room, they name the child
 named_below : (n : NodeMap) (xs : List Text) (x : Text) (w : Path) (s : Step) → Names n xs w → NamesStep (long_enough (Some (s ∷ [])) (n w)) x s → (u : NodeMap) → IsSome (u []) → Names (made n (w ++ s ∷ []) u) (xs ++ x ∷ []) (w ++ s ∷ [])
 named_below n xs x w s h step u i =
     let inner = made (sub n w) (s ∷ []) u in
@@ -176,7 +176,7 @@ named_below n xs x w s h step u i =
     (Names-append (put n w inner) xs (x ∷ []) w (s ∷ []) (Names-put n xs w inner h (some-room (sub n w []) (Some (s ∷ [])) root))
     (subst (λ (m : NodeMap). Names m (x ∷ []) (s ∷ [])) (sym (sub-put n w inner)) (first, rest)))
 
--- where following stops, a value lands as the label there has it
+-- where following stops, the label there says where a value lands
 lands_stopped : (n : NodeMap) (tokens : List Text) (position offset : ℕ) (label : Label) (x : Text) (r : StopsBefore n tokens position offset label x) (p : Path) (left : List Text) → Lands n tokens p left → LandsFrom r.path (Some label) (x ∷ r.rest) p left
 lands_stopped n tokens position offset label x r p left l =
     let same = StopsAt_one n tokens l.front r.front l.path r.path l.rest (x ∷ r.rest) l.stops r.stops in
@@ -190,7 +190,7 @@ landing_named_path n tokens w h p left l u i =
     let same = Lands_one n tokens w p [] left (Lands_named n tokens w h) l in
     subst (λ (q : Path). Names (made n q u) tokens q) same.0 (named_anew n tokens w h u i)
 
--- a scalar gives way
+-- a scalar is replaced
 pub landing_leaf : (n : NodeMap) (tokens : List Text) (position offset : ℕ) (v : Scalar) (x : Text) (r : StopsBefore n tokens position offset (a_leaf v) x) → NamesLanding n tokens r.front
 landing_leaf n tokens position offset v x r p left l u i =
     let at = lands_stopped n tokens position offset (a_leaf v) x r p left l in
@@ -203,7 +203,7 @@ landing_member n tokens position offset x r p left l u i =
     let step : NamesStep (long_enough (Some (key x ∷ [])) (n r.path)) x (key x) = subst (λ (o : Option Label). NamesStep (long_enough (Some (key x ∷ [])) o) x (key x)) (sym r.label_is) refl in
     subst (λ (q : Path). Names (made n q u) (r.front ++ x ∷ []) q) (sym at.0) (named_below n r.front x r.path (key x) r.stops.named step u i)
 
--- an array a new last element
+-- an array has a new last element
 pub landing_end : (n : NodeMap) (tokens : List Text) (position offset len : ℕ) (x : Text) (r : StopsBefore n tokens position offset (an_array len) x) → NamesLanding n tokens (r.front ++ dec len ∷ [])
 landing_end n tokens position offset len x r p left l u i =
     let at = lands_stopped n tokens position offset (an_array len) x r p left l in
@@ -211,6 +211,6 @@ landing_end n tokens position offset len x r p left l u i =
     let step : NamesStep (long_enough (Some (place len ∷ [])) (n r.path)) (dec len) (place len) = subst (λ (o : Option Label). NamesStep (long_enough (Some (place len ∷ [])) o) (dec len) (place len)) (sym r.label_is) (more, refl) in
     subst (λ (q : Path). Names (made n q u) (r.front ++ dec len ∷ []) q) (sym at.1) (named_below n r.front (dec len) r.path (place len) r.stops.named step u i)
 
--- of which the token means the place
+-- of which the token is the index
 pub landing_means : (n : NodeMap) (tokens : List Text) (position offset len : ℕ) (x : Text) (r : StopsBefore n tokens position offset (an_array len) x) (p : Path) (left : List Text) → Lands n tokens p left → (x ≡ codes "-") ⊎ (x ≡ dec len)
 landing_means n tokens position offset len x r p left l = means_end-cases len x (lands_stopped n tokens position offset (an_array len) x r p left l).0

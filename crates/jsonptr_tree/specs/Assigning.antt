@@ -1,4 +1,4 @@
--- What an assignment makes of a document.
+-- The document after an assignment.
 use Rattle.std.specs.Prelude.{◌≡◌, suc, max, List, ◌∷◌, Option, Some, option_map}
 use Rattle.jsonptr_grammar.specs.Text.{Text}
 use Rattle.jsonptr_tree.specs.Node.{place, Path, Label, an_array, NodeMap, sub}
@@ -6,22 +6,23 @@ use Rattle.jsonptr_tree.specs.Put.{put, rest_after}
 use Rattle.jsonptr_tree.specs.Growing.{grown}
 use Rattle.jsonptr_tree.specs.Landing.{Lands}
 
--- the label of a node from which a path goes on so: an array is long enough to have the next place
+-- `long_enough rest l` is the label `l` of a node at which a path continues with `rest`; an array
+-- is made long enough to contain the index that comes next
 abbrev pub long_enough : Option Path → Option Label → Option Label
 long_enough (Some (place i ∷ p)) (Some (an_array len)) = Some (an_array (max len (suc i)))
 long_enough r l = l
 
--- n with room for the path p: each array on the way is long enough to have the place at which p
--- goes on
+-- `with_room n p` is the map `n`, with each array on the path `p` long enough to contain the next
+-- step
 abbrev pub with_room : NodeMap → Path → NodeMap
 with_room n p = λ w. long_enough (rest_after w p) (n w)
 
--- the map below w, if w is in n
+-- `found_at n w` is the map of the subtree of `n` at the path `w`, if there is one
 abbrev pub found_at : NodeMap → Path → Option NodeMap
 found_at n w = option_map (λ l. sub n w) (n w)
 
--- v assigned at the tokens makes m of n: with room for the path at which it lands, and there what
--- the tokens that are left grow round v; `old` is what stood there
+-- `Assigns n tokens v m old`: assigning `v` at `tokens` turns the map `n` into `m`, which has the
+-- expanded `v` at the path where it lands. `old` is what it replaces, if anything
 pub record Assigns (n : NodeMap) (tokens : List Text) (v m : NodeMap)
     (old : Option NodeMap) : Type 0 where
   pub path : Path

@@ -3,14 +3,14 @@ use Rattle.std.specs.Prelude.{◌≡◌, ℕ, ◌≤◌, List, [], ◌∷◌, �
 use Rattle.jsonptr_grammar.specs.Text.{Text, text}
 use Rattle.jsonptr_tree.specs.Node.{NodeMap, Label, Step, Path, NamesStep, Names, sub}
 
--- the tokens name a path of n, and m is the map below it
+-- `Finds n tokens m`: `tokens` name a path of the map `n`, and `m` is the map of the subtree there
 pub record Finds (n : NodeMap) (tokens : List Text) (m : NodeMap) : Type 0 where
   pub path : Path
   pub named : Names n tokens path
   pub below : m ≡ sub n path
 
--- the longest front of the tokens that names a path: `front` does, at `path`, and the tokens after
--- it are `rest`
+-- `StopsAt n tokens front path rest`: `front` is the longest prefix of `tokens` that names a path
+-- of `n`, `path` is that path, and `rest` are the tokens after `front`
 pub record StopsAt (n : NodeMap) (tokens front : List Text) (path : Path)
     (rest : List Text) : Type 0 where
   pub split : tokens ≡ front ++ rest
@@ -20,12 +20,13 @@ pub record StopsAt (n : NodeMap) (tokens front : List Text) (path : Path)
       → Names n longer w
       → length longer ≤ length front
 
--- no child of the node at w is the one that the token x names
+-- `LacksStep n w x`: in the map `n`, the token `x` names no child of the node at the path `w`
 abbrev pub LacksStep : NodeMap → Path → Text → Type 0
 LacksStep n w x = (s : Step) → NamesStep (n w) x s → IsSome (n (w ++ s ∷ [])) → ⊥
 
--- following stops before the token x: a front of `position` tokens, whose text has `offset` bytes,
--- names a path with this label, and no longer front names one
+-- `StopsBefore n tokens position offset label x`: following `tokens` in `n` stops at a node with
+-- this label, before the token `x`. There are `position` tokens before `x`, and their text has
+-- `offset` bytes
 pub record StopsBefore (n : NodeMap) (tokens : List Text) (position offset : ℕ) (label : Label)
     (x : Text) : Type 0 where
   pub front : List Text

@@ -1,30 +1,30 @@
--- What tokens that name nothing yet grow round a value.
+-- Path expansion: the containers that are made for tokens that name nothing yet.
 use Rattle.std.specs.Prelude.{◌≡◌, ℕ, Bool, ◌||◌, List, [], ◌∷◌, ◌++◌, Some, None, codes, if◌then◌else◌}
 use Rattle.std.specs.Str.{bytes_eq}
 use Rattle.jsonptr_grammar.specs.Text.{Text, dec}
 use Rattle.jsonptr_tree.specs.Node.{Step, key, place, Label, an_object, an_array, NodeMap}
 use Rattle.jsonptr_tree.specs.Put.{same_step}
 
--- the token means the place behind the elements of an array with this length: it is `-`, or the
--- decimal text of the length (RFC 6901, section 4)
-abbrev pub means_end : ℕ → Text → Bool
-means_end len x = bytes_eq x (codes "-") || bytes_eq x (dec len)
+-- `is_append_index len x`: the token `x` is `-` or the decimal text of `len`. Both name the index
+-- after the last element of an array of length `len` (RFC 6901, section 4)
+abbrev pub is_append_index : ℕ → Text → Bool
+is_append_index len x = bytes_eq x (codes "-") || bytes_eq x (dec len)
 
--- a node with this label and one child: the map m below the step s
+-- `with_one l s m` is the map of a node with the label `l` and one child, `m`, at the step `s`
 abbrev pub with_one : Label → Step → NodeMap → NodeMap
 with_one l s m [] = Some l
 with_one l s m (t ∷ p) = if same_step s t then m p else None
 
--- the tokens grown round v: a first token that means the end of an empty array gives an array of
--- one element, and every other an object with one member, under that text; what the rest grows
--- stands inside
+-- `grown tokens v` is the map `v`, expanded by `tokens`. A token `-` or `0` makes an array of one
+-- element, and any other an object of one member under that token, around what the tokens after it
+-- make
 abbrev pub grown : List Text → NodeMap → NodeMap
 grown [] v = v
 grown (x ∷ xs) v =
-    if means_end 0 x
+    if is_append_index 0 x
     then with_one (an_array 1) (place 0) (grown xs v)
     else with_one an_object (key x) (grown xs v)
 
--- none of the tokens is `-`
+-- `LacksDash tokens`: none of `tokens` is `-`
 abbrev pub LacksDash : List Text → Type 0
 LacksDash tokens = (xs ys : List Text) → tokens ≡ xs ++ codes "-" ∷ ys → ⊥

@@ -1,5 +1,6 @@
--- Words of private clauses alone: which tokens take an assignment back. No public clause cites them, so nothing
--- here has to be believed.
+-- The tokens that undo an assignment.
+--
+-- Used only by private contracts; no public contract depends on this file.
 use Rattle.std.specs.Prelude.{[], List, IsSome}
 use Rattle.jsonptr_grammar.specs.Text.{Text}
 use Rattle.jsonptr_tree.specs.Node.{Path, NodeMap, Names}
@@ -7,7 +8,8 @@ use Rattle.jsonptr_tree.specs.Put.{put}
 use Rattle.jsonptr_tree.specs.Landing.{Lands}
 use Rattle.jsonptr_tree.specs.Assigning.{with_room}
 
--- where a value lands that is assigned at the tokens, `landing` names the place, whatever stands there then
+-- `NamesLanding n tokens landing`: after any assignment at `tokens` in the map `n`, the tokens
+-- `landing` name the path where the value landed
 abbrev pub NamesLanding : NodeMap → List Text → List Text → Type 0
 NamesLanding n tokens landing =
     (p : Path) (left : List Text)

@@ -7,8 +7,8 @@ ghost use Rattle.jsonptr_tree.specs.Documents.{IsDocument, json_map, json_blank,
 use crate::json::json_law;
 use crate::toml_value::toml_law;
 
-/// States that the map of each JSON and of each TOML value is the map of a document, and that so is the map
-/// that removing the root leaves.
+/// The map of each JSON or TOML value is the map of a document, and so is the map that removing the
+/// root leaves.
 pub fn document_law()
     ensures json { (v : JsonValue) → IsDocument (json_map v) }
     ensures json_blank { IsDocument json_blank }

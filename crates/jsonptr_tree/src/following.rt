@@ -1,16 +1,17 @@
-//! Laws of following a pointer's tokens into a document (RFC 6901, section 4).
+//! Laws of following tokens into a document (RFC 6901, section 4).
 
 ghost use Rattle.std.specs.Prelude.{◌≡◌, ℕ, ◌<◌, ◌↔◌, ◌⊎◌, List, [], ◌∷◌, ◌++◌, IsSome};
 ghost use Rattle.jsonptr_grammar.specs.Text.{Text, dec};
 ghost use Rattle.jsonptr_tree.specs.Node.{key, Path, Label, an_object, an_array, NodeMap, Names, IsNaming, PairsOff, IsTree};
 ghost use Rattle.jsonptr_tree.specs.Following.{Finds, StopsAt, LacksStep, StopsBefore};
 
-/// RFC 6901, section 4: each reference token selects one child of the value that the tokens before
-/// it select. So a list of tokens names a path exactly if there is one token for each step, the
-/// path is in the document, and each token takes the step at its place from the node that the steps
-/// before it lead to. One list names at most one path, one path is named by at most one list, and
-/// in a document each path is named by some list: the lists that find something and the paths of
-/// the document are in bijection.
+/// Each reference token selects one child of the value that the tokens before it select (RFC 6901,
+/// section 4).
+///
+/// A list of tokens names a path exactly if three things hold. There is one token for each step,
+/// the path is in the document, and each token selects the step at its position. One list names at
+/// most one path, and at most one list names a path. In a document the lists that find a node and
+/// the paths are in bijection.
 pub fn naming_law()
     ensures whole { (n : NodeMap) (xs : List Text) (w : Path) → Names n xs w ↔ IsNaming n xs w }
     ensures one_path { (n : NodeMap) (xs : List Text) (w v : Path)
@@ -31,11 +32,13 @@ pub fn naming_law()
         → PairsOff n (λ xs. (m : NodeMap) × Finds n xs m) (λ w. IsSome (n w)) }
 {}
 
-/// RFC 6901, section 4: evaluation goes from token to token and stops where a token selects no
-/// child: behind a front that names a path, before a token that names no child of the node there.
-/// It stops at one place only. In a document, each list of tokens names a path or is stopped before
-/// one of its tokens, and not both. At an array that is a token which is the decimal text of no
-/// place of it, and at an object one that is the key of no member.
+/// Evaluation goes from token to token, and stops before a token that selects no child (RFC 6901,
+/// section 4).
+///
+/// The tokens before that one name a path, and it names no child of the node there. It is the only
+/// such token. In a document each list of tokens either names a path or is stopped before one of
+/// its tokens. At an array, such a token is not the decimal text of an index of it. At an object it
+/// is not a key.
 pub fn following_law()
     ensures stop { (n : NodeMap) (tokens front : List Text) (x : Text) (rest : List Text)
         (w : Path)

@@ -19,14 +19,16 @@ ghost use Rattle.jsonptr_tree.specs.Growing.{with_one};
 ghost use Rattle.jsonptr_tree.specs.Assigning.{with_room};
 ghost use Rattle.jsonptr_tree.specs.Removing.{without_step};
 ghost use Rattle.jsonptr_tree.specs.Content.{Content, content_at, map_of};
-ghost use Rattle.jsonptr_tree.specs.Json.{content, value_at, nodes, FindsValue, KeysAscend};
+ghost use Rattle.jsonptr_tree.specs.Json.{content, value_at, nodes, FindsValue, HasSortedKeys};
 
-/// RFC 6901, section 4: what stands in a JSON document at which path. The map of each value is a
-/// tree with finitely many nodes, and the map below a path is the map of the value there. Tokens
-/// find one value at most, and the map that they find is the map of that value. What a value holds
-/// tells the value, and what stands in it at a path is what some value holds. An array has an
-/// element at each place below its length and an object a member at each of its keys, as the Rust
-/// value has, and every other value is a leaf.
+/// What a JSON document contains at which path (RFC 6901, section 4).
+///
+/// - The map of each value is a tree with finitely many nodes, and the map below a path is that of
+///   the value there.
+/// - A list of tokens finds at most one value, and the map that it finds is that of the value.
+/// - The content of a value determines the value, and each part of it is the content of a value.
+/// - An array has an element at each index below its length, an object has a member at each of its
+///   keys, and every other value is a leaf.
 pub fn json_law()
     ensures tree { (d : Data) → IsTree (nodes d) }
     ensures finite { (d : Data) → IsListed (nodes d) }
@@ -66,10 +68,11 @@ pub fn json_law()
         → nodes (view (of_string s)) [] ≡ Some (a_leaf (of_json (string (string_bytes s)))) }
 {}
 
-/// What writing one level of a JSON value makes of its document: an element of an array or a member
-/// of an object that is set is put at its step; one behind the last makes the array longer; one
-/// that is taken out goes, as `delete` of a document would have it; and an array of one element, or
-/// an object of one member, is what `-` or a token grows.
+/// What writing one level of a JSON value does to its map.
+///
+/// Setting an element or a member puts it at its step. Pushing makes the array longer by one.
+/// Removing a child is deleting it. An array of one element and an object of one member are what
+/// one token expands to.
 pub fn json_writing_law()
     ensures set { (v w : Vec Value Global) (i : ℕ) (x : Value)
         → i < length v.items
@@ -98,15 +101,18 @@ pub fn json_writing_law()
         → nodes (view (Object n)) ≡ with_one an_object (key k) (nodes (view x)) }
 {}
 
-/// Two JSON values with one map are one value, if in each of their objects the keys ascend, as
-/// those of a Rust map in order do.
+/// A JSON value with sorted keys is determined by its map: two of them with the same map are equal.
+///
+/// An array of such values is one of them. So is an object of such values whose `BTreeMap` is in
+/// order.
 pub fn json_map_law()
-    ensures one_value { (d e : Data) → KeysAscend d → KeysAscend e → nodes d ≡ nodes e → d ≡ e }
+    ensures one_value { (d e : Data) → HasSortedKeys d → HasSortedKeys e → nodes d ≡ nodes e
+        → d ≡ e }
     ensures array { (v : Vec Value Global)
-        → ((x : Value) → Contains v.items x → KeysAscend (view x))
-        → KeysAscend (view (Array v)) }
+        → ((x : Value) → Contains v.items x → HasSortedKeys (view x))
+        → HasSortedKeys (view (Array v)) }
     ensures object { (m : BTreeMap (String Global) Value)
         → IsOrdered string_cmp m
-        → ((x : Value) → Contains (values m) x → KeysAscend (view x))
-        → KeysAscend (view (Object m)) }
+        → ((x : Value) → Contains (values m) x → HasSortedKeys (view x))
+        → HasSortedKeys (view (Object m)) }
 {}

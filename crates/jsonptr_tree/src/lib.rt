@@ -1,6 +1,7 @@
-//! Documents as maps from paths to nodes, following a list of tokens into one, and writing where it
-//! leads (RFC 6901, section 4): definitions, and laws that say in other words what they mean. No
-//! code here runs.
+//! Documents as maps from paths to nodes, following tokens in them, and writing where the tokens
+//! lead (RFC 6901, section 4).
+//!
+//! Contains definitions and laws, and no code that runs. A law states what the definitions imply.
 #![tactic(auto)]
 
 pub mod documents;

@@ -1,5 +1,4 @@
-//! Laws of writing into a document: what is put, assigned and deleted where a pointer's tokens
-//! lead.
+//! Laws of writing into a document: what is put, assigned and deleted where tokens lead.
 
 ghost use Rattle.std.specs.Prelude.{◌≡◌, ◌≢◌, codes, ℕ, suc, ◌-◌, ◌<◌, ◌≤◌, ◌↔◌, ◌⊎◌, List, [], ◌∷◌, ◌++◌, Option, Some, None, IsSome, IsTrue};
 ghost use Rattle.jsonptr_grammar.specs.Text.{Text, dec};
@@ -7,15 +6,16 @@ ghost use Rattle.jsonptr_tree.specs.Node.{Step, key, place, Path, Scalar, an_obj
 ghost use Rattle.jsonptr_tree.specs.Following.{Finds, StopsAt};
 ghost use Rattle.jsonptr_tree.specs.Put.{GoesThrough, put};
 ghost use Rattle.jsonptr_tree.specs.Landing.{Lands, LandsNowhere};
-ghost use Rattle.jsonptr_tree.specs.Growing.{means_end, grown, LacksDash};
+ghost use Rattle.jsonptr_tree.specs.Growing.{is_append_index, grown, LacksDash};
 ghost use Rattle.jsonptr_tree.specs.Assigning.{with_room, Assigns};
 ghost use Rattle.jsonptr_tree.specs.Removing.{Deletes};
 
-/// A document put at a path of another one: exactly the map that has it behind the path, and on
-/// every path that does not begin so what the other had. What stands at a path, put there, changes
-/// nothing, and of two documents put at one path the last is there. To put below a path is to put
-/// in the map below it. Tokens that named the path find the new document. A document put where a
-/// node of another stood makes a document, and of two finite ones a finite one.
+/// `put n w v` agrees with `v` below `w` and with `n` elsewhere, and it is the only such map.
+///
+/// Putting back the subtree at a path changes nothing, and the last of two puts at one path wins. A
+/// put below a path is a put in the subtree there. Tokens that named the path find the new subtree.
+/// A put at a node of a document makes a document, and a put of a finite map into a finite one is
+/// finite.
 pub fn put_law()
     ensures whole { (n : NodeMap) (w : Path) (v m : NodeMap)
         → m ≡ put n w v
@@ -40,10 +40,12 @@ pub fn put_law()
         → IsListed (put n w v) }
 {}
 
-/// What tokens that name nothing yet grow round a document: `-` and `0` an array of one element,
-/// every other token an object of one member under its text, each with what the rest grows inside;
-/// no token grows nothing. Of a document they make a document, of a finite one a finite one, and in
-/// it tokens of which none is `-` find the document that they grew round.
+/// The map that tokens expand a value to: `-` and `0` make an array of one element, and any other
+/// token makes an object of one member under that token.
+///
+/// Each container holds what the later tokens make, and without tokens the value is unchanged. The
+/// expansion of a document is a document, and that of a finite map is finite. Tokens without `-`
+/// find the value in it.
 pub fn growing_law()
     ensures nothing { (v : NodeMap) → grown [] v ≡ v }
     ensures array { (x : Text) (rest : List Text) (v : NodeMap)
@@ -64,10 +66,11 @@ pub fn growing_law()
         → Finds (grown tokens v) tokens v }
 {}
 
-/// Where a value lands that is assigned at a list of tokens: in a document at one path, with one
-/// list of tokens left to grow round it, or nowhere, and not both. It lands nowhere exactly where
-/// following stops at an array before a token that is neither `-` nor the decimal text of a number
-/// up to the array's length.
+/// In a document, an assignment at a list of tokens either stores its value at one path or fails.
+///
+/// The path and the tokens that are left to expand are unique. It fails exactly if following stops
+/// at an array, before a token that is neither `-` nor the decimal text of a number up to the
+/// array's length.
 pub fn landing_law()
     ensures lands { (n : NodeMap) (tokens : List Text)
         → IsTree n
@@ -87,12 +90,12 @@ pub fn landing_law()
         → Lands n tokens w [] }
 {}
 
-/// What an assignment makes of a document: one map, if the value lands somewhere, and none if it
-/// lands nowhere. Where the value lands stands what the tokens that are left grow round it, and
-/// tokens of which none is `-` find it. Each node whose path is not on the way there nor behind it
-/// is found by the tokens that named it, with all that stands below it. A node on the way keeps its
-/// label, but for an array behind whose last element the value lands: it has one more. Of documents
-/// it makes a document, and of finite ones a finite one.
+/// The map after an assignment: it is unique if the value lands, and there is none otherwise.
+///
+/// At the landing path is the expanded value, which tokens without `-` find. Nodes that are neither
+/// above nor below that path keep their tokens and their subtree. A node above it keeps its label,
+/// except an array to which the value is appended: its length is higher by one. The result is a
+/// document if both maps are, and finite if both are.
 pub fn assigning_law()
     ensures made { (n : NodeMap) (tokens : List Text) (v : NodeMap)
         → IsTree n
@@ -144,10 +147,14 @@ pub fn assigning_law()
         → IsListed m }
 {}
 
-/// The same case by case. Tokens that name a path: the value stands there, in place of what did. A
-/// front that leads to a scalar: what the tokens behind it grow stands there, in place of the
-/// scalar. One that leads to an object: it has a new member under the next token. One that leads to
-/// an array, of which the next token means the end: it has a new last element.
+/// The map after an assignment, case by case.
+///
+/// | Following the tokens                      | Effect                                        |
+/// | ----------------------------------------- | --------------------------------------------- |
+/// | finds a node                              | the value replaces it                         |
+/// | stops at a scalar                         | the expansion of the other tokens replaces it |
+/// | stops at an object                        | a new member, under the next token            |
+/// | stops at an array before its append index | a new last element                            |
 pub fn assigning_cases_law()
     ensures named { (n : NodeMap) (tokens : List Text) (v m : NodeMap) (old : Option NodeMap)
         (w : Path)
@@ -171,17 +178,18 @@ pub fn assigning_cases_law()
         → IsTree n
         → StopsAt n tokens front w (x ∷ rest)
         → n w ≡ Some (an_array len)
-        → IsTrue (means_end len x)
+        → IsTrue (is_append_index len x)
         → Assigns n tokens v m old
         ↔ ((m ≡ put (with_room n (w ++ place len ∷ [])) (w ++ place len ∷ []) (grown rest v))
         × (old ≡ None)) }
 {}
 
-/// What a deletion makes of a document: one map. With a member of an object go the paths through
-/// it, its tokens name nothing any more, and all others stay. With an element of an array goes one
-/// of the array's places: each later element is found one place lower, each earlier one where it
-/// was, and all that does not stand below the array stays. Of documents it makes a document, and of
-/// finite ones a finite one.
+/// The map after a deletion is unique.
+///
+/// Deleting a member removes the paths through it: its tokens name nothing afterwards, and all
+/// others are unchanged. Deleting an element moves each later element to the index before its own.
+/// Nothing outside the array changes. A deletion in a document leaves a document, and a finite map
+/// stays finite.
 pub fn deleting_law()
     ensures made { (n blank : NodeMap) (tokens : List Text)
         → IsTree n
@@ -275,9 +283,10 @@ pub fn deleting_law()
         → IsListed m }
 {}
 
-/// How an assignment is taken back. One list of tokens names, in the document that it made, the place
-/// where the value landed. Where something stood there before, to put that back gives the old document;
-/// and where nothing did, to delete at those tokens does.
+/// How to undo an assignment.
+///
+/// Exactly one list of tokens names the landing path afterwards. If the assignment replaced a node,
+/// putting that back restores the old map. Otherwise deleting at those tokens restores it.
 pub fn undoing_law()
     ensures named { (n : NodeMap) (tokens : List Text) (v m : NodeMap) (old : Option NodeMap)
         → IsTree n

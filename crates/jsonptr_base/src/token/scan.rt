@@ -1,16 +1,16 @@
-//! Passes over a token's bytes: for its first fault, for its decoded text, and for the encoded text of a text.
+//! The passes over a token's bytes: the first fault, the decoded text, and the encoded text.
 ghost use Rattle.std.specs.Prelude.{◌≡◌, ◌<◌, ◌≤◌, ◌+◌, ◌++◌, length, string_bytes, vec_len, vec_capacity, IfOk, MatchOption};
 ghost use Rattle.jsonptr_grammar.specs.Text.{esc, escape_of, unesc};
 ghost use Rattle.jsonptr_grammar.specs.Grammar.{IsToken};
 ghost use Rattle.jsonptr_base.specs.declared.token.InvalidEncoding.TheVariants.{Tilde, Slash};
 ghost use Rattle.memchr.specs.Find.{IsFirstByte, is_byte2};
 ghost use Rattle.jsonptr_base.specs.Private.{IsEscapeCut, IsPlainBefore};
-ghost use Rattle.jsonptr_base.specs.Token.{TellsTokenFault};
+ghost use Rattle.jsonptr_base.specs.Token.{IsEncodingErrorOf};
 
 use super::{EncodingError, InvalidEncoding};
 use std::alloc::{AllocError, Global};
 
-/// The place of the first `~` or `/`. A short text is read by a plain loop, with no call.
+/// Returns the offset of the first `~` or `/`. A short text is searched by a plain loop.
 #[inline(always)]
 pub(super) fn first_special(bytes: &[u8]) -> Option<usize>
     ensures { IsFirstByte (is_byte2 126 47) bytes.now result }
@@ -26,12 +26,12 @@ pub(super) fn first_special(bytes: &[u8]) -> Option<usize>
     None
 }
 
-/// How many bytes a text has for which a search by blocks pays.
+/// The length, in bytes, from which a search by blocks is faster than a plain loop.
 const SHORT: usize = 32;
 
-/// The first fault of a token's text, if it has one.
+/// Returns the first fault of a token's text, or `None` if the text is a token.
 pub(super) fn first_fault(bytes: &[u8]) -> Option<EncodingError>
-    ensures { MatchOption result (IsToken bytes.now) (TellsTokenFault bytes.now) }
+    ensures { MatchOption result (IsToken bytes.now) (IsEncodingErrorOf bytes.now) }
 {
     match first_special(bytes) {
         None => None,
@@ -39,11 +39,11 @@ pub(super) fn first_fault(bytes: &[u8]) -> Option<EncodingError>
     }
 }
 
-/// The same for a text with neither `~` nor `/` before the place `at`.
+/// Returns the first fault of a text that contains neither `~` nor `/` before the offset `at`.
 fn first_fault_from(bytes: &[u8], at: usize) -> Option<EncodingError>
     requires inside { at < length bytes.now }
     requires plain { IsPlainBefore bytes.now at }
-    ensures { MatchOption result (IsToken bytes.now) (TellsTokenFault bytes.now) }
+    ensures { MatchOption result (IsToken bytes.now) (IsEncodingErrorOf bytes.now) }
 {
     let mut i = at;
     while i < bytes.len() {
@@ -78,7 +78,7 @@ fn tilde_before(offset: usize) -> EncodingError
     }
 }
 
-/// The text that a token's text stands for, in one pass; its room is taken once.
+/// Returns the decoded text of a token's text, in one pass and with one allocation.
 pub(super) fn unescaped(alloc: Global, encoded: &str) -> Result<String, AllocError>
     requires { IsToken encoded.now }
     ensures { IfOk result (λ s. string_bytes s ≡ unesc encoded.now) }
@@ -98,12 +98,14 @@ pub(super) fn unescaped(alloc: Global, encoded: &str) -> Result<String, AllocErr
             i += 1;
         }
     }
-    // SAFETY: what a UTF-8 text escapes is UTF-8, as the `requires` is proved to say.
+    // SAFETY: only ASCII escape sequences were replaced, each by one ASCII byte, so the bytes are
+    // still UTF-8. The prover checks this: it is the condition of the call.
     Ok(unsafe { String::from_utf8_unchecked(bytes) })
 }
 
-/// Cuts a token's text around its first escape: what stands before it, what it stands for, and what follows.
-pub(super) fn cut_escape(encoded: &str) -> Option<(&str, &'static str, &str)>
+/// Splits a token's text around its first escape sequence: the text before it, the character that
+/// it encodes, and the text after it. Returns `None` if there is no escape sequence.
+pub(super) fn split_escape(encoded: &str) -> Option<(&str, &'static str, &str)>
     requires { IsToken encoded.now }
     ensures { MatchOption result
         (unesc encoded.now ≡ encoded.now)
@@ -120,15 +122,16 @@ pub(super) fn cut_escape(encoded: &str) -> Option<(&str, &'static str, &str)>
     Some((plain, stands_for, rest))
 }
 
-/// The encoded text of a text with nothing to escape before the place `at`. Its room is taken once, for the case
-/// that each byte from there on is escaped.
+/// Returns the encoded text of a text that contains neither `~` nor `/` before the offset `at`.
+///
+/// Allocates once, with room for the case that each byte from `at` on needs an escape sequence.
 pub(super) fn escaped(alloc: Global, text: &str, at: usize) -> Result<String, AllocError>
     requires inside { at ≤ length text.now }
     requires plain { IsPlainBefore text.now at }
     ensures { IfOk result (λ s. string_bytes s ≡ esc text.now) }
 {
     let (plain, rest) = text.as_bytes().split_at(at);
-    let mut bytes = Vec::with_capacity(alloc, sum(text.len(), rest.len())?)?;
+    let mut bytes = Vec::with_capacity(alloc, checked_len(text.len(), rest.len())?)?;
     bytes.extend_from_slice(plain)?;
     for &b in rest {
         push_escaped(&mut bytes, b);
@@ -137,14 +140,14 @@ pub(super) fn escaped(alloc: Global, text: &str, at: usize) -> Result<String, Al
     Ok(unsafe { String::from_utf8_unchecked(bytes) })
 }
 
-/// The sum of two lengths; no memory has room for more than `usize` can tell.
-fn sum(len: usize, more: usize) -> Result<usize, AllocError>
+/// Returns the sum of two lengths, or the error of a failed allocation if it overflows `usize`.
+fn checked_len(len: usize, more: usize) -> Result<usize, AllocError>
     ensures { IfOk result (λ n. n ≡ len + more) }
 {
     len.checked_add(more).ok_or(AllocError)
 }
 
-/// Appends the escape of a byte, for which there is room.
+/// Appends the encoded text of one byte, for which there is room.
 #[inline]
 fn push_escaped(bytes: &mut Vec<u8>, b: u8)
     requires { vec_len bytes.old + length (escape_of b) ≤ vec_capacity bytes.old }

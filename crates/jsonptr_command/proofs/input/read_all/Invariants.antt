@@ -1,4 +1,4 @@
--- The bytes kept are those that the reader gave.
+-- The bytes kept are those that the reader returned.
 use Rattle.std.specs.Io.KnownBytes.{Consumes}
 use Rattle.jsonptr_command.proofs.input.read_all.Given as goal
 

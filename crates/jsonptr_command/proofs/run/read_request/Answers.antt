@@ -1,4 +1,4 @@
--- The operations of a patch, or the words of another command, are refused.
+-- The operations of a patch, or the words of another command, fail.
 use Rattle.std.proofs.Common.{map, string_bytes, codes, sym, ◌∙◌}
 use Rattle.std.proofs.lemmas.Result.{IfErr-weaker, err_from_is_err_and}
 use Rattle.jsonptr_command.proofs.CommandLemmas.{command_refused, first_and_rest, patch_refused}

@@ -1,4 +1,4 @@
--- The pointer, or the value to assign, of a command that takes two words more is refused.
+-- The pointer of a command with one more argument fails, or the value to assign.
 use Rattle.std.proofs.Common.{◌∷◌, [], inl, inr, ap}
 use Rattle.jsonptr.specs.Text.{Text}
 use Rattle.jsonptr.specs.Pointer.{tokens}

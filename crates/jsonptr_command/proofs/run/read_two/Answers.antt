@@ -1,4 +1,4 @@
--- The pointer of a command that takes no more is refused.
+-- The pointer of a command without other arguments fails.
 use Rattle.std.proofs.Common.{◌∷◌, [], inl, inr, ap}
 use Rattle.jsonptr.specs.Text.{Text}
 use Rattle.jsonptr_command.proofs.CommandLemmas.{pointer_refused}

@@ -13,7 +13,7 @@ pub returns-clause-index : goal.returns-clause-index
 returns-clause-index c = index_label_one
 
 pub returns-clause-resolving : goal.returns-clause-resolving
-returns-clause-resolving c e = token_label_one (resolve.label_words e) (resolve.position_of e) (resolve.offset_of e)
+returns-clause-resolving c e = token_label_one (resolve.resolve_label_words e) (resolve.resolve_position_of e) (resolve.resolve_offset_of e)
 
 pub returns-clause-assigning : goal.returns-clause-assigning
-returns-clause-assigning c e = token_label_one (assign.label_words e) (assign.position_of e) (assign.offset_of e)
+returns-clause-assigning c e = token_label_one (assign.assign_label_words e) (assign.assign_position_of e) (assign.assign_offset_of e)

@@ -1,7 +1,7 @@
 use Rattle.std.proofs.Common.{◌++◌, ◌∷◌, [], refl, ap, sym, ◌∙◌, append_assoc, arith, length-append}
 use Rattle.std.proofs.lemmas.Result.{err_from_is_err_and}
 use Rattle.jsonptr_patch.proofs.BaseLemmas.{patches_start, patches_next, next_refused, value_root, each_at}
-use Rattle.jsonptr_patch.specs.Order.{IsInOrder}
+use Rattle.jsonptr_patch.specs.Order.{OperationHasSortedKeys}
 use Rattle.jsonptr_patch.proofs.patch.apply_all.Goals as goal
 
 pub loop-operation-init : goal.loop-operation-init
@@ -28,5 +28,5 @@ loop-operation-preserved c =
       rest = append_assoc c.loop-operation.yielded (c.in-Some.operation ∷ []) _ ∙ ap (λ l. c.loop-operation.yielded ++ l) (sym steps.0) ∙ held.rest;
       counted = simp length-append (omega (arith, held.counted));
       done = patches_next _ _ _ _ c.loop-operation.yielded c.in-Some.operation (value_root c.loop-operation.copy) held.done c.in_ok-apply_one.ensures.applied;
-      ordered = λ all a. c.in_ok-apply_one.ensures.order (each_at IsInOrder _ c.loop-operation.yielded _ c.in-Some.operation all split) (held.ordered all a);
+      ordered = λ all a. c.in_ok-apply_one.ensures.sorted (each_at OperationHasSortedKeys _ c.loop-operation.yielded _ c.in-Some.operation all split) (held.ordered all a);
     }

@@ -1,4 +1,4 @@
-use Rattle.jsonptr_session.proofs.RunLawLemmas.{runs_some, runs_one, runs_each, runs_state, runs_after, runs_without}
+use Rattle.jsonptr_session.proofs.RunLawLemmas.{runs_some, runs_one, runs_each, runs_state, runs_after, runs_needed, runs_without}
 use Rattle.jsonptr_session.proofs.laws.run_law.Goals as goal
 
 pub returns : goal.returns
@@ -8,5 +8,6 @@ returns c = record {
   each = runs_each;
   state = runs_state c.machine_law.ensures.state;
   after = runs_after;
+  needed = runs_needed;
   left_out = runs_without;
 }

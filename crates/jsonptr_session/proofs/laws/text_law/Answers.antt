@@ -1,5 +1,5 @@
 use Rattle.std.proofs.Common.{sym, ◌∙◌}
-use Rattle.jsonptr_grammar.proofs.PointerLemmas.{text_one}
+use Rattle.jsonptr.proofs.Calling.{text_one}
 use Rattle.jsonptr_session.proofs.MachineLemmas.{parsed_iff, unparsed_iff}
 use Rattle.jsonptr_session.proofs.laws.text_law.Goals as goal
 

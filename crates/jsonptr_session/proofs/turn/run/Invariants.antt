@@ -2,8 +2,8 @@ use Rattle.std.proofs.Common.{◌≡◌, ◌+◌, ◌++◌, ◌≤◌, length, m
 use Rattle.std.specs.Vec.Iter.{into_iter_items, into_iter_len}
 use Rattle.std.specs.Prelude.{All}
 use Rattle.jsonptr_session.specs.Machine.{Runs}
-use Rattle.jsonptr_session.specs.Session.{tells, says}
-use Rattle.jsonptr_session.specs.Order.{Brings, Gives}
+use Rattle.jsonptr_session.specs.Session.{command_of, answer_of}
+use Rattle.jsonptr_session.specs.Order.{CallHas, ReplyHas}
 use Rattle.jsonptr_session.proofs.turn.run.Given as goal
 
 abbrev pub invariant-loop-call : goal.invariant-loop-call
@@ -13,12 +13,12 @@ invariant-loop-call g l = record {
   rest : l.yielded ++ into_iter_items l.call-iterator ≡ l.fn.calls.items;
   room : length l.yielded + into_iter_len l.call-iterator ≤ vec_capacity l.replies;
   paired : vec_len l.replies ≡ length l.yielded;
-  ran : Runs g.D.Document.blank
-      (record { tokens = g.P.EditPointer.list l.initial.ptr; nodes = g.D.Document.nodes l.initial.doc })
-      (map (tells g.D.Document.nodes) l.yielded) (map (says g.D.Document.nodes) l.replies.items)
-      (record { tokens = g.P.EditPointer.list l.ptr; nodes = g.D.Document.nodes l.doc });
-  order : All (Brings g.D.Document.in_order) l.fn.calls.items
-      → g.D.Document.in_order l.initial.doc → g.D.Document.in_order l.doc;
-  given_in_order : All (Brings g.D.Document.in_order) l.fn.calls.items
-      → g.D.Document.in_order l.initial.doc → All (Gives g.D.Document.in_order) l.replies.items;
+  ran : Runs g.D.SessionDocument.blank
+      (record { tokens = g.P.EditPointer.list l.initial.ptr; nodes = g.D.SessionDocument.nodes l.initial.doc })
+      (map (command_of g.D.SessionDocument.nodes) l.yielded) (map (answer_of g.D.SessionDocument.nodes) l.replies.items)
+      (record { tokens = g.P.EditPointer.list l.ptr; nodes = g.D.SessionDocument.nodes l.doc });
+  order : All (CallHas g.D.SessionDocument.has_sorted_keys) l.fn.calls.items
+      → g.D.SessionDocument.has_sorted_keys l.initial.doc → g.D.SessionDocument.has_sorted_keys l.doc;
+  given_sorted : All (CallHas g.D.SessionDocument.has_sorted_keys) l.fn.calls.items
+      → g.D.SessionDocument.has_sorted_keys l.initial.doc → All (ReplyHas g.D.SessionDocument.has_sorted_keys) l.replies.items;
 }

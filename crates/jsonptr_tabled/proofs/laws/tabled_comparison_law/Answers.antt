@@ -1,5 +1,5 @@
 use Rattle.std.proofs.Common.{refl}
-use Rattle.jsonptr_grammar.proofs.OrderLemmas.{equal_text, text_less, ties}
+use Rattle.jsonptr.proofs.Calling.{equal_text, text_less, ties}
 use Rattle.jsonptr_tabled.proofs.laws.tabled_comparison_law.Goals as goal
 
 pub returns-clause-equal : goal.returns-clause-equal

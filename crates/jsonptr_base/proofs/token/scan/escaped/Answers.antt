@@ -8,7 +8,7 @@ pub loop-b-init : goal.loop-b-init
 loop-b-init c =
     rw (c.in_ok-extend_from_slice.ensures.items, c.in_ok-bytes.ensures.items)
     (escaped_start c.args.text.now _ _ c.split_at.result.1.now _ _ c.args.at c.as_bytes.ensures.value c.requires.inside c.requires.plain c.split_at.ensures.front c.split_at.ensures.back
-    (omega (arith, c.in_ok-extend_from_slice.ensures.len, c.in_ok-extend_from_slice.ensures.capacity, c.in_ok-bytes.ensures.len, c.in_ok-bytes.ensures.exact, c.in_ok-sum.ensures, c.split_at.ensures.front_len, c.split_at.ensures.back_len, ap length c.as_bytes.ensures.value, length-esc-le c.split_at.result.1.now)))
+    (omega (arith, c.in_ok-extend_from_slice.ensures.len, c.in_ok-extend_from_slice.ensures.capacity, c.in_ok-bytes.ensures.len, c.in_ok-bytes.ensures.exact, c.in_ok-checked_len.ensures, c.split_at.ensures.front_len, c.split_at.ensures.back_len, ap length c.as_bytes.ensures.value, length-esc-le c.split_at.result.1.now)))
 
 pub from_utf8_unchecked-requires : goal.from_utf8_unchecked-requires
 from_utf8_unchecked-requires c =

@@ -42,8 +42,8 @@ returns-clause-removed c = elim c.match-self.branch [
   ]
 ]
 
-pub returns-clause-order : goal.returns-clause-order
-returns-clause-order c = elim c.match-self.branch [
+pub returns-clause-sorted : goal.returns-clause-sorted
+returns-clause-sorted c = elim c.match-self.branch [
   | in-Array-Element w ↦ λ order.
       let vs = w.in-Array-Element.elements in let i = w.in-Array-Element.place in
       let a : c.match-self.self ≡ Array w.remove.new.self = search (rules, the_lemmas, w.self-is) in

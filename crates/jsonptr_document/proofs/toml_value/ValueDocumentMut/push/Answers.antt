@@ -1,7 +1,7 @@
 use Rattle.std.proofs.Common.{rules}
 use Rattle.toml.specs.View.{view}
 use Rattle.toml.specs.declared.value.Value.{Array, the_lemmas}
-use Rattle.jsonptr_tree.specs.TomlValue.{KeysAscend}
+use Rattle.jsonptr_tree.specs.TomlValue.{HasSortedKeys}
 use Rattle.jsonptr_tree.proofs.ContentOrderLemmas.{ascends_push}
 use Rattle.jsonptr_tree.proofs.TomlLemmas.{content_of, array_is}
 use Rattle.jsonptr_document.proofs.LevelChildren.{array-push}
@@ -12,8 +12,8 @@ returns-clause-pushed c =
     let pushed = array-push content_of Array array_is c.in-Array.elements c.push.new.self c.args.element (rw c.in-Array.elements-is at c.in_ok-push.ensures.items) in
     search (rules, the_lemmas, pushed)
 
-pub returns-clause-order : goal.returns-clause-order
-returns-clause-order c = λ h.
+pub returns-clause-sorted : goal.returns-clause-sorted
+returns-clause-sorted c = λ h.
     let items = rw c.in-Array.elements-is at c.in_ok-push.ensures.items in
-    let kept : KeysAscend (view (Array c.in-Array.elements)) → KeysAscend (view (Array c.push.new.self)) = λ a. ascends_push content_of Array array_is c.in-Array.elements c.push.new.self a c.args.element h items in
+    let kept : HasSortedKeys (view (Array c.in-Array.elements)) → HasSortedKeys (view (Array c.push.new.self)) = λ a. ascends_push content_of Array array_is c.in-Array.elements c.push.new.self a c.args.element h items in
     search (rules, the_lemmas, kept)

@@ -1,5 +1,0 @@
-use Rattle.jsonptr_patch.proofs.PartLemmas.{move_parts, move_whole}
-use Rattle.jsonptr_patch.proofs.laws.operating.move_law.Goals as goal
-
-pub returns : goal.returns
-returns c = record { parts = move_parts; whole = move_whole }

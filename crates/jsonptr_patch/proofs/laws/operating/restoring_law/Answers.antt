@@ -1,5 +1,0 @@
-use Rattle.jsonptr_patch.proofs.PartLemmas.{restoring}
-use Rattle.jsonptr_patch.proofs.laws.operating.restoring_law.Goals as goal
-
-pub returns : goal.returns
-returns c = restoring

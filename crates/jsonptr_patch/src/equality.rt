@@ -1,0 +1,186 @@
+//! The operation `test` (RFC 6902, section 4.6).
+ghost use Rattle.std.specs.Prelude.{◌≡◌, ◌↔◌, Some, IfOk, IsTrue};
+ghost use Rattle.std.specs.BTreeMap.{get_by_text};
+ghost use Rattle.serde_json.specs.View.{view, number_view};
+ghost use Rattle.jsonptr.specs.Fault.{IfRefused};
+ghost use Rattle.jsonptr.specs.Json.{nodes};
+ghost use Rattle.jsonptr.specs.Pointer.{tokens};
+ghost use Rattle.jsonptr_patch.specs.Operating.{Passes, RefusesTest};
+ghost use Rattle.jsonptr_patch.specs.PrivateTesting.{IsPlain, RefusesCompare, SameValue, FloatIn, FloatAmong, FloatUnder, SameNumber, SameElements, SameMember, SameMembers, HasKeys};
+
+use crate::operation::PatchError;
+use crate::remove_and_replace::no_target;
+use jsonptr::{Fault, Pointer};
+use serde_json::{Map, Number, Value};
+use std::alloc::Global;
+
+/// Tests that the value at `path` equals `value`, for the operation with this number.
+///
+/// # Errors
+///
+/// [`Fault::Refused`] if the pointer does not resolve to a value, if one of the two contains a
+/// float, or if they differ. [`Fault::Memory`] if an allocation fails.
+pub fn test(
+    alloc: Global,
+    doc: &Value,
+    number: usize,
+    path: Pointer<'_>,
+    value: &Value,
+) -> Result<(), Fault<PatchError>>
+    ensures passes { IfOk result (λ _. Passes (nodes (view doc.now)) (tokens path.entry)
+        (nodes (view value.now))) }
+    ensures refused { IfRefused result
+        (RefusesTest (nodes (view doc.now)) number (tokens path.entry)
+        (nodes (view value.now))) }
+{
+    match path.resolve(alloc, doc) {
+        Ok(target) => compare(number, target, value),
+        Err(fault) => Err(no_target(number, fault)),
+    }
+}
+
+/// Compares the value at the target location with the one that it must equal.
+///
+/// # Errors
+///
+/// [`PatchError::TestFloat`] if one of the two contains a float, and [`PatchError::TestFailed`] if
+/// they differ.
+fn compare(number: usize, target: &Value, value: &Value) -> Result<(), Fault<PatchError>>
+    ensures passes { IfOk result (λ _.
+        IsPlain target.now × IsPlain value.now × SameValue target.now value.now) }
+    ensures refused { IfRefused result (RefusesCompare number target.now value.now) }
+{
+    if has_float(target) || has_float(value) {
+        return Err(Fault::Refused(PatchError::TestFloat { operation: number }));
+    }
+    if !is_equal(target, value) {
+        return Err(Fault::Refused(PatchError::TestFailed { operation: number }));
+    }
+    Ok(())
+}
+
+/// Returns whether the value is a float or contains one at any depth.
+#[cycle(floats)]
+fn has_float(value: &Value) -> bool
+    ensures { IsTrue result ↔ FloatIn value.now }
+{
+    match value {
+        Value::Null => false,
+        Value::Bool(_) => false,
+        Value::Number(number) => number.is_f64(),
+        Value::String(_) => false,
+        Value::Array(elements) => elements_have_float(elements),
+        Value::Object(members) => members_have_float(members),
+    }
+}
+
+/// Returns whether one of the elements contains a float.
+#[cycle(floats)]
+fn elements_have_float(elements: &Vec<Value>) -> bool
+    ensures { IsTrue result ↔ FloatAmong elements.now.items }
+{
+    for element in elements {
+        if has_float(element) {
+            return true;
+        }
+    }
+    false
+}
+
+/// Returns whether one of the members contains a float.
+#[cycle(floats)]
+fn members_have_float(members: &Map<String, Value>) -> bool
+    ensures { IsTrue result ↔ FloatUnder members.now }
+{
+    for (_key, member) in members.iter() {
+        if has_float(member) {
+            return true;
+        }
+    }
+    false
+}
+
+/// Returns whether two values are equal. A float equals nothing.
+#[cycle(equal)]
+fn is_equal(left: &Value, right: &Value) -> bool
+    ensures { IsTrue result ↔ SameValue left.now right.now }
+{
+    match left {
+        Value::Null => right.is_null(),
+        Value::Bool(truth) => match right.as_bool() {
+            Some(other) => *truth == other,
+            None => false,
+        },
+        Value::Number(number) => match right.as_number() {
+            Some(other) => same_number(number, other),
+            None => false,
+        },
+        Value::String(text) => match right.as_str() {
+            Some(other) => text.as_str() == other,
+            None => false,
+        },
+        Value::Array(elements) => match right.as_array() {
+            Some(others) => same_elements(elements, others),
+            None => false,
+        },
+        Value::Object(members) => match right.as_object() {
+            Some(others) => same_members(members, others),
+            None => false,
+        },
+    }
+}
+
+/// Returns whether two numbers are the same integer, however each is stored.
+fn same_number(left: &Number, right: &Number) -> bool
+    ensures { IsTrue result ↔ SameNumber (number_view left.now) (number_view right.now) }
+{
+    match (left.as_i128(), right.as_i128()) {
+        (Some(whole), Some(other)) => whole == other,
+        _ => false,
+    }
+}
+
+/// Returns whether two arrays have the same length and equal elements.
+#[cycle(equal)]
+fn same_elements(left: &Vec<Value>, right: &Vec<Value>) -> bool
+    ensures { IsTrue result ↔ SameElements left.now.items right.now.items }
+{
+    if left.len() != right.len() {
+        return false;
+    }
+    for (place, element) in left.iter().enumerate() {
+        if !is_equal(element, &right[place]) {
+            return false;
+        }
+    }
+    true
+}
+
+/// Returns whether two objects have the same keys, and equal members.
+#[cycle(equal)]
+fn same_members(left: &Map<String, Value>, right: &Map<String, Value>) -> bool
+    ensures { IsTrue result ↔ SameMembers left.now right.now }
+{
+    for (key, member) in left.iter() {
+        let same = match right.get(key.as_str()) {
+            Some(other) => is_equal(member, other),
+            None => false,
+        };
+        if !same {
+            return false;
+        }
+    }
+    has_keys_of(left, right)
+}
+
+/// Returns whether `members` has each key of `others`.
+fn has_keys_of(members: &Map<String, Value>, others: &Map<String, Value>) -> bool
+    ensures { IsTrue result ↔ HasKeys members.now others.now }
+{
+    for (key, _other) in others.iter() {
+        if !members.contains_key(key.as_str()) {
+            return false;
+        }
+    }
+    true
+}

@@ -1,0 +1,36 @@
+//! Lists of operations (RFC 6902, section 5).
+ghost use Rattle.std.specs.Prelude.{◌≡◌, ◌⊎◌, ◌↔◌, List, ◌++◌, All, IsTrue};
+ghost use Rattle.jsonptr.specs.Node.{NodeMap};
+ghost use Rattle.jsonptr.specs.Documents.{IsDocument};
+ghost use Rattle.jsonptr_patch.specs.Patching.{Patches, RefusesPatch};
+ghost use Rattle.jsonptr_patch.specs.declared.operation.Operation.{Operation};
+ghost use Rattle.jsonptr_patch.specs.declared.operation.PatchError.{PatchError};
+ghost use Rattle.jsonptr_patch.specs.Operations.{IsOperation};
+
+use crate::PatchError;
+use crate::laws::operation::operation_law;
+
+/// States that in each document each list of operations either makes exactly one map, which is a
+/// document's again, or fails with exactly one error. To apply one list after another is to apply
+/// both.
+pub fn patch_law()
+    ensures some { (n : NodeMap) (os : List Operation) → IsDocument n → All IsOperation os
+        → ((m : NodeMap) × Patches n os m) ⊎ ((e : PatchError) × RefusesPatch n os e) }
+    ensures not_both { (n m : NodeMap) (os : List Operation) (e : PatchError)
+        → IsDocument n → Patches n os m → RefusesPatch n os e → ⊥ }
+    ensures one_map { (n m l : NodeMap) (os : List Operation)
+        → IsDocument n → Patches n os m → Patches n os l → m ≡ l }
+    ensures one_refusal { (n : NodeMap) (os : List Operation) (e f : PatchError)
+        → IsDocument n → RefusesPatch n os e → RefusesPatch n os f → e ≡ f }
+    ensures document { (n m : NodeMap) (os : List Operation)
+        → IsDocument n → Patches n os m → IsDocument m }
+    ensures behind { (n m : NodeMap) (os ps : List Operation)
+        → Patches n (os ++ ps) m ↔ ((l : NodeMap) × Patches n os l × Patches l ps m) }
+{
+    operation_law();
+}
+
+/// Two errors of a patch are equal exactly if they are the same error with the same fields.
+pub fn patch_error_law()
+    ensures { (e f : PatchError) → IsTrue (⟦<PatchError as PartialEq>⟧.eq e f) ↔ (e ≡ f) }
+{}

@@ -1,0 +1,10 @@
+use Rattle.serde_json.specs.View.{view}
+use Rattle.jsonptr.specs.Json.{content}
+use Rattle.jsonptr_session.proofs.FoundLemmas.{found_map, found_ordered}
+use Rattle.jsonptr_session.proofs.json.ValueSessionDocument.swap_at.Goals as goal
+
+pub returns-clause-found : goal.returns-clause-found
+returns-clause-found c = found_map view content _ _ _ _ c.swap.ensures.found
+
+pub returns-clause-given_sorted : goal.returns-clause-given_sorted
+returns-clause-given_sorted c = found_ordered view content _ _ _ _ c.swap.ensures.found

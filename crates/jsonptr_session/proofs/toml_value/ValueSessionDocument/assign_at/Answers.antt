@@ -1,0 +1,7 @@
+use Rattle.toml.specs.View.{view}
+use Rattle.jsonptr.specs.TomlValue.{content}
+use Rattle.jsonptr_session.proofs.FoundLemmas.{given_ordered}
+use Rattle.jsonptr_session.proofs.toml_value.ValueSessionDocument.assign_at.Goals as goal
+
+pub returns-clause-given_sorted : goal.returns-clause-given_sorted
+returns-clause-given_sorted c = given_ordered view content _ _ _ _ _ c.assign.ensures.assigned

@@ -1,0 +1,114 @@
+//! Assigning a value and undoing it, in a document of any type.
+ghost use Rattle.std.specs.Prelude.{◌≡◌, IfOk, IfErr, OnErr};
+ghost use Rattle.jsonptr.specs.Assign.{RefusesAssign};
+ghost use Rattle.jsonptr.specs.Fault.{IfRefused, IsRefusedAnd, HasMemory};
+ghost use Rattle.jsonptr.specs.Node.{Path, NodeMap, Names};
+ghost use Rattle.jsonptr.specs.Pointer.{tokens};
+ghost use Rattle.jsonptr.specs.Removing.{Deletes};
+ghost use Rattle.jsonptr.specs.Resolve.{Refuses};
+ghost use Rattle.jsonptr.specs.Text.{HasNoTilde, text};
+ghost use Rattle.jsonptr_session.specs.Undo.{tokens_at, IfPut, IsUndoError, AssignsWithUndo, Undoes};
+
+use crate::document::SessionDocument;
+use crate::landing::landing_of;
+use crate::undo::{Undo, UndoRefused};
+use jsonptr::{Fault, Pointer, assign, resolve};
+use std::alloc::Global;
+
+/// Assigns a value at the pointer, and returns how to undo that. Allocates the pointer of the undo
+/// before the document changes.
+///
+/// # Errors
+///
+/// [`Fault::Refused`] if no value can be assigned there, and [`Fault::Memory`] if an allocation
+/// fails. The document is unchanged.
+pub fn assign_undoable<D: SessionDocument>(
+    alloc: Global,
+    doc: &mut D,
+    ptr: Pointer<'_>,
+    value: D,
+) -> Result<Undo<D>, Fault<assign::Error>>
+    ensures assigned { IfOk result (AssignsWithUndo D.nodes (D.nodes doc.old) (tokens ptr.entry)
+        (D.nodes value) (D.nodes doc.new)) }
+    ensures inverse { IfOk result (λ u. (m : NodeMap)
+        → Undoes D.nodes D.blank (D.nodes doc.new) u m → m ≡ D.nodes doc.old) }
+    ensures sorted { IfOk result (λ _.
+        D.has_sorted_keys value → D.has_sorted_keys doc.old → D.has_sorted_keys doc.new) }
+    ensures given_sorted { IfOk result (λ u.
+        IfPut u (λ v. D.has_sorted_keys doc.old → D.has_sorted_keys v)) }
+    ensures refused { IfRefused result (RefusesAssign (D.nodes doc.old) (tokens ptr.entry)) }
+    ensures same { OnErr result (D.is_same doc.old doc.new) }
+{
+    let landing = landing_of(alloc, &*doc, ptr)?;
+    match doc.assign_at(alloc, ptr, value)? {
+        Some(old) => Ok(Undo::Put(landing, old)),
+        None => Ok(Undo::Remove(landing)),
+    }
+}
+
+/// Undoes an assignment.
+///
+/// # Errors
+///
+/// [`UndoRefused`] if the undo's pointer does not resolve to a value, or if an allocation fails. It
+/// contains the undo, and the document is unchanged.
+pub fn take_back<D: SessionDocument>(
+    alloc: Global,
+    doc: &mut D,
+    undo: Undo<D>,
+) -> Result<(), UndoRefused<D>>
+    ensures undone { IfOk result (λ _.
+        Undoes D.nodes D.blank (D.nodes doc.old) undo (D.nodes doc.new)) }
+    ensures sorted { IfOk result (λ _.
+        IfPut undo D.has_sorted_keys → D.has_sorted_keys doc.old → D.has_sorted_keys doc.new) }
+    ensures refused { IfErr result (λ r. IsUndoError (D.nodes doc.old) (tokens_at undo) r.cause) }
+    ensures handed_back { IfErr result (λ r. r.undo ≡ undo) }
+    ensures same { OnErr result (D.is_same doc.old doc.new) }
+    ensures no_memory { HasNoTilde (text (tokens_at undo))
+        → IfErr result (λ r. IsRefusedAnd r.cause (Refuses (D.nodes doc.old) (tokens_at undo))) }
+{
+    match undo {
+        Undo::Put(pointer, value) => {
+            let mut value = value;
+            match doc.swap_at(alloc, pointer.as_ptr(), &mut value) {
+                Ok(()) => Ok(()),
+                Err(cause) => Err(UndoRefused {
+                    undo: Undo::Put(pointer, value),
+                    cause,
+                }),
+            }
+        }
+        Undo::Remove(pointer) => match remove_at(alloc, doc, pointer.as_ptr()) {
+            Ok(()) => Ok(()),
+            Err(cause) => Err(UndoRefused {
+                undo: Undo::Remove(pointer),
+                cause,
+            }),
+        },
+    }
+}
+
+/// Removes the value that the pointer resolves to.
+///
+/// # Errors
+///
+/// [`Fault::Refused`] if the pointer does not resolve to a value, and [`Fault::Memory`] if an
+/// allocation fails. The document is unchanged.
+fn remove_at<D: SessionDocument>(
+    alloc: Global,
+    doc: &mut D,
+    ptr: Pointer<'_>,
+) -> Result<(), Fault<resolve::Error>>
+    ensures named { IfOk result (λ _. (w : Path) × Names (D.nodes doc.old) (tokens ptr.entry) w) }
+    ensures removed { IfOk result (λ _.
+        Deletes (D.nodes doc.old) (tokens ptr.entry) D.blank (D.nodes doc.new)) }
+    ensures sorted { IfOk result (λ _. D.has_sorted_keys doc.old → D.has_sorted_keys doc.new) }
+    ensures refused { IfRefused result (Refuses (D.nodes doc.old) (tokens ptr.entry)) }
+    ensures same { OnErr result (D.is_same doc.old doc.new) }
+    ensures no_memory { HasNoTilde (text (tokens ptr.entry)) → HasMemory result }
+{
+    match doc.delete_at(alloc, ptr)? {
+        Some(_) => Ok(()),
+        None => doc.find_at(alloc, ptr),
+    }
+}
