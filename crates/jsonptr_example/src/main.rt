@@ -1,4 +1,5 @@
-//! A program over `jsonptr`: reads, replaces and adds values of a JSON document, and prints an error.
+//! A program over `jsonptr` that reads, replaces and adds values of a JSON document, and prints an
+//! error.
 #![tactic(auto)]
 
 use jsonptr::Pointer;

@@ -1,11 +1,11 @@
--- One requirement more, and that none fails.
+-- One more requirement, and when none fails.
 use Rattle.std.proofs.Common.{◌≡◌, inl, inr, ℕ, ◌+◌, ◌<◌, List, [], ◌∷◌, ◌++◌, length, get_or, take, refl, sym, ap, subst, ◌∙◌}
 use Rattle.std.specs.List.{All}
 use Rattle.std.proofs.lemmas.List.{take_more}
 use Rattle.std.proofs.lemmas.List.Elements.{All-nil, All-cons, All-head, All-tail}
 use Rattle.jsonptr_uses.specs.Checking.{AreFailing}
 
--- one more that P holds of
+-- one more, for which P holds
 pub failing_more_met : {X : Type 0} (P : X → Type 0) (xs ys : List X) (x : X) → AreFailing P xs ys → P x → AreFailing P (xs ++ x ∷ []) ys
 failing_more_met P [] ys x none met = inl (met, none)
 failing_more_met P (z ∷ xs) ys x failing met = elim failing [
@@ -13,7 +13,7 @@ failing_more_met P (z ∷ xs) ys x failing met = elim failing [
   | inr h ↦ inr (h.0, (h.1.0, h.1.1, failing_more_met P xs h.1.0 x h.1.2 met))
 ]
 
--- one more that it does not hold of
+-- one more, for which it does not hold
 pub failing_more : {X : Type 0} (P : X → Type 0) (xs ys : List X) (x : X) → AreFailing P xs ys → (P x → ⊥) → AreFailing P (xs ++ x ∷ []) (ys ++ x ∷ [])
 failing_more P [] ys x none fails = inr (fails, ([], ap (λ l. l ++ x ∷ []) none, refl))
 failing_more P (z ∷ xs) ys x failing fails = elim failing [
@@ -22,10 +22,10 @@ failing_more P (z ∷ xs) ys x failing fails = elim failing [
 ]
 
 -- the next of a list
-next : {X : Type 0} (xs : List X) (i : ℕ) (x : X) → i < length xs → x ≡ get_or xs i x → take i xs ++ x ∷ [] ≡ take (i + 1) xs
+pub next : {X : Type 0} (xs : List X) (i : ℕ) (x : X) → i < length xs → x ≡ get_or xs i x → take i xs ++ x ∷ [] ≡ take (i + 1) xs
 next xs i x inside read = ap (λ y. take i xs ++ y ∷ []) read ∙ sym (take_more xs i x inside)
 
--- P holds of the next of a list, so no more fail
+-- P holds for the next of a list, so no more fail
 pub failing_met_at : {X : Type 0} (P : X → Type 0) (xs : List X) (i : ℕ) (x : X) (ys zs : List X) → i < length xs → x ≡ get_or xs i x → AreFailing P (take i xs) ys → P x → zs ≡ ys → AreFailing P (take (i + 1) xs) zs
 failing_met_at P xs i x ys zs inside read failing met same =
     subst (λ l. AreFailing P l zs) (next xs i x inside read) (failing_more_met P (take i xs) zs x (subst (λ l. AreFailing P (take i xs) l) (sym same) failing) met)
@@ -35,7 +35,7 @@ pub failing_at : {X : Type 0} (P : X → Type 0) (xs : List X) (i : ℕ) (x : X)
 failing_at P xs i x ys zs inside read failing fails same =
     subst (λ l. AreFailing P l zs) (next xs i x inside read) (subst (λ l. AreFailing P (take i xs ++ x ∷ []) l) (sym same) (failing_more P (take i xs) ys x failing fails))
 
--- none fails exactly where it holds of all
+-- none fails exactly if it holds for all
 pub none_failing : {X : Type 0} (P : X → Type 0) (xs ys : List X) → AreFailing P xs ys → (ys ≡ [] → All P xs) × (All P xs → ys ≡ [])
 none_failing P [] ys none = (λ _. All-nil P, λ _. none)
 none_failing P (x ∷ xs) ys failing = elim failing [

@@ -1,4 +1,4 @@
--- A cursor that names a value names one still after each call.
+-- A cursor that resolves to a value does so after each call.
 use Rattle.std.proofs.Common.{◌≡◌, ◌≤◌, ◌+◌, List, [], ◌∷◌, ◌++◌, length, Option, Some, None, Result, Ok, Err, IfOk, IfErr, OnErr, IsSome, sym, ap, subst, ◌∙◌, arith, append-nil, length-append}
 use Rattle.serde_json.specs.View.{view}
 use Rattle.serde_json.specs.declared.value.Value.{Value}
@@ -30,7 +30,7 @@ up_named n (Ok (Some t)) old new popped stays h =
     (r.0, r.3)
 up_named n (Err e) old new popped stays h = (h.0, subst (λ (ts : List Text). Names n ts h.0) (sym stays) h.1)
 
--- what is named is not refused
+-- tokens that evaluate to a path do not fail
 pub named_found : {T : Type 0} (r : Result T (Fault ResolveError)) (d e : Value) (ts us : List Text) → d ≡ e → ts ≡ us → IfRefused r (Refuses (nodes (view d)) ts) → IsNamed (nodes (view e)) us → IsRefused r → ⊥
 named_found r d e ts us same one refused h = refused_none r (Refuses (nodes (view d)) ts) refused
     (λ f why. Refuses-NamesNothing (nodes (view d)) ts f why h.0 (subst (λ (v : Value). Names (nodes (view v)) ts h.0) (sym same) (subst (λ (xs : List Text). Names (nodes (view e)) xs h.0) (sym one) h.1)))
@@ -39,7 +39,7 @@ pub named_assigned : {T : Type 0} (r : Result T (Fault AssignError)) (n : NodeMa
 named_assigned r n ts us one refused h = refused_none r (RefusesAssign n ts) refused
     (λ f why. Names-StopsBefore n ts h.0 _ _ _ _ (subst (λ (xs : List Text). Names n xs h.0) (sym one) h.1) why.nowhere.stops)
 
--- a value assigned where there is one takes its place
+-- a value assigned where there is one replaces it
 lands_there : (n : NodeMap) (ts front rest left : List Text) (path p w : Path) (v m : NodeMap) → Names n ts w → ts ≡ front ++ rest → Names n front path → length ts ≤ length front → LandsFrom path (n path) rest p left → m ≡ made n p (grown left v) → m ≡ put n w v
 lands_there n ts front [] left path p w v m named split at long lands is =
     let same : ts ≡ front = split ∙ append-nil front in

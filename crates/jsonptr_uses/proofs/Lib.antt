@@ -1,4 +1,5 @@
--- Lemmas on the undos of an editor, on removals, on patches, on settings in layers, on references, on checks, on walks, on a cursor and on the next element.
+-- Lemmas on the undos of an editor, on removals, patches, settings in layers, references, checks and walks, on a
+-- cursor, on the next element, and on calls that are read.
 pub mod UndoingLemmas
 mod RemovingLemmas
 mod PatchesLemmas
@@ -9,3 +10,4 @@ mod OverlayLemmas
 mod EditingLemmas
 mod WalkingLemmas
 mod NextLemmas
+mod SessionsLemmas

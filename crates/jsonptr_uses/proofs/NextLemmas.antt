@@ -1,4 +1,4 @@
--- Which element comes next, and that none does.
+-- The next element of an array, and when there is none.
 use Rattle.std.proofs.Common.{◌≡◌, ℕ, ◌+◌, ◌<◌, ◌^◌, List, [], ◌∷◌, ◌++◌, length, Option, Some, None, Result, Ok, IsSome, MatchOption, refl, sym, ap, subst, ◌∙◌, arith, append-nil, length-append}
 use Rattle.serde_json.specs.Data.{Data}
 use Rattle.jsonptr.specs.Text.{Text, dec}
@@ -13,7 +13,7 @@ use Rattle.jsonptr_uses.specs.PrivateWalking.{token_of, tokens_to}
 use Rattle.jsonptr_uses.specs.Editing.{NamesArray, IsNext, LacksNext}
 use Rattle.jsonptr_uses.proofs.WalkingLemmas.{tokens_are, named_by_steps}
 
--- the parts of a list by its end
+-- the parts of a list around its last element
 last_parts : (a b : List Text) (x y : Text) → a ++ x ∷ [] ≡ b ++ y ∷ [] → (a ≡ b) × (x ≡ y)
 last_parts [] [] x y e = (refl, cc)
 last_parts [] (z ∷ b) x y e =
@@ -36,7 +36,7 @@ root_lacks n ts root us h =
     let long : length ts ≡ length (h.front ++ dec h.place ∷ []) = ap (λ (l : List Text). length l) h.here in
     omega (arith, length-append h.front (dec h.place ∷ []))
 
--- nor is what stands in no array
+-- nor is a value whose parent is not an array
 pub parent_lacks : (n : NodeMap) (ts front : List Text) (last : Text) → ts ≡ front ++ last ∷ [] → ((k : ℕ) → NamesArray n front k → ⊥) → LacksNext n ts
 parent_lacks n ts front last split none us h =
     let parts = last_parts front h.front last (dec h.place) (sym split ∙ h.here) in
@@ -50,14 +50,14 @@ one_len n ts k l a b =
     let second : n a.0 ≡ Some (an_array l) = ap (λ (p : Path). n p) same ∙ b.2 in
     cc
 
--- the array has no place behind this one
+-- the array has no index after this one
 pub place_lacks : (n : NodeMap) (ts front : List Text) (last : Text) (len : ℕ) → ts ≡ front ++ last ∷ [] → NamesArray n front len → ((i : ℕ) → last ≡ dec i → i + 1 < len → ⊥) → LacksNext n ts
 place_lacks n ts front last len split array none us h =
     let parts = last_parts front h.front last (dec h.place) (sym split ∙ h.here) in
     let same : h.len ≡ len = one_len n front h.len len (subst (λ (l : List Text). NamesArray n l h.len) (sym parts.0) h.array) array in
     none h.place parts.1 (subst (λ (k : ℕ). h.place + 1 < k) same h.within)
 
--- or it has it
+-- or it has one
 pub place_next : (n : NodeMap) (ts front us : List Text) (last : Text) (len next i : ℕ) → ts ≡ front ++ last ∷ [] → NamesArray n front len → last ≡ dec i → next ≡ i + 1 → next < len → us ≡ front ++ dec next ∷ [] → IsNext n ts us
 place_next n ts front us last len next i split array reads is within made = record {
   front = front;
@@ -69,7 +69,7 @@ place_next n ts front us last len next i split array reads is within made = reco
   within = subst (λ (k : ℕ). k < len) is within;
 }
 
--- the next element is there
+-- the next element exists
 tokens_push : (w : Path) (s : Step) → tokens_to (w ++ s ∷ []) ≡ tokens_to w ++ token_of s ∷ []
 tokens_push [] s = refl
 tokens_push (t ∷ w) s = ap (λ (l : List Text). token_of t ∷ l) (tokens_push w s)
@@ -99,6 +99,6 @@ found_len d e ts (Some k) found is =
     let f = found_label d e ts found in
     (f.0, f.1, sym f.2 ∙ is)
 
--- what reads as a place
+-- what parses as an index
 pub reads_place : (x : Text) (r : Result Index ParseIndexError) (i : ℕ) → Reads x r → x ≡ dec i → i < 2 ^ 64 → r ≡ Ok (Num i)
 reads_place x r i reads is fits = Reads_one x r (Ok (Num i)) reads (is, fits)

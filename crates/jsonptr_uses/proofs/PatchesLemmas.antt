@@ -1,4 +1,4 @@
--- What a patch is applied to, and that it is not refused.
+-- The operation of a patch applies, and the patch does not fail.
 use Rattle.std.proofs.Common.{Result, Ok, Err}
 use Rattle.serde_json.specs.Data.{Data}
 use Rattle.jsonptr.specs.Fault.{IsRefused, IfRefused}
@@ -12,7 +12,7 @@ use Rattle.jsonptr.specs.Documents.{IsDocument}
 pub is_document : (d : Data) → IsDocument (nodes d)
 is_document d = (map_of-IsTree (content d), map_of-finite (content d))
 
--- what is refused for no reason is not refused
+-- what fails for no reason does not fail
 pub refused_none : {T E : Type 0} (r : Result T (Fault E)) (P : E → Type 0) → IfRefused r P → ((e : E) → P e → ⊥) → IsRefused r → ⊥
 refused_none (Ok t) P h none refused = refused
 refused_none (Err (Refused e)) P h none refused = none e h

@@ -5,9 +5,9 @@ use Rattle.std.specs.Borrow.{Bor}
 use Rattle.std.specs.Prelude.{MatchOption, option_map}
 use Rattle.serde_json.specs.Data.{Data}
 use Rattle.jsonptr.specs.Text.{Text, text}
-use Rattle.jsonptr_uses.specs.References.{after_hash, Refers, Passes}
+use Rattle.jsonptr_uses.specs.References.{after_hash, Refers, Follows}
 
--- what `strip_prefix` says of `#`
+-- the result of `strip_prefix` with `#`
 pub after_hash-from : (s : Text) (r : Option (Bor Text)) → MatchOption r ((rest : Text) → s ≢ 35 ∷ rest) (λ x. s ≡ 35 ∷ x.now) → option_map (λ x. x.now) r ≡ after_hash s
 after_hash-from [] None h = refl
 after_hash-from [] (Some x) h = cc
@@ -19,5 +19,5 @@ after_hash-from (b ∷ bs) None h = go (b == 35) refl
 after_hash-from (b ∷ bs) (Some x) h = sym (ap after_hash h)
 
 -- one reference more
-pub passes_more : (document : Data) (ts vs us : List Text) (n : ℕ) → Passes document ts n vs → Refers document vs (text us) → Passes document ts (n + 1) us
+pub passes_more : (document : Data) (ts vs us : List Text) (n : ℕ) → Follows document ts n vs → Refers document vs (text us) → Follows document ts (n + 1) us
 passes_more document ts vs us n passes refers = rw add-one (vs, passes, refers)

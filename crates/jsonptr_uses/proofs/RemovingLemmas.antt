@@ -1,4 +1,4 @@
--- A value that was taken out comes back with its parent.
+-- A removed value is restored with its parent.
 use Rattle.std.proofs.Common.{◌≡◌, List, [], ◌∷◌, ◌++◌, Option, Some, None, Result, Ok, Err, IsErrAnd, IsSome, refl, sym, ap, subst, ◌∙◌, append-nil}
 use Rattle.serde_json.specs.Data.{Data, null}
 use Rattle.serde_json.specs.View.{view}
@@ -6,7 +6,7 @@ use Rattle.serde_json.specs.declared.value.Value.{Value}
 use Rattle.jsonptr.specs.Text.{Text}
 use Rattle.jsonptr.specs.Fault.{IfRefused, IsRefused}
 use Rattle.jsonptr.specs.Following.{Finds}
-use Rattle.jsonptr.specs.Json.{nodes, FindsValue, KeysAscend}
+use Rattle.jsonptr.specs.Json.{nodes, FindsValue, HasSortedKeys}
 use Rattle.jsonptr.specs.Node.{Step, key, place, Path, Label, an_object, an_array, a_leaf, NodeMap, sub, Names}
 use Rattle.jsonptr.specs.Put.{put}
 use Rattle.jsonptr.specs.Removing.{one_less, without_step, Deletes}
@@ -19,7 +19,7 @@ use Rattle.jsonptr_session.specs.declared.undo.Undo.TheVariants.{Put}
 use Rattle.jsonptr_uses.specs.Undoing.{IsAbove, LeadsBack}
 use Rattle.jsonptr_uses.proofs.PatchesLemmas.{refused_none}
 
--- the parent is named where the value is
+-- if the value has tokens, so has the parent
 pub above_named : (n : NodeMap) (ts us : List Text) (w : Path) → IsAbove ts us → Names n ts w → (v : Path) × Names n us v
 above_named n ts us w (None, h) named = ([], subst (λ (l : List Text). Names n l []) (sym h.1) (Names-root n ts w named))
 above_named n ts us w (Some t, h) named =
@@ -36,7 +36,7 @@ some_without : (n : NodeMap) (s : Step) → IsSome (n []) → IsSome (without_st
 some_without n (key k) h = h
 some_without n (place i) h = some_less (n []) h
 
--- what is left of n differs from it below the parent alone
+-- `IsLeft n m us`: the map `m` that is left of `n` differs from it only below the parent at `us`
 pub record IsLeft (n m : NodeMap) (us : List Text) : Type 0 where
   pub path : Path
   pub value : NodeMap
@@ -63,11 +63,11 @@ is_left n m blank ts us w root (Some t, h) named gone =
       made = gone.child r.0 r.1 there;
     }
 
--- the parent is named as it was
+-- the parent has the same tokens as before
 pub left_named : (n m : NodeMap) (us : List Text) (l : IsLeft n m us) → Names m us l.path
 left_named n m us l = subst (λ (k : NodeMap). Names k us l.path) (sym l.made) (Names-put n us l.path l.value l.named l.root)
 
--- what was found at the parent, put there, makes the old map
+-- the old value of the parent, put there, makes the old map
 put_back : (n m v k : NodeMap) (us : List Text)
     → ((a : NodeMap) (w : Path) (b c : NodeMap) → put (put a w b) w c ≡ put a w c)
     → ((a : NodeMap) (w : Path) → put a w (sub a w) ≡ a)
@@ -85,7 +85,7 @@ put_back n m v k us twice same l found puts =
     ∙ twice n l.path l.value (sub n l.path)
     ∙ same n l.path
 
--- so a copy of the parent leads back
+-- so a copy of the parent is an undo
 pub parent_leads : (d m parent : Data) (copy : Value) (ts us : List Text) (w : Path)
     → ((a : NodeMap) (p : Path) (b c : NodeMap) → put (put a p b) p c ≡ put a p c)
     → ((a : NodeMap) (p : Path) → put a p (sub a p) ≡ a)
@@ -94,7 +94,7 @@ pub parent_leads : (d m parent : Data) (copy : Value) (ts us : List Text) (w : P
     → Names (nodes d) ts w
     → FindsValue d us parent
     → view copy ≡ parent
-    → KeysAscend d
+    → HasSortedKeys d
     → Deletes (nodes d) ts (nodes null) (nodes m)
     → LeadsBack d (Put us copy) m
 parent_leads d m parent copy ts us w twice same root above named found is order gone =
@@ -107,27 +107,27 @@ parent_leads d m parent copy ts us w twice same root above named found is order 
       gives = λ e puts ordered. nodes_one e d ordered order (put_back (nodes d) (nodes m) (nodes (view copy)) (nodes e) us twice same left (FindsValue-Finds d us (view copy) there) puts);
     }
 
--- the parent is not refused
+-- resolving the parent does not fail
 pub above_not_refused : {P : Type 0} (n : NodeMap) (ts us : List Text) (w : Path) (e : Error) → IsAbove ts us → Names n ts w → Refuses n us e → P
 above_not_refused n ts us w e above named refused =
     let r = above_named n ts us w above named in
     absurd (Refuses-NamesNothing n us e refused r.0 r.1)
 
--- an error that is handed on
+-- an error that is passed on
 pub handed_on : {T U E : Type 0} (r : Result T (Fault E)) (s : Result U (Fault E)) (fault : Fault E) (P Q : E → Type 0) → ((e : E) → Q e → P e) → s ≡ Err fault → IfRefused s Q → IsErrAnd r (λ e. e ≡ fault) → IfRefused r P
 handed_on (Ok t) s fault P Q weaker was why is = tt
 handed_on {U = U} (Err (Refused e)) s fault P Q weaker was why is =
     weaker e (subst (λ (f : Fault _). IfRefused {T = U} (Err f) Q) (sym is) (subst (λ (t : Result _ (Fault _)). IfRefused t Q) was why))
 handed_on (Err (Memory e)) s fault P Q weaker was why is = tt
 
--- the cursor stands at the parent
+-- the cursor is at the parent
 pub parent_named : (n m : NodeMap) (cursor ts us parent : List Text) → ts ≡ cursor → IsAbove ts us → parent ≡ us → Deletes n cursor (nodes null) m → (w : Path) × Names n cursor w → (w : Path) × Names m parent w
 parent_named n m cursor ts us parent is above copy gone stands =
     let there : IsAbove cursor parent = subst (λ (l : List Text). IsAbove l parent) is (subst (λ (l : List Text). IsAbove ts l) (sym copy) above) in
     let left = is_left n m (nodes null) cursor parent stands.0 refl there stands.1 gone in
     (left.path, left_named n m parent left)
 
--- what is named is not refused
+-- tokens that evaluate to a path do not fail
 pub named_not_refused : {T U : Type 0} (r : Result T (Fault Error)) (s : Result U (Fault Error)) (fault : Fault Error) (n : NodeMap) (ts cursor : List Text) → ts ≡ cursor → s ≡ Err fault → IfRefused s (Refuses n ts) → IsErrAnd r (λ e. e ≡ fault) → (w : Path) × Names n cursor w → IsRefused r → ⊥
 named_not_refused r s fault n ts cursor is was why same stands =
     refused_none r (λ e. ⊥)

@@ -1,4 +1,4 @@
--- What a walk over the parts of a document adds, part by part, and that it is a walk over the whole.
+-- What a walk over the parts of a document appends, part by part, and that it is a walk over the whole.
 use Rattle.std.proofs.Common.{◌≡◌, inl, inr, ℕ, zero, suc, ◌+◌, ◌<◌, ◌≤◌, ◌⊎◌, Bool, true, false, cond, is_eq, List, [], ◌∷◌, ◌++◌, length, get_or, map, Option, Some, None, IsSome, option_map, String, Vec, Global, Less, Equal, nat_cmp, string_bytes, string_cmp, refl, sym, ap, subst, ◌∙◌, arith, append_assoc, append-nil, true≢false}
 use Rattle.std.specs.List.{Contains, AllByRecursion}
 use Rattle.std.specs.List.Sorted.{IsStrictlySortedBy}
@@ -20,7 +20,7 @@ use Rattle.jsonptr.specs.Content.{Content, label_of, map_of}
 use Rattle.jsonptr.proofs.Calling.{Names-here, Names_one_path, IsTree-above, IsTree-named}
 use Rattle.jsonptr_patch.proofs.TestingLemmas.{found_middle}
 use Rattle.jsonptr_uses.specs.Walking.{ChildBefore, Before, IsWalk}
-use Rattle.jsonptr_uses.specs.PrivateWalking.{token_of, tokens_to, Among, Ascends, Adds, Whole, Below}
+use Rattle.jsonptr_uses.specs.PrivateWalking.{token_of, tokens_to, Among, Ascends, AddsPointers, Whole, Below}
 
 -- elements of lists
 
@@ -105,7 +105,7 @@ ascends_below s [] a = tt
 ascends_below s (w ∷ ws) a =
     (λ v h. let r = map_among (λ u. s ∷ u) ws v h in subst (λ (u : Path). Before (s ∷ w) u) (sym r.2) (inr (refl, a.0 r.0 r.1)), ascends_below s ws a.1)
 
--- what one part adds after others
+-- what one part appends after others
 
 longer : (through : List Text) (s : Step) (ws : List Path) → map (λ w. (through ++ token_of s ∷ []) ++ tokens_to w) ws ≡ map (λ w. through ++ tokens_to w) (map (λ w. s ∷ w) ws)
 longer through s [] = refl
@@ -115,14 +115,14 @@ longer through s (w ∷ ws) = cong2 (append_assoc through (token_of s ∷ []) (t
     cong2 e f = cc
 
 pub adds_part : (n m : NodeMap) (P Q : Path → Type 0) (through : List Text) (s : Step) (old mid new : List (List Text))
-    → Adds n P through old mid
-    → Adds m Whole (through ++ token_of s ∷ []) mid new
+    → AddsPointers n P through old mid
+    → AddsPointers m Whole (through ++ token_of s ∷ []) mid new
     → m ≡ sub n (s ∷ [])
     → ((w : Path) → P w → Q w)
     → ((w : Path) → Q (s ∷ w))
     → ((w : Path) → Q w → P w ⊎ ((u : Path) × (w ≡ s ∷ u)))
     → ((w u : Path) → P w → Before w (s ∷ u))
-    → Adds n Q through old new
+    → AddsPointers n Q through old new
 adds_part n m P Q through s old mid new a b is weaker here cases before = record {
   paths = a.paths ++ map (λ w. s ∷ w) b.paths;
   listed =
@@ -155,7 +155,7 @@ adds_part n m P Q through s old mid new a b is weaker here cases before = record
         subst (λ (v : Path). Among (map (λ x. s ∷ x) b.paths) v) (sym e) (among_map (λ v. s ∷ v) b.paths u (b.all u tt below))
 
 -- nothing yet
-pub adds_none : (n : NodeMap) (P : Path → Type 0) (through : List Text) (old : List (List Text)) → ((w : Path) → P w → IsSome (n w) → ⊥) → Adds n P through old old
+pub adds_none : (n : NodeMap) (P : Path → Type 0) (through : List Text) (old : List (List Text)) → ((w : Path) → P w → IsSome (n w) → ⊥) → AddsPointers n P through old old
 adds_none n P through old none = record {
   paths = [];
   listed = sym (append-nil old);
@@ -164,8 +164,8 @@ adds_none n P through old none = record {
   order = tt;
 }
 
--- the same of paths that have the one property exactly if they have the other
-pub adds_same : (n : NodeMap) (P Q : Path → Type 0) (through : List Text) (old new : List (List Text)) → Adds n P through old new → ((w : Path) → P w → Q w) → ((w : Path) → Q w → IsSome (n w) → P w) → Adds n Q through old new
+-- the same for paths that have one property exactly if they have the other
+pub adds_same : (n : NodeMap) (P Q : Path → Type 0) (through : List Text) (old new : List (List Text)) → AddsPointers n P through old new → ((w : Path) → P w → Q w) → ((w : Path) → Q w → IsSome (n w) → P w) → AddsPointers n Q through old new
 adds_same n P Q through old new a weaker stronger = record {
   paths = a.paths;
   listed = a.listed;
@@ -175,7 +175,7 @@ adds_same n P Q through old new a weaker stronger = record {
 }
 
 -- the root, and then all below it
-pub adds_root : (n : NodeMap) (through : List Text) (old mid new : List (List Text)) → mid ≡ old ++ through ∷ [] → IsSome (n []) → Adds n Below through mid new → Adds n Whole through old new
+pub adds_root : (n : NodeMap) (through : List Text) (old mid new : List (List Text)) → mid ≡ old ++ through ∷ [] → IsSome (n []) → AddsPointers n Below through mid new → AddsPointers n Whole through old new
 adds_root n through old mid new pushed root a = record {
   paths = [] ∷ a.paths;
   listed =
@@ -203,7 +203,7 @@ adds_root n through old mid new pushed root a = record {
     first (s ∷ v) h = tt
 
 -- a leaf is its root alone
-pub adds_leaf : (n : NodeMap) (through : List Text) (old new : List (List Text)) → new ≡ old ++ through ∷ [] → IsTree n → ((s : Step) → MayHave (n []) s → ⊥) → Adds n Whole through old new
+pub adds_leaf : (n : NodeMap) (through : List Text) (old new : List (List Text)) → new ≡ old ++ through ∷ [] → IsTree n → ((s : Step) → MayHave (n []) s → ⊥) → AddsPointers n Whole through old new
 adds_leaf n through old new pushed tree none = adds_root n through old new new pushed tree.root (adds_none n Below through new below)
   where
     below : (w : Path) → Below w → IsSome (n w) → ⊥
@@ -213,7 +213,7 @@ adds_leaf n through old new pushed tree none = adds_root n through old new new p
 no_child : (o : Option Label) (l : Label) → o ≡ Some l → (v : _) → l ≡ a_leaf v → (s : Step) → MayHave o s → ⊥
 no_child o l is v leaf s h = subst (λ (x : Option Label). MayHave x s) (is ∙ ap (λ x. Some x) leaf) h
 
-pub scalar_leaf : (n : NodeMap) (v : _) (through : List Text) (old new : List (List Text)) → n [] ≡ Some (a_leaf v) → new ≡ old ++ through ∷ [] → IsTree n → Adds n Whole through old new
+pub scalar_leaf : (n : NodeMap) (v : _) (through : List Text) (old new : List (List Text)) → n [] ≡ Some (a_leaf v) → new ≡ old ++ through ∷ [] → IsTree n → AddsPointers n Whole through old new
 scalar_leaf n v through old new is pushed tree = adds_leaf n through old new pushed tree (no_child (n []) (a_leaf v) is v refl)
 
 -- elements
@@ -224,7 +224,7 @@ InFirst len [] = ⊥
 InFirst len (key k ∷ w) = ⊥
 InFirst len (place i ∷ w) = i < len
 
-pub no_element : (n : NodeMap) (through : List Text) (old : List (List Text)) → Adds n (InFirst 0) through old old
+pub no_element : (n : NodeMap) (through : List Text) (old : List (List Text)) → AddsPointers n (InFirst 0) through old old
 no_element n through old = adds_none n (InFirst 0) through old none
   where
     none : (w : Path) → InFirst 0 w → IsSome (n w) → ⊥
@@ -232,7 +232,7 @@ no_element n through old = adds_none n (InFirst 0) through old none
     none (key k ∷ w) p some = p
     none (place i ∷ w) p some = omega (arith, p)
 
-pub element_more : (n m : NodeMap) (through : List Text) (i : ℕ) (old mid new : List (List Text)) → Adds n (InFirst i) through old mid → Adds m Whole (through ++ dec i ∷ []) mid new → m ≡ sub n (place i ∷ []) → Adds n (InFirst (i + 1)) through old new
+pub element_more : (n m : NodeMap) (through : List Text) (i : ℕ) (old mid new : List (List Text)) → AddsPointers n (InFirst i) through old mid → AddsPointers m Whole (through ++ dec i ∷ []) mid new → m ≡ sub n (place i ∷ []) → AddsPointers n (InFirst (i + 1)) through old new
 element_more n m through i old mid new a b is = adds_part n m (InFirst i) (InFirst (i + 1)) through (place i) old mid new a b is weaker (λ w. omega arith) cases before
   where
     weaker : (w : Path) → InFirst i w → InFirst (i + 1) w
@@ -253,7 +253,7 @@ element_more n m through i old mid new a b is = adds_part n m (InFirst i) (InFir
     before (key k ∷ w) u p = absurd p
     before (place j ∷ w) u p = inl p
 
-pub elements_all : (n : NodeMap) (len : ℕ) (through : List Text) (old new : List (List Text)) → IsTree n → n [] ≡ Some (an_array len) → (i : ℕ) → len ≤ i → Adds n (InFirst i) through old new → Adds n Below through old new
+pub elements_all : (n : NodeMap) (len : ℕ) (through : List Text) (old new : List (List Text)) → IsTree n → n [] ≡ Some (an_array len) → (i : ℕ) → len ≤ i → AddsPointers n (InFirst i) through old new → AddsPointers n Below through old new
 elements_all n len through old new tree label i long a = adds_same n (InFirst i) Below through old new a weaker stronger
   where
     weaker : (w : Path) → InFirst i w → Below w
@@ -281,7 +281,7 @@ Under es [] = ⊥
 Under es (key k ∷ w) = KeyAmong es k
 Under es (place i ∷ w) = ⊥
 
-pub no_member : (n : NodeMap) (through : List Text) (old : List (List Text)) → Adds n (Under []) through old old
+pub no_member : (n : NodeMap) (through : List Text) (old : List (List Text)) → AddsPointers n (Under []) through old old
 no_member n through old = adds_none n (Under []) through old none
   where
     none : (w : Path) → Under [] w → IsSome (n w) → ⊥
@@ -325,7 +325,7 @@ key_before (x ∷ done) e more h k among = elim among [
   | inr r ↦ key_before done e more h.1 k r
 ]
 
-pub member_more : (n m : NodeMap) (through : List Text) (done : List Entry) (e : Entry) (more : List Entry) (old mid new : List (List Text)) → Adds n (Under done) through old mid → Adds m Whole (through ++ string_bytes e.0 ∷ []) mid new → m ≡ sub n (key (string_bytes e.0) ∷ []) → IsStrictlySortedBy string_cmp (keys_of (done ++ e ∷ more)) → Adds n (Under (done ++ e ∷ [])) through old new
+pub member_more : (n m : NodeMap) (through : List Text) (done : List Entry) (e : Entry) (more : List Entry) (old mid new : List (List Text)) → AddsPointers n (Under done) through old mid → AddsPointers m Whole (through ++ string_bytes e.0 ∷ []) mid new → m ≡ sub n (key (string_bytes e.0) ∷ []) → IsStrictlySortedBy string_cmp (keys_of (done ++ e ∷ more)) → AddsPointers n (Under (done ++ e ∷ [])) through old new
 member_more n m through done e more old mid new a b is sorted = adds_part n m (Under done) (Under (done ++ e ∷ [])) through (key (string_bytes e.0)) old mid new a b is weaker (λ w. key_last done e) cases before
   where
     weaker : (w : Path) → Under done w → Under (done ++ e ∷ []) w
@@ -353,7 +353,7 @@ member_map m done e more is sorted law =
     let there : get_by_text m (string_bytes e.0) ≡ Some e.1 = ap (λ (es : List Entry). lookup (is_at (λ l. slice_cmp nat_cmp (string_bytes e.0) (string_bytes l))) es) is ∙ found in
     law ∙ ap (option_map (λ v. content (view v))) there
 
--- what is found under a key is one of the entries
+-- the key of a found value is the key of an entry
 found_key : (es : List Entry) (k : Text) → IsSome (lookup (is_at (λ l. slice_cmp nat_cmp k (string_bytes l))) es) → KeyAmong es k
 found_key [] k h = absurd (true≢false (sym h))
 found_key (e ∷ es) k h = by_test (found_key es k) (is_eq (slice_cmp nat_cmp k (string_bytes e.0))) refl h
@@ -366,7 +366,7 @@ some_there : (o : Option Value) (c : Option Content) → c ≡ option_map (λ v.
 some_there None c is some = absurd (true≢false (sym (subst (λ (d : Option Content). IsSome (option_map label_of d)) is some)))
 some_there (Some v) c is some = refl
 
-pub members_all : (m : BTreeMap (String Global) Value) (through : List Text) (old new : List (List Text)) → IsTree (nodes (view (Object m))) → nodes (view (Object m)) [] ≡ Some an_object → ((k : List ℕ) → value_at (key k ∷ []) (view (Object m)) ≡ option_map (λ v. content (view v)) (get_by_text m k)) → Adds (nodes (view (Object m))) (Under m.entries) through old new → Adds (nodes (view (Object m))) Below through old new
+pub members_all : (m : BTreeMap (String Global) Value) (through : List Text) (old new : List (List Text)) → IsTree (nodes (view (Object m))) → nodes (view (Object m)) [] ≡ Some an_object → ((k : List ℕ) → value_at (key k ∷ []) (view (Object m)) ≡ option_map (λ v. content (view v)) (get_by_text m k)) → AddsPointers (nodes (view (Object m))) (Under m.entries) through old new → AddsPointers (nodes (view (Object m))) Below through old new
 members_all m through old new tree label law a = adds_same n (Under m.entries) Below through old new a weaker stronger
   where
     n : NodeMap
@@ -386,10 +386,10 @@ members_all m through old new tree label law a = adds_same n (Under m.entries) B
         let one = IsTree-above (nodes (view (Object m))) tree (s ∷ []) w some in
         inside s w (subst (λ (o : Option Label). MayHave o s) label (tree.parent [] s one)) one
 
--- in the words of the code
+-- in the terms of the code
 
-pub whole_value : (v w : Value) (through : List Text) (old mid new : List (List Text)) → v ≡ w → mid ≡ old ++ through ∷ [] → IsTree (nodes (view w)) → Adds (nodes (view w)) Below through mid new → Adds (nodes (view v)) Whole through old new
-whole_value v w through old mid new is pushed tree a = subst (λ (u : Value). Adds (nodes (view u)) Whole through old new) (sym is) (adds_root (nodes (view w)) through old mid new pushed tree.root a)
+pub whole_value : (v w : Value) (through : List Text) (old mid new : List (List Text)) → v ≡ w → mid ≡ old ++ through ∷ [] → IsTree (nodes (view w)) → AddsPointers (nodes (view w)) Below through mid new → AddsPointers (nodes (view v)) Whole through old new
+whole_value v w through old mid new is pushed tree a = subst (λ (u : Value). AddsPointers (nodes (view u)) Whole through old new) (sym is) (adds_root (nodes (view w)) through old mid new pushed tree.root a)
 
 pub element_step : (v : Vec Value Global) (vs : List Value) (i : ℕ) (e : Value) (through at : List Text) (old mid new : List (List Text))
     → vs ≡ v.items
@@ -398,14 +398,14 @@ pub element_step : (v : Vec Value Global) (vs : List Value) (i : ℕ) (e : Value
     → ((j : ℕ) (x : Value) → j < length v.items → value_at (place j ∷ []) (view (Array v)) ≡ Some (content (view (get_or v.items j x))))
     → ((c : Content) → value_at (place i ∷ []) (view (Array v)) ≡ Some c → map_of c ≡ sub (nodes (view (Array v))) (place i ∷ []))
     → at ≡ through ++ dec i ∷ []
-    → Adds (nodes (view (Array v))) (InFirst i) through old mid
-    → Adds (nodes (view e)) Whole at mid new
-    → Adds (nodes (view (Array v))) (InFirst (i + 1)) through old new
+    → AddsPointers (nodes (view (Array v))) (InFirst i) through old mid
+    → AddsPointers (nodes (view e)) Whole at mid new
+    → AddsPointers (nodes (view (Array v))) (InFirst (i + 1)) through old new
 element_step v vs i e through at old mid new same inside read element below leads a b =
     let short : i < length v.items = subst (λ (l : List Value). i < length l) same inside in
     let here : e ≡ get_or v.items i e = read ∙ ap (λ (l : List Value). get_or l i e) same in
     let there : value_at (place i ∷ []) (view (Array v)) ≡ Some (content (view e)) = element i e short ∙ ap (λ (u : Value). Some (content (view u))) (sym here) in
-    element_more (nodes (view (Array v))) (nodes (view e)) through i old mid new a (subst (λ (ts : List Text). Adds (nodes (view e)) Whole ts mid new) leads b) (below (content (view e)) there)
+    element_more (nodes (view (Array v))) (nodes (view e)) through i old mid new a (subst (λ (ts : List Text). AddsPointers (nodes (view e)) Whole ts mid new) leads b) (below (content (view e)) there)
 
 pub member_step : (m : BTreeMap (String Global) Value) (done : List Entry) (e : Entry) (more : List Entry) (through at : List Text) (old mid new : List (List Text))
     → m.entries ≡ done ++ e ∷ more
@@ -413,12 +413,12 @@ pub member_step : (m : BTreeMap (String Global) Value) (done : List Entry) (e : 
     → ((k : List ℕ) → value_at (key k ∷ []) (view (Object m)) ≡ option_map (λ v. content (view v)) (get_by_text m k))
     → ((w : Path) (c : Content) → value_at w (view (Object m)) ≡ Some c → map_of c ≡ sub (nodes (view (Object m))) w)
     → at ≡ through ++ string_bytes e.0 ∷ []
-    → Adds (nodes (view (Object m))) (Under done) through old mid
-    → Adds (nodes (view e.1)) Whole at mid new
-    → Adds (nodes (view (Object m))) (Under (done ++ e ∷ [])) through old new
+    → AddsPointers (nodes (view (Object m))) (Under done) through old mid
+    → AddsPointers (nodes (view e.1)) Whole at mid new
+    → AddsPointers (nodes (view (Object m))) (Under (done ++ e ∷ [])) through old new
 member_step m done e more through at old mid new is sorted member below leads a b =
     let there = member_map m done e more is sorted (member (string_bytes e.0)) in
-    member_more (nodes (view (Object m))) (nodes (view e.1)) through done e more old mid new a (subst (λ (ts : List Text). Adds (nodes (view e.1)) Whole ts mid new) leads b) (below (key (string_bytes e.0) ∷ []) (content (view e.1)) there) (subst (λ (es : List Entry). IsStrictlySortedBy string_cmp (keys_of es)) is sorted)
+    member_more (nodes (view (Object m))) (nodes (view e.1)) through done e more old mid new a (subst (λ (ts : List Text). AddsPointers (nodes (view e.1)) Whole ts mid new) leads b) (below (key (string_bytes e.0) ∷ []) (content (view e.1)) there) (subst (λ (es : List Entry). IsStrictlySortedBy string_cmp (keys_of es)) is sorted)
 
 -- the whole walk
 
@@ -457,7 +457,7 @@ ordered (w ∷ ws) (x ∷ above) below ts us a e h =
     let r = ordered ws above below ts us a.1 tail h in
     (r.0, r.1, inr r.2, inr r.3, r.4, r.5, r.6)
 
-pub walk_whole : (n : NodeMap) (lists : List (List Text)) (through : List Text) (none : List (List Text)) → through ≡ [] → none ≡ [] → IsTree n → Adds n Whole through none lists → IsWalk n lists
+pub walk_whole : (n : NodeMap) (lists : List (List Text)) (through : List Text) (none : List (List Text)) → through ≡ [] → none ≡ [] → IsTree n → AddsPointers n Whole through none lists → IsWalk n lists
 walk_whole n lists through none root empty tree a = record {
   nodes = λ ts. (λ h. one ts (contains_among lists ts h), λ h. two ts h.0 h.1);
   once = λ above below ts e h.

@@ -1,5 +1,5 @@
--- What the undos of an editor lead back to, what settings in layers answer, where references lead, what a document is
--- checked for, what one laid over another has, and what a walk over a document gives.
+-- Where the undos of an editor lead, and where references lead. The values of settings in layers and of an overlay.
+-- What a document is checked for, and the walk over a document. Sessions on texts.
 pub mod Undoing
 pub mod Settings
 pub mod References
@@ -7,4 +7,5 @@ pub mod Checking
 pub mod Overlay
 pub mod Walking
 pub mod Editing
+pub mod Sessions
 pub mod PrivateWalking

@@ -1,4 +1,4 @@
--- What tokens name in a document that is laid over another one.
+-- What tokens resolve to in a document that is laid over another one.
 use Rattle.std.specs.Prelude.{◌⊎◌, List}
 use Rattle.serde_json.specs.Data.{Data}
 use Rattle.jsonptr.specs.Text.{Text}
@@ -7,11 +7,11 @@ use Rattle.jsonptr.specs.Delete.{NamesNothing}
 use Rattle.jsonptr.specs.Resolve.{Refuses}
 use Rattle.jsonptr.specs.declared.resolve.Error.{Error}
 
--- what they name in the upper one, and where they name nothing there, what they name in the lower one
+-- `FindsIn upper lower ts value`: `ts` resolve to `value` in `upper`, or to nothing there and to `value` in `lower`.
 abbrev pub FindsIn : Data → Data → List Text → Data → Type 0
 FindsIn upper lower ts value =
     FindsValue upper ts value ⊎ (NamesNothing (nodes upper) ts × FindsValue lower ts value)
 
--- they name nothing in either, which the error tells of the lower one
+-- `RefusesIn upper lower ts e`: `ts` resolve to nothing in either, and `e` reports why for `lower`.
 abbrev pub RefusesIn : Data → Data → List Text → Error → Type 0
 RefusesIn upper lower ts e = NamesNothing (nodes upper) ts × Refuses (nodes lower) ts e

@@ -1,9 +1,9 @@
-//! Callers that meet what a call asks of them.
+//! Callers that meet the conditions of a call.
 ghost use Rattle.std.specs.Prelude.{◌≡◌};
 
 use jsonptr::{EncodingError, InvalidEncoding, ParseError, Pointer};
 
-/// How many bytes a pointer of a constant text has (RFC 6901, section 3).
+/// Returns the length in bytes of a pointer with a constant text (RFC 6901, section 3).
 pub fn len_of_constant() -> usize
     ensures { result ≡ 11 }
 {
@@ -11,7 +11,7 @@ pub fn len_of_constant() -> usize
     pointer.len()
 }
 
-/// The same of a text that is known to be a pointer.
+/// Returns the length in bytes of a pointer whose text is known to be valid.
 pub fn len_of_known() -> usize
     ensures { result ≡ 5 }
 {
@@ -19,7 +19,8 @@ pub fn len_of_known() -> usize
     pointer.len()
 }
 
-/// The place of the fault in the whole text, where that of the token and that within the token are 4 and 8.
+/// Returns the offset of an error in the whole text. The token is at offset 4, and the error at
+/// offset 8 of the token.
 pub fn place_of_fault() -> usize
     ensures { result ≡ 12 }
 {

@@ -1,18 +1,18 @@
-//! A type of one's own as a document: a value laid over another one.
-ghost use Rattle.std.specs.Prelude.{◌≡◌, ◌≢◌, All, IfOk};
+//! A document type of one's own: a value laid over another one.
+ghost use Rattle.std.specs.Prelude.{◌≡◌, IfOk};
 ghost use Rattle.serde_json.specs.View.{view};
 ghost use Rattle.jsonptr.specs.Fault.{IfRefused};
-ghost use Rattle.jsonptr.specs.Json.{KeysAscend};
+ghost use Rattle.jsonptr.specs.Json.{HasSortedKeys};
 ghost use Rattle.jsonptr.specs.Pointer.{tokens};
-ghost use Rattle.jsonptr.specs.Text.{text};
+ghost use Rattle.jsonptr.specs.Text.{HasNoTilde, text};
 ghost use Rattle.jsonptr_uses.specs.Overlay.{FindsIn, RefusesIn};
 
 use jsonptr::{Assign, Delete, Fault, Pointer, Resolve, assign, resolve};
 use serde_json::Value;
 use std::alloc::{AllocError, Global};
 
-/// Two JSON documents that are read as one: what a pointer names in the upper one hides what it names in the lower
-/// one.
+/// Two JSON documents that are read as one. A value that a pointer resolves to in the upper one
+/// hides the one in the lower one.
 #[derive(Drop)]
 pub struct Overlay {
     upper: Value,
@@ -20,7 +20,7 @@ pub struct Overlay {
 }
 
 impl Overlay {
-    /// The first document laid over the second; it owns both.
+    /// Lays the first document over the second, and owns both.
     pub fn new(upper: Value, lower: Value) -> Overlay
         ensures upper { view result.upper ≡ view upper }
         ensures lower { view result.lower ≡ view lower }
@@ -29,7 +29,7 @@ impl Overlay {
     }
 }
 
-/// With this `Pointer::resolve` takes an [`Overlay`] as any other document.
+/// Makes an [`Overlay`] a document that [`Pointer::resolve`] takes.
 impl Resolve for Overlay {
     type Value = Value;
 
@@ -39,7 +39,7 @@ impl Resolve for Overlay {
 
     ghost refuses = { λ o ts e. RefusesIn (view o.upper) (view o.lower) ts e };
 
-    ghost needs_no_memory = { λ o ts. All (λ b. b ≢ 126) (text ts) };
+    ghost needs_no_memory = { λ o ts. HasNoTilde (text ts) };
 
     fn resolve(&self, alloc: Global, ptr: Pointer<'_>) -> Result<&Value, Fault<resolve::Error>> {
         match ptr.resolve(alloc, &self.upper) {
@@ -52,7 +52,7 @@ impl Resolve for Overlay {
     }
 }
 
-/// What is assigned to an [`Overlay`] goes to the upper document. The lower one stays.
+/// Assigns to the upper document. The lower one is unchanged.
 impl Assign for Overlay {
     type Value = Value;
 
@@ -67,9 +67,9 @@ impl Assign for Overlay {
 
     ghost is_same = { λ o m. ⟦<Value as Assign>⟧.is_same o.upper m.upper × (m.lower ≡ o.lower) };
 
-    ghost in_order = { λ o. KeysAscend (view o.upper) × KeysAscend (view o.lower) };
+    ghost has_sorted_keys = { λ o. HasSortedKeys (view o.upper) × HasSortedKeys (view o.lower) };
 
-    ghost value_in_order = { λ value. KeysAscend (view value) };
+    ghost value_in_order = { λ value. HasSortedKeys (view value) };
 
     fn assign(
         &mut self,
@@ -81,7 +81,8 @@ impl Assign for Overlay {
     }
 }
 
-/// What is deleted from an [`Overlay`] is taken out of the upper document. The lower one stays, and shows there.
+/// Deletes from the upper document. The lower one is unchanged, and its value at the pointer
+/// becomes visible.
 impl Delete for Overlay {
     type Value = Value;
 
@@ -96,15 +97,14 @@ impl Delete for Overlay {
 
     ghost needs_no_memory = { λ o ts. ⟦<Value as Delete>⟧.needs_no_memory o.upper ts };
 
-    ghost in_order = { λ o. KeysAscend (view o.upper) × KeysAscend (view o.lower) };
+    ghost has_sorted_keys = { λ o. HasSortedKeys (view o.upper) × HasSortedKeys (view o.lower) };
 
     fn delete(&mut self, alloc: Global, ptr: Pointer<'_>) -> Result<Option<Value>, AllocError> {
         self.upper.delete(alloc, ptr)
     }
 }
 
-/// What a pointer names in the overlay of two documents, as a pointer's own call: its contract is what [`Overlay`]
-/// promises.
+/// Resolves a pointer in an overlay by the pointer's own call. The contract is that of [`Overlay`].
 pub fn found_in<'o>(
     overlay: &'o Overlay,
     alloc: Global,

@@ -1,23 +1,29 @@
-//! A deletion in a JSON document, taken back by a patch, with a contract that follows from those of
-//! `jsonptr_patch` and its laws alone.
-ghost use Rattle.std.specs.Prelude.{◌≡◌, ◌∷◌, [], IfOk};
+//! A deletion in a JSON document that a patch undoes.
+ghost use Rattle.std.specs.Prelude.{◌≡◌, ◌⊎◌, ◌∷◌, [], IfOk, OnErr};
+ghost use Rattle.serde_json.specs.Data.{null};
 ghost use Rattle.serde_json.specs.View.{view};
 ghost use Rattle.jsonptr.specs.Fault.{IsRefused};
-ghost use Rattle.jsonptr.specs.Json.{nodes, KeysAscend};
+ghost use Rattle.jsonptr.specs.Json.{nodes, HasSortedKeys};
 ghost use Rattle.jsonptr.specs.Node.{NodeMap};
+ghost use Rattle.jsonptr.specs.Pointer.{tokens};
+ghost use Rattle.jsonptr.specs.Removing.{Deletes};
 ghost use Rattle.jsonptr_patch.specs.Operating.{Applies};
-ghost use Rattle.jsonptr_patch.specs.Order.{IsInOrder};
+ghost use Rattle.jsonptr_patch.specs.Order.{OperationHasSortedKeys};
 
 use jsonptr::tree::json::json_map_law;
 use jsonptr::{Fault, Pointer};
-use jsonptr_patch::laws::patching::patch_law;
+use jsonptr_patch::laws::patch::patch_law;
 use jsonptr_patch::{Operation, PatchError, apply, delete_with_undo};
 use serde_json::Value;
 use std::alloc::{AllocError, Global};
 
-/// Takes out what the pointer names, if it names anything, and puts it back: then the document has the map that it had,
-/// and is the value that it was where the keys of its objects ascended, as they do in what is read. Only want of memory
-/// prevents that.
+/// Removes the value that the pointer resolves to, if any, and adds it again. The document then has
+/// the same node map as before, and is the same value if the keys of its objects are in ascending
+/// order. Those of parsed documents are.
+///
+/// # Errors
+///
+/// [`Fault::Memory`] if an allocation fails, and no other error.
 pub fn deleted_and_put_back(
     alloc: Global,
     document: &mut Value,
@@ -25,7 +31,10 @@ pub fn deleted_and_put_back(
 ) -> Result<(), Fault<PatchError>>
     ensures restored { IfOk result (λ _. nodes (view document.new) ≡ nodes (view document.old)) }
     ensures same { IfOk result (λ _.
-        KeysAscend (view document.old) → view document.new ≡ view document.old) }
+        HasSortedKeys (view document.old) → view document.new ≡ view document.old) }
+    ensures stays { OnErr result ((view document.new ≡ view document.old)
+        ⊎ Deletes (nodes (view document.old)) (tokens pointer.entry)
+        (nodes null) (nodes (view document.new))) }
     ensures never_refused { IsRefused result → ⊥ }
 {
     json_map_law();
@@ -35,13 +44,14 @@ pub fn deleted_and_put_back(
     }
 }
 
-/// Applies the one operation, which makes a document of this one.
+/// Applies an operation that is known to apply to the document.
 fn put_back(alloc: Global, document: &mut Value, undo: Operation) -> Result<(), Fault<PatchError>>
     requires { (m : NodeMap) × Applies (nodes (view document.old)) undo m }
     ensures restored { IfOk result (λ _. (m : NodeMap)
         → Applies (nodes (view document.old)) undo m → nodes (view document.new) ≡ m) }
-    ensures order { IfOk result (λ _. IsInOrder undo
-        → KeysAscend (view document.old) → KeysAscend (view document.new)) }
+    ensures sorted { IfOk result (λ _. OperationHasSortedKeys undo
+        → HasSortedKeys (view document.old) → HasSortedKeys (view document.new)) }
+    ensures unchanged { OnErr result (view document.new ≡ view document.old) }
     ensures never_refused { IsRefused result → ⊥ }
 {
     patch_law();
@@ -49,7 +59,7 @@ fn put_back(alloc: Global, document: &mut Value, undo: Operation) -> Result<(), 
     apply(alloc, document, patch)
 }
 
-/// The patch of one operation.
+/// Returns the patch of one operation.
 fn patch_of(alloc: Global, operation: Operation) -> Result<Vec<Operation>, AllocError>
     ensures { IfOk result (λ patch. patch.items ≡ operation ∷ []) }
 {

@@ -1,5 +1,5 @@
-//! References inside a JSON document: an object whose member `$ref` is the text `#` and a pointer stands for what the
-//! pointer names in the same document. The contracts follow from those of `jsonptr` alone.
+//! References inside a JSON document. A reference is an object whose member `$ref` is the text `#`
+//! and a pointer. It represents the value of that pointer in the same document.
 ghost use Rattle.std.specs.Prelude.{◌≡◌, ◌≤◌, ℕ, IfOk, option_map};
 ghost use Rattle.serde_json.specs.View.{view};
 ghost use Rattle.jsonptr.specs.Fault.{IfRefused};
@@ -7,28 +7,37 @@ ghost use Rattle.jsonptr.specs.Json.{nodes, FindsValue};
 ghost use Rattle.jsonptr.specs.Pointer.{tokens};
 ghost use Rattle.jsonptr.specs.Resolve.{Refuses};
 ghost use Rattle.jsonptr.specs.declared.resolve.Error.{Error};
-ghost use Rattle.jsonptr_uses.specs.References.{after_hash, reference_of, LeadsTo, RefusesReference};
+ghost use Rattle.jsonptr_uses.specs.References.{after_hash, reference_of, EndsAt, RefusesReference};
 ghost use Rattle.jsonptr_uses.specs.declared.references.ReferenceError.TheVariants.{Missing};
 
 use jsonptr::{Fault, ParseError, Pointer, resolve};
 use serde_json::Value;
 use std::alloc::Global;
 
-/// Why a pointer leads to no value through references.
+/// Why a pointer does not lead to a value through references.
 #[derive(Debug, Drop)]
 pub enum ReferenceError {
-    /// The text behind the `#` of a reference is no pointer.
+    /// The text after the `#` of a reference is not a valid pointer.
     NotAPointer(ParseError),
-    /// The pointer, or that of a reference, names no value of the document.
+    /// The pointer, or that of a reference, does not resolve in the document.
     Missing(resolve::Error),
-    /// More references follow one another than were allowed; those in a circle never end.
+    /// There are more references than allowed, as in a cycle.
     TooLong,
 }
 
-/// The value to which the pointer leads in the document: what it names, or while that is a reference what the
-/// reference's pointer names, through as many references as `steps` at most. An object with other members beside
-/// `$ref` is a reference too, and they are ignored. An object is none, and is answered as it is, where `$ref` is no
-/// text or its text does not begin with `#`, so that it may name a place of another document.
+/// Returns the value that the pointer leads to. While that is a reference, follows its pointer, at
+/// most `steps` times.
+///
+/// An object with other members beside `$ref` is a reference, too, and these are ignored. An object
+/// whose `$ref` is not a text, or whose text does not begin with `#`, is not a reference, and is
+/// returned as it is.
+///
+/// The text after the `#` is read as a pointer as it is: a `%` is a character like any other, and
+/// is not decoded. (In a URI fragment, RFC 6901, section 6, it would be.)
+///
+/// # Errors
+///
+/// [`Fault::Refused`] with a [`ReferenceError`], and [`Fault::Memory`] if an allocation fails.
 pub fn resolve_reference<'v>(
     alloc: Global,
     document: &'v Value,
@@ -36,7 +45,7 @@ pub fn resolve_reference<'v>(
     steps: usize,
 ) -> Result<&'v Value, Fault<ReferenceError>>
     ensures found { IfOk result (λ value. (n : ℕ) × (n ≤ steps)
-        × LeadsTo (view document.now) (tokens pointer.entry) n (view value.now)) }
+        × EndsAt (view document.now) (tokens pointer.entry) n (view value.now)) }
     ensures refused { IfRefused result
         (RefusesReference (view document.now) (tokens pointer.entry) steps) }
 {
@@ -58,7 +67,7 @@ pub fn resolve_reference<'v>(
     }
 }
 
-/// The text behind the `#`, if the value is a reference.
+/// Returns the text after the `#`, if the value is a reference.
 fn reference(value: &Value) -> Option<&str>
     ensures { option_map (λ s. s.now) result ≡ reference_of (view value.now) }
 {
@@ -67,14 +76,14 @@ fn reference(value: &Value) -> Option<&str>
     without_hash(text)
 }
 
-/// What follows a first `#`.
+/// Returns the rest of a text that begins with `#`.
 fn without_hash(text: &str) -> Option<&str>
     ensures { option_map (λ s. s.now) result ≡ after_hash text.now }
 {
     text.strip_prefix('#')
 }
 
-/// What the pointer names.
+/// Returns the value that the pointer resolves to.
 fn find<'v>(
     alloc: Global,
     document: &'v Value,

@@ -1,9 +1,9 @@
-//! Settings in layers, the highest first: what a layer has hides what the layers below it have. The contracts
-//! follow from those of `jsonptr` alone.
-ghost use Rattle.std.specs.Prelude.{◌≡◌, ◌≢◌, ◌⊎◌, List, All, IfOk, IsOk, OnErr, option_map};
+//! Settings in layers, the highest first. A value in one layer hides the ones in the layers below
+//! it.
+ghost use Rattle.std.specs.Prelude.{◌≡◌, ◌⊎◌, List, All, IfOk, IsOk, OnErr, option_map};
 ghost use Rattle.std.specs.Option.{option_copied};
 ghost use Rattle.serde_json.specs.View.{view};
-ghost use Rattle.jsonptr.specs.Text.{Text, text};
+ghost use Rattle.jsonptr.specs.Text.{Text, HasNoTilde, text};
 ghost use Rattle.jsonptr.specs.Node.{NodeMap};
 ghost use Rattle.jsonptr.specs.Following.{Finds};
 ghost use Rattle.jsonptr.specs.Growing.{LacksDash};
@@ -11,9 +11,9 @@ ghost use Rattle.jsonptr.specs.Assign.{RefusesAssign};
 ghost use Rattle.jsonptr.specs.Assigning.{Assigns};
 ghost use Rattle.jsonptr.specs.Delete.{NamesNothing};
 ghost use Rattle.jsonptr.specs.Fault.{IfRefused};
-ghost use Rattle.jsonptr.specs.Json.{nodes, FindsValue, KeysAscend};
+ghost use Rattle.jsonptr.specs.Json.{nodes, FindsValue, HasSortedKeys};
 ghost use Rattle.jsonptr.specs.Pointer.{tokens};
-ghost use Rattle.jsonptr_uses.specs.Settings.{IsAnswer, IsHighest, IsApart, IsPlaceOf, IsSetAt};
+ghost use Rattle.jsonptr_uses.specs.Settings.{IsAnswer, IsHighest, IsApart, IsLocationOf, IsSetAt};
 
 use crate::writes::assign_json;
 use jsonptr::tree::writing::put_law;
@@ -21,8 +21,12 @@ use jsonptr::{Fault, Pointer, Resolve, assign};
 use serde_json::Value;
 use std::alloc::{AllocError, Global};
 
-/// The value of the highest layer in which the pointer names one, or `None` where it names nothing in any. The layers
-/// are documents of any kind.
+/// Returns the value in the highest layer in which the pointer resolves, or `None` if it resolves
+/// in none. The layers are documents of any type.
+///
+/// # Errors
+///
+/// [`AllocError`] if an allocation fails.
 pub fn get<'v, D: Resolve>(
     alloc: Global,
     layers: &'v [D],
@@ -48,7 +52,11 @@ where
     Ok(None)
 }
 
-/// The same, but the default where the pointer names nothing in any layer.
+/// Returns the value that [`get`] returns, or `default` if the pointer resolves in no layer.
+///
+/// # Errors
+///
+/// [`AllocError`] if an allocation fails.
 pub fn get_or<'v, D: Resolve>(
     alloc: Global,
     layers: &'v [D],
@@ -72,7 +80,11 @@ where
     }
 }
 
-/// [`get`] at layers that are JSON documents.
+/// Returns the value that [`get`] returns, from layers that are JSON documents.
+///
+/// # Errors
+///
+/// [`AllocError`] if an allocation fails.
 pub fn get_json<'v>(
     alloc: Global,
     layers: &'v [Value],
@@ -82,17 +94,24 @@ pub fn get_json<'v>(
         (λ layer v. FindsValue (view layer) (tokens pointer.entry) (view v))
         (λ layer. NamesNothing (nodes (view layer)) (tokens pointer.entry))
         layers.now (option_copied answer)) }
-    ensures no_memory { All (λ b. b ≢ 126) (text (tokens pointer.entry)) → IsOk result }
+    ensures no_memory { HasNoTilde (text (tokens pointer.entry)) → IsOk result }
 {
     get(alloc, layers, pointer)
 }
 
-/// Assigns a value where the pointer leads in the highest layer, a JSON document, and gives back what stood there.
-/// One list of tokens finds the value then: the pointer's own, but that an index may stand for `-`. All others find
-/// what they found before, and nothing where they found nothing, but for those that lead to the place or beyond it.
+/// Assigns a value at the pointer in the highest layer, a JSON document, and returns the value that
+/// it replaced, if any.
+///
+/// Afterwards exactly one list of tokens resolves to the value: the pointer's own, with each `-`
+/// replaced by the new index. Every other list that is neither a prefix nor an extension of it
+/// resolves to what it did before.
+///
+/// # Errors
+///
+/// Those of [`Pointer::assign`]. The document is unchanged.
 pub fn set(
-    top: &mut Value,
     alloc: Global,
+    top: &mut Value,
     pointer: Pointer<'_>,
     value: Value,
 ) -> Result<Option<Value>, Fault<assign::Error>>
@@ -109,14 +128,15 @@ pub fn set(
         → IsApart others (tokens pointer.entry)
         → NamesNothing (nodes (view top.old)) others
         → NamesNothing (nodes (view top.new)) others) }
-    ensures place { IfOk result (λ _. (place : List Text) × IsPlaceOf (tokens pointer.entry) place
+    ensures place { IfOk result (λ _.
+        (place : List Text) × IsLocationOf (tokens pointer.entry) place
         × IsSetAt (nodes (view top.old)) place (nodes (view value)) (nodes (view top.new))) }
-    ensures order { IfOk result (λ _.
-        KeysAscend (view value) → KeysAscend (view top.old) → KeysAscend (view top.new)) }
+    ensures sorted { IfOk result (λ _.
+        HasSortedKeys (view value) → HasSortedKeys (view top.old) → HasSortedKeys (view top.new)) }
     ensures refused { IfRefused result
         (RefusesAssign (nodes (view top.old)) (tokens pointer.entry)) }
     ensures stays { OnErr result (view top.new ≡ view top.old) }
 {
     put_law();
-    assign_json(top, alloc, pointer, value)
+    assign_json(alloc, top, pointer, value)
 }

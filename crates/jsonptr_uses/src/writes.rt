@@ -1,4 +1,4 @@
-//! Writing into documents, with contracts that follow from those of `jsonptr` alone.
+//! Writing into documents, with separate clauses for each effect.
 ghost use Rattle.std.specs.Prelude.{◌≡◌, IfOk, OnErr, MatchOption, option_map};
 ghost use Rattle.serde_json.specs.Data.{null};
 ghost use Rattle.serde_json.specs.View.{view};
@@ -6,11 +6,11 @@ ghost use Rattle.jsonptr.specs.Assign.{RefusesAssign};
 ghost use Rattle.jsonptr.specs.Assigning.{Assigns};
 ghost use Rattle.jsonptr.specs.Delete.{NamesNothing};
 ghost use Rattle.jsonptr.specs.Fault.{IfRefused};
-ghost use Rattle.jsonptr.specs.Json.{nodes, FindsValue, KeysAscend};
+ghost use Rattle.jsonptr.specs.Json.{nodes, FindsValue, HasSortedKeys};
 ghost use Rattle.jsonptr.specs.Pointer.{tokens};
 ghost use Rattle.jsonptr.specs.Removing.{Deletes};
-ghost use Rattle.jsonptr.specs.Resolve.{PutsAt};
-ghost use Rattle.jsonptr.specs.TomlValue.{nodes as toml_nodes};
+ghost use Rattle.jsonptr.specs.Resolve.{PutsAt, Refuses};
+ghost use Rattle.jsonptr.specs.TomlValue.{nodes as toml_nodes, FindsValue as FindsTomlValue};
 ghost use Rattle.toml.specs.View.{view as toml_view};
 
 use jsonptr::{Fault, Pointer, ResolveMut, assign, resolve};
@@ -18,65 +18,85 @@ use serde_json::Value;
 use std::alloc::{AllocError, Global};
 use std::mem;
 
-/// Replaces the value that a pointer names in a document of any kind, and returns the old one.
+/// Replaces the value that a pointer resolves to in a document of any type, and returns the old
+/// one.
+///
+/// # Errors
+///
+/// Those of [`ResolveMut::resolve_mut`]. The document is unchanged.
 pub fn replace<D: ResolveMut>(
-    document: &mut D,
     alloc: Global,
+    document: &mut D,
     pointer: Pointer<'_>,
     value: D::Value,
 ) -> Result<D::Value, Fault<D::Error>>
     ensures written { IfOk result (λ _.
         D.writes document.old (tokens pointer.entry) value document.new) }
+    ensures found { IfOk result (λ old. D.finds document.old (tokens pointer.entry) old) }
+    ensures refused { IfRefused result (D.refuses document.old (tokens pointer.entry)) }
     ensures stays { OnErr result (D.is_same document.old document.new) }
 {
     let place = document.resolve_mut(alloc, pointer)?;
     Ok(mem::replace(place, value))
 }
 
-/// [`replace`] at a JSON document: its map has the value's map at the path that the pointer names, and is unchanged
-/// where there is none.
+/// Replaces a value of a JSON document, as [`replace`] does. The document's map then has the map of
+/// `value` at the path that the pointer evaluates to.
 pub fn replace_json(
-    document: &mut Value,
     alloc: Global,
+    document: &mut Value,
     pointer: Pointer<'_>,
     value: Value,
 ) -> Result<Value, Fault<resolve::Error>>
     ensures written { IfOk result (λ _.
         PutsAt (nodes (view document.old)) (tokens pointer.entry)
         (nodes (view value)) (nodes (view document.new))) }
+    ensures found { IfOk result (λ old.
+        FindsValue (view document.old) (tokens pointer.entry) (view old)) }
+    ensures refused { IfRefused result
+        (Refuses (nodes (view document.old)) (tokens pointer.entry)) }
     ensures stays { OnErr result (view document.new ≡ view document.old) }
 {
-    replace(document, alloc, pointer, value)
+    replace(alloc, document, pointer, value)
 }
 
-/// [`replace`] at a TOML document, with the same clauses.
+/// Replaces a value of a TOML document, as [`replace_json`] does in a JSON document.
 pub fn replace_toml(
-    document: &mut toml::Value,
     alloc: Global,
+    document: &mut toml::Value,
     pointer: Pointer<'_>,
     value: toml::Value,
 ) -> Result<toml::Value, Fault<resolve::Error>>
     ensures written { IfOk result (λ _.
         PutsAt (toml_nodes (toml_view document.old)) (tokens pointer.entry)
         (toml_nodes (toml_view value)) (toml_nodes (toml_view document.new))) }
+    ensures found { IfOk result (λ old.
+        FindsTomlValue (toml_view document.old) (tokens pointer.entry) (toml_view old)) }
+    ensures refused { IfRefused result
+        (Refuses (toml_nodes (toml_view document.old)) (tokens pointer.entry)) }
     ensures stays { OnErr result (toml_view document.new ≡ toml_view document.old) }
 {
-    replace(document, alloc, pointer, value)
+    replace(alloc, document, pointer, value)
 }
 
-/// Assigns a value at a pointer in a JSON document, and returns the old one. The document's map becomes the one that
-/// assigning makes, with the keys of its objects in order if they were, and is unchanged where the value lands nowhere.
+/// Assigns a value at a pointer in a JSON document, and returns the value that it replaced, if any.
+/// The keys of the document's objects stay sorted.
+///
+/// # Errors
+///
+/// Those of [`Pointer::assign`]. The document is unchanged.
 pub fn assign_json(
-    document: &mut Value,
     alloc: Global,
+    document: &mut Value,
     pointer: Pointer<'_>,
     value: Value,
 ) -> Result<Option<Value>, Fault<assign::Error>>
     ensures assigned { IfOk result (λ old.
         Assigns (nodes (view document.old)) (tokens pointer.entry) (nodes (view value))
         (nodes (view document.new)) (option_map (λ v. nodes (view v)) old)) }
-    ensures order { IfOk result (λ _.
-        KeysAscend (view value) → KeysAscend (view document.old) → KeysAscend (view document.new)) }
+    ensures sorted { IfOk result (λ _.
+        HasSortedKeys (view value) → HasSortedKeys (view document.old)
+        → HasSortedKeys (view document.new)) }
     ensures refused { IfRefused result
         (RefusesAssign (nodes (view document.old)) (tokens pointer.entry)) }
     ensures stays { OnErr result (view document.new ≡ view document.old) }
@@ -84,10 +104,15 @@ pub fn assign_json(
     pointer.assign(alloc, document, value)
 }
 
-/// Removes the value that a pointer names from a JSON document, and returns it. Removing the root leaves `null`.
+/// Removes the value that a pointer resolves to from a JSON document, and returns it. Removing the
+/// root leaves `null`.
+///
+/// # Errors
+///
+/// [`AllocError`] if an allocation fails. The document is unchanged.
 pub fn delete_json(
-    document: &mut Value,
     alloc: Global,
+    document: &mut Value,
     pointer: Pointer<'_>,
 ) -> Result<Option<Value>, AllocError>
     ensures deleted { IfOk result (λ _.

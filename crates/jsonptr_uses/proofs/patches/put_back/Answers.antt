@@ -4,7 +4,7 @@ use Rattle.std.proofs.lemmas.List.Elements.{All-nil, All-cons}
 use Rattle.std.proofs.lemmas.Result.{IfOk-weaker}
 use Rattle.serde_json.specs.View.{view}
 use Rattle.jsonptr.specs.Json.{nodes}
-use Rattle.jsonptr_patch.specs.Order.{IsInOrder}
+use Rattle.jsonptr_patch.specs.Order.{OperationHasSortedKeys}
 use Rattle.jsonptr_patch.specs.Patching.{Patches, RefusesPatch}
 use Rattle.jsonptr_patch.specs.declared.operation.Operation.{Operation}
 use Rattle.jsonptr_uses.proofs.PatchesLemmas.{is_document, refused_none}
@@ -25,8 +25,8 @@ returns-clause-never_refused c =
     (c.requires.0, c.requires.1, refl)
     (subst (λ (os : List Operation). RefusesPatch (nodes (view c.args.document.now)) os e) c.in_ok-patch.ensures refused))
 
-pub returns-clause-order : goal.returns-clause-order
-returns-clause-order c =
+pub returns-clause-sorted : goal.returns-clause-sorted
+returns-clause-sorted c =
     IfOk-weaker c.apply.result _ _
-    (λ _ kept ordered. kept (subst (λ (os : List Operation). All IsInOrder os) (sym c.in_ok-patch.ensures) (All-cons IsInOrder c.args.undo [] ordered (All-nil IsInOrder))))
-    c.apply.ensures.order
+    (λ _ kept ordered. kept (subst (λ (os : List Operation). All OperationHasSortedKeys os) (sym c.in_ok-patch.ensures) (All-cons OperationHasSortedKeys c.args.undo [] ordered (All-nil OperationHasSortedKeys))))
+    c.apply.ensures.sorted

@@ -1,13 +1,13 @@
 use Rattle.std.proofs.Common.{◌≡◌, ℕ, sym, subst, arith}
 use Rattle.serde_json.specs.View.{view}
 use Rattle.jsonptr.specs.Pointer.{tokens}
-use Rattle.jsonptr_uses.specs.References.{Passes}
+use Rattle.jsonptr_uses.specs.References.{Follows}
 use Rattle.jsonptr_uses.proofs.references.resolve_reference.Goals as goal
 
 pub returns-in-Some-reference-clause-refused : goal.returns-in-Some-reference-clause-refused
 returns-in-Some-reference-clause-refused c =
     let last : c.loop-turn._turn ≡ c.args.steps = omega arith in
-    let passed = subst (λ (n : ℕ). Passes (view c.args.document.now) (tokens c.args.pointer) n (tokens c.loop-turn.place)) last c.loop-turn.invariant in
+    let passed = subst (λ (n : ℕ). Follows (view c.args.document.now) (tokens c.args.pointer) n (tokens c.loop-turn.place)) last c.loop-turn.invariant in
     (tokens c.loop-turn.place, c.in-Some-reference._text.now, passed, (view c.in_ok-value-2.value.now, c.in_ok-value-2.ensures.found, sym c.in-Some-reference.ensures))
 
 pub returns-in-Err-clause-refused : goal.returns-in-Err-clause-refused
