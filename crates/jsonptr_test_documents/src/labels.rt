@@ -46,8 +46,8 @@ fn is_labelled<E: Diagnostic<Subject = PointerBuf>>(
     Ok(is_label(labels_of(alloc, error, &subject)?, want))
 }
 
-/// Whether the label of an out-of-bounds error with this position and offset has this offset and length on the
-/// pointer of a text.
+/// Whether the label of an out-of-bounds error with this position and offset has this offset and
+/// length on the pointer of a text.
 fn is_at(
     alloc: Global,
     text: &str,

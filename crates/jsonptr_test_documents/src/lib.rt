@@ -1,22 +1,22 @@
-//! Tests of resolving, assigning and deleting, of sessions and of patches, over public items alone: the examples of the
-//! documentation, every field of every error, and each trait once through its bound. Test cases of single calls are in
-//! `tools/call_cases.py`.
+//! Tests of resolving, assigning and deleting, of sessions and of patches, over public items alone:
+//! the examples of the documentation, every field of every error, and each trait once through its
+//! bound. Test cases of single calls are in `tools/call_cases.py`.
 #![tactic(auto)]
 
 #[cfg(test)]
-mod assigning;
+mod assign;
 #[cfg(test)]
-mod deleting;
+mod delete;
 #[cfg(test)]
-mod drawing;
-#[cfg(test)]
-mod examples;
+mod doc_examples;
 #[cfg(test)]
 mod labels;
 #[cfg(test)]
 mod patch;
 #[cfg(test)]
-mod resolving;
+mod rendering;
+#[cfg(test)]
+mod resolve;
 #[cfg(test)]
 mod session;
 #[cfg(test)]

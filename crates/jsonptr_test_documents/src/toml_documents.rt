@@ -101,8 +101,8 @@ fn finds_through_the_bound(rt: HostRuntime) -> Result<(), Fail> {
     Ok(())
 }
 
-/// Whether `resolve_mut` fails with this error at a pointer in a document, `delete` finds nothing, and both leave
-/// the document's text unchanged.
+/// Whether `resolve_mut` fails with this error at a pointer in a document, `delete` finds nothing,
+/// and both leave the document's text unchanged.
 fn stays(
     alloc: Global,
     root: &mut Value,
@@ -177,7 +177,8 @@ fn names_nothing(rt: HostRuntime) -> Result<(), Fail> {
     Ok(())
 }
 
-/// Replaces an element through a mutable borrow. Whether the old one is returned and the new one is there.
+/// Replaces an element through a mutable borrow. Whether the old one is returned and the new one is
+/// there.
 fn swaps_an_element(alloc: Global, root: &mut Value) -> Result<bool, Fail> {
     let old = swapped(root, alloc, "/a~1b/1", Value::Boolean(true))?.ok();
     let two = old.ok_or("lent")?.as_integer();
@@ -192,7 +193,7 @@ fn writes_through_the_bound(rt: HostRuntime) -> Result<(), Fail> {
 }
 
 /// The error of an assignment that leaves the document unchanged.
-fn no_place(alloc: Global, text: &str, pointer: &str) -> Result<assign::Error, Fail> {
+fn assign_error(alloc: Global, text: &str, pointer: &str) -> Result<assign::Error, Fail> {
     let mut root = value(alloc, text)?;
     let refused = assigned(&mut root, alloc, pointer, Value::Boolean(true))?.err();
     if !is_value(alloc, &root, text)? {
@@ -202,7 +203,7 @@ fn no_place(alloc: Global, text: &str, pointer: &str) -> Result<assign::Error, F
 }
 
 #[test]
-fn assigns_at_no_place_of_an_array(rt: HostRuntime) -> Result<(), Fail> {
+fn indices_that_cannot_be_assigned(rt: HostRuntime) -> Result<(), Fail> {
     let alloc = rt.alloc();
     let past = assign::Error::OutOfBounds {
         position: 1,
@@ -212,12 +213,12 @@ fn assigns_at_no_place_of_an_array(rt: HostRuntime) -> Result<(), Fail> {
             index: 3,
         },
     };
-    assert_eq!(rt; no_place(alloc, "{ 'a/b' = [1] }", "/a~1b/3/x")?, past);
+    assert_eq!(rt; assign_error(alloc, "{ 'a/b' = [1] }", "/a~1b/3/x")?, past);
     let empty = assign::Error::FailedToParseIndex {
         position: 0,
         offset: 0,
         source: ParseIndexError::InvalidInteger(IntegerCause::Empty),
     };
-    assert_eq!(rt; no_place(alloc, "[1]", "/")?, empty);
+    assert_eq!(rt; assign_error(alloc, "[1]", "/")?, empty);
     Ok(())
 }

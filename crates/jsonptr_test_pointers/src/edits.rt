@@ -61,7 +61,8 @@ fn copied<T: Clone>(value: &T) -> Result<T, AllocError> {
     value.clone()
 }
 
-/// Whether the pointer of a text is less than that of another, through the bounds and by the operators.
+/// Whether the pointer of a text is less than that of another, through the bounds and by the
+/// operators.
 fn is_less(rt: &HostRuntime, less: &str, more: &str) -> Result<bool, Fail> {
     let (less, more) = (buf(rt, less)?, buf(rt, more)?);
     let bounds = comes_before(&less, &more) && !same(&less, &more);
@@ -113,7 +114,7 @@ fn tokens_through_their_bound(rt: HostRuntime) -> Result<(), Fail> {
     Ok(())
 }
 
-/// The report on a text that is no pointer.
+/// The report on a text that is not a pointer.
 fn report_of(rt: &HostRuntime, text: &str) -> Result<RichParseError, Fail> {
     match PointerBuf::parse(String::from_str(rt.alloc(), text)?) {
         Ok(_) => Err("a refusal".into()),
@@ -122,7 +123,7 @@ fn report_of(rt: &HostRuntime, text: &str) -> Result<RichParseError, Fail> {
 }
 
 /// Whether a report has the error of `Pointer::parse` and the text, and returns both.
-fn is_handed_back(rt: &HostRuntime, text: &str) -> Result<bool, Fail> {
+fn is_returned(rt: &HostRuntime, text: &str) -> Result<bool, Fail> {
     let report = report_of(rt, text)?;
     let fault = match Pointer::parse(text) {
         Ok(_) => return Err("a refusal".into()),
@@ -151,7 +152,7 @@ fn is_refused(rt: &HostRuntime, text: &str) -> Result<bool, Fail> {
 fn refusals(rt: HostRuntime) -> Result<(), Fail> {
     for text in ["foo", "/a~2"] {
         assert!(rt; is_refused(&rt, text)?, "at {text}");
-        assert!(rt; is_handed_back(&rt, text)?, "at {text}");
+        assert!(rt; is_returned(&rt, text)?, "at {text}");
     }
     Ok(())
 }

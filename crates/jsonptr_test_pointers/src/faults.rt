@@ -59,7 +59,7 @@ fn map(rt: HostRuntime) -> Result<(), Fail> {
 }
 
 /// The displayed text of an error, through the bound.
-fn told<E: Error>(rt: &HostRuntime, error: &E) -> Result<String, Fail> {
+fn shown_as_error<E: Error>(rt: &HostRuntime, error: &E) -> Result<String, Fail> {
     shown(rt, error)
 }
 
@@ -67,12 +67,12 @@ fn told<E: Error>(rt: &HostRuntime, error: &E) -> Result<String, Fail> {
 fn what_a_fault_displays(rt: HostRuntime) -> Result<(), Fail> {
     let memory: Fault<ParseError> = Fault::from(AllocError);
     assert_eq!(rt;
-        told(&rt, &memory)?.as_str(),
+        shown_as_error(&rt, &memory)?.as_str(),
         shown(&rt, &AllocError)?.as_str()
     );
     match PointerBuf::from_text(rt.alloc(), "foo") {
         Err(fault) => assert_eq!(rt;
-            told(&rt, &fault)?.as_str(),
+            shown_as_error(&rt, &fault)?.as_str(),
             "json pointer failed to parse; does not start with a slash ('/') and is not empty"
         ),
         Ok(_) => return Err("a refusal".into()),

@@ -1,13 +1,16 @@
-//! Tests of borrowed, owned and tabled pointers, over public items alone: the examples of the documentation, every field
-//! of every error, and each trait once through its bound. Test cases of single calls are in `tools/call_cases.py`.
+//! Tests of borrowed, owned and tabled pointers, over public items alone: the examples of the
+//! documentation, every field of every error, and each trait once through its bound. Test cases of
+//! single calls are in `tools/call_cases.py`.
 #![tactic(auto)]
 
 #[cfg(test)]
 mod bounds;
 #[cfg(test)]
-mod edits;
+mod debug;
 #[cfg(test)]
-mod examples;
+mod doc_examples;
+#[cfg(test)]
+mod edits;
 #[cfg(test)]
 mod faults;
 #[cfg(test)]

@@ -1,6 +1,5 @@
 //! Tabled pointers compared with plain ones: tables after edits, and a long walk of edits.
 mod bounds;
-mod documented;
 mod edits;
 mod parts;
 mod pointers;

@@ -1,4 +1,5 @@
 //! The callers: each call once with enough memory, and what no contract says.
-mod editing;
-mod finding;
-mod writing;
+mod editors;
+mod readers;
+mod sessions;
+mod writers;

@@ -3,6 +3,7 @@ use jsonptr::Token;
 use jsonptr::index::{Index, IntegerCause, ParseIndexError};
 use std::alloc::{AllocError, Global};
 use std::borrow::CowStr;
+use std::hash::{DefaultHasher, Hash, Hasher};
 use std::str::FromStr;
 use std::test::Fail;
 
@@ -72,7 +73,25 @@ fn copy_of_a_character_at_fault(rt: HostRuntime) -> Result<(), Fail> {
         return Err("a refusal".into());
     };
     assert!(rt; error.clone()?.offset() == 2);
+    assert_eq!(rt;
+        error.to_string(rt.alloc())?.as_str(),
+        "token contains a non-digit character, which is disallowed by RFC 6901"
+    );
     Ok(())
+}
+
+/// The hash of an index, by the hasher of the maps.
+fn hash_of(index: Index) -> u64 {
+    let mut state = DefaultHasher::new();
+    index.hash(&mut state);
+    state.finish()
+}
+
+#[test]
+fn hashes(rt: HostRuntime) {
+    assert_eq!(rt; hash_of(Index::Num(7)), hash_of(Index::Num(7)));
+    assert!(rt; hash_of(Index::Num(7)) != hash_of(Index::Num(8)));
+    assert!(rt; hash_of(Index::Num(0)) != hash_of(Index::Next));
 }
 
 #[test]

@@ -9,8 +9,8 @@ use std::error::Error;
 use std::fmt;
 use std::test::Fail;
 
-/// Whether the only label of a report, through the bound, has this text, offset and length. With an empty text,
-/// whether there is no label.
+/// Whether the only label of a report, through the bound, has this text, offset and length. With an
+/// empty text, whether there is no label.
 fn is_labelled<E: Diagnostic>(
     alloc: Global,
     report: Report<E>,
@@ -50,7 +50,7 @@ fn texts_of_encodings(rt: HostRuntime) -> Result<(), Fail> {
 }
 
 #[test]
-fn text_of_a_place_out_of_bounds(rt: HostRuntime) -> Result<(), Fail> {
+fn text_of_an_index_out_of_bounds(rt: HostRuntime) -> Result<(), Fail> {
     let bounds = OutOfBoundsError {
         length: usize::MAX,
         index: 3,
@@ -134,7 +134,7 @@ fn a_fault_on_a_subject_made_for_it(rt: HostRuntime) -> Result<(), Fail> {
 }
 
 /// Whether the report on a text that is not an index has these `Display` and `Debug` texts.
-fn report_tells(alloc: Global, text: &str, display: &str, debug: &str) -> Result<bool, Fail> {
+fn report_displays(alloc: Global, text: &str, display: &str, debug: &str) -> Result<bool, Fail> {
     let parsed = diagnosed_index(alloc, text, text)?;
     let report = parsed.err().ok_or("a report")?;
     Ok(text_of(alloc, &report)?.as_str() == display && debug_of(alloc, &report)?.as_str() == debug)
@@ -144,7 +144,7 @@ fn report_tells(alloc: Global, text: &str, display: &str, debug: &str) -> Result
 fn texts_of_a_report(rt: HostRuntime) -> Result<(), Fail> {
     let display = "token contained leading zeros, which are disallowed by RFC 6901";
     let debug = r#"Report { source: LeadingZeros, subject: String("00") }"#;
-    assert!(rt; report_tells(rt.alloc(), "00", display, debug)?);
+    assert!(rt; report_displays(rt.alloc(), "00", display, debug)?);
     Ok(())
 }
 

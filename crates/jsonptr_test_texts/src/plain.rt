@@ -1,5 +1,5 @@
-//! Parsing, decoding and encoding as plain byte loops, compared with the fast ones on every text of up to five
-//! characters.
+//! Parsing, decoding and encoding as plain byte loops, compared with the fast ones on every text of
+//! up to five characters.
 use jsonptr::{EncodingError, InvalidEncoding, ParseError, Pointer, PointerBuf, Token};
 use std::alloc::{AllocError, Global};
 use std::borrow::CowStr;

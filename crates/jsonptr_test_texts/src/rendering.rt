@@ -118,7 +118,7 @@ fn a_fault_of_a_token_as_an_index(rt: HostRuntime) -> Result<(), Fail> {
 }
 
 #[test]
-fn spans_of_any_place_and_length(rt: HostRuntime) -> Result<(), Fail> {
+fn spans_of_any_offset_and_length(rt: HostRuntime) -> Result<(), Fail> {
     for (subject, offset, len, want) in [
         ("abc", 1, 0, "abc\n ^ here"),
         ("abc", 1, 1, "abc\n ^ here"),
@@ -183,5 +183,17 @@ fn a_line_for_each_label(rt: HostRuntime) -> Result<(), Fail> {
     let second = Label::new(String::from_str(rt.alloc(), "")?, 0, 2);
     let both = Labels(vec![in rt.alloc(); first, second]?);
     assert!(rt; draws_below(rt.alloc(), "ab", both, "ab\n ^ one\n^^ ")?);
+    Ok(())
+}
+
+#[test]
+fn a_line_for_each_of_many_labels(rt: HostRuntime) -> Result<(), Fail> {
+    let mut labels = Vec::new(rt.alloc());
+    let mut want = String::from_str(rt.alloc(), "ab")?;
+    for _ in 0..100 {
+        labels.push(Label::new(String::from_str(rt.alloc(), "one")?, 1, 1))?;
+        want.push_str("\n ^ one")?;
+    }
+    assert!(rt; draws_below(rt.alloc(), "ab", Labels(labels), want.as_str())?);
     Ok(())
 }

@@ -71,7 +71,8 @@ pub(crate) fn labels_of<E: Diagnostic>(
     report.original().labels(alloc, report.subject())
 }
 
-/// Whether the only label has this text, offset and length. With an empty text, whether there is no label.
+/// Whether the only label has this text, offset and length. With an empty text, whether there is no
+/// label.
 pub(crate) fn is_label(labels: Option<Vec<Label>>, words: &str, offset: usize, len: usize) -> bool {
     match labels {
         Some(labels) => match labels.as_slice() {
@@ -190,7 +191,7 @@ fn labels_of_errors(rt: HostRuntime) -> Result<(), Fail> {
 }
 
 #[test]
-fn no_label_at_a_place_past_any(rt: HostRuntime) -> Result<(), Fail> {
+fn no_label_at_an_offset_past_the_end(rt: HostRuntime) -> Result<(), Fail> {
     let far = Misspelt::Within {
         word: usize::MAX,
         letter: 1,
@@ -208,7 +209,7 @@ fn parts_of_a_report(rt: HostRuntime) -> Result<(), Fail> {
 }
 
 /// Whether a report has these `Display` and `Debug` texts.
-fn tells(
+fn displays_as(
     alloc: Global,
     report: &Report<Misspelt>,
     text: &str,
@@ -222,7 +223,7 @@ fn texts_of_a_report(rt: HostRuntime) -> Result<(), Fail> {
     let report = on_a_text(rt.alloc(), Misspelt::Within { word: 0, letter: 1 })?;
     let text = "the word at 0 is misspelt";
     let debug = r#"Report { source: Within { word: 0, letter: 1 }, subject: "teh cat" }"#;
-    assert!(rt; tells(rt.alloc(), &report, text, debug)?);
+    assert!(rt; displays_as(rt.alloc(), &report, text, debug)?);
     Ok(())
 }
 

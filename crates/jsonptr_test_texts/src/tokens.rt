@@ -33,7 +33,8 @@ fn hash_of<T: Hash>(value: &T) -> u64 {
     state.finish()
 }
 
-/// Whether the token of a text is the one with this encoded text, by each comparison and by the hash.
+/// Whether the token of a text is the one with this encoded text, by each comparison and by the
+/// hash.
 fn is_same(alloc: Global, text: &str, encoded: &str) -> Result<bool, Fail> {
     let token = Token::new(alloc, CowStr::Borrowed(text))?;
     let same = Token::from_encoded(CowStr::Borrowed(encoded))?;

@@ -4,8 +4,8 @@ use jsonptr_patch::PatchError;
 use std::alloc::{AllocError, Global};
 use std::test::Fail;
 
-/// The lines of 250 rounds. Each round inserts two numbers before the others, tests the first of them, and moves one
-/// to the end.
+/// The lines of 250 rounds. Each round inserts two numbers before the others, tests the first of
+/// them, and moves one to the end.
 fn rounds(alloc: Global) -> Result<String, AllocError> {
     let mut lines = String::new(alloc);
     for i in 0..250_u64 {

@@ -43,8 +43,8 @@ fn operation_with_source(
     }
 }
 
-/// Parses an operation: its name and its words, as in `add /a 1` or `move /a /b`. All text after the second space is
-/// one word.
+/// Parses an operation: its name and its words, as in `add /a 1` or `move /a /b`. All text after
+/// the second space is one word.
 fn operation(alloc: Global, line: &str) -> Result<Operation, Fail> {
     let (name, words) = line.split_once(' ').ok_or("words")?;
     let (first, second) = words.split_once(' ').unwrap_or((words, ""));

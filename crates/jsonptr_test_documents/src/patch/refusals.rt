@@ -43,6 +43,28 @@ fn no_target(rt: HostRuntime) -> Result<(), Fail> {
             },
         ),
         (
+            "{}",
+            "add /a/b 1",
+            0,
+            resolve::Error::NotFound {
+                position: 0,
+                offset: 0,
+            },
+        ),
+        (
+            "[1]",
+            "remove /-",
+            0,
+            resolve::Error::OutOfBounds {
+                position: 0,
+                offset: 0,
+                source: OutOfBoundsError {
+                    length: 1,
+                    index: 1,
+                },
+            },
+        ),
+        (
             r#"{"a":5}"#,
             "add /a/b 1",
             0,
@@ -89,6 +111,32 @@ fn bad_place(rt: HostRuntime) -> Result<(), Fail> {
         ),
         (
             r#"{"a":[1,2]}"#,
+            "add /a/3 9",
+            0,
+            assign::Error::OutOfBounds {
+                position: 1,
+                offset: 2,
+                source: OutOfBoundsError {
+                    length: 2,
+                    index: 3,
+                },
+            },
+        ),
+        (
+            "[1,2]",
+            "move /0 /2",
+            0,
+            assign::Error::OutOfBounds {
+                position: 0,
+                offset: 0,
+                source: OutOfBoundsError {
+                    length: 1,
+                    index: 2,
+                },
+            },
+        ),
+        (
+            r#"{"a":[1,2]}"#,
             "add /a/01 9",
             0,
             assign::Error::FailedToParseIndex {
@@ -107,8 +155,40 @@ fn bad_place(rt: HostRuntime) -> Result<(), Fail> {
     Ok(())
 }
 
+#[test]
+fn tests_and_moves(rt: HostRuntime) -> Result<(), Fail> {
+    for (document, lines, want) in [
+        (
+            r#"{"a":1}"#,
+            "move /a /a/b",
+            PatchError::MoveIntoSelf { operation: 0 },
+        ),
+        (
+            r#"{"a":1}"#,
+            "test /a \"1\"",
+            PatchError::TestFailed { operation: 0 },
+        ),
+        (
+            r#"{"a":1}"#,
+            "test /a 1.5",
+            PatchError::TestFloat { operation: 0 },
+        ),
+        (
+            "{}",
+            "add /x 1\ntest /x 2",
+            PatchError::TestFailed { operation: 1 },
+        ),
+    ] {
+        assert!(rt;
+            is_refused(rt.alloc(), document, lines, want)?,
+            "by {lines}"
+        );
+    }
+    Ok(())
+}
+
 /// Whether the error of a patch displays this text, also inside a `Fault`.
-fn tells(alloc: Global, document: &str, lines: &str, want: &str) -> Result<bool, Fail> {
+fn displays_as(alloc: Global, document: &str, lines: &str, want: &str) -> Result<bool, Fail> {
     let error = refusal(alloc, document, lines)?;
     let alone = shown(alloc, &error)?;
     let fault = shown(alloc, &Fault::Refused(error))?;
@@ -129,7 +209,10 @@ fn texts(rt: HostRuntime) -> Result<(), Fail> {
             "patch failed at operation 1: test failed",
         ),
     ] {
-        assert!(rt; tells(rt.alloc(), document, lines, want)?, "by {lines}");
+        assert!(rt;
+            displays_as(rt.alloc(), document, lines, want)?,
+            "by {lines}"
+        );
     }
     Ok(())
 }

@@ -6,7 +6,7 @@ use std::fmt::Display;
 use std::test::Fail;
 
 /// What the tests do with a JSON or TOML document.
-pub trait Document: Display + Drop + Sized {
+pub trait SessionRun: Display + Drop + Sized {
     /// Parses a value.
     fn read(alloc: Global, text: &str) -> Result<Self, Fail>;
 
@@ -19,7 +19,7 @@ pub trait Document: Display + Drop + Sized {
     ) -> Result<Vec<Reply<Self>>, AllocError>;
 }
 
-impl Document for serde_json::Value {
+impl SessionRun for serde_json::Value {
     fn read(alloc: Global, text: &str) -> Result<serde_json::Value, Fail> {
         Ok(serde_json::Value::from_str(alloc, text)?)
     }
@@ -34,7 +34,7 @@ impl Document for serde_json::Value {
     }
 }
 
-impl Document for toml::Value {
+impl SessionRun for toml::Value {
     fn read(alloc: Global, text: &str) -> Result<toml::Value, Fail> {
         Ok(toml::Value::from_str(alloc, text).ok().ok_or("a value")?)
     }
@@ -50,7 +50,7 @@ impl Document for toml::Value {
 }
 
 /// The reply to one call.
-fn reply<D: Document>(
+fn reply<D: SessionRun>(
     alloc: Global,
     ptr: &mut PointerBuf,
     doc: &mut D,
@@ -78,7 +78,7 @@ fn have<D: Display>(
 }
 
 /// The reply to a call, after which the pointer and the document have these texts.
-fn refusal<D: Document>(
+fn refusal<D: SessionRun>(
     rt: &HostRuntime,
     ptr: &str,
     doc: &str,
@@ -94,7 +94,7 @@ fn refusal<D: Document>(
 }
 
 /// The resolve error of a call on this pointer and document, which changes nothing.
-pub fn no_value<D: Document>(
+pub fn no_value<D: SessionRun>(
     rt: &HostRuntime,
     ptr: &str,
     doc: &str,
@@ -107,7 +107,7 @@ pub fn no_value<D: Document>(
 }
 
 /// The assign error of a call on this pointer and document, which changes nothing.
-pub fn no_place<D: Document>(
+pub fn assign_error<D: SessionRun>(
     rt: &HostRuntime,
     ptr: &str,
     doc: &str,
@@ -120,7 +120,7 @@ pub fn no_place<D: Document>(
 }
 
 /// The replace error of a call on this pointer and document, which changes nothing.
-pub fn no_position<D: Document>(
+pub fn no_position<D: SessionRun>(
     rt: &HostRuntime,
     ptr: &str,
     doc: &str,
@@ -132,9 +132,9 @@ pub fn no_position<D: Document>(
     }
 }
 
-/// Whether a call on this pointer and document replies with this parse error and the text that is not a pointer, and
-/// changes nothing.
-pub fn is_no_pointer<D: Document>(
+/// Whether a call on this pointer and document replies with this parse error and the text that is
+/// not a pointer, and changes nothing.
+pub fn is_no_pointer<D: SessionRun>(
     rt: &HostRuntime,
     ptr: &str,
     doc: &str,

@@ -57,8 +57,8 @@ fn an_assignment_refused(rt: HostRuntime) -> Result<(), Fail> {
     Ok(())
 }
 
-/// Whether an undo in a document fails with this error, and the returned undo and the document have these
-/// descriptions.
+/// Whether an undo in a document fails with this error, and the returned undo and the document have
+/// these descriptions.
 fn is_refused(
     alloc: Global,
     doc: &str,

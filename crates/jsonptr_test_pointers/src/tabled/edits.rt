@@ -6,7 +6,7 @@ use std::alloc::Global;
 use std::test::Fail;
 
 /// Describes the result of a pop or a replacement.
-fn given(alloc: Global, token: Option<Token<'static>>) -> Result<String, Fail> {
+fn text_of_result(alloc: Global, token: Option<Token<'static>>) -> Result<String, Fail> {
     match token {
         None => Ok(String::from_str(alloc, "no token")?),
         Some(token) => {
@@ -38,8 +38,8 @@ pub fn edit<P: EditPointer>(rt: &HostRuntime, pointer: &mut P, line: &str) -> Re
     let alloc = rt.alloc();
     let (name, with) = line.split_once(' ').unwrap_or((line, ""));
     match name {
-        "pop_front" => given(alloc, pointer.pop_front()?),
-        "pop_back" => given(alloc, pointer.pop_back()?),
+        "pop_front" => text_of_result(alloc, pointer.pop_front()?),
+        "pop_back" => text_of_result(alloc, pointer.pop_back()?),
         "replace" => replace(rt, pointer, with),
         "set" => set(alloc, pointer, with),
         _ => {
@@ -53,7 +53,7 @@ pub fn edit<P: EditPointer>(rt: &HostRuntime, pointer: &mut P, line: &str) -> Re
 fn replace<P: EditPointer>(rt: &HostRuntime, pointer: &mut P, with: &str) -> Result<String, Fail> {
     let (index, text) = with.split_once(' ').unwrap_or((with, ""));
     match pointer.replace(index.parse()?, token(rt, text)?) {
-        Ok(old) => given(rt.alloc(), old),
+        Ok(old) => text_of_result(rt.alloc(), old),
         Err(Fault::Refused(error)) => Ok(error.to_string(rt.alloc())?),
         Err(Fault::Memory(_)) => Err("memory".into()),
     }

@@ -1,7 +1,7 @@
 //! Readers and writers that follow a script.
 ghost use Rattle.std.specs.Prelude.{Some};
 
-use std::alloc::Global;
+use std::alloc::{AllocError, Global};
 use std::io::{Error, ErrorKind, Read, Write};
 use std::{fmt, io};
 
@@ -17,6 +17,15 @@ pub enum Step {
     Block,
     /// The call fails.
     Fail,
+}
+
+/// The words of a line, as arguments of the program.
+pub fn words_of(alloc: Global, line: &[&str]) -> Result<Vec<String>, AllocError> {
+    let mut words = Vec::new(alloc);
+    for word in line {
+        words.push(String::from_str(alloc, word)?)?;
+    }
+    Ok(words)
 }
 
 /// The script's first step, and the script after it.

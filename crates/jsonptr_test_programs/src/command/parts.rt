@@ -93,14 +93,14 @@ fn writes_the_line(rt: HostRuntime) {
 }
 
 /// Whether writing `TEXT` with this script fails without a flush, after this prefix.
-fn fails_behind(alloc: Global, script: &[Step], front: &[u8]) -> bool {
+fn fails_after(alloc: Global, script: &[Step], front: &[u8]) -> bool {
     let mut writer = ScriptedWriter::new(alloc, script);
     let written = write_line(&mut writer, TEXT);
     written == Err(WriteFailed) && writer.taken.as_slice() == front && writer.flushes == 0
 }
 
 #[test]
-fn a_write_that_fails_leaves_the_front(rt: HostRuntime) {
+fn a_failed_write_leaves_a_prefix(rt: HostRuntime) {
     let scripts: [(&[Step], &[u8]); 5] = [
         (&[Step::Move(0)], b""),
         (&[Step::Interrupt, Step::Move(usize::MAX)], b""),
@@ -115,7 +115,7 @@ fn a_write_that_fails_leaves_the_front(rt: HostRuntime) {
         (&[Step::Move(1), Step::Move(1), Step::Fail], b"{\""),
     ];
     for (script, taken) in scripts {
-        assert!(rt; fails_behind(rt.alloc(), script, taken), "{script:?}");
+        assert!(rt; fails_after(rt.alloc(), script, taken), "{script:?}");
     }
 }
 
@@ -128,7 +128,7 @@ fn fails_to_flush(alloc: Global) -> bool {
 }
 
 #[test]
-fn a_flush_that_fails_is_told(rt: HostRuntime) {
+fn a_failed_flush_is_an_error(rt: HostRuntime) {
     assert!(rt; fails_to_flush(rt.alloc()));
 }
 
@@ -232,13 +232,13 @@ fn reads_a_document(rt: HostRuntime) {
 }
 
 /// Whether an error displays as this text.
-fn is_told(alloc: Global, fault: &RunFault, text: &str) -> Result<bool, AllocError> {
+fn displays_as(alloc: Global, fault: &RunFault, text: &str) -> Result<bool, AllocError> {
     let told = format!(in alloc; "{fault}")?;
     Ok(told.as_str() == text)
 }
 
 #[test]
-fn tells_faults(rt: HostRuntime) -> Result<(), AllocError> {
+fn texts_of_faults(rt: HostRuntime) -> Result<(), AllocError> {
     let usage =
         "usage: jsonptr_run resolve POINTER, delete POINTER, tokens POINTER, assign POINTER VALUE, split POINTER POSITION, patch OPERATIONS";
     for (fault, text) in [
@@ -264,7 +264,7 @@ fn tells_faults(rt: HostRuntime) -> Result<(), AllocError> {
         (RunFault::Read, "reading failed"),
         (RunFault::Write, "writing failed"),
     ] {
-        let is_so = is_told(rt.alloc(), &fault, text)?;
+        let is_so = displays_as(rt.alloc(), &fault, text)?;
         assert!(rt; is_so, "{text}");
     }
     Ok(())

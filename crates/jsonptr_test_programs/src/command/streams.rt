@@ -1,6 +1,7 @@
 //! Whole runs on readers and writers that fail at each position, or need several calls.
-use crate::command::fakes::{FailingText, ScriptedReader, ScriptedWriter, Step};
-use jsonptr::{ParseError, resolve};
+use crate::command::fakes::{FailingText, ScriptedReader, ScriptedWriter, Step, words_of};
+use jsonptr::index::OutOfBoundsError;
+use jsonptr::{ParseError, assign, resolve};
 use jsonptr_command::fault::RunFault;
 use jsonptr_command::run::run_program;
 use jsonptr_patch::PatchError;
@@ -14,8 +15,9 @@ const LINE: &[u8] = b"{\"a/b\":1}\n";
 const ALL: &[Step] = &[];
 
 /// The commands that read, and what each writes for `TEXT`.
-const READING: [(&[&str], &[u8]); 5] = [
+const READING: [(&[&str], &[u8]); 6] = [
     (&["resolve", ""], LINE),
+    (&["resolve", "/a~1b"], b"1\n"),
     (&["delete", "/a~1b"], b"{}\n"),
     (&["assign", "/a~1b", "2"], b"{\"a/b\":2}\n"),
     (&["patch"], LINE),
@@ -28,23 +30,16 @@ const NOT_READING: [(&[&str], &[u8]); 2] = [
     (&["split", "/a~1b/", "1"], b"[\"/a~1b\",\"/\"]\n"),
 ];
 
-/// The result of a run: status, output, number of flushes, and the steps that the scripts have left.
+/// The result of a run: status, text of the error (empty if there is none), output, number of
+/// flushes, and the steps that the scripts have left.
 #[derive(Debug, Drop)]
 struct Ran {
     status: u8,
+    message: String,
     written: Vec<u8>,
     flushes: u8,
     reads_left: usize,
     writes_left: usize,
-}
-
-/// The words of a line, as arguments of the program.
-fn words_of(alloc: Global, line: &[&str]) -> Result<Vec<String>, AllocError> {
-    let mut words = Vec::new(alloc);
-    for word in line {
-        words.push(String::from_str(alloc, word)?)?;
-    }
-    Ok(words)
 }
 
 /// Runs the program over a reader of these bytes and a writer, with these scripts.
@@ -63,12 +58,13 @@ fn run_on(
     };
     let mut writer = ScriptedWriter::new(alloc, writes);
     writer.flush_fails = flush_fails;
-    let status = match run_program(alloc, words.as_slice(), &mut reader, &mut writer) {
-        Ok(()) => 0,
-        Err(fault) => fault.status(),
+    let (status, message) = match run_program(alloc, words.as_slice(), &mut reader, &mut writer) {
+        Ok(()) => (0, String::new(alloc)),
+        Err(fault) => (fault.status(), fault.to_string(alloc)?),
     };
     Ok(Ran {
         status,
+        message,
         written: writer.taken,
         flushes: writer.flushes,
         reads_left: reader.script.len(),
@@ -79,11 +75,12 @@ fn run_on(
 /// Whether the program reports that the input is not JSON, and writes nothing.
 fn is_no_json(alloc: Global, words: &[&str], input: &[u8]) -> Result<bool, AllocError> {
     let ran = run_on(alloc, words, input, ALL, ALL, false)?;
-    Ok(ran.status == 3 && ran.written.is_empty())
+    let is_so = ran.status == 3 && ran.message.as_str() == "input is not JSON";
+    Ok(is_so && ran.written.is_empty())
 }
 
 #[test]
-fn fronts_of_a_text_are_none(rt: HostRuntime) -> Result<(), AllocError> {
+fn prefixes_of_a_text_are_not_json(rt: HostRuntime) -> Result<(), AllocError> {
     for (words, _) in READING {
         for len in 0..TEXT.len() {
             let is_so = is_no_json(rt.alloc(), words, &TEXT[..len])?;
@@ -95,8 +92,8 @@ fn fronts_of_a_text_are_none(rt: HostRuntime) -> Result<(), AllocError> {
     Ok(())
 }
 
-/// Whether a run reports that reading failed and writes nothing, if this step comes after this many bytes. Two steps are
-/// left then.
+/// Whether a run reports that reading failed and writes nothing, if this step comes after this many
+/// bytes. Two steps are left then.
 fn fails_to_read(
     alloc: Global,
     words: &[&str],
@@ -106,11 +103,12 @@ fn fails_to_read(
     let steps = [Step::Move(len), fault, Step::Move(1), Step::Move(2)];
     let first = if len == 0 { 1 } else { 0 };
     let ran = run_on(alloc, words, TEXT, &steps[first..], ALL, false)?;
-    Ok(ran.status == 5 && ran.written.is_empty() && ran.reads_left == 2)
+    let is_so = ran.status == 5 && ran.message.as_str() == "reading failed";
+    Ok(is_so && ran.written.is_empty() && ran.reads_left == 2)
 }
 
 #[test]
-fn readers_that_fail_at_each_place(rt: HostRuntime) -> Result<(), AllocError> {
+fn readers_that_fail_at_each_offset(rt: HostRuntime) -> Result<(), AllocError> {
     for (words, _) in READING {
         for fault in [Step::Fail, Step::Block] {
             for len in 0..=TEXT.len() {
@@ -150,7 +148,7 @@ const INTERRUPTED: [Step; 12] = [
 ];
 
 #[test]
-fn readers_that_are_interrupted_at_each_place(rt: HostRuntime) -> Result<(), AllocError> {
+fn readers_that_are_interrupted_at_each_offset(rt: HostRuntime) -> Result<(), AllocError> {
     let steps = INTERRUPTED;
     for (words, line) in READING {
         for skipped in 0..=TEXT.len() {
@@ -228,13 +226,43 @@ fn more_reads_and_writes_than_two_bytes_count(rt: HostRuntime) -> Result<(), All
     let text = long_text(rt.alloc())?;
     let is_written = writes_back(rt.alloc(), text.as_slice(), &[Step::Move(1)], false, 0)?;
     assert!(rt; is_written);
-    let is_told = writes_back(rt.alloc(), text.as_slice(), ALL, true, 5)?;
-    assert!(rt; is_told);
+    let displays_as = writes_back(rt.alloc(), text.as_slice(), ALL, true, 5)?;
+    assert!(rt; displays_as);
     Ok(())
 }
 
-/// Whether a run reports that writing failed and does not flush, if this step comes after this prefix. Two steps are left
-/// then.
+/// Reads 17 times, is interrupted 2000 times, and then reads all that is left.
+fn often_interrupted(alloc: Global) -> Result<Vec<Step>, AllocError> {
+    let mut steps = Vec::new(alloc);
+    for _ in 0..17 {
+        steps.push(Step::Move(usize::MAX))?;
+    }
+    for _ in 0..2000 {
+        steps.push(Step::Interrupt)?;
+    }
+    steps.push(Step::Move(usize::MAX))?;
+    Ok(steps)
+}
+
+#[test]
+fn a_reader_that_is_often_interrupted(rt: HostRuntime) -> Result<(), AllocError> {
+    let text = long_text(rt.alloc())?;
+    let steps = often_interrupted(rt.alloc())?;
+    let words = &["resolve", ""];
+    let ran = run_on(
+        rt.alloc(),
+        words,
+        text.as_slice(),
+        steps.as_slice(),
+        ALL,
+        false,
+    )?;
+    assert_eq!(rt; (ran.status, ran.reads_left), (0, 1));
+    Ok(())
+}
+
+/// Whether a run reports that writing failed and does not flush, if this step comes after this
+/// prefix. Two steps are left then.
 fn fails_to_write(
     alloc: Global,
     words: &[&str],
@@ -244,12 +272,13 @@ fn fails_to_write(
     let steps = [Step::Move(front.len()), fault, Step::Move(1), Step::Move(2)];
     let first = if front.is_empty() { 1 } else { 0 };
     let ran = run_on(alloc, words, TEXT, ALL, &steps[first..], false)?;
+    let is_so = ran.status == 5 && ran.message.as_str() == "writing failed";
     let is_written = ran.written.as_slice() == front;
-    Ok(ran.status == 5 && is_written && ran.writes_left == 2 && ran.flushes == 0)
+    Ok(is_so && is_written && ran.writes_left == 2 && ran.flushes == 0)
 }
 
 #[test]
-fn writers_that_fail_at_each_place(rt: HostRuntime) -> Result<(), AllocError> {
+fn writers_that_fail_at_each_offset(rt: HostRuntime) -> Result<(), AllocError> {
     for (words, line) in READING.into_iter().chain(NOT_READING) {
         for fault in [Step::Fail, Step::Block, Step::Interrupt, Step::Move(0)] {
             for len in 0..line.len() {
@@ -261,8 +290,23 @@ fn writers_that_fail_at_each_place(rt: HostRuntime) -> Result<(), AllocError> {
     Ok(())
 }
 
+/// Whether a run writes this line to a writer that accepts one byte a call.
+fn writes_by_bytes(alloc: Global, words: &[&str], line: &[u8]) -> Result<bool, AllocError> {
+    let ran = run_on(alloc, words, TEXT, ALL, &[Step::Move(1)], false)?;
+    Ok(ran.status == 0 && ran.written.as_slice() == line && ran.flushes == 1)
+}
+
+#[test]
+fn writers_that_accept_a_byte_a_call(rt: HostRuntime) -> Result<(), AllocError> {
+    for (words, line) in READING.into_iter().chain(NOT_READING) {
+        let is_so = writes_by_bytes(rt.alloc(), words, line)?;
+        assert!(rt; is_so, "{words:?}");
+    }
+    Ok(())
+}
+
 /// Whether an error is displayed on a writer with this many calls, or the writer fails once.
-fn is_told_once(fault: &RunFault, calls: usize) -> bool {
+fn fails_once(fault: &RunFault, calls: usize) -> bool {
     let mut writer = FailingText { calls, faults: 0 };
     match write!(&mut writer, "{fault}") {
         Ok(()) => writer.faults == 0 && calls > 0,
@@ -270,22 +314,62 @@ fn is_told_once(fault: &RunFault, calls: usize) -> bool {
     }
 }
 
-#[test]
-fn faults_are_told_no_further_than_they_can(rt: HostRuntime) {
-    let not_found = resolve::Error::NotFound {
+fn not_found() -> resolve::Error {
+    resolve::Error::NotFound {
         position: 0,
         offset: 12,
+    }
+}
+
+fn out_of_bounds() -> assign::Error {
+    assign::Error::OutOfBounds {
+        position: 0,
+        offset: 12,
+        source: OutOfBoundsError {
+            length: 0,
+            index: 1,
+        },
+    }
+}
+
+/// Every kind of error of the program.
+fn faults() -> [RunFault; 16] {
+    let no_target = PatchError::NoTarget {
+        operation: 1,
+        cause: not_found(),
     };
-    for fault in [
+    let bad_place = PatchError::BadPlace {
+        operation: 1,
+        cause: out_of_bounds(),
+    };
+    [
         RunFault::Usage,
         RunFault::BadPointer(ParseError::NoLeadingSlash),
-        RunFault::NoValue(not_found),
+        RunFault::ValueNotJson,
+        RunFault::NoValue(not_found()),
+        RunFault::BadPlace(out_of_bounds()),
         RunFault::NotThere,
+        RunFault::BadSplit {
+            position: 3,
+            count: 2,
+        },
+        RunFault::BadPatch(no_target),
+        RunFault::BadPatch(bad_place),
+        RunFault::BadPatch(PatchError::MoveIntoSelf { operation: 1 }),
+        RunFault::BadPatch(PatchError::TestFloat { operation: 1 }),
         RunFault::BadPatch(PatchError::TestFailed { operation: 1 }),
+        RunFault::InputNotJson,
         RunFault::Memory(AllocError),
-    ] {
+        RunFault::Read,
+        RunFault::Write,
+    ]
+}
+
+#[test]
+fn display_stops_at_the_first_failed_write(rt: HostRuntime) {
+    for fault in faults() {
         for calls in 0..10 {
-            assert!(rt; is_told_once(&fault, calls), "{calls}");
+            assert!(rt; fails_once(&fault, calls), "{calls}");
         }
     }
 }
