@@ -9,7 +9,7 @@ from typing import NamedTuple
 class Case(NamedTuple):
     """The input lines, the result of the call, the state of the borrowed arguments after it, and a session's calls.
 
-    A case with `no_alloc` makes no memory request.
+    A case with `no_alloc` makes no memory request, and one with `most` makes at most so many.
     """
 
     lines: tuple
@@ -17,6 +17,7 @@ class Case(NamedTuple):
     after: str = ""
     no_alloc: bool = False
     calls: tuple = ()
+    most: int | None = None
 
 
 USIZE_MAX = 18446744073709551615
@@ -1279,9 +1280,98 @@ def shown():
         yield no_alloc("show", "index", text, answer=text)
 
 
+def nested(depth, inner):
+    """Objects in one another, each with the key `a`, around a value."""
+    return '{"a":' * depth + inner + "}" * depth
+
+
+def object_of(count, more=""):
+    """A JSON object of so many members."""
+    return "{" + ",".join(f'"k{number:05}":0' for number in range(count)) + more + "}"
+
+
+def table_of(count, more=""):
+    """A TOML table of so many members."""
+    return "{ " + ", ".join(f"k{number:05} = 0" for number in range(count)) + more + " }"
+
+
+def large_documents():
+    """Writes into large arrays and objects, and deep pointers: a call that needs memory finds it at any size."""
+    zeros = ",".join("0" * 100_000)
+    yield on("json", object_of(1000), "assign", "/z", answer="none", after=object_of(1000, ',"z":1'))
+    yield on("toml", table_of(1000), "assign", "/z", answer="none", after=table_of(1000, ", z = 1"))
+    yield on("toml", f"[{', '.join('0' * 100)}]", "assign", "/-", answer="none", after=f"[{', '.join('0' * 100)}, 1]")
+    yield on("json", f"[{zeros}]", "assign", "/-", answer="none", after=f"[{zeros},1]")
+    yield on("toml", "1", "assign", "/", "2", answer="1", after='{ "" = 2 }')
+    yield on("json", "{}", "assign", f"/{LONG * 3}", answer="none", after=f'{{"{LONG * 3}":1}}')
+    yield on("json", "1", "assign", f"/{LONG * 3}", "2", answer="1", after=f'{{"{LONG * 3}":2}}')
+    below, wall = nested(5, "1"), nested(5, "[]")
+    error = RESOLVE_UNREACHABLE.format(10)
+    yield on("json", below, "resolve", "/a" * 5 + "/b", answer=error, after=below, no_alloc=True)
+    error = ASSIGN_BAD_INDEX.format(10)
+    yield on("json", wall, "assign", "/a" * 5 + "/b", answer=error, after=wall, no_alloc=True)
+    error = RESOLVE_OUT_OF_BOUNDS.format(10)
+    yield on("json", wall, "resolve", "/a" * 5 + "/0", answer=error, after=wall, no_alloc=True)
+    yield allocates("pointer with", "with_leading_token", MANY, "x", answer=f"/x{MANY}")
+    yield allocates("pointer with", "with_trailing_token", MANY, "x", answer=f"{MANY}/x")
+    label = "not found in value at 13, length 1"
+    yield allocates("fields", "labels", "resolve", 6, 12, "/a" * 8, answer=label)
+
+
+def large_undos_and_patches():
+    """Undo and patches at deep pointers, and patches of many operations."""
+    deep, written = nested(12, "{}"), nested(12, '{"b":7}')
+    pointer = "/a" * 12 + "/b"
+    yield undoing("json", deep, "assign_with_undo", pointer, "7", answer=f"remove at {pointer}", after=written)
+    yield undoing("json", deep, "undo", pointer, "7", answer="done", after=deep)
+    yield undoing("json", nested(12, "1"), "undo", "/a" * 12, "7", answer="done", after=nested(12, "1"))
+    deeper = "/a" * 1100
+    yield undoing("json", "{}", "assign_with_undo", deeper, "7", answer="remove at /a", after=nested(1100, "7"))
+    copied = '{"a":' + nested(11, "1") + ',"b":1}'
+    yield patched(nested(12, "1"), ("copy", "/a" * 12, "/b"), after=copied)
+    yield patched(nested(12, "1"), ("replace", "/a" * 12, "2"), after=nested(12, "2"))
+    yield Case(("patch back", nested(12, "1"), "/a" * 12), f"add 1 at {'/a' * 12}\n", f"{nested(11, '{}')}\n")
+    yield patched("[1]", *[("test", "/0", "1")] * 5, after="[1]")
+    zeros = ",".join("0" * 100_001)
+    yield patched(f"[{zeros}]", ("add", "/0", "1"), after=f"[1,{zeros}]")
+    yield patched("[]", *[("add", "/-", "1")] * 2000, after=f"[{','.join('1' * 2000)}]")
+
+
+def few_requests():
+    """Calls that copy no more than they need: the number of memory requests is limited."""
+    text = '"a text that takes memory"'
+    texts_beside = ",".join([text] * 100)
+    beside = f'{{"a":[0],"b":[{texts_beside}]}}'
+    replaced = beside.replace("[0]", "[1]", 1)
+    yield patched(beside, ("replace", "/a/0", "1"), after=replaced)._replace(most=2)
+    yield patched(beside, ("test", "/a/0", "0"), after=beside)._replace(most=0)
+    yield patched(beside, ("test", "/b/0", text), ("test", "/b/1", text), after=beside)._replace(most=0)
+    yield Case(("patch back", beside, "/a/0"), "add 0 at /a/0\n", f"{beside.replace('[0]', '[]', 1)}\n", most=1)
+    yield on("json", "1", "assign", "/a~1b", "2", answer="1", after='{"a/b":2}')._replace(most=2)
+    for case in session("json", beside, "/a/0", [("write 1", "value 0")], f"/a/0 {replaced}"):
+        yield case._replace(most=1)
+    for call in ["push_back a", "append /a"]:
+        for case in session("json", "{}", "/abc", [("clear", "done"), (call, "done")], "/a {}"):
+            yield case._replace(most=1)
+    for kind in KINDS:
+        yield edit(kind, "pop_front", f"/a{MANY}", answer="a", after=MANY)._replace(most=1)
+    rest = ", ".join([text] * 100)
+    table = f"{{ a = 0, b = [{rest}] }}"
+    for case in session("toml", table, "/a", [("delete", "deleted 0")], f"/a {{ b = [{rest}] }}"):
+        yield case._replace(most=1)
+
+
+def values_of_errors():
+    """A call that fails drops the value that it was given."""
+    yield from session("json", "[]", "/x", [("write [1]", RESOLVE_BAD_INDEX.format(0))], "/x []")
+    yield from session("json", "[]", "/x", [("parse ", "done"), ("resolve", "value []")], " []")
+    yield from session("json", "[]", "/x", [("append ", "done")], "/x []")
+
+
 TABLES = [
     texts, pointers_of_texts, cut, indices, tokens, numbers, measures, pairs, ranges, copies, edits, owned,
     found, assigned, in_tables, labelled, undos, undos_told, patches, applied, refused,
     sessions, single_calls, refused_calls, reports, bounds, shown,
+    large_documents, large_undos_and_patches, few_requests, values_of_errors,
 ]
 CASES = [case for table in TABLES for case in table()]

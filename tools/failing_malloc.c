@@ -1,6 +1,6 @@
 // Preloaded into a program, makes memory requests fail. It counts the requests between the marks that the program
 // writes to its standard output, and makes one of them fail, or all. When the program exits, it reports how many
-// requests it counted, and how many blocks the whole run allocated and freed.
+// requests it counted, how many blocks the whole run allocated and freed, and the size of the greatest request it counted.
 //
 // Environment: FAIL_REQUEST is the number of the request that fails, from 1, or `all`, or 0 for none. With COUNT=run,
 // the whole run is counted. REPORT_TO is the file descriptor for the report.
@@ -31,6 +31,7 @@ static unsigned long failing;
 static unsigned long requests;
 static unsigned long allocated;
 static unsigned long freed;
+static unsigned long greatest;
 
 __attribute__((constructor)) static void begin(void) {
     const char *which = getenv("FAIL_REQUEST");
@@ -40,17 +41,19 @@ __attribute__((constructor)) static void begin(void) {
     failing = which ? strtoul(which, NULL, 10) : 0;
     counting = what && strcmp(what, "run") == 0;
     report_to = where ? atoi(where) : -1;
-    requests = allocated = freed = 0;
+    requests = allocated = freed = greatest = 0;
 }
 
 __attribute__((destructor)) static void end(void) {
-    char line[80];
-    int length = snprintf(line, sizeof line, "%lu %lu %lu\n", requests, allocated, freed);
+    char line[100];
+    int length = snprintf(line, sizeof line, "%lu %lu %lu %lu\n", requests, allocated, freed, greatest);
     if (report_to >= 0) syscall(SYS_write, report_to, line, length);
 }
 
-static int fails(void) {
-    return counting && (++requests == failing || all_fail);
+static int fails(size_t size) {
+    if (!counting) return 0;
+    if (size > greatest) greatest = size;
+    return ++requests == failing || all_fail;
 }
 
 static void *counted(void *block) {
@@ -59,22 +62,22 @@ static void *counted(void *block) {
 }
 
 void *malloc(size_t size) {
-    return fails() ? NULL : counted(__libc_malloc(size));
+    return fails(size) ? NULL : counted(__libc_malloc(size));
 }
 
 void *calloc(size_t count, size_t size) {
-    return fails() ? NULL : counted(__libc_calloc(count, size));
+    return fails(count * size) ? NULL : counted(__libc_calloc(count, size));
 }
 
 void *realloc(void *block, size_t size) {
-    if (fails()) return NULL;
+    if (fails(size)) return NULL;
     void *moved = __libc_realloc(block, size);
     allocated += block == NULL && moved != NULL;
     return moved;
 }
 
 void *aligned_alloc(size_t alignment, size_t size) {
-    return fails() ? NULL : counted(__libc_memalign(alignment, size));
+    return fails(size) ? NULL : counted(__libc_memalign(alignment, size));
 }
 
 int posix_memalign(void **block, size_t alignment, size_t size) {

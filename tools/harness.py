@@ -33,8 +33,8 @@ def build_shim(folder):
 def run_with_shim(words, text, shim, fail, count=""):
     """Runs a program with one memory request failing, all of them ("all"), or none (0).
 
-    Returns the completed process and the number of requests. Requests are counted between the marks that the program
-    writes, or in the whole run where `count` is "run". Fails if a block was not freed.
+    Returns the completed process, the number of requests, and the size of the greatest one in bytes. Requests are counted
+    between the marks that the program writes, or in the whole run where `count` is "run". Fails if a block was not freed.
     """
     reading, writing = os.pipe()
     environment = {"LD_PRELOAD": shim, "FAIL_REQUEST": str(fail), "COUNT": count, "REPORT_TO": str(writing)}
@@ -45,12 +45,12 @@ def run_with_shim(words, text, shim, fail, count=""):
         os.close(writing)
     with os.fdopen(reading, "rb") as report:
         numbers = report.read().split()
-    if len(numbers) != 3:
+    if len(numbers) != 4:
         raise CheckFailed(f"ended with status {completed.returncode}: {completed.stderr.decode()[-300:]}")
-    requests, allocated, freed = map(int, numbers)
+    requests, allocated, freed, greatest = map(int, numbers)
     if allocated != freed:
         raise CheckFailed(f"allocated {allocated} blocks and freed {freed}")
-    return completed, requests
+    return completed, requests, greatest
 
 
 def parts_of(completed):

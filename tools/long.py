@@ -69,7 +69,7 @@ def followed():
 
 
 def called():
-    """A session that in each round appends two numbers to an array, and removes the first."""
+    """A session that repeatedly appends two numbers to an array, and removes the first."""
     steps = []
     for i in range(ROUNDS):
         steps += [("push_back -", "done"), (f"assign {2 * i}", "assigned"), (f"assign {2 * i + 1}", "assigned")]

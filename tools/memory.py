@@ -1,7 +1,8 @@
 """Runs each case of call_cases.py once with enough memory, and once for each memory request with that request failing.
 
 With a failing request the run returns the usual result, or "out of memory" with its arguments unchanged. The same holds
-with all requests failing. A case that is marked as free makes no request. Every run frees what it allocated.
+with all requests failing. A case with `no_alloc` makes no request. No request is greater than in proportion to the case. Every run frees
+what it allocated.
 """
 import os
 import subprocess
@@ -18,18 +19,24 @@ OUT_OF_MEMORY = "out of memory\n"
 
 
 class Run(NamedTuple):
-    """What a run wrote, and how many memory requests its call made."""
+    """What a run wrote, how many memory requests its call made, and the size of the greatest one."""
 
     before: str
     answer: str
     after: str
     requests: int
+    greatest: int
 
 
 def run(lines, shim, fail):
     """Runs a case with the numbered request failing, or all of them, or none."""
-    completed, requests = run_with_shim([PROGRAM], "\n".join(lines), shim, fail)
-    return Run(*parts_of(completed), requests)
+    completed, requests, greatest = run_with_shim([PROGRAM], "\n".join(lines), shim, fail)
+    return Run(*parts_of(completed), requests, greatest)
+
+
+def greatest_for(case):
+    """Returns the size in bytes that a request of a case may have: in proportion to its texts."""
+    return 2048 + 20 * sum(len(text.encode()) for text in (*case.lines, case.answer, case.after))
 
 
 def described(result):
@@ -77,6 +84,10 @@ def check(case, shim):
             raise CheckFailed(f"{described(usual)}, expected {described(case)}")
         if case.no_alloc and usual.requests:
             raise CheckFailed(f"{usual.requests} memory requests, expected none")
+        if case.most is not None and usual.requests > case.most:
+            raise CheckFailed(f"{usual.requests} memory requests, expected at most {case.most}")
+        if usual.greatest > greatest_for(case):
+            raise CheckFailed(f"a request of {usual.greatest} bytes, expected at most {greatest_for(case)}")
         for fail in [*range(1, usual.requests + 1), "all"]:
             check_failing(case, usual, shim, fail)
     except (CheckFailed, subprocess.TimeoutExpired) as error:

@@ -39,7 +39,7 @@ IGNORES_INPUT = [("tokens", "/a"), ("split", "/a", "1")]
 class Case(NamedTuple):
     """Arguments and input of a run, its output, error output and exit status, and whether it reads its input.
 
-    A run reads all of its input or nothing.
+    A run reads all of its input or nothing. One with `most` makes at most so many memory requests.
     """
 
     words: tuple
@@ -48,6 +48,7 @@ class Case(NamedTuple):
     message: str
     status: int
     is_read: bool = True
+    most: int | None = None
 
 
 def succeeds(*words, input, line):
@@ -89,6 +90,9 @@ def resolving():
     yield fails_with(RESOLVE_BAD_INDEX.format(4), "resolve", "/foo/01", input='{"foo":["bar"]}')
     yield fails_with(RESOLVE_NOT_FOUND.format(2), "resolve", "/a/", input='{"a":{}}')
     yield fails_with(RESOLVE_UNREACHABLE.format(2), "resolve", "/a/b", input='{"a":1}')
+    yield succeeds("resolve", "/a\n", input='{"a\\n":1,"a":2}', line="1")
+    deep = '{"a":' * 11 + "{}" + "}" * 11
+    yield fails_with(RESOLVE_NOT_FOUND.format(22), "resolve", "/a" * 12, input=deep)
 
 
 def listing():
@@ -106,6 +110,14 @@ def listing():
     yield rejects(1, SPLIT_OUT_OF_BOUNDS.format(3, 2), "split", "/foo/bar", "3")
     yield rejects(1, SPLIT_OUT_OF_BOUNDS.format(1, 0), "split", "", "1")
     yield rejects(1, SPLIT_OUT_OF_BOUNDS.format(GREATEST, 1), "split", "/a", f"{GREATEST}")
+
+
+def many_words():
+    """Many arguments, and a long one."""
+    yield lists("tokens", "/0" * 50_000, line="[" + ",".join(['"0"'] * 50_000) + "]")
+    for count in (40, 166):
+        line = "[" + ",".join(["1"] * count) + "]"
+        yield succeeds("patch", *["add", "/-", "1"] * count, input="[]", line=line)
 
 
 def writing():
@@ -377,17 +389,19 @@ def check_outcome(words, status, message, given):
 def check_memory(case, shim):
     """Runs a case once for each memory request, with that one failing, and returns the number of requests."""
     words = [PROGRAM, *case.words]
-    usual, requests = run_with_shim(words, case.input, shim, 0, count="run")
+    usual, requests, _ = run_with_shim(words, case.input, shim, 0, count="run")
     check_result(case, usual)
+    if case.most is not None and requests > case.most:
+        raise CheckFailed(f"{words[1:]}: {requests} memory requests, expected at most {case.most}")
     without_memory = Case(case.words, case.input, "", f"{OUT_OF_MEMORY}\n", 4)
     for fail in [*range(1, requests + 1), "all"]:
-        given, _ = run_with_shim(words, case.input, shim, fail, count="run")
+        given, _, _ = run_with_shim(words, case.input, shim, fail, count="run")
         check_result(case if given.returncode == case.status else without_memory, given)
     return requests
 
 
 SMALL_TABLES = [resolving, listing, writing, examples, patching, failing_patches]
-TABLES = [*SMALL_TABLES, bad_arguments, bad_inputs, large]
+TABLES = [*SMALL_TABLES, many_words, bad_arguments, bad_inputs, large]
 
 
 def small():
@@ -401,6 +415,7 @@ def small():
     yield rejects(3, BAD_VALUE, "assign", "/a", "x")
     yield rejects(3, BAD_VALUE, "patch", "add", "/a", "1", "add", "/a", "x")
     yield fails_with(BAD_INPUT, "resolve", "/a", input='{"a":[1,2', status=3)
+    yield succeeds("resolve", "", input="1", line="1")._replace(most=9)
 
 
 def main():

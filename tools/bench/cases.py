@@ -43,8 +43,8 @@ def texts():
     yield "parse, 8 tokens", "parse", SHORT
     yield "parse, 1000 tokens", "parse", LONG
     yield "parse, 1000 tokens with escapes", "parse", ESCAPED
-    yield "parse, refused at the end", "parse", LONG + "~"
-    yield "parse, refused at the start", "parse", "a" + LONG
+    yield "parse, an error at the end", "parse", LONG + "~"
+    yield "parse, an error at the start", "parse", "a" + LONG
     for name, text in (("8 bytes", letters(0, 8)), ("4096 bytes", letters(0, 4096)), ("escapes alone", "~0~1" * 1024)):
         yield f"Token::from_encoded, {name}", "from_encoded", text
     for name, text in (("8 bytes", letters(0, 8)), ("4096 bytes", letters(0, 4096)), ("8 bytes, 4 escapes", MIXED[:8]), ("4096 bytes, half escapes", MIXED)):
@@ -104,13 +104,13 @@ def documents():
         small = text_of({"a": {}, "b": []}, kind)
         yield f"{kind}: assign, a new member", "assign", kind, small, "/a/b", "1", "64"
         yield f"{kind}: assign, a pushed element", "assign", kind, small, "/b/-", "1", "64"
-        yield f"{kind}: assign, 8 objects grown", "assign", kind, small, "/a" + SHORT, "1", "64"
-        yield f"{kind}: assign, 8 arrays grown", "assign", kind, small, "/a/x" + "/0" * 8, "1", "64"
-        yield f"{kind}: assign, refused", "assign", kind, small, "/b/1", "1", "64"
+        yield f"{kind}: assign, 8 objects expanded", "assign", kind, small, "/a" + SHORT, "1", "64"
+        yield f"{kind}: assign, 8 arrays expanded", "assign", kind, small, "/a/x" + "/0" * 8, "1", "64"
+        yield f"{kind}: assign, an error", "assign", kind, small, "/b/1", "1", "64"
 
 
 def at(kind, name, document, pointer, copies):
-    """Yields the calls on a node that is there."""
+    """Yields the calls on a node that exists."""
     text = text_of(document, kind)
     for call in ("resolve", "resolve_mut", "assign", "delete"):
         yield f"{kind}: {call}, {name}", call, kind, text, pointer, "1", str(copies)

@@ -1,18 +1,36 @@
 #!/usr/bin/env python3
-"""Times this library and the Rust crate in one run, and prints the table of docs/SPEED.md.
+"""Times this library and the Rust crate in one run, and prints the times and their ratio.
 
-    tools/bench/speed.py [--rounds N] [--only WORD] OURS THEIRS [PROGRAM]
+    tools/bench/speed.py [--rounds N] [--only WORD] [--save] OURS THEIRS [PROGRAM]
 
 OURS is the built program of crates/jsonptr_tool_bench, THEIRS that of tools/bench/original, PROGRAM that of
-crates/jsonptr_run. Each program runs in turn. The result of a case is its minimum over all rounds.
+crates/jsonptr_run. Each program runs in turn. The result of a case is its minimum over all rounds. With --save the times
+are written to tools/bench/results.tsv, in picoseconds, from which chart.py makes what docs/SPEED.md shows.
 """
 import argparse
 import json
+import os
 import subprocess
 import tempfile
 import time
 
 from cases import cases
+
+RESULTS = os.path.join(os.path.dirname(os.path.abspath(__file__)), "results.tsv")
+
+
+def read_results():
+    """Returns the saved times of each case, here and of the Rust crate."""
+    with open(RESULTS, encoding="utf-8") as file:
+        rows = [row.rstrip("\n").split("\t") for row in file][1:]
+    return {case: (int(ours), int(theirs)) for case, ours, theirs in rows}
+
+
+def save(ours, theirs):
+    """Saves the times of each case."""
+    with open(RESULTS, "w", encoding="utf-8") as file:
+        file.write("case\there\trust crate\n")
+        file.writelines(f"{case}\t{least}\t{theirs[case]}\n" for case, least in ours.items())
 
 
 def times_of(command, lines):
@@ -63,6 +81,7 @@ def main():
     words = argparse.ArgumentParser()
     words.add_argument("--rounds", type=int, default=3)
     words.add_argument("--only", default="")
+    words.add_argument("--save", action="store_true")
     words.add_argument("ours")
     words.add_argument("theirs")
     words.add_argument("program", nargs="?")
@@ -75,6 +94,8 @@ def main():
     if words.program:
         for side, programs in zip((ours, theirs), whole_programs(words)):
             side.update(programs)
+    if words.save:
+        save(ours, theirs)
     print("| Call | here | the Rust crate | ratio |\n|---|---|---|---|")
     for name, least in ours.items():
         print(f"| {name} | {shown(least)} | {shown(theirs[name])} | {least / theirs[name]:.2f} |")

@@ -46,7 +46,7 @@ def invalid_encoding_len_by_the_tilde(words, field, ours, theirs, all_ours):
 
 
 def label_of_a_parse_error(words, field, ours, theirs, all_ours):
-    """The same, and no label if its offset exceeds `usize::MAX`, where the Rust crate panics."""
+    """A label at the offset of the tilde, and none if that exceeds `usize::MAX`, where the Rust crate panics."""
     fault = fault_of(words, all_ours)
     if not fault or field != "label":
         return False

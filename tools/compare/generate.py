@@ -46,7 +46,7 @@ def short_texts(length):
 
 
 def numbers():
-    """Yields numbers of every type, at and around its ends."""
+    """Yields numbers of each type: its minimum, its maximum, and some between."""
     for name, (sign, bits) in NUMBER_TYPES.items():
         least, greatest = (-(2 ** (bits - 1)), 2 ** (bits - 1) - 1) if sign == "i" else (0, 2**bits - 1)
         for number in {least, least + 1, -1, 0, 1, 9, 10, 99, 100, greatest - 1, greatest}:
@@ -153,7 +153,7 @@ class Shapes:
             return f"{name} {self.place(2)} {self.token()}"
         return name if name in ("pop_front", "pop_back", "clear") else f"{name} {self.token()}"
 
-    # documents: a value is a truth value, a number, a text, a date, None, a list or a dict
+    # documents: a value is a boolean, a number, a text, a date, None, a list or a dict
 
     def leaf(self, kind):
         r = self.random

@@ -1,8 +1,8 @@
-//! An answer: one line of fields `name=value` separated by tabs.
+//! The result of a call, as one line of fields `name=value` separated by tabs.
 use std::alloc::{AllocError, Global};
 use std::fmt;
 
-/// The text that a word of a request stands for.
+/// Returns the text that a word of a request represents.
 pub fn plain(alloc: Global, word: &str) -> Result<String, AllocError> {
     let mut text = String::new(alloc);
     let mut is_escaped = false;
@@ -19,7 +19,7 @@ pub fn plain(alloc: Global, word: &str) -> Result<String, AllocError> {
     Ok(text)
 }
 
-/// The character that this one names behind a backslash.
+/// Returns the character that `c` represents after a backslash.
 fn named(c: char) -> char {
     match c {
         't' => '\t',
@@ -29,7 +29,7 @@ fn named(c: char) -> char {
     }
 }
 
-/// Puts a text behind a line, with tabs, line ends and backslashes escaped.
+/// Appends a text to a line, with tabs, line ends and backslashes escaped.
 pub fn escape_onto(line: &mut String, text: &str) -> Result<(), AllocError> {
     for c in text.chars() {
         match c {
@@ -43,40 +43,40 @@ pub fn escape_onto(line: &mut String, text: &str) -> Result<(), AllocError> {
     Ok(())
 }
 
-/// Texts, each with a mark behind it that no escaped text has.
+/// Texts, each followed by a mark that no escaped text contains.
 #[derive(Debug, Drop)]
 pub struct List {
     line: String,
 }
 
 impl List {
-    /// No texts.
+    /// Makes an empty list.
     pub fn new(alloc: Global) -> List {
         List {
             line: String::new(alloc),
         }
     }
 
-    /// Puts a text behind the others.
+    /// Appends a text.
     pub fn item(&mut self, text: &str) -> Result<(), AllocError> {
         escape_onto(&mut self.line, text)?;
         self.line.push_str("\\;")?;
         Ok(())
     }
 
-    /// Puts a text behind the others, with an equals sign before it.
+    /// Appends a text, with an equals sign before it.
     pub fn named_item(&mut self, text: &str) -> Result<(), AllocError> {
         self.line.push('=')?;
         self.item(text)
     }
 
-    /// The line of all texts.
+    /// Returns the line of all texts.
     pub fn as_str(&self) -> &str {
         self.line.as_str()
     }
 }
 
-/// The fields of an answer.
+/// The fields of a result.
 #[derive(Debug, Drop)]
 pub struct Answer {
     alloc: Global,
@@ -84,7 +84,7 @@ pub struct Answer {
 }
 
 impl Answer {
-    /// An answer of no field.
+    /// Makes a result without fields.
     pub fn new(alloc: Global) -> Answer {
         Answer {
             alloc,
@@ -92,12 +92,12 @@ impl Answer {
         }
     }
 
-    /// Where the memory of an answer comes from.
+    /// Returns the allocator of the result.
     pub fn alloc(&self) -> Global {
         self.alloc
     }
 
-    /// The name of the next field.
+    /// Writes the name of the next field.
     fn name(&mut self, name: &str) -> Result<(), AllocError> {
         if !self.line.is_empty() {
             self.line.push('\t')?;
@@ -107,26 +107,26 @@ impl Answer {
         Ok(())
     }
 
-    /// A field whose value needs no escape.
+    /// Writes a field whose value needs no escape.
     pub fn field(&mut self, name: &str, value: &str) -> Result<(), AllocError> {
         self.name(name)?;
         self.line.push_str(value)?;
         Ok(())
     }
 
-    /// A field of any text.
+    /// Writes a field with any text.
     pub fn text(&mut self, name: &str, text: &str) -> Result<(), AllocError> {
         self.name(name)?;
         escape_onto(&mut self.line, text)
     }
 
-    /// A field of what a value displays.
+    /// Writes a field with the displayed text of a value.
     pub fn shown<T: fmt::Display>(&mut self, name: &str, value: &T) -> Result<(), AllocError> {
         let text = value.to_string(self.alloc)?;
         self.text(name, text.as_str())
     }
 
-    /// A field of a text behind an equals sign, or of `None`.
+    /// Writes a field with a text after an equals sign, or with `None`.
     pub fn option(&mut self, name: &str, text: Option<&str>) -> Result<(), AllocError> {
         match text {
             Some(text) => {
@@ -137,7 +137,7 @@ impl Answer {
         }
     }
 
-    /// The line.
+    /// Returns the line.
     pub fn into_line(self) -> String {
         let Answer { alloc: _, line } = self;
         line

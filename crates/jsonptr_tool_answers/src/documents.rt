@@ -1,7 +1,7 @@
 //! Calls on a JSON or TOML document at a pointer.
 use crate::answer::Answer;
-use crate::halt::Halt;
 use crate::labels;
+use crate::request_error::RequestError;
 use jsonptr::{Assign, Delete, Fault, Pointer, Resolve, ResolveMut, assign, resolve};
 use std::alloc::{AllocError, Global};
 use std::mem;
@@ -10,20 +10,20 @@ mod shown;
 
 use shown::Shown;
 
-/// Answers a call on documents.
-pub fn answer(answer: &mut Answer, name: &str, arguments: &[String]) -> Result<(), Halt> {
+/// Makes a call on documents.
+pub fn answer(answer: &mut Answer, name: &str, arguments: &[String]) -> Result<(), RequestError> {
     let Some((kind, rest)) = arguments.split_first() else {
-        return Err(Halt::Unknown);
+        return Err(RequestError::Unknown);
     };
     match kind.as_str() {
         "json" => answer_on::<serde_json::Value>(answer, name, rest),
         "toml" => answer_on::<toml::Value>(answer, name, rest),
-        _ => Err(Halt::Unknown),
+        _ => Err(RequestError::Unknown),
     }
 }
 
-/// The same for one kind of document.
-fn answer_on<D>(answer: &mut Answer, name: &str, arguments: &[String]) -> Result<(), Halt>
+/// Makes a call on documents of one type.
+fn answer_on<D>(answer: &mut Answer, name: &str, arguments: &[String]) -> Result<(), RequestError>
 where
     D: Shown
         + Drop
@@ -51,26 +51,26 @@ where
             take_out(answer, &mut document, pointer)?;
             document_left(answer, &document)
         }
-        _ => Err(Halt::Unknown),
+        _ => Err(RequestError::Unknown),
     }
 }
 
-/// The document that a text is.
-fn read<D: Shown>(alloc: Global, text: &String) -> Result<D, Halt> {
+/// Parses a document.
+fn read<D: Shown>(alloc: Global, text: &String) -> Result<D, RequestError> {
     match D::read(alloc, text.as_str())? {
         Some(document) => Ok(document),
-        None => Err(Halt::Unknown),
+        None => Err(RequestError::Unknown),
     }
 }
 
-/// A field of the document as a call left it.
-fn document_left<D: Shown>(answer: &mut Answer, document: &D) -> Result<(), Halt> {
+/// Writes a field with the document after a call.
+fn document_left<D: Shown>(answer: &mut Answer, document: &D) -> Result<(), RequestError> {
     let text = document.shown(answer.alloc())?;
     Ok(answer.text("document", text.as_str())?)
 }
 
-/// A field of what a call gave back.
-fn given_back<D: Shown + Drop>(answer: &mut Answer, old: Option<D>) -> Result<(), Halt> {
+/// Writes a field with the value that a call returned.
+fn given_back<D: Shown + Drop>(answer: &mut Answer, old: Option<D>) -> Result<(), RequestError> {
     match old {
         Some(old) => {
             let text = old.shown(answer.alloc())?;
@@ -80,7 +80,7 @@ fn given_back<D: Shown + Drop>(answer: &mut Answer, old: Option<D>) -> Result<()
     }
 }
 
-fn find<D>(answer: &mut Answer, document: &D, pointer: &String) -> Result<(), Halt>
+fn find<D>(answer: &mut Answer, document: &D, pointer: &String) -> Result<(), RequestError>
 where
     D: Shown + Resolve<Value = D, Error = resolve::Error>,
 {
@@ -99,7 +99,7 @@ fn write<D>(
     document: &mut D,
     pointer: &String,
     value: &String,
-) -> Result<(), Halt>
+) -> Result<(), RequestError>
 where
     D: Shown + Drop + ResolveMut<Value = D, Error = resolve::Error>,
 {
@@ -118,7 +118,7 @@ where
     }
 }
 
-/// Writes a value where a pointer leads, and gives back what stood there.
+/// Replaces the value that a pointer resolves to, and returns the old one.
 fn swapped<D>(
     document: &mut D,
     alloc: Global,
@@ -131,7 +131,7 @@ where
     Ok(mem::replace(document.resolve_mut(alloc, pointer)?, value))
 }
 
-fn take_out<D>(answer: &mut Answer, document: &mut D, pointer: &String) -> Result<(), Halt>
+fn take_out<D>(answer: &mut Answer, document: &mut D, pointer: &String) -> Result<(), RequestError>
 where
     D: Shown + Drop + Delete<Value = D>,
 {
@@ -145,7 +145,7 @@ fn set<D>(
     document: &mut D,
     pointer: &String,
     value: &String,
-) -> Result<(), Halt>
+) -> Result<(), RequestError>
 where
     D: Shown + Drop + Assign<Value = D, Error = assign::Error>,
 {

@@ -1,14 +1,14 @@
 //! Errors with any fields on any subject: texts, labels, URLs.
 use crate::answer::{Answer, List};
-use crate::halt::Halt;
+use crate::request_error::RequestError;
 use jsonptr::diagnostic::Diagnostic;
 use jsonptr::index::{Index, IntegerCause, OutOfBoundsError, ParseIndexError, StringOrToken};
 use jsonptr::{EncodingError, InvalidEncoding, ParseError, PointerBuf, Token, assign, resolve};
 use std::alloc::{AllocError, Global};
 use std::borrow::CowStr;
 
-/// Answers a call on errors.
-pub fn answer(answer: &mut Answer, name: &str, arguments: &[String]) -> Result<(), Halt> {
+/// Makes a call on errors.
+pub fn answer(answer: &mut Answer, name: &str, arguments: &[String]) -> Result<(), RequestError> {
     match arguments {
         [] if name == "addresses" => Ok(addresses(answer)?),
         [offset, source_offset, source, subject] if name == "parse error" => {
@@ -35,11 +35,11 @@ pub fn answer(answer: &mut Answer, name: &str, arguments: &[String]) -> Result<(
             let error = assign_error(kind.as_str(), position, offset, cause.as_str())?;
             assign(answer, &error, subject)
         }
-        _ => Err(Halt::Unknown),
+        _ => Err(RequestError::Unknown),
     }
 }
 
-/// Fields of the error of a text that is no pointer, on a subject.
+/// Writes the fields of a parse error, on a subject.
 fn pointer_text(
     answer: &mut Answer,
     error: &ParseError,
@@ -50,7 +50,7 @@ fn pointer_text(
     label(answer, error, subject)
 }
 
-/// Why a text is no index.
+/// Describes why a text is not an index.
 pub fn cause(alloc: Global, error: &ParseIndexError) -> Result<String, AllocError> {
     match error {
         ParseIndexError::InvalidInteger(IntegerCause::Empty) => String::from_str(alloc, "Empty"),
@@ -64,7 +64,7 @@ pub fn cause(alloc: Global, error: &ParseIndexError) -> Result<String, AllocErro
     }
 }
 
-/// The field `label`, of the labels that an error puts on a subject.
+/// Writes the field `label`, with the labels of an error on a subject.
 pub fn label<E: Diagnostic>(
     answer: &mut Answer,
     error: &E,
@@ -73,7 +73,7 @@ pub fn label<E: Diagnostic>(
     named_label(answer, "label", error, subject)
 }
 
-/// A field of the labels that an error puts on a subject.
+/// Writes a field with the labels of an error on a subject.
 fn named_label<E: Diagnostic>(
     answer: &mut Answer,
     name: &str,
@@ -94,18 +94,18 @@ fn named_label<E: Diagnostic>(
     }
 }
 
-fn encoding_error(offset: &str, source: &str) -> Result<EncodingError, Halt> {
+fn encoding_error(offset: &str, source: &str) -> Result<EncodingError, RequestError> {
     let offset = offset.parse()?;
     let source = match source {
         "Tilde" => InvalidEncoding::Tilde,
         "Slash" => InvalidEncoding::Slash,
-        _ => return Err(Halt::Unknown),
+        _ => return Err(RequestError::Unknown),
     };
     Ok(EncodingError { offset, source })
 }
 
-/// The error of reading one text, on another as subject, as a text and as a token.
-fn index(answer: &mut Answer, text: &str, subject: &String) -> Result<(), Halt> {
+/// Writes the fields of the error of parsing one text as an index, on another as subject.
+fn index(answer: &mut Answer, text: &str, subject: &String) -> Result<(), RequestError> {
     let error = index_cause(text)?;
     let alloc = answer.alloc();
     let token = Token::new(alloc, CowStr::Borrowed(subject.as_str()))?.into_owned(alloc)?;
@@ -113,16 +113,16 @@ fn index(answer: &mut Answer, text: &str, subject: &String) -> Result<(), Halt> 
     Ok(named_label(answer, "token_label", &error, &StringOrToken::from(token))?)
 }
 
-fn index_cause(cause: &str) -> Result<ParseIndexError, Halt> {
+fn index_cause(cause: &str) -> Result<ParseIndexError, RequestError> {
     match cause.parse::<Index>() {
-        Ok(_) => Err(Halt::Unknown),
+        Ok(_) => Err(RequestError::Unknown),
         Err(error) => Ok(error),
     }
 }
 
-fn bounds_cause(cause: &str) -> Result<OutOfBoundsError, Halt> {
+fn bounds_cause(cause: &str) -> Result<OutOfBoundsError, RequestError> {
     let Some((index, length)) = cause.split_once(',') else {
-        return Err(Halt::Unknown);
+        return Err(RequestError::Unknown);
     };
     Ok(OutOfBoundsError {
         index: index.parse()?,
@@ -135,7 +135,7 @@ fn resolve_error(
     position: usize,
     offset: usize,
     cause: &str,
-) -> Result<resolve::Error, Halt> {
+) -> Result<resolve::Error, RequestError> {
     match kind {
         "FailedToParseIndex" => Ok(resolve::Error::FailedToParseIndex {
             position,
@@ -149,7 +149,7 @@ fn resolve_error(
         }),
         "NotFound" => Ok(resolve::Error::NotFound { position, offset }),
         "Unreachable" => Ok(resolve::Error::Unreachable { position, offset }),
-        _ => Err(Halt::Unknown),
+        _ => Err(RequestError::Unknown),
     }
 }
 
@@ -158,7 +158,7 @@ fn assign_error(
     position: usize,
     offset: usize,
     cause: &str,
-) -> Result<assign::Error, Halt> {
+) -> Result<assign::Error, RequestError> {
     match kind {
         "FailedToParseIndex" => Ok(assign::Error::FailedToParseIndex {
             position,
@@ -170,26 +170,30 @@ fn assign_error(
             offset,
             source: bounds_cause(cause)?,
         }),
-        _ => Err(Halt::Unknown),
+        _ => Err(RequestError::Unknown),
     }
 }
 
-/// The fields of an index past the bounds, and its text.
+/// Describes an index out of bounds: its fields and its text.
 fn bounds(alloc: Global, error: &OutOfBoundsError) -> Result<String, AllocError> {
     let (index, length) = (error.index, error.length);
     format!(in alloc; "{index},{length} {error}")
 }
 
-/// The pointer that an error speaks of.
-fn subject_of(subject: &String) -> Result<PointerBuf, Halt> {
+/// Parses the pointer that an error is about.
+fn subject_of(subject: &String) -> Result<PointerBuf, RequestError> {
     match PointerBuf::parse(subject.clone()?) {
         Ok(pointer) => Ok(pointer),
-        Err(_) => Err(Halt::Unknown),
+        Err(_) => Err(RequestError::Unknown),
     }
 }
 
-/// The fields of an error of resolving, on a subject.
-pub fn resolve(answer: &mut Answer, error: &resolve::Error, subject: &String) -> Result<(), Halt> {
+/// Writes the fields of a resolve error, on a subject.
+pub fn resolve(
+    answer: &mut Answer,
+    error: &resolve::Error,
+    subject: &String,
+) -> Result<(), RequestError> {
     let subject = subject_of(subject)?;
     let alloc = answer.alloc();
     let (kind, source) = match error {
@@ -215,8 +219,12 @@ pub fn resolve(answer: &mut Answer, error: &resolve::Error, subject: &String) ->
     Ok(label(answer, error, &subject)?)
 }
 
-/// The fields of an error of assigning, on a subject.
-pub fn assign(answer: &mut Answer, error: &assign::Error, subject: &String) -> Result<(), Halt> {
+/// Writes the fields of an assign error, on a subject.
+pub fn assign(
+    answer: &mut Answer,
+    error: &assign::Error,
+    subject: &String,
+) -> Result<(), RequestError> {
     let subject = subject_of(subject)?;
     let alloc = answer.alloc();
     let (kind, source) = match error {

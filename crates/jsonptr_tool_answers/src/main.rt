@@ -1,12 +1,13 @@
-//! Answers calls of `jsonptr`, one a line: a request in, its whole answer out. docs/COMPARING.md describes the
-//! requests and the answers. The program in `tools/compare/original` answers them by the Rust crate.
+//! Makes calls of `jsonptr`, one for each line of the input, and writes their results.
+//! docs/COMPARING.md describes the requests and the results. The program in
+//! `tools/compare/original` makes the same calls of the Rust crate.
 #![tactic(auto)]
 
 mod answer;
 mod documents;
-mod halt;
 mod labels;
 mod pointers;
+mod request_error;
 mod requests;
 mod texts;
 

@@ -1,19 +1,19 @@
 //! Calls on pointers: reading, splitting, comparing, editing.
 use crate::answer::{Answer, List};
-use crate::halt::Halt;
+use crate::request_error::RequestError;
 use crate::texts::order_name;
 use jsonptr::{Component, Pointer, PointerBuf, ReplaceError, Token};
 use std::alloc::{AllocError, Global};
 use std::borrow::CowStr;
 use std::ops::Bound;
 
-/// Answers a call on pointers.
-pub fn answer(answer: &mut Answer, name: &str, arguments: &[String]) -> Result<(), Halt> {
+/// Makes a call on pointers.
+pub fn answer(answer: &mut Answer, name: &str, arguments: &[String]) -> Result<(), RequestError> {
     if name == "from tokens" {
         return Ok(from_tokens(answer, arguments)?);
     }
     let Some((first, rest)) = arguments.split_first() else {
-        return Err(Halt::Unknown);
+        return Err(RequestError::Unknown);
     };
     let pointer = Pointer::parse(first.as_str())?;
     match rest {
@@ -26,11 +26,11 @@ pub fn answer(answer: &mut Answer, name: &str, arguments: &[String]) -> Result<(
             Ok(two_pointers(answer, pointer, Pointer::parse(other.as_str())?)?)
         }
         edits if name == "edit" => edit(answer, pointer, edits),
-        _ => Err(Halt::Unknown),
+        _ => Err(RequestError::Unknown),
     }
 }
 
-/// A field of a token's encoded text, if there is one.
+/// Writes a field with a token's encoded text, if there is one.
 fn encoded(answer: &mut Answer, name: &str, token: Option<Token<'_>>) -> Result<(), AllocError> {
     match token {
         Some(token) => answer.option(name, Some(token.encoded())),
@@ -38,7 +38,7 @@ fn encoded(answer: &mut Answer, name: &str, token: Option<Token<'_>>) -> Result<
     }
 }
 
-/// A field of a pointer's text, if there is one.
+/// Writes a field with a pointer's text, if there is one.
 fn part(answer: &mut Answer, name: &str, pointer: Option<Pointer<'_>>) -> Result<(), AllocError> {
     match pointer {
         Some(pointer) => answer.option(name, Some(pointer.as_str())),
@@ -46,7 +46,7 @@ fn part(answer: &mut Answer, name: &str, pointer: Option<Pointer<'_>>) -> Result
     }
 }
 
-/// A field of two texts, if there are any.
+/// Writes a field with two texts, if there are any.
 fn halves(answer: &mut Answer, name: &str, halves: Option<(&str, &str)>) -> Result<(), AllocError> {
     match halves {
         Some((front, rest)) => {
@@ -70,7 +70,7 @@ fn reads(answer: &mut Answer, pointer: Pointer<'_>) -> Result<(), AllocError> {
     split_back(answer, pointer)
 }
 
-/// Fields of a pointer's text, as it is given, displayed and owned.
+/// Writes fields with a pointer's text: borrowed, displayed and owned.
 fn whole(answer: &mut Answer, pointer: Pointer<'_>) -> Result<(), AllocError> {
     answer.text("text", pointer.as_str())?;
     answer.shown("display", &pointer)?;
@@ -78,7 +78,7 @@ fn whole(answer: &mut Answer, pointer: Pointer<'_>) -> Result<(), AllocError> {
     answer.text("owned", owned.as_ptr().as_str())
 }
 
-/// Fields of a pointer's count and length, and of whether it is the root.
+/// Writes fields with a pointer's count and length, and whether it is the root.
 fn sizes(answer: &mut Answer, pointer: Pointer<'_>) -> Result<(), AllocError> {
     answer.shown("count", &pointer.count())?;
     answer.shown("len", &pointer.len())?;
@@ -86,7 +86,7 @@ fn sizes(answer: &mut Answer, pointer: Pointer<'_>) -> Result<(), AllocError> {
     answer.shown("is_root", &pointer.is_root())
 }
 
-/// A field of a pointer's tokens, encoded.
+/// Writes a field with a pointer's encoded tokens.
 fn tokens(answer: &mut Answer, pointer: Pointer<'_>) -> Result<(), AllocError> {
     let mut tokens = List::new(answer.alloc());
     for token in pointer.tokens() {
@@ -95,7 +95,7 @@ fn tokens(answer: &mut Answer, pointer: Pointer<'_>) -> Result<(), AllocError> {
     answer.field("tokens", tokens.as_str())
 }
 
-/// A field of a pointer's components, the tokens decoded.
+/// Writes a field with a pointer's components, the tokens decoded.
 fn components(answer: &mut Answer, pointer: Pointer<'_>) -> Result<(), AllocError> {
     let alloc = answer.alloc();
     let mut components = List::new(alloc);
@@ -110,7 +110,7 @@ fn components(answer: &mut Answer, pointer: Pointer<'_>) -> Result<(), AllocErro
     answer.field("components", components.as_str())
 }
 
-/// Fields of a pointer's tokens at either end, and of its parent.
+/// Writes fields with a pointer's first and last tokens, and its parent.
 fn ends(answer: &mut Answer, pointer: Pointer<'_>) -> Result<(), AllocError> {
     encoded(answer, "front", pointer.front())?;
     encoded(answer, "first", pointer.first())?;
@@ -145,7 +145,7 @@ fn split_back(answer: &mut Answer, pointer: Pointer<'_>) -> Result<(), AllocErro
     }
 }
 
-fn get(answer: &mut Answer, pointer: Pointer<'_>, range: &[String]) -> Result<(), Halt> {
+fn get(answer: &mut Answer, pointer: Pointer<'_>, range: &[String]) -> Result<(), RequestError> {
     match range {
         [kind] if kind.as_str() == "all" => Ok(part(answer, "got", pointer.get(..))?),
         [kind, place] => get_one(answer, pointer, kind.as_str(), place.as_str().parse()?),
@@ -157,21 +157,21 @@ fn get(answer: &mut Answer, pointer: Pointer<'_>, range: &[String]) -> Result<()
             let (start, end) = (start.as_str().parse()?, end.as_str().parse()?);
             get_two(answer, pointer, kind.as_str(), start, end)
         }
-        _ => Err(Halt::Unknown),
+        _ => Err(RequestError::Unknown),
     }
 }
 
-fn bound(bound: &str) -> Result<Bound<usize>, Halt> {
+fn bound(bound: &str) -> Result<Bound<usize>, RequestError> {
     if bound == "unbounded" {
         return Ok(Bound::Unbounded);
     }
     let Some((kind, place)) = bound.split_once(' ') else {
-        return Err(Halt::Unknown);
+        return Err(RequestError::Unknown);
     };
     match kind {
         "included" => Ok(Bound::Included(place.parse()?)),
         "excluded" => Ok(Bound::Excluded(place.parse()?)),
-        _ => Err(Halt::Unknown),
+        _ => Err(RequestError::Unknown),
     }
 }
 
@@ -180,13 +180,13 @@ fn get_one(
     pointer: Pointer<'_>,
     kind: &str,
     place: usize,
-) -> Result<(), Halt> {
+) -> Result<(), RequestError> {
     match kind {
         "at" => Ok(encoded(answer, "got", pointer.get(place))?),
         "from" => Ok(part(answer, "got", pointer.get(place..))?),
         "to" => Ok(part(answer, "got", pointer.get(..place))?),
         "to inclusive" => Ok(part(answer, "got", pointer.get(..=place))?),
-        _ => Err(Halt::Unknown),
+        _ => Err(RequestError::Unknown),
     }
 }
 
@@ -196,11 +196,11 @@ fn get_two(
     kind: &str,
     start: usize,
     end: usize,
-) -> Result<(), Halt> {
+) -> Result<(), RequestError> {
     match kind {
         "range" => Ok(part(answer, "got", pointer.get(start..end))?),
         "inclusive" => Ok(part(answer, "got", pointer.get(start..=end))?),
-        _ => Err(Halt::Unknown),
+        _ => Err(RequestError::Unknown),
     }
 }
 
@@ -228,7 +228,7 @@ fn two_pointers(answer: &mut Answer, a: Pointer<'_>, b: Pointer<'_>) -> Result<(
     owned_pointers(answer, &a.to_buf(alloc)?, &b.to_buf(alloc)?)
 }
 
-/// Fields of how two owned pointers compare.
+/// Writes fields with the comparisons of two owned pointers.
 fn owned_pointers(answer: &mut Answer, a: &PointerBuf, b: &PointerBuf) -> Result<(), AllocError> {
     answer.shown("owned_eq", &(a == b))?;
     answer.field("owned_cmp", order_name(a.cmp(b)))
@@ -243,7 +243,7 @@ fn from_tokens(answer: &mut Answer, texts: &[String]) -> Result<(), AllocError> 
     answer.text("text", pointer.as_ptr().as_str())
 }
 
-fn edit(answer: &mut Answer, pointer: Pointer<'_>, edits: &[String]) -> Result<(), Halt> {
+fn edit(answer: &mut Answer, pointer: Pointer<'_>, edits: &[String]) -> Result<(), RequestError> {
     let mut pointer = pointer.to_buf(answer.alloc())?;
     for edit in edits {
         let (name, argument) = match edit.as_str().split_once(' ') {
@@ -261,7 +261,7 @@ fn edit_once(
     pointer: &mut PointerBuf,
     name: &str,
     argument: &str,
-) -> Result<(), Halt> {
+) -> Result<(), RequestError> {
     match name {
         "append" => {
             pointer.append(Pointer::parse(argument)?)?;
@@ -275,7 +275,7 @@ fn edit_once(
         "pop_back" => Ok(encoded(answer, name, pointer.pop_back()?)?),
         "replace" => {
             let Some((place, text)) = argument.split_once(' ') else {
-                return Err(Halt::Unknown);
+                return Err(RequestError::Unknown);
             };
             replace(answer, pointer, place.parse()?, text)
         }
@@ -288,7 +288,7 @@ fn replace(
     pointer: &mut PointerBuf,
     place: usize,
     text: &str,
-) -> Result<(), Halt> {
+) -> Result<(), RequestError> {
     let token = Token::new(answer.alloc(), CowStr::Borrowed(text))?;
     match pointer.replace(place, token) {
         Ok(old) => Ok(encoded(answer, "replace", old)?),
@@ -306,7 +306,7 @@ fn with_token(
     pointer: &mut PointerBuf,
     name: &str,
     text: &str,
-) -> Result<(), Halt> {
+) -> Result<(), RequestError> {
     let alloc = answer.alloc();
     let token = Token::new(alloc, CowStr::Borrowed(text))?;
     match name {
@@ -326,6 +326,6 @@ fn with_token(
             let longer = pointer.as_ptr().with_trailing_token(alloc, token)?;
             Ok(answer.text(name, longer.as_ptr().as_str())?)
         }
-        _ => Err(Halt::Unknown),
+        _ => Err(RequestError::Unknown),
     }
 }

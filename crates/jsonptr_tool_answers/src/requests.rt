@@ -1,10 +1,10 @@
 //! Makes the call that a request names.
 use crate::answer::{Answer, plain};
-use crate::halt::Halt;
+use crate::request_error::RequestError;
 use crate::{documents, labels, pointers, texts};
 use std::alloc::{AllocError, Global};
 
-/// The line that answers a request.
+/// Returns the line of results for a request.
 pub fn answer_line(alloc: Global, line: &str) -> Result<String, AllocError> {
     let mut words = Vec::new(alloc);
     for word in line.split('\t') {
@@ -13,16 +13,16 @@ pub fn answer_line(alloc: Global, line: &str) -> Result<String, AllocError> {
     let mut answer = Answer::new(alloc);
     match answer_call(&mut answer, words.as_slice()) {
         Ok(()) => {}
-        Err(Halt::Memory(error)) => return Err(error),
-        Err(Halt::Unknown) => answer.text("unknown", line)?,
+        Err(RequestError::Memory(error)) => return Err(error),
+        Err(RequestError::Unknown) => answer.text("unknown", line)?,
     }
     Ok(answer.into_line())
 }
 
-/// Answers the call that the first word names.
-fn answer_call(answer: &mut Answer, words: &[String]) -> Result<(), Halt> {
+/// Makes the call that the first word names.
+fn answer_call(answer: &mut Answer, words: &[String]) -> Result<(), RequestError> {
     let Some((name, arguments)) = words.split_first() else {
-        return Err(Halt::Unknown);
+        return Err(RequestError::Unknown);
     };
     match name.as_str() {
         "parse"

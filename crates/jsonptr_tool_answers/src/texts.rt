@@ -1,15 +1,15 @@
 //! Calls on texts, tokens and indices.
 use crate::answer::{Answer, List};
-use crate::halt::Halt;
 use crate::labels::{cause, label};
+use crate::request_error::RequestError;
 use jsonptr::index::{Index, OutOfBoundsError, ParseIndexError, StringOrToken};
 use jsonptr::{ParseError, Pointer, PointerBuf, RichParseError, Token};
 use std::alloc::{AllocError, Global};
 use std::borrow::CowStr;
 use std::cmp::Ordering;
 
-/// Answers a call on texts.
-pub fn answer(answer: &mut Answer, name: &str, arguments: &[String]) -> Result<(), Halt> {
+/// Makes a call on texts.
+pub fn answer(answer: &mut Answer, name: &str, arguments: &[String]) -> Result<(), RequestError> {
     match arguments {
         [text] if name == "parse" => Ok(parse(answer, text)?),
         [text] if name == "token" => Ok(token(answer, text.as_str())?),
@@ -21,7 +21,7 @@ pub fn answer(answer: &mut Answer, name: &str, arguments: &[String]) -> Result<(
         }
         [a, b] if name == "two tokens" => Ok(two_tokens(answer, a.as_str(), b.as_str())?),
         [a, b] if name == "two indices" => two_indices(answer, a.as_str(), b.as_str()),
-        _ => Err(Halt::Unknown),
+        _ => Err(RequestError::Unknown),
     }
 }
 
@@ -39,7 +39,7 @@ fn parse(answer: &mut Answer, text: &String) -> Result<(), AllocError> {
     }
 }
 
-/// Fields of a pointer's text, and of its tokens, decoded.
+/// Writes fields with a pointer's text, and its decoded tokens.
 fn parsed(answer: &mut Answer, pointer: Pointer<'_>) -> Result<(), AllocError> {
     let mut decoded = List::new(answer.alloc());
     for token in pointer.tokens() {
@@ -50,8 +50,8 @@ fn parsed(answer: &mut Answer, pointer: Pointer<'_>) -> Result<(), AllocError> {
     answer.field("tokens", decoded.as_str())
 }
 
-/// Fields of where a text ceases to be a pointer. That a sum is no greater than `usize::MAX`, as `complete_offset`
-/// asks for, is known of the error of a text, and not of any error, so the sum is given.
+/// Writes fields with the offsets of a parse error. The caller passes `complete`, since only a
+/// parsed text is known to meet the condition of `complete_offset`.
 fn offsets(answer: &mut Answer, error: &ParseError, complete: usize) -> Result<(), AllocError> {
     answer.shown("offset", &error.offset())?;
     answer.shown("pointer_offset", &error.pointer_offset())?;
@@ -59,7 +59,7 @@ fn offsets(answer: &mut Answer, error: &ParseError, complete: usize) -> Result<(
     answer.shown("complete_offset", &complete)
 }
 
-/// Fields of why a text is no pointer.
+/// Writes fields with why a text is not a pointer.
 fn refused(answer: &mut Answer, error: &ParseError, text: &str) -> Result<(), AllocError> {
     answer.shown("is_no_leading_slash", &error.is_no_leading_slash())?;
     answer.shown("is_invalid_encoding", &error.is_invalid_encoding())?;
@@ -67,7 +67,7 @@ fn refused(answer: &mut Answer, error: &ParseError, text: &str) -> Result<(), Al
     answer.shown("len", &error.invalid_encoding_len(text))
 }
 
-/// Fields of the report that hands a text back which is no pointer.
+/// Writes fields with the report that returns a text that is not a pointer.
 fn reported(answer: &mut Answer, report: RichParseError) -> Result<(), AllocError> {
     answer.text("subject", report.subject().as_str())?;
     answer.shown("report", &report)?;
@@ -105,15 +105,19 @@ fn encoded(answer: &mut Answer, text: &String) -> Result<(), AllocError> {
     }
 }
 
-fn numbered(answer: &mut Answer, number: &str) -> Result<(), Halt> {
+fn numbered(answer: &mut Answer, number: &str) -> Result<(), RequestError> {
     let Some((kind, digits)) = number.split_once(':') else {
-        return Err(Halt::Unknown);
+        return Err(RequestError::Unknown);
     };
     let token = token_of_number(answer.alloc(), kind, digits)?;
     Ok(answer.text("encoded", token.encoded())?)
 }
 
-fn token_of_number(alloc: Global, kind: &str, digits: &str) -> Result<Token<'static>, Halt> {
+fn token_of_number(
+    alloc: Global,
+    kind: &str,
+    digits: &str,
+) -> Result<Token<'static>, RequestError> {
     let token = match kind {
         "u8" => Token::from_number(alloc, digits.parse::<u8>()?),
         "u16" => Token::from_number(alloc, digits.parse::<u16>()?),
@@ -127,12 +131,12 @@ fn token_of_number(alloc: Global, kind: &str, digits: &str) -> Result<Token<'sta
         "i64" => Token::from_number(alloc, digits.parse::<i64>()?),
         "i128" => Token::from_number(alloc, digits.parse::<i128>()?),
         "isize" => Token::from_number(alloc, digits.parse::<isize>()?),
-        _ => return Err(Halt::Unknown),
+        _ => return Err(RequestError::Unknown),
     };
     Ok(token?)
 }
 
-/// A field of an index, or of why there is none.
+/// Writes a field with an index, or why there is none.
 fn read(answer: &mut Answer, index: &Result<Index, ParseIndexError>) -> Result<(), AllocError> {
     let text = match index {
         Ok(Index::Num(place)) => format!(in answer.alloc(); "Num({place})")?,
@@ -157,7 +161,7 @@ fn index(answer: &mut Answer, text: &String) -> Result<(), AllocError> {
     }
 }
 
-/// A field of a place within the bounds, or of why there is none.
+/// Writes a field with an index within the bounds, or why there is none.
 fn place(
     answer: &mut Answer,
     name: &str,
@@ -182,7 +186,7 @@ fn bounds(answer: &mut Answer, text: &str, length: usize) -> Result<(), AllocErr
     Ok(())
 }
 
-/// The name of an order.
+/// Returns the name of an order.
 pub fn order_name(order: Ordering) -> &'static str {
     match order {
         Ordering::Less => "Less",
@@ -198,9 +202,9 @@ fn two_tokens(answer: &mut Answer, a: &str, b: &str) -> Result<(), AllocError> {
     answer.field("cmp", order_name(a.cmp(&b)))
 }
 
-fn two_indices(answer: &mut Answer, a: &str, b: &str) -> Result<(), Halt> {
+fn two_indices(answer: &mut Answer, a: &str, b: &str) -> Result<(), RequestError> {
     let (Ok(a), Ok(b)) = (a.parse::<Index>(), b.parse::<Index>()) else {
-        return Err(Halt::Unknown);
+        return Err(RequestError::Unknown);
     };
     answer.shown("eq", &(a == b))?;
     Ok(answer.field("cmp", order_name(a.cmp(&b)))?)

@@ -6,7 +6,7 @@ use std::alloc::{AllocError, Global};
 use std::borrow::CowStr;
 use std::io;
 
-/// The least time of a case of these, if it is one.
+/// Returns the minimum time of a case, if it is one of these.
 pub fn least_of(stopwatch: &Stopwatch<'_>, case: &[&str]) -> io::Result<Option<u64>> {
     match case {
         [kind, call, pointer, argument, times] if *kind == "edit" => {
@@ -26,7 +26,7 @@ pub fn least_of(stopwatch: &Stopwatch<'_>, case: &[&str]) -> io::Result<Option<u
     }
 }
 
-/// The pointer and the number of two words, if they are such.
+/// Parses two words as a pointer and a number.
 fn place_of<'a>(pointer: &'a str, number: &str) -> Option<(Pointer<'a>, u64)> {
     match (Pointer::parse(pointer), number.parse::<u64>()) {
         (Ok(pointer), Ok(number)) => Some((pointer, number)),
@@ -36,11 +36,11 @@ fn place_of<'a>(pointer: &'a str, number: &str) -> Option<(Pointer<'a>, u64)> {
 
 /// An edit of a pointer.
 trait Edit {
-    /// Makes it, and tells whether it succeeded.
+    /// Makes the edit, and returns whether it succeeded.
     fn is_made(&self, alloc: Global, pointer: &mut PointerBuf) -> bool;
 }
 
-/// So many times the same edit, of one pointer.
+/// The same edit a number of times, each of one pointer.
 #[derive(Drop)]
 struct Edits<'a, E> {
     start: Pointer<'a>,
@@ -62,7 +62,7 @@ impl<E: Edit> Batch<PointerBuf> for Edits<'_, E> {
     }
 }
 
-/// Puts the token of this text behind the others.
+/// Appends the token of this text.
 #[derive(Drop)]
 struct PushBack<'a>(&'a str);
 
@@ -75,7 +75,7 @@ impl Edit for PushBack<'_> {
     }
 }
 
-/// Puts the token of this text before the others.
+/// Inserts the token of this text before all others.
 #[derive(Drop)]
 struct PushFront<'a>(&'a str);
 
@@ -88,7 +88,7 @@ impl Edit for PushFront<'_> {
     }
 }
 
-/// Takes the last token off.
+/// Removes the last token.
 struct PopBack;
 
 impl Edit for PopBack {
@@ -97,7 +97,7 @@ impl Edit for PopBack {
     }
 }
 
-/// Takes the first token off.
+/// Removes the first token.
 struct PopFront;
 
 impl Edit for PopFront {
@@ -106,7 +106,7 @@ impl Edit for PopFront {
     }
 }
 
-/// Puts this pointer behind.
+/// Appends this pointer.
 #[derive(Drop)]
 struct Append<'a>(Pointer<'a>);
 
@@ -116,7 +116,7 @@ impl Edit for Append<'_> {
     }
 }
 
-/// Puts the token of this text at this place.
+/// Replaces the token at this position by that of this text.
 #[derive(Drop)]
 struct Replace<'a>(usize, &'a str);
 
@@ -129,7 +129,7 @@ impl Edit for Replace<'_> {
     }
 }
 
-/// The least time of an edit that is made so many times.
+/// Returns the minimum time of an edit that is made this many times.
 fn time_edit(
     stopwatch: &Stopwatch<'_>,
     call: &str,
@@ -154,7 +154,7 @@ fn time_edit(
     }
 }
 
-/// The least time of one of so many edits.
+/// Returns the minimum time of one of this many edits.
 fn time_edits<E: Edit>(
     stopwatch: &Stopwatch<'_>,
     start: Pointer<'_>,
@@ -164,7 +164,7 @@ fn time_edits<E: Edit>(
     least(stopwatch.batches(times, &Edits { start, times, edit }))
 }
 
-/// A call on a document of a kind, which texts are, and a value to assign.
+/// Makes a call on a document of the type, with a value to assign.
 fn on_kind(
     stopwatch: &Stopwatch<'_>,
     kind: &str,
@@ -179,7 +179,7 @@ fn on_kind(
     }
 }
 
-/// A call on a document of JSON.
+/// Makes a call on a JSON document.
 fn on_json(
     stopwatch: &Stopwatch<'_>,
     texts: (&str, &str),
@@ -198,7 +198,7 @@ fn on_json(
     }
 }
 
-/// A call on a document of TOML.
+/// Makes a call on a TOML document.
 fn on_toml(
     stopwatch: &Stopwatch<'_>,
     texts: (&str, &str),
@@ -217,7 +217,7 @@ fn on_toml(
     }
 }
 
-/// A call on a document, with a value to assign.
+/// Makes a call on a document, with a value to assign.
 fn on_document<D>(
     stopwatch: &Stopwatch<'_>,
     given: (&D, &D),
@@ -270,7 +270,7 @@ impl<'a, D: Resolve<Value = D, Error = resolve::Error>> Work<(Pointer<'a>, &'a D
     }
 }
 
-/// A thousand times a pointer to resolve in one document, to write there.
+/// A thousand times a pointer to resolve mutably in one document.
 #[derive(Drop)]
 struct Resolutions<'a, D> {
     document: &'a D,
@@ -295,13 +295,13 @@ where
     }
 }
 
-/// A call that writes to a document.
+/// A call that changes a document.
 trait Write<D> {
-    /// Makes it, and tells whether it succeeded.
+    /// Makes the call, and returns whether it succeeded.
     fn is_made(&self, alloc: Global, pointer: Pointer<'_>, state: &mut (D, Option<D>)) -> bool;
 }
 
-/// So many copies of a document to write to, each with a value to assign.
+/// A number of copies of a document to change, each with a value to assign.
 #[derive(Drop)]
 struct Copies<'a, D, W> {
     document: &'a D,
@@ -330,7 +330,7 @@ impl<D: Clone + Drop, W: Write<D>> Batch<Vec<(D, Option<D>)>> for Copies<'_, D, 
     }
 }
 
-/// Assigns the value that stands by the document.
+/// Assigns the value that is kept with the document.
 #[derive(Drop)]
 struct Assigning;
 
@@ -343,7 +343,7 @@ impl<D: Drop + Assign<Value = D, Error = assign::Error>> Write<D> for Assigning 
     }
 }
 
-/// Deletes what the pointer names.
+/// Deletes the value that the pointer resolves to.
 #[derive(Drop)]
 struct Deleting;
 

@@ -1,8 +1,9 @@
-//! Times calls of `jsonptr`, one case a line. Input: a name, a call and its arguments, separated by tabs. Output: the
-//! name, and the minimum time of one call in picoseconds. The cases are those of tools/bench/cases.py. The program in
-//! `tools/bench/original` times the Rust crate on them.
+//! Times calls of `jsonptr`, one case a line. Input: a name, a call and its arguments, separated by
+//! tabs. Output: the name, and the minimum time of one call in picoseconds. The cases are those of
+//! tools/bench/cases.py. The program in `tools/bench/original` times the Rust crate on them.
 //!
-//! It times the cases if its one argument is `0`. Without an argument it runs each case once and writes only its name.
+//! It times the cases if its one argument is `0`. Without an argument it runs each case once and
+//! writes only its name.
 #![tactic(auto)]
 
 mod changes;
@@ -23,7 +24,7 @@ fn main(rt: HostRuntime) -> io::Result<()> {
     io::writer(&rt).flush()
 }
 
-/// The number that the program's word is.
+/// Returns the number in the program's argument.
 fn zero_of(rt: &HostRuntime) -> io::Result<Option<usize>> {
     let mut zero = None;
     for word in env::args(rt)?.skip(1) {
@@ -41,7 +42,7 @@ fn time_line(rt: &HostRuntime, stopwatch: &Stopwatch<'_>, line: &str) -> io::Res
     }
 }
 
-/// Writes the name of a case, and its least time, if there is such a case.
+/// Writes the name of a case, and its minimum time, if there is such a case.
 fn write_least(rt: &HostRuntime, name: &str, least: Option<u64>) -> io::Result<()> {
     match least {
         Some(0) => println!(rt; "{name}\tdone"),
@@ -50,7 +51,7 @@ fn write_least(rt: &HostRuntime, name: &str, least: Option<u64>) -> io::Result<(
     }
 }
 
-/// The words of a line, which have tabs between them.
+/// Returns the words of a line, which are separated by tabs.
 fn words_of(alloc: Global, line: &str) -> Result<Vec<&str>, AllocError> {
     let mut words = Vec::new(alloc);
     for word in line.split('\t') {
@@ -59,7 +60,7 @@ fn words_of(alloc: Global, line: &str) -> Result<Vec<&str>, AllocError> {
     Ok(words)
 }
 
-/// The least time of a case, if there is such a case.
+/// Returns the minimum time of a case, if there is such a case.
 fn least_of(stopwatch: &Stopwatch<'_>, case: &[&str]) -> io::Result<Option<u64>> {
     match works::least_of(stopwatch, case)? {
         Some(least) => Ok(Some(least)),

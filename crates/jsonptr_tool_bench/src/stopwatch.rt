@@ -7,26 +7,26 @@ const SAMPLES: usize = 11;
 
 const SAMPLE_NANOS: u64 = 4_000_000;
 
-// How many batches a sample has at most.
+// The maximum number of batches in a sample.
 const BATCHES: usize = 100;
 
-/// A call that can be made again and again. It is a trait of its own, since a closure is proved four times: its body, and
-/// each of the ways to call it.
+/// A call that can be repeated. It is a trait of its own, since a closure is proved four times: its
+/// body, and each of the ways to call it.
 pub trait Work<T> {
-    /// Makes the call on an input, and answers with a number that hangs on its answer.
+    /// Makes the call on an input, and returns a number that depends on the result.
     fn run(&self, alloc: Global, input: T) -> usize;
 }
 
-/// A turn of calls that uses up what it is made on.
+/// A turn of calls that consume their input.
 pub trait Batch<S> {
-    /// Makes what one turn uses up.
+    /// Makes the input of one turn.
     fn make(&self, alloc: Global) -> Result<S, AllocError>;
 
-    /// Makes the calls of one turn, and answers how many of them succeeded.
+    /// Makes the calls of one turn, and returns how many of them succeeded.
     fn turn(&self, alloc: Global, state: &mut S) -> usize;
 }
 
-/// What cases are timed with.
+/// Times cases.
 #[derive(Drop)]
 pub struct Stopwatch<'r> {
     rt: &'r HostRuntime,
@@ -34,17 +34,19 @@ pub struct Stopwatch<'r> {
 }
 
 impl<'r> Stopwatch<'r> {
-    /// Times cases where the word is given that the compiler must not know to be 0, and else runs them once.
+    /// Makes a stopwatch that times cases if `zero` is given, and otherwise runs them once. The
+    /// compiler must not know that this number is 0.
     pub fn new(rt: &'r HostRuntime, zero: Option<usize>) -> Stopwatch<'r> {
         Stopwatch { rt, zero }
     }
 
-    /// Where the memory of cases comes from.
+    /// Returns the allocator of the cases.
     pub fn alloc(&self) -> Global {
         self.rt.alloc()
     }
 
-    /// The least time of one of the `operations` of a call on this input, in picoseconds; 0 where it is not timed.
+    /// Returns the minimum time of one of the `operations` of a call on this input, in picoseconds,
+    /// or 0 if it is not timed.
     pub fn turns<T: Copy + Drop, W: Work<T>>(
         &self,
         operations: u64,
@@ -63,7 +65,7 @@ impl<'r> Stopwatch<'r> {
         }
     }
 
-    /// The least time in samples of as many turns as it takes to time them well.
+    /// Returns the minimum time of samples that have as many turns as a good measurement needs.
     fn least_of_turns<T: Copy + Drop, W: Work<T>>(
         &self,
         operations: u64,
@@ -80,7 +82,7 @@ impl<'r> Stopwatch<'r> {
         Ok(least)
     }
 
-    /// How many turns a sample has.
+    /// Returns how many turns a sample has.
     fn turns_of_sample<T: Copy + Drop, W: Work<T>>(
         &self,
         inputs: &[T],
@@ -111,7 +113,8 @@ impl<'r> Stopwatch<'r> {
         Ok(spent)
     }
 
-    /// The same, where each turn uses up what it is made on, which is made outside the time.
+    /// Returns the same time for turns that consume their input, which is made outside the measured
+    /// time.
     pub fn batches<S: Drop, B: Batch<S>>(&self, operations: u64, batch: &B) -> io::Result<u64> {
         if self.zero.is_none() {
             batch.turn(self.alloc(), &mut batch.make(self.alloc())?);
@@ -124,7 +127,7 @@ impl<'r> Stopwatch<'r> {
         Ok(least)
     }
 
-    /// The time of one of the operations in a sample of batches.
+    /// Returns the time of one of the operations in a sample of batches.
     fn time_of_batches<S: Drop, B: Batch<S>>(&self, operations: u64, batch: &B) -> io::Result<u64> {
         let mut nanos = 0u64;
         let mut turns = 0u64;
@@ -142,7 +145,7 @@ impl<'r> Stopwatch<'r> {
         Ok(per_operation(nanos, turns, operations))
     }
 
-    /// The time of one turn in nanoseconds, and its answer.
+    /// Returns the time of one turn in nanoseconds, and its result.
     fn time_of_turn<S: Drop, B: Batch<S>>(&self, batch: &B) -> io::Result<(u64, usize)> {
         let mut state = batch.make(self.alloc())?;
         let start = Instant::now(self.rt)?;
@@ -150,7 +153,7 @@ impl<'r> Stopwatch<'r> {
         Ok((nanos_since(self.rt, start)?, answer))
     }
 
-    /// Looks at a sum of answers, so that none of them is left out.
+    /// Uses a sum of results, so that the compiler drops none of them.
     fn keep(&self, sum: usize) -> io::Result<()> {
         if sum == usize::MAX {
             println!(self.rt; "{sum}")?;
@@ -159,7 +162,7 @@ impl<'r> Stopwatch<'r> {
     }
 }
 
-/// An input, twice.
+/// Returns an input twice.
 fn two_of<T: Copy + Drop>(alloc: Global, input: T) -> Result<Vec<T>, AllocError> {
     let mut inputs = Vec::new(alloc);
     inputs.push(input)?;
@@ -167,13 +170,13 @@ fn two_of<T: Copy + Drop>(alloc: Global, input: T) -> Result<Vec<T>, AllocError>
     Ok(inputs)
 }
 
-/// The nanoseconds since an instant.
+/// Returns the nanoseconds since an instant.
 fn nanos_since(rt: &HostRuntime, start: Instant) -> io::Result<u64> {
     let spent = start.elapsed(rt)?;
     Ok(u64::try_from(spent.as_nanos()).unwrap_or(u64::MAX))
 }
 
-/// So many calls on an input that no call knows to be the last one's.
+/// Makes this many calls on an input. No call can know that it has the input of the previous one.
 #[inline(never)]
 fn turns_of<T: Copy + Drop, W: Work<T>>(
     alloc: Global,
@@ -193,7 +196,7 @@ fn turns_of<T: Copy + Drop, W: Work<T>>(
     sum
 }
 
-/// Picoseconds of one operation.
+/// Returns the picoseconds of one operation.
 fn per_operation(nanos: u64, turns: u64, operations: u64) -> u64 {
     let all = turns.saturating_mul(operations);
     nanos.saturating_mul(1000).checked_div(all).unwrap_or(0)

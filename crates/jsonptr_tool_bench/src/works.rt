@@ -15,7 +15,7 @@ impl<'a> Work<&'a str> for Parse {
     }
 }
 
-/// Takes a text as that of a token.
+/// Parses a text as a token.
 struct FromEncoded;
 
 impl<'a> Work<&'a str> for FromEncoded {
@@ -51,7 +51,7 @@ impl<'a> Work<&'a Token<'a>> for DecodedText {
     }
 }
 
-/// Goes over the tokens of a pointer.
+/// Iterates over the tokens of a pointer.
 struct Tokens;
 
 impl<'a> Work<Pointer<'a>> for Tokens {
@@ -96,7 +96,7 @@ impl<'a> Work<Pointer<'a>> for Count {
     }
 }
 
-/// Takes the first token.
+/// Returns the first token.
 struct Front;
 
 impl<'a> Work<Pointer<'a>> for Front {
@@ -105,7 +105,7 @@ impl<'a> Work<Pointer<'a>> for Front {
     }
 }
 
-/// Takes the last token.
+/// Returns the last token.
 struct Back;
 
 impl<'a> Work<Pointer<'a>> for Back {
@@ -114,7 +114,7 @@ impl<'a> Work<Pointer<'a>> for Back {
     }
 }
 
-/// Leaves out the last token.
+/// Returns the pointer without the last token.
 struct Parent;
 
 impl<'a> Work<Pointer<'a>> for Parent {
@@ -132,7 +132,7 @@ impl<'a> Work<Pointer<'a>> for ToBuf {
     }
 }
 
-/// Takes the token at a position.
+/// Returns the token at a position.
 struct Get;
 
 impl<'a> Work<(Pointer<'a>, usize)> for Get {
@@ -150,7 +150,7 @@ impl<'a> Work<(Pointer<'a>, usize)> for SplitAtOffset {
     }
 }
 
-/// Takes the tokens of a range of positions.
+/// Returns the tokens in a range of positions.
 struct GetRange;
 
 impl<'a> Work<(Pointer<'a>, usize, usize)> for GetRange {
@@ -159,7 +159,7 @@ impl<'a> Work<(Pointer<'a>, usize, usize)> for GetRange {
     }
 }
 
-/// Tells whether the first begins with the second.
+/// Returns whether the first pointer starts with the second.
 struct StartsWith;
 
 impl<'a> Work<(Pointer<'a>, Pointer<'a>)> for StartsWith {
@@ -168,7 +168,7 @@ impl<'a> Work<(Pointer<'a>, Pointer<'a>)> for StartsWith {
     }
 }
 
-/// Tells whether the first ends with the second.
+/// Returns whether the first pointer ends with the second.
 struct EndsWith;
 
 impl<'a> Work<(Pointer<'a>, Pointer<'a>)> for EndsWith {
@@ -177,7 +177,7 @@ impl<'a> Work<(Pointer<'a>, Pointer<'a>)> for EndsWith {
     }
 }
 
-/// Leaves out the second where the first begins with it.
+/// Returns the first pointer without the prefix that is the second.
 struct StripPrefix;
 
 impl<'a> Work<(Pointer<'a>, Pointer<'a>)> for StripPrefix {
@@ -186,7 +186,7 @@ impl<'a> Work<(Pointer<'a>, Pointer<'a>)> for StripPrefix {
     }
 }
 
-/// Leaves out the second where the first ends with it.
+/// Returns the first pointer without the suffix that is the second.
 struct StripSuffix;
 
 impl<'a> Work<(Pointer<'a>, Pointer<'a>)> for StripSuffix {
@@ -195,7 +195,7 @@ impl<'a> Work<(Pointer<'a>, Pointer<'a>)> for StripSuffix {
     }
 }
 
-/// Takes what both begin with.
+/// Returns the common prefix of both.
 struct Intersection;
 
 impl<'a> Work<(Pointer<'a>, Pointer<'a>)> for Intersection {
@@ -204,7 +204,7 @@ impl<'a> Work<(Pointer<'a>, Pointer<'a>)> for Intersection {
     }
 }
 
-/// Tells whether both are equal.
+/// Returns whether both are equal.
 struct Equal;
 
 impl<'a> Work<(Pointer<'a>, Pointer<'a>)> for Equal {
@@ -213,7 +213,7 @@ impl<'a> Work<(Pointer<'a>, Pointer<'a>)> for Equal {
     }
 }
 
-/// Puts both in order.
+/// Compares both.
 struct Compare;
 
 impl<'a> Work<(Pointer<'a>, Pointer<'a>)> for Compare {
@@ -222,7 +222,7 @@ impl<'a> Work<(Pointer<'a>, Pointer<'a>)> for Compare {
     }
 }
 
-/// Puts the second behind the first.
+/// Appends the second to the first.
 struct Concat;
 
 impl<'a> Work<(Pointer<'a>, Pointer<'a>)> for Concat {
@@ -231,7 +231,7 @@ impl<'a> Work<(Pointer<'a>, Pointer<'a>)> for Concat {
     }
 }
 
-/// The least time of a case of these, if it is one.
+/// Returns the minimum time of a case, if it is one of these.
 pub fn least_of(stopwatch: &Stopwatch<'_>, case: &[&str]) -> io::Result<Option<u64>> {
     match case {
         [call, text] => of_text(stopwatch, call, text),
@@ -247,12 +247,12 @@ pub fn least_of(stopwatch: &Stopwatch<'_>, case: &[&str]) -> io::Result<Option<u
     }
 }
 
-/// A time that was taken.
+/// Wraps a time that was measured.
 pub(crate) fn least(least: io::Result<u64>) -> io::Result<Option<u64>> {
     Ok(Some(least?))
 }
 
-/// Calls on a text, or on the pointer that it is.
+/// Makes calls on a text, or on the pointer with that text.
 fn of_text(stopwatch: &Stopwatch<'_>, call: &str, text: &str) -> io::Result<Option<u64>> {
     match call {
         "parse" => least(stopwatch.turns(1, text, &Parse)),
@@ -297,7 +297,7 @@ fn reading(stopwatch: &Stopwatch<'_>, call: &str, pointer: Pointer<'_>) -> io::R
     }
 }
 
-/// Calls that read each token of a pointer.
+/// Makes calls that read each token of a pointer.
 fn reading_all(
     stopwatch: &Stopwatch<'_>,
     call: &str,

@@ -1,6 +1,6 @@
 //! Cases of index bounds, and of errors whose fields no parser returned.
+use crate::answer::Answer;
 use crate::row::{NoRow, Row};
-use crate::said::Said;
 use crate::{reports, stage};
 use jsonptr::diagnostic::Diagnostic;
 use jsonptr::index::{Index, OutOfBoundsError};
@@ -18,24 +18,25 @@ pub fn run(rt: &HostRuntime, mut row: Row<'_>) -> anyhow::Result<()> {
 }
 
 /// The result of a bounds check of an index.
-fn place(call: &str, index: Index, length: usize) -> Option<Said<'static>> {
+fn place(call: &str, index: Index, length: usize) -> Option<Answer<'static>> {
     match call {
         "for_len" => Some(of_place(index.for_len(length))),
         "for_len_incl" => Some(of_place(index.for_len_incl(length))),
-        "for_len_unchecked" => Some(Said::Number(index.for_len_unchecked(length))),
+        "for_len_unchecked" => Some(Answer::Number(index.for_len_unchecked(length))),
         _ => None,
     }
 }
 
 /// An index, or the error.
-fn of_place(place: Result<usize, OutOfBoundsError>) -> Said<'static> {
+fn of_place(place: Result<usize, OutOfBoundsError>) -> Answer<'static> {
     match place {
-        Ok(place) => Said::Number(place),
-        Err(error) => Said::OutOfBounds(error),
+        Ok(place) => Answer::Number(place),
+        Err(error) => Answer::OutOfBounds(error),
     }
 }
 
-/// Runs a case with these lines: `index` or `component`, and two pointers, whose last ones it compares.
+/// Runs a case with these lines: `index` or `component`, and two pointers, whose last ones it
+/// compares.
 pub fn run_order(rt: &HostRuntime, mut row: Row<'_>) -> anyhow::Result<()> {
     let kind = row.next();
     let (one, other) = (Pointer::parse(row.next())?, Pointer::parse(row.next())?);
@@ -46,7 +47,7 @@ pub fn run_order(rt: &HostRuntime, mut row: Row<'_>) -> anyhow::Result<()> {
         _ => None,
     };
     match order {
-        Some(order) => stage::answer(rt, Some(Said::Order(order))),
+        Some(order) => stage::answer(rt, Some(Answer::Order(order))),
         None => stage::answer(rt, None),
     }
 }
@@ -58,7 +59,8 @@ fn indices(one: Pointer<'_>, other: Pointer<'_>) -> Option<Ordering> {
     Some(one.cmp(&other))
 }
 
-/// Runs a case with these lines: the call, the kind of error, its two numbers, and the subject to report it on.
+/// Runs a case with these lines: the call, the kind of error, its two numbers, and the subject to
+/// report it on.
 pub fn run_fields(rt: &HostRuntime, mut row: Row<'_>) -> anyhow::Result<()> {
     let (call, kind) = (row.next(), row.next());
     let (first, second) = (row.number()?, row.number()?);
@@ -99,12 +101,13 @@ fn malformed(offset: usize, source: usize) -> ParseError {
     }
 }
 
-/// Runs a case with these lines: the two numbers of a pointer's error, and a subject: how much of it is at fault.
+/// Runs a case with these lines: the two numbers of a pointer's error, and a subject: how much of
+/// it is at fault.
 pub fn run_len(rt: &HostRuntime, mut row: Row<'_>) -> anyhow::Result<()> {
     let error = malformed(row.number()?, row.number()?);
     let subject = row.next();
     stage::begin(rt)?;
-    let said = Said::Number(error.invalid_encoding_len(subject));
+    let said = Answer::Number(error.invalid_encoding_len(subject));
     stage::answer(rt, Some(said))
 }
 
@@ -117,11 +120,11 @@ pub fn run_known(rt: &HostRuntime, mut row: Row<'_>) -> anyhow::Result<()> {
 }
 
 /// The result of such a call.
-fn known(call: &str) -> Option<Said<'static>> {
+fn known(call: &str) -> Option<Answer<'static>> {
     match call {
-        "from_static" => Some(Said::Number(from_static())),
-        "new_unchecked" => Some(Said::Number(new_unchecked())),
-        "complete_offset" => Some(Said::Number(complete_offset())),
+        "from_static" => Some(Answer::Number(from_static())),
+        "new_unchecked" => Some(Answer::Number(new_unchecked())),
+        "complete_offset" => Some(Answer::Number(complete_offset())),
         _ => None,
     }
 }

@@ -1,6 +1,6 @@
 //! Parses the calls of a session, one a line.
-use crate::kinds::Document;
 use crate::row::{NoRow, Row};
+use crate::row_document::RowDocument;
 use jsonptr::Pointer;
 use jsonptr_session::Call;
 use std::alloc::Global;
@@ -10,7 +10,7 @@ use std::alloc::Global;
 /// # Errors
 ///
 /// The error of the first line that is not a call, or out of memory.
-pub fn calls<D: Document>(alloc: Global, mut row: Row<'_>) -> anyhow::Result<Vec<Call<D>>> {
+pub fn calls<D: RowDocument>(alloc: Global, mut row: Row<'_>) -> anyhow::Result<Vec<Call<D>>> {
     let mut calls = Vec::new(alloc);
     for _turn in 0..u64::MAX {
         if row.is_empty() {
@@ -22,7 +22,7 @@ pub fn calls<D: Document>(alloc: Global, mut row: Row<'_>) -> anyhow::Result<Vec
 }
 
 /// Parses a call: its name and its arguments.
-fn call<D: Document>(alloc: Global, line: &str) -> anyhow::Result<Call<D>> {
+fn call<D: RowDocument>(alloc: Global, line: &str) -> anyhow::Result<Call<D>> {
     let (name, with) = line.split_once(' ').unwrap_or((line, ""));
     match name {
         "pop_back" => Ok(Call::PopBack),
@@ -39,13 +39,13 @@ fn call<D: Document>(alloc: Global, line: &str) -> anyhow::Result<Call<D>> {
 }
 
 /// The call that replaces the token at a position.
-fn replacing<D: Document>(alloc: Global, with: &str) -> anyhow::Result<Call<D>> {
+fn replacing<D: RowDocument>(alloc: Global, with: &str) -> anyhow::Result<Call<D>> {
     let (place, text) = with.split_once(' ').ok_or(NoRow)?;
     Ok(Call::Replace(place.parse()?, String::from_str(alloc, text)?))
 }
 
 /// The call of this name with this argument.
-fn call_with<D: Document>(name: &str, text: String) -> anyhow::Result<Call<D>> {
+fn call_with<D: RowDocument>(name: &str, text: String) -> anyhow::Result<Call<D>> {
     match name {
         "parse" => Ok(Call::Parse(text)),
         "push_back" => Ok(Call::PushBack(text)),

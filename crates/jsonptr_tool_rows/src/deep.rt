@@ -1,11 +1,12 @@
 //! Cases of a document that is as deep as its pointer has tokens.
 use crate::documents::{resolve, written};
-use crate::kinds::Document;
 use crate::row::{NoRow, Row};
+use crate::row_document::RowDocument;
 use crate::stage;
 use jsonptr::Pointer;
 
-/// Runs a case with these lines: the kind of document, the pointer, and the calls to make in turn, on a scalar.
+/// Runs a case with these lines: the kind of document, the pointer, and the calls to make in turn,
+/// on a scalar.
 pub fn run(rt: &HostRuntime, mut row: Row<'_>) -> anyhow::Result<()> {
     match row.next() {
         "json" => run_on(rt, serde_json::Value::read(rt.alloc(), "0")?, row),
@@ -15,7 +16,11 @@ pub fn run(rt: &HostRuntime, mut row: Row<'_>) -> anyhow::Result<()> {
 }
 
 /// Runs the calls on a document. The last one may drop it without recursion.
-fn run_on<D: Document>(rt: &HostRuntime, mut document: D, mut row: Row<'_>) -> anyhow::Result<()> {
+fn run_on<D: RowDocument>(
+    rt: &HostRuntime,
+    mut document: D,
+    mut row: Row<'_>,
+) -> anyhow::Result<()> {
     let pointer = Pointer::parse(row.next())?;
     for _turn in 0..u64::MAX {
         match row.next() {
@@ -37,7 +42,7 @@ fn run_on<D: Document>(rt: &HostRuntime, mut document: D, mut row: Row<'_>) -> a
 }
 
 /// Drops a document of at most this depth, from the outermost value inwards.
-fn take_apart<D: Document>(document: D, depth: usize) {
+fn take_apart<D: RowDocument>(document: D, depth: usize) {
     let mut rest = Some(document);
     for _turn in 0..=depth {
         rest = match rest {

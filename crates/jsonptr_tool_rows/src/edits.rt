@@ -1,13 +1,14 @@
 //! Cases of the calls that change an owned pointer.
-use crate::kinds::tabled;
+use crate::answer::Answer;
 use crate::row::{NoRow, Row};
-use crate::said::Said;
+use crate::row_document::tabled;
 use crate::stage;
 use jsonptr::{Pointer, Token};
 use jsonptr_tabled::EditPointer;
 use std::borrow::CowStr;
 
-/// Runs a case with these lines: the kind of pointer, the call, the pointer, a text, and a place.
+/// Runs a case with these lines: the kind of pointer, the call, the pointer, a text, and a
+/// position.
 pub fn run(rt: &HostRuntime, mut row: Row<'_>) -> anyhow::Result<()> {
     let (kind, call) = (row.next(), row.next());
     let pointer = Pointer::parse(row.next())?;
@@ -46,13 +47,13 @@ fn edited<P: EditPointer>(
     call: &str,
     token: Token<'_>,
     place: usize,
-) -> Option<Said<'static>> {
+) -> Option<Answer<'static>> {
     match call {
-        "push_front" => Some(Said::of_done(pointer.push_front(token))),
-        "push_back" => Some(Said::of_done(pointer.push_back(token))),
-        "pop_front" => Some(Said::of_pop(pointer.pop_front())),
-        "pop_back" => Some(Said::of_pop(pointer.pop_back())),
-        "replace" => Some(Said::of_replace(pointer.replace(place, token))),
+        "push_front" => Some(Answer::of_done(pointer.push_front(token))),
+        "push_back" => Some(Answer::of_done(pointer.push_back(token))),
+        "pop_front" => Some(Answer::of_pop(pointer.pop_front())),
+        "pop_back" => Some(Answer::of_pop(pointer.pop_back())),
+        "replace" => Some(Answer::of_replace(pointer.replace(place, token))),
         _ => None,
     }
 }
@@ -63,16 +64,16 @@ fn joined<P: EditPointer>(
     call: &str,
     text: &str,
     kept: String,
-) -> Option<Said<'static>> {
+) -> Option<Answer<'static>> {
     match call {
         "append" => Some(match Pointer::parse(text) {
-            Ok(other) => Said::of_done(pointer.append(other)),
-            Err(error) => Said::NoPointer(error),
+            Ok(other) => Answer::of_done(pointer.append(other)),
+            Err(error) => Answer::NoPointer(error),
         }),
-        "set_text" => Some(Said::of_set(pointer.set_text(kept))),
+        "set_text" => Some(Answer::of_set(pointer.set_text(kept))),
         "clear" => {
             pointer.clear();
-            Some(Said::Done)
+            Some(Answer::Done)
         }
         _ => None,
     }

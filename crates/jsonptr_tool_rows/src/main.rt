@@ -1,20 +1,21 @@
-//! Runs one test case: its input names a call and the arguments. Writes the arguments before the call, the result, and the
-//! arguments after it. `tools/memory.py` runs it with failing memory requests, and `tools/long.py` with long inputs.
+//! Runs one test case: its input names a call and the arguments. Writes the arguments before the
+//! call, the result, and the arguments after it. `tools/memory.py` runs it with failing memory
+//! requests, and `tools/long.py` with long inputs.
 #![tactic(auto)]
 
+mod answer;
 mod bounds;
 mod calls;
 mod deep;
 mod documents;
 mod edits;
-mod failing;
-mod kinds;
+mod failing_writer;
 mod patches;
 mod pointers;
 mod ranges;
 mod reports;
 mod row;
-mod said;
+mod row_document;
 mod sessions;
 mod shows;
 mod stage;

@@ -1,13 +1,14 @@
 //! Cases of patches.
+use crate::answer::Answer;
 use crate::row::{NoRow, Row};
-use crate::said::Said;
 use crate::stage;
 use jsonptr::{Fault, Pointer, PointerBuf};
 use jsonptr_patch::{Operation, PatchError, apply, delete_with_undo};
 use serde_json::Value;
 use std::alloc::{AllocError, Global};
 
-/// Runs a case with these lines: the document, and the lines of operations, each a command and what it takes.
+/// Runs a case with these lines: the document, and the lines of operations, each a command and its
+/// arguments.
 pub fn run(rt: &HostRuntime, mut row: Row<'_>) -> anyhow::Result<()> {
     let mut document = Value::from_str(rt.alloc(), row.next())?;
     let patch = operations(rt.alloc(), &mut row)?;
@@ -25,7 +26,7 @@ fn show_applied(rt: &HostRuntime, applied: Result<(), Fault<PatchError>>) -> any
     match applied {
         Ok(()) => Ok(println!(rt; "done")?),
         Err(Fault::Refused(error)) => Ok(println!(rt; "{error}")?),
-        Err(Fault::Memory(_)) => Ok(println!(rt; "{}", Said::Memory)?),
+        Err(Fault::Memory(_)) => Ok(println!(rt; "{}", Answer::Memory)?),
     }
 }
 
@@ -101,7 +102,7 @@ fn show_deleted(
 ) -> anyhow::Result<()> {
     match back {
         Ok(back) => show_back(rt, &back),
-        Err(_) => Ok(println!(rt; "{}", Said::Memory)?),
+        Err(_) => Ok(println!(rt; "{}", Answer::Memory)?),
     }
 }
 

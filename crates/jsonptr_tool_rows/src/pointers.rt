@@ -1,6 +1,6 @@
 //! Cases of the calls on a borrowed pointer.
+use crate::answer::Answer;
 use crate::row::Row;
-use crate::said::Said;
 use crate::{ranges, stage};
 use jsonptr::{Component, Pointer, PointerBuf, Token};
 use std::alloc::Global;
@@ -22,53 +22,53 @@ pub fn run(rt: &HostRuntime, mut row: Row<'_>) -> anyhow::Result<()> {
 }
 
 /// The results of calls that return a length or a truth value.
-fn measured<'a>(call: &str, pointer: Pointer<'a>) -> Option<Said<'a>> {
+fn measured<'a>(call: &str, pointer: Pointer<'a>) -> Option<Answer<'a>> {
     match call {
-        "as_str" => Some(Said::Text(pointer.as_str())),
-        "len" => Some(Said::Number(pointer.len())),
-        "is_empty" => Some(Said::Truth(pointer.is_empty())),
-        "is_root" => Some(Said::Truth(pointer.is_root())),
-        "count" => Some(Said::Number(pointer.count())),
-        "tokens" => Some(Said::of_place(pointer.tokens().last())),
+        "as_str" => Some(Answer::Text(pointer.as_str())),
+        "len" => Some(Answer::Number(pointer.len())),
+        "is_empty" => Some(Answer::Truth(pointer.is_empty())),
+        "is_root" => Some(Answer::Truth(pointer.is_root())),
+        "count" => Some(Answer::Number(pointer.count())),
+        "tokens" => Some(Answer::of_place(pointer.tokens().last())),
         "components" => Some(match pointer.components().last() {
-            Some(Component::Token(token)) => Said::Token(token),
-            Some(Component::Root) => Said::Text("root"),
-            None => Said::Nothing,
+            Some(Component::Token(token)) => Answer::Token(token),
+            Some(Component::Root) => Answer::Text("root"),
+            None => Answer::Nothing,
         }),
         _ => None,
     }
 }
 
 /// The results of calls on its first and last tokens.
-fn end_of<'a>(call: &str, pointer: Pointer<'a>) -> Option<Said<'a>> {
+fn end_of<'a>(call: &str, pointer: Pointer<'a>) -> Option<Answer<'a>> {
     match call {
-        "front" => Some(Said::of_place(pointer.front())),
-        "first" => Some(Said::of_place(pointer.first())),
-        "back" => Some(Said::of_place(pointer.back())),
-        "last" => Some(Said::of_place(pointer.last())),
-        "parent" => Some(Said::of_part(pointer.parent())),
+        "front" => Some(Answer::of_place(pointer.front())),
+        "first" => Some(Answer::of_place(pointer.first())),
+        "back" => Some(Answer::of_place(pointer.back())),
+        "last" => Some(Answer::of_place(pointer.last())),
+        "parent" => Some(Answer::of_part(pointer.parent())),
         "split_front" => Some(match pointer.split_front() {
-            Some((token, rest)) => Said::SplitFront(token, rest),
-            None => Said::Nothing,
+            Some((token, rest)) => Answer::SplitFront(token, rest),
+            None => Answer::Nothing,
         }),
         "split_back" => Some(match pointer.split_back() {
-            Some((front, token)) => Said::SplitBack(front, token),
-            None => Said::Nothing,
+            Some((front, token)) => Answer::SplitBack(front, token),
+            None => Answer::Nothing,
         }),
         _ => None,
     }
 }
 
 /// The results of calls that copy it.
-fn copied(alloc: Global, call: &str, pointer: Pointer<'_>) -> Option<Said<'static>> {
+fn copied(alloc: Global, call: &str, pointer: Pointer<'_>) -> Option<Answer<'static>> {
     match call {
-        "to_buf" => Some(Said::of_plain(pointer.to_buf(alloc))),
+        "to_buf" => Some(Answer::of_plain(pointer.to_buf(alloc))),
         "to_json_value" => Some(match pointer.to_json_value(alloc) {
-            Ok(value) => Said::Json(value),
-            Err(_) => Said::Memory,
+            Ok(value) => Answer::Json(value),
+            Err(_) => Answer::Memory,
         }),
         "PointerBuf::from_tokens" => {
-            Some(Said::of_plain(PointerBuf::from_tokens(alloc, pointer.tokens())))
+            Some(Answer::of_plain(PointerBuf::from_tokens(alloc, pointer.tokens())))
         }
         _ => None,
     }
@@ -90,16 +90,16 @@ fn compared<'a>(
     call: &str,
     pointer: Pointer<'a>,
     other: Pointer<'_>,
-) -> Option<Said<'a>> {
+) -> Option<Answer<'a>> {
     match call {
-        "starts_with" => Some(Said::Truth(pointer.starts_with(other))),
-        "ends_with" => Some(Said::Truth(pointer.ends_with(other))),
-        "strip_prefix" => Some(Said::of_part(pointer.strip_prefix(other))),
-        "strip_suffix" => Some(Said::of_part(pointer.strip_suffix(other))),
-        "intersection" => Some(Said::Pointer(pointer.intersection(other))),
-        "==" => Some(Said::Truth(pointer == other)),
-        "cmp" => Some(Said::Order(pointer.cmp(&other))),
-        "concat" => Some(Said::of_plain(pointer.concat(alloc, other))),
+        "starts_with" => Some(Answer::Truth(pointer.starts_with(other))),
+        "ends_with" => Some(Answer::Truth(pointer.ends_with(other))),
+        "strip_prefix" => Some(Answer::of_part(pointer.strip_prefix(other))),
+        "strip_suffix" => Some(Answer::of_part(pointer.strip_suffix(other))),
+        "intersection" => Some(Answer::Pointer(pointer.intersection(other))),
+        "==" => Some(Answer::Truth(pointer == other)),
+        "cmp" => Some(Answer::Order(pointer.cmp(&other))),
+        "concat" => Some(Answer::of_plain(pointer.concat(alloc, other))),
         _ => None,
     }
 }
@@ -120,10 +120,10 @@ fn with(
     call: &str,
     pointer: Pointer<'_>,
     token: Token<'_>,
-) -> Option<Said<'static>> {
+) -> Option<Answer<'static>> {
     match call {
-        "with_leading_token" => Some(Said::of_plain(pointer.with_leading_token(alloc, token))),
-        "with_trailing_token" => Some(Said::of_plain(pointer.with_trailing_token(alloc, token))),
+        "with_leading_token" => Some(Answer::of_plain(pointer.with_leading_token(alloc, token))),
+        "with_trailing_token" => Some(Answer::of_plain(pointer.with_trailing_token(alloc, token))),
         _ => None,
     }
 }
@@ -135,8 +135,8 @@ pub fn run_range(rt: &HostRuntime, mut row: Row<'_>) -> anyhow::Result<()> {
     let (first, second) = (row.number()?, row.number()?);
     stage::begin(rt)?;
     let said = match call {
-        "split_at_offset" => Some(Said::of_parts(pointer.split_at_offset(first))),
-        "split_at" => Some(Said::of_parts(pointer.split_at(first))),
+        "split_at_offset" => Some(Answer::of_parts(pointer.split_at_offset(first))),
+        "split_at" => Some(Answer::of_parts(pointer.split_at(first))),
         _ => ranges::of_plain(call, pointer, first, second),
     };
     stage::answer(rt, said)

@@ -1,5 +1,5 @@
 //! `get` with each kind of range.
-use crate::said::Said;
+use crate::answer::Answer;
 use jsonptr::Pointer;
 use jsonptr_tabled::TabledPointer;
 use std::ops::Bound;
@@ -8,14 +8,14 @@ use std::ops::Bound;
 macro_rules! get {
     ($call:expr, $pointer:expr, $first:expr, $second:expr) => {
         match $call {
-            "get i" => Some(Said::of_place($pointer.get($first))),
-            "get i..j" => Some(Said::of_part($pointer.get($first..$second))),
-            "get i.." => Some(Said::of_part($pointer.get($first..))),
-            "get ..i" => Some(Said::of_part($pointer.get(..$first))),
-            "get .." => Some(Said::of_part($pointer.get(..))),
-            "get i..=j" => Some(Said::of_part($pointer.get($first..=$second))),
-            "get ..=i" => Some(Said::of_part($pointer.get(..=$first))),
-            "get bounds" => Some(Said::of_part(
+            "get i" => Some(Answer::of_place($pointer.get($first))),
+            "get i..j" => Some(Answer::of_part($pointer.get($first..$second))),
+            "get i.." => Some(Answer::of_part($pointer.get($first..))),
+            "get ..i" => Some(Answer::of_part($pointer.get(..$first))),
+            "get .." => Some(Answer::of_part($pointer.get(..))),
+            "get i..=j" => Some(Answer::of_part($pointer.get($first..=$second))),
+            "get ..=i" => Some(Answer::of_part($pointer.get(..=$first))),
+            "get bounds" => Some(Answer::of_part(
                 $pointer.get((Bound::Excluded($first), Bound::Excluded($second))),
             )),
             _ => None,
@@ -29,7 +29,7 @@ pub fn of_plain<'a>(
     pointer: Pointer<'a>,
     first: usize,
     second: usize,
-) -> Option<Said<'a>> {
+) -> Option<Answer<'a>> {
     get!(call, pointer, first, second)
 }
 
@@ -39,6 +39,6 @@ pub fn of_tabled<'a>(
     pointer: &'a TabledPointer,
     first: usize,
     second: usize,
-) -> Option<Said<'a>> {
+) -> Option<Answer<'a>> {
     get!(call, pointer, first, second)
 }

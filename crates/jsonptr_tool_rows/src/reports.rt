@@ -1,7 +1,7 @@
 //! Cases of error reports.
-use crate::kinds::Document;
+use crate::answer::Answer;
 use crate::row::{NoRow, Row};
-use crate::said::Said;
+use crate::row_document::RowDocument;
 use crate::shows::{show, show_failing};
 use crate::stage;
 use jsonptr::diagnostic::{Diagnostic, Label};
@@ -83,23 +83,23 @@ pub fn run_joining(rt: &HostRuntime, mut row: Row<'_>) -> anyhow::Result<()> {
 }
 
 /// The result of such a call.
-fn joined<'a>(call: &str, text: &'a str, subject: String) -> Option<Said<'a>> {
+fn joined<'a>(call: &str, text: &'a str, subject: String) -> Option<Answer<'a>> {
     match call {
         "diagnose" => Some(match Pointer::parse(text).diagnose(subject) {
-            Ok(pointer) => Said::Pointer(pointer),
-            Err(report) => Said::NoText(report),
+            Ok(pointer) => Answer::Pointer(pointer),
+            Err(report) => Answer::NoText(report),
         }),
         "diagnose_with" => Some(match Pointer::parse(text).diagnose_with(move || subject) {
-            Ok(pointer) => Said::Pointer(pointer),
-            Err(report) => Said::NoText(report),
+            Ok(pointer) => Answer::Pointer(pointer),
+            Err(report) => Answer::NoText(report),
         }),
         "decompose" => Some(match PointerBuf::parse(subject) {
-            Ok(pointer) => Said::Plain(pointer),
-            Err(report) => Said::Owned(report.decompose().1),
+            Ok(pointer) => Answer::Plain(pointer),
+            Err(report) => Answer::Owned(report.decompose().1),
         }),
         "into_original" => Some(match PointerBuf::parse(subject) {
-            Ok(pointer) => Said::Plain(pointer),
-            Err(report) => Said::NoPointer(report.into_original()),
+            Ok(pointer) => Answer::Plain(pointer),
+            Err(report) => Answer::NoPointer(report.into_original()),
         }),
         _ => None,
     }
@@ -132,7 +132,7 @@ fn labels<E: Diagnostic>(rt: &HostRuntime, report: &Report<E>) -> anyhow::Result
     match labels {
         Ok(Some(labels)) => labels.iter().try_for_each(|label| write(rt, label)),
         Ok(None) => Ok(println!(rt; "none")?),
-        Err(_) => Ok(println!(rt; "{}", Said::Memory)?),
+        Err(_) => Ok(println!(rt; "{}", Answer::Memory)?),
     }
 }
 
@@ -146,7 +146,7 @@ where
     stage::end(rt)?;
     match drawn {
         Ok(text) => Ok(println!(rt; "{text}")?),
-        Err(_) => Ok(println!(rt; "{}", Said::Memory)?),
+        Err(_) => Ok(println!(rt; "{}", Answer::Memory)?),
     }
 }
 
@@ -163,7 +163,7 @@ fn copy<E: Diagnostic>(rt: &HostRuntime, report: &Report<E>) -> anyhow::Result<(
     stage::end(rt)?;
     match copy {
         Ok(label) => write(rt, &label),
-        Err(AllocError) => Ok(println!(rt; "{}", Said::Memory)?),
+        Err(AllocError) => Ok(println!(rt; "{}", Answer::Memory)?),
     }
 }
 

@@ -1,15 +1,16 @@
 //! Cases of sessions: lists of calls on a pointer and a document.
+use crate::answer::Answer;
 use crate::calls::calls;
-use crate::kinds::{Document, tabled};
 use crate::row::{NoRow, Row};
-use crate::said::Said;
+use crate::row_document::{RowDocument, tabled};
 use crate::stage;
 use jsonptr::Pointer;
 use jsonptr_session::{Call, Reply};
 use std::alloc::AllocError;
 use std::fmt::Display;
 
-/// Runs a case with these lines: the kind of document, the document, the kind of pointer, the pointer, and the calls.
+/// Runs a case with these lines: the kind of document, the document, the kind of pointer, the
+/// pointer, and the calls.
 pub fn run(rt: &HostRuntime, mut row: Row<'_>) -> anyhow::Result<()> {
     match row.next() {
         "json" => run_on(rt, serde_json::Value::read(rt.alloc(), row.next())?, row),
@@ -19,7 +20,7 @@ pub fn run(rt: &HostRuntime, mut row: Row<'_>) -> anyhow::Result<()> {
 }
 
 /// Runs the calls on a document.
-fn run_on<D: Document>(rt: &HostRuntime, document: D, mut row: Row<'_>) -> anyhow::Result<()> {
+fn run_on<D: RowDocument>(rt: &HostRuntime, document: D, mut row: Row<'_>) -> anyhow::Result<()> {
     let kind = row.next();
     let pointer = Pointer::parse(row.next())?;
     let calls = calls(rt.alloc(), row)?;
@@ -31,7 +32,7 @@ fn run_on<D: Document>(rt: &HostRuntime, document: D, mut row: Row<'_>) -> anyho
 }
 
 /// Runs the calls on a plain pointer. Writes pointer and document before and after them.
-fn plain<D: Document>(
+fn plain<D: RowDocument>(
     rt: &HostRuntime,
     mut document: D,
     pointer: Pointer<'_>,
@@ -48,7 +49,7 @@ fn plain<D: Document>(
 }
 
 /// Runs the calls on a tabled pointer. Writes pointer and document before and after them.
-fn on_table<D: Document>(
+fn on_table<D: RowDocument>(
     rt: &HostRuntime,
     mut document: D,
     pointer: Pointer<'_>,
@@ -71,7 +72,7 @@ fn show<D: Display>(
 ) -> anyhow::Result<()> {
     match replies {
         Ok(replies) => replies.iter().try_for_each(|reply| show_one(rt, reply)),
-        Err(_) => Ok(println!(rt; "{}", Said::Memory)?),
+        Err(_) => Ok(println!(rt; "{}", Answer::Memory)?),
     }
 }
 

@@ -1,8 +1,8 @@
 //! Cases of displayed and of hashed values, neither of which allocates.
-use crate::failing::faults_told;
-use crate::kinds::tabled;
+use crate::answer::Answer;
+use crate::failing_writer::faults_told;
 use crate::row::{NoRow, Row};
-use crate::said::Said;
+use crate::row_document::tabled;
 use crate::stage;
 use jsonptr::index::{Index, OutOfBoundsError, ParseIndexError};
 use jsonptr::{Fault, InvalidEncoding, Pointer, ReplaceError, Token};
@@ -50,7 +50,8 @@ pub fn run_failing(rt: &HostRuntime, mut row: Row<'_>) -> anyhow::Result<()> {
     }
 }
 
-/// Runs a case with this line: the type of an error that has no report. Displays it on failing writers.
+/// Runs a case with this line: the type of an error that has no report. Displays it on failing
+/// writers.
 pub fn run_failing_error(rt: &HostRuntime, mut row: Row<'_>) -> anyhow::Result<()> {
     match row.next() {
         "InvalidEncoding::Tilde" => show_failing(rt, &InvalidEncoding::Tilde),
@@ -114,7 +115,7 @@ pub fn run_hashes(rt: &HostRuntime, mut row: Row<'_>) -> anyhow::Result<()> {
 fn compare<T: Hash>(rt: &HostRuntime, first: &T, second: &T) -> anyhow::Result<()> {
     stage::begin(rt)?;
     let same = hash_of(first) == hash_of(second);
-    stage::answer(rt, Some(Said::Truth(same)))
+    stage::answer(rt, Some(Answer::Truth(same)))
 }
 
 /// The hash of a value.

@@ -1,6 +1,6 @@
 //! The marks before and after the call of a test case, between which memory requests are counted.
+use crate::answer::Answer;
 use crate::row::NoRow;
-use crate::said::Said;
 use std::io;
 use std::io::Write;
 
@@ -19,7 +19,7 @@ pub fn end(rt: &HostRuntime) -> io::Result<()> {
 /// # Errors
 ///
 /// [`NoRow`] if there is no such call.
-pub fn answer(rt: &HostRuntime, said: Option<Said<'_>>) -> anyhow::Result<()> {
+pub fn answer(rt: &HostRuntime, said: Option<Answer<'_>>) -> anyhow::Result<()> {
     end(rt)?;
     match said {
         Some(said) => Ok(println!(rt; "{said}")?),

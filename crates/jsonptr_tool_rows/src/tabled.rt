@@ -1,7 +1,7 @@
 //! Cases of the calls that read a tabled pointer.
-use crate::kinds::tabled;
+use crate::answer::Answer;
 use crate::row::Row;
-use crate::said::Said;
+use crate::row_document::tabled;
 use crate::{ranges, stage};
 use jsonptr::{Pointer, PointerBuf};
 use jsonptr_tabled::TabledPointer;
@@ -21,16 +21,16 @@ pub fn run(rt: &HostRuntime, mut row: Row<'_>) -> anyhow::Result<()> {
 }
 
 /// The result of a call that borrows the pointer.
-fn read<'a>(call: &str, pointer: &'a TabledPointer, offset: usize) -> Option<Said<'a>> {
+fn read<'a>(call: &str, pointer: &'a TabledPointer, offset: usize) -> Option<Answer<'a>> {
     match call {
-        "as_ptr" => Some(Said::Pointer(pointer.as_ptr())),
-        "offsets" => Some(Said::Places(pointer.offsets())),
-        "count" => Some(Said::Number(pointer.count())),
-        "front" => Some(Said::of_place(pointer.front())),
-        "back" => Some(Said::of_place(pointer.back())),
-        "parent" => Some(Said::of_part(pointer.parent())),
-        "split_at_offset" => Some(Said::of_parts(pointer.split_at_offset(offset))),
-        "split_at" => Some(Said::of_parts(pointer.split_at(offset))),
+        "as_ptr" => Some(Answer::Pointer(pointer.as_ptr())),
+        "offsets" => Some(Answer::Places(pointer.offsets())),
+        "count" => Some(Answer::Number(pointer.count())),
+        "front" => Some(Answer::of_place(pointer.front())),
+        "back" => Some(Answer::of_place(pointer.back())),
+        "parent" => Some(Answer::of_part(pointer.parent())),
+        "split_at_offset" => Some(Answer::of_parts(pointer.split_at_offset(offset))),
+        "split_at" => Some(Answer::of_parts(pointer.split_at(offset))),
         _ => None,
     }
 }
@@ -42,8 +42,8 @@ pub fn run_two(rt: &HostRuntime, mut row: Row<'_>) -> anyhow::Result<()> {
     let other = tabled(rt.alloc(), Pointer::parse(row.next())?)?;
     stage::begin(rt)?;
     let said = match call {
-        "==" => Some(Said::Truth(pointer == other)),
-        "cmp" => Some(Said::Order(pointer.cmp(&other))),
+        "==" => Some(Answer::Truth(pointer == other)),
+        "cmp" => Some(Answer::Order(pointer.cmp(&other))),
         _ => None,
     };
     stage::answer(rt, said)
@@ -65,15 +65,15 @@ fn made_of(
     call: &str,
     plain: PointerBuf,
     tabled: TabledPointer,
-) -> Option<Said<'static>> {
+) -> Option<Answer<'static>> {
     match call {
-        "PointerBuf::clone" => Some(Said::of_plain(plain.clone())),
-        "TabledPointer::clone" => Some(Said::of_tabled(tabled.clone())),
-        "from_plain" => Some(Said::of_tabled(TabledPointer::from_plain(alloc, plain))),
-        "into_plain" => Some(Said::Plain(tabled.into_plain())),
-        "PointerBuf::new" => Some(Said::Plain(PointerBuf::new(alloc))),
-        "PointerBuf::root" => Some(Said::Plain(PointerBuf::root(alloc))),
-        "TabledPointer::new" => Some(Said::Tabled(TabledPointer::new(alloc))),
+        "PointerBuf::clone" => Some(Answer::of_plain(plain.clone())),
+        "TabledPointer::clone" => Some(Answer::of_tabled(tabled.clone())),
+        "from_plain" => Some(Answer::of_tabled(TabledPointer::from_plain(alloc, plain))),
+        "into_plain" => Some(Answer::Plain(tabled.into_plain())),
+        "PointerBuf::new" => Some(Answer::Plain(PointerBuf::new(alloc))),
+        "PointerBuf::root" => Some(Answer::Plain(PointerBuf::root(alloc))),
+        "TabledPointer::new" => Some(Answer::Tabled(TabledPointer::new(alloc))),
         _ => None,
     }
 }

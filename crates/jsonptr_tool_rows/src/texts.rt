@@ -1,6 +1,6 @@
 //! Cases of the calls that convert a text.
+use crate::answer::Answer;
 use crate::row::Row;
-use crate::said::Said;
 use crate::stage;
 use jsonptr::index::Index;
 use jsonptr::{Fault, Pointer, PointerBuf, Token};
@@ -17,24 +17,24 @@ pub fn run(rt: &HostRuntime, mut row: Row<'_>) -> anyhow::Result<()> {
 }
 
 /// The result of a call that borrows the text.
-fn made_of<'a>(alloc: Global, call: &str, text: &'a str) -> Option<Said<'a>> {
+fn made_of<'a>(alloc: Global, call: &str, text: &'a str) -> Option<Answer<'a>> {
     match call {
-        "Token::new" => Some(Said::of_token(Token::new(alloc, CowStr::Borrowed(text)))),
+        "Token::new" => Some(Answer::of_token(Token::new(alloc, CowStr::Borrowed(text)))),
         "Token::from_encoded" => Some(match Token::from_encoded(CowStr::Borrowed(text)) {
-            Ok(token) => Said::Token(token),
-            Err(error) => Said::NoToken(error),
+            Ok(token) => Answer::Token(token),
+            Err(error) => Answer::NoToken(error),
         }),
         "Pointer::parse" => Some(match Pointer::parse(text) {
-            Ok(pointer) => Said::Pointer(pointer),
-            Err(error) => Said::NoPointer(error),
+            Ok(pointer) => Answer::Pointer(pointer),
+            Err(error) => Answer::NoPointer(error),
         }),
         "PointerBuf::from_text" => Some(match PointerBuf::from_text(alloc, text) {
-            Ok(pointer) => Said::Plain(pointer),
-            Err(Fault::Refused(error)) => Said::NoPointer(error),
-            Err(Fault::Memory(_)) => Said::Memory,
+            Ok(pointer) => Answer::Plain(pointer),
+            Err(Fault::Refused(error)) => Answer::NoPointer(error),
+            Err(Fault::Memory(_)) => Answer::Memory,
         }),
-        "Index::from_str" => Some(Said::of_index(text.parse())),
-        "Index::try_from" => Some(Said::of_index(Index::try_from(text))),
+        "Index::from_str" => Some(Answer::of_index(text.parse())),
+        "Index::try_from" => Some(Answer::of_index(Index::try_from(text))),
         _ => None,
     }
 }
@@ -49,28 +49,28 @@ pub fn run_kept(rt: &HostRuntime, mut row: Row<'_>) -> anyhow::Result<()> {
 }
 
 /// The result of a call that takes the text.
-fn kept_by(alloc: Global, call: &str, text: String) -> Option<Said<'static>> {
+fn kept_by(alloc: Global, call: &str, text: String) -> Option<Answer<'static>> {
     match call {
-        "Token::new" => Some(Said::of_token(Token::new(alloc, CowStr::Owned(text)))),
+        "Token::new" => Some(Answer::of_token(Token::new(alloc, CowStr::Owned(text)))),
         "Token::from_encoded" => Some(match Token::from_encoded(CowStr::Owned(text)) {
-            Ok(token) => Said::Token(token),
-            Err(error) => Said::NoToken(error),
+            Ok(token) => Answer::Token(token),
+            Err(error) => Answer::NoToken(error),
         }),
         "PointerBuf::parse" => Some(match PointerBuf::parse(text) {
-            Ok(pointer) => Said::Plain(pointer),
-            Err(report) => Said::NoText(report),
+            Ok(pointer) => Answer::Plain(pointer),
+            Err(report) => Answer::NoText(report),
         }),
         "PointerBuf::try_from" => Some(match PointerBuf::try_from(text) {
-            Ok(pointer) => Said::Plain(pointer),
-            Err(error) => Said::NoPointer(error),
+            Ok(pointer) => Answer::Plain(pointer),
+            Err(error) => Answer::NoPointer(error),
         }),
         "TabledPointer::parse" => Some(match TabledPointer::parse(alloc, text) {
-            Ok(pointer) => Said::Tabled(pointer),
-            Err(Fault::Refused(report)) => Said::NoText(report),
-            Err(Fault::Memory(_)) => Said::Memory,
+            Ok(pointer) => Answer::Tabled(pointer),
+            Err(Fault::Refused(report)) => Answer::NoText(report),
+            Err(Fault::Memory(_)) => Answer::Memory,
         }),
-        "Index::try_from" => Some(Said::of_index(Index::try_from(text))),
-        "Index::try_from lent" => Some(Said::of_index(Index::try_from(&text))),
+        "Index::try_from" => Some(Answer::of_index(Index::try_from(text))),
+        "Index::try_from lent" => Some(Answer::of_index(Index::try_from(&text))),
         _ => None,
     }
 }

@@ -1,13 +1,14 @@
 //! Cases of undo.
-use crate::kinds::Document;
+use crate::answer::Answer;
 use crate::row::{NoRow, Row};
-use crate::said::Said;
+use crate::row_document::RowDocument;
 use crate::stage;
 use jsonptr::{Fault, Pointer, assign};
 use jsonptr_session::undo::{Undo, UndoRefused};
 use std::fmt::Display;
 
-/// Runs a case with these lines: the kind of document, the document, the call, the pointer, and a value.
+/// Runs a case with these lines: the kind of document, the document, the call, the pointer, and a
+/// value.
 pub fn run(rt: &HostRuntime, mut row: Row<'_>) -> anyhow::Result<()> {
     match row.next() {
         "json" => run_on(rt, serde_json::Value::read(rt.alloc(), row.next())?, row),
@@ -17,7 +18,11 @@ pub fn run(rt: &HostRuntime, mut row: Row<'_>) -> anyhow::Result<()> {
 }
 
 /// Runs the call on a document.
-fn run_on<D: Document>(rt: &HostRuntime, mut document: D, mut row: Row<'_>) -> anyhow::Result<()> {
+fn run_on<D: RowDocument>(
+    rt: &HostRuntime,
+    mut document: D,
+    mut row: Row<'_>,
+) -> anyhow::Result<()> {
     let call = row.next();
     let pointer = Pointer::parse(row.next())?;
     let value = D::read(rt.alloc(), row.next())?;
@@ -34,7 +39,7 @@ fn run_on<D: Document>(rt: &HostRuntime, mut document: D, mut row: Row<'_>) -> a
 }
 
 /// Assigns the value in the document. Writes the document before and after it.
-fn assign<D: Document>(
+fn assign<D: RowDocument>(
     rt: &HostRuntime,
     mut document: D,
     pointer: Pointer<'_>,
@@ -57,12 +62,13 @@ fn show_made<D: Display>(
     match back {
         Ok(back) => show(rt, back),
         Err(Fault::Refused(error)) => Ok(println!(rt; "{error}")?),
-        Err(Fault::Memory(_)) => Ok(println!(rt; "{}", Said::Memory)?),
+        Err(Fault::Memory(_)) => Ok(println!(rt; "{}", Answer::Memory)?),
     }
 }
 
-/// Undoes an assignment in the document. Writes document and undo before it, and what is left after it.
-fn undo<D: Document>(rt: &HostRuntime, mut document: D, back: Undo<D>) -> anyhow::Result<()> {
+/// Undoes an assignment in the document. Writes document and undo before it, and what is left after
+/// it.
+fn undo<D: RowDocument>(rt: &HostRuntime, mut document: D, back: Undo<D>) -> anyhow::Result<()> {
     println!(rt; "{document}")?;
     show(rt, &back)?;
     stage::begin(rt)?;
@@ -85,7 +91,7 @@ fn show_refused<D: Display + Drop>(
     refused: UndoRefused<D>,
 ) -> anyhow::Result<()> {
     let UndoRefused { undo, cause } = refused;
-    println!(rt; "{}", Said::of_no_value(cause))?;
+    println!(rt; "{}", Answer::of_no_value(cause))?;
     stage::state(rt)?;
     println!(rt; "{document}")?;
     show(rt, &undo)

@@ -2,12 +2,12 @@
 use std::alloc::{AllocError, Global};
 use toml::{Table, Value as TomlValue};
 
-/// A kind of document: how one is read and shown.
+/// How a type of document is parsed and displayed.
 pub trait Shown: Sized {
-    /// The document that a text is, if it is one.
+    /// Parses a document. Returns `None` if the text is not one.
     fn read(alloc: Global, text: &str) -> Result<Option<Self>, AllocError>;
 
-    /// The text that an answer shows.
+    /// Returns the text that a result shows.
     fn shown(&self, alloc: Global) -> Result<String, AllocError>;
 }
 
@@ -53,18 +53,18 @@ impl Shown for TomlValue {
     }
 }
 
-/// What is still to be shown of a document.
+/// A part of a document that is still to be displayed.
 #[derive(Drop)]
 enum Part<'v> {
-    /// A mark of the layout.
+    /// A punctuation mark.
     Text(&'static str),
-    /// A key, with a colon behind it.
+    /// A key, with a colon after it.
     Key(&'v str),
     /// A value.
     Value(&'v TomlValue),
 }
 
-/// Leaves the members of a table to be shown, the first of them next.
+/// Adds the members of a table to the parts that are left, the first one next.
 fn leave_members<'v>(members: &'v Table, left: &mut Vec<Part<'v>>) -> Result<(), AllocError> {
     left.push(Part::Text("}"))?;
     let mut is_last = true;
@@ -79,7 +79,7 @@ fn leave_members<'v>(members: &'v Table, left: &mut Vec<Part<'v>>) -> Result<(),
     Ok(())
 }
 
-/// Leaves the elements of an array to be shown, the first of them next.
+/// Adds the elements of an array to the parts that are left, the first one next.
 fn leave_items<'v>(items: &'v [TomlValue], left: &mut Vec<Part<'v>>) -> Result<(), AllocError> {
     left.push(Part::Text("]"))?;
     let mut is_last = true;
@@ -93,7 +93,7 @@ fn leave_items<'v>(items: &'v [TomlValue], left: &mut Vec<Part<'v>>) -> Result<(
     Ok(())
 }
 
-/// Shows a value, and leaves to be shown what it holds.
+/// Displays a value, and adds its parts to those that are left.
 fn show<'v>(
     alloc: Global,
     text: &mut String,

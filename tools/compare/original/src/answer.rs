@@ -37,7 +37,7 @@ pub fn escaped(text: &str) -> String {
     line
 }
 
-/// `None`, or the text behind an equals sign.
+/// `None`, or the text after an equals sign.
 pub fn option(text: Option<impl AsRef<str>>) -> String {
     match text {
         Some(text) => format!("={}", text.as_ref()),
@@ -45,7 +45,7 @@ pub fn option(text: Option<impl AsRef<str>>) -> String {
     }
 }
 
-/// The texts, each with a semicolon behind it that no text has.
+/// The texts, each followed by a semicolon, which no text has.
 pub fn list<T: AsRef<str>>(texts: impl IntoIterator<Item = T>) -> String {
     texts.into_iter().map(|text| escaped(text.as_ref()) + "\\;").collect()
 }

@@ -1,6 +1,6 @@
 //! The calls on a JSON or TOML document, and a constructor of tabled pointers.
+use crate::answer::Answer;
 use crate::row::NoRow;
-use crate::said::Said;
 use jsonptr::{Fault, Pointer, PointerBuf, assign, resolve};
 use jsonptr_session::undo::{Undo, UndoRefused, json, toml_value};
 use jsonptr_session::{Call, Reply, run_json, run_json_with, run_toml, run_toml_with};
@@ -15,17 +15,18 @@ pub fn tabled(alloc: Global, pointer: Pointer<'_>) -> Result<TabledPointer, Allo
 }
 
 /// A JSON or TOML document.
-pub trait Document: Display + Drop + Sized {
+pub trait RowDocument: Display + Drop + Sized {
     /// Parses a value.
     fn read(alloc: Global, text: &str) -> anyhow::Result<Self>;
 
     /// The result that has an owned value.
-    fn said(self) -> Said<'static>;
+    fn said(self) -> Answer<'static>;
 
     /// The result that has a borrowed value.
-    fn said_lent(&self) -> Said<'_>;
+    fn said_lent(&self) -> Answer<'_>;
 
-    /// Removes the last value of an array or an object, so that a deep one can be dropped without recursion.
+    /// Removes the last value of an array or an object, so that a deep one can be dropped without
+    /// recursion.
     fn last(self) -> Option<Self>;
 
     /// Resolves the pointer.
@@ -78,17 +79,17 @@ pub trait Document: Display + Drop + Sized {
     ) -> Result<Vec<Reply<Self>>, AllocError>;
 }
 
-impl Document for serde_json::Value {
+impl RowDocument for serde_json::Value {
     fn read(alloc: Global, text: &str) -> anyhow::Result<serde_json::Value> {
         Ok(serde_json::Value::from_str(alloc, text)?)
     }
 
-    fn said(self) -> Said<'static> {
-        Said::Json(self)
+    fn said(self) -> Answer<'static> {
+        Answer::Json(self)
     }
 
-    fn said_lent(&self) -> Said<'_> {
-        Said::JsonLent(self)
+    fn said_lent(&self) -> Answer<'_> {
+        Answer::JsonLent(self)
     }
 
     fn last(self) -> Option<serde_json::Value> {
@@ -169,17 +170,17 @@ impl Document for serde_json::Value {
     }
 }
 
-impl Document for toml::Value {
+impl RowDocument for toml::Value {
     fn read(alloc: Global, text: &str) -> anyhow::Result<toml::Value> {
         toml::Value::from_str(alloc, text).map_err(|_| NoRow.into())
     }
 
-    fn said(self) -> Said<'static> {
-        Said::Toml(self)
+    fn said(self) -> Answer<'static> {
+        Answer::Toml(self)
     }
 
-    fn said_lent(&self) -> Said<'_> {
-        Said::TomlLent(self)
+    fn said_lent(&self) -> Answer<'_> {
+        Answer::TomlLent(self)
     }
 
     fn last(self) -> Option<toml::Value> {

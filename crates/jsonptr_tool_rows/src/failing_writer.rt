@@ -1,20 +1,21 @@
 //! Writers that fail.
-use crate::said::Said;
+use crate::answer::Answer;
 use std::fmt;
 use std::fmt::{Display, Write};
 
-/// Displays a value on a writer that fails at its first call, on one that fails at its second, and so on, up to the one
-/// that does not fail. Whether each error was returned, and nothing was written after it.
-pub fn faults_told<D: Display>(thing: &D) -> Said<'static> {
+/// Displays a value on a writer that fails at its first call, on one that fails at its second, and
+/// so on, up to the one that does not fail. Whether each error was returned, and nothing was
+/// written after it.
+pub fn faults_told<D: Display>(thing: &D) -> Answer<'static> {
     for calls in 0..1000 {
         let mut writer = Failing { calls, faults: 0 };
         match write!(&mut writer, "{thing}") {
-            Ok(()) if writer.faults == 0 => return Said::Truth(calls > 0),
+            Ok(()) if writer.faults == 0 => return Answer::Truth(calls > 0),
             Err(_) if writer.faults == 1 => {}
             _ => break,
         }
     }
-    Said::Nothing
+    Answer::Nothing
 }
 
 /// A writer that fails after a number of calls, and counts its failures.
