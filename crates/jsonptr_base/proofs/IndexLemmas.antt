@@ -1,17 +1,18 @@
 -- Array indices: what the characters of a text say about the number that it writes, and that a text and
 -- its escape read alike.
-use Rattle.std.proofs.Common.{◌≡◌, ◌≢◌, ℕ, suc, ◌+◌, ◌<◌, ◌≤◌, ◌^◌, Bool, true, false, not, cond, List, [], ◌∷◌, length, get_or, Option, Some, None, Result, Ok, Err, option_map, refl, sym, ap, ◌∙◌, subst, ⊎_elim, inl, inr, arith, position}
+use Rattle.std.proofs.Common.{◌≡◌, ◌≢◌, ℕ, suc, ◌+◌, ◌*◌, ◌-◌, ◌<◌, ◌≤◌, ◌^◌, Bool, true, false, not, cond, List, [], ◌∷◌, ◌++◌, append-nil, length, get_or, drop, drop-cons, add-one, Option, Some, None, Result, Ok, Err, option_map, refl, sym, ap, ◌∙◌, subst, ⊎_elim, inl, inr, arith, position}
 use Rattle.std.specs.Prelude.{IsUtf8, nat_lt, nat_eq, ◌↔◌}
 use Rattle.std.specs.Char.{is_ascii_digit, digit_value}
 use Rattle.std.specs.Int.{IsInRange}
 use Rattle.std.specs.List.{prefix_len}
-use Rattle.std.specs.Str.{IsAscii, chars}
-use Rattle.std.specs.Str.Parse.{AllDigits, digits_value, ParsesUnsigned}
+use Rattle.std.specs.Str.{IsAscii, chars, encode_utf8_all}
+use Rattle.std.specs.Str.Parse.{AllDigits, IsNumeral, digits_value, digits_value_after}
 use Rattle.std.proofs.lemmas.Bool.{cases_lt, cases_eq, ne_eqb}
 use Rattle.std.proofs.lemmas.Bool.Decides.{nat_tests}
-use Rattle.std.proofs.lemmas.List.{get_or_past}
-use Rattle.std.proofs.lemmas.Str.{encodes-chars, encodes-IsAscii}
-use Rattle.std.proofs.lemmas.Str.Parse.{digit_at, numerals_by_value, tells_digits, parse_digits}
+use Rattle.std.proofs.lemmas.List.{get_or_past, at_drop_all}
+use Rattle.std.proofs.lemmas.Str.{encodes-chars, encodes-IsAscii, encode_ascii, length-encode, inside_one}
+use lib.Utf8.{encode}
+use Rattle.std.proofs.lemmas.Str.Parse.{digit_at}
 use Rattle.jsonptr_grammar.specs.Text.{Text, dec, esc}
 use Rattle.jsonptr_grammar.proofs.EscapeLemmas.{unesc-esc, IsUtf8-unesc, IsToken-esc, by_byte, length-le-esc, esc_one, chars-esc, esc-cons}
 use Rattle.jsonptr_grammar.proofs.DecLemmas.{dec_from_digits_length, esc-dec, AllDigits-dec, range-dec, chars-dec, dec-not_nil, digits_value-dec, length-dec_zero}
@@ -81,22 +82,69 @@ not_zero s k alone is zero =
     let f : first_nondigit s ≡ None = ap first_nondigit e ∙ zero_digit in
     cc
 
--- what a parse of digits says about the number
-module _ (s : Text) (u : IsUtf8 s) (none : first_nondigit s ≡ None) (some : 0 < length s) (alone : get_or s 0 0 ≡ 48 → length s ≤ 1) where
-  value_is : s ≡ dec (digits_value 10 s)
-  value_is =
-      dec_from_digits_length s (digits_from_none s u none) some
+-- what a text of digits says about the number
+module _ (s : Text) (alone : get_or s 0 0 ≡ 48 → length s ≤ 1) where
+  numeral_is : IsNumeral 10 s → s ≡ dec (digits_value 10 s)
+  numeral_is (some, digits) =
+      dec_from_digits_length s digits some
       (⊎_elim (λ zero. inr (omega (arith, alone zero))) (λ other. inl other) (cases_eq (get_or s 0 0) 48))
 
-  pub reads_number : (n : ℕ) → ParsesUnsigned {E = ℕ} 64 10 s (Ok n) → (s ≡ dec n) × (n < 2 ^ 64)
-  reads_number n parsed =
-      let p = parse_digits (numerals_by_value (AllDigits 10) tells_digits) {E = ℕ} 64 s (Ok n) parsed (digits_from_none s u none) in
-      (value_is ∙ ap dec (sym p.1), subst (λ (x : ℕ). x < 2 ^ 64) (sym p.1) p.0.1)
+  pub reads_numeral : (n : ℕ) → IsNumeral 10 s → n ≡ digits_value 10 s → n < 2 ^ 64 → (s ≡ dec n) × (n < 2 ^ 64)
+  reads_numeral n numeral is fits = (numeral_is numeral ∙ ap dec (sym is), fits)
 
-  pub reads_overflow : ParsesUnsigned {E = ℕ} 64 10 s (Err 0) → (i : ℕ) × (s ≡ dec i) × (2 ^ 64 ≤ i)
-  reads_overflow parsed =
-      let p = parse_digits (numerals_by_value (AllDigits 10) tells_digits) {E = ℕ} 64 s (Err 0) parsed (digits_from_none s u none) in
-      (digits_value 10 s, value_is, ⊎_elim (λ fits. absurd (p (some, fits))) (λ over. over) (cases_lt (digits_value 10 s) (2 ^ 64)))
+  pub reads_overflow : IsUtf8 s → first_nondigit s ≡ None → 0 < length s → (IsNumeral 10 s → digits_value 10 s < 2 ^ 64 → ⊥) → (i : ℕ) × (s ≡ dec i) × (2 ^ 64 ≤ i)
+  reads_overflow u none some over =
+      let numeral : IsNumeral 10 s = (some, digits_from_none s u none) in
+      (digits_value 10 s, numeral_is numeral, ⊎_elim (λ fits. absurd (over numeral fits)) (λ h. h) (cases_lt (digits_value 10 s) (2 ^ 64)))
+
+-- ---- a number read digit by digit
+
+digit_is : (c : ℕ) → is_ascii_digit c ≡ true → digit_value c ≡ c - 48
+digit_is c h = grind (arith, nat_tests)
+
+digit_of_value : (c : ℕ) → digit_value c < 10 → is_ascii_digit c ≡ true
+digit_of_value c h = grind (arith, nat_tests)
+
+after_least : (n : ℕ) (cs : List ℕ) → n ≤ digits_value_after 10 n cs
+after_least n [] = omega arith
+after_least n (c ∷ cs) = omega (arith, after_least (n * 10 + digit_value c) cs)
+
+pub not_below : (a b : ℕ) → (a < b → ⊥) → b ≤ a
+not_below a b h = ⊎_elim (λ below. absurd (h below)) (λ over. over) (cases_lt a b)
+
+-- n is the number that the bytes before offset i write, which are digits
+pub record Numbered (ds : List ℕ) (i n : ℕ) : Type 0 where
+  pub back : AllDigits 10 (drop i ds) → AllDigits 10 ds
+  pub on : AllDigits 10 ds → AllDigits 10 (drop i ds)
+  pub value : digits_value_after 10 n (drop i ds) ≡ digits_value 10 ds
+
+pub numbered_start : (ds : List ℕ) → Numbered ds 0 0
+numbered_start ds = record { back = λ h. h; on = λ h. h; value = refl }
+
+module _ (ds : List ℕ) (i n : ℕ) (h : Numbered ds i n) where
+  pub numbered_end : length ds ≤ i → AllDigits 10 ds × (n ≡ digits_value 10 ds)
+  numbered_end over =
+      (h.back (subst (AllDigits 10) (sym (at_drop_all (λ (l : List ℕ). l) ds i over)) tt), sym (at_drop_all (digits_value_after 10 n) ds i over) ∙ h.value)
+
+  module _ (below : i < length ds) where
+    next : drop i ds ≡ get_or ds i 0 ∷ drop (i + 1) ds
+    next = drop-cons ds i 0 below ∙ ap (λ (k : ℕ). get_or ds i 0 ∷ drop k ds) (sym (add-one i))
+
+    pub numbered_nondigit : (is_ascii_digit (get_or ds i 0) ≡ true → ⊥) → AllDigits 10 ds → ⊥
+    numbered_nondigit other all =
+        let rest : AllDigits 10 (get_or ds i 0 ∷ drop (i + 1) ds) = subst (AllDigits 10) next (h.on all) in
+        other (digit_of_value (get_or ds i 0) rest.0)
+
+    module _ (digit : is_ascii_digit (get_or ds i 0) ≡ true) where
+      pub numbered_more : Numbered ds (i + 1) (n * 10 + (get_or ds i 0 - 48))
+      numbered_more = record {
+        back = λ all. h.back (subst (AllDigits 10) (sym next) (digit_small (get_or ds i 0) digit, all));
+        on = λ all. let rest : AllDigits 10 (get_or ds i 0 ∷ drop (i + 1) ds) = subst (AllDigits 10) next (h.on all) in rest.1;
+        value = ap (λ (x : ℕ). digits_value_after 10 (n * 10 + x) (drop (i + 1) ds)) (sym (digit_is (get_or ds i 0) digit)) ∙ ap (digits_value_after 10 n) (sym next) ∙ h.value;
+      }
+
+      pub numbered_large : (2 ^ 64 ≤ n * 10 + (get_or ds i 0 - 48)) → digits_value 10 ds < 2 ^ 64 → ⊥
+      numbered_large over fits = omega (arith, over, fits, after_least (n * 10 + (get_or ds i 0 - 48)) (drop (i + 1) ds), numbered_more.value)
 
 -- ---- a text and its escape read alike
 
@@ -117,6 +165,38 @@ position-cons : (p : ℕ → Bool) (x : ℕ) (xs : List ℕ) (b : Bool) → p x 
     → position p (x ∷ xs) ≡ cond b (Some 0) (option_map (λ k. 1 + k) (position p xs))
 position-cons p x xs true e = rw (e, lt_true 0 (suc (length xs)) (omega arith)) refl
 position-cons p x xs false e = rw e (shift (prefix_len (λ y. not (p y)) xs) (length xs))
+
+first_high : (c : ℕ) → 128 ≤ c → 128 ≤ get_or (encode c) 0 0
+first_high c high =
+    let some : 0 < length (encode c) = grind (arith, nat_tests, length-encode c) in
+    ⊎_elim
+    (λ (low : get_or (encode c) 0 0 < 128). absurd (omega (arith, high, low, inside_one c [] (encode c) 0 (sym (append-nil (encode c))) some low)))
+    (λ over. over)
+    (cases_lt (get_or (encode c) 0 0) 128)
+
+nondigit_high : (c : ℕ) → 128 ≤ c → is_nondigit c ≡ true
+nondigit_high c high = grind (arith, nat_tests)
+
+position-high : (xs ys : List ℕ) → 128 ≤ get_or xs 0 0 → position is_nondigit (xs ++ ys) ≡ Some 0
+position-high [] ys high = absurd (omega arith)
+position-high (x ∷ xs) ys high = position-cons is_nondigit x (xs ++ ys) true (nondigit_high x high)
+
+-- a character is a digit if its first byte is one
+position-encodes : (cs : List ℕ) → position is_nondigit (encode_utf8_all cs) ≡ position is_nondigit cs
+position-encodes [] = refl
+position-encodes (c ∷ cs) =
+    ⊎_elim
+    (λ low.
+    ap (λ (x : List ℕ). position is_nondigit (x ++ encode_utf8_all cs)) (encode_ascii c low)
+    ∙ position-cons is_nondigit c (encode_utf8_all cs) (is_nondigit c) refl
+    ∙ ap (λ (o : Option ℕ). cond (is_nondigit c) (Some 0) (option_map (λ k. 1 + k) o)) (position-encodes cs)
+    ∙ sym (position-cons is_nondigit c cs (is_nondigit c) refl))
+    (λ high. position-high (encode c) (encode_utf8_all cs) (first_high c high) ∙ sym (position-cons is_nondigit c cs true (nondigit_high c high)))
+    (cases_lt c 128)
+
+-- the first character that is not a digit is at the offset of the first byte that is not one
+pub first_nondigit-bytes : (s : Text) → IsUtf8 s → position is_nondigit s ≡ first_nondigit s
+first_nondigit-bytes s u = ap (position is_nondigit) (sym (encodes-chars s u)) ∙ position-encodes (chars s)
 
 -- a character that is escaped is not a digit
 position-esc : (cs : List ℕ) → position is_nondigit (esc cs) ≡ position is_nondigit cs
@@ -245,7 +325,7 @@ Reads_one s r q h k = reads_answer s r h ∙ sym (reads_answer s q k)
 -- a text of digits that is not a `0` with more after it
 reads_digits : (s : Text) → IsUtf8 s → first_nondigit s ≡ None → 0 < length s → (get_or s 0 0 ≡ 48 → length s ≤ 1) → (r : Result Index ParseIndexError) × Reads s r
 reads_digits s u none some alone =
-    let is : s ≡ dec (digits_value 10 s) = value_is s u none some alone in
+    let is : s ≡ dec (digits_value 10 s) = numeral_is s alone (some, digits_from_none s u none) in
     ⊎_elim (λ fits. (Ok (Num (digits_value 10 s)), (is, fits))) (λ over. (Err (InvalidInteger Overflow), (digits_value 10 s, is, over))) (cases_lt (digits_value 10 s) (2 ^ 64))
 
 -- a text that no zero leads

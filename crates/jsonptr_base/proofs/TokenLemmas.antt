@@ -1,99 +1,120 @@
--- The scan of a token's text: what is known at an offset before which there is no fault.
+-- The scan of a token's text: what is known at an offset before which there is no invalid byte.
 use Rattle.std.specs.List.{All}
 use Rattle.std.proofs.Common.{◌≡◌, ◌≢◌, ℕ, ◌+◌, ◌-◌, ◌<◌, ◌≤◌, ◌⊎◌, Bool, true, length, get_or, refl, sym, ◌∙◌, ap, subst, inl, inr, ⊎_elim, arith, below_more, [], ◌++◌, drop, take, append-nil, append_assoc, length-append, drop-cons, add-one, ◌∷◌}
-use Rattle.std.proofs.lemmas.Bool.{cases_lt, eqb-true}
+use Rattle.std.proofs.lemmas.Bool.{cases_lt, cases_eq, eqb-true}
 use Rattle.std.specs.Str.{bytes_eq}
 use Rattle.std.specs.Cmp.Lexicographic.{slice_cmp}
 use Rattle.std.specs.Ordering.{nat_cmp}
 use Rattle.std.specs.declared.cmp.Ordering.TheVariants.{Less}
-use Rattle.std.proofs.lemmas.List.{at_drop_all, take-append-drop, length-take-le, get_or-take}
+use Rattle.std.proofs.lemmas.List.{at_drop_all, take-append-drop, length-take-le, get_or-take, get_or-drop, length-drop}
 use Rattle.std.proofs.lemmas.Slice.Eq.{bytes_eq-Decides}
 use Rattle.memchr.specs.Find.{Nowhere, Passes, is_byte, is_byte2}
 use Rattle.jsonptr_grammar.specs.Text.{Text, esc, escape_of, unesc}
 use Rattle.jsonptr_grammar.proofs.EscapeLemmas.{IsToken-plain_at, by_byte, esc-append, esc-cons, esc-plain_at, unesc-plain_at, unesc-esc, esc_one}
 use Rattle.jsonptr_grammar.specs.Grammar.{IsToken}
-use Rattle.jsonptr_grammar.specs.FirstFault.{IsSlashAt, EndsEscape}
+use Rattle.jsonptr_grammar.specs.FirstFault.{IsFirst, IsSlashAt, EndsEscape, IsLooseTilde}
 use Rattle.jsonptr_grammar.proofs.FaultLemmas.{token_or_fault}
 use Rattle.jsonptr_grammar.proofs.OrderLemmas.{front_less}
 use Rattle.jsonptr_grammar.proofs.ScanLemmas.{past_end}
-use Rattle.jsonptr_base.specs.Private.{IsPlainBefore}
+use Rattle.jsonptr_base.specs.Private.{IsPlainBefore, IsInvalidAt, IsValidBefore, HasInvalidBefore}
 use Rattle.jsonptr_base.specs.Token.{IsEncodingErrorOf}
 use Rattle.jsonptr_base.specs.declared.token.InvalidEncoding.TheVariants.{Tilde, Slash}
 
-abbrev pub Spoils : Text → ℕ → Type 0
-Spoils s k = IsSlashAt s k ⊎ EndsEscape s k
+-- ---- invalid bytes and faults
 
--- there is no fault before i, and no tilde just before it
-pub record Scanned (s : Text) (i : ℕ) : Type 0 where
-  pub none : (k : ℕ) → k < i → Spoils s k → ⊥
-  pub no_tilde : 0 < i → get_or s (i - 1) 0 ≢ 126
+-- a tilde before an offset that ends no escape is loose
+loose_before : (s : Text) (o : ℕ) → EndsEscape s o → IsLooseTilde s (o - 1)
+loose_before s o e =
+    let next : o - 1 + 1 ≡ o = omega (arith, e.inside) in
+    record {
+      here = e.after_tilde;
+      no_zero = λ is. e.no_zero (subst (λ (k : ℕ). get_or s k 0 ≡ 48) next is);
+      no_one = λ is. e.no_one (subst (λ (k : ℕ). get_or s k 0 ≡ 49) next is);
+    }
 
-pub scanned_start : (s : Text) (i : ℕ) → IsPlainBefore s i → Scanned s i
-scanned_start s i plain = record {
-  none = λ k below f. ⊎_elim (λ slash. (plain k below).1 slash) (λ (e : EndsEscape s k). (plain (k - 1) (omega (arith, e.inside))).0 e.after_tilde) f;
-  no_tilde = λ above. (plain (i - 1) (omega arith)).0;
-}
+-- a text with no invalid byte is a token
+pub valid-IsToken : (s : Text) → ((k : ℕ) → IsInvalidAt s k → ⊥) → IsToken s
+valid-IsToken s none =
+    ⊎_elim (λ token. token)
+    (λ fault. absurd (⊎_elim (λ slash. none fault.0 (inl slash)) (λ (e : EndsEscape s fault.0). none (fault.0 - 1) (inr (loose_before s fault.0 e))) fault.1.here))
+    (token_or_fault s)
 
--- the byte before the next offset
-at_last : (s : Text) (i : ℕ) → get_or s (i + 1 - 1) 0 ≡ get_or s i 0
-at_last s i = ap (λ (k : ℕ). get_or s k 0) (omega arith)
+byte_inside : (s : Text) (i c : ℕ) → get_or s i 0 ≡ c → 0 < c → i < length s
+byte_inside s i c is some = ⊎_elim (λ below. below) (λ over. let e = past_end s i c over is in absurd (omega (arith, e, some))) (cases_lt i (length s))
 
-module _ (s : Text) (i : ℕ) (h : Scanned s i) where
-  -- an offset with no slash adds no fault
-  fine : get_or s i 0 ≢ 47 → Spoils s i → ⊥
-  fine slash f = ⊎_elim slash (λ (e : EndsEscape s i). h.no_tilde e.inside e.after_tilde) f
+pub invalid_inside : (s : Text) (i : ℕ) → IsInvalidAt s i → i < length s
+invalid_inside s i f = ⊎_elim (λ slash. byte_inside s i 47 slash (omega arith)) (λ (loose : IsLooseTilde s i). byte_inside s i 126 loose.here (omega arith)) f
 
-  pub scanned_other : get_or s i 0 ≢ 47 → get_or s i 0 ≢ 126 → Scanned s (i + 1)
-  scanned_other slash tilde = record {
-    none = below_more (λ k. Spoils s k → ⊥) i h.none (fine slash);
-    no_tilde = λ above is. tilde (sym (at_last s i) ∙ is);
-  }
+-- past the end there is no invalid byte
+pub valid_end : (s : Text) (i : ℕ) → IsValidBefore s i → length s ≤ i → (k : ℕ) → IsInvalidAt s k → ⊥
+valid_end s i before end k f = before k (omega (arith, end, invalid_inside s k f)) f
 
-  pub scanned_slash : get_or s i 0 ≡ 47 → IsEncodingErrorOf s record { offset = i; source = Slash }
-  scanned_slash slash = record { place = record { here = inl slash; before = h.none }; cause = slash }
+-- nor is there one if the last byte is neither `/` nor `~`
+pub valid_last : (s : Text) (i last : ℕ) → IsValidBefore s i → last ≤ i → length s ≤ last + 1 → get_or s last 0 ≢ 47 → get_or s last 0 ≢ 126 → (k : ℕ) → IsInvalidAt s k → ⊥
+valid_last s i last before low end slash tilde k f =
+    ⊎_elim
+    (λ (same : k ≡ last). ⊎_elim (λ is. slash (subst (IsSlashAt s) same is)) (λ loose. let at : IsLooseTilde s last = subst (IsLooseTilde s) same loose in tilde at.here) f)
+    (λ other. before k (omega (arith, other, low, end, invalid_inside s k f)) f)
+    (cases_eq k last)
 
-  module _ (tilde : get_or s i 0 ≡ 126) where
-    -- nor does a tilde
-    none_yet : (k : ℕ) → k < i + 1 → Spoils s k → ⊥
-    none_yet = below_more (λ k. Spoils s k → ⊥) i h.none (fine (λ is. omega (arith, tilde, is)))
+-- the error of the first invalid byte
+module _ (s : Text) (i : ℕ) (h : IsFirst (IsInvalidAt s) i) where
+  no_fault_before : (k : ℕ) → k < i → IsSlashAt s k ⊎ EndsEscape s k → ⊥
+  no_fault_before k below f =
+      ⊎_elim (λ slash. h.before k below (inl slash)) (λ (e : EndsEscape s k). h.before (k - 1) (omega (arith, below, e.inside)) (inr (loose_before s k e))) f
 
-    pub scanned_escape : (get_or s (i + 1) 0 ≡ 48) ⊎ (get_or s (i + 1) 0 ≡ 49) → Scanned s (i + 2)
-    scanned_escape ends =
-        let digit : (get_or s (i + 1) 0 ≢ 47) × (get_or s (i + 1) 0 ≢ 126) =
-        ⊎_elim (λ zero. (λ is. omega (arith, zero, is), λ is. omega (arith, zero, is))) (λ one. (λ is. omega (arith, one, is), λ is. omega (arith, one, is))) ends
-        in
-        let next : Scanned s (i + 1 + 1) = record {
-          none = below_more (λ k. Spoils s k → ⊥) (i + 1) none_yet (λ f. ⊎_elim digit.0 (λ (e : EndsEscape s (i + 1)). ⊎_elim e.no_zero e.no_one ends) f);
-          no_tilde = λ above is. digit.1 (sym (at_last s (i + 1)) ∙ is);
-        } in
-        subst (λ (k : ℕ). Scanned s k) (omega arith) next
+  pub slash_error : get_or s i 0 ≡ 47 → IsEncodingErrorOf s record { offset = i; source = Slash }
+  slash_error slash = record { place = record { here = inl slash; before = no_fault_before }; cause = slash }
 
-    pub scanned_slash_next : get_or s (i + 1) 0 ≡ 47 → IsEncodingErrorOf s record { offset = i + 1; source = Slash }
-    scanned_slash_next slash = record { place = record { here = inl slash; before = none_yet }; cause = slash }
+  module _ (other : get_or s i 0 ≢ 47) where
+    loose : IsLooseTilde s i
+    loose = ⊎_elim (λ slash. absurd (other slash)) (λ loose. loose) h.here
 
-    pub scanned_tilde : get_or s (i + 1) 0 ≢ 48 → get_or s (i + 1) 0 ≢ 49 → get_or s (i + 1) 0 ≢ 47 → IsEncodingErrorOf s record { offset = i + 1; source = Tilde }
-    scanned_tilde zero one slash =
-        let ends : EndsEscape s (i + 1) = record { inside = omega arith; after_tilde = at_last s i ∙ tilde; no_zero = zero; no_one = one; no_slash = slash } in
-        record { place = record { here = inr ends; before = none_yet }; cause = ends }
+    no_fault_here : (k : ℕ) → k < i + 1 → IsSlashAt s k ⊎ EndsEscape s k → ⊥
+    no_fault_here =
+        below_more (λ k. IsSlashAt s k ⊎ EndsEscape s k → ⊥) i no_fault_before
+        (λ f. ⊎_elim other (λ (e : EndsEscape s i). h.before (i - 1) (omega (arith, e.inside)) (inr (loose_before s i e))) f)
 
-  module _ (end : length s ≤ i) where
-    unspoiled : (k : ℕ) → Spoils s k → ⊥
-    unspoiled k f =
-        ⊎_elim
-        (λ below. h.none k below f)
-        (λ beyond.
-        ⊎_elim
-        (λ slash. let e = past_end s k 47 (omega (arith, end, beyond)) slash in omega (arith, e))
-        (λ (e : EndsEscape s k).
-        ⊎_elim
-        (λ more. let z = past_end s (k - 1) 126 (omega (arith, end, beyond, more)) e.after_tilde in omega (arith, z))
-        (λ less. let same : k ≡ i = omega (arith, beyond, less) in h.no_tilde (subst (λ (j : ℕ). 0 < j) same e.inside) (subst (λ (j : ℕ). get_or s (j - 1) 0 ≡ 126) same e.after_tilde))
-        (cases_lt i k))
-        f)
-        (cases_lt k i)
+    pub next_slash_error : get_or s (i + 1) 0 ≡ 47 → IsEncodingErrorOf s record { offset = i + 1; source = Slash }
+    next_slash_error slash = record { place = record { here = inl slash; before = no_fault_here }; cause = slash }
 
-    pub scanned_end : IsToken s
-    scanned_end = ⊎_elim (λ token. token) (λ fault. absurd (unspoiled fault.0 fault.1.here)) (token_or_fault s)
+    pub tilde_error : get_or s (i + 1) 0 ≢ 47 → IsEncodingErrorOf s record { offset = i + 1; source = Tilde }
+    tilde_error no_slash =
+        let here : get_or s (i + 1 - 1) 0 ≡ 126 = ap (λ (k : ℕ). get_or s k 0) (omega arith) ∙ loose.here in
+        let ends : EndsEscape s (i + 1) = record { inside = omega arith; after_tilde = here; no_zero = loose.no_zero; no_one = loose.no_one; no_slash = no_slash } in
+        record { place = record { here = inr ends; before = no_fault_here }; cause = ends }
+
+-- ---- blocks with no invalid byte
+
+pub plain_valid : (s : Text) (i : ℕ) → IsPlainBefore s i → IsValidBefore s i
+plain_valid s i plain k below f = ⊎_elim (λ slash. (plain k below).1 slash) (λ (loose : IsLooseTilde s k). (plain k below).0 loose.here) f
+
+-- m bytes from i on
+module _ (s : Text) (i m : ℕ) where
+  abbrev block : Text
+  block = take m (drop i s)
+
+  in_block : (j k : ℕ) → j < m → i + j ≡ k → get_or block j 0 ≡ get_or s k 0
+  in_block j k below e = get_or-take m (drop i s) j 0 below ∙ get_or-drop i s j 0 ∙ ap (λ (x : ℕ). get_or s x 0) e
+
+  invalid_in_block : (j k : ℕ) → j + 1 < m → i + j ≡ k → IsInvalidAt s k → IsInvalidAt block j
+  invalid_in_block j k below e f =
+      let here = in_block j k (omega arith) e in
+      let next = in_block (j + 1) (k + 1) (omega arith) (omega arith) in
+      ⊎_elim
+      (λ slash. inl (here ∙ slash))
+      (λ (loose : IsLooseTilde s k). inr record {
+        here = here ∙ loose.here;
+        no_zero = λ is. loose.no_zero (sym next ∙ is);
+        no_one = λ is. loose.no_one (sym next ∙ is);
+      })
+      f
+
+  -- if they have no invalid byte before their last, the text has none before that offset
+  pub valid_block : (n : ℕ) → IsValidBefore s i → (HasInvalidBefore block (length block - 1) → ⊥) → m ≡ n + 1 → i + n < length s → IsValidBefore s (i + n)
+  valid_block n before none more inside k below f =
+      let whole : length block ≡ m = let left = length-drop i s in length-take-le m (drop i s) (omega arith) in
+      ⊎_elim (λ early. before k early f) (λ late. none (k - i, omega (arith, whole), invalid_in_block (k - i) k (omega arith) (omega arith) f)) (cases_lt k i)
 
 -- ---- what the search for `~` and `/` finds
 

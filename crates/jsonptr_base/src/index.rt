@@ -44,7 +44,9 @@
 //! assert_eq!(rt; Token::new(alloc, CowStr::Borrowed("-"))?.to_index(), Ok(Index::Next));
 //! assert!(rt; Token::new(alloc, CowStr::Borrowed("one"))?.to_index().is_err());
 //! ```
-ghost use Rattle.std.specs.Prelude.{◌≡◌, ◌≢◌, ◌≤◌, ◌<◌, ℕ, [], ◌∷◌, length, slice_index, string_bytes, Result, Some};
+ghost use Rattle.std.specs.Prelude.{◌≡◌, ◌≢◌, ◌≤◌, ◌<◌, ◌^◌, ℕ, [], ◌∷◌, length, slice_index, string_bytes, Result, Err, Some, MatchOption, not, position};
+ghost use Rattle.std.specs.Char.{is_ascii_digit};
+ghost use Rattle.std.specs.Str.Parse.{IsNumeral, digits_value};
 ghost use Rattle.jsonptr_grammar.specs.Text.{esc};
 ghost use Rattle.jsonptr_base.specs.declared.index.Index.{Index};
 ghost use Rattle.jsonptr_base.specs.declared.index.ParseIndexError.{ParseIndexError};
@@ -189,6 +191,7 @@ impl FromStr for Index {
 
     ghost from_str_gives = { Reads };
 
+    #[inline(always)]
     fn from_str(s: &str) -> Result<Index, ParseIndexError> {
         match s.as_bytes() {
             [b'-'] => Ok(Index::Next),
@@ -248,29 +251,67 @@ impl TryFrom<&Token<'_>> for Index {
     }
 }
 
-/// Parses a text that is not `-` and has no leading zeros.
+/// Parses a text that is not `-` and has no leading zeros. Looks for the fault only if the text is
+/// not a number.
 fn read_number(s: &str) -> Result<Index, ParseIndexError>
     requires not_next { s.now ≢ 45 ∷ [] }
     requires no_leading_zeros { slice_index s.now 0 ≡ 48 → length s.now ≤ 1 }
     ensures { Reads s.now result }
 {
-    if let Some(offset) = first_nondigit(s) {
-        return Err(ParseIndexError::InvalidCharacter(InvalidCharacterError { offset }));
-    }
-    if s.is_empty() {
-        return Err(ParseIndexError::InvalidInteger(IntegerCause::Empty));
-    }
-    match s.parse::<usize>() {
-        Ok(number) => Ok(Index::Num(number)),
-        Err(_) => Err(ParseIndexError::InvalidInteger(IntegerCause::Overflow)),
+    match number_of(s.as_bytes()) {
+        Some(number) => Ok(Index::Num(number)),
+        None => Err(error_of(s)),
     }
 }
 
-/// Returns how many characters are before the first one that is not an ASCII digit.
+/// Returns the number that the bytes write in decimal digits. Returns `None` if there are none, if
+/// one of them is not a digit, or if the number does not fit `usize`.
+fn number_of(digits: &[u8]) -> Option<usize>
+    ensures { MatchOption result
+        (IsNumeral 10 digits.now → digits_value 10 digits.now < 2 ^ 64 → ⊥)
+        (λ n. IsNumeral 10 digits.now × (n ≡ digits_value 10 digits.now)) }
+{
+    if digits.is_empty() {
+        return None;
+    }
+    let mut number = 0usize;
+    for i in 0..digits.len() {
+        if !digits[i].is_ascii_digit() {
+            return None;
+        }
+        let digit = usize::from(digits[i] - b'0');
+        number = number.checked_mul(10)?.checked_add(digit)?;
+    }
+    Some(number)
+}
+
+/// Returns why a text is not a number that fits `usize`.
+fn error_of(s: &str) -> ParseIndexError
+    requires not_next { s.now ≢ 45 ∷ [] }
+    requires no_leading_zeros { slice_index s.now 0 ≡ 48 → length s.now ≤ 1 }
+    requires no_number { IsNumeral 10 s.now → digits_value 10 s.now < 2 ^ 64 → ⊥ }
+    ensures { Reads s.now (Err result) }
+{
+    match first_nondigit(s) {
+        Some(offset) => ParseIndexError::InvalidCharacter(InvalidCharacterError { offset }),
+        None if s.is_empty() => ParseIndexError::InvalidInteger(IntegerCause::Empty),
+        None => ParseIndexError::InvalidInteger(IntegerCause::Overflow),
+    }
+}
+
+/// Returns the offset of the first character that is not an ASCII digit, in characters.
 fn first_nondigit(s: &str) -> Option<usize>
     ensures { result ≡ first_nondigit s.now }
 {
-    s.chars().position(|c| !c.is_ascii_digit())
+    first_nondigit_byte(s)
+}
+
+/// Returns the offset of the first byte that is not an ASCII digit. Each character before it is one
+/// byte.
+fn first_nondigit_byte(s: &str) -> Option<usize>
+    ensures { result ≡ position (λ b. not (is_ascii_digit b)) s.now }
+{
+    s.bytes().position(|b| !b.is_ascii_digit())
 }
 
 impl<'a> Token<'a> {
@@ -301,6 +342,7 @@ impl<'a> Token<'a> {
     /// assert_eq!(rt; Token::from_number(alloc, 7)?.to_index(), Ok(Index::Num(7)));
     /// assert!(rt; Token::from_number(alloc, -7)?.to_index().is_err());
     /// ```
+    #[inline(always)]
     pub fn to_index(&self) -> Result<Index, ParseIndexError>
         ensures encoded { Reads (esc self.now) result }
         ensures decoded { Reads self.now result }

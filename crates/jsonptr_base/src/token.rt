@@ -288,13 +288,14 @@ impl<'a> Token<'a> {
     /// let token = Token::from_encoded(CowStr::Borrowed("~01"))?;
     /// assert_eq!(rt; token.decoded(alloc)?.as_str(), "~1");
     /// ```
+    #[inline(always)]
     pub fn decoded(&self, alloc: Global) -> Result<CowStr<'_>, AllocError>
         ensures text { IfOk result (λ c. cow_str_bytes c ≡ self.now) }
         ensures no_memory { HasNoTilde (esc self.now) → IsOk result }
         ensures lends { HasNoTilde (esc self.now) → IfOk result IsBorrowedStr }
     {
         let encoded = self.encoded();
-        match memchr::memchr(b'~', encoded.as_bytes()) {
+        match scan::first_tilde(encoded.as_bytes()) {
             None => Ok(CowStr::Borrowed(encoded)),
             Some(_) => Ok(CowStr::Owned(scan::unescaped(alloc, encoded)?)),
         }

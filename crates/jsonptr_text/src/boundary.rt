@@ -1,8 +1,9 @@
 //! Offsets at which a pointer's text can be split between tokens.
 ghost use Rattle.std.specs.Prelude.{◌≡◌, ◌≢◌, ◌⊎◌, ◌<◌, ◌≤◌, [], slice_index, length, count_by, IsTrue, ◌↔◌, MatchOption};
 ghost use Rattle.jsonptr_grammar.specs.Text.{Text, is_slash, text, tokens_of};
-ghost use Rattle.jsonptr_text.specs.Private.{BeginsSegment, IsCut, IsEndOf, IsBackCut, IsSplit, IsBoundary, AgreeUpTo, IsCommonBoundary};
+ghost use Rattle.jsonptr_text.specs.Private.{BeginsSegment, IsCut, IsEndOf, IsBackCut, IsSplit, IsBoundary, IsCommonBoundary};
 
+use crate::compare::common_len;
 use memchr::{memchr, memrchr};
 
 /// Splits off the text of the first token. Returns `None` for the empty text.
@@ -45,6 +46,7 @@ pub(crate) fn split_at_boundary(text: &str, at: usize) -> Option<(&str, &str)>
 }
 
 /// Returns the text after the prefix `front` if that is empty or begins with a `/`.
+#[inline(always)]
 pub(crate) fn after_front<'a>(text: &'a str, front: &str) -> Option<&'a str>
     ensures { MatchOption result
         ((rest : Text) → IsSplit text.now front.now rest → ⊥)
@@ -71,19 +73,6 @@ pub(crate) fn common_boundary(bytes: &[u8], other: &[u8]) -> usize
         Some(slash) => slash,
         None => 0,
     }
-}
-
-/// Returns the length of the longest prefix that two texts have in common, in bytes.
-fn common_len(bytes: &[u8], other: &[u8]) -> usize
-    ensures { AgreeUpTo bytes.now other.now result }
-{
-    let shorter = bytes.len().min(other.len());
-    for at in 0..shorter {
-        if bytes[at] != other[at] {
-            return at;
-        }
-    }
-    shorter
 }
 
 /// Returns whether a text ends at an offset or has a `/` there.

@@ -1,10 +1,11 @@
 //! The passes over a token's bytes: the first fault, the decoded text, and the encoded text.
-ghost use Rattle.std.specs.Prelude.{◌≡◌, ◌<◌, ◌≤◌, ◌+◌, ◌++◌, length, string_bytes, vec_len, vec_capacity, IfOk, MatchOption};
+ghost use Rattle.std.specs.Prelude.{◌≡◌, ◌<◌, ◌≤◌, ◌+◌, ◌-◌, ◌++◌, ◌↔◌, length, string_bytes, vec_len, vec_capacity, IsTrue, IfOk, MatchOption};
 ghost use Rattle.jsonptr_grammar.specs.Text.{esc, escape_of, unesc};
 ghost use Rattle.jsonptr_grammar.specs.Grammar.{IsToken};
+ghost use Rattle.jsonptr_grammar.specs.FirstFault.{IsFirst};
 ghost use Rattle.jsonptr_base.specs.declared.token.InvalidEncoding.TheVariants.{Tilde, Slash};
-ghost use Rattle.memchr.specs.Find.{IsFirstByte, is_byte2};
-ghost use Rattle.jsonptr_base.specs.Private.{IsEscapeCut, IsPlainBefore};
+ghost use Rattle.memchr.specs.Find.{IsFirstByte, is_byte, is_byte2};
+ghost use Rattle.jsonptr_base.specs.Private.{IsEscapeCut, IsPlainBefore, IsInvalidAt, IsValidBefore, HasInvalidBefore};
 ghost use Rattle.jsonptr_base.specs.Token.{IsEncodingErrorOf};
 
 use super::{EncodingError, InvalidEncoding};
@@ -26,38 +27,127 @@ pub(super) fn first_special(bytes: &[u8]) -> Option<usize>
     None
 }
 
+/// Returns the offset of the first `~`. A short text is searched by a plain loop.
+#[inline(always)]
+pub(super) fn first_tilde(bytes: &[u8]) -> Option<usize>
+    ensures { IsFirstByte (is_byte 126) bytes.now result }
+{
+    if bytes.len() >= SHORT {
+        return memchr::memchr(b'~', bytes);
+    }
+    for i in 0..bytes.len() {
+        if bytes[i] == b'~' {
+            return Some(i);
+        }
+    }
+    None
+}
+
 /// The length, in bytes, from which a search by blocks is faster than a plain loop.
 const SHORT: usize = 32;
 
 /// Returns the first fault of a token's text, or `None` if the text is a token.
+#[inline(always)]
 pub(super) fn first_fault(bytes: &[u8]) -> Option<EncodingError>
     ensures { MatchOption result (IsToken bytes.now) (IsEncodingErrorOf bytes.now) }
 {
-    match first_special(bytes) {
-        None => None,
-        Some(at) => first_fault_from(bytes, at),
+    let at = invalid_byte(bytes)?;
+    Some(error_at(bytes, at))
+}
+
+/// Returns the offset of the first `/`, or `~` that is followed by neither `0` nor `1`. A short
+/// text is read by a plain loop.
+#[inline(always)]
+fn invalid_byte(bytes: &[u8]) -> Option<usize>
+    ensures { MatchOption result (IsToken bytes.now) (IsFirst (IsInvalidAt bytes.now)) }
+{
+    if bytes.len() < SHORT {
+        invalid_byte_from(bytes, 0)
+    } else {
+        invalid_byte_by_blocks(bytes)
     }
 }
 
-/// Returns the first fault of a text that contains neither `~` nor `/` before the offset `at`.
-fn first_fault_from(bytes: &[u8], at: usize) -> Option<EncodingError>
-    requires inside { at < length bytes.now }
-    requires plain { IsPlainBefore bytes.now at }
-    ensures { MatchOption result (IsToken bytes.now) (IsEncodingErrorOf bytes.now) }
+/// Returns the offset of the first invalid byte, by checking blocks of bytes from the first `~` or
+/// `/` on.
+#[inline(never)]
+fn invalid_byte_by_blocks(bytes: &[u8]) -> Option<usize>
+    ensures { MatchOption result (IsToken bytes.now) (IsFirst (IsInvalidAt bytes.now)) }
 {
-    let mut i = at;
-    while i < bytes.len() {
-        match bytes[i] {
-            b'/' => return Some(slash_at(i)),
-            b'~' => match bytes.get(i + 1) {
-                Some(b'0' | b'1') => i += 2,
-                Some(b'/') => return Some(slash_at(i + 1)),
-                _ => return Some(tilde_before(i + 1)),
-            },
-            _ => i += 1,
+    let first = memchr::memchr2(b'~', b'/', bytes)?;
+    invalid_byte_from(bytes, skip_valid_blocks(bytes, first))
+}
+
+/// Returns an offset with no invalid byte before it. It advances from `first` by whole blocks of
+/// bytes, up to the first block that contains one.
+fn skip_valid_blocks(bytes: &[u8], first: usize) -> usize
+    requires inside { first < length bytes.now }
+    requires valid { IsValidBefore bytes.now first }
+    ensures { IsValidBefore bytes.now result }
+{
+    let mut at = first;
+    while bytes.len() - at > SHORT {
+        let end = at + SHORT;
+        if has_invalid_byte(&bytes[at..=end]) {
+            break;
+        }
+        at = end;
+    }
+    at
+}
+
+/// Returns whether an invalid byte is before the last byte. The loop has no branch, so it can be
+/// vectorized.
+fn has_invalid_byte(bytes: &[u8]) -> bool
+    requires { 0 < length bytes.now }
+    ensures { IsTrue result ↔ HasInvalidBefore bytes.now (length bytes.now - 1) }
+{
+    let mut invalid = false;
+    for i in 0..bytes.len() - 1 {
+        let (byte, next) = (bytes[i], bytes[i + 1]);
+        invalid |= byte == b'/';
+        invalid |= byte == b'~' && next != b'0' && next != b'1';
+    }
+    invalid
+}
+
+/// Returns the offset of the first invalid byte of a text that has none before the offset `at`.
+fn invalid_byte_from(bytes: &[u8], at: usize) -> Option<usize>
+    requires { IsValidBefore bytes.now at }
+    ensures { MatchOption result (IsToken bytes.now) (IsFirst (IsInvalidAt bytes.now)) }
+{
+    if bytes.is_empty() {
+        return None;
+    }
+    let last = bytes.len() - 1;
+    for i in at..last {
+        if bytes[i] == b'/' {
+            return Some(i);
+        }
+        if bytes[i] == b'~' && !matches!(bytes[i + 1], b'0' | b'1') {
+            return Some(i);
         }
     }
-    None
+    match bytes[last] {
+        b'/' | b'~' => Some(last),
+        _ => None,
+    }
+}
+
+/// Returns the error of a text with its first invalid byte at the offset `at`. A `/` is reported
+/// at its own offset, also after a `~`, and a `~` at the offset after it.
+#[inline(never)]
+fn error_at(bytes: &[u8], at: usize) -> EncodingError
+    requires { IsFirst (IsInvalidAt bytes.now) at }
+    ensures { IsEncodingErrorOf bytes.now result }
+{
+    if bytes[at] == b'/' {
+        return slash_at(at);
+    }
+    match bytes.get(at + 1) {
+        Some(b'/') => slash_at(at + 1),
+        _ => tilde_before(at + 1),
+    }
 }
 
 fn slash_at(offset: usize) -> EncodingError
