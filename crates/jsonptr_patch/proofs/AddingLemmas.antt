@@ -14,33 +14,20 @@ use Rattle.jsonptr.specs.declared.resolve.Error.TheVariants.{Unreachable}
 use Rattle.jsonptr.specs.declared.assign.Error.{Error as AssignError}
 use Rattle.jsonptr.specs.declared.assign.Error.TheVariants.{FailedToParseIndex, OutOfBounds}
 use Rattle.jsonptr.specs.Assign.{RefusesAssign}
-use Rattle.jsonptr.specs.Assign as assign
-use Rattle.jsonptr.specs.Resolve.{Refuses, PutsAt, resolve_position_of, resolve_offset_of}
-use Rattle.jsonptr_tree.specs.Node.{key, Path, Scalar, Label, an_object, an_array, a_leaf, NodeMap, sub, NamesStep, Names}
+use Rattle.jsonptr.specs.Resolve.{Refuses, resolve_position_of, resolve_offset_of}
+use Rattle.jsonptr_tree.specs.Node.{key, Path, Scalar, Label, an_object, an_array, a_leaf, NodeMap, NamesStep, Names}
 use Rattle.jsonptr_tree.specs.Following.{Finds, StopsAt, StopsBefore}
 use Rattle.jsonptr_tree.specs.Removing.{Deletes}
 use Rattle.jsonptr_tree.specs.Json.{nodes, FindsValue, HasSortedKeys}
-use Rattle.jsonptr_tree.specs.Put.{put}
 use Rattle.jsonptr_tree.specs.Landing.{LandsNowhere}
-use Rattle.jsonptr_tree.specs.Assigning.{Assigns}
-use Rattle.jsonptr_tree.proofs.NodeLemmas.{sub-root, Names_one_path, Names-push}
-use Rattle.jsonptr_tree.proofs.FollowingLemmas.{stops_before, stops_in, stops-lacks, lacks_at_leaf, lacks_at_object, lacks_at_array, StopsBefore_one, Names-StopsBefore, cases_some}
-use Rattle.jsonptr_tree.proofs.AssigningLemmas.{Assigns-named, Assigns-object}
+use Rattle.jsonptr_tree.proofs.NodeLemmas.{Names_one_path, Names-push}
+use Rattle.jsonptr_tree.proofs.FollowingLemmas.{stops_before, stops_in, stops-lacks, lacks_at_leaf, lacks_at_object, lacks_at_array, Names-StopsBefore, cases_some}
 use Rattle.jsonptr_tree.proofs.JsonLemmas.{FindsValue-Finds, ascends_part}
 use Rattle.jsonptr_walk.specs.PrivatePutting.{HasNoIndex}
 use Rattle.jsonptr_walk.proofs.AssignLemmas.{no_index_place, above_place}
-use Rattle.jsonptr_patch.specs.Inserting.{with_place}
-use Rattle.jsonptr_patch.specs.Adding.{MeansPlace, AddsUnder, AddsBelow, LacksTarget, LacksPlace}
+use Rattle.jsonptr_patch.specs.Adding.{LacksTarget, LacksPlace}
 use Rattle.jsonptr_patch.specs.Operating.{Takes, IsProperFront, RefusesAdd}
-use Rattle.jsonptr_patch.specs.PrivateAdding.{HasRoomAt, Inserts, told}
-
--- what the tokens evaluate to
-
--- the node at their path is the root of the value that they find
-pub parent_found : (d e : Data) (tokens : List Text) → FindsValue d tokens e → (w : Path) × Names (nodes d) tokens w × (nodes d w ≡ nodes e [])
-parent_found d e tokens f =
-    let g = FindsValue-Finds d tokens e f in
-    (g.path, g.named, sym (sub-root (nodes d) g.path) ∙ sym (ap (λ (m : NodeMap). m []) g.below))
+use Rattle.jsonptr_patch.specs.PrivateAdding.{told}
 
 -- evaluating tokens that lead to a path does not fail
 pub named_refused : (n : NodeMap) (tokens : List Text) (w : Path) (e : ResolveError) → Names n tokens w → Refuses n tokens e → ⊥
@@ -79,28 +66,6 @@ above_length n front x w len p o index source named array reads above is_p is_o 
 pub place_lacks : (n : NodeMap) (front : List Text) (x : Text) (w : Path) (len : ℕ) (e : AssignError) → Names n front w → n w ≡ Some (an_array len) → RefusesAssign n (front ++ x ∷ []) e → LacksPlace n (front ++ x ∷ []) e
 place_lacks n front x w len e named array refused = (record { front = front; last = x; path = w; len = len; split = refl; named = named; array = array }, refused)
 
--- an index of it
-pub room_there : (d e : Data) (tokens : List Text) (w : Path) (len i : ℕ) → Names (nodes d) tokens w → nodes d w ≡ Some (an_array len) → i ≤ len → FindsValue d tokens e → HasRoomAt (nodes e) i
-room_there d e tokens w len i named array within found =
-    let r = parent_found d e tokens found in
-    (len, sym r.2 ∙ ap (nodes d) (Names_one_path (nodes d) tokens r.0 w r.1 named) ∙ array, within)
-
-pub element_added : (d e : Data) (front : List Text) (x : Text) (w : Path) (len i : ℕ) (f v m : NodeMap) → Names (nodes d) front w → nodes d w ≡ Some (an_array len) → MeansPlace len x i → FindsValue d front e → Inserts (nodes e) i v f → PutsAt (nodes d) front f m → AddsBelow (nodes d) (front ++ x ∷ []) v m
-element_added d e front x w len i f v m named array means found is puts =
-    let g = FindsValue-Finds d front e found in
-    let there : g.path ≡ w = Names_one_path (nodes d) front g.path w g.named named in
-    let here : puts.path ≡ w = Names_one_path (nodes d) front puts.path w puts.named named in
-    let below : nodes e ≡ sub (nodes d) w = g.below ∙ ap (sub (nodes d)) there in
-    let made : m ≡ put (nodes d) w (with_place i v (sub (nodes d) w)) = puts.made ∙ ap (λ (u : Path). put (nodes d) u f) here ∙ ap (put (nodes d) w) (is.made ∙ ap (with_place i v) below) in
-    record {
-      front = front;
-      last = x;
-      path = w;
-      split = refl;
-      named = named;
-      made = subst (λ (l : Option Label). AddsUnder (nodes d) w l x v m) (sym array) (i, means, made);
-    }
-
 -- an object
 
 -- the token is the key of a member, or evaluation stops there
@@ -111,33 +76,6 @@ cases_member n tokens front x w split named object = ⊎_elim
     let lacks = lacks_at_object n w x object e in
     inr (stops_before n tokens front x [] w an_object split named object lacks, stops_in n tokens front x [] w split named lacks))
     (cases_some (n (w ++ key x ∷ [])))
-
-pub member_added : (n : NodeMap) (tokens front : List Text) (x : Text) (w : Path) (v m : NodeMap) (old : Option NodeMap) → tokens ≡ front ++ x ∷ [] → Names n front w → n w ≡ Some an_object → Assigns n tokens v m old → AddsBelow n tokens v m
-member_added n tokens front x w v m old split named object made = record {
-  front = front;
-  last = x;
-  path = w;
-  split = split;
-  named = named;
-  made = subst (λ (l : Option Label). AddsUnder n w l x v m) (sym object) is_put;
-}
-  where
-    is_put : m ≡ put n (w ++ key x ∷ []) v
-    is_put = ⊎_elim
-        (λ (h : Names n tokens (w ++ key x ∷ [])). ((Assigns-named n tokens v m old (w ++ key x ∷ []) h).0 made).0)
-        (λ (r : StopsBefore n tokens (length front) (length (text front)) an_object x × StopsAt n tokens front w (x ∷ [])). ((Assigns-object n tokens front x [] v m old w r.1 object).0 made).0)
-        (cases_member n tokens front x w split named object)
-
-pub member_not_refused : (n : NodeMap) (tokens front : List Text) (x : Text) (w : Path) (e : AssignError) → tokens ≡ front ++ x ∷ [] → Names n front w → n w ≡ Some an_object → RefusesAssign n tokens e → ⊥
-member_not_refused n tokens front x w e split named object r = ⊎_elim
-    (λ (h : Names n tokens (w ++ key x ∷ [])). Names-StopsBefore n tokens (w ++ key x ∷ []) (assign.assign_position_of e) (assign.assign_offset_of e) (an_array r.len) r.token h r.nowhere.stops)
-    (λ (s : StopsBefore n tokens (length front) (length (text front)) an_object x × StopsAt n tokens front w (x ∷ [])).
-    let same = StopsBefore_one n tokens (assign.assign_position_of e) (length front) (assign.assign_offset_of e) (length (text front)) (an_array r.len) an_object r.token x r.nowhere.stops s.0 in
-    apart same.2)
-    (cases_member n tokens front x w split named object)
-  where
-    apart : an_array r.len ≡ an_object → ⊥
-    apart h = cc
 
 -- a scalar, or nothing
 

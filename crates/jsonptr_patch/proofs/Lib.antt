@@ -1,14 +1,14 @@
 -- Lemmas on insertions, additions, tests, whole patches, and the laws of patches.
 pub mod InsertingLemmas
 pub mod AddingLemmas
-pub mod ElementLemmas
 pub mod TestingLemmas
 pub mod OperatingLemmas
 pub mod RestoringLemmas
-pub mod BehindLemmas
-pub mod BaseLemmas
 pub mod OneLemmas
 pub mod PartLemmas
 pub mod SomeLemmas
 pub mod PatchLemmas
 pub mod EqualityLemmas
+pub mod ChangeMapLemmas
+pub mod ChangeOrderLemmas
+pub mod PlaceLemmas

@@ -1,9 +1,12 @@
 -- Whole operations, and lists of them.
-use Rattle.std.proofs.Common.{◌≡◌, ℕ, inl, inr, List, [], ◌∷◌, ◌++◌, length, Result, Ok, Err, IfOk, refl, subst}
+use Rattle.std.proofs.Common.{◌≡◌, ℕ, ◌<◌, inl, inr, List, [], ◌∷◌, ◌++◌, length, get_or, Result, Ok, Err, IfOk, OnErr, refl, sym, ap, ◌∙◌, subst, arith, append_assoc, length-append}
+use Rattle.std.specs.Prelude.{All}
+use Rattle.std.proofs.lemmas.List.{get_or_append_left}
+use Rattle.std.proofs.Math.Seq.{get_or-append_seam}
 use Rattle.serde_json.specs.Data.{Data}
 use Rattle.serde_json.specs.View.{view}
 use Rattle.serde_json.specs.declared.value.Value.{Value}
-use Rattle.jsonptr.specs.Fault.{IfRefused}
+use Rattle.jsonptr.specs.Fault.{IfRefused, ForRefused}
 use Rattle.jsonptr.specs.Text.{Text}
 use Rattle.jsonptr.specs.Types.Fault.{Fault}
 use Rattle.jsonptr.specs.Types.Fault.TheVariants.{Refused, Memory}
@@ -47,15 +50,54 @@ refused_next n m all os rest o e split done refused = record {
   refused = refused;
 }
 
+-- what holds of all operations holds of each
+pub each_at : (P : Operation → Type 0) (all os rest : List Operation) (o : Operation) → All P all → os ++ o ∷ rest ≡ all → P o
+each_at P all os rest o h is =
+    let below : length os < length all = omega (arith, ap (λ (l : List Operation). length l) is, length-append os (o ∷ rest)) in
+    let here : get_or all (length os) o ≡ o = ap (λ (l : List Operation). get_or l (length os) o) (sym is) ∙ get_or-append_seam os o rest o in
+    subst P here (h (length os) o below)
+
+pub all_but_last : (P : Operation → Type 0) (all os : List Operation) (o : Operation) → All P all → all ≡ os ++ o ∷ [] → All P os
+all_but_last P all os o h is = λ i d low.
+    let more : i < length all = omega (arith, ap (λ (l : List Operation). length l) is, length-append os (o ∷ [])) in
+    let same : get_or all i d ≡ get_or os i d = ap (λ (l : List Operation). get_or l i d) is ∙ get_or_append_left os (o ∷ []) d i low in
+    subst P same (h i d more)
+
+-- a list that fails also fails with more operations after it
+pub refused_longer : (n : NodeMap) (os more : List Operation) (e : PatchError) → RefusesPatch n os e → RefusesPatch n (os ++ more) e
+refused_longer n os more e r = record {
+  done = r.done;
+  fails = r.fails;
+  rest = r.rest ++ more;
+  left = r.left;
+  split = ap (λ (l : List Operation). l ++ more) r.split ∙ append_assoc r.done (r.fails ∷ r.rest) more;
+  applied = r.applied;
+  refused = r.refused;
+}
+
+-- results
+
+pub ok_all : {T E : Type 0} (r : Result T E) (P Q : Type 0) → (P → Q) → IfOk r (λ _. P) → IfOk r (λ _. Q)
+ok_all (Ok t) P Q all h = all h
+ok_all (Err e) P Q all h = tt
+
+pub on_err : {T E : Type 0} (r : Result T E) (P : Type 0) → P → OnErr r P
+on_err (Ok t) P h = tt
+on_err (Err e) P h = h
+
 -- errors
+
+pub for_refused : (T : Type 0) {E : Type 0} (fault : Fault E) (P Q : E → Type 0) → ((e : E) → P e → Q e) → ForRefused fault P → IfRefused {T = T} (Err fault) Q
+for_refused T (Refused e) P Q all h = all e h
+for_refused T (Memory e) P Q all h = tt
 
 pub refused_all : {T E : Type 0} (r : Result T (Fault E)) (P Q : E → Type 0) → ((e : E) → P e → Q e) → IfRefused r P → IfRefused r Q
 refused_all (Ok t) P Q all h = tt
 refused_all (Err (Refused e)) P Q all h = all e h
 refused_all (Err (Memory e)) P Q all h = tt
 
-pub move_refused : {T : Type 0} (n node left : NodeMap) (k : ℕ) (from path : List Text) (r : Result T (Fault PatchError)) → (IsProperFront from path → ⊥) → Takes n from node left → IfRefused r (RefusesAdd left k path) → IfRefused r (RefusesMove n k from path)
-move_refused n node left k from path r apart taken h = refused_all r (RefusesAdd left k path) (RefusesMove n k from path) (λ e i. inr (apart, inr (node, left, taken, i))) h
+pub left_refused : (n node left : NodeMap) (k : ℕ) (from path : List Text) (e : PatchError) → (IsProperFront from path → ⊥) → Takes n from node left → RefusesAdd left k path e → RefusesMove n k from path e
+left_refused n node left k from path e apart taken h = inr (apart, inr (node, left, taken, h))
 
 pub way_refused : {T : Type 0} (n : NodeMap) (k : ℕ) (f p from path : List Text) (r : Result T (Fault PatchError)) → f ≡ from → p ≡ path → IfRefused r (RefusesMove n k f p) → IfRefused r (RefusesMove n k from path)
 way_refused {T} n k f p from path r is_from is_path h = subst (λ (q : List Text). IfRefused r (RefusesMove n k from q)) is_path (subst (λ (q : List Text). IfRefused r (RefusesMove n k q p)) is_from h)

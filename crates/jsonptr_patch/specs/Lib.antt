@@ -1,5 +1,5 @@
--- What each operation of a patch makes of a document, when it fails, what a whole list of operations does, and which
--- operations a patch has (RFC 6902).
+-- What each operation of a patch makes of a document, when it fails, what a whole list of operations does, which
+-- operations a patch has, and when it needs no memory (RFC 6902).
 pub mod Inserting
 pub mod Adding
 pub mod Testing
@@ -7,6 +7,7 @@ pub mod Operating
 pub mod Patching
 pub mod Operations
 pub mod Order
+pub mod Memory
 pub mod PrivateAdding
 pub mod PrivateTesting
-pub mod PrivateBase
+pub mod PrivateRecording

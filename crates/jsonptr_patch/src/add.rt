@@ -1,53 +1,137 @@
 //! The operation `add` (RFC 6902, section 4.1).
-ghost use Rattle.std.specs.Prelude.{◌≡◌, ◌∷◌, [], ◌++◌, ℕ, ◌<◌, ◌^◌, Some, IfOk, IfErr};
+ghost use Rattle.std.specs.Prelude.{◌≡◌, ◌∷◌, [], ◌++◌, Some, IfOk, IfErr, OnErr, string_bytes};
 ghost use Rattle.serde_json.specs.View.{view};
 ghost use Rattle.jsonptr.specs.Fault.{IfRefused};
-ghost use Rattle.jsonptr.specs.Node.{Path, NodeMap, Names, an_array, an_object};
+ghost use Rattle.jsonptr.specs.Node.{Path, NodeMap, Names, an_array};
 ghost use Rattle.jsonptr.specs.Json.{nodes, HasSortedKeys};
 ghost use Rattle.jsonptr.specs.Pointer.{tokens};
-ghost use Rattle.jsonptr.specs.Text.{Text};
-ghost use Rattle.jsonptr.specs.Resolve.{Refuses};
 ghost use Rattle.jsonptr.specs.Assign.{RefusesAssign};
-ghost use Rattle.jsonptr_patch.specs.Adding.{MeansPlace, Adds, AddsBelow};
+ghost use Rattle.jsonptr_patch.specs.Adding.{MeansPlace, Adds};
 ghost use Rattle.jsonptr_patch.specs.Operating.{RefusesAdd};
-ghost use Rattle.jsonptr_patch.specs.PrivateAdding.{IsParent};
+ghost use Rattle.jsonptr_patch.specs.PrivateAdding.{IsPlace};
+ghost use Rattle.jsonptr_patch.specs.PrivateRecording.{Records};
 
-use crate::insert::insert_at;
 use crate::operation::PatchError;
-use crate::remove_and_replace::no_target;
+use crate::target::no_target;
 use jsonptr::{Fault, Pointer, Token, assign, resolve};
+use jsonptr_document::document::{Document, Node};
+use jsonptr_journal::addition::{Target, insert};
+use jsonptr_journal::journal::Journal;
+use jsonptr_journal::locate::locate;
 use serde_json::Value;
 use std::alloc::{AllocError, Global};
 
-/// The node below which a value is to be added.
-pub enum Parent {
-    /// A scalar, which has no children.
-    Scalar,
-    /// An array of this many elements.
-    Array(usize),
-    /// An object.
-    Object,
-}
-
-/// Returns the node that the pointer resolves to, as the parent of an addition.
+/// Adds a value at the pointer, for the operation with this number.
 ///
 /// # Errors
 ///
-/// [`Fault::Refused`] if the pointer does not resolve to a value, and [`Fault::Memory`] if an
-/// allocation fails.
-fn parent_at(alloc: Global, doc: &Value, ptr: Pointer<'_>) -> Result<Parent, Fault<resolve::Error>>
-    ensures found { IfOk result (λ p. (w : Path) × Names (nodes (view doc.now)) (tokens ptr.entry) w
-        × IsParent (nodes (view doc.now) w) p) }
-    ensures refused { IfRefused result (Refuses (nodes (view doc.now)) (tokens ptr.entry)) }
+/// [`Fault::Refused`] if nothing can be added there, and [`Fault::Memory`] if an allocation fails.
+/// The value is dropped.
+pub fn add(
+    alloc: Global,
+    doc: &mut Value,
+    journal: &mut Journal,
+    number: usize,
+    path: Pointer<'_>,
+    value: Value,
+) -> Result<(), Fault<PatchError>>
+    ensures added { IfOk result (λ _. Adds (nodes (view doc.old)) (tokens path.entry)
+        (nodes (view value)) (nodes (view doc.new))) }
+    ensures sorted { IfOk result (λ _.
+        HasSortedKeys (view value) → HasSortedKeys (view doc.old) → HasSortedKeys (view doc.new)) }
+    ensures refused { IfRefused result
+        (RefusesAdd (nodes (view doc.old)) number (tokens path.entry)) }
+    ensures undone { Records journal.old doc.old journal.new doc.new }
 {
-    match ptr.resolve(alloc, doc)? {
-        Value::Null => Ok(Parent::Scalar),
-        Value::Bool(_) => Ok(Parent::Scalar),
-        Value::Number(_) => Ok(Parent::Scalar),
-        Value::String(_) => Ok(Parent::Scalar),
-        Value::Array(elements) => Ok(Parent::Array(elements.len())),
-        Value::Object(_) => Ok(Parent::Object),
+    let place = place(alloc, doc, number, path)?;
+    journal.add(alloc, doc, place, value)?;
+    Ok(())
+}
+
+/// Adds a value at the pointer, as [`add`] does, for the last operation of a patch.
+///
+/// # Errors
+///
+/// Those of [`add`]. The document is unchanged.
+pub fn add_last(
+    alloc: Global,
+    doc: &mut Value,
+    number: usize,
+    path: Pointer<'_>,
+    value: Value,
+) -> Result<(), Fault<PatchError>>
+    ensures added { IfOk result (λ _. Adds (nodes (view doc.old)) (tokens path.entry)
+        (nodes (view value)) (nodes (view doc.new))) }
+    ensures sorted { IfOk result (λ _.
+        HasSortedKeys (view value) → HasSortedKeys (view doc.old) → HasSortedKeys (view doc.new)) }
+    ensures refused { IfRefused result
+        (RefusesAdd (nodes (view doc.old)) number (tokens path.entry)) }
+    ensures unchanged { OnErr result (view doc.new ≡ view doc.old) }
+{
+    let place = place(alloc, doc, number, path)?;
+    match insert(alloc, doc, place, value) {
+        Ok(()) => Ok(()),
+        Err(_) => Err(Fault::Memory(AllocError)),
     }
+}
+
+/// Returns where a value that is added at the pointer goes: in an object under the last token as
+/// its key, in an array at the index that the last token refers to.
+///
+/// # Errors
+///
+/// [`Fault::Refused`] if nothing can be added there, and [`Fault::Memory`] if an allocation fails.
+pub fn place(
+    alloc: Global,
+    doc: &Value,
+    number: usize,
+    path: Pointer<'_>,
+) -> Result<Target, Fault<PatchError>>
+    ensures found { IfOk result (IsPlace (nodes (view doc.now)) (tokens path.entry)) }
+    ensures refused { IfRefused result
+        (RefusesAdd (nodes (view doc.now)) number (tokens path.entry)) }
+{
+    let Some((front, last)) = path.split_back() else {
+        return Ok(Target::Root);
+    };
+    let parent = match locate(alloc, doc, front) {
+        Ok(parent) => parent,
+        Err(fault) => return Err(no_target(number, fault)),
+    };
+    match parent.node.node() {
+        Node::Object(_) => Ok(Target::Member {
+            object: parent.location,
+            key: key_of(alloc, &last)?,
+        }),
+        Node::Array(elements) => match insertion_index(front, &last, elements.len()) {
+            Ok(index) => Ok(Target::Element {
+                array: parent.location,
+                index,
+            }),
+            Err(cause) => Err(Fault::Refused(PatchError::BadPlace {
+                operation: number,
+                cause,
+            })),
+        },
+        Node::Leaf => Err(Fault::Refused(PatchError::NoTarget {
+            operation: number,
+            cause: resolve::Error::Unreachable {
+                position: front.count(),
+                offset: front.len(),
+            },
+        })),
+    }
+}
+
+/// Returns the key that the token refers to.
+///
+/// # Errors
+///
+/// [`AllocError`] if the allocation fails.
+fn key_of(alloc: Global, token: &Token<'_>) -> Result<String, AllocError>
+    ensures { IfOk result (λ key. string_bytes key ≡ token.now) }
+{
+    token.decoded(alloc)?.into_owned(alloc)
 }
 
 /// Returns the index that the token refers to in an array of this length, to which the pointer
@@ -80,115 +164,5 @@ fn insertion_index(
             offset: array.len(),
             source,
         }),
-    }
-}
-
-/// Inserts `value` into the array at `parent`, at the index that the token `last` refers to.
-///
-/// # Errors
-///
-/// [`Fault::Refused`] if the token does not refer to an index up to the length, and
-/// [`Fault::Memory`] if an allocation fails.
-fn add_element(
-    alloc: Global,
-    doc: &mut Value,
-    number: usize,
-    parent: Pointer<'_>,
-    last: &Token<'_>,
-    length: usize,
-    value: Value,
-) -> Result<(), Fault<PatchError>>
-    requires { (w : Path) × Names (nodes (view doc.old)) (tokens parent) w
-        × (nodes (view doc.old) w ≡ Some (an_array length)) × (length < 2 ^ 64) }
-    ensures added { IfOk result (λ _.
-        AddsBelow (nodes (view doc.old)) (tokens parent.entry ++ last.now ∷ [])
-        (nodes (view value)) (nodes (view doc.new))) }
-    ensures sorted { IfOk result (λ _.
-        HasSortedKeys (view value) → HasSortedKeys (view doc.old) → HasSortedKeys (view doc.new)) }
-    ensures refused { IfRefused result
-        (RefusesAdd (nodes (view doc.old)) number (tokens parent.entry ++ last.now ∷ [])) }
-{
-    let place = match insertion_index(parent, last, length) {
-        Ok(place) => place,
-        Err(cause) => {
-            return Err(Fault::Refused(PatchError::BadPlace {
-                operation: number,
-                cause,
-            }));
-        }
-    };
-    match insert_at(alloc, doc, parent, place, value) {
-        Ok(()) => Ok(()),
-        Err(Fault::Refused(_)) => unreachable!(),
-        Err(Fault::Memory(error)) => Err(Fault::Memory(error)),
-    }
-}
-
-/// Adds or replaces the member at `path` in the object at `parent`, which is `path` without its
-/// last token.
-///
-/// # Errors
-///
-/// [`AllocError`] if an allocation fails.
-fn add_member(
-    alloc: Global,
-    doc: &mut Value,
-    parent: Pointer<'_>,
-    path: Pointer<'_>,
-    value: Value,
-) -> Result<(), AllocError>
-    requires object { (w : Path) × Names (nodes (view doc.old)) (tokens parent) w
-        × (nodes (view doc.old) w ≡ Some an_object) }
-    requires child { (x : Text) × (tokens path ≡ tokens parent ++ x ∷ []) }
-    ensures added { IfOk result (λ _. AddsBelow (nodes (view doc.old)) (tokens path.entry)
-        (nodes (view value)) (nodes (view doc.new))) }
-    ensures sorted { IfOk result (λ _.
-        HasSortedKeys (view value) → HasSortedKeys (view doc.old) → HasSortedKeys (view doc.new)) }
-{
-    match path.assign(alloc, doc, value) {
-        Ok(_) => Ok(()),
-        Err(Fault::Refused(_)) => unreachable!(),
-        Err(Fault::Memory(error)) => Err(error),
-    }
-}
-
-/// Adds a value at the pointer, for the operation with this number.
-///
-/// # Errors
-///
-/// [`Fault::Refused`] if nothing can be added there, and [`Fault::Memory`] if an allocation fails.
-/// The value is dropped.
-pub fn add(
-    alloc: Global,
-    doc: &mut Value,
-    number: usize,
-    path: Pointer<'_>,
-    value: Value,
-) -> Result<(), Fault<PatchError>>
-    ensures added { IfOk result (λ _. Adds (nodes (view doc.old)) (tokens path.entry)
-        (nodes (view value)) (nodes (view doc.new))) }
-    ensures sorted { IfOk result (λ _.
-        HasSortedKeys (view value) → HasSortedKeys (view doc.old) → HasSortedKeys (view doc.new)) }
-    ensures refused { IfRefused result
-        (RefusesAdd (nodes (view doc.old)) number (tokens path.entry)) }
-{
-    let Some((parent, last)) = path.split_back() else {
-        *doc = value;
-        return Ok(());
-    };
-    match parent_at(alloc, doc, parent) {
-        Ok(Parent::Object) => {
-            add_member(alloc, doc, parent, path, value)?;
-            Ok(())
-        }
-        Ok(Parent::Array(length)) => add_element(alloc, doc, number, parent, &last, length, value),
-        Ok(Parent::Scalar) => Err(Fault::Refused(PatchError::NoTarget {
-            operation: number,
-            cause: resolve::Error::Unreachable {
-                position: parent.count(),
-                offset: parent.len(),
-            },
-        })),
-        Err(fault) => Err(no_target(number, fault)),
     }
 }

@@ -37,15 +37,16 @@
 #![tactic(auto)]
 
 mod add;
-mod common_parent;
+mod copy;
 mod equality;
-mod insert;
 pub mod laws;
-mod move_and_copy;
-mod only_tests;
+mod move_value;
 mod operation;
 mod patch;
-mod remove_and_replace;
+mod remove;
+mod replace;
+mod target;
+mod test;
 mod undo;
 
 pub use operation::{Operation, PatchError};

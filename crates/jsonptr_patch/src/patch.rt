@@ -1,23 +1,23 @@
 //! Applying a patch: a list of operations, whole or not at all (RFC 6902, section 5).
-ghost use Rattle.std.specs.Prelude.{◌≡◌, [], All, IfOk, IsOk, OnErr};
+ghost use Rattle.std.specs.Prelude.{◌≡◌, [], ◌∷◌, ◌++◌, ℕ, length, All, IfOk, IsOk, OnErr};
 ghost use Rattle.serde_json.specs.View.{view};
-ghost use Rattle.jsonptr.specs.Fault.{IfRefused};
+ghost use Rattle.jsonptr.specs.Fault.{IfRefused, HasMemory};
 ghost use Rattle.jsonptr.specs.Json.{nodes, HasSortedKeys};
-ghost use Rattle.jsonptr.specs.Pointer.{tokens};
+ghost use Rattle.jsonptr_patch.specs.Memory.{TestNeedsNoMemory, LastNeedsNoMemory, NeedsNoMemory};
+ghost use Rattle.jsonptr_patch.specs.Operating.{Applies, RefusesOperation};
 ghost use Rattle.jsonptr_patch.specs.Order.{OperationHasSortedKeys};
 ghost use Rattle.jsonptr_patch.specs.Patching.{Patches, RefusesPatch};
-ghost use Rattle.jsonptr_patch.specs.PrivateBase.{IsBased, AppliesBelow, RefusesBelow, PatchesBelow, RefusesPatchBelow, RefusesCut};
+ghost use Rattle.jsonptr_patch.specs.PrivateRecording.{CanUndo, Records};
 
-use crate::add::add;
-use crate::common_parent::{
-    common_parent, existing_prefix, node_at, path_of, put_at, relative_to, shift_error,
-};
-use crate::equality::test;
-use crate::move_and_copy::{copy_value, move_value};
-use crate::only_tests::{only_tests, test_all};
+use crate::add::{add, add_last};
+use crate::copy::{copy, copy_last};
+use crate::move_value::{move_last, move_value};
 use crate::operation::{Operation, PatchError};
-use crate::remove_and_replace::{remove, replace};
-use jsonptr::{Fault, Pointer};
+use crate::remove::{remove, remove_last};
+use crate::replace::{replace, replace_last};
+use crate::test::test;
+use jsonptr::Fault;
+use jsonptr_journal::journal::Journal;
 use serde_json::Value;
 use std::alloc::Global;
 
@@ -25,7 +25,15 @@ use std::alloc::Global;
 /// section 5). An empty patch changes nothing.
 ///
 /// The values of the operations are moved into the document, and the rest of the patch is dropped.
-/// Only the node below which all operations work is copied. A patch of tests copies nothing.
+/// The document is changed in place. A journal keeps what undoes each operation except the last
+/// one. If an operation fails, those before it are undone, which needs no allocation.
+///
+/// An operation costs what it changes. A removal from an object that is not the last operation also
+/// clones the keys of that object, and so does a move. Removals from one object one after another
+/// clone them once. To undo a removal takes time in proportion to its object or its array.
+///
+/// A patch needs no allocation if its pointers contain no `~`, all operations except the last one
+/// are tests, and the last one is a test, a removal or a replacement.
 ///
 /// If the keys of each object are in ascending order in the document and in the values that are
 /// moved into it, they are so in the new document. Parsed documents have such keys.
@@ -53,127 +61,149 @@ pub fn apply(alloc: Global, doc: &mut Value, patch: Vec<Operation>) -> Result<()
     ensures empty { patch.items ≡ [] → IsOk result }
     ensures refused { IfRefused result (RefusesPatch (nodes (view doc.old)) patch.items) }
     ensures unchanged { OnErr result (view doc.new ≡ view doc.old) }
+    ensures no_memory { NeedsNoMemory patch.items → HasMemory result }
 {
-    let Some(first) = patch.first() else {
+    let mut operations = patch;
+    let Some(last) = operations.pop() else {
         return Ok(());
     };
-    if only_tests(&patch) {
-        return test_all(alloc, doc, patch);
+    let mut journal = Journal::new(alloc);
+    match apply_all(alloc, doc, &mut journal, operations, last) {
+        Ok(()) => Ok(()),
+        Err(fault) => {
+            journal.undo(alloc, doc);
+            Err(fault)
+        }
     }
-    let base = existing_prefix(alloc, doc, common_parent(path_of(first), &patch))?;
-    let mut copy = node_at(alloc, doc, base.as_ptr())?;
-    apply_all(alloc, &mut copy, base.as_ptr(), patch)?;
-    put_at(alloc, doc, base.as_ptr(), copy)?;
-    Ok(())
 }
 
-/// Applies the operations one by one to a copy of the node at `base`. After an error the copy may
-/// have any value.
+/// Applies the operations, and then the last one, which is not recorded in the journal.
 ///
 /// # Errors
 ///
-/// Those of [`apply`].
+/// Those of [`apply`]. To undo the journal restores the document.
 fn apply_all(
     alloc: Global,
-    copy: &mut Value,
-    base: Pointer<'_>,
-    patch: Vec<Operation>,
+    doc: &mut Value,
+    journal: &mut Journal,
+    operations: Vec<Operation>,
+    last: Operation,
 ) -> Result<(), Fault<PatchError>>
-    requires { All (IsBased (tokens base)) patch.items }
-    ensures applied { IfOk result (λ _. PatchesBelow (tokens base.entry) (nodes (view copy.old))
-        patch.items (nodes (view copy.new))) }
-    ensures sorted { IfOk result (λ _. All OperationHasSortedKeys patch.items
-        → HasSortedKeys (view copy.old) → HasSortedKeys (view copy.new)) }
+    requires { CanUndo journal.old doc.old }
+    ensures applied { IfOk result (λ _. Patches (nodes (view doc.old))
+        (operations.items ++ last ∷ []) (nodes (view doc.new))) }
+    ensures sorted { IfOk result (λ _.
+        All OperationHasSortedKeys operations.items → OperationHasSortedKeys last
+        → HasSortedKeys (view doc.old) → HasSortedKeys (view doc.new)) }
     ensures refused { IfRefused result
-        (RefusesPatchBelow (tokens base.entry) (nodes (view copy.old)) patch.items) }
+        (RefusesPatch (nodes (view doc.old)) (operations.items ++ last ∷ [])) }
+    ensures undone { OnErr result (Records journal.old doc.old journal.new doc.new) }
+    ensures no_memory { All TestNeedsNoMemory operations.items → LastNeedsNoMemory last
+        → HasMemory result }
+{
+    let number = operations.len();
+    record_all(alloc, doc, journal, operations)?;
+    apply_last(alloc, doc, number, last)
+}
+
+/// Applies the operations, and records in the journal what undoes them.
+///
+/// # Errors
+///
+/// Those of [`apply`]. To undo the journal restores the document.
+fn record_all(
+    alloc: Global,
+    doc: &mut Value,
+    journal: &mut Journal,
+    operations: Vec<Operation>,
+) -> Result<(), Fault<PatchError>>
+    requires { CanUndo journal.old doc.old }
+    ensures applied { IfOk result (λ _.
+        Patches (nodes (view doc.old)) operations.items (nodes (view doc.new))) }
+    ensures sorted { IfOk result (λ _. All OperationHasSortedKeys operations.items
+        → HasSortedKeys (view doc.old) → HasSortedKeys (view doc.new)) }
+    ensures refused { IfRefused result (RefusesPatch (nodes (view doc.old)) operations.items) }
+    ensures undone { Records journal.old doc.old journal.new doc.new }
+    ensures no_memory { All TestNeedsNoMemory operations.items → HasMemory result }
 {
     let mut number = 0;
-    for operation in patch {
-        apply_one(alloc, copy, base, number, operation)?;
+    for operation in operations {
+        record(alloc, doc, journal, number, operation)?;
         number += 1;
     }
     Ok(())
 }
 
-/// Applies the operation with this number to a copy of the node at `base`. After an error the copy
-/// may have any value.
+/// Applies the operation with this number, and records in the journal what undoes it.
 ///
 /// # Errors
 ///
-/// [`Fault::Refused`] if the operation fails, with positions and offsets in its whole pointers, and
-/// [`Fault::Memory`] if an allocation fails.
-fn apply_one(
+/// [`Fault::Refused`] if the operation fails, and [`Fault::Memory`] if an allocation fails. To undo
+/// the journal restores the document.
+fn record(
     alloc: Global,
-    copy: &mut Value,
-    base: Pointer<'_>,
+    doc: &mut Value,
+    journal: &mut Journal,
     number: usize,
     operation: Operation,
 ) -> Result<(), Fault<PatchError>>
-    requires { IsBased (tokens base) operation }
-    ensures applied { IfOk result (λ _. AppliesBelow (tokens base.entry) (nodes (view copy.old))
-        operation (nodes (view copy.new))) }
+    requires { CanUndo journal.old doc.old }
+    ensures applied { IfOk result (λ _.
+        Applies (nodes (view doc.old)) operation (nodes (view doc.new))) }
     ensures sorted { IfOk result (λ _. OperationHasSortedKeys operation
-        → HasSortedKeys (view copy.old) → HasSortedKeys (view copy.new)) }
-    ensures refused { IfRefused result
-        (RefusesBelow (tokens base.entry) (nodes (view copy.old)) number operation) }
+        → HasSortedKeys (view doc.old) → HasSortedKeys (view doc.new)) }
+    ensures refused { IfRefused result (RefusesOperation (nodes (view doc.old)) number operation) }
+    ensures undone { Records journal.old doc.old journal.new doc.new }
+    ensures no_memory { TestNeedsNoMemory operation → HasMemory result }
 {
-    match apply_relative(alloc, copy, base, number, operation) {
-        Ok(()) => Ok(()),
-        Err(fault) => Err(Fault::Refused(shift_error(base, fault.refused()?))),
+    match operation {
+        Operation::Add { path, value } => add(alloc, doc, journal, number, path.as_ptr(), value),
+        Operation::Remove { path } => remove(alloc, doc, journal, number, path.as_ptr()),
+        Operation::Replace { path, value } => {
+            replace(alloc, doc, journal, number, path.as_ptr(), value)
+        }
+        Operation::Move { from, path } => {
+            move_value(alloc, doc, journal, number, from.as_ptr(), path.as_ptr())
+        }
+        Operation::Copy { from, path } => {
+            copy(alloc, doc, journal, number, from.as_ptr(), path.as_ptr())
+        }
+        Operation::Test { path, value } => test(alloc, doc, number, path.as_ptr(), &value),
     }
 }
 
-/// Applies the operation as [`apply_one`] does. The positions and offsets of its errors count from
-/// the end of `base`.
+/// Applies the operation with this number, which is the last one of the patch.
 ///
 /// # Errors
 ///
-/// Those of [`apply_one`].
-fn apply_relative(
+/// [`Fault::Refused`] if the operation fails, and [`Fault::Memory`] if an allocation fails. The
+/// document is unchanged.
+fn apply_last(
     alloc: Global,
-    copy: &mut Value,
-    base: Pointer<'_>,
+    doc: &mut Value,
     number: usize,
     operation: Operation,
 ) -> Result<(), Fault<PatchError>>
-    requires { IsBased (tokens base) operation }
-    ensures applied { IfOk result (λ _. AppliesBelow (tokens base.entry) (nodes (view copy.old))
-        operation (nodes (view copy.new))) }
+    ensures applied { IfOk result (λ _.
+        Applies (nodes (view doc.old)) operation (nodes (view doc.new))) }
     ensures sorted { IfOk result (λ _. OperationHasSortedKeys operation
-        → HasSortedKeys (view copy.old) → HasSortedKeys (view copy.new)) }
-    ensures refused { IfRefused result
-        (RefusesCut (tokens base.entry) (nodes (view copy.old)) number operation) }
+        → HasSortedKeys (view doc.old) → HasSortedKeys (view doc.new)) }
+    ensures refused { IfRefused result (RefusesOperation (nodes (view doc.old)) number operation) }
+    ensures unchanged { OnErr result (view doc.new ≡ view doc.old) }
+    ensures no_memory { LastNeedsNoMemory operation → HasMemory result }
 {
     match operation {
-        Operation::Add { path, value } => {
-            add(alloc, copy, number, relative_to(path.as_ptr(), base), value)
-        }
-        Operation::Remove { path } => remove(alloc, copy, number, relative_to(path.as_ptr(), base)),
+        Operation::Add { path, value } => add_last(alloc, doc, number, path.as_ptr(), value),
+        Operation::Remove { path } => remove_last(alloc, doc, number, path.as_ptr()),
         Operation::Replace { path, value } => {
-            replace(alloc, copy, number, relative_to(path.as_ptr(), base), value)
+            replace_last(alloc, doc, number, path.as_ptr(), value)
         }
         Operation::Move { from, path } => {
-            let (source, target) = (
-                relative_to(from.as_ptr(), base),
-                relative_to(path.as_ptr(), base),
-            );
-            move_value(alloc, copy, number, source, target)
+            move_last(alloc, doc, number, from.as_ptr(), path.as_ptr())
         }
         Operation::Copy { from, path } => {
-            let (source, target) = (
-                relative_to(from.as_ptr(), base),
-                relative_to(path.as_ptr(), base),
-            );
-            copy_value(alloc, copy, number, source, target)
+            copy_last(alloc, doc, number, from.as_ptr(), path.as_ptr())
         }
-        Operation::Test { path, value } => {
-            test(
-                alloc,
-                copy,
-                number,
-                relative_to(path.as_ptr(), base),
-                &value,
-            )
-        }
+        Operation::Test { path, value } => test(alloc, doc, number, path.as_ptr(), &value),
     }
 }

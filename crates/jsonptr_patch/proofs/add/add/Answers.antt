@@ -1,14 +1,13 @@
-use Rattle.std.proofs.Common.{inl, refl, ap, sym, ◌∙◌, length}
-use Rattle.std.specs.Prelude.{⊤}
-use Rattle.jsonptr_patch.specs.declared.add.Parent.{Parent}
-use Rattle.jsonptr_patch.proofs.AddingLemmas.{scalar_lacks, parent_refused}
+use Rattle.jsonptr.specs.Pointer.{tokens}
+use Rattle.jsonptr_journal.specs.Location.{contents_of}
+use Rattle.jsonptr_patch.proofs.PlaceLemmas.{place_allows, place_adds, place_sorted}
 use Rattle.jsonptr_patch.proofs.add.add.Goals as goal
 
-pub returns-in-Ok-Scalar-clause-refused : goal.returns-in-Ok-Scalar-clause-refused
-returns-in-Ok-Scalar-clause-refused c =
-    let found = rw c.in-Ok-Scalar.field-0-is at c.in-Ok-Scalar.ensures.found in
-    let lacks = scalar_lacks _ _ _ _ found.0 found.2.0 _ _ c.in-Some.ensures found.1 found.2.1 c.count.ensures (c.len.ensures ∙ ap length (sym c.in-Some.parent.inner.valid)) in
-    inl (_, refl, lacks)
+pub add-requires : goal.add-requires
+add-requires c = place_allows (contents_of c.args.doc.now) (tokens c.args.path) c.in_ok-place.place c.in_ok-place.ensures.found
 
-pub returns-in-Err-clause-refused : goal.returns-in-Err-clause-refused
-returns-in-Err-clause-refused c = rw c.no_target.ensures (parent_refused Parent ⊤ _ _ c.in-Err.fault _ _ _ c.in-Some.ensures c.in-Err.ensures.refused)
+pub returns-clause-added : goal.returns-clause-added
+returns-clause-added c = place_adds (contents_of c.args.doc.now) (contents_of c.args.value) (contents_of c.add.new.doc) (tokens c.args.path) c.in_ok-place.place c.in_ok-place.ensures.found c.in_ok-add.ensures.added
+
+pub returns-clause-sorted : goal.returns-clause-sorted
+returns-clause-sorted c = place_sorted (contents_of c.args.doc.now) (contents_of c.args.value) (contents_of c.add.new.doc) c.in_ok-place.place c.in_ok-add.ensures.added

@@ -1,13 +1,23 @@
-use Rattle.std.proofs.Common.{List, sym, subst}
-use Rattle.std.specs.Prelude.{All}
-use Rattle.jsonptr.specs.Text.{Text}
-use Rattle.jsonptr.specs.Pointer.{tokens}
-use Rattle.jsonptr_patch.specs.PrivateBase.{IsBased}
-use Rattle.jsonptr_patch.proofs.BaseLemmas.{all_shorter, patches_at}
+use Rattle.std.proofs.Common.{[], sym}
+use Rattle.serde_json.specs.View.{view}
+use Rattle.jsonptr_tree.proofs.JsonLemmas.{content_one}
+use Rattle.jsonptr_journal.specs.Location.{contents_of}
+use Rattle.jsonptr_patch.specs.Order.{OperationHasSortedKeys}
+use Rattle.jsonptr_patch.proofs.OperatingLemmas.{each_at, all_but_last}
 use Rattle.jsonptr_patch.proofs.patch.apply.Goals as goal
 
 pub apply_all-requires : goal.apply_all-requires
-apply_all-requires c = subst (λ (ts : List Text). All (IsBased ts) c.args.patch.items) (sym c.as_ptr-2.ensures.tokens) (all_shorter (tokens c.common_parent.result) c.in_ok-base.base c.args.patch.items c.common_parent.ensures c.in_ok-base.ensures.front)
+apply_all-requires c = (contents_of c.args.doc.now, c.new-journal.ensures (contents_of c.args.doc.now))
 
-pub returns-clause-applied : goal.returns-clause-applied
-returns-clause-applied c = patches_at _ _ _ _ c.in_ok-base.base _ _ _ _ c.as_ptr.ensures.tokens c.as_ptr-2.ensures.tokens c.as_ptr-3.ensures.tokens c.in_ok-copy.ensures.found c.in_ok-apply_all.ensures.applied c.in_ok-put_at.ensures.written
+pub undo-requires : goal.undo-requires
+undo-requires c = (contents_of c.args.doc.now, c.in-Err.ensures.undone (contents_of c.args.doc.now) (c.new-journal.ensures (contents_of c.args.doc.now)))
+
+pub returns-in-Ok-clause-sorted : goal.returns-in-Ok-clause-sorted
+returns-in-Ok-clause-sorted c = λ all a. c.in-Ok.ensures.sorted
+    (all_but_last OperationHasSortedKeys _ _ c.in-Some.last all c.in-Some.ensures.items)
+    (each_at OperationHasSortedKeys _ _ [] c.in-Some.last all (sym c.in-Some.ensures.items))
+    a
+
+pub returns-in-Err-clause-unchanged : goal.returns-in-Err-clause-unchanged
+returns-in-Err-clause-unchanged c = content_one (view c.undo.new.doc) (view c.args.doc.now)
+    (c.undo.ensures (contents_of c.args.doc.now) (c.in-Err.ensures.undone (contents_of c.args.doc.now) (c.new-journal.ensures (contents_of c.args.doc.now))))

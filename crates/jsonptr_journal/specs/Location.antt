@@ -1,0 +1,28 @@
+-- The path of a location, and what a value contains.
+use Rattle.std.specs.Prelude.{List, [], ◌∷◌, string_bytes}
+use Rattle.serde_json.specs.View.{view}
+use Rattle.serde_json.specs.declared.value.Value.{Value}
+use Rattle.jsonptr_tree.specs.Node.{Step, key, place, Path}
+use Rattle.jsonptr_tree.specs.Content.{Content}
+use Rattle.jsonptr_tree.specs.Json.{content}
+use Rattle.jsonptr_journal.specs.declared.location.Part.{Part}
+use Rattle.jsonptr_journal.specs.declared.location.Part.TheVariants as part
+use Rattle.jsonptr_journal.specs.declared.location.Location.{Location}
+
+-- `step_of p`: the step of the part `p`
+abbrev pub step_of : Part → Step
+step_of (part.Key k) = key (string_bytes k)
+step_of (part.Index i) = place i
+
+-- `steps_of ps`: the steps of the parts `ps`
+abbrev pub steps_of : List Part → Path
+steps_of [] = []
+steps_of (p ∷ ps) = step_of p ∷ steps_of ps
+
+-- `path_of l`: the path of the location `l`
+abbrev pub path_of : Location → Path
+path_of l = steps_of l.parts.items
+
+-- `contents_of v`: what the value `v` contains
+abbrev pub contents_of : Value → Content
+contents_of v = content (view v)

@@ -1,0 +1,368 @@
+//! A journal of changes: what undoes them, the last one first.
+ghost use Rattle.std.specs.Prelude.{◌≡◌, IfOk, OnOk, OnErr, MatchOption, string_bytes};
+ghost use Rattle.serde_json.specs.declared.value.Value.{Null};
+ghost use Rattle.jsonptr_tree.specs.Content.{Content};
+ghost use Rattle.jsonptr_journal.specs.Location.{path_of, contents_of};
+ghost use Rattle.jsonptr_journal.specs.Children.{members_of};
+ghost use Rattle.jsonptr_journal.specs.Writing.{At};
+ghost use Rattle.jsonptr_journal.specs.Changes.{IsThere, HasAt, IsObject, HasMember, HasElement, TakesMember, TakesElement, TakesAt, Writes};
+ghost use Rattle.jsonptr_journal.specs.Rooms.{LeavesMembers};
+ghost use Rattle.jsonptr_journal.specs.Undoing.{CanAdd, AddsAt, IsAddition, IsRemoval};
+ghost use Rattle.jsonptr_journal.specs.Journal.{Undoes, Undone, HasRoom};
+
+use crate::addition::{Addition, Target, add, overwrite, replace, undo_addition};
+use crate::location::{Location, Part};
+use crate::node_mut::NodeMut;
+use crate::object::{restore_members, room_of, set_aside};
+use crate::removal::{Removal, Taken, take_element_at, undo_removal};
+use serde_json::{Map, Value};
+use std::alloc::{AllocError, Global};
+
+/// What undoes one change.
+#[derive(Debug, Drop)]
+pub enum Entry {
+    /// A value was added.
+    Added(Addition),
+    /// The value was removed.
+    Removed(Removal, Value),
+    /// A value was removed, and then added elsewhere.
+    Moved(Removal, Addition),
+    /// Members were removed from the object at the location. The map has them, and the keys of all
+    /// other members.
+    RemovedMembers(Location, Map<String, Value>),
+}
+
+/// What undoes a list of changes, in their order.
+#[derive(Debug, Drop)]
+pub struct Journal {
+    /// The entries.
+    pub entries: Vec<Entry>,
+}
+
+impl Journal {
+    /// Returns an empty journal. It does not allocate.
+    pub fn new(alloc: Global) -> Journal
+        ensures { (c : Content) → Undone result c c }
+    {
+        Journal {
+            entries: Vec::new(alloc),
+        }
+    }
+
+    /// Makes room for one more entry.
+    ///
+    /// # Errors
+    ///
+    /// [`AllocError`] if an allocation fails.
+    pub fn reserve(&mut self) -> Result<(), AllocError>
+        ensures room { OnOk result (HasRoom self.new) }
+        ensures same { self.new.entries.items ≡ self.old.entries.items }
+    {
+        self.entries.reserve(1)
+    }
+
+    /// Appends an entry. There is room for it.
+    pub fn push(&mut self, entry: Entry)
+        requires { HasRoom self.old }
+        ensures { (c b d : Content) → Undone self.old c b → Undoes entry b d
+            → Undone self.new c d }
+    {
+        self.entries.push_reserved(entry);
+    }
+
+    /// Adds a value at the target.
+    ///
+    /// # Errors
+    ///
+    /// [`AllocError`] if an allocation fails.
+    pub fn add<D: NodeMut>(
+        &mut self,
+        alloc: Global,
+        doc: &mut D,
+        target: Target,
+        value: Value,
+    ) -> Result<(), AllocError>
+        requires { CanAdd target (D.contents doc.old) }
+        ensures added { IfOk result (λ _.
+            AddsAt target (contents_of value) (D.contents doc.old) (D.contents doc.new)) }
+        ensures undone { (c : Content) → Undone self.old c (D.contents doc.old)
+            → Undone self.new c (D.contents doc.new) }
+    {
+        self.reserve()?;
+        match add(alloc, doc, target, value) {
+            Ok(addition) => {
+                self.push(Entry::Added(addition));
+                Ok(())
+            }
+            Err(_) => Err(AllocError),
+        }
+    }
+
+    /// Replaces the node at the location.
+    ///
+    /// # Errors
+    ///
+    /// [`AllocError`] if the allocation for the entry fails. The document is unchanged.
+    pub fn replace<D: NodeMut>(
+        &mut self,
+        doc: &mut D,
+        location: Location,
+        value: Value,
+    ) -> Result<(), AllocError>
+        requires { IsThere (path_of location) (D.contents doc.old) }
+        ensures replaced { IfOk result (λ _. At (path_of location) (Writes (contents_of value))
+            (D.contents doc.old) (D.contents doc.new)) }
+        ensures undone { (c : Content) → Undone self.old c (D.contents doc.old)
+            → Undone self.new c (D.contents doc.new) }
+    {
+        self.reserve()?;
+        let addition = replace(doc, location, value);
+        self.push(Entry::Added(addition));
+        Ok(())
+    }
+
+    /// Removes the node at the location. Removing the root leaves `null`.
+    ///
+    /// Members that are removed from one object one after another share their room: together they
+    /// clone the keys of the object once.
+    ///
+    /// # Errors
+    ///
+    /// [`AllocError`] if an allocation fails.
+    pub fn remove<D: NodeMut>(
+        &mut self,
+        alloc: Global,
+        doc: &mut D,
+        location: Location,
+    ) -> Result<(), AllocError>
+        requires there { IsThere (path_of location) (D.contents doc.old) }
+        requires undone { (c : Content) × Undone self.old c (D.contents doc.old) }
+        ensures removed { IfOk result (λ _. (v : Content) × TakesAt (path_of location) v
+            (D.contents doc.old) (D.contents doc.new)) }
+        ensures undone { (c : Content) → Undone self.old c (D.contents doc.old)
+            → Undone self.new c (D.contents doc.new) }
+    {
+        match location.split_last() {
+            None => self.remove_root(alloc, doc),
+            Some((parent, last)) => match last {
+                Part::Key(key) => self.remove_member(alloc, doc, parent, key),
+                Part::Index(index) => self.remove_element(alloc, doc, parent, index),
+            },
+        }
+    }
+
+    /// Removes the root, and leaves `null`.
+    ///
+    /// # Errors
+    ///
+    /// [`AllocError`] if the allocation for the entry fails.
+    fn remove_root<D: NodeMut>(&mut self, alloc: Global, doc: &mut D) -> Result<(), AllocError>
+        ensures removed { IfOk result (λ _. D.contents doc.new ≡ contents_of Null) }
+        ensures undone { (c : Content) → Undone self.old c (D.contents doc.old)
+            → Undone self.new c (D.contents doc.new) }
+    {
+        self.reserve()?;
+        let value = overwrite(doc, &Location::root(alloc), Value::Null);
+        self.push(Entry::Removed(Removal::Root, value));
+        Ok(())
+    }
+
+    /// Removes the element from the array at the location.
+    ///
+    /// # Errors
+    ///
+    /// [`AllocError`] if an allocation fails.
+    fn remove_element<D: NodeMut>(
+        &mut self,
+        alloc: Global,
+        doc: &mut D,
+        array: Location,
+        index: usize,
+    ) -> Result<(), AllocError>
+        requires { HasAt (path_of array) (HasElement index) (D.contents doc.old) }
+        ensures removed { IfOk result (λ _. (v : Content) × At (path_of array)
+            (TakesElement index v) (D.contents doc.old) (D.contents doc.new)) }
+        ensures undone { (c : Content) → Undone self.old c (D.contents doc.old)
+            → Undone self.new c (D.contents doc.new) }
+    {
+        self.reserve()?;
+        let Taken { value, removal } = take_element_at(alloc, doc, array, index)?;
+        self.push(Entry::Removed(removal, value));
+        Ok(())
+    }
+
+    /// Removes the member from the object at the location.
+    ///
+    /// # Errors
+    ///
+    /// [`AllocError`] if an allocation fails.
+    fn remove_member<D: NodeMut>(
+        &mut self,
+        alloc: Global,
+        doc: &mut D,
+        object: Location,
+        key: String,
+    ) -> Result<(), AllocError>
+        requires member { HasAt (path_of object) (HasMember (string_bytes key))
+            (D.contents doc.old) }
+        requires undone { (c : Content) × Undone self.old c (D.contents doc.old) }
+        ensures removed { IfOk result (λ _. (v : Content) × At (path_of object)
+            (TakesMember (string_bytes key) v) (D.contents doc.old) (D.contents doc.new)) }
+        ensures undone { (c : Content) → Undone self.old c (D.contents doc.old)
+            → Undone self.new c (D.contents doc.new) }
+    {
+        let mut room = self.room_for(alloc, doc, &object)?;
+        set_aside_at(doc, &object, &mut room, key);
+        self.push(Entry::RemovedMembers(object, room));
+        Ok(())
+    }
+
+    /// Returns room for the members of the object at the location. If the last entry has such room,
+    /// it is taken out of the journal.
+    ///
+    /// # Errors
+    ///
+    /// [`AllocError`] if an allocation fails.
+    fn room_for<D: NodeMut>(
+        &mut self,
+        alloc: Global,
+        doc: &mut D,
+        object: &Location,
+    ) -> Result<Map<String, Value>, AllocError>
+        requires { HasAt (path_of object.now) IsObject (D.contents doc.old) }
+        ensures room { OnOk result (HasRoom self.new) }
+        ensures same { D.contents doc.new ≡ D.contents doc.old }
+        ensures left { IfOk result (λ room. (c : Content) → Undone self.old c (D.contents doc.old)
+            → (b : Content) × Undone self.new c b
+            × At (path_of object.now) (LeavesMembers (members_of room)) b (D.contents doc.old)) }
+        ensures undone { OnErr result ((c d : Content) → Undone self.old c d
+            → Undone self.new c d) }
+    {
+        match self.pop_room(object) {
+            Some(room) => Ok(room),
+            None => {
+                self.reserve()?;
+                room_at(alloc, doc, object)
+            }
+        }
+    }
+
+    /// Removes the last entry and returns its room, if it has room for the members of the object at
+    /// the location.
+    fn pop_room(&mut self, object: &Location) -> Option<Map<String, Value>>
+        ensures { MatchOption result (self.new.entries.items ≡ self.old.entries.items)
+            (λ room. HasRoom self.new × ((c d : Content) → Undone self.old c d
+            → (b : Content) × Undone self.new c b
+            × At (path_of object.now) (LeavesMembers (members_of room)) b d)) }
+    {
+        match self.entries.pop() {
+            Some(Entry::RemovedMembers(location, room)) => {
+                if location.is_same(object) {
+                    return Some(room);
+                }
+                self.entries
+                    .push_reserved(Entry::RemovedMembers(location, room));
+                None
+            }
+            Some(entry) => {
+                self.entries.push_reserved(entry);
+                None
+            }
+            None => None,
+        }
+    }
+
+    /// Undoes the changes, the last one first.
+    ///
+    /// Needs no allocation.
+    pub fn undo<D: NodeMut>(self, alloc: Global, doc: &mut D)
+        requires { (c : Content) × Undone self c (D.contents doc.old) }
+        ensures { (c : Content) → Undone self c (D.contents doc.old) → D.contents doc.new ≡ c }
+    {
+        let mut entries = self.entries;
+        while let Some(entry) = entries.pop() {
+            undo_entry(alloc, doc, entry);
+        }
+    }
+}
+
+/// Undoes one change.
+fn undo_entry<D: NodeMut>(alloc: Global, doc: &mut D, entry: Entry)
+    requires { (c : Content) × Undoes entry c (D.contents doc.old) }
+    ensures { (c : Content) → Undoes entry c (D.contents doc.old) → D.contents doc.new ≡ c }
+{
+    match entry {
+        Entry::Added(addition) => drop(undo_addition(doc, addition)),
+        Entry::Removed(removal, value) => undo_removal(alloc, doc, removal, value),
+        Entry::Moved(removal, addition) => undo_move(alloc, doc, removal, addition),
+        Entry::RemovedMembers(object, room) => restore_members_at(doc, &object, room),
+    }
+}
+
+/// Undoes a move.
+fn undo_move<D: NodeMut>(alloc: Global, doc: &mut D, removal: Removal, addition: Addition)
+    requires { (c v b : Content) × IsRemoval removal v c b
+        × IsAddition addition v b (D.contents doc.old) }
+    ensures { (c v b : Content) → IsRemoval removal v c b
+        → IsAddition addition v b (D.contents doc.old) → D.contents doc.new ≡ c }
+{
+    let value = undo_addition(doc, addition);
+    undo_removal(alloc, doc, removal, value);
+}
+
+/// Returns room for the members of the object at the location.
+///
+/// # Errors
+///
+/// [`AllocError`] if an allocation fails.
+fn room_at<D: NodeMut>(
+    alloc: Global,
+    doc: &mut D,
+    object: &Location,
+) -> Result<Map<String, Value>, AllocError>
+    requires { HasAt (path_of object.now) IsObject (D.contents doc.old) }
+    ensures room { IfOk result (λ room. At (path_of object.now)
+        (LeavesMembers (members_of room)) (D.contents doc.old) (D.contents doc.old)) }
+    ensures same { D.contents doc.new ≡ D.contents doc.old }
+{
+    match doc.node_mut(object) {
+        Ok(node) => room_of(alloc, node),
+        Err(_) => unreachable!(),
+    }
+}
+
+/// Moves the member from the object at the location into the room.
+fn set_aside_at<D: NodeMut>(
+    doc: &mut D,
+    object: &Location,
+    room: &mut Map<String, Value>,
+    key: String,
+)
+    requires member { HasAt (path_of object.now) (HasMember (string_bytes key))
+        (D.contents doc.old) }
+    requires room { (c : Content) × At (path_of object.now)
+        (LeavesMembers (members_of room.old)) c (D.contents doc.old) }
+    ensures taken { (v : Content) × At (path_of object.now) (TakesMember (string_bytes key) v)
+        (D.contents doc.old) (D.contents doc.new) }
+    ensures room { (c : Content)
+        → At (path_of object.now) (LeavesMembers (members_of room.old)) c (D.contents doc.old)
+        → At (path_of object.now) (LeavesMembers (members_of room.new)) c (D.contents doc.new) }
+{
+    match doc.node_mut(object) {
+        Ok(node) => set_aside(node, room, key),
+        Err(_) => unreachable!(),
+    }
+}
+
+/// Puts back the members that the room has into the object at the location.
+fn restore_members_at<D: NodeMut>(doc: &mut D, object: &Location, room: Map<String, Value>)
+    requires { (c : Content) × At (path_of object.now)
+        (LeavesMembers (members_of room)) c (D.contents doc.old) }
+    ensures { (c : Content) → At (path_of object.now)
+        (LeavesMembers (members_of room)) c (D.contents doc.old) → D.contents doc.new ≡ c }
+{
+    match doc.node_mut(object) {
+        Ok(node) => restore_members(node, room),
+        Err(_) => unreachable!(),
+    }
+}

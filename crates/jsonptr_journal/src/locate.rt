@@ -1,0 +1,150 @@
+//! The location of the node that a pointer resolves to.
+ghost use Rattle.std.specs.Prelude.{IfOk};
+ghost use Rattle.serde_json.specs.View.{view};
+ghost use Rattle.jsonptr.specs.Delete.{NamesNothing};
+ghost use Rattle.jsonptr.specs.Fault.{IfRefused, ForRefused};
+ghost use Rattle.jsonptr.specs.Pointer.{tokens};
+ghost use Rattle.jsonptr.specs.Resolve.{Refuses};
+ghost use Rattle.jsonptr_tree.specs.Json.{nodes};
+ghost use Rattle.jsonptr_journal.specs.Locating.{Locates};
+ghost use Rattle.jsonptr_journal.specs.PrivateLocating.{IsLocated, IsChildOf, IsIndexOf};
+
+use crate::location::{Location, Part};
+use jsonptr::{Fault, Pointer, Token, resolve};
+use jsonptr_document::document::{Document, Node};
+use serde_json::Value;
+use std::alloc::{AllocError, Global};
+
+/// A node of a document and its location.
+#[derive(Drop)]
+pub struct Located<'v> {
+    /// The location.
+    pub location: Location,
+    /// The node.
+    pub node: &'v Value,
+}
+
+/// A child of a node.
+#[derive(Drop)]
+struct Child<'v, D> {
+    /// The step to the child.
+    part: Part,
+    /// The child.
+    node: &'v D,
+}
+
+/// Returns the node that the pointer resolves to, and its location.
+///
+/// Allocates the list of steps, and each key on the way. At the root it needs no allocation. Takes
+/// constant time for each array on the way, and logarithmic time for each object.
+///
+/// # Errors
+///
+/// [`Fault::Refused`] if the pointer does not resolve to a value, and [`Fault::Memory`] if an
+/// allocation fails.
+pub fn locate<'v>(
+    alloc: Global,
+    doc: &'v Value,
+    ptr: Pointer<'_>,
+) -> Result<Located<'v>, Fault<resolve::Error>>
+    ensures located { IfOk result (Locates (view doc.now) (tokens ptr.entry)) }
+    ensures refused { IfRefused result (Refuses (nodes (view doc.now)) (tokens ptr.entry)) }
+{
+    match find(alloc, doc, ptr)? {
+        Some(located) => Ok(located),
+        None => Err(refusal(alloc, doc, ptr)),
+    }
+}
+
+/// Returns the node that the pointer resolves to, and its location, or `None` if the pointer does
+/// not resolve to a value.
+///
+/// # Errors
+///
+/// [`AllocError`] if an allocation fails.
+fn find<'v>(
+    alloc: Global,
+    doc: &'v Value,
+    ptr: Pointer<'_>,
+) -> Result<Option<Located<'v>>, AllocError>
+    ensures { IfOk result (IsLocated (view doc.now) (tokens ptr.entry)) }
+{
+    let mut parts = Vec::with_capacity(alloc, ptr.count())?;
+    let mut node = doc;
+    let mut rest = ptr;
+    while let Some((token, after)) = rest.split_front() {
+        let Some(child) = named_child(alloc, node, &token)? else {
+            return Ok(None);
+        };
+        parts.push(child.part)?;
+        node = child.node;
+        rest = after;
+    }
+    Ok(Some(Located {
+        location: Location { parts },
+        node,
+    }))
+}
+
+/// Returns the child that the token names, or `None` if it names none.
+///
+/// # Errors
+///
+/// [`AllocError`] if the allocation for its key fails.
+fn named_child<'v, D: Document>(
+    alloc: Global,
+    at: &'v D,
+    token: &Token<'_>,
+) -> Result<Option<Child<'v, D>>, AllocError>
+    ensures { IfOk result (IsChildOf (D.nodes at.now) (D.stands_at at.now) token.now) }
+{
+    match at.node() {
+        Node::Leaf => Ok(None),
+        Node::Array(elements) => match index_in(token, elements.len()) {
+            Some(index) => Ok(Some(Child {
+                part: Part::Index(index),
+                node: &elements[index],
+            })),
+            None => Ok(None),
+        },
+        Node::Object(members) => {
+            let key = token.decoded(alloc)?;
+            match members.get(key.as_str()) {
+                Some(node) => Ok(Some(Child {
+                    part: Part::Key(key.into_owned(alloc)?),
+                    node,
+                })),
+                None => Ok(None),
+            }
+        }
+    }
+}
+
+/// Returns the index that the token has in an array of this length, or `None` if it is not the index
+/// of an element.
+fn index_in(token: &Token<'_>, length: usize) -> Option<usize>
+    ensures { IsIndexOf length token.now result }
+{
+    match token.to_index() {
+        Ok(index) => match index.for_len(length) {
+            Ok(place) => Some(place),
+            Err(_) => None,
+        },
+        Err(_) => None,
+    }
+}
+
+/// Returns why the pointer does not resolve to a value.
+///
+/// # Conditions
+///
+/// The pointer does not resolve to a value.
+fn refusal(alloc: Global, doc: &Value, ptr: Pointer<'_>) -> Fault<resolve::Error>
+    requires { NamesNothing (nodes (view doc.now)) (tokens ptr) }
+    ensures { ForRefused result (Refuses (nodes (view doc.now)) (tokens ptr.entry)) }
+{
+    match ptr.resolve(alloc, doc) {
+        Ok(_) => unreachable!(),
+        Err(fault) => fault,
+    }
+}

@@ -1,0 +1,113 @@
+//! Going to a location of a document, without an allocation.
+ghost use Rattle.std.specs.Prelude.{◌≡◌, Option, Some, None, IfOk, OnErr, IsOk};
+ghost use Rattle.std.specs.Borrow.{sem, follows_so, name_if_ok};
+ghost use Rattle.serde_json.specs.contracts.value.Value.{the_row};
+ghost use Rattle.jsonptr_tree.specs.Content.{Content, content_at};
+ghost use Rattle.jsonptr_journal.specs.Location.{path_of, contents_of};
+ghost use Rattle.jsonptr_journal.specs.PrivateNodeMut.{MovesTo, IsLost, LendsMove};
+ghost use Rattle.jsonptr_journal.specs.Writing.{write_at};
+
+use crate::location::{Location, Part};
+use jsonptr_walk::descend::StepResult;
+use serde_json::Value;
+
+/// A location is not in the document.
+#[derive(Debug, Drop)]
+pub struct NoSuchNode {
+    /// The position of the first step that leads nowhere.
+    pub position: usize,
+}
+
+/// A document that returns mutable references to its nodes by their locations.
+pub trait NodeMut: Sized {
+    // what a document contains
+    ghost contents: { Self → Content };
+
+    /// Returns a mutable reference to the node at the location.
+    ///
+    /// Needs no allocation. Takes constant time for each array on the way, and logarithmic time for
+    /// each object.
+    ///
+    /// # Errors
+    ///
+    /// [`NoSuchNode`] if the location is not in the document, which is unchanged.
+    fn node_mut(&mut self, location: &Location) -> Result<&mut Value, NoSuchNode>
+        ensures* writes_back { sem 𝓛 (follows_so Self.row the_row self.entry.ghost_name
+            (name_if_ok (λ v. v.ghost_name) result)
+            (λ w n. IsOk result → contents n ≡ write_at (path_of location.now) (contents_of w) (contents self.old))
+            (λ n. OnErr result (contents n ≡ contents self.old))) }
+        ensures value { IfOk result (λ v. content_at (path_of location.now) (contents self.old) ≡ Some (contents_of v.now))
+            × OnErr result (content_at (path_of location.now) (contents self.old) ≡ None) };
+}
+
+/// Returns the child at the step at position `i`, or the value itself if the location has no such step.
+fn step<'v>(
+    at: &'v mut Value,
+    location: &Location,
+    i: usize,
+) -> Result<StepResult<'v, Value>, NoSuchNode>
+    ensures* writes_back { sem 𝓛 (LendsMove the_row (λ v. v) at.entry (path_of location.now) i result) }
+    ensures value { IfOk result (λ r. MovesTo (path_of location.now) i r.down at.old r.next r.node.now)
+        × OnErr result (IsLost (path_of location.now) i at.old) }
+{
+    if i >= location.parts.len() {
+        return Ok(StepResult {
+            node: at,
+            next: i,
+            down: false,
+        });
+    }
+    let next = i + 1;
+    match &location.parts[i] {
+        Part::Index(index) => match at.as_array_mut() {
+            Some(elements) => {
+                if *index < elements.len() {
+                    let node = &mut elements[*index];
+                    Ok(StepResult {
+                        node,
+                        next,
+                        down: true,
+                    })
+                } else {
+                    Err(NoSuchNode { position: i })
+                }
+            }
+            None => Err(NoSuchNode { position: i }),
+        },
+        Part::Key(key) => match at.as_object_mut() {
+            Some(members) => match members.get_mut(key.as_str()) {
+                Some(node) => Ok(StepResult {
+                    node,
+                    next,
+                    down: true,
+                }),
+                None => Err(NoSuchNode { position: i }),
+            },
+            None => Err(NoSuchNode { position: i }),
+        },
+    }
+}
+
+impl NodeMut for Value {
+    ghost use Rattle.jsonptr_journal.specs.Location.{contents_of};
+
+    ghost contents = { contents_of };
+
+    fn node_mut(&mut self, location: &Location) -> Result<&mut Value, NoSuchNode> {
+        let mut at = self;
+        let mut i = 0;
+        loop {
+            match step(at, location, i) {
+                Ok(moved) => {
+                    let StepResult { node, next, down } = moved;
+                    if !down {
+                        return Ok(node);
+                    }
+                    at = node;
+                    i = next;
+                }
+                Err(error) => return Err(error),
+            }
+        }
+    }
+}

@@ -1,0 +1,18 @@
+use Rattle.std.proofs.Common.{◌≡◌, ◌++◌, length}
+use Rattle.std.specs.Prelude.{All}
+use Rattle.std.specs.Vec.Iter.{into_iter_items}
+use Rattle.serde_json.specs.View.{view}
+use Rattle.jsonptr.specs.Json.{nodes, HasSortedKeys}
+use Rattle.jsonptr_patch.specs.Order.{OperationHasSortedKeys}
+use Rattle.jsonptr_patch.specs.Patching.{Patches}
+use Rattle.jsonptr_patch.specs.PrivateRecording.{Records}
+use Rattle.jsonptr_patch.proofs.patch.record_all.Given as goal
+
+abbrev pub invariant-loop-operation : goal.invariant-loop-operation
+invariant-loop-operation l = record {
+  rest : l.yielded ++ into_iter_items l.operation-iterator ≡ l.fn.operations.items;
+  counted : l.number ≡ length l.yielded;
+  done : Patches (nodes (view l.initial.doc)) l.yielded (nodes (view l.doc));
+  ordered : All OperationHasSortedKeys l.fn.operations.items → HasSortedKeys (view l.initial.doc) → HasSortedKeys (view l.doc);
+  recorded : Records l.initial.journal l.initial.doc l.journal l.doc;
+}

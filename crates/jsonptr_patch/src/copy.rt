@@ -1,0 +1,91 @@
+//! The operation `copy` (RFC 6902, section 4.5).
+ghost use Rattle.std.specs.Prelude.{◌≡◌, IfOk, OnErr};
+ghost use Rattle.serde_json.specs.View.{view};
+ghost use Rattle.jsonptr.specs.Fault.{IfRefused};
+ghost use Rattle.jsonptr.specs.Following.{Finds};
+ghost use Rattle.jsonptr.specs.Json.{nodes, HasSortedKeys};
+ghost use Rattle.jsonptr.specs.Pointer.{tokens};
+ghost use Rattle.jsonptr_patch.specs.Operating.{Copies, RefusesTarget, RefusesCopy};
+ghost use Rattle.jsonptr_patch.specs.PrivateRecording.{Records};
+
+use crate::add::{add, add_last};
+use crate::operation::PatchError;
+use crate::target::no_target;
+use jsonptr::{Fault, Pointer};
+use jsonptr_journal::journal::Journal;
+use serde_json::Value;
+use std::alloc::Global;
+
+/// Adds a copy of the value at `from` at `path`, for the operation with this number.
+///
+/// # Errors
+///
+/// [`Fault::Refused`] if `from` does not resolve to a value, or if the copy cannot be added.
+/// [`Fault::Memory`] if an allocation fails.
+pub fn copy(
+    alloc: Global,
+    doc: &mut Value,
+    journal: &mut Journal,
+    number: usize,
+    from: Pointer<'_>,
+    path: Pointer<'_>,
+) -> Result<(), Fault<PatchError>>
+    ensures copied { IfOk result (λ _. Copies (nodes (view doc.old)) (tokens from.entry)
+        (tokens path.entry) (nodes (view doc.new))) }
+    ensures sorted { IfOk result (λ _.
+        HasSortedKeys (view doc.old) → HasSortedKeys (view doc.new)) }
+    ensures refused { IfRefused result (RefusesCopy (nodes (view doc.old)) number
+        (tokens from.entry) (tokens path.entry)) }
+    ensures undone { Records journal.old doc.old journal.new doc.new }
+{
+    let value = copy_of(alloc, doc, number, from)?;
+    add(alloc, doc, journal, number, path, value)
+}
+
+/// Adds a copy, as [`copy`] does, for the last operation of a patch.
+///
+/// # Errors
+///
+/// Those of [`copy`]. The document is unchanged.
+pub fn copy_last(
+    alloc: Global,
+    doc: &mut Value,
+    number: usize,
+    from: Pointer<'_>,
+    path: Pointer<'_>,
+) -> Result<(), Fault<PatchError>>
+    ensures copied { IfOk result (λ _. Copies (nodes (view doc.old)) (tokens from.entry)
+        (tokens path.entry) (nodes (view doc.new))) }
+    ensures sorted { IfOk result (λ _.
+        HasSortedKeys (view doc.old) → HasSortedKeys (view doc.new)) }
+    ensures refused { IfRefused result (RefusesCopy (nodes (view doc.old)) number
+        (tokens from.entry) (tokens path.entry)) }
+    ensures unchanged { OnErr result (view doc.new ≡ view doc.old) }
+{
+    let value = copy_of(alloc, doc, number, from)?;
+    add_last(alloc, doc, number, path, value)
+}
+
+/// Returns a copy of the value that the pointer resolves to.
+///
+/// # Errors
+///
+/// [`Fault::Refused`] if the pointer does not resolve to a value, and [`Fault::Memory`] if an
+/// allocation fails.
+fn copy_of(
+    alloc: Global,
+    doc: &Value,
+    number: usize,
+    from: Pointer<'_>,
+) -> Result<Value, Fault<PatchError>>
+    ensures found { IfOk result (λ v. Finds (nodes (view doc.now)) (tokens from.entry)
+        (nodes (view v))) }
+    ensures sorted { IfOk result (λ v. HasSortedKeys (view doc.now) → HasSortedKeys (view v)) }
+    ensures refused { IfRefused result
+        (RefusesTarget (nodes (view doc.now)) number (tokens from.entry)) }
+{
+    match from.resolve(alloc, doc) {
+        Ok(value) => Ok(value.clone()?),
+        Err(fault) => Err(no_target(number, fault)),
+    }
+}

@@ -1,0 +1,95 @@
+//! The operation `replace` (RFC 6902, section 4.3).
+ghost use Rattle.std.specs.Prelude.{◌≡◌, IfOk, OnErr};
+ghost use Rattle.serde_json.specs.View.{view};
+ghost use Rattle.jsonptr.specs.Fault.{IfRefused, HasMemory};
+ghost use Rattle.jsonptr.specs.Json.{nodes, HasSortedKeys};
+ghost use Rattle.jsonptr.specs.Pointer.{tokens};
+ghost use Rattle.jsonptr.specs.Resolve.{PutsAt};
+ghost use Rattle.jsonptr.specs.Text.{HasNoTilde, text};
+ghost use Rattle.jsonptr_patch.specs.Operating.{RefusesTarget};
+ghost use Rattle.jsonptr_patch.specs.PrivateRecording.{Records};
+
+use crate::operation::PatchError;
+use crate::target::{no_target, target};
+use jsonptr::{Fault, Pointer, ResolveMut};
+use jsonptr_journal::journal::Journal;
+use serde_json::Value;
+use std::alloc::Global;
+use std::mem;
+
+/// Replaces the value that the pointer resolves to, for the operation with this number.
+///
+/// # Errors
+///
+/// [`Fault::Refused`] if the pointer does not resolve to a value, and [`Fault::Memory`] if an
+/// allocation fails. The new value is dropped.
+pub fn replace(
+    alloc: Global,
+    doc: &mut Value,
+    journal: &mut Journal,
+    number: usize,
+    path: Pointer<'_>,
+    value: Value,
+) -> Result<(), Fault<PatchError>>
+    ensures replaced { IfOk result (λ _. PutsAt (nodes (view doc.old)) (tokens path.entry)
+        (nodes (view value)) (nodes (view doc.new))) }
+    ensures sorted { IfOk result (λ _.
+        HasSortedKeys (view value) → HasSortedKeys (view doc.old) → HasSortedKeys (view doc.new)) }
+    ensures refused { IfRefused result
+        (RefusesTarget (nodes (view doc.old)) number (tokens path.entry)) }
+    ensures undone { Records journal.old doc.old journal.new doc.new }
+{
+    let location = target(alloc, doc, number, path)?;
+    journal.replace(doc, location, value)?;
+    Ok(())
+}
+
+/// Replaces the value that the pointer resolves to, as [`replace`] does, for the last operation of a
+/// patch.
+///
+/// # Errors
+///
+/// Those of [`replace`]. The document is unchanged.
+pub fn replace_last(
+    alloc: Global,
+    doc: &mut Value,
+    number: usize,
+    path: Pointer<'_>,
+    value: Value,
+) -> Result<(), Fault<PatchError>>
+    ensures replaced { IfOk result (λ _. PutsAt (nodes (view doc.old)) (tokens path.entry)
+        (nodes (view value)) (nodes (view doc.new))) }
+    ensures sorted { IfOk result (λ _.
+        HasSortedKeys (view value) → HasSortedKeys (view doc.old) → HasSortedKeys (view doc.new)) }
+    ensures refused { IfRefused result
+        (RefusesTarget (nodes (view doc.old)) number (tokens path.entry)) }
+    ensures unchanged { OnErr result (view doc.new ≡ view doc.old) }
+    ensures no_memory { HasNoTilde (text (tokens path.entry)) → HasMemory result }
+{
+    match put(alloc, doc, path, value) {
+        Ok(()) => Ok(()),
+        Err(fault) => Err(no_target(number, fault)),
+    }
+}
+
+/// Replaces the value that the pointer resolves to, in a document of any type. Drops the old value.
+///
+/// # Errors
+///
+/// Those of [`ResolveMut::resolve_mut`]. The document is unchanged, and the new value is dropped.
+fn put<D: ResolveMut>(
+    alloc: Global,
+    document: &mut D,
+    ptr: Pointer<'_>,
+    value: D::Value,
+) -> Result<(), Fault<D::Error>>
+    ensures written { IfOk result (λ _.
+        D.writes document.old (tokens ptr.entry) value document.new) }
+    ensures refused { IfRefused result (D.refuses document.old (tokens ptr.entry)) }
+    ensures stays { OnErr result (D.is_same document.old document.new) }
+    ensures no_memory { D.needs_no_memory document.old (tokens ptr.entry) → HasMemory result }
+{
+    let place = document.resolve_mut(alloc, ptr)?;
+    drop(mem::replace(place, value));
+    Ok(())
+}

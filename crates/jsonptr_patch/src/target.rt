@@ -1,0 +1,50 @@
+//! The value that a pointer of an operation resolves to.
+ghost use Rattle.std.specs.Prelude.{◌≡◌, IfOk};
+ghost use Rattle.serde_json.specs.View.{view};
+ghost use Rattle.jsonptr.specs.Fault.{IfRefused};
+ghost use Rattle.jsonptr.specs.Json.{nodes};
+ghost use Rattle.jsonptr.specs.Node.{Names};
+ghost use Rattle.jsonptr.specs.Pointer.{tokens};
+ghost use Rattle.jsonptr_journal.specs.Location.{path_of};
+ghost use Rattle.jsonptr_patch.specs.Operating.{RefusesTarget};
+ghost use Rattle.jsonptr_patch.specs.PrivateAdding.{told};
+
+use crate::operation::PatchError;
+use jsonptr::{Fault, Pointer, resolve};
+use jsonptr_journal::locate::locate;
+use jsonptr_journal::location::Location;
+use serde_json::Value;
+use std::alloc::Global;
+
+/// Converts the fault of a pointer that does not resolve to that of the operation with this number.
+pub fn no_target(number: usize, fault: Fault<resolve::Error>) -> Fault<PatchError>
+    ensures { result ≡ told number fault }
+{
+    fault.map(|cause| PatchError::NoTarget {
+        operation: number,
+        cause,
+    })
+}
+
+/// Returns the location of the value that the pointer resolves to.
+///
+/// # Errors
+///
+/// [`Fault::Refused`] if the pointer does not resolve to a value, and [`Fault::Memory`] if an
+/// allocation fails.
+pub fn target(
+    alloc: Global,
+    doc: &Value,
+    number: usize,
+    path: Pointer<'_>,
+) -> Result<Location, Fault<PatchError>>
+    ensures found { IfOk result (λ location.
+        Names (nodes (view doc.now)) (tokens path.entry) (path_of location)) }
+    ensures refused { IfRefused result
+        (RefusesTarget (nodes (view doc.now)) number (tokens path.entry)) }
+{
+    match locate(alloc, doc, path) {
+        Ok(located) => Ok(located.location),
+        Err(fault) => Err(no_target(number, fault)),
+    }
+}

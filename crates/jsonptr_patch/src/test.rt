@@ -1,0 +1,63 @@
+//! The operation `test` (RFC 6902, section 4.6).
+ghost use Rattle.std.specs.Prelude.{IfOk};
+ghost use Rattle.serde_json.specs.View.{view};
+ghost use Rattle.jsonptr.specs.Fault.{IfRefused, HasMemory};
+ghost use Rattle.jsonptr.specs.Json.{nodes};
+ghost use Rattle.jsonptr.specs.Pointer.{tokens};
+ghost use Rattle.jsonptr.specs.Text.{HasNoTilde, text};
+ghost use Rattle.jsonptr_patch.specs.Operating.{Passes, RefusesTest};
+ghost use Rattle.jsonptr_patch.specs.PrivateTesting.{IsPlain, RefusesCompare, SameValue};
+
+use crate::equality::{has_float, is_equal};
+use crate::operation::PatchError;
+use crate::target::no_target;
+use jsonptr::{Fault, Pointer};
+use serde_json::Value;
+use std::alloc::Global;
+
+/// Tests that the value at `path` equals `value`, for the operation with this number.
+///
+/// # Errors
+///
+/// [`Fault::Refused`] if the pointer does not resolve to a value, if one of the two contains a
+/// float, or if they differ. [`Fault::Memory`] if an allocation fails.
+pub fn test(
+    alloc: Global,
+    doc: &Value,
+    number: usize,
+    path: Pointer<'_>,
+    value: &Value,
+) -> Result<(), Fault<PatchError>>
+    ensures passes { IfOk result (λ _. Passes (nodes (view doc.now)) (tokens path.entry)
+        (nodes (view value.now))) }
+    ensures refused { IfRefused result
+        (RefusesTest (nodes (view doc.now)) number (tokens path.entry)
+        (nodes (view value.now))) }
+    ensures no_memory { HasNoTilde (text (tokens path.entry)) → HasMemory result }
+{
+    match path.resolve(alloc, doc) {
+        Ok(target) => compare(number, target, value),
+        Err(fault) => Err(no_target(number, fault)),
+    }
+}
+
+/// Compares the value at the target location with the one that it must equal.
+///
+/// # Errors
+///
+/// [`PatchError::TestFloat`] if one of the two contains a float, and [`PatchError::TestFailed`] if
+/// they differ.
+fn compare(number: usize, target: &Value, value: &Value) -> Result<(), Fault<PatchError>>
+    ensures passes { IfOk result (λ _.
+        IsPlain target.now × IsPlain value.now × SameValue target.now value.now) }
+    ensures refused { IfRefused result (RefusesCompare number target.now value.now) }
+    ensures no_memory { HasMemory result }
+{
+    if has_float(target) || has_float(value) {
+        return Err(Fault::Refused(PatchError::TestFloat { operation: number }));
+    }
+    if !is_equal(target, value) {
+        return Err(Fault::Refused(PatchError::TestFailed { operation: number }));
+    }
+    Ok(())
+}
