@@ -294,9 +294,27 @@ def bad_inputs():
             yield fails_with(BAD_INPUT, *words, input=given, status=3)
 
 
+def deep():
+    """Documents that nest far deeper than the input: at the limit they are printed, and past it no memory is asked for."""
+    for token, begin, end in [("/x", '{"x":', "}"), ("/0", "[", "]")]:
+        yield succeeds("assign", token * 10_000, "1", input="null", line=begin * 10_000 + "1" + end * 10_000)
+        for count in (10_001, 65_535):
+            yield rejects(4, OUT_OF_MEMORY, "assign", token * count, "1")
+    patch, depth, line = ["patch"], 127, nested(127)
+    for _ in range(6):
+        patch += ["copy", "", "/0" * depth]
+        depth, line = 2 * depth, "[" * depth + line + "," + line[depth:]
+    yield succeeds(*patch, input=nested(127), line=line)
+    yield succeeds(*patch, "remove", "", input=nested(127), line="null")
+    yield fails_with(PATCH_FAILED.format(6, TEST_FAILED), *patch, "test", "", "1", input=nested(127))
+    for _ in range(3):
+        patch += ["copy", "", "/0" * depth]
+        depth = 2 * depth
+        yield rejects(4, OUT_OF_MEMORY, *patch)
+
+
 def large():
-    """Pointers of 10,000 and of 32,768 tokens, and inputs of 64 MiB."""
-    yield succeeds("assign", "/x" * 10_000, "1", input="null", line='{"x":' * 10_000 + "1" + "}" * 10_000)
+    """A pointer of 32,768 tokens, and inputs of 64 MiB."""
     yield lists("tokens", "/0" * (32 << 10), line="[" + ",".join(['"0"'] * (32 << 10)) + "]")
     text = "x" * MIB_64
     yield succeeds("delete", "/a", input=f'{{"a":"{text}"}}', line="{}")
@@ -389,19 +407,21 @@ def check_outcome(words, status, message, given):
 def check_memory(case, shim):
     """Runs a case once for each memory request, with that one failing, and returns the number of requests."""
     words = [PROGRAM, *case.words]
-    usual, requests, _ = run_with_shim(words, case.input, shim, 0, count="run")
+    # A run that reads a document keeps it to the end of the process.
+    options = {"count": "run", "may_keep": case.is_read}
+    usual, requests, _ = run_with_shim(words, case.input, shim, 0, **options)
     check_result(case, usual)
     if case.most is not None and requests > case.most:
         raise CheckFailed(f"{words[1:]}: {requests} memory requests, expected at most {case.most}")
     without_memory = Case(case.words, case.input, "", f"{OUT_OF_MEMORY}\n", 4)
     for fail in [*range(1, requests + 1), "all"]:
-        given, _, _ = run_with_shim(words, case.input, shim, fail, count="run")
+        given, _, _ = run_with_shim(words, case.input, shim, fail, **options)
         check_result(case if given.returncode == case.status else without_memory, given)
     return requests
 
 
 SMALL_TABLES = [resolving, listing, writing, examples, patching, failing_patches]
-TABLES = [*SMALL_TABLES, many_words, bad_arguments, bad_inputs, large]
+TABLES = [*SMALL_TABLES, many_words, bad_arguments, bad_inputs, deep, large]
 
 
 def small():

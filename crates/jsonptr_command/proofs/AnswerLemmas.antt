@@ -1,12 +1,12 @@
 -- From what is known about the document to what is known about the bytes of the input.
-use Rattle.std.proofs.Common.{◌≡◌, ℕ, List, Option, Some, None, Result, Ok, Err, MatchOption, sym, ap, subst, inl, inr}
+use Rattle.std.proofs.Common.{◌≡◌, ℕ, List, Option, Some, None, Result, Ok, Err, MatchOption, refl, sym, ap, ◌∙◌, subst, inl, inr}
 use Rattle.serde_json.specs.Data.{Data}
 use Rattle.jsonptr.specs.Text.{Text}
 use Rattle.jsonptr_command.specs.JsonText.{json_of}
 use Rattle.jsonptr_command.specs.Streams.{ForBytes}
-use Rattle.jsonptr_command.specs.Run.{Outcome, IsRequestFault, NeedsInput, OnDocument}
+use Rattle.jsonptr_command.specs.Run.{Outcome, IsKept, IsLeft, IsRequestFault, NeedsInput, OnDocument}
 use Rattle.jsonptr_command.specs.Faults.{IsInputFault}
-use Rattle.jsonptr_command.specs.Private.{task_of, Does, IsFaultOf, IsLineOf}
+use Rattle.jsonptr_command.specs.Private.{task_of, Does, IsFaultOf, IsLeftBy, IsLineOf}
 use Rattle.jsonptr_command.specs.declared.run.Task.{Task}
 use Rattle.jsonptr_command.specs.declared.run.Task.TheVariants.{Resolve, Assign, Delete, Patch}
 use Rattle.jsonptr_command.specs.declared.fault.RunFault.{RunFault}
@@ -16,6 +16,9 @@ use Rattle.jsonptr_command.specs.declared.fault.RunFault.TheVariants.{InputNotJs
 pub ForBytes-map : (known : Option (List ℕ)) (P Q : List ℕ → Type 0) → ((bytes : List ℕ) → P bytes → Q bytes) → ForBytes known P → ForBytes known Q
 ForBytes-map None P Q f h = (h.0, f h.0 h.1)
 ForBytes-map (Some bytes) P Q f h = f bytes h
+
+abbrev some : Data → Option Data
+some d = Some d
 
 abbrev refusal : RunFault → Result Data RunFault
 refusal e = Err e
@@ -43,6 +46,13 @@ gives (Assign p v) bytes r h = h
 gives (Delete p) bytes r h = h
 gives (Patch patch) bytes r h = h
 
+-- and what it leaves of the document, it leaves of the bytes
+leaves : (task : Task) (bytes : List ℕ) (d new : Data) → json_of bytes ≡ Some d → IsLeftBy task d new → IsLeft (task_of task) bytes new
+leaves (Resolve p) bytes d new is h = is ∙ ap some (sym h)
+leaves (Assign p v) bytes d new is h = on_document bytes d (Ok new) (λ d. Does (Assign p v) d (Ok new)) is h
+leaves (Delete p) bytes d new is h = on_document bytes d (Ok new) (λ d. Does (Delete p) d (Ok new)) is h
+leaves (Patch patch) bytes d new is h = on_document bytes d (Ok new) (λ d. Does (Patch patch) d (Ok new)) is h
+
 module _ (task : Task) (known : Option (List ℕ)) where
   -- a fault of the input is one of the task's request
   pub input_fault_given : (e : RunFault) → IsInputFault known e → IsRequestFault (task_of task) known e
@@ -67,3 +77,9 @@ module _ (task : Task) (known : Option (List ℕ)) where
         (ForBytes-map known (λ bytes. json_of bytes ≡ Some d) (λ bytes. Outcome (task_of task) bytes (Err e))
         (λ bytes is. gives task bytes (Err e) (on_document bytes d (Err e) (λ d. Does task d (Err e)) is h)) read)
     fault_given e (inr memory) = inr (inl memory)
+
+    -- and what the task leaves is the document of the bytes, or the one after the task
+    pub left_given : (new : Data) → IsLeftBy task d new → ForBytes known (λ bytes. IsKept (task_of task) bytes (Some new))
+    left_given new h =
+        ForBytes-map known (λ bytes. json_of bytes ≡ Some d) (λ bytes. IsKept (task_of task) bytes (Some new))
+        (λ bytes is. (new, refl, leaves task bytes d new is h)) read

@@ -34,6 +34,13 @@ Does (Assign p v) d = AssignsAt d (tokens p) (view v)
 Does (Delete p) d = DeletesAt d (tokens p)
 Does (Patch patch) d = PatchesBy d (map meant patch.items)
 
+-- `IsLeftBy task d new`: `task` leaves `new` of the document `d`.
+abbrev pub IsLeftBy : Task → Data → Data → Type 0
+IsLeftBy (Resolve p) d new = new ≡ d
+IsLeftBy (Assign p v) d new = AssignsAt d (tokens p) (view v) (Ok new)
+IsLeftBy (Delete p) d new = DeletesAt d (tokens p) (Ok new)
+IsLeftBy (Patch patch) d new = PatchesBy d (map meant patch.items) (Ok new)
+
 -- `request_of request`: the request that the program's `request` is.
 abbrev pub request_of : code.Request → Request
 request_of (Tokens p) = listing (tokens p)

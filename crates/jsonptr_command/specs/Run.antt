@@ -1,6 +1,6 @@
 -- The output of the program for its words and its input, and its error. A run has stages, in this order: the words,
 -- the pointers, the values, the input, the operation, the line. Each stage passes its result on, or the run fails.
-use Rattle.std.specs.Prelude.{◌≡◌, ◌⊎◌, ℕ, ◌<◌, List, [], ◌∷◌, ◌++◌, length, map, Option, Some, None, Result, Ok, Err, MatchOption, All, Contains, codes, alloc_error, ⊤}
+use Rattle.std.specs.Prelude.{◌≡◌, ◌≢◌, ◌⊎◌, ℕ, ◌<◌, List, [], ◌∷◌, ◌++◌, length, map, Option, Some, None, Result, Ok, Err, MatchOption, All, Contains, codes, alloc_error, ⊤}
 use Rattle.serde_json.specs.Data.{Data, null, string, array}
 use Rattle.serde_json.specs.View.{items_of}
 use Rattle.jsonptr.specs.Text.{Text, text}
@@ -187,6 +187,10 @@ ComesAfterInput (Memory e) = ⊥
 ComesAfterInput Read = ⊥
 ComesAfterInput Write = ⊤
 
+-- `IsOperationFault e`: `e` is an error of the operation on the document.
+abbrev pub IsOperationFault : RunFault → Type 0
+IsOperationFault e = ComesAfterInput e × (e ≢ InputNotJson) × (e ≢ Write)
+
 -- `IsPastInput r`: the result `r` of a stage or of the run is no error, or one that comes after the input.
 abbrev pub IsPastInput : {T : Type 0} → Result T RunFault → Type 0
 IsPastInput (Ok v) = ⊤
@@ -256,6 +260,20 @@ Outcome (assigning ts v) bytes r = OnDocument bytes r (λ d. AssignsAt d ts v r)
 Outcome (deleting ts) bytes r = OnDocument bytes r (λ d. DeletesAt d ts r)
 Outcome (splitting ts n) bytes r = SplitsInTwo ts n r
 Outcome (patching os) bytes r = OnDocument bytes r (λ d. PatchesBy d os r)
+
+-- `IsLeft request bytes d`: after the request on an input of these bytes the document is `d`. After `resolving` that is
+-- the document of the input, and after the others the one whose line they write.
+abbrev pub IsLeft : Request → List ℕ → Data → Type 0
+IsLeft (resolving ts) bytes d = json_of bytes ≡ Some d
+IsLeft (listing ts) bytes d = ⊥
+IsLeft (assigning ts v) bytes d = Outcome (assigning ts v) bytes (Ok d)
+IsLeft (deleting ts) bytes d = Outcome (deleting ts) bytes (Ok d)
+IsLeft (splitting ts n) bytes d = ⊥
+IsLeft (patching os) bytes d = Outcome (patching os) bytes (Ok d)
+
+-- `IsKept request bytes kept`: `kept` has the document after the request on an input of these bytes.
+abbrev pub IsKept : Request → List ℕ → Option Data → Type 0
+IsKept request bytes kept = (d : Data) × (kept ≡ Some d) × IsLeft request bytes d
 
 -- `IsRequestFault request known e`: the request fails with `e`, because of the input, the operation, an allocation
 -- or, if it needs the input, a read.

@@ -1,5 +1,5 @@
 //! One run of the program.
-ghost use Rattle.std.specs.Prelude.{◌≡◌, ◌≢◌, ◌⊎◌, ◌∷◌, [], Result, map, Some, Ok, Err, OnOk, IfOk, IfErr, IsErrOf, string_bytes};
+ghost use Rattle.std.specs.Prelude.{◌≡◌, ◌≢◌, ◌⊎◌, ◌∷◌, [], Result, map, option_map, Some, Ok, Err, OnOk, IfOk, IfErr, IsErrOf, string_bytes};
 ghost use Rattle.std.specs.Io.KnownBytes.{Appends, IsAtEnd};
 ghost use Rattle.serde_json.specs.Data.{string};
 ghost use Rattle.serde_json.specs.View.{view};
@@ -7,13 +7,14 @@ ghost use Rattle.jsonptr.specs.Text.{text};
 ghost use Rattle.jsonptr.specs.Index.{Reads};
 ghost use Rattle.jsonptr.specs.Types.Index.TheVariants.{Num};
 ghost use Rattle.jsonptr.specs.Pointer.{tokens};
-ghost use Rattle.jsonptr_command.specs.JsonText.{IsJsonLine};
+ghost use Rattle.jsonptr_command.specs.JsonText.{json_of, IsJsonLine};
 ghost use Rattle.jsonptr_command.specs.Streams.{AppendsFront, ForBytes};
 ghost use Rattle.jsonptr_command.specs.declared.fault.RunFault.{RunFault};
-ghost use Rattle.jsonptr_command.specs.Private.{request_of, task_of, Does, IsFaultOf, IsLineOf, RefusesCommand, RefusesPosition};
+ghost use Rattle.jsonptr_command.specs.Private.{request_of, task_of, Does, IsFaultOf, IsLineOf, IsLeftBy, RefusesCommand, RefusesPosition};
 ghost use Rattle.jsonptr_command.specs.Operations.{meant};
-ghost use Rattle.jsonptr_command.specs.Run.{AskFor, Asks, AssignsAt, DeletesAt, ForLine, Outcome, IsPastInput, IsRefusedSo, IsRequestFault, IsWordsMemory, NeedInput, NeedNoInput, NeedsInput, PatchesBy, Resolves, SplitsInTwo, texts_value};
+ghost use Rattle.jsonptr_command.specs.Run.{AskFor, Asks, AssignsAt, DeletesAt, ForLine, ForRequest, IsKept, IsOperationFault, Outcome, IsPastInput, IsRefusedSo, IsRequestFault, IsWordsMemory, NeedInput, NeedNoInput, NeedsInput, PatchesBy, Resolves, SplitsInTwo, texts_value};
 
+use crate::depth::nests_too_deep;
 use crate::fault::RunFault;
 use crate::json_text::{json_line, read_json_input, read_value};
 use crate::operations::read_operations;
@@ -67,6 +68,10 @@ pub enum Task<'w> {
 /// the input's JSON, of the operation or of a write. Nothing is written before the whole line is
 /// known.
 ///
+/// At the end the document is dropped, so that a process can run the program many times. That takes
+/// time, and it recurses as deep as the document nests. [`run_program_keeping`] hands the document
+/// to its caller instead.
+///
 /// # Errors
 ///
 /// The error of the first stage that fails; [`RunFault::Memory`] at any stage if an allocation
@@ -90,8 +95,53 @@ pub fn run_program<R: Read, W: Write>(
         → IsPastInput result
         → IsAtEnd (R.remaining input.new) }
 {
+    let mut document = None;
+    run_program_keeping(alloc, words, input, output, &mut document)
+}
+
+/// Runs the program as [`run_program`] does, and leaves the document in `document`.
+///
+/// After `Ok` of a command that needs the input, `document` has the document after the command;
+/// `resolve` leaves the one that it read. After an error of the operation, `document` has the
+/// document of the input. A command that needs no input leaves `document` unchanged. The document
+/// that another one replaces is dropped.
+///
+/// A program that ends anyway can forget the document: dropping a document of some megabytes takes
+/// about as long as parsing it, and the system frees its memory at once.
+///
+/// # Errors
+///
+/// Those of [`run_program`].
+pub fn run_program_keeping<R: Read, W: Write>(
+    alloc: Global,
+    words: &[String],
+    input: &mut R,
+    output: &mut W,
+    document: &mut Option<Value>,
+) -> Result<(), RunFault>
+    ensures done { OnOk result (ForLine (map string_bytes words.now) (R.remaining input.old)
+        (Appends (W.contents output.old) (W.contents output.new))) }
+    ensures refused { IfErr result
+        (IsRefusedSo (map string_bytes words.now) (R.remaining input.old)) }
+    ensures front { IsErrOf result RunFault.Write
+        → ForLine (map string_bytes words.now) (R.remaining input.old)
+        (AppendsFront (W.contents output.old) (W.contents output.new)) }
+    ensures unwritten { IfErr result (λ e. e ≢ RunFault.Write → output.new ≡ output.old) }
+    ensures unread { NeedNoInput (map string_bytes words.now) → input.new ≡ input.old }
+    ensures at_end { NeedInput (map string_bytes words.now)
+        → IsPastInput result
+        → IsAtEnd (R.remaining input.new) }
+    ensures kept { NeedInput (map string_bytes words.now)
+        → OnOk result (ForRequest (map string_bytes words.now)
+        (λ request. ForBytes (R.remaining input.old)
+        (λ bytes. IsKept request bytes (option_map view document.new)))) }
+    ensures restored { IfErr result (λ e. IsOperationFault e → ForBytes (R.remaining input.old)
+        (λ bytes. option_map view document.new ≡ json_of bytes)) }
+    ensures untouched { NeedNoInput (map string_bytes words.now)
+        → document.new ≡ document.old }
+{
     let request = read_request(alloc, words)?;
-    let line = answer(alloc, request, input)?;
+    let line = answer(alloc, request, input, document)?;
     write_line(output, line.as_bytes())?;
     Ok(())
 }
@@ -181,8 +231,14 @@ fn read_position(word: &str) -> Result<usize, RunFault>
     }
 }
 
-/// Returns the line for a request. Reads the input only if the request needs it.
-fn answer<R: Read>(alloc: Global, request: Request<'_>, input: &mut R) -> Result<String, RunFault>
+/// Returns the line for a request. Reads the input only if the request needs it, and leaves its
+/// document in `document`.
+fn answer<R: Read>(
+    alloc: Global,
+    request: Request<'_>,
+    input: &mut R,
+    document: &mut Option<Value>,
+) -> Result<String, RunFault>
     ensures ok { IfOk result (λ line. ForBytes (R.remaining input.old)
         (λ bytes. IsLineOf (Outcome (request_of request.entry) bytes) (string_bytes line))) }
     ensures err { IfErr result
@@ -191,33 +247,58 @@ fn answer<R: Read>(alloc: Global, request: Request<'_>, input: &mut R) -> Result
     ensures at_end { NeedsInput (request_of request.entry)
         → IsPastInput result
         → IsAtEnd (R.remaining input.new) }
+    ensures kept { NeedsInput (request_of request.entry)
+        → OnOk result (ForBytes (R.remaining input.old)
+        (λ bytes. IsKept (request_of request.entry) bytes (option_map view document.new))) }
+    ensures restored { NeedsInput (request_of request.entry)
+        → IfErr result (λ e. IsOperationFault e → ForBytes (R.remaining input.old)
+        (λ bytes. option_map view document.new ≡ json_of bytes)) }
+    ensures untouched { (NeedsInput (request_of request.entry) → ⊥)
+        → document.new ≡ document.old }
 {
     match request {
         Request::Tokens(pointer) => Ok(tokens_line(alloc, pointer)?),
         Request::Split(pointer, position) => split_line(alloc, pointer, position),
-        Request::Document(task) => document_line(alloc, task, input),
+        Request::Document(task) => document_line(alloc, task, input, document),
     }
 }
 
-/// Reads the input, and returns the line for a task on it.
-fn document_line<R: Read>(alloc: Global, task: Task<'_>, input: &mut R) -> Result<String, RunFault>
+/// Reads the input, and returns the line for a task on it. Leaves the document in `document`.
+fn document_line<R: Read>(
+    alloc: Global,
+    task: Task<'_>,
+    input: &mut R,
+    document: &mut Option<Value>,
+) -> Result<String, RunFault>
     ensures ok { IfOk result (λ line. ForBytes (R.remaining input.old)
         (λ bytes. IsLineOf (Outcome (task_of task.entry) bytes) (string_bytes line))) }
     ensures err { IfErr result (IsRequestFault (task_of task.entry) (R.remaining input.old)) }
     ensures at_end { IsPastInput result → IsAtEnd (R.remaining input.new) }
+    ensures kept { OnOk result (ForBytes (R.remaining input.old)
+        (λ bytes. IsKept (task_of task.entry) bytes (option_map view document.new))) }
+    ensures restored { IfErr result (λ e. IsOperationFault e → ForBytes (R.remaining input.old)
+        (λ bytes. option_map view document.new ≡ json_of bytes)) }
 {
-    let document = read_json_input(alloc, input)?;
-    task_line(alloc, document, task)
+    if nests_too_deep(&task) {
+        return Err(RunFault::Memory(AllocError));
+    }
+    let mut value = read_json_input(alloc, input)?;
+    let line = task_line(alloc, &mut value, task);
+    *document = Some(value);
+    line
 }
 
-/// Returns the line for a task on the document.
-fn task_line(alloc: Global, document: Value, task: Task<'_>) -> Result<String, RunFault>
+/// Returns the line for a task on the document, and leaves the document as the task makes it.
+fn task_line(alloc: Global, document: &mut Value, task: Task<'_>) -> Result<String, RunFault>
     ensures ok { IfOk result
-        (λ line. IsLineOf (Does task.entry (view document)) (string_bytes line)) }
-    ensures err { IfErr result (IsFaultOf (Does task.entry (view document))) }
+        (λ line. IsLineOf (Does task.entry (view document.old)) (string_bytes line)) }
+    ensures err { IfErr result (IsFaultOf (Does task.entry (view document.old))) }
+    ensures left { OnOk result (IsLeftBy task.entry (view document.old) (view document.new)) }
+    ensures restored { IfErr result
+        (λ e. IsOperationFault e → view document.new ≡ view document.old) }
 {
     match task {
-        Task::Resolve(pointer) => line_in(alloc, &document, pointer),
+        Task::Resolve(pointer) => line_in(alloc, document, pointer),
         Task::Assign(pointer, value) => line_with(alloc, document, pointer, value),
         Task::Delete(pointer) => line_without(alloc, document, pointer),
         Task::Patch(patch) => line_after(alloc, document, patch),
@@ -234,48 +315,64 @@ fn line_in(alloc: Global, document: &Value, pointer: Pointer<'_>) -> Result<Stri
     Ok(json_line(alloc, value)?)
 }
 
-/// Returns the line of the document after the assignment of `value`.
+/// Assigns `value` in the document, and returns the line of the document.
 fn line_with(
     alloc: Global,
-    mut document: Value,
+    document: &mut Value,
     pointer: Pointer<'_>,
     value: Value,
 ) -> Result<String, RunFault>
     ensures ok { IfOk result (λ line.
-        IsLineOf (AssignsAt (view document) (tokens pointer.entry) (view value))
+        IsLineOf (AssignsAt (view document.old) (tokens pointer.entry) (view value))
         (string_bytes line)) }
     ensures err { IfErr result
-        (IsFaultOf (AssignsAt (view document) (tokens pointer.entry) (view value))) }
+        (IsFaultOf (AssignsAt (view document.old) (tokens pointer.entry) (view value))) }
+    ensures left { OnOk result
+        (AssignsAt (view document.old) (tokens pointer.entry) (view value) (Ok (view document.new))) }
+    ensures restored { IfErr result
+        (λ e. IsOperationFault e → view document.new ≡ view document.old) }
 {
-    pointer.assign(alloc, &mut document, value)?;
-    Ok(json_line(alloc, &document)?)
+    pointer.assign(alloc, document, value)?;
+    Ok(json_line(alloc, document)?)
 }
 
-/// Returns the line of the document after the deletion.
+/// Deletes a value of the document, and returns the line of the document.
 fn line_without(
     alloc: Global,
-    mut document: Value,
+    document: &mut Value,
     pointer: Pointer<'_>,
 ) -> Result<String, RunFault>
     ensures ok { IfOk result (λ line.
-        IsLineOf (DeletesAt (view document) (tokens pointer.entry)) (string_bytes line)) }
-    ensures err { IfErr result (IsFaultOf (DeletesAt (view document) (tokens pointer.entry))) }
+        IsLineOf (DeletesAt (view document.old) (tokens pointer.entry)) (string_bytes line)) }
+    ensures err { IfErr result (IsFaultOf (DeletesAt (view document.old) (tokens pointer.entry))) }
+    ensures left { OnOk result
+        (DeletesAt (view document.old) (tokens pointer.entry) (Ok (view document.new))) }
+    ensures restored { IfErr result
+        (λ e. IsOperationFault e → view document.new ≡ view document.old) }
 {
-    if pointer.delete(alloc, &mut document)?.is_none() {
+    if pointer.delete(alloc, document)?.is_none() {
         return Err(RunFault::NotThere);
     }
-    Ok(json_line(alloc, &document)?)
+    Ok(json_line(alloc, document)?)
 }
 
-/// Returns the line of the document after the patch.
-fn line_after(alloc: Global, mut document: Value, patch: Vec<Operation>) -> Result<String, RunFault>
+/// Applies the patch to the document, and returns the line of the document.
+fn line_after(
+    alloc: Global,
+    document: &mut Value,
+    patch: Vec<Operation>,
+) -> Result<String, RunFault>
     ensures ok { IfOk result (λ line.
-        IsLineOf (PatchesBy (view document) (map meant patch.items)) (string_bytes line)) }
+        IsLineOf (PatchesBy (view document.old) (map meant patch.items)) (string_bytes line)) }
     ensures err { IfErr result
-        (IsFaultOf (PatchesBy (view document) (map meant patch.items))) }
+        (IsFaultOf (PatchesBy (view document.old) (map meant patch.items))) }
+    ensures left { OnOk result
+        (PatchesBy (view document.old) (map meant patch.items) (Ok (view document.new))) }
+    ensures restored { IfErr result
+        (λ e. IsOperationFault e → view document.new ≡ view document.old) }
 {
-    apply(alloc, &mut document, patch)?;
-    Ok(json_line(alloc, &document)?)
+    apply(alloc, document, patch)?;
+    Ok(json_line(alloc, document)?)
 }
 
 /// Returns the line of the two parts of the pointer's text, as a JSON array. The first part has
