@@ -5,7 +5,7 @@ import sys
 import tempfile
 
 TOP = os.path.dirname(os.path.dirname(os.path.abspath(__file__)))
-EXTRAS = ["tabled", "session", "patch"]
+EXTRAS = ["tabled", "session", "patch", "in_text"]
 
 
 def vendor(*arguments, status=0):

@@ -1,0 +1,4 @@
+pub mod ChildLemmas
+pub mod ErrorLemmas
+pub mod SearchLemmas
+pub mod SelectorLemmas

@@ -1,0 +1,3 @@
+pub mod InText
+pub mod PrivateSelectors
+pub mod Selecting

@@ -1,0 +1,36 @@
+//! Resolves a JSON Pointer ([RFC 6901](https://www.rfc-editor.org/rfc/rfc6901)) in the text of a
+//! JSON document, without reading the document into a `Value`.
+//!
+//! ```rust
+//! let text = r#"{"name": "Ada", "sizes": [3, 5]}"#;
+//! let size = resolve_in_text(alloc, text, Pointer::parse("/sizes/1")?)?;
+//! assert_eq!(rt; size.as_u64(), Some(5));
+//! let third = Pointer::parse("/sizes/2")?;
+//! assert_eq!(rt; exists_in_text(alloc, text, third)?, false);
+//! ```
+//!
+//! The result is the one of `Value::from_str` and then [`Pointer::resolve`](jsonptr::Pointer):
+//!
+//! - the same value: of a repeated key the last member counts;
+//! - the same [`resolve::Error`](jsonptr::resolve::Error), with its position, offset and cause;
+//! - the same texts are not JSON: those that nest deeper than 127, that contain a number out of
+//!   range or a lone surrogate, or that go on after the value.
+//!
+//! A text that is not JSON is reported as that, even if the damage is after the value.
+//!
+//! # Cost
+//!
+//! One pass over the text. Memory for the text's strings, unescaped, and for the value that is
+//! found. The stack is in proportion to the depth that is read, at most 127.
+//!
+//! In the examples `rt` is the runtime that `main` and each test receive, and `alloc` is
+//! `rt.alloc()`, the allocator.
+#![tactic(auto)]
+
+mod child;
+mod error_at;
+pub mod laws;
+mod resolve;
+mod selectors;
+
+pub use resolve::{InTextError, exists_in_text, resolve_in_text};

@@ -1,0 +1,116 @@
+//! Resolving a pointer in a text.
+ghost use Rattle.std.specs.Prelude.{◌≡◌, IfOk, IfErr};
+ghost use Rattle.std.specs.Bool.{MatchBool};
+ghost use Rattle.serde_json.specs.Data.{Data};
+ghost use Rattle.serde_json.specs.View.{view};
+ghost use Rattle.jsonptr.specs.Pointer.{tokens};
+ghost use Rattle.jsonptr.specs.declared.resolve.Error.{Error};
+ghost use Rattle.jsonptr_in_text.specs.InText.{FindsInText, RefusesInText, IsInTextError, IsReadError};
+ghost use Rattle.jsonptr_in_text.specs.declared.resolve.InTextError.TheVariants.{Memory};
+
+use crate::child::{error_above_child, selectors_with_child};
+use crate::error_at::error_at;
+use crate::selectors::selectors_of;
+use jsonptr::{Pointer, resolve};
+use jsonptr_skim::find::find_in_text;
+use jsonptr_skim::outcome::{Outcome, ReadError};
+use serde_json::Value;
+use std::alloc::{AllocError, Global};
+
+/// Why a pointer was not resolved in a text.
+#[derive(Debug, Drop)]
+pub enum InTextError {
+    /// `serde_json` does not read the text.
+    NotJson,
+    /// The text is a document in which the pointer does not resolve to a value.
+    Resolve(resolve::Error),
+    /// An allocation failed.
+    Memory(AllocError),
+}
+
+impl From<AllocError> for InTextError {
+    ghost from_gives = { λ error fault. fault ≡ Memory error };
+
+    fn from(error: AllocError) -> InTextError {
+        InTextError::Memory(error)
+    }
+}
+
+/// Returns the value that the pointer resolves to in the document that the text contains.
+///
+/// The result is that of `Value::from_str` and then [`Pointer::resolve`], in one pass over the
+/// text. Allocates for the pointer's tokens, for the text's strings, unescaped, and for the value.
+///
+/// # Errors
+///
+/// - [`InTextError::NotJson`] if `serde_json` does not read the text.
+/// - [`InTextError::Resolve`] if the pointer does not resolve to a value.
+/// - [`InTextError::Memory`] if an allocation fails.
+///
+/// # Examples
+///
+/// ```rust
+/// let text = r#"{"sizes": [3, 5]}"#;
+/// let size = resolve_in_text(alloc, text, Pointer::parse("/sizes/1")?)?;
+/// assert_eq!(rt; size.as_u64(), Some(5));
+/// let Err(InTextError::Resolve(error)) =
+///     resolve_in_text(alloc, text, Pointer::parse("/sizes/2")?)
+/// else {
+///     return Err("an error".into());
+/// };
+/// assert_eq!(rt; (error.position(), error.offset()), (1, 6));
+/// ```
+pub fn resolve_in_text(
+    alloc: Global,
+    text: &str,
+    pointer: Pointer<'_>,
+) -> Result<Value, InTextError>
+    ensures found { IfOk result (λ v. FindsInText text.now (tokens pointer.entry) (view v)) }
+    ensures refused { IfErr result (IsInTextError text.now (tokens pointer.entry)) }
+{
+    let selectors = selectors_of(alloc, pointer)?;
+    match find_in_text(alloc, text, &selectors) {
+        Ok(Outcome::Found(value)) => Ok(value),
+        Ok(Outcome::Stopped { left, kind }) => {
+            let error = error_at(pointer, left, kind);
+            Err(InTextError::Resolve(error))
+        }
+        Err(ReadError::NotJson) => Err(InTextError::NotJson),
+        Err(ReadError::Memory) => Err(InTextError::Memory(AllocError)),
+    }
+}
+
+/// Returns whether the pointer resolves to a value in the document that the text contains.
+///
+/// Costs as much as [`resolve_in_text`], and does not allocate for the value. It searches for a child
+/// of the value, with an empty key, and allocates for that child if there is one.
+///
+/// # Errors
+///
+/// - [`InTextError::NotJson`] if `serde_json` does not read the text.
+/// - [`InTextError::Memory`] if an allocation fails.
+///
+/// # Examples
+///
+/// ```rust
+/// let text = r#"{"sizes": [3, 5]}"#;
+/// assert_eq!(rt; exists_in_text(alloc, text, Pointer::parse("/sizes/1")?)?, true);
+/// assert_eq!(rt; exists_in_text(alloc, text, Pointer::parse("/sizes/2")?)?, false);
+/// ```
+pub fn exists_in_text(alloc: Global, text: &str, pointer: Pointer<'_>) -> Result<bool, InTextError>
+    ensures exists { IfOk result (λ found. MatchBool found
+        ((d : Data) × FindsInText text.now (tokens pointer.entry) d)
+        ((e : Error) × RefusesInText text.now (tokens pointer.entry) e)) }
+    ensures refused { IfErr result (IsReadError text.now) }
+{
+    let selectors = selectors_with_child(alloc, pointer)?;
+    match find_in_text(alloc, text, &selectors) {
+        Ok(Outcome::Found(_value)) => Ok(true),
+        Ok(Outcome::Stopped { left, kind }) => match error_above_child(pointer, left, kind) {
+            None => Ok(true),
+            Some(_error) => Ok(false),
+        },
+        Err(ReadError::NotJson) => Err(InTextError::NotJson),
+        Err(ReadError::Memory) => Err(InTextError::Memory(AllocError)),
+    }
+}

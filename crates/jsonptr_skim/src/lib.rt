@@ -1,0 +1,12 @@
+//! Finds one value in JSON text in a single pass, without reading the rest into a tree.
+//!
+//! This crate knows no JSON Pointers: a search follows [`Selector`](selector::Selector)s.
+//! `jsonptr_in_text` resolves pointers with it.
+#![tactic(auto)]
+
+pub mod find;
+pub mod outcome;
+mod read;
+mod scalar;
+pub mod selector;
+mod skip;

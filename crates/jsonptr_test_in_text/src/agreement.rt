@@ -1,0 +1,222 @@
+//! The same results as `Value::from_str` and then `Pointer::resolve`.
+use jsonptr::{Fault, Pointer};
+use jsonptr_in_text::{InTextError, exists_in_text, resolve_in_text};
+use serde_json::Value;
+use std::alloc::Global;
+use std::test::Fail;
+
+/// What each call says of a text and a pointer: a printed value, a printed error, or "not JSON".
+fn said_by_resolve_in_text(
+    alloc: Global,
+    text: &str,
+    pointer: Pointer<'_>,
+) -> Result<String, Fail> {
+    match resolve_in_text(alloc, text, pointer) {
+        Ok(value) => Ok(value.to_string(alloc)?),
+        Err(InTextError::NotJson) => Ok(format!(in alloc; "not JSON")?),
+        Err(InTextError::Resolve(error)) => Ok(format!(in alloc; "{error:?}")?),
+        Err(InTextError::Memory(error)) => Err(Fail::from(error)),
+    }
+}
+
+/// The same by reading the document.
+fn said_by_resolve(alloc: Global, text: &str, pointer: Pointer<'_>) -> Result<String, Fail> {
+    let Ok(document) = Value::from_str(alloc, text) else {
+        return Ok(format!(in alloc; "not JSON")?);
+    };
+    match pointer.resolve(alloc, &document) {
+        Ok(value) => Ok(value.to_string(alloc)?),
+        Err(Fault::Refused(error)) => Ok(format!(in alloc; "{error:?}")?),
+        Err(Fault::Memory(error)) => Err(Fail::from(error)),
+    }
+}
+
+/// Whether `exists_in_text` fits: an error, or whether there is a value.
+fn exists_as(alloc: Global, text: &str, pointer: Pointer<'_>) -> Result<bool, Fail> {
+    Ok(match exists_in_text(alloc, text, pointer) {
+        Ok(found) => found == resolve_in_text(alloc, text, pointer).is_ok(),
+        Err(_) => matches!(
+            resolve_in_text(alloc, text, pointer),
+            Err(InTextError::NotJson)
+        ),
+    })
+}
+
+/// Checks one text and one pointer against the expected text, in all three ways.
+fn is_said(alloc: Global, text: &str, pointer: &str, want: &str) -> Result<bool, Fail> {
+    let pointer = Pointer::parse(pointer)?;
+    let found = said_by_resolve_in_text(alloc, text, pointer)?;
+    let read = said_by_resolve(alloc, text, pointer)?;
+    Ok(found.as_str() == want && read.as_str() == want && exists_as(alloc, text, pointer)?)
+}
+
+/// A text of arrays that nest this deep around a value.
+fn nested(alloc: Global, depth: usize, inner: &str) -> Result<String, Fail> {
+    let mut text = String::new(alloc);
+    for _ in 0..depth {
+        text.push_str("[")?;
+    }
+    text.push_str(inner)?;
+    for _ in 0..depth {
+        text.push_str("]")?;
+    }
+    Ok(text)
+}
+
+#[test]
+fn the_document_of_rfc_6901(rt: HostRuntime) -> Result<(), Fail> {
+    let text =
+        r#"{"foo":["bar","baz"],"":0,"a/b":1,"c%d":2,"e^f":3,"g|h":4,"i\\j":5,"k\"l":6," ":7,"m~n":8}"#;
+    for (pointer, want) in [
+        ("/foo", r#"["bar","baz"]"#),
+        ("/foo/0", r#""bar""#),
+        ("/", "0"),
+        ("/a~1b", "1"),
+        ("/c%d", "2"),
+        ("/e^f", "3"),
+        ("/g|h", "4"),
+        ("/i\\j", "5"),
+        ("/k\"l", "6"),
+        ("/ ", "7"),
+        ("/m~0n", "8"),
+    ] {
+        assert!(rt; is_said(rt.alloc(), text, pointer, want)?, "at {pointer}");
+    }
+    Ok(())
+}
+
+#[test]
+fn the_last_of_a_repeated_key_counts(rt: HostRuntime) -> Result<(), Fail> {
+    for (text, pointer, want) in [
+        (r#"{"a":1,"a":2}"#, "/a", "2"),
+        (r#"{"a":{"b":1},"a":{"c":2}}"#, "/a/c", "2"),
+        (r#"{"a":{"b":1},"\u0061":{"b":3}}"#, "/a/b", "3"),
+        (
+            r#"{"a":{"b":1},"a":{"c":2}}"#,
+            "/a/b",
+            "NotFound { position: 1, offset: 2 }",
+        ),
+        (
+            r#"{"a":{"b":1},"a":4}"#,
+            "/a/b",
+            "Unreachable { position: 1, offset: 2 }",
+        ),
+    ] {
+        assert!(rt;
+            is_said(rt.alloc(), text, pointer, want)?,
+            "{text} at {pointer}"
+        );
+    }
+    Ok(())
+}
+
+#[test]
+fn texts_nest_at_most_127_deep(rt: HostRuntime) -> Result<(), Fail> {
+    let alloc = rt.alloc();
+    for (depth, is_json) in [(126, true), (127, true), (128, false)] {
+        let text = nested(alloc, depth, "7")?;
+        let pointer = format!(in alloc; "{}", "/0".repeat(alloc, depth)?.as_str())?;
+        let want = if is_json { "7" } else { "not JSON" };
+        assert!(rt;
+            is_said(alloc, text.as_str(), pointer.as_str(), want)?,
+            "depth {depth}"
+        );
+        let beside = format!(in alloc;
+            "{{\"a\":{},\"b\":1}}",
+            nested(alloc, depth - 1, "")?.as_str()
+        )?;
+        let want = if is_json { "1" } else { "not JSON" };
+        assert!(rt;
+            is_said(alloc, beside.as_str(), "/b", want)?,
+            "beside, depth {depth}"
+        );
+    }
+    Ok(())
+}
+
+#[test]
+fn numbers_are_in_range_everywhere(rt: HostRuntime) -> Result<(), Fail> {
+    for (number, is_json) in [
+        ("0", true),
+        ("-0", true),
+        ("18446744073709551615", true),
+        ("18446744073709551616", true),
+        ("-9223372036854775808", true),
+        ("-9223372036854775809", true),
+        ("1.7976931348623157e308", true),
+        ("1e309", false),
+        ("-1e309", false),
+        ("1e-400", true),
+        ("01", false),
+        ("1.", false),
+        ("+1", false),
+    ] {
+        let alloc = rt.alloc();
+        for (before, after) in [
+            ("[", ",{\"a\":2}]"),
+            ("[3,{\"a\":2},", "]"),
+            ("[4,{\"a\":2,\"b\":", "}]"),
+        ] {
+            let text = format!(in alloc; "{before}{number}{after}")?;
+            let want = if is_json { "2" } else { "not JSON" };
+            assert!(rt; is_said(alloc, text.as_str(), "/1/a", want)?, "{text}");
+        }
+        let text = format!(in alloc; "[{number}]")?;
+        let want = said_by_resolve(alloc, text.as_str(), Pointer::parse("/0")?)?;
+        assert!(rt;
+            is_said(alloc, text.as_str(), "/0", want.as_str())?,
+            "{text}"
+        );
+    }
+    Ok(())
+}
+
+#[test]
+fn strings_are_unescaped(rt: HostRuntime) -> Result<(), Fail> {
+    for (text, pointer, want) in [
+        (r#"{"\u00e9\n":"\ud83d\ude00"}"#, "/é\n", "\"😀\""),
+        (r#"{"a":1,"b":"\ud83d"}"#, "/a", "not JSON"),
+        (r#"{"\udc00":1,"a":2}"#, "/a", "not JSON"),
+        (r#"["\ud83d"]"#, "/0", "not JSON"),
+        (r#"["\x"]"#, "", "not JSON"),
+    ] {
+        assert!(rt;
+            is_said(rt.alloc(), text, pointer, want)?,
+            "{text} at {pointer}"
+        );
+    }
+    Ok(())
+}
+
+#[test]
+fn damage_is_found_before_and_after_the_value(rt: HostRuntime) -> Result<(), Fail> {
+    for text in [
+        "",
+        " ",
+        "{",
+        r#"{"a":1"#,
+        r#"{"a":1,}"#,
+        r#"{"a":1]"#,
+        r#"{"a":1}}"#,
+        r#"{"a":1} 2"#,
+        r#"{"a" 1}"#,
+        r#"{"a":1 "b":2}"#,
+        r#"{"b":tru,"a":1}"#,
+        r#"{"a":1,"b":[1,]}"#,
+        r#"{"a":1,"b":[}"#,
+        r#"{"a":1,"b":{"c"}}"#,
+        r#"{"a":1,2:3}"#,
+        r#"{"a":[1,2,"b":3}"#,
+    ] {
+        assert!(rt; is_said(rt.alloc(), text, "/a", "not JSON")?, "{text}");
+        assert!(rt;
+            is_said(rt.alloc(), text, "", "not JSON")?,
+            "the root of {text}"
+        );
+        assert!(rt;
+            is_said(rt.alloc(), text, "/z/y", "not JSON")?,
+            "nothing in {text}"
+        );
+    }
+    Ok(())
+}
