@@ -904,6 +904,50 @@ def refused():
         yield patched(document, ("test", path, value), answer=failed(0, "test failed"))
 
 
+def journaled():
+    """Patches that change a document in several ways, whole and with an error after each operation."""
+    small = '{"a/b":[1,2,3],"~":{"x":1,"y":2}}'
+    changes = [
+        ("add", "/a~1b/1", "9"), ("replace", "/a~1b/0", '["old"]'), ("remove", "/a~1b/3"), ("move", "/~0/x", "/~0/z"),
+        ("copy", "/a~1b", "/~0/x"), ("remove", "/~0/y"), ("add", "/~0/z", '{"n":0}'), ("move", "/a~1b/0", "/a~1b/-"),
+        ("move", "/~0/z", "/a~1b/1"), ("replace", "/~0/x/0/0", '"new"'),
+    ]
+    changed = '{"a/b":[9,{"n":0},2,["old"]],"~":{"x":[["new"],9,2]}}'
+    below, parent = nested(12, '{"k":[0,1],"m":{"n":null,"o":true}}'), "/a" * 12
+    deep = [
+        ("add", f"{parent}/k/-", "2"), ("remove", f"{parent}/m/n"), ("remove", f"{parent}/m/o"),
+        ("move", f"{parent}/k/0", f"{parent}/m/p"), ("copy", f"{parent}/m", f"{parent}/k/0"),
+        ("replace", f"{parent}/k/1", "[]"), ("move", f"{parent}/k", f"{parent}/m/p"),
+    ]
+    deeper = nested(12, '{"m":{"p":[{"p":0},[],2]}}')
+    root = [("replace", "", "[1]"), ("add", "/0", "0"), ("remove", ""), ("add", "", "{}"), ("move", "", "")]
+    numbers = list(range(1100))
+    within_array = [("move", "/0", "/1099"), ("remove", "/500"), ("add", "/1", "-1"), ("move", "/1099", "/0")]
+    moved = [0, 1, -1, *numbers[2:501], *numbers[502:]]
+    keys = [f"k{number:04}" for number in numbers]
+    object_before = ",".join(f'"{key}":0' for key in keys)
+    within_object = [
+        ("remove", "/k0000"), ("remove", "/k0500"), ("remove", "/k1099"), ("move", "/k0001", "/k0500"),
+        ("replace", "/k0002", "[1]"), ("remove", "/k0500"),
+    ]
+    left = [key for key in keys if key not in ("k0000", "k0001", "k0500", "k1099")]
+    object_after = ",".join(f'"{key}":{"[1]" if key == "k0002" else 0}' for key in left)
+    for document, operations, after in [
+        (small, changes, changed), (below, deep, deeper), ("[[2]]", root, "{}"),
+        (array_of(numbers), within_array, array_of(moved)),
+        (f"{{{object_before}}}", within_object, f"{{{object_after}}}"),
+    ]:
+        yield patched(document, *operations, after=after)
+        for count in range(1, len(operations) + 1):
+            cause = failed(count, "a float cannot be tested")
+            yield patched(document, *operations[:count], ("test", "", "0.5"), answer=cause)
+
+
+def array_of(numbers):
+    """The JSON text of an array of numbers."""
+    return f"[{','.join(map(str, numbers))}]"
+
+
 def session(kind, document, pointer, steps, after):
     """A session on a plain and on a tabled pointer: its calls with their replies, and the state after them."""
     calls, replies = zip(*steps)
@@ -1370,7 +1414,7 @@ def values_of_errors():
 
 TABLES = [
     texts, pointers_of_texts, cut, indices, tokens, numbers, measures, pairs, ranges, copies, edits, owned,
-    found, assigned, in_tables, labelled, undos, undos_told, patches, applied, refused,
+    found, assigned, in_tables, labelled, undos, undos_told, patches, applied, refused, journaled,
     sessions, single_calls, refused_calls, reports, bounds, shown,
     large_documents, large_undos_and_patches, few_requests, values_of_errors,
 ]

@@ -35,8 +35,8 @@ def run(lines, shim, fail):
 
 
 def greatest_for(case):
-    """Returns the size in bytes that a request of a case may have: in proportion to its texts."""
-    return 2048 + 20 * sum(len(text.encode()) for text in (*case.lines, case.answer, case.after))
+    """Returns the size in bytes that a request of a case may have: in proportion to its lines and its texts."""
+    return 2048 + 160 * len(case.lines) + 20 * sum(len(text.encode()) for text in (*case.lines, case.answer, case.after))
 
 
 def described(result):

@@ -7,6 +7,7 @@
 #![tactic(auto)]
 
 mod changes;
+mod patches;
 mod stopwatch;
 mod works;
 
@@ -64,6 +65,9 @@ fn words_of(alloc: Global, line: &str) -> Result<Vec<&str>, AllocError> {
 fn least_of(stopwatch: &Stopwatch<'_>, case: &[&str]) -> io::Result<Option<u64>> {
     match works::least_of(stopwatch, case)? {
         Some(least) => Ok(Some(least)),
-        None => changes::least_of(stopwatch, case),
+        None => match patches::least_of(stopwatch, case)? {
+            Some(least) => Ok(Some(least)),
+            None => changes::least_of(stopwatch, case),
+        },
     }
 }
