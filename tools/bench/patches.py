@@ -1,12 +1,18 @@
 #!/usr/bin/env python3
 """Times patches beside the same changes by one call each, in one run, and prints a table in Markdown.
 
-    tools/bench/patches.py [--rounds N] OURS
+    tools/bench/patches.py [--rounds N] OURS [PROGRAM]
 
 OURS is the built program of crates/jsonptr_tool_bench. The result of a case is its minimum over all rounds, for one
-operation.
+operation. With PROGRAM, that of crates/jsonptr_run, it also prints the time and the peak memory of a patch of three
+operations and of a deletion on a document of 10 MB.
 """
 import argparse
+import json
+import os
+import subprocess
+import tempfile
+import time
 
 from speed import least_of, shown, times_of
 
@@ -34,10 +40,35 @@ def lines_of():
             yield "\t".join([f"{title}, {maker}", "patch", maker, *map(str, words)])
 
 
+def seconds_and_memory(command, path):
+    """Returns the seconds and the peak memory in MiB of a run on a file."""
+    with open(path, "rb") as given:
+        start = time.perf_counter()
+        run = subprocess.Popen(command, stdin=given, stdout=subprocess.DEVNULL)
+        _, status, usage = os.wait4(run.pid, 0)
+        if status:
+            raise subprocess.CalledProcessError(status, command)
+        return time.perf_counter() - start, usage.ru_maxrss / 1024
+
+
+def time_program(program, rounds):
+    """Prints the time and the peak memory of the program on a document of 10 MB."""
+    document = [{"id": number, "name": f"name {number}", "tags": ["x", "y"], "a/b": {"m~n": number}} for number in range(125_000)]
+    last = "/124999/name"
+    with tempfile.NamedTemporaryFile("w", suffix=".json") as file:
+        json.dump(document, file)
+        file.flush()
+        for words in (["patch", "add", "/5/x", "1", "remove", "/100/tags/0", "replace", last, '"z"'], ["delete", last]):
+            runs = [seconds_and_memory([program, *words], file.name) for _ in range(3 * rounds)]
+            seconds, memory = min(runs)
+            print(f"{words[0]} on 10 MB: {1000 * seconds:.0f} ms, {memory:.0f} MiB")
+
+
 def main():
     parser = argparse.ArgumentParser(description=__doc__, formatter_class=argparse.RawDescriptionHelpFormatter)
     parser.add_argument("--rounds", type=int, default=3)
     parser.add_argument("ours")
+    parser.add_argument("program", nargs="?")
     words = parser.parse_args()
     lines, least = "\n".join(lines_of()) + "\n", {}
     for _ in range(words.rounds):
@@ -47,6 +78,8 @@ def main():
     for title, _ in rows():
         ours, plain = least[f"{title}, apply"], least[f"{title}, calls"]
         print(f"| {title} | {shown(ours)} | {shown(plain)} | {ours / plain:.2f} |")
+    if words.program:
+        time_program(words.program, words.rounds)
 
 
 if __name__ == "__main__":

@@ -12,7 +12,7 @@ use jsonptr_patch::Operation;
 const MAX_LEVELS: usize = 10_000;
 
 /// Returns whether the task may nest the document too deep.
-pub fn nests_too_deep(task: &Task<'_>) -> bool {
+pub(crate) fn nests_too_deep(task: &Task<'_>) -> bool {
     match task {
         Task::Resolve(_) | Task::Delete(_) => false,
         Task::Assign(pointer, _) => pointer.count() > MAX_LEVELS,

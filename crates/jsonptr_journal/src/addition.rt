@@ -260,7 +260,8 @@ pub fn replace<D: NodeMut>(doc: &mut D, location: Location, value: Value) -> Add
     requires { IsThere (path_of location) (D.contents doc.old) }
     ensures replaced { At (path_of location) (Writes (contents_of value))
         (D.contents doc.old) (D.contents doc.new) }
-    ensures undone { IsAddition result (contents_of value) (D.contents doc.old) (D.contents doc.new) }
+    ensures undone { IsAddition result (contents_of value)
+        (D.contents doc.old) (D.contents doc.new) }
 {
     let old = overwrite(doc, &location, value);
     Addition::Replaced { location, old }

@@ -34,9 +34,11 @@ pub trait NodeMut: Sized {
     fn node_mut(&mut self, location: &Location) -> Result<&mut Value, NoSuchNode>
         ensures* writes_back { sem 𝓛 (follows_so Self.row the_row self.entry.ghost_name
             (name_if_ok (λ v. v.ghost_name) result)
-            (λ w n. IsOk result → contents n ≡ write_at (path_of location.now) (contents_of w) (contents self.old))
+            (λ w n. IsOk result → contents n
+            ≡ write_at (path_of location.now) (contents_of w) (contents self.old))
             (λ n. OnErr result (contents n ≡ contents self.old))) }
-        ensures value { IfOk result (λ v. content_at (path_of location.now) (contents self.old) ≡ Some (contents_of v.now))
+        ensures value { IfOk result (λ v.
+            content_at (path_of location.now) (contents self.old) ≡ Some (contents_of v.now))
             × OnErr result (content_at (path_of location.now) (contents self.old) ≡ None) };
 }
 
@@ -46,8 +48,10 @@ fn step<'v>(
     location: &Location,
     i: usize,
 ) -> Result<StepResult<'v, Value>, NoSuchNode>
-    ensures* writes_back { sem 𝓛 (LendsMove the_row (λ v. v) at.entry (path_of location.now) i result) }
-    ensures value { IfOk result (λ r. MovesTo (path_of location.now) i r.down at.old r.next r.node.now)
+    ensures* writes_back { sem 𝓛
+        (LendsMove the_row (λ v. v) at.entry (path_of location.now) i result) }
+    ensures value { IfOk result (λ r.
+        MovesTo (path_of location.now) i r.down at.old r.next r.node.now)
         × OnErr result (IsLost (path_of location.now) i at.old) }
 {
     if i >= location.parts.len() {
