@@ -67,7 +67,8 @@ use std::str::FromStr;
 ///
 /// [`Index::for_len`] and [`Index::for_len_incl`] check it and return the number. Indices are
 /// ordered by number, and [`Index::Next`] is greater than each number. `Display` prints the token:
-/// the number in decimal digits, or `-`.
+/// the number in decimal digits, or `-`. Parsing takes time linear in the length of the text. All
+/// other calls take constant time, and none allocates.
 ///
 /// # Examples
 ///
@@ -326,8 +327,8 @@ impl<'a> Token<'a> {
     /// | the empty token       | `InvalidInteger` with [`IntegerCause::Empty`]    |
     /// | above `usize::MAX`    | `InvalidInteger` with [`IntegerCause::Overflow`] |
     ///
-    /// Needs no allocation. An index contains no escape sequence, so the encoded and the decoded
-    /// text lead to the same result.
+    /// Takes time linear in the length of the token, and needs no allocation. An index contains no
+    /// escape sequence, so the encoded and the decoded text lead to the same result.
     ///
     /// # Errors
     ///

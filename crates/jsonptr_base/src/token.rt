@@ -87,8 +87,8 @@ impl<'a> Model for Token<'a> {
 impl<'a> Token<'a> {
     /// Parses an encoded text, in which each `~` is followed by `0` or `1` and no byte is a `/`.
     ///
-    /// Checks the text in one pass and keeps it unchanged. Needs no allocation. For text that is
-    /// not encoded, use [`Token::new`].
+    /// Checks the text in one pass, in time linear in its length, and keeps it unchanged. Needs no
+    /// allocation. For text that is not encoded, use [`Token::new`].
     ///
     /// # Errors
     ///
@@ -148,7 +148,7 @@ impl<'a> Token<'a> {
     /// ```
     ///
     /// A text without `~` and `/` is kept, borrowed or owned as it is, and needs no allocation. Any
-    /// other is encoded into a new allocation.
+    /// other is encoded into a new allocation. Takes time linear in the length of the text.
     ///
     /// # Errors
     ///
@@ -179,6 +179,7 @@ impl<'a> Token<'a> {
     /// Creates the token with the decimal text of an integer of any of the [`Number`] types.
     ///
     /// The token of a negative integer is a key like any other; as an array index it is invalid.
+    /// Takes time linear in the number of digits, and allocates the text.
     ///
     /// # Errors
     ///
@@ -198,7 +199,8 @@ impl<'a> Token<'a> {
 
     /// Converts into a token that owns its text.
     ///
-    /// Text that the token owns is moved, and text that it borrows is copied.
+    /// Text that the token owns is moved in constant time. Text that it borrows is copied, in time
+    /// linear in its length.
     ///
     /// # Errors
     ///
@@ -222,7 +224,7 @@ impl<'a> Token<'a> {
     /// Returns a token that owns a copy of the text.
     ///
     /// Unlike [`Token::into_owned`], this leaves the token with the caller and always copies its
-    /// text.
+    /// text, in time linear in its length.
     ///
     /// # Errors
     ///
@@ -240,7 +242,8 @@ impl<'a> Token<'a> {
         self.clone()?.into_owned(alloc)
     }
 
-    /// Returns the encoded text: the token as a pointer contains it, without the `/`.
+    /// Returns the encoded text: the token as a pointer contains it, without the `/`. Takes constant
+    /// time.
     ///
     /// # Examples
     ///
@@ -256,8 +259,8 @@ impl<'a> Token<'a> {
 
     /// Converts into the encoded text.
     ///
-    /// Like [`Token::encoded`], but consumes the token and so also returns text that it owns. Needs
-    /// no allocation, because a token keeps its text encoded.
+    /// Like [`Token::encoded`], but consumes the token and so also returns text that it owns. Takes
+    /// constant time and needs no allocation, because a token keeps its text encoded.
     ///
     /// # Examples
     ///
@@ -274,9 +277,10 @@ impl<'a> Token<'a> {
     /// Returns the decoded text, with each `~1` replaced by `/` and each `~0` by `~` (RFC 6901,
     /// section 4).
     ///
-    /// Both are replaced in one pass from left to right, so `~01` decodes to `~1` and not to `/`. A
-    /// token without `~` needs no allocation: the result borrows its text. The `Display`
-    /// implementation prints the decoded text of any token without an allocation.
+    /// Both are replaced in one pass from left to right, in time linear in the length of the token.
+    /// So `~01` decodes to `~1` and not to `/`. A token without `~` needs no allocation: the result
+    /// borrows its text. The `Display` implementation prints the decoded text of any token without
+    /// an allocation.
     ///
     /// # Errors
     ///
@@ -304,7 +308,7 @@ impl<'a> Token<'a> {
     /// Returns whether the token is `-`, which as an array index is the one after the last element.
     ///
     /// See [`Index::Next`](crate::index::Index::Next) for what `-` is for. In an object, `-` is a
-    /// key like any other.
+    /// key like any other. Takes constant time.
     ///
     /// # Examples
     ///
@@ -319,7 +323,8 @@ impl<'a> Token<'a> {
     }
 }
 
-/// Copies text that the token owns; text that it borrows stays borrowed, and needs no allocation.
+/// Copies text that the token owns, in time linear in its length. Text that it borrows stays
+/// borrowed, in constant time and without an allocation.
 impl<'a> Clone for Token<'a> {
     ghost is_clone = { λ t copy. copy ≡ t };
 

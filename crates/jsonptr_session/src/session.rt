@@ -14,6 +14,9 @@
 //!
 //! If an allocation fails, the reply is `Memory`. A call that needs no allocation never replies
 //! `Memory`. "Without `~`" refers to the text of the pointer.
+//!
+//! Each call costs what the method of the same name costs, and `Resolve` also a copy of the value.
+//! The arguments are moved, and the document is changed in place.
 ghost use Rattle.std.specs.Prelude.{◌≡◌, All, IfOk, OnErr, map};
 ghost use Rattle.jsonptr_session.specs.Machine.{State, Runs};
 ghost use Rattle.jsonptr_session.specs.Session.{command_of, answer_of};

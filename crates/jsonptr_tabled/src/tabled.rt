@@ -31,6 +31,14 @@ use std::marker::Model;
 ///
 /// Contracts view it as the list of its decoded tokens. Its text is the text of that list.
 ///
+/// | Calls | Time |
+/// | --- | --- |
+/// | `new`, `into_plain`, `as_ptr`, `offsets`, `count`, `clear` | constant |
+/// | `front`, `back`, `parent`, `get`, `split_at`, `split_at_offset` | constant |
+/// | `parse`, `from_plain`, `clone`, comparisons, `hash` | linear in the length of the pointer |
+/// | `push_back`, `append`, `pop_back` | linear in the length of what is appended or removed; linear in the pointer where the text or the table grows |
+/// | `push_front`, `pop_front`, `replace` | linear in the length of the pointer |
+///
 /// ```rust
 /// let plain = PointerBuf::from_text(alloc, "/files/src~1lib.rt/7")?;
 /// let pointer = TabledPointer::from_plain(alloc, plain)?;
@@ -71,7 +79,8 @@ impl TabledPointer {
         }
     }
 
-    /// Parses a pointer that keeps `s` as its text. Allocates the table.
+    /// Parses a pointer that keeps `s` as its text. Takes time linear in its length, and allocates
+    /// the table.
     ///
     /// ```rust
     /// let text = String::from_str(alloc, "/lines/~7")?;
@@ -119,7 +128,8 @@ impl TabledPointer {
         Ok(TabledPointer { plain, offsets })
     }
 
-    /// Converts the pointer to one without a table. Keeps its text, and allocates nothing.
+    /// Converts the pointer to one without a table. Keeps its text, allocates nothing, and takes
+    /// constant time.
     ///
     /// ```rust
     /// let mut pointer = TabledPointer::new(alloc);
@@ -278,7 +288,8 @@ impl TabledPointer {
         Ok(())
     }
 
-    /// Appends a token.
+    /// Appends a token. Takes time linear in its length, except where the text or the table is moved
+    /// to a larger allocation.
     ///
     /// ```rust
     /// let mut pointer = TabledPointer::new(alloc);
@@ -332,7 +343,7 @@ impl TabledPointer {
     }
 
     /// Removes the last token and returns it, or returns `None` at the root. The token owns its
-    /// text.
+    /// text, so the call takes time linear in the length of the token.
     ///
     /// ```rust
     /// let plain = PointerBuf::from_text(alloc, "/7")?;
@@ -357,7 +368,7 @@ impl TabledPointer {
     }
 
     /// Replaces the token at position `index`, and returns the old one. Never returns `Ok(None)`.
-    /// The first token is at position 0.
+    /// The first token is at position 0. Moves the text and the offsets after the token.
     ///
     /// ```rust
     /// let plain = PointerBuf::from_text(alloc, "/lines/7/text")?;
@@ -388,7 +399,8 @@ impl TabledPointer {
         Ok(old)
     }
 
-    /// Appends the tokens of another pointer.
+    /// Appends the tokens of another pointer, in time linear in its length, except where the text or
+    /// the table is moved to a larger allocation.
     ///
     /// ```rust
     /// let plain = PointerBuf::from_text(alloc, "/lines")?;

@@ -22,7 +22,8 @@ use toml::Value;
 ///
 /// The undo is [`Undo::Put`] with the value that was replaced, or [`Undo::Remove`] if the location
 /// is new. Its pointer refers to the location of the assigned value. For a new last element that is
-/// the index of the element, and never `-`. A replaced value is moved and not copied.
+/// the index of the element, and never `-`. A replaced value is moved and not copied. Takes the time
+/// of an assignment, and that of a copy of the pointer.
 ///
 /// In a document whose tables have their keys in ascending order, as parsed ones have, [`undo`]
 /// restores the old document.
@@ -64,7 +65,8 @@ pub fn assign_with_undo(
 }
 
 /// Undoes an assignment. [`Undo::Put`] replaces the value that its pointer resolves to, and
-/// [`Undo::Remove`] removes it. Removing the root leaves an empty table.
+/// [`Undo::Remove`] removes it. Removing the root leaves an empty table. Takes the time of a
+/// `resolve_mut` or a `delete` at that pointer.
 ///
 /// ```rust
 /// let mut document = toml::Value::from_str(alloc, "{ size = 3 }")?;
