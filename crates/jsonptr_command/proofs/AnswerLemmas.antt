@@ -1,16 +1,26 @@
 -- From what is known about the document to what is known about the bytes of the input.
 use Rattle.std.proofs.Common.{◌≡◌, ℕ, List, Option, Some, None, Result, Ok, Err, MatchOption, refl, sym, ap, ◌∙◌, subst, inl, inr}
+use Rattle.std.specs.Prelude.{IfSome}
+use Rattle.std.specs.Str.{IsUtf8}
 use Rattle.serde_json.specs.Data.{Data}
 use Rattle.jsonptr.specs.Text.{Text}
+use Rattle.jsonptr.specs.declared.pointer.Pointer.{Pointer}
+use Rattle.jsonptr_in_text.specs.InText.{FindsInText, IsInSliceError}
+use Rattle.jsonptr_in_text.specs.declared.resolve.InTextError.{InTextError}
+use Rattle.jsonptr_in_text.specs.declared.resolve.InTextError.TheVariants.{NotJson}
+use Rattle.jsonptr_in_text.specs.declared.resolve.InTextError.TheVariants as in_text
 use Rattle.jsonptr_command.specs.JsonText.{json_of}
 use Rattle.jsonptr_command.specs.Streams.{ForBytes}
-use Rattle.jsonptr_command.specs.Run.{Outcome, IsKept, IsLeft, IsRequestFault, NeedsInput, OnDocument}
-use Rattle.jsonptr_command.specs.Faults.{IsInputFault}
-use Rattle.jsonptr_command.specs.Private.{task_of, Does, IsFaultOf, IsLeftBy, IsLineOf}
+use Rattle.jsonptr_command.proofs.JsonLemmas.{json_of-utf8, json_of-None}
+use Rattle.jsonptr_command.specs.Run.{Outcome, HasValueOf, IsKept, IsLeft, IsRequestFault, NeedsInput, OnDocument, Resolves, resolving}
+use Rattle.jsonptr_command.specs.Faults.{IsInputFault, of_in_text_error}
+use Rattle.jsonptr_command.specs.Private.{task_of, request_of, Does, IsFaultOf, IsLeftBy, IsLineOf}
+use Rattle.jsonptr_command.specs.declared.run.Request as code
+use Rattle.jsonptr_command.specs.declared.run.Request.TheVariants.{Tokens, Split, Document}
 use Rattle.jsonptr_command.specs.declared.run.Task.{Task}
 use Rattle.jsonptr_command.specs.declared.run.Task.TheVariants.{Resolve, Assign, Delete, Patch}
 use Rattle.jsonptr_command.specs.declared.fault.RunFault.{RunFault}
-use Rattle.jsonptr_command.specs.declared.fault.RunFault.TheVariants.{InputNotJson}
+use Rattle.jsonptr_command.specs.declared.fault.RunFault.TheVariants.{InputNotJson, NoValue}
 
 -- a property of the bytes, weakened
 pub ForBytes-map : (known : Option (List ℕ)) (P Q : List ℕ → Type 0) → ((bytes : List ℕ) → P bytes → Q bytes) → ForBytes known P → ForBytes known Q
@@ -83,3 +93,33 @@ module _ (task : Task) (known : Option (List ℕ)) where
     left_given new h =
         ForBytes-map known (λ bytes. json_of bytes ≡ Some d) (λ bytes. IsKept (task_of task) bytes (Some new))
         (λ bytes is. (new, refl, leaves task bytes d new is h)) read
+
+-- ---- a pointer that is resolved in the bytes
+
+-- the value that it resolves to
+pub found_given : (bytes : List ℕ) (ts : List Text) (v : Data) → IsUtf8 bytes × FindsInText bytes ts v → Outcome (resolving ts) bytes (Ok v)
+found_given bytes ts v h = on_document bytes h.1.0 (Ok v) (λ d. Resolves d ts (Ok v)) (json_of-utf8 bytes h.0 ∙ h.1.1) h.1.2
+
+-- why there is none
+pub error_given : (bytes : List ℕ) (ts : List Text) (e : InTextError) → IsInSliceError bytes ts e → IsFaultOf (Outcome (resolving ts) bytes) (of_in_text_error e)
+error_given bytes ts NotJson h = inl (no_document bytes InputNotJson (λ d. Resolves d ts (Err InputNotJson)) (json_of-None bytes h) refl)
+error_given bytes ts (in_text.Resolve f) h = inl (on_document bytes h.1.0 (Err (NoValue f)) (λ d. Resolves d ts (Err (NoValue f))) (json_of-utf8 bytes h.0 ∙ h.1.1) (f, h.1.2, refl))
+error_given bytes ts (in_text.Memory e) h = inr refl
+
+-- what holds of the bytes that were read holds of those of the input
+pub for_read : (known : Option (List ℕ)) (bytes : List ℕ) (P : List ℕ → Type 0) → IfSome known (λ xs. bytes ≡ xs) → P bytes → ForBytes known P
+for_read None bytes P e h = (bytes, h)
+for_read (Some xs) bytes P e h = subst P e h
+
+-- what a task leaves, except of `resolve`, is its value
+pub left_is_value : (task : Task) (known : Option (List ℕ)) (kept : Option Data) → ((p : Pointer) → task ≡ Resolve p → ⊥) → ForBytes known (λ bytes. IsKept (task_of task) bytes kept) → ForBytes known (λ bytes. HasValueOf (task_of task) bytes kept)
+left_is_value (Resolve p) known kept not h = absurd (not p refl)
+left_is_value (Assign p v) known kept not h = h
+left_is_value (Delete p) known kept not h = h
+left_is_value (Patch patch) known kept not h = h
+
+-- only a task needs the input
+pub needs_task : (request : code.Request) → ((task : Task) → request ≡ Document task → ⊥) → NeedsInput (request_of request) → ⊥
+needs_task (Tokens p) not needs = needs
+needs_task (Split p n) not needs = needs
+needs_task (Document task) not needs = not task refl

@@ -6,6 +6,9 @@ use Rattle.jsonptr.specs.Types.Fault.{Fault}
 use Rattle.jsonptr.specs.Types.Fault.TheVariants as fault
 use Rattle.jsonptr.specs.declared.resolve.Error as resolve
 use Rattle.jsonptr.specs.declared.assign.Error as assign
+use Rattle.jsonptr_in_text.specs.declared.resolve.InTextError.{InTextError}
+use Rattle.jsonptr_in_text.specs.declared.resolve.InTextError.TheVariants.{NotJson, Resolve}
+use Rattle.jsonptr_in_text.specs.declared.resolve.InTextError.TheVariants as in_text
 use Rattle.jsonptr_patch.specs.declared.operation.PatchError.{PatchError}
 use Rattle.jsonptr_command.specs.declared.fault.RunFault.{RunFault}
 use Rattle.jsonptr_command.specs.declared.fault.RunFault.TheVariants.{ValueNotJson, NoValue, BadPlace, BadPatch, InputNotJson, Memory, Read}
@@ -23,6 +26,12 @@ of_input_fault input.Read = Read
 abbrev pub of_resolve_fault : Fault resolve.Error → RunFault
 of_resolve_fault (fault.Refused e) = NoValue e
 of_resolve_fault (fault.Memory e) = Memory e
+
+-- `of_in_text_error e`: the fault of the run if a pointer does not resolve in the text of the input.
+abbrev pub of_in_text_error : InTextError → RunFault
+of_in_text_error NotJson = InputNotJson
+of_in_text_error (Resolve e) = NoValue e
+of_in_text_error (in_text.Memory e) = Memory e
 
 -- `of_assign_fault e`: the fault of the run if a value cannot be assigned.
 abbrev pub of_assign_fault : Fault assign.Error → RunFault

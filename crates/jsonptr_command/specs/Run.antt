@@ -275,6 +275,10 @@ IsLeft (patching os) bytes d = Outcome (patching os) bytes (Ok d)
 abbrev pub IsKept : Request → List ℕ → Option Data → Type 0
 IsKept request bytes kept = (d : Data) × (kept ≡ Some d) × IsLeft request bytes d
 
+-- `HasValueOf request bytes value`: `value` has the value of the request on an input of these bytes.
+abbrev pub HasValueOf : Request → List ℕ → Option Data → Type 0
+HasValueOf request bytes value = (d : Data) × (value ≡ Some d) × Outcome request bytes (Ok d)
+
 -- `IsRequestFault request known e`: the request fails with `e`, because of the input, the operation, an allocation
 -- or, if it needs the input, a read.
 abbrev pub IsRequestFault : Request → Option (List ℕ) → RunFault → Type 0

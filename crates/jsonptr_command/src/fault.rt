@@ -1,13 +1,14 @@
 //! The errors of the program, and its exit status.
 ghost use Rattle.std.specs.Prelude.{◌≡◌, MatchResult};
 ghost use Rattle.std.specs.Process.{exit_status};
-ghost use Rattle.jsonptr_command.specs.Faults.{of_assign_fault, of_input_fault, of_patch_fault, of_resolve_fault};
+ghost use Rattle.jsonptr_command.specs.Faults.{of_assign_fault, of_in_text_error, of_input_fault, of_patch_fault, of_resolve_fault};
 ghost use Rattle.jsonptr_command.specs.Run.{status_of};
 ghost use Rattle.jsonptr_command.specs.declared.fault.RunFault.TheVariants.{BadPointer, Memory, Write};
 
 use crate::input::InputFault;
 use crate::output::WriteFailed;
 use jsonptr::{Fault, ParseError, assign, resolve};
+use jsonptr_in_text::InTextError;
 use jsonptr_patch::PatchError;
 use std::alloc::AllocError;
 use std::process::ExitCode;
@@ -115,6 +116,18 @@ impl From<Fault<resolve::Error>> for RunFault {
         match error {
             Fault::Refused(error) => RunFault::NoValue(error),
             Fault::Memory(error) => RunFault::Memory(error),
+        }
+    }
+}
+
+impl From<InTextError> for RunFault {
+    ghost from_gives = { λ error fault. fault ≡ of_in_text_error error };
+
+    fn from(error: InTextError) -> RunFault {
+        match error {
+            InTextError::NotJson => RunFault::InputNotJson,
+            InTextError::Resolve(error) => RunFault::NoValue(error),
+            InTextError::Memory(error) => RunFault::Memory(error),
         }
     }
 }

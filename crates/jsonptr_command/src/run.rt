@@ -12,15 +12,17 @@ ghost use Rattle.jsonptr_command.specs.Streams.{AppendsFront, ForBytes};
 ghost use Rattle.jsonptr_command.specs.declared.fault.RunFault.{RunFault};
 ghost use Rattle.jsonptr_command.specs.Private.{request_of, task_of, Does, IsFaultOf, IsLineOf, IsLeftBy, RefusesCommand, RefusesPosition};
 ghost use Rattle.jsonptr_command.specs.Operations.{meant};
-ghost use Rattle.jsonptr_command.specs.Run.{AskFor, Asks, AssignsAt, DeletesAt, ForLine, ForRequest, IsKept, IsOperationFault, Outcome, IsPastInput, IsRefusedSo, IsRequestFault, IsWordsMemory, NeedInput, NeedNoInput, NeedsInput, PatchesBy, Resolves, SplitsInTwo, texts_value};
+ghost use Rattle.jsonptr_command.specs.Run.{AskFor, Asks, AssignsAt, DeletesAt, ForLine, ForRequest, HasValueOf, IsKept, IsOperationFault, Outcome, IsPastInput, IsRefusedSo, IsRequestFault, IsWordsMemory, NeedInput, NeedNoInput, NeedsInput, PatchesBy, Resolves, SplitsInTwo, resolving, texts_value};
 
 use crate::depth::nests_too_deep;
 use crate::fault::RunFault;
+use crate::input::read_all;
 use crate::json_text::{json_line, read_json_input, read_value};
 use crate::operations::read_operations;
 use crate::output::write_line;
 use jsonptr::Pointer;
 use jsonptr::index::Index;
+use jsonptr_in_text::resolve_in_slice;
 use jsonptr_patch::{Operation, apply};
 use serde_json::Value;
 use std::alloc::{AllocError, Global};
@@ -68,9 +70,11 @@ pub enum Task<'w> {
 /// the input's JSON, of the operation or of a write. Nothing is written before the whole line is
 /// known.
 ///
-/// At the end the document is dropped, so that a process can run the program many times. That takes
-/// time, and it recurses as deep as the document nests. [`run_program_keeping`] hands the document
-/// to its caller instead.
+/// `resolve` finds the value in the text of the input, and reads no document.
+///
+/// At the end the value that was printed is dropped, so that a process can run the program many
+/// times. That takes time, and it recurses as deep as the value nests. [`run_program_into`] hands the
+/// value to its caller instead.
 ///
 /// # Errors
 ///
@@ -95,8 +99,52 @@ pub fn run_program<R: Read, W: Write>(
         → IsPastInput result
         → IsAtEnd (R.remaining input.new) }
 {
-    let mut document = None;
-    run_program_keeping(alloc, words, input, output, &mut document)
+    let mut value = None;
+    run_program_into(alloc, words, input, output, &mut value)
+}
+
+/// Runs the program as [`run_program`] does, and leaves the value that it printed in `value`.
+///
+/// After `Ok` of a command that needs the input, `value` has that value: the one that the pointer
+/// resolves to, or the document after the command. A command that needs no input leaves `value`
+/// unchanged. After an error it may have the document of the input. What `value` had before is
+/// dropped.
+///
+/// A program that ends anyway can forget the value: dropping a document of some megabytes takes
+/// about as long as parsing it, and the system frees its memory at once.
+///
+/// # Errors
+///
+/// Those of [`run_program`].
+pub fn run_program_into<R: Read, W: Write>(
+    alloc: Global,
+    words: &[String],
+    input: &mut R,
+    output: &mut W,
+    value: &mut Option<Value>,
+) -> Result<(), RunFault>
+    ensures done { OnOk result (ForLine (map string_bytes words.now) (R.remaining input.old)
+        (Appends (W.contents output.old) (W.contents output.new))) }
+    ensures refused { IfErr result
+        (IsRefusedSo (map string_bytes words.now) (R.remaining input.old)) }
+    ensures front { IsErrOf result RunFault.Write
+        → ForLine (map string_bytes words.now) (R.remaining input.old)
+        (AppendsFront (W.contents output.old) (W.contents output.new)) }
+    ensures unwritten { IfErr result (λ e. e ≢ RunFault.Write → output.new ≡ output.old) }
+    ensures unread { NeedNoInput (map string_bytes words.now) → input.new ≡ input.old }
+    ensures at_end { NeedInput (map string_bytes words.now)
+        → IsPastInput result
+        → IsAtEnd (R.remaining input.new) }
+    ensures value { NeedInput (map string_bytes words.now)
+        → OnOk result (ForRequest (map string_bytes words.now)
+        (λ request. ForBytes (R.remaining input.old)
+        (λ bytes. HasValueOf request bytes (option_map view value.new)))) }
+    ensures untouched { NeedNoInput (map string_bytes words.now) → value.new ≡ value.old }
+{
+    let request = read_request(alloc, words)?;
+    let line = line_of(alloc, request, input, value)?;
+    write_line(output, line.as_bytes())?;
+    Ok(())
 }
 
 /// Runs the program as [`run_program`] does, and leaves the document in `document`.
@@ -106,8 +154,7 @@ pub fn run_program<R: Read, W: Write>(
 /// document of the input. A command that needs no input leaves `document` unchanged. The document
 /// that another one replaces is dropped.
 ///
-/// A program that ends anyway can forget the document: dropping a document of some megabytes takes
-/// about as long as parsing it, and the system frees its memory at once.
+/// Unlike [`run_program`] it reads the whole document for `resolve` too.
 ///
 /// # Errors
 ///
@@ -229,6 +276,93 @@ fn read_position(word: &str) -> Result<usize, RunFault>
         Ok(Index::Next) => Err(RunFault::Usage),
         Err(_) => Err(RunFault::Usage),
     }
+}
+
+/// Returns the line for a request, and leaves the value of the line in `value`. Reads the input only
+/// if the request needs it, and finds the value of a pointer in its text.
+fn line_of<R: Read>(
+    alloc: Global,
+    request: Request<'_>,
+    input: &mut R,
+    value: &mut Option<Value>,
+) -> Result<String, RunFault>
+    ensures ok { IfOk result (λ line. ForBytes (R.remaining input.old)
+        (λ bytes. IsLineOf (Outcome (request_of request.entry) bytes) (string_bytes line))) }
+    ensures err { IfErr result
+        (IsRequestFault (request_of request.entry) (R.remaining input.old)) }
+    ensures unread { (NeedsInput (request_of request.entry) → ⊥) → input.new ≡ input.old }
+    ensures at_end { NeedsInput (request_of request.entry)
+        → IsPastInput result
+        → IsAtEnd (R.remaining input.new) }
+    ensures value { NeedsInput (request_of request.entry)
+        → OnOk result (ForBytes (R.remaining input.old)
+        (λ bytes. HasValueOf (request_of request.entry) bytes (option_map view value.new))) }
+    ensures untouched { (NeedsInput (request_of request.entry) → ⊥) → value.new ≡ value.old }
+{
+    match request {
+        Request::Document(task) => value_line(alloc, task, input, value),
+        request => answer(alloc, request, input, value),
+    }
+}
+
+/// Reads the input, and returns the line for a task on it. Leaves the value of the line in `value`.
+fn value_line<R: Read>(
+    alloc: Global,
+    task: Task<'_>,
+    input: &mut R,
+    value: &mut Option<Value>,
+) -> Result<String, RunFault>
+    ensures ok { IfOk result (λ line. ForBytes (R.remaining input.old)
+        (λ bytes. IsLineOf (Outcome (task_of task.entry) bytes) (string_bytes line))) }
+    ensures err { IfErr result (IsRequestFault (task_of task.entry) (R.remaining input.old)) }
+    ensures at_end { IsPastInput result → IsAtEnd (R.remaining input.new) }
+    ensures value { OnOk result (ForBytes (R.remaining input.old)
+        (λ bytes. HasValueOf (task_of task.entry) bytes (option_map view value.new))) }
+{
+    match task {
+        Task::Resolve(pointer) => found_line(alloc, pointer, input, value),
+        task => document_line(alloc, task, input, value),
+    }
+}
+
+/// Reads the input, and returns the line of the value that the pointer resolves to in its text.
+/// Leaves that value in `value`.
+fn found_line<R: Read>(
+    alloc: Global,
+    pointer: Pointer<'_>,
+    input: &mut R,
+    value: &mut Option<Value>,
+) -> Result<String, RunFault>
+    ensures ok { IfOk result (λ line. ForBytes (R.remaining input.old)
+        (λ bytes. IsLineOf (Outcome (resolving (tokens pointer.entry)) bytes) (string_bytes line))) }
+    ensures err { IfErr result
+        (IsRequestFault (resolving (tokens pointer.entry)) (R.remaining input.old)) }
+    ensures at_end { IsPastInput result → IsAtEnd (R.remaining input.new) }
+    ensures value { OnOk result (ForBytes (R.remaining input.old)
+        (λ bytes. HasValueOf (resolving (tokens pointer.entry)) bytes (option_map view value.new))) }
+{
+    let bytes = read_all(alloc, input)?;
+    line_in_bytes(alloc, &bytes, pointer, value)
+}
+
+/// Returns the line of the value that the pointer resolves to in the bytes of a JSON text. Leaves
+/// that value in `value`.
+fn line_in_bytes(
+    alloc: Global,
+    bytes: &[u8],
+    pointer: Pointer<'_>,
+    value: &mut Option<Value>,
+) -> Result<String, RunFault>
+    ensures ok { IfOk result (λ line.
+        IsLineOf (Outcome (resolving (tokens pointer.entry)) bytes.now) (string_bytes line)) }
+    ensures err { IfErr result (IsFaultOf (Outcome (resolving (tokens pointer.entry)) bytes.now)) }
+    ensures value { OnOk result
+        (HasValueOf (resolving (tokens pointer.entry)) bytes.now (option_map view value.new)) }
+{
+    let found = resolve_in_slice(alloc, bytes, pointer)?;
+    let line = json_line(alloc, &found)?;
+    *value = Some(found);
+    Ok(line)
 }
 
 /// Returns the line for a request. Reads the input only if the request needs it, and leaves its

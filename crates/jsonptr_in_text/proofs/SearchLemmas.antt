@@ -46,7 +46,7 @@ first_or Less g e t h = h
 first_or Equal g e t h = refl
 first_or Greater g e t h = h
 
-member_content : (k : Text) (ms : json.Members) → get_member k (members ms) ≡ option_map content (find.get_member k ms)
+pub member_content : (k : Text) (ms : json.Members) → get_member k (members ms) ≡ option_map content (find.get_member k ms)
 member_content k json.no_members = refl
 member_content k (json.member l e ms) =
     ap (λ (b : Bool). cond b (Some (content e)) (get_member k (members ms))) (sym (is_eq-slice_cmp k l)) ∙ first_or (slice_cmp nat_cmp k l) (find.get_member k ms) e _ (member_content k ms)

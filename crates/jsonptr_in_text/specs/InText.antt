@@ -1,5 +1,6 @@
 -- Resolving a pointer in a text.
-use Rattle.std.specs.Prelude.{◌≡◌, List, Some, None, ⊤}
+use Rattle.std.specs.Prelude.{◌≡◌, ℕ, List, Some, None, ⊤}
+use Rattle.std.specs.Str.{IsUtf8}
 use Rattle.serde_json.specs.Data.{Data}
 use Rattle.serde_json.specs.Read.{read}
 use Rattle.jsonptr_grammar.specs.Text.{Text}
@@ -22,6 +23,12 @@ abbrev pub IsInTextError : Text → List Text → InTextError → Type 0
 IsInTextError text tokens NotJson = read text ≡ None
 IsInTextError text tokens (Resolve e) = RefusesInText text tokens e
 IsInTextError text tokens (Memory e) = ⊤
+
+-- the same for bytes, which are not JSON if they are not UTF-8
+abbrev pub IsInSliceError : List ℕ → List Text → InTextError → Type 0
+IsInSliceError bytes tokens NotJson = IsUtf8 bytes → read bytes ≡ None
+IsInSliceError bytes tokens (Resolve e) = IsUtf8 bytes × RefusesInText bytes tokens e
+IsInSliceError bytes tokens (Memory e) = ⊤
 
 -- `IsReadError text e`: e is why `text` is not read, if it is not for memory
 abbrev pub IsReadError : Text → InTextError → Type 0

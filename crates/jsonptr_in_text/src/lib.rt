@@ -31,6 +31,6 @@ mod child;
 mod error_at;
 pub mod laws;
 mod resolve;
-mod selectors;
+pub mod selectors;
 
-pub use resolve::{InTextError, exists_in_text, resolve_in_text};
+pub use resolve::{InTextError, exists_in_text, resolve_in_slice, resolve_in_text};

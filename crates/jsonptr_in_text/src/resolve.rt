@@ -1,11 +1,12 @@
 //! Resolving a pointer in a text.
 ghost use Rattle.std.specs.Prelude.{◌≡◌, IfOk, IfErr};
 ghost use Rattle.std.specs.Bool.{MatchBool};
+ghost use Rattle.std.specs.Str.{IsUtf8};
 ghost use Rattle.serde_json.specs.Data.{Data};
 ghost use Rattle.serde_json.specs.View.{view};
 ghost use Rattle.jsonptr.specs.Pointer.{tokens};
 ghost use Rattle.jsonptr.specs.declared.resolve.Error.{Error};
-ghost use Rattle.jsonptr_in_text.specs.InText.{FindsInText, RefusesInText, IsInTextError, IsReadError};
+ghost use Rattle.jsonptr_in_text.specs.InText.{FindsInText, RefusesInText, IsInTextError, IsInSliceError, IsReadError};
 ghost use Rattle.jsonptr_in_text.specs.declared.resolve.InTextError.TheVariants.{Memory};
 
 use crate::child::{error_above_child, selectors_with_child};
@@ -15,16 +16,31 @@ use jsonptr::{Pointer, resolve};
 use jsonptr_skim::find::find_in_text;
 use jsonptr_skim::outcome::{Outcome, ReadError};
 use serde_json::Value;
+use simdutf8::basic::from_utf8;
 use std::alloc::{AllocError, Global};
+use thiserror::Error;
 
 /// Why a pointer was not resolved in a text.
-#[derive(Debug, Drop)]
+///
+/// # Examples
+///
+/// ```rust
+/// let pointer = Pointer::parse("/sizes/2")?;
+/// let cut = resolve_in_text(alloc, r#"{"sizes": [3, 5"#, pointer);
+/// let message = format!(in alloc; "{}", cut.err().ok_or("an error")?)?;
+/// assert_eq!(rt; message.as_str(), "text is not JSON");
+/// ```
+#[derive(Debug, Drop, Error)]
 pub enum InTextError {
-    /// `serde_json` does not read the text.
+    /// `serde_json` does not read the text, or the bytes are not UTF-8. `Value::from_str` and
+    /// `Value::from_slice` report the line and the column.
+    #[error("text is not JSON")]
     NotJson,
     /// The text is a document in which the pointer does not resolve to a value.
+    #[error(transparent)]
     Resolve(resolve::Error),
     /// An allocation failed.
+    #[error("out of memory")]
     Memory(AllocError),
 }
 
@@ -77,6 +93,41 @@ pub fn resolve_in_text(
         }
         Err(ReadError::NotJson) => Err(InTextError::NotJson),
         Err(ReadError::Memory) => Err(InTextError::Memory(AllocError)),
+    }
+}
+
+/// Returns the value that the pointer resolves to in the document that the bytes contain.
+///
+/// The result is that of `Value::from_slice` and then [`Pointer::resolve`]. The bytes must be UTF-8,
+/// all of them, and are tested before the search. Apart from that test it costs as much as
+/// [`resolve_in_text`].
+///
+/// # Errors
+///
+/// - [`InTextError::NotJson`] if the bytes are not UTF-8, or `serde_json` does not read them.
+/// - [`InTextError::Resolve`] if the pointer does not resolve to a value.
+/// - [`InTextError::Memory`] if an allocation fails.
+///
+/// # Examples
+///
+/// ```rust
+/// let size = resolve_in_slice(alloc, br#"{"sizes": [3, 5]}"#, Pointer::parse("/sizes/1")?)?;
+/// assert_eq!(rt; size.as_u64(), Some(5));
+/// let latin = resolve_in_slice(alloc, b"{\"caf\xe9\": 1}", Pointer::parse("/a")?);
+/// assert!(rt; matches!(latin, Err(InTextError::NotJson)));
+/// ```
+pub fn resolve_in_slice(
+    alloc: Global,
+    bytes: &[u8],
+    pointer: Pointer<'_>,
+) -> Result<Value, InTextError>
+    ensures found { IfOk result (λ v. IsUtf8 bytes.now
+        × FindsInText bytes.now (tokens pointer.entry) (view v)) }
+    ensures refused { IfErr result (IsInSliceError bytes.now (tokens pointer.entry)) }
+{
+    match from_utf8(bytes) {
+        Ok(text) => resolve_in_text(alloc, text, pointer),
+        Err(_error) => Err(InTextError::NotJson),
     }
 }
 

@@ -33,7 +33,7 @@ pub fn selectors_of(alloc: Global, pointer: Pointer<'_>) -> Result<Vec<Selector>
 ///
 /// [`AllocError`] if the allocation for the key fails.
 #[tactic(auto, using(crate::proofs::SelectorLemmas::choice_is))]
-fn selector_of(alloc: Global, token: &Token<'_>) -> Result<Selector, AllocError>
+pub fn selector_of(alloc: Global, token: &Token<'_>) -> Result<Selector, AllocError>
     ensures { IfOk result (λ s. IsChoiceOf token.now (choice_of s)) }
 {
     let key = token.decoded(alloc)?.into_owned(alloc)?;

@@ -3,7 +3,7 @@
 
 use jsonptr_command::arguments::words_after_name;
 use jsonptr_command::fault::{RunFault, exit_code};
-use jsonptr_command::run::run_program_keeping;
+use jsonptr_command::run::run_program_into;
 use serde_json::Value;
 use std::alloc::AllocError;
 use std::io::ErrorKind;
@@ -11,27 +11,27 @@ use std::process::ExitCode;
 use std::{env, mem};
 
 fn main(rt: HostRuntime) -> ExitCode {
-    let mut document = None;
-    let outcome = run_on_streams(&rt, &mut document);
+    let mut value = None;
+    let outcome = run_on_streams(&rt, &mut value);
     if let Err(fault) = &outcome {
         // If standard error fails too, there is nowhere to report it.
         let _ = eprintln!(rt; "{fault}");
     }
-    // The process ends here, and the system frees its memory at once. Dropping the document would
-    // take about as long as parsing it, and would recurse as deep as it nests.
-    mem::forget(document);
+    // The process ends here, and the system frees its memory at once. Dropping a document would take
+    // about as long as parsing it, and would recurse as deep as it nests.
+    mem::forget(value);
     exit_code(&outcome)
 }
 
-/// Runs the program on the standard streams, and leaves the document in `document`.
-fn run_on_streams(rt: &HostRuntime, document: &mut Option<Value>) -> Result<(), RunFault> {
+/// Runs the program on the standard streams, and leaves the value that it printed in `value`.
+fn run_on_streams(rt: &HostRuntime, value: &mut Option<Value>) -> Result<(), RunFault> {
     let words = words(rt)?;
-    run_program_keeping(
+    run_program_into(
         rt.alloc(),
         words.as_slice(),
         &mut rt.stdin(),
         &mut rt.stdout(),
-        document,
+        value,
     )
 }
 

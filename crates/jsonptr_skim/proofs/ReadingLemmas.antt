@@ -7,11 +7,9 @@ use Rattle.json.specs.Reads.{token_of}
 use Rattle.json.specs.declared.token.Token as Read
 use Rattle.json.specs.Json as json
 use Rattle.json.specs.Json.{parse_map, after_end_array, read_key, items, members, value, if_last}
-use Rattle.json.specs.Print.{print}
-use Rattle.json.specs.Tree.{json_tokens, HasNumbers, depth as nesting}
+use Rattle.json.specs.Tree.{json_tokens, depth as nesting}
 use Rattle.json.proofs.Grammar.{items_end, items_fail, items_more, members_end, members_no_key, members_fail, members_more, value_is, value-begin_array, value-begin_object}
-use Rattle.json.proofs.Printed.Tokens.{tokens-print}
-use Rattle.json.proofs.Printed.Trees.{value-json_tokens, ArePrintable-json_tokens}
+use Rattle.json.proofs.Printed.Trees.{value-json_tokens}
 use Rattle.serde_json.specs.Data.{Num, Data, null, boolean, number, string, array, object, Items, no_items, item, Members, no_members, put}
 use Rattle.serde_json.specs.Read.{number_of, of_json, of_items, of_members, converted, max_depth, read}
 use Rattle.jsonptr_skim.specs.Reading.{Reads, Unreadable, ReadsItems, UnreadableItems, ReadsMembers, UnreadableMembers}
@@ -185,7 +183,7 @@ single depth new (Token.boolean b) a o = ap (converted of_json) (value_is depth 
 single depth new Token.null a o = ap (converted of_json) (value_is depth (Token.null ∷ new))
 single depth new Token.bad a o = ap (converted of_json) (value_is depth (Token.bad ∷ new))
 
-opens_array : (t : Read.Token) → token_of t ≡ Token.begin_array → t ≡ Read.TheVariants.BeginArray
+pub opens_array : (t : Read.Token) → token_of t ≡ Token.begin_array → t ≡ Read.TheVariants.BeginArray
 opens_array Read.TheVariants.BeginObject e = absurd (cc)
 opens_array Read.TheVariants.EndObject e = absurd (cc)
 opens_array Read.TheVariants.BeginArray e = refl
@@ -197,7 +195,7 @@ opens_array (Read.TheVariants.Bool b) e = absurd (cc)
 opens_array Read.TheVariants.Null e = absurd (cc)
 opens_array Read.TheVariants.Bad e = absurd (cc)
 
-opens_object : (t : Read.Token) → token_of t ≡ Token.begin_object → t ≡ Read.TheVariants.BeginObject
+pub opens_object : (t : Read.Token) → token_of t ≡ Token.begin_object → t ≡ Read.TheVariants.BeginObject
 opens_object Read.TheVariants.BeginObject e = refl
 opens_object Read.TheVariants.EndObject e = absurd (cc)
 opens_object Read.TheVariants.BeginArray e = absurd (cc)
@@ -259,6 +257,9 @@ flat t (object ms) e = absurd (no_object t e)
     no_object Token.null h = cc
     no_object Token.bad h = cc
 
+pub scalar_reads : (depth : ℕ) (old new : List Token) (t : Read.Token) (d : Data) → old ≡ token_of t ∷ new → (t ≡ Read.TheVariants.BeginArray → ⊥) → (t ≡ Read.TheVariants.BeginObject → ⊥) → scalar_of (token_of t) ≡ Some d → Reads depth old d new
+scalar_reads depth old new t d e a o is = scalar_is depth old new t e a o ∙ ap (beside new) is
+
 pub reads_scalar : (depth : ℕ) (old new : List Token) (t : Read.Token) → old ≡ token_of t ∷ new → (t ≡ Read.TheVariants.BeginArray → ⊥) → (t ≡ Read.TheVariants.BeginObject → ⊥) → is_some (scalar_of (token_of t)) ≡ true → Scalar depth old new
 reads_scalar depth old new t e a o some = at (scalar_of (token_of t)) refl some
   where
@@ -266,7 +267,7 @@ reads_scalar depth old new t e a o some = at (scalar_of (token_of t)) refl some
     at None is h = absurd (cc)
     at (Some d) is h =
         let f = flat (token_of t) d is in
-        record { scalar = d; reads = scalar_is depth old new t e a o ∙ ap (beside new) is; kind_is = f.0; lacks = f.1 }
+        record { scalar = d; reads = scalar_reads depth old new t d e a o is; kind_is = f.0; lacks = f.1 }
 
 pub unreadable_scalar : (depth : ℕ) (old new : List Token) (t : Read.Token) → old ≡ token_of t ∷ new → (t ≡ Read.TheVariants.BeginArray → ⊥) → (t ≡ Read.TheVariants.BeginObject → ⊥) → is_some (scalar_of (token_of t)) ≡ false → Unreadable depth old
 unreadable_scalar depth old new t e a o none = scalar_is depth old new t e a o ∙ at (scalar_of (token_of t)) none
@@ -355,9 +356,8 @@ whole_unreadable text ts same h = at (value max_depth ts) refl h
         none None k = refl
         none (Some d) k = absurd (cc)
 
-pub read_printed : (j : json.Json) (text : List ℕ) → text ≡ print (json_tokens j) → HasNumbers j → nesting j ≤ max_depth → read text ≡ of_json j
-read_printed j text e numbers shallow =
-    let ts : tokens text ≡ json_tokens j = ap tokens e ∙ tokens-print (json_tokens j) (ArePrintable-json_tokens j numbers) in
+pub read_copied : (j : json.Json) (text : List ℕ) → tokens text ≡ json_tokens j → nesting j ≤ max_depth → read text ≡ of_json j
+read_copied j text ts shallow =
     let back : value max_depth (json_tokens j ++ []) ≡ Some (j, []) = value-json_tokens j max_depth [] shallow in
     whole_is text (Some (j, [])) (ap (value max_depth) (ts ∙ sym (append-nil (json_tokens j))) ∙ back)
 

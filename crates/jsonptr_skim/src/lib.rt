@@ -4,9 +4,10 @@
 //! `jsonptr_in_text` resolves pointers with it.
 #![tactic(auto)]
 
+mod copy;
 pub mod find;
 pub mod outcome;
 mod read;
-mod scalar;
+pub mod scalar;
 pub mod selector;
-mod skip;
+pub mod skip;

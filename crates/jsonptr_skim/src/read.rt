@@ -1,21 +1,22 @@
 //! Reading one value of a text.
 ghost use Rattle.std.specs.Prelude.{◌≡◌, ◌<◌, ◌≤◌, length, Some, None, Err, IfOk, OnOk};
 ghost use Rattle.serde_json.specs.Errors.{IsMemory};
-ghost use Rattle.serde_json.specs.Read.{max_depth, of_json, read as spec_read};
+ghost use Rattle.std.specs.Str.{IsUtf8};
+ghost use Rattle.serde_json.specs.Read.{max_depth, read as spec_read};
 ghost use Rattle.serde_json.specs.View.{view};
-ghost use Rattle.json.specs.Tree.{HasNumbers, depth as nesting};
-ghost use Rattle.json.specs.Value.{value_view};
 ghost use Rattle.jsonptr_skim.specs.Reading.{Reads, Unreadable};
+ghost use Rattle.jsonptr_skim.specs.PrivateReading.{IsTextOf};
 ghost use Rattle.jsonptr_skim.specs.declared.outcome.ReadError.TheVariants.{NotJson};
 
+use crate::copy::copy;
 use crate::outcome::ReadError;
-use json::Reader;
+use json::{Reader, Writer};
 use serde_json::Value;
 use std::alloc::Global;
 
 /// Reads the next value, which may nest `depth` deep.
 ///
-/// Reads it into a borrowed tree first, prints that, and reads the printed text with `serde_json`.
+/// Writes its tokens to a text of its own, and reads that with `serde_json`.
 ///
 /// # Errors
 ///
@@ -29,31 +30,30 @@ pub fn read(alloc: Global, reader: &mut Reader<'_>, depth: usize) -> Result<Valu
     requires { depth ≤ max_depth }
     ensures ok { IfOk result (λ v. Reads depth reader.old (view v) reader.new) }
     ensures shorter { OnOk result (length reader.new < length reader.old) }
-    ensures err { result ≡ Err ReadError.NotJson → Unreadable depth reader.old }
+    ensures err { result ≡ Err NotJson → Unreadable depth reader.old }
 {
-    match json::Value::read(alloc, reader, depth) {
-        Ok(tree) => owned(alloc, &tree),
-        Err(json::Error::Invalid) => Err(ReadError::NotJson),
-        Err(_) => Err(ReadError::Memory),
+    let bytes = written(alloc, reader, depth)?;
+    match Value::from_slice(alloc, &bytes) {
+        Ok(value) => Ok(value),
+        Err(error) => Err(read_error(&error)),
     }
 }
 
-/// Returns the value as `serde_json` reads it.
+/// Returns the text of the next value, which may nest `depth` deep.
 ///
 /// # Errors
 ///
-/// As [`read`].
-fn owned(alloc: Global, tree: &json::Value<'_>) -> Result<Value, ReadError>
-    requires numbers { HasNumbers (value_view tree.now) }
-    requires shallow { nesting (value_view tree.now) ≤ max_depth }
-    ensures ok { IfOk result (λ v. of_json (value_view tree.now) ≡ Some (view v)) }
-    ensures err { result ≡ Err ReadError.NotJson → of_json (value_view tree.now) ≡ None }
+/// [`ReadError::NotJson`] if no such value is next, and [`ReadError::Memory`] if an allocation
+/// fails.
+fn written(alloc: Global, reader: &mut Reader<'_>, depth: usize) -> Result<Vec<u8>, ReadError>
+    ensures ok { IfOk result (λ bytes. IsTextOf depth reader.old reader.new bytes.items) }
+    ensures utf8 { IfOk result (λ bytes. IsUtf8 bytes.items) }
+    ensures shorter { OnOk result (length reader.new < length reader.old) }
+    ensures err { result ≡ Err NotJson → Unreadable depth reader.old }
 {
-    let bytes = json::to_vec(alloc, tree)?;
-    let Ok(text) = String::from_utf8(bytes) else {
-        return Err(ReadError::Memory);
-    };
-    read_text(alloc, text.as_str())
+    let mut writer = Writer::new(Vec::new(alloc));
+    copy(reader, &mut writer, depth)?;
+    Ok(writer.into_inner())
 }
 
 /// Reads the value that the text is.

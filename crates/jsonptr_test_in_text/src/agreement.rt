@@ -1,35 +1,9 @@
 //! The same results as `Value::from_str` and then `Pointer::resolve`.
-use jsonptr::{Fault, Pointer};
+use crate::said::{said_by_resolve, said_by_resolve_in_slice, said_by_resolve_in_text};
+use jsonptr::Pointer;
 use jsonptr_in_text::{InTextError, exists_in_text, resolve_in_text};
-use serde_json::Value;
 use std::alloc::Global;
 use std::test::Fail;
-
-/// What each call says of a text and a pointer: a printed value, a printed error, or "not JSON".
-fn said_by_resolve_in_text(
-    alloc: Global,
-    text: &str,
-    pointer: Pointer<'_>,
-) -> Result<String, Fail> {
-    match resolve_in_text(alloc, text, pointer) {
-        Ok(value) => Ok(value.to_string(alloc)?),
-        Err(InTextError::NotJson) => Ok(format!(in alloc; "not JSON")?),
-        Err(InTextError::Resolve(error)) => Ok(format!(in alloc; "{error:?}")?),
-        Err(InTextError::Memory(error)) => Err(Fail::from(error)),
-    }
-}
-
-/// The same by reading the document.
-fn said_by_resolve(alloc: Global, text: &str, pointer: Pointer<'_>) -> Result<String, Fail> {
-    let Ok(document) = Value::from_str(alloc, text) else {
-        return Ok(format!(in alloc; "not JSON")?);
-    };
-    match pointer.resolve(alloc, &document) {
-        Ok(value) => Ok(value.to_string(alloc)?),
-        Err(Fault::Refused(error)) => Ok(format!(in alloc; "{error:?}")?),
-        Err(Fault::Memory(error)) => Err(Fail::from(error)),
-    }
-}
 
 /// Whether `exists_in_text` fits: an error, or whether there is a value.
 fn exists_as(alloc: Global, text: &str, pointer: Pointer<'_>) -> Result<bool, Fail> {
@@ -42,12 +16,22 @@ fn exists_as(alloc: Global, text: &str, pointer: Pointer<'_>) -> Result<bool, Fa
     })
 }
 
-/// Checks one text and one pointer against the expected text, in all three ways.
+/// Checks one text and one pointer against the expected text, in all ways.
 fn is_said(alloc: Global, text: &str, pointer: &str, want: &str) -> Result<bool, Fail> {
     let pointer = Pointer::parse(pointer)?;
     let found = said_by_resolve_in_text(alloc, text, pointer)?;
-    let read = said_by_resolve(alloc, text, pointer)?;
-    Ok(found.as_str() == want && read.as_str() == want && exists_as(alloc, text, pointer)?)
+    Ok(
+        found.as_str() == want
+            && is_read_as(alloc, text, pointer, want)?
+            && exists_as(alloc, text, pointer)?,
+    )
+}
+
+/// Checks the bytes of a text and a pointer against the expected text.
+fn is_read_as(alloc: Global, text: &str, pointer: Pointer<'_>, want: &str) -> Result<bool, Fail> {
+    let found = said_by_resolve_in_slice(alloc, text.as_bytes(), pointer)?;
+    let read = said_by_resolve(alloc, text.as_bytes(), pointer)?;
+    Ok(found.as_str() == want && read.as_str() == want)
 }
 
 /// A text of arrays that nest this deep around a value.
@@ -111,6 +95,119 @@ fn the_last_of_a_repeated_key_counts(rt: HostRuntime) -> Result<(), Fail> {
 }
 
 #[test]
+fn keys_repeat_at_each_level(rt: HostRuntime) -> Result<(), Fail> {
+    for (text, pointer, want) in [
+        (r#"{"a":{"b":{"c":1}},"a":{"b":{"c":2}}}"#, "/a/b/c", "2"),
+        (r#"{"a":{"b":{"c":1},"b":{"c":2}}}"#, "/a/b/c", "2"),
+        (r#"{"a":{"b":{"c":1,"c":2}}}"#, "/a/b/c", "2"),
+        (
+            r#"{"a":{"b":{"c":1,"c":2},"b":{"c":3,"c":4}}}"#,
+            "/a/b/c",
+            "4",
+        ),
+        (
+            r#"{"a":[{"b":1,"b":2}],"a":[{"b":3,"b":4}]}"#,
+            "/a/0/b",
+            "4",
+        ),
+        (
+            r#"{"a":{"b":{"c":1}},"a":{"b":[]}}"#,
+            "/a/b/c",
+            "FailedToParseIndex { position: 2, offset: 4, source: InvalidCharacter(InvalidCharacterError { offset: 0 }) }",
+        ),
+    ] {
+        assert!(rt;
+            is_said(rt.alloc(), text, pointer, want)?,
+            "{text} at {pointer}"
+        );
+    }
+    Ok(())
+}
+
+/// A text of objects that nest this deep around a number.
+fn nested_objects(alloc: Global, depth: usize) -> Result<String, Fail> {
+    let front = "{\"a\":".repeat(alloc, depth)?;
+    let back = "}".repeat(alloc, depth)?;
+    Ok(format!(in alloc; "{}7{}", front.as_str(), back.as_str())?)
+}
+
+#[test]
+fn objects_nest_at_most_127_deep(rt: HostRuntime) -> Result<(), Fail> {
+    let alloc = rt.alloc();
+    for (depth, want) in [(126, "7"), (127, "7"), (128, "not JSON")] {
+        let text = nested_objects(alloc, depth)?;
+        let pointer = "/a".repeat(alloc, depth)?;
+        assert!(rt;
+            is_said(alloc, text.as_str(), pointer.as_str(), want)?,
+            "depth {depth}"
+        );
+    }
+    Ok(())
+}
+
+/// The worked examples of `resolve`, through text.
+#[test]
+fn worked_examples_of_resolve(rt: HostRuntime) -> Result<(), Fail> {
+    for (text, pointer, want) in [
+        (
+            r#"{"foo":["bar"]}"#,
+            "/foo/-",
+            "OutOfBounds { position: 1, offset: 4, source: OutOfBoundsError { length: 1, index: 1 } }",
+        ),
+        (
+            r#"{"foo":["bar"]}"#,
+            "/foo/1",
+            "OutOfBounds { position: 1, offset: 4, source: OutOfBoundsError { length: 1, index: 1 } }",
+        ),
+        (
+            r#"{"foo":["bar"]}"#,
+            "/foo/01",
+            "FailedToParseIndex { position: 1, offset: 4, source: LeadingZeros }",
+        ),
+        (
+            r#"{"foo":["bar"]}"#,
+            "/foo/00",
+            "FailedToParseIndex { position: 1, offset: 4, source: LeadingZeros }",
+        ),
+        (r#"{"a":{}}"#, "/a/", "NotFound { position: 1, offset: 2 }"),
+        (
+            r#"{"a":1}"#,
+            "/a/b",
+            "Unreachable { position: 1, offset: 2 }",
+        ),
+        (
+            "[[],{},1]",
+            "/10/0",
+            "OutOfBounds { position: 0, offset: 0, source: OutOfBoundsError { length: 3, index: 10 } }",
+        ),
+        ("[[],{},1]", "/1/a", "NotFound { position: 1, offset: 2 }"),
+        (
+            "[[],{},1]",
+            "/2/a",
+            "Unreachable { position: 1, offset: 2 }",
+        ),
+        (
+            "[1]",
+            "/18446744073709551615",
+            "OutOfBounds { position: 0, offset: 0, source: OutOfBoundsError { length: 1, index: 18446744073709551615 } }",
+        ),
+        (
+            r#"{"a~1b":1}"#,
+            "/a~1b",
+            "NotFound { position: 0, offset: 0 }",
+        ),
+        (r#"{"a":{"":[{"b":null}]}}"#, "/a//0/b", "null"),
+        ("[2,3]", "/1", "3"),
+    ] {
+        assert!(rt;
+            is_said(rt.alloc(), text, pointer, want)?,
+            "{text} at {pointer}"
+        );
+    }
+    Ok(())
+}
+
+#[test]
 fn texts_nest_at_most_127_deep(rt: HostRuntime) -> Result<(), Fail> {
     let alloc = rt.alloc();
     for (depth, is_json) in [(126, true), (127, true), (128, false)] {
@@ -162,7 +259,7 @@ fn numbers_are_in_range_everywhere(rt: HostRuntime) -> Result<(), Fail> {
             assert!(rt; is_said(alloc, text.as_str(), "/1/a", want)?, "{text}");
         }
         let text = format!(in alloc; "[{number}]")?;
-        let want = said_by_resolve(alloc, text.as_str(), Pointer::parse("/0")?)?;
+        let want = said_by_resolve(alloc, text.as_bytes(), Pointer::parse("/0")?)?;
         assert!(rt;
             is_said(alloc, text.as_str(), "/0", want.as_str())?,
             "{text}"

@@ -5,6 +5,10 @@
 #[cfg(test)]
 mod agreement;
 #[cfg(test)]
+mod damage;
+#[cfg(test)]
 mod doc_examples;
 #[cfg(test)]
 mod errors;
+#[cfg(test)]
+mod said;

@@ -1,7 +1,17 @@
 //! The examples in the doc comments of `jsonptr_in_text/src/resolve.rt`. `tools/doc_examples.py --write` makes this file.
 use jsonptr::Pointer;
-use jsonptr_in_text::{InTextError, exists_in_text, resolve_in_text};
+use jsonptr_in_text::{InTextError, exists_in_text, resolve_in_slice, resolve_in_text};
 use std::test::Fail;
+
+#[test]
+fn in_text_error(rt: HostRuntime) -> Result<(), Fail> {
+    let alloc = rt.alloc();
+    let pointer = Pointer::parse("/sizes/2")?;
+    let cut = resolve_in_text(alloc, r#"{"sizes": [3, 5"#, pointer);
+    let message = format!(in alloc; "{}", cut.err().ok_or("an error")?)?;
+    assert_eq!(rt; message.as_str(), "text is not JSON");
+    Ok(())
+}
 
 #[test]
 fn resolve_in_text_example(rt: HostRuntime) -> Result<(), Fail> {
@@ -14,6 +24,16 @@ fn resolve_in_text_example(rt: HostRuntime) -> Result<(), Fail> {
         return Err("an error".into());
     };
     assert_eq!(rt; (error.position(), error.offset()), (1, 6));
+    Ok(())
+}
+
+#[test]
+fn resolve_in_slice_example(rt: HostRuntime) -> Result<(), Fail> {
+    let alloc = rt.alloc();
+    let size = resolve_in_slice(alloc, br#"{"sizes": [3, 5]}"#, Pointer::parse("/sizes/1")?)?;
+    assert_eq!(rt; size.as_u64(), Some(5));
+    let latin = resolve_in_slice(alloc, b"{\"caf\xe9\": 1}", Pointer::parse("/a")?);
+    assert!(rt; matches!(latin, Err(InTextError::NotJson)));
     Ok(())
 }
 

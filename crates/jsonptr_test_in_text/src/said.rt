@@ -1,0 +1,46 @@
+//! What the calls say of a text and a pointer: a printed value, a printed error, or "not JSON".
+use jsonptr::{Fault, Pointer};
+use jsonptr_in_text::{InTextError, resolve_in_slice, resolve_in_text};
+use serde_json::Value;
+use std::alloc::Global;
+use std::test::Fail;
+
+/// What `resolve_in_text` says.
+pub fn said_by_resolve_in_text(
+    alloc: Global,
+    text: &str,
+    pointer: Pointer<'_>,
+) -> Result<String, Fail> {
+    said(alloc, resolve_in_text(alloc, text, pointer))
+}
+
+/// What `resolve_in_slice` says.
+pub fn said_by_resolve_in_slice(
+    alloc: Global,
+    bytes: &[u8],
+    pointer: Pointer<'_>,
+) -> Result<String, Fail> {
+    said(alloc, resolve_in_slice(alloc, bytes, pointer))
+}
+
+/// What a result says.
+fn said(alloc: Global, found: Result<Value, InTextError>) -> Result<String, Fail> {
+    match found {
+        Ok(value) => Ok(value.to_string(alloc)?),
+        Err(InTextError::NotJson) => Ok(format!(in alloc; "not JSON")?),
+        Err(InTextError::Resolve(error)) => Ok(format!(in alloc; "{error:?}")?),
+        Err(InTextError::Memory(error)) => Err(Fail::from(error)),
+    }
+}
+
+/// What reading the document and `resolve` say.
+pub fn said_by_resolve(alloc: Global, bytes: &[u8], pointer: Pointer<'_>) -> Result<String, Fail> {
+    let Ok(document) = Value::from_slice(alloc, bytes) else {
+        return Ok(format!(in alloc; "not JSON")?);
+    };
+    match pointer.resolve(alloc, &document) {
+        Ok(value) => Ok(value.to_string(alloc)?),
+        Err(Fault::Refused(error)) => Ok(format!(in alloc; "{error:?}")?),
+        Err(Fault::Memory(error)) => Err(Fail::from(error)),
+    }
+}
