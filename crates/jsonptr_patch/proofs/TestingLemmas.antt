@@ -48,7 +48,7 @@ AllKeysIn m (e ∷ es) = IsSome (get_by_text m (string_bytes e.0)) × AllKeysIn 
 abbrev pub found_under : List ℕ → List Entry → Option Value
 found_under k es = lookup (is_at (λ l. slice_cmp nat_cmp k (string_bytes l))) es
 
-below_middle : (first : Entry) (es : List Entry) (e : Entry) (more : List Entry) → AllByRecursion (λ y. string_cmp first.0 y ≡ Less) (keys_of (es ++ e ∷ more)) → string_cmp first.0 e.0 ≡ Less
+pub below_middle : (first : Entry) (es : List Entry) (e : Entry) (more : List Entry) → AllByRecursion (λ y. string_cmp first.0 y ≡ Less) (keys_of (es ++ e ∷ more)) → string_cmp first.0 e.0 ≡ Less
 below_middle first [] e more h = h.0
 below_middle first (x ∷ es) e more h = below_middle first es e more h.1
 
@@ -69,7 +69,7 @@ found_among P true k l u v rest is here later e =
     subst (λ (t : List ℕ). P t v) (sym one) (subst (P l) same here)
 found_among P false k l u v rest is here later e = later e
 
-no_none : {A B : Type 0} (a : A) → None ≡ Some a → B
+pub no_none : {A B : Type 0} (a : A) → None ≡ Some a → B
 no_none a e = let none : ⊥ = cc in absurd none
 
 -- a property of each entry is one of the value that is found
@@ -128,7 +128,7 @@ same_keys m n same k some = by_value (get_by_text m k) (get_by_text n k) (same k
 -- ---- the parts of a value
 
 -- the label at a path of a value, if there is one
-abbrev label_in : Path → Option Value → Option Label
+abbrev pub label_in : Path → Option Value → Option Label
 label_in p o = option_map label_of (option_and_then (content_at p) (option_map content_of o))
 
 past_item : (vs : List Value) (i : ℕ) → length vs ≤ i → get_item i (items_by content_of vs) ≡ None
@@ -136,25 +136,25 @@ past_item [] i h = refl
 past_item (v ∷ vs) zero h = absurd (omega arith)
 past_item (v ∷ vs) (suc i) h = past_item vs i (omega arith)
 
-element_label : (v : Vec Value Global) (i : ℕ) (p : Path) (x : Value) → i < length v.items → map_of (content_of (Array v)) (place i ∷ p) ≡ map_of (content_of (get_or v.items i x)) p
+pub element_label : (v : Vec Value Global) (i : ℕ) (p : Path) (x : Value) → i < length v.items → map_of (content_of (Array v)) (place i ∷ p) ≡ map_of (content_of (get_or v.items i x)) p
 element_label v i p x h = ap (λ (d : Content). map_of d (place i ∷ p)) (array_is v) ∙ ap (λ (o : Option Content). option_map label_of (option_and_then (content_at p) o)) (get_item-by content_of v.items i x h)
 
-past_label : (v : Vec Value Global) (i : ℕ) (p : Path) → length v.items ≤ i → map_of (content_of (Array v)) (place i ∷ p) ≡ None
+pub past_label : (v : Vec Value Global) (i : ℕ) (p : Path) → length v.items ≤ i → map_of (content_of (Array v)) (place i ∷ p) ≡ None
 past_label v i p h = ap (λ (d : Content). map_of d (place i ∷ p)) (array_is v) ∙ ap (λ (o : Option Content). option_map label_of (option_and_then (content_at p) o)) (past_item v.items i h)
 
-array_label : (v : Vec Value Global) → map_of (content_of (Array v)) [] ≡ Some (an_array (length v.items))
+pub array_label : (v : Vec Value Global) → map_of (content_of (Array v)) [] ≡ Some (an_array (length v.items))
 array_label v = ap (λ (d : Content). map_of d []) (array_is v) ∙ ap (λ (len : ℕ). Some (an_array len)) (items_len-by content_of v.items)
 
-no_key_label : (v : Vec Value Global) (k : List ℕ) (p : Path) → map_of (content_of (Array v)) (key k ∷ p) ≡ None
+pub no_key_label : (v : Vec Value Global) (k : List ℕ) (p : Path) → map_of (content_of (Array v)) (key k ∷ p) ≡ None
 no_key_label v k p = ap (λ (d : Content). map_of d (key k ∷ p)) (array_is v)
 
-member_label : (m : tested.Object) (k : List ℕ) (p : Path) → map_of (content_of (Object m)) (key k ∷ p) ≡ label_in p (get_by_text m k)
+pub member_label : (m : tested.Object) (k : List ℕ) (p : Path) → map_of (content_of (Object m)) (key k ∷ p) ≡ label_in p (get_by_text m k)
 member_label m k p = ap (λ (d : Content). map_of d (key k ∷ p)) (object_is m) ∙ ap (λ (o : Option Content). option_map label_of (option_and_then (content_at p) o)) (get_member-by content_of m k)
 
-object_label : (m : tested.Object) → map_of (content_of (Object m)) [] ≡ Some an_object
+pub object_label : (m : tested.Object) → map_of (content_of (Object m)) [] ≡ Some an_object
 object_label m = ap (λ (d : Content). map_of d []) (object_is m)
 
-no_place_label : (m : tested.Object) (i : ℕ) (p : Path) → map_of (content_of (Object m)) (place i ∷ p) ≡ None
+pub no_place_label : (m : tested.Object) (i : ℕ) (p : Path) → map_of (content_of (Object m)) (place i ∷ p) ≡ None
 no_place_label m i p = ap (λ (d : Content). map_of d (place i ∷ p)) (object_is m)
 
 -- ---- equal values
@@ -517,7 +517,7 @@ object_differs v w m is by = never (SameValue v w) (λ h. object_only (view w) b
 
 -- ---- the loops of the code
 
-any_default : (vs : List Value) (i : ℕ) (x y : Value) → i < length vs → get_or vs i x ≡ get_or vs i y
+pub any_default : (vs : List Value) (i : ℕ) (x y : Value) → i < length vs → get_or vs i x ≡ get_or vs i y
 any_default [] i x y h = absurd (omega arith)
 any_default (v ∷ vs) zero x y h = refl
 any_default (v ∷ vs) (suc i) x y h = any_default vs i x y (omega arith)

@@ -1,0 +1,7 @@
+-- Lemmas on values that are the same, and on the operations that turn one into another.
+pub mod SortedLemmas
+pub mod SameLemmas
+pub mod TurningLemmas
+pub mod MixedLemmas
+pub mod MemberLemmas
+pub mod ElementLemmas

@@ -1,0 +1,13 @@
+use Rattle.serde_json.specs.View.{view}
+use Rattle.jsonptr.specs.Json.{nodes}
+use Rattle.jsonptr_patch.proofs.OperatingLemmas.{ok_all}
+use Rattle.jsonptr_diff.specs.PrivateDiff.{tokens_of}
+use Rattle.jsonptr_diff.proofs.SameLemmas.{twin_same}
+use Rattle.jsonptr_diff.proofs.TurningLemmas.{turns_nowhere, turns_replace}
+use Rattle.jsonptr_diff.proofs.diffing.replace_other.Goals as goal
+
+pub returns-then-is_same : goal.returns-then-is_same
+returns-then-is_same c = turns_nowhere (view c.args.new.now) c.args.patch.now.items (tokens_of c.args.at.now) (nodes (view c.args.old.now)) (nodes (view c.args.new.now)) (twin_same _ _ (c.is_same.ensures.0 c.if-is_same.true))
+
+pub returns : goal.returns
+returns c = ok_all c.replace.result _ _ (turns_replace c.args.patch.now.items c.replace.new.patch.items (tokens_of c.args.at.now) (nodes (view c.args.old.now)) (view c.args.new.now)) c.replace.ensures

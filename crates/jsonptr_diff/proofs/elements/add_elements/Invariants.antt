@@ -1,0 +1,12 @@
+use Rattle.std.proofs.Common.{ℕ, List}
+use Rattle.serde_json.specs.View.{view}
+use Rattle.serde_json.specs.declared.value.Value.{Array}
+use Rattle.jsonptr_tree.specs.Node.{NodeMap}
+use Rattle.jsonptr_patch.specs.declared.operation.Operation.{Operation}
+use Rattle.jsonptr_diff.specs.PrivateDiff.{tokens_of, Splices, array_map}
+use Rattle.jsonptr_diff.proofs.elements.add_elements.Given as goal
+
+abbrev pub invariant-loop-index : goal.invariant-loop-index
+invariant-loop-index l = (first : List Operation) (c : NodeMap) (k left : ℕ)
+    → Splices (view (Array l.new)) first l.fn.patch.items (tokens_of l.at) c (array_map l.new) l.from k left
+    → Splices (view (Array l.new)) first l.patch.items (tokens_of l.at) c (array_map l.new) l.index k left

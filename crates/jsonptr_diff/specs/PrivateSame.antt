@@ -1,0 +1,53 @@
+-- Which values are the same. Used only by private contracts; no public contract depends on this file.
+use Rattle.std.specs.Prelude.{◌≡◌, ℕ, ◌+◌, ◌<◌, ◌≤◌, false, Float, List, length, slice_index_or, Option, Some, None, ⊤}
+use Rattle.std.specs.BTreeMap.{get_by_text}
+use Rattle.serde_json.specs.Data.{Num, number, float}
+use Rattle.serde_json.specs.Find.{is_float}
+use Rattle.serde_json.specs.View.{view}
+use Rattle.serde_json.specs.declared.value.Value.{Value}
+use Rattle.jsonptr.specs.Json.{nodes}
+use Rattle.jsonptr.specs.Text.{Text}
+use Rattle.jsonptr.specs.Node.{Path, of_json, Label, a_leaf, NodeMap}
+use Rattle.jsonptr_patch.specs.PrivateTesting.{Object}
+
+-- `SameLabel l k`: both nodes have the same label, which is not that of a float, or neither exists.
+pub record SameLabel (l k : Option Label) : Type 0 where
+  pub same : l ≡ k
+  pub plain : (x : Float) → l ≡ Some (a_leaf (of_json (number (float x)))) → ⊥
+
+-- `IsTwin n m`: the maps are the same and contain no float.
+abbrev pub IsTwin : NodeMap → NodeMap → Type 0
+IsTwin n m = (w : Path) → SameLabel (n w) (m w)
+
+-- `IsSame v w`: the values have the same map, and contain no float.
+abbrev pub IsSame : Value → Value → Type 0
+IsSame v w = IsTwin (nodes (view v)) (nodes (view w))
+
+-- `SameNumber n m`: both numbers are the same integer, stored in the same way.
+abbrev pub SameNumber : Num → Num → Type 0
+SameNumber n m = (n ≡ m) × (is_float n ≡ false)
+
+-- `SameElements vs ws`: there are as many elements in `vs` as in `ws`, and they are the same.
+abbrev pub SameElements : List Value → List Value → Type 0
+SameElements vs ws =
+    (length vs ≡ length ws)
+    × ((i : ℕ) (x : Value) → i < length vs
+    → IsSame (slice_index_or vs i x) (slice_index_or ws i x))
+
+-- `SameMember o p`: neither value exists, or they are the same.
+abbrev pub SameMember : Option Value → Option Value → Type 0
+SameMember None None = ⊤
+SameMember (Some v) (Some w) = IsSame v w
+SameMember o p = ⊥
+
+-- `SameMembers m n`: the objects have the same members under each key.
+abbrev pub SameMembers : Object → Object → Type 0
+SameMembers m n = (k : Text) → SameMember (get_by_text m k) (get_by_text n k)
+
+-- `SameSuffix vs ws n`: the last `n` elements of both lists are the same, counted from the end.
+pub record SameSuffix (vs ws : List Value) (n : ℕ) : Type 0 where
+  pub within_first : n ≤ length vs
+  pub within_second : n ≤ length ws
+  pub same : (j a b : ℕ) (x : Value)
+      → j < n → a + j + 1 ≡ length vs → b + j + 1 ≡ length ws
+      → IsSame (slice_index_or vs a x) (slice_index_or ws b x)

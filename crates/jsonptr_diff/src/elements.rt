@@ -1,0 +1,66 @@
+//! The operations that remove elements of an array, and that add some.
+ghost use Rattle.std.specs.Prelude.{◌≡◌, ◌+◌, ◌≤◌, ℕ, List, length, IfOk};
+ghost use Rattle.serde_json.specs.Data.{Data};
+ghost use Rattle.serde_json.specs.View.{view};
+ghost use Rattle.serde_json.specs.declared.value.Value.{Array as an_array};
+ghost use Rattle.jsonptr.specs.Node.{NodeMap};
+ghost use Rattle.jsonptr_patch.specs.declared.operation.Operation.{Operation as an_operation};
+ghost use Rattle.jsonptr_diff.specs.PrivateDiff.{tokens_of, IsArray, Splices, array_map};
+
+use crate::location::Location;
+use crate::writing::{add, remove};
+use jsonptr_patch::Operation;
+use serde_json::Value;
+use std::alloc::{AllocError, Global};
+
+/// Appends the operations that remove `count` elements at `index` from the array at the location.
+///
+/// # Errors
+///
+/// [`AllocError`] if an allocation fails.
+pub fn remove_elements(
+    alloc: Global,
+    index: usize,
+    count: usize,
+    at: &Location<'_>,
+    patch: &mut Vec<Operation>,
+) -> Result<(), AllocError>
+    ensures { IfOk result (λ _.
+        (goal : Data) (first : List an_operation) (c d : NodeMap) (len k left : ℕ)
+        → IsArray c len → k + (count + left) ≤ len
+        → Splices goal first patch.old.items (tokens_of at.now) c d index k (count + left)
+        → Splices goal first patch.new.items (tokens_of at.now) c d index (k + count) left) }
+{
+    for _done in 0..count {
+        remove(alloc, &Location::Element(&*at, index), patch)?;
+    }
+    Ok(())
+}
+
+/// Appends the operations that insert the elements of `new` from index `from` up to `to` into the
+/// array at the location, at their indices.
+///
+/// # Errors
+///
+/// [`AllocError`] if an allocation fails.
+pub fn add_elements(
+    alloc: Global,
+    new: &Vec<Value>,
+    from: usize,
+    to: usize,
+    at: &Location<'_>,
+    patch: &mut Vec<Operation>,
+) -> Result<(), AllocError>
+    requires order { from ≤ to }
+    requires within { to ≤ length new.now.items }
+    ensures { IfOk result (λ _. (first : List an_operation) (c : NodeMap) (k left : ℕ)
+        → Splices (view (an_array new.now)) first patch.old.items (tokens_of at.now)
+        c (array_map new.now) from k left
+        → Splices (view (an_array new.now)) first patch.new.items (tokens_of at.now)
+        c (array_map new.now) to k left) }
+{
+    for index in from..to {
+        add(alloc, &new[index], &Location::Element(&*at, index), patch)?;
+    }
+    Ok(())
+}

@@ -1,0 +1,33 @@
+//! The differences of two JSON documents, as a JSON Patch (RFC 6902).
+//!
+//! ```rust
+//! let old = json!(in alloc; {"name": "a", "tags": ["x", "y"]})?;
+//! let new = json!(in alloc; {"name": "b", "tags": ["x", "z", "y"]})?;
+//! let patch = diff(alloc, &old, &new)?;
+//! assert_eq!(rt; patch.len(), 2);
+//! let mut document = old;
+//! apply(alloc, &mut document, patch)?;
+//! assert_eq!(rt; document.to_string(alloc)?, new.to_string(alloc)?);
+//! ```
+//!
+//! In the examples `rt` is the runtime that `main` and each test receive, and `alloc` is
+//! `rt.alloc()`, the allocator.
+//!
+//! - [`diff`] returns the operations that turn one document into another.
+//! - [`change`] turns a document into another one by these operations.
+//! - [`laws`] states what applying such a patch does.
+//!
+//! A float is never compared. It equals nothing, and is replaced.
+#![tactic(auto)]
+
+mod aligning;
+mod diffing;
+mod elements;
+pub mod laws;
+mod likeness;
+mod location;
+mod members;
+mod same;
+mod writing;
+
+pub use diffing::{change, diff};
