@@ -1,0 +1,189 @@
+-- What edits of a text are in the words of assignments.
+use Rattle.std.proofs.Common.{◌≡◌, ℕ, zero, suc, ◌<◌, ◌≤◌, max, List, [], ◌∷◌, ◌++◌, Option, Some, None, option_map, Result, Ok, Err, IfOk, IfSome, String, ◌⊎◌, inl, inr, ⊎_elim, codes, true, false, refl, sym, ap, ◌∙◌, subst, arith}
+use Rattle.std.specs.declared.alloc.Global.{Global}
+use Rattle.std.specs.declared.alloc.AllocError.{AllocError}
+use Rattle.serde_json.specs.Data as json
+use Rattle.serde_json.specs.Data.{Data}
+use Rattle.serde_json.specs.Find as find
+use Rattle.jsonptr_grammar.specs.Text.{Text, dec}
+use Rattle.jsonptr_tree.specs.Node.{Step, key, place, Path, Label, Scalar, an_array, an_object, a_leaf, of_json, NodeMap, sub}
+use Rattle.jsonptr_tree.specs.Content as tree
+use Rattle.jsonptr_tree.specs.Content.{Content, scalar, items_len, label_of, content_at, map_of}
+use Rattle.jsonptr_tree.specs.Json.{content, items, nodes}
+use Rattle.jsonptr_tree.specs.Put.{put, same_step}
+use Rattle.jsonptr_tree.specs.Growing.{is_append_index, grown}
+use Rattle.jsonptr_tree.specs.Assigning.{Assigns}
+use Rattle.jsonptr_tree.proofs.ContentLemmas.{map_of-sub, content_at-push, map_of-IsTree}
+use Rattle.jsonptr_tree.proofs.FollowingLemmas.{stops_in, lacks_at_leaf, lacks_at_object}
+use Rattle.jsonptr_tree.proofs.LandingLemmas.{means_end-dash, means_end-dec, lacks_at_end}
+use Rattle.jsonptr_tree.proofs.PutLemmas.{cases_same, same_by_step, put-step, put-other_step, rest_after-shorter, put_none}
+use Rattle.jsonptr_tree.proofs.AssigningLemmas.{made, made-step, made-other_step, Assigns_named, Assigns_leaf, Assigns_object_below, Assigns_end_below, Assigns-leaf, Assigns-named}
+use Rattle.jsonptr_skim.specs.Search as skim
+use Rattle.jsonptr_in_text.proofs.SearchLemmas.{len_same, member_content}
+use Rattle.jsonptr_splice.specs.Editing.{InsertsItem, InsertsMember}
+use Rattle.jsonptr_edit_in_text.specs.EditInText.{AssignsInText}
+use Rattle.jsonptr_edit_in_text.specs.PrivateReaching.{ReachedInText, ReplacesScalar, AddsMemberAt, AppendsAt}
+use Rattle.jsonptr_edit_in_text.proofs.ReachingLemmas.{item_content, below, same_below, other_place, other_key}
+
+label_there : (d at : Data) (w : Path) → content_at w (content d) ≡ Some (content at) → nodes d w ≡ Some (label_of (content at))
+label_there d at w h = ap (option_map label_of) h
+
+pub map_there : (d at : Data) (w : Path) → content_at w (content d) ≡ Some (content at) → nodes at ≡ sub (nodes d) w
+map_there d at w h = map_of-sub w (content d) (content at) h
+
+-- ---- a value replaced
+
+pub assigns_value : (old new : Text) (tokens : List Text) (R : Data → Data → Type 0) (v : Data) → ((at at2 : Data) → R at at2 → at2 ≡ v) → ReachedInText old new tokens R → AssignsInText old tokens (nodes v) new
+assigns_value old new tokens R v same h =
+    let r = h.4 in (
+      h.0,
+      h.1,
+      h.2,
+      h.3,
+      Some (sub (nodes h.0) r.path),
+      subst (λ (m : NodeMap). Assigns (nodes h.0) tokens (nodes v) m (Some (sub (nodes h.0) r.path))) (sym (r.made ∙ ap (λ (x : Data). put (nodes h.0) r.path (nodes x)) (same r.at r.at2 r.changes)))
+          (Assigns_named (nodes h.0) tokens (nodes v) r.path r.named),
+    )
+
+-- ---- a scalar replaced by an expanded value
+
+pub assigns_scalar : (old new : Text) (tokens front : List Text) (x : Text) (rest : List Text) (e : Data) (v : NodeMap) → tokens ≡ front ++ x ∷ rest → nodes e ≡ grown (x ∷ rest) v → ReachedInText old new front (ReplacesScalar e) → AssignsInText old tokens v new
+assigns_scalar old new tokens front x rest e v split is h =
+    let r = h.4 in
+    let leaf = r.changes.0 in
+    let label : nodes h.0 r.path ≡ Some (a_leaf leaf.0) = label_there h.0 r.at r.path r.there ∙ ap (λ (l : Label). Some l) leaf.1 in
+    let stops = stops_in (nodes h.0) tokens front x rest r.path split r.named (lacks_at_leaf (nodes h.0) r.path x leaf.0 label) in (
+      h.0,
+      h.1,
+      h.2,
+      h.3,
+      Some (sub (nodes h.0) r.path),
+      subst (λ (m : NodeMap). Assigns (nodes h.0) tokens v m (Some (sub (nodes h.0) r.path))) (sym (r.made ∙ ap (λ (y : Data). put (nodes h.0) r.path (nodes y)) r.changes.1 ∙ ap (put (nodes h.0) r.path) is))
+          (Assigns_leaf (nodes h.0) tokens front x rest v r.path leaf.0 stops label),
+    )
+
+-- ---- a member added
+
+member_map : (ms ms2 : json.Members) (k : Text) (e : Data) → InsertsMember k e ms ms2 → nodes (json.object ms2) ≡ put (nodes (json.object ms)) (key k ∷ []) (nodes e)
+member_map ms ms2 k e h = same_by_step (nodes (json.object ms2)) (put (nodes (json.object ms)) (key k ∷ []) (nodes e))
+    (sym (put_none (nodes (json.object ms)) (key k ∷ []) (nodes e) [] (rest_after-shorter [] (key k) [])))
+    (λ t. at t (cases_same (key k) t))
+  where
+    there : tree.child (key k) (content (json.object ms2)) ≡ Some (content e)
+    there = member_content k ms2 ∙ ap (option_map content) h.is
+
+    others : (t : Step) → same_step (key k) t ≡ false → tree.child t (content (json.object ms2)) ≡ tree.child t (content (json.object ms))
+    others (place j) apart = refl
+    others (key l) apart = member_content l ms2 ∙ ap (option_map content) (h.others l (other_key k l apart)) ∙ sym (member_content l ms)
+
+    at : (t : Step) → (key k ≡ t) ⊎ (same_step (key k) t ≡ false) → sub (nodes (json.object ms2)) (t ∷ []) ≡ sub (put (nodes (json.object ms)) (key k ∷ []) (nodes e)) (t ∷ [])
+    at t (inl same) = subst (λ (u : Step). sub (nodes (json.object ms2)) (u ∷ []) ≡ sub (put (nodes (json.object ms)) (key k ∷ []) (nodes e)) (u ∷ [])) same
+        (sym (below (content (json.object ms2)) (content e) (key k) there) ∙ sym (put-step (nodes (json.object ms)) (key k) [] (nodes e)))
+    at t (inr apart) = same_below (content (json.object ms)) (content (json.object ms2)) t (others t apart) ∙ sym (put-other_step (nodes (json.object ms)) (key k) t [] (nodes e) apart)
+
+pub assigns_member : (old new : Text) (tokens front : List Text) (x : Text) (rest : List Text) (e : Data) (v : NodeMap) → tokens ≡ front ++ x ∷ rest → nodes e ≡ grown rest v → ReachedInText old new front (AddsMemberAt x e) → AssignsInText old tokens v new
+assigns_member old new tokens front x rest e v split is h =
+    let r = h.4 in
+    let a = r.changes in
+    let there : content_at r.path (content h.0) ≡ Some (content (json.object a.ms)) = r.there ∙ ap (λ (d : Data). Some (content d)) a.old in
+    let label : nodes h.0 r.path ≡ Some an_object = label_there h.0 (json.object a.ms) r.path there in
+    let none : nodes h.0 (r.path ++ key x ∷ []) ≡ None = ap (option_map label_of) (content_at-push r.path (key x) (content h.0) (content (json.object a.ms)) there ∙ member_content x a.ms ∙ ap (option_map content) a.inserts.none) in
+    let stops = stops_in (nodes h.0) tokens front x rest r.path split r.named (lacks_at_object (nodes h.0) r.path x label none) in
+    let made2 : nodes r.at2 ≡ put (sub (nodes h.0) r.path) (key x ∷ []) (grown rest v) =
+    ap nodes a.new ∙ member_map a.ms a.ms2 x e a.inserts ∙ ap (put (nodes (json.object a.ms)) (key x ∷ [])) is ∙ ap (λ (n : NodeMap). put n (key x ∷ []) (grown rest v)) (map_there h.0 (json.object a.ms) r.path there) in (
+      h.0,
+      h.1,
+      h.2,
+      h.3,
+      None,
+      subst (λ (m : NodeMap). Assigns (nodes h.0) tokens v m None) (sym (r.made ∙ ap (put (nodes h.0) r.path) made2))
+          (Assigns_object_below (nodes h.0) tokens front x rest v r.path stops label),
+    )
+
+-- ---- an element added at the end
+
+end_index : (len n : ℕ) (x : Text) → len ≡ n → (x ≡ codes "-") ⊎ (x ≡ dec n) → is_append_index len x ≡ true
+end_index len n x same (inl dash) = means_end-dash len x dash
+end_index len n x same (inr number) = means_end-dec len x (number ∙ ap dec (sym same))
+
+none_past : (ds : json.Items) (j : ℕ) → skim.items_len ds ≤ j → find.get_item j ds ≡ None
+none_past json.no_items j h = refl
+none_past (json.item d ds) zero h = absurd (omega (arith, h))
+none_past (json.item d ds) (suc j) h = none_past ds j (omega (arith, h))
+
+cases_below : (j n : ℕ) → (j ≡ n → ⊥) → (j < n) ⊎ (n < j)
+cases_below zero zero h = absurd (h refl)
+cases_below zero (suc n) h = inl (omega arith)
+cases_below (suc j) zero h = inr (omega arith)
+cases_below (suc j) (suc n) h = ⊎_elim (λ a. inl (omega (arith, a))) (λ a. inr (omega (arith, a))) (cases_below j n (λ e. h (ap suc e)))
+
+other_items : (ds ds2 : json.Items) (e : Data) → InsertsItem (skim.items_len ds) e ds ds2 → (j : ℕ) → (j ≡ skim.items_len ds → ⊥) → find.get_item j ds2 ≡ find.get_item j ds
+other_items ds ds2 e h j apart = at (cases_below j (skim.items_len ds) apart)
+  where
+    at : (j < skim.items_len ds) ⊎ (skim.items_len ds < j) → find.get_item j ds2 ≡ find.get_item j ds
+    at (inl low) = h.before j low
+    at (inr high) = none_past ds2 j (omega (arith, h.one_more, high)) ∙ sym (none_past ds j (omega (arith, high)))
+
+end_map : (ds ds2 : json.Items) (e : Data) → InsertsItem (skim.items_len ds) e ds ds2 → nodes (json.array ds2) ≡ made (nodes (json.array ds)) (place (items_len (items ds)) ∷ []) (nodes e)
+end_map ds ds2 e h = same_by_step (nodes (json.array ds2)) (made (nodes (json.array ds)) (place (items_len (items ds)) ∷ []) (nodes e)) label (λ t. at t (cases_same (place (items_len (items ds))) t))
+  where
+    label : nodes (json.array ds2) [] ≡ made (nodes (json.array ds)) (place (items_len (items ds)) ∷ []) (nodes e) []
+    label = ap (λ (n : ℕ). Some (an_array n)) (len_same ds2 ∙ h.one_more ∙ ap suc (sym (len_same ds)) ∙ longest (items_len (items ds)))
+      where
+        longest : (n : ℕ) → suc n ≡ max n (suc n)
+        longest n = omega arith
+
+    there : tree.child (place (items_len (items ds))) (content (json.array ds2)) ≡ Some (content e)
+    there = ap (λ (n : ℕ). tree.child (place n) (content (json.array ds2))) (len_same ds) ∙ item_content ds2 (skim.items_len ds) ∙ ap (option_map content) h.is
+
+    others : (t : Step) → same_step (place (items_len (items ds))) t ≡ false → tree.child t (content (json.array ds2)) ≡ tree.child t (content (json.array ds))
+    others (key k) apart = refl
+    others (place j) apart = item_content ds2 j ∙ ap (option_map content) (other_items ds ds2 e h j (λ s. other_place (items_len (items ds)) j apart (s ∙ sym (len_same ds)))) ∙ sym (item_content ds j)
+
+    at : (t : Step) → (place (items_len (items ds)) ≡ t) ⊎ (same_step (place (items_len (items ds))) t ≡ false) → sub (nodes (json.array ds2)) (t ∷ []) ≡ sub (made (nodes (json.array ds)) (place (items_len (items ds)) ∷ []) (nodes e)) (t ∷ [])
+    at t (inl same) = subst (λ (u : Step). sub (nodes (json.array ds2)) (u ∷ []) ≡ sub (made (nodes (json.array ds)) (place (items_len (items ds)) ∷ []) (nodes e)) (u ∷ [])) same
+        (sym (below (content (json.array ds2)) (content e) (place (items_len (items ds))) there) ∙ sym (made-step (nodes (json.array ds)) (place (items_len (items ds))) [] (nodes e)))
+    at t (inr apart) = same_below (content (json.array ds)) (content (json.array ds2)) t (others t apart) ∙ sym (made-other_step (nodes (json.array ds)) (place (items_len (items ds))) t [] (nodes e) apart)
+
+pub assigns_end : (old new : Text) (tokens front : List Text) (x : Text) (rest : List Text) (e : Data) (v : NodeMap) → tokens ≡ front ++ x ∷ rest → nodes e ≡ grown rest v → ReachedInText old new front (AppendsAt x e) → AssignsInText old tokens v new
+assigns_end old new tokens front x rest e v split is h =
+    let r = h.4 in
+    let a = r.changes in
+    let ds = a.0 in
+    let there : content_at r.path (content h.0) ≡ Some (content (json.array ds)) = r.there ∙ ap (λ (d : Data). Some (content d)) a.2 in
+    let label : nodes h.0 r.path ≡ Some (an_array (items_len (items ds))) = label_there h.0 (json.array ds) r.path there in
+    let means : is_append_index (items_len (items ds)) x ≡ true = end_index (items_len (items ds)) (skim.items_len ds) x (len_same ds) a.5 in
+    let stops = stops_in (nodes h.0) tokens front x rest r.path split r.named (lacks_at_end (nodes h.0) r.path x (items_len (items ds)) label means) in
+    let made2 : nodes r.at2 ≡ made (sub (nodes h.0) r.path) (place (items_len (items ds)) ∷ []) (grown rest v) =
+    ap nodes a.3 ∙ end_map ds a.1 e a.4 ∙ ap (made (nodes (json.array ds)) (place (items_len (items ds)) ∷ [])) is ∙ ap (λ (n : NodeMap). made n (place (items_len (items ds)) ∷ []) (grown rest v)) (map_there h.0 (json.array ds) r.path there) in (
+      h.0,
+      h.1,
+      h.2,
+      h.3,
+      None,
+      subst (λ (m : NodeMap). Assigns (nodes h.0) tokens v m None) (sym (r.made ∙ ap (put (nodes h.0) r.path) made2))
+          (Assigns_end_below (nodes h.0) tokens front x rest v r.path (items_len (items ds)) (map_of-IsTree (content h.0)) stops label means),
+    )
+
+-- ---- an expanded value
+
+pub expanded : (c : Content) (tokens : List Text) (v m : NodeMap) (old : Option NodeMap) → c ≡ scalar (of_json json.null) → Assigns (map_of c) tokens v m old → m ≡ grown tokens v
+expanded c tokens v m old null h = on_null tokens v m old (subst (λ (x : Content). Assigns (map_of x) tokens v m old) null h)
+  where
+    on_null : (tokens : List Text) (v m : NodeMap) (old : Option NodeMap) → Assigns (nodes json.null) tokens v m old → m ≡ grown tokens v
+    on_null [] v m old h = ((Assigns-named (nodes json.null) [] v m old [] refl).0 h).0
+    on_null (x ∷ rest) v m old h =
+        ((Assigns-leaf (nodes json.null) (x ∷ rest) [] x rest v m old [] (of_json json.null) (stops_in (nodes json.null) (x ∷ rest) [] x rest [] refl refl (lacks_at_leaf (nodes json.null) [] x (of_json json.null) refl)) refl).0 h).0
+
+-- ---- a result that may be nothing
+
+pub if_new : (r : Result (Option (String Global)) AllocError) (P Q : String Global → Type 0) → ((s : String Global) → P s → Q s) → IfOk r (λ o. IfSome o P) → IfOk r (λ o. IfSome o Q)
+if_new (Err e) P Q f h = h
+if_new (Ok None) P Q f h = h
+if_new (Ok (Some s)) P Q f h = f s h
+
+pub same_data : (d e : Data) → Some d ≡ Some e → d ≡ e
+same_data d e h = cc
+
+pub scalar_label : (c : Content) (a : Scalar) → c ≡ scalar a → (b : Scalar) × (label_of c ≡ a_leaf b)
+scalar_label c a h = (a, ap label_of h)

@@ -1,0 +1,4 @@
+pub mod DepthLemmas
+pub mod EditLemmas
+pub mod ReachingLemmas
+pub mod RemoveLemmas

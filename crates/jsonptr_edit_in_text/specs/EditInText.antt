@@ -1,0 +1,63 @@
+-- Edits of a document in its text.
+use Rattle.std.specs.Prelude.{◌≡◌, ℕ, ◌<◌, ◌≤◌, List, ◌++◌, take, drop, Option, Some, None, ⊤, string_bytes}
+use Rattle.serde_json.specs.Data.{Data, null, depth}
+use Rattle.serde_json.specs.Read.{read, max_depth}
+use Rattle.jsonptr_grammar.specs.Text.{Text}
+use Rattle.jsonptr_tree.specs.Node.{Path, NodeMap, Names}
+use Rattle.jsonptr_tree.specs.Json.{nodes}
+use Rattle.jsonptr_tree.specs.Assigning.{Assigns}
+use Rattle.jsonptr_tree.specs.Removing.{Deletes}
+use Rattle.jsonptr.specs.Assign.{RefusesAssign}
+use Rattle.jsonptr.specs.declared.assign.Error.{Error as AssignError}
+use Rattle.jsonptr_edit_in_text.specs.declared.edited.Edited.{Edited}
+use Rattle.jsonptr_edit_in_text.specs.declared.edited.Edited.TheVariants.{InPlace, Rewritten}
+use Rattle.jsonptr_edit_in_text.specs.declared.edited.EditError.{EditError}
+use Rattle.jsonptr_edit_in_text.specs.declared.edited.EditError.TheVariants.{NotJson, Refused, TooDeep, Memory}
+
+-- `text_of e`: the text of the edited document
+abbrev pub text_of : Edited → Text
+text_of (InPlace s) = string_bytes s
+text_of (Rewritten s) = string_bytes s
+
+-- `IsSpliced old new`: `new` is the text `old` with one piece replaced, from one offset to another
+abbrev pub IsSpliced : Text → Text → Type 0
+IsSpliced old new = (from to : ℕ) × (piece : Text) × (from ≤ to) × (new ≡ take from old ++ (piece ++ drop to old))
+
+-- `KeepsBytes old e`: if e was edited in place, its text is `old` with one piece replaced
+abbrev pub KeepsBytes : Text → Edited → Type 0
+KeepsBytes old (InPlace s) = IsSpliced old (string_bytes s)
+KeepsBytes old (Rewritten s) = ⊤
+
+-- `AssignsInText old tokens v new`: the texts read as documents, and assigning v at the tokens turns the first document
+-- into the second
+abbrev pub AssignsInText : Text → List Text → NodeMap → Text → Type 0
+AssignsInText old tokens v new =
+    (d d2 : Data) × (read old ≡ Some d) × (read new ≡ Some d2)
+    × (replaced : Option NodeMap) × Assigns (nodes d) tokens v (nodes d2) replaced
+
+-- `IsAssignError old tokens v e`: e is why assigning v at the tokens in the text `old` fails, if it is not for memory
+abbrev pub IsAssignError : Text → List Text → NodeMap → EditError AssignError → Type 0
+IsAssignError old tokens v NotJson = read old ≡ None
+IsAssignError old tokens v (Refused e) = (d : Data) × (read old ≡ Some d) × RefusesAssign (nodes d) tokens e
+IsAssignError old tokens v TooDeep =
+    (d d2 : Data) × (read old ≡ Some d) × (max_depth < depth d2)
+    × (replaced : Option NodeMap) × Assigns (nodes d) tokens v (nodes d2) replaced
+IsAssignError old tokens v (Memory e) = ⊤
+
+-- `DeletesInText old tokens new`: the texts read as documents, the tokens name a path of the first one, and deleting there
+-- turns it into the second
+abbrev pub DeletesInText : Text → List Text → Text → Type 0
+DeletesInText old tokens new =
+    (d d2 : Data) × (read old ≡ Some d) × (read new ≡ Some d2)
+    × ((w : Path) × Names (nodes d) tokens w) × Deletes (nodes d) tokens (nodes null) (nodes d2)
+
+-- `LacksInText old tokens`: the text reads as a document of which the tokens name no path
+abbrev pub LacksInText : Text → List Text → Type 0
+LacksInText old tokens = (d : Data) × (read old ≡ Some d) × ((w : Path) → Names (nodes d) tokens w → ⊥)
+
+-- `IsReadFault text e`: e is why the text is not read, if it is not for memory
+abbrev pub IsReadFault : {E : Type 0} → Text → EditError E → Type 0
+IsReadFault text NotJson = read text ≡ None
+IsReadFault text (Refused e) = ⊥
+IsReadFault text TooDeep = ⊥
+IsReadFault text (Memory e) = ⊤

@@ -1,0 +1,2 @@
+pub mod EditInText
+pub mod PrivateReaching

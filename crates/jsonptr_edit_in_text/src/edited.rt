@@ -1,0 +1,58 @@
+//! What an edit in a text returns.
+ghost use Rattle.std.specs.Prelude.{◌≡◌, string_bytes};
+ghost use Rattle.jsonptr_edit_in_text.specs.EditInText.{text_of};
+ghost use Rattle.jsonptr_edit_in_text.specs.declared.edited.EditError.TheVariants.{Memory};
+
+use std::alloc::AllocError;
+
+/// A text after an edit.
+#[derive(Debug, Drop)]
+pub enum Edited {
+    /// The old text with one piece replaced. All other bytes are those of the old text.
+    InPlace(String),
+    /// The whole document, printed anew without white space.
+    Rewritten(String),
+}
+
+impl Edited {
+    /// Returns the text.
+    pub fn as_str(&self) -> &str
+        ensures { result.now ≡ text_of self.now }
+    {
+        match self {
+            Edited::InPlace(text) => text.as_str(),
+            Edited::Rewritten(text) => text.as_str(),
+        }
+    }
+
+    /// Returns the text, without copying it.
+    pub fn into_string(self) -> String
+        ensures { string_bytes result ≡ text_of self }
+    {
+        match self {
+            Edited::InPlace(text) => text,
+            Edited::Rewritten(text) => text,
+        }
+    }
+}
+
+/// Why an edit in a text fails. `E` is the error of the call on the document.
+#[derive(Debug, Drop)]
+pub enum EditError<E> {
+    /// `serde_json` does not read the text.
+    NotJson,
+    /// The text is a document, and the call on it fails.
+    Refused(E),
+    /// The new document nests deeper than 127, so that its text could not be read.
+    TooDeep,
+    /// An allocation failed.
+    Memory(AllocError),
+}
+
+impl<E> From<AllocError> for EditError<E> {
+    ghost from_gives = { λ error fault. fault ≡ Memory error };
+
+    fn from(error: AllocError) -> EditError<E> {
+        EditError::Memory(error)
+    }
+}

@@ -1,0 +1,29 @@
+//! Edits a JSON document in its text: every byte outside the location of the edit stays.
+//!
+//! ```rust
+//! let text = "{\n  \"name\": \"app\",\n  \"sizes\": [1.0, 5]\n}\n";
+//! let pointer = Pointer::parse("/sizes/1")?;
+//! let edited = assign_in_text(alloc, text, pointer, Value::from(7))?;
+//! let new = "{\n  \"name\": \"app\",\n  \"sizes\": [1.0, 7]\n}\n";
+//! assert_eq!(rt; edited.as_str(), new);
+//! ```
+//!
+//! Each call makes two promises. *Meaning*: the new text reads as the document that the call of
+//! `jsonptr` makes of the document that the old text reads as. *Bytes*: the new text is the old one
+//! with one piece replaced.
+//!
+//! In the examples `rt` is the runtime that `main` and each test receive, and `alloc` is
+//! `rt.alloc()`, the allocator.
+#![tactic(auto)]
+
+mod assign;
+mod delete;
+mod depth;
+mod edited;
+mod expand;
+mod in_place;
+mod rewrite;
+
+pub use assign::assign_in_text;
+pub use delete::delete_in_text;
+pub use edited::{EditError, Edited};

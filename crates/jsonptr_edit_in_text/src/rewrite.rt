@@ -1,0 +1,88 @@
+//! Changing a document that is read from a text and printed anew.
+ghost use Rattle.std.specs.Prelude.{◌≡◌, IfOk, IfErr, Some, MatchOption, string_bytes};
+ghost use Rattle.serde_json.specs.Read.{read};
+ghost use Rattle.serde_json.specs.View.{view};
+ghost use Rattle.jsonptr.specs.Pointer.{tokens};
+ghost use Rattle.jsonptr_tree.specs.Json.{nodes};
+ghost use Rattle.jsonptr_edit_in_text.specs.EditInText.{AssignsInText, DeletesInText, LacksInText, IsAssignError, IsReadFault};
+
+use crate::depth::nests_within;
+use crate::edited::EditError;
+use crate::in_place::MAX_DEPTH;
+use jsonptr::{Assign, Delete, Fault, Pointer, assign};
+use serde_json::Value;
+use std::alloc::{AllocError, Global};
+use std::convert::Infallible;
+
+/// Reads the text, assigns the value at the pointer, and prints the document.
+///
+/// # Errors
+///
+/// Those of [`assign_in_text`](crate::assign_in_text).
+pub fn assign_and_print(
+    alloc: Global,
+    text: &str,
+    pointer: Pointer<'_>,
+    value: Value,
+) -> Result<String, EditError<assign::Error>>
+    ensures assigned { IfOk result (λ s. AssignsInText text.now (tokens pointer.entry)
+        (nodes (view value)) (string_bytes s)) }
+    ensures refused { IfErr result (IsAssignError text.now (tokens pointer.entry)
+        (nodes (view value))) }
+{
+    let mut document = read_document(alloc, text)?;
+    match document.assign(alloc, pointer, value) {
+        Ok(_) => {}
+        Err(Fault::Refused(error)) => return Err(EditError::Refused(error)),
+        Err(Fault::Memory(error)) => return Err(EditError::Memory(error)),
+    }
+    if !nests_within(&document, MAX_DEPTH) {
+        return Err(EditError::TooDeep);
+    }
+    Ok(document.to_string(alloc)?)
+}
+
+/// Reads the text, deletes the value that the pointer resolves to, and prints the document. Returns
+/// `None` if the pointer resolves to nothing.
+///
+/// # Errors
+///
+/// Those of [`delete_in_text`](crate::delete_in_text).
+pub fn delete_and_print(
+    alloc: Global,
+    text: &str,
+    pointer: Pointer<'_>,
+) -> Result<Option<String>, EditError<Infallible>>
+    ensures deleted { IfOk result (λ o. MatchOption o (LacksInText text.now (tokens pointer.entry))
+        (λ s. DeletesInText text.now (tokens pointer.entry) (string_bytes s))) }
+    ensures refused { IfErr result (IsReadFault text.now) }
+{
+    let mut document = read_document(alloc, text)?;
+    match document.delete(alloc, pointer)? {
+        None => Ok(None),
+        Some(_) => {
+            // A deletion makes no document deeper.
+            if !nests_within(&document, MAX_DEPTH) {
+                return Err(EditError::Memory(AllocError));
+            }
+            Ok(Some(document.to_string(alloc)?))
+        }
+    }
+}
+
+/// Reads the document that the text is.
+///
+/// # Errors
+///
+/// [`EditError::NotJson`] if `serde_json` does not read the text, and [`EditError::Memory`] if an
+/// allocation fails.
+fn read_document<E>(alloc: Global, text: &str) -> Result<Value, EditError<E>>
+    ensures ok { IfOk result (λ v. read text.now ≡ Some (view v)) }
+    ensures err { IfErr result (IsReadFault text.now) }
+{
+    match Value::from_str(alloc, text) {
+        Ok(value) => Ok(value),
+        Err(error) if error.is_memory() => Err(EditError::Memory(AllocError)),
+        Err(_) => Err(EditError::NotJson),
+    }
+}

@@ -1,0 +1,3 @@
+pub mod AddingLemmas
+pub mod ChildLemmas
+pub mod SideLemmas

@@ -1,0 +1,15 @@
+//! Replaces a piece of a JSON text, and shows by reading both texts that the new one is the old one
+//! with one edit.
+//!
+//! This crate knows no JSON Pointers. `jsonptr_edit_in_text` edits at pointers with it.
+#![tactic(auto)]
+
+mod add;
+mod append;
+pub mod check;
+mod decide;
+pub mod edit;
+pub mod layout;
+pub mod locate;
+mod same;
+pub mod splice;

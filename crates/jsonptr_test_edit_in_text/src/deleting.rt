@@ -1,0 +1,143 @@
+//! Deleting in a text: the text that is expected, byte by byte, and the document of `delete`.
+use jsonptr::{Delete, Pointer};
+use jsonptr_edit_in_text::{EditError, Edited, delete_in_text};
+use serde_json::Value;
+use std::alloc::Global;
+use std::test::Fail;
+
+/// Checks that the value is deleted in place, and that the text is this one.
+fn becomes(alloc: Global, text: &str, pointer: &str, want: &str) -> Result<bool, Fail> {
+    match delete_in_text(alloc, text, Pointer::parse(pointer)?) {
+        Ok(Some(Edited::InPlace(new))) => Ok(new.as_str() == want),
+        _ => Ok(false),
+    }
+}
+
+/// Checks that the new text reads as the document that `delete` makes.
+fn agrees(alloc: Global, text: &str, pointer: &str) -> Result<bool, Fail> {
+    let mut document = Value::from_str(alloc, text)?;
+    let at = Pointer::parse(pointer)?;
+    let deleted = document.delete(alloc, at)?;
+    match delete_in_text(alloc, text, at) {
+        Ok(Some(new)) => {
+            let read = Value::from_str(alloc, new.as_str())?;
+            let same = read.to_string(alloc)?.as_str() == document.to_string(alloc)?.as_str();
+            Ok(same && deleted.is_some())
+        }
+        Ok(None) => Ok(deleted.is_none()),
+        Err(_) => Ok(false),
+    }
+}
+
+/// Returns the position of the first case that fails: by its bytes, or by its document.
+fn first_failing(alloc: Global, cases: &[(&str, &str, &str)]) -> Result<Option<usize>, Fail> {
+    for (position, (text, pointer, want)) in cases.iter().enumerate() {
+        if !becomes(alloc, text, pointer, want)? || !agrees(alloc, text, pointer)? {
+            return Ok(Some(position));
+        }
+    }
+    Ok(None)
+}
+
+#[test]
+fn a_member_is_cut_out_with_its_comma(rt: HostRuntime) -> Result<(), Fail> {
+    let failing = first_failing(
+        rt.alloc(),
+        &[
+            (r#"{"a":1,"b":2}"#, "/a", r#"{"b":2}"#),
+            (r#"{"a":1,"b":2}"#, "/b", r#"{"a":1}"#),
+            (
+                r#"{ "a" : 1 , "b" : 2.0 , "c" : 3 }"#,
+                "/b",
+                r#"{ "a" : 1 , "c" : 3 }"#,
+            ),
+            (
+                "{\n  \"a\": 1,\n  \"b\": 2\n}\n",
+                "/b",
+                "{\n  \"a\": 1\n}\n",
+            ),
+            (
+                "{\r\n  \"a\": 1,\r\n  \"b\": 2\r\n}",
+                "/a",
+                "{\r\n  \"b\": 2\r\n}",
+            ),
+            ("{\n  \"a\": 1\n}", "/a", "{}"),
+            (
+                r#"{"a":{"b":1e5,"b\u0063":[]}}"#,
+                "/a/bc",
+                r#"{"a":{"b":1e5}}"#,
+            ),
+            (
+                r#"{"a":1,"a":{"x":1,"y":2}}"#,
+                "/a/x",
+                r#"{"a":1,"a":{"y":2}}"#,
+            ),
+        ],
+    )?;
+    assert_eq!(rt; failing, None);
+    Ok(())
+}
+
+#[test]
+fn an_element_is_cut_out_with_its_comma(rt: HostRuntime) -> Result<(), Fail> {
+    let failing = first_failing(
+        rt.alloc(),
+        &[
+            ("[1, 2, 3]", "/0", "[2, 3]"),
+            ("[1, 2, 3]", "/1", "[1, 3]"),
+            ("[1, 2, 3]", "/2", "[1, 2]"),
+            ("[ [ 1 ] ]", "/0", "[]"),
+            ("[\n  1.50,\n  2\n]", "/1", "[\n  1.50\n]"),
+        ],
+    )?;
+    assert_eq!(rt; failing, None);
+    Ok(())
+}
+
+#[test]
+fn deleting_the_root_leaves_null(rt: HostRuntime) -> Result<(), Fail> {
+    let failing = first_failing(
+        rt.alloc(),
+        &[(" [1] \n", "", " null \n"), ("0", "", "null")],
+    )?;
+    assert_eq!(rt; failing, None);
+    Ok(())
+}
+
+#[test]
+fn what_is_not_there_is_none(rt: HostRuntime) -> Result<(), Fail> {
+    for (text, pointer) in [
+        ("[1]", "/1"),
+        ("[1]", "/-"),
+        (r#"{"a":1}"#, "/b"),
+        ("1", "/a"),
+    ] {
+        let edited = delete_in_text(rt.alloc(), text, Pointer::parse(pointer)?);
+        assert!(rt; matches!(edited, Ok(None)), "{text} {pointer}");
+    }
+    Ok(())
+}
+
+#[test]
+fn one_of_two_members_with_a_key_is_rewritten(rt: HostRuntime) -> Result<(), Fail> {
+    let edited = delete_in_text(
+        rt.alloc(),
+        r#"{"a":1, "a":2, "b":3}"#,
+        Pointer::parse("/a")?,
+    );
+    let text = match edited {
+        Ok(Some(Edited::Rewritten(text))) => text,
+        _ => return Err("a rewritten text".into()),
+    };
+    assert_eq!(rt; text.as_str(), r#"{"b":3}"#);
+    Ok(())
+}
+
+#[test]
+fn a_damaged_text_is_not_json(rt: HostRuntime) -> Result<(), Fail> {
+    for text in ["", "{", "[1 2]", "1 2", "[1e999]"] {
+        let edited = delete_in_text(rt.alloc(), text, Pointer::root());
+        assert!(rt; matches!(edited, Err(EditError::NotJson)), "{text}");
+    }
+    Ok(())
+}
