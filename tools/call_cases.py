@@ -485,6 +485,35 @@ VECTORS = [
 ]
 
 
+def in_text():
+    """Resolving in text."""
+    calls = ("resolve_in_text", "resolve_in_slice")
+    for pointer, value in VECTORS:
+        for call in calls:
+            yield allocates("in text", call, SECTION_5, pointer, answer=value)
+        yield allocates("in text", "exists_in_text", SECTION_5, pointer, answer="true")
+    errors = [
+        ('{"foo":["bar"]}', "/foo/-", RESOLVE_OUT_OF_BOUNDS.format(4)), ('{"a":{}}', "/a/", RESOLVE_NOT_FOUND.format(2)),
+        ('{"foo":["bar"]}', "/foo/01", RESOLVE_BAD_INDEX.format(4)), ('{"a":1}', "/a/b", RESOLVE_UNREACHABLE.format(2)),
+        ("{}", "/" + LONG, RESOLVE_NOT_FOUND.format(0)), ("{}", "/a" * 50, RESOLVE_NOT_FOUND.format(0)),
+    ]
+    for text, pointer, error in errors:
+        for call in calls:
+            yield allocates("in text", call, text, pointer, answer=error)
+        yield allocates("in text", "exists_in_text", text, pointer, answer="false")
+    for text in ["", "{", '{"a":1', '{"a":1}}', '{"b":1e309,"a":1}', '{"a":1,"b":"\\ud800"}', "[" * 128 + "]" * 128]:
+        for call in (*calls, "exists_in_text"):
+            yield allocates("in text", call, text, "/a", answer="not JSON")
+    found = [
+        ('{"a":1,"a":[{"b":2,"b":3}],"c":[]}', "/a/0/b", "3"), ('{"a":[1, "x\\n", {"b" : null}], "c":2}', "/a", '[1,"x\\n",{"b":null}]'),
+        (f'{{"a":"{LONG}","b":[1]}}', "/b/0", "1"), (f'{{"a":"{LONG}","b":[1]}}', "/a", f'"{LONG}"'), ("[1,2]", "", "[1,2]"),
+    ]
+    for text, pointer, value in found:
+        for call in calls:
+            yield allocates("in text", call, text, pointer, answer=value)
+        yield allocates("in text", "exists_in_text", text, pointer, answer="true")
+
+
 def found():
     """`resolve` and `resolve_mut` in a JSON document."""
     for pointer, value in VECTORS:
@@ -943,6 +972,30 @@ def journaled():
             yield patched(document, *operations[:count], ("test", "", "0.5"), answer=cause)
 
 
+def changed(old, new, *operations):
+    """A difference, and a change by it. With a failed allocation the document is unchanged."""
+    answer = "".join(f"{it}\n" for it in (*operations, "done"))
+    yield Case(("diff", old, new), answer, f"{old}\n", no_alloc=not operations)
+    yield Case(("change", old, new), "done\n", f"{new}\n", no_alloc=not operations)
+
+
+def differences():
+    """Differences of two documents, and changes by them."""
+    for document in ["null", "[]", "{}", "[1,[2,{}]]", '{"a":{"b":["c",null]}}']:
+        yield from changed(document, document)
+    yield from changed("1", "2", "replace  2")
+    yield from changed("[1,2,3]", "[0,1,2,3,4]", "add /0 0", "add /4 4")
+    yield from changed("[1,2,3,4]", "[4]", "remove /0", "remove /0", "remove /0")
+    yield from changed('{"a":1,"b":2}', '{"b":3,"c":4}', "remove /a", "replace /b 3", "add /c 4")
+    yield from changed('{"a":[{"b":1},{"c":2}]}', '{"a":[{"b":1},{"c":3}]}', "replace /a/1/c 3")
+    yield from changed('{"a/b":{"~":1}}', '{"a/b":{"~":[1]}}', "replace /a~1b/~0 [1]")
+    yield from changed("[1.5,2]", "[1.5,2]", "replace /0 1.5")
+    yield from changed('{"a":[1,2,{"b":[3,4,5]}],"c":6}', '{"a":[2,{"b":[3,5]},7],"c":{}}',
+                       "remove /a/0", "remove /a/1/b/1", "add /a/2 7", "replace /c {}")
+    deep = '{"x":' * 20
+    yield from changed(deep + "1" + "}" * 20, deep + "2" + "}" * 20, f"replace {'/x' * 20} 2")
+
+
 def array_of(numbers):
     """The JSON text of an array of numbers."""
     return f"[{','.join(map(str, numbers))}]"
@@ -1381,6 +1434,62 @@ def large_undos_and_patches():
     yield patched("[]", *[("add", "/-", "1")] * 2000, after=f"[{','.join('1' * 2000)}]")
 
 
+def read_as(document, *operations, most=None):
+    """A patch document that is read as these operations."""
+    return Case(("patch read", document), "".join(f"{it}\n" for it in (*operations, "done")), f"{document}\n", most=most)
+
+
+def unread(document, cause):
+    """A document that is not a patch, which needs no memory to find out."""
+    answer = f"not a JSON Patch document: {cause}\n"
+    return Case(("patch read", document), answer, f"{document}\n", no_alloc=True)
+
+
+def written_as(document, *operations):
+    """Operations, each with the line that shows it, and their document."""
+    shown = "".join(f"{line}\n" for line in (*(line for _, line in operations), "done"))
+    return Case(("patch written", *(word for words, _ in operations for word in words)), f"{document}\n", shown)
+
+
+def patch_documents():
+    """Reading and writing patch documents."""
+    add = '{"op":"add","path":"/a~1b","value":{"x":[1,null]}}'
+    move = '{"from":"/a","op":"move","path":""}'
+    yield read_as("[]", most=0)
+    yield read_as(f"[{add}]", 'add {"x":[1,null]} at /a~1b')
+    yield read_as('[{"op":"remove","path":"/a"}]', "remove /a", most=2)
+    yield read_as('[{"op":"replace","path":"/a","value":"text"}]', 'replace /a by "text"', most=3)
+    yield read_as(f"[{move}]", "move /a to ")
+    yield read_as('[{"from":"","op":"copy","path":"/~0/-"}]', "copy  to /~0/-")
+    yield read_as('[{"op":"test","path":"","value":-7,"x":1}]', "test  for -7")
+    yield read_as(f"[{','.join([add, move] * 20)}]", *['add {"x":[1,null]} at /a~1b', "move /a to "] * 20)
+    for document, cause in [
+        ("{}", "not an array"),
+        ("[7]", "operation 0 is not an object"),
+        (f'[{add},"{LONG}"]', "operation 1 is not an object"),
+        ("[{}]", "operation 0 has no member `op`"),
+        (f'[{add},{move},{{"op":"test","path":"{MANY}"}}]', "operation 2 has no member `value`"),
+        ('[{"op":["add"]}]', "member `op` of operation 0 is not a string"),
+        (f'[{{"op":"{LONG}"}}]', "member `op` of operation 0 is not an operation"),
+        (f'[{move},{{"op":"remove","path":"{LONG}"}}]', f"member `path` of operation 1: {PARSE_NO_SLASH}"),
+        ('[{"from":"/a/~","op":"copy","path":""}]', f"member `from` of operation 0: {PARSE_MALFORMED.format(2)}"),
+    ]:
+        yield unread(document, cause)
+    yield written_as("[]")
+    yield written_as(f"[{add}]", (("add", "/a~1b", '{"x":[1,null]}'), 'add {"x":[1,null]} at /a~1b'))
+    yield written_as(
+        f'[{move},{{"op":"remove","path":"/~0"}},{{"op":"test","path":"/b","value":"text"}}]',
+        (("move", "/a", ""), "move /a to "),
+        (("remove", "/~0"), "remove /~0"),
+        (("test", "/b", '"text"'), 'test /b for "text"'),
+    )
+    no_slash, no_escape = "must start with a slash ('/')", "'~' must be followed by '0' or '1'"
+    yield allocates("patch labels", '[{"op":"remove","path":"a"}]', answer=f"{no_slash} at 0, length 0")
+    yield allocates("patch labels", '[{"op":"copy","path":"","from":"/b~"}]', answer=f"{no_escape} at 2, length 1")
+    yield no_alloc("patch labels", '[{"op":"remove"}]', answer="none")
+    yield no_alloc("patch labels", "{}", answer="none")
+
+
 def few_requests():
     """Calls that copy no more than they need: the number of memory requests is limited."""
     text = '"a text that takes memory"'
@@ -1414,7 +1523,8 @@ def values_of_errors():
 
 TABLES = [
     texts, pointers_of_texts, cut, indices, tokens, numbers, measures, pairs, ranges, copies, edits, owned,
-    found, assigned, in_tables, labelled, undos, undos_told, patches, applied, refused, journaled,
+    found, assigned, in_tables, labelled, undos, undos_told, patches, applied, refused, journaled, patch_documents,
+    differences, in_text,
     sessions, single_calls, refused_calls, reports, bounds, shown,
     large_documents, large_undos_and_patches, few_requests, values_of_errors,
 ]

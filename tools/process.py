@@ -442,15 +442,16 @@ def main():
     cases = [case for table in TABLES for case in table()]
     with tempfile.TemporaryDirectory() as folder, ThreadPoolExecutor(os.cpu_count()) as pool:
         shim = build_shim(folder)
-        streams = pool.submit(check_streams)
+        # First, and alone: a process that another thread starts can hold the end of a pipe that is closed here.
+        streams = check_streams()
         requests_each = list(pool.map(lambda case: check_memory(case, shim), small()))
         for _ in pool.map(check, cases):
             pass
     requests = sum(requests_each)
     if not requests:
         raise CheckFailed("no request was seen")
-    runs = len(cases) + streams.result() + requests + 2 * len(requests_each)
-    failing = f"{streams.result()} runs on streams that fail"
+    runs = len(cases) + streams + requests + 2 * len(requests_each)
+    failing = f"{streams} runs on streams that fail"
     print(f"process: {len(cases)} cases, {failing}, {requests} memory requests made to fail, {runs} runs in all")
 
 

@@ -7,6 +7,8 @@
 #![tactic(auto)]
 
 mod changes;
+mod diffs;
+mod patch_documents;
 mod patches;
 mod stopwatch;
 mod works;
@@ -63,11 +65,17 @@ fn words_of(alloc: Global, line: &str) -> Result<Vec<&str>, AllocError> {
 
 /// Returns the minimum time of a case, if there is such a case.
 fn least_of(stopwatch: &Stopwatch<'_>, case: &[&str]) -> io::Result<Option<u64>> {
-    match works::least_of(stopwatch, case)? {
-        Some(least) => Ok(Some(least)),
-        None => match patches::least_of(stopwatch, case)? {
-            Some(least) => Ok(Some(least)),
-            None => changes::least_of(stopwatch, case),
-        },
+    if let Some(least) = works::least_of(stopwatch, case)? {
+        return Ok(Some(least));
     }
+    if let Some(least) = patches::least_of(stopwatch, case)? {
+        return Ok(Some(least));
+    }
+    if let Some(least) = patch_documents::least_of(stopwatch, case)? {
+        return Ok(Some(least));
+    }
+    if let Some(result) = diffs::least_of(stopwatch, case)? {
+        return Ok(Some(result));
+    }
+    changes::least_of(stopwatch, case)
 }

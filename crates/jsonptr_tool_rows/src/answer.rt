@@ -4,6 +4,7 @@ use jsonptr::{
     EncodingError, Fault, ParseError, Pointer, PointerBuf, ReplaceError, RichParseError, Token,
     assign, resolve,
 };
+use jsonptr_in_text::InTextError;
 use jsonptr_tabled::TabledPointer;
 use std::alloc::AllocError;
 use std::borrow::CowStr;
@@ -73,6 +74,8 @@ pub enum Answer<'a> {
     NoValue(resolve::Error),
     /// No value can be assigned at a pointer.
     IndexError(assign::Error),
+    /// A text is not JSON.
+    NotJson,
 }
 
 impl fmt::Display for Answer<'_> {
@@ -108,6 +111,7 @@ impl fmt::Display for Answer<'_> {
             Answer::NoPosition(error) => error.fmt(f),
             Answer::NoValue(error) => error.fmt(f),
             Answer::IndexError(error) => error.fmt(f),
+            Answer::NotJson => f.write_str("not JSON"),
         }
     }
 }
@@ -225,6 +229,15 @@ impl<'a> Answer<'a> {
         match fault {
             Fault::Refused(error) => Answer::NoValue(error),
             Fault::Memory(_) => Answer::Memory,
+        }
+    }
+
+    /// The error of resolving a pointer in a text.
+    pub fn of_not_in_text(error: InTextError) -> Answer<'a> {
+        match error {
+            InTextError::NotJson => Answer::NotJson,
+            InTextError::Resolve(error) => Answer::NoValue(error),
+            InTextError::Memory(_) => Answer::Memory,
         }
     }
 

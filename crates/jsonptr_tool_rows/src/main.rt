@@ -7,9 +7,12 @@ mod answer;
 mod bounds;
 mod calls;
 mod deep;
+mod differences;
 mod documents;
 mod edits;
 mod failing_writer;
+mod in_text;
+mod patch_documents;
 mod patches;
 mod pointers;
 mod ranges;
@@ -46,10 +49,16 @@ fn main(rt: HostRuntime) -> anyhow::Result<()> {
         "kept" => tabled::run_kept(&rt, row),
         "edit" => edits::run(&rt, row),
         "document" => documents::run(&rt, row),
+        "in text" => in_text::run(&rt, row),
         "deep" => deep::run(&rt, row),
         "undo" => undos::run(&rt, row),
         "patch" => patches::run(&rt, row),
         "patch back" => patches::run_deletion(&rt, row),
+        "patch read" => patch_documents::run_reading(&rt, row),
+        "patch written" => patch_documents::run_writing(&rt, row),
+        "patch labels" => patch_documents::run_labels(&rt, row),
+        "diff" => differences::run(&rt, row),
+        "change" => differences::run_change(&rt, row),
         "session" => sessions::run(&rt, row),
         "report" => reports::run(&rt, row),
         "show" => shows::run(&rt, row),

@@ -31,7 +31,7 @@ fn show_applied(rt: &HostRuntime, applied: Result<(), Fault<PatchError>>) -> any
 }
 
 /// Parses the operations of the remaining lines.
-fn operations(alloc: Global, row: &mut Row<'_>) -> anyhow::Result<Vec<Operation>> {
+pub fn operations(alloc: Global, row: &mut Row<'_>) -> anyhow::Result<Vec<Operation>> {
     let mut patch = Vec::new(alloc);
     for _ in 0..u64::MAX {
         if row.is_empty() {

@@ -3,6 +3,7 @@
 pub mod UndoingLemmas
 mod RemovingLemmas
 mod PatchesLemmas
+mod PatchDocumentsLemmas
 mod SettingsLemmas
 mod ReferencesLemmas
 mod CheckingLemmas
@@ -11,3 +12,4 @@ mod EditingLemmas
 mod WalkingLemmas
 mod NextLemmas
 mod SessionsLemmas
+pub mod InTextLemmas

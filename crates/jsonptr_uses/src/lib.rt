@@ -7,7 +7,10 @@
 //! - [`checker`]: required members and their types.
 //! - [`walk`]: the pointers of all nodes of a document.
 //! - [`editor`], [`cursor_editor`] and [`patches`]: changes that can be undone.
+//! - [`patch_documents`]: a patch document that is applied.
+//! - [`differences`]: a copy that is kept up to date by differences.
 //! - [`sessions`]: calls on a document that is read from a text.
+//! - [`in_text`]: numbers in the text of a document.
 //! - [`tabled`]: a look-up by a pointer with a table.
 //! - [`overlay`]: a document type of one's own.
 //! - [`conditions`] and [`edits`]: conditions of calls, and edits that undo each other.
@@ -16,9 +19,12 @@
 pub mod checker;
 pub mod conditions;
 pub mod cursor_editor;
+pub mod differences;
 pub mod editor;
 pub mod edits;
+pub mod in_text;
 pub mod overlay;
+pub mod patch_documents;
 pub mod patches;
 pub mod references;
 pub mod sessions;

@@ -2,6 +2,7 @@
 use jsonptr::Pointer;
 use jsonptr_uses::checker::{Kind, Required, violations};
 use jsonptr_uses::conditions::{len_of_constant, len_of_known, place_of_fault};
+use jsonptr_uses::in_text::range_in_text;
 use jsonptr_uses::overlay::{Overlay, found_in};
 use jsonptr_uses::references::{ReferenceError, resolve_reference};
 use jsonptr_uses::settings::{get, get_json, get_or};
@@ -276,4 +277,26 @@ fn conditions_hold(rt: HostRuntime) {
     assert_eq!(rt; len_of_constant(), 11);
     assert_eq!(rt; len_of_known(), 5);
     assert_eq!(rt; place_of_fault(), 12);
+}
+
+/// Whether the text has this range, or is not JSON.
+fn has_range(alloc: Global, text: &str, want: Option<Option<(u64, u64)>>) -> Result<bool, Fail> {
+    let from = Pointer::parse("/from")?;
+    let to = Pointer::parse("/to/0")?;
+    Ok(range_in_text(alloc, text, from, to).ok() == want)
+}
+
+#[test]
+fn ranges_in_text(rt: HostRuntime) -> Result<(), Fail> {
+    for (text, want) in [
+        (r#"{"from":3,"to":[5]}"#, Some(Some((3, 5)))),
+        (r#"{"from":3,"from":4,"to":[5]}"#, Some(Some((4, 5)))),
+        (r#"{"from":6,"to":[5]}"#, Some(None)),
+        (r#"{"from":3,"to":[]}"#, Some(None)),
+        (r#"{"from":-3,"to":[5]}"#, Some(None)),
+        (r#"{"from":3,"to":[5]"#, None),
+    ] {
+        assert!(rt; has_range(rt.alloc(), text, want)?, "{text}");
+    }
+    Ok(())
 }

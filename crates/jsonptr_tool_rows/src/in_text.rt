@@ -1,0 +1,36 @@
+//! Cases of resolving in text.
+use crate::answer::Answer;
+use crate::row::Row;
+use crate::stage;
+use jsonptr::Pointer;
+use jsonptr_in_text::{exists_in_text, resolve_in_slice, resolve_in_text};
+use std::alloc::Global;
+
+/// Runs a case with these lines: the call, the text, and the pointer.
+pub fn run(rt: &HostRuntime, mut row: Row<'_>) -> anyhow::Result<()> {
+    let call = row.next();
+    let text = row.next();
+    let pointer = Pointer::parse(row.next())?;
+    stage::begin(rt)?;
+    let said = said(rt.alloc(), call, text, pointer);
+    stage::answer(rt, said)
+}
+
+/// The result of the call.
+fn said(alloc: Global, call: &str, text: &str, pointer: Pointer<'_>) -> Option<Answer<'static>> {
+    match call {
+        "resolve_in_text" => Some(match resolve_in_text(alloc, text, pointer) {
+            Ok(value) => Answer::Json(value),
+            Err(error) => Answer::of_not_in_text(error),
+        }),
+        "resolve_in_slice" => Some(match resolve_in_slice(alloc, text.as_bytes(), pointer) {
+            Ok(value) => Answer::Json(value),
+            Err(error) => Answer::of_not_in_text(error),
+        }),
+        "exists_in_text" => Some(match exists_in_text(alloc, text, pointer) {
+            Ok(exists) => Answer::Truth(exists),
+            Err(error) => Answer::of_not_in_text(error),
+        }),
+        _ => None,
+    }
+}

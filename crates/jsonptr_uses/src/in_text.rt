@@ -1,0 +1,71 @@
+//! A number in the text of a JSON document, as in a file of settings.
+ghost use Rattle.std.specs.Prelude.{◌≡◌, IfOk, None, Err};
+ghost use Rattle.serde_json.specs.Data.{Data};
+ghost use Rattle.serde_json.specs.Read.{read};
+ghost use Rattle.jsonptr.specs.Pointer.{tokens};
+ghost use Rattle.jsonptr_uses.specs.InText.{IsNumberAt, IsRangeAt};
+ghost use Rattle.jsonptr_uses.specs.declared.sessions.TextFault.TheVariants.{NotJson};
+
+use crate::sessions::TextFault;
+use jsonptr::Pointer;
+use jsonptr_in_text::{InTextError, resolve_in_text};
+use std::alloc::Global;
+
+/// Returns the number that the pointer resolves to in the document that the text contains, or
+/// `None` if it resolves to no value, or to one that is not a whole number from 0 to 2^64 - 1.
+///
+/// The document is not read into a `Value`, and the result is a fact about it.
+///
+/// # Errors
+///
+/// [`TextFault::NotJson`] if the text is not JSON, and [`TextFault::Memory`] if an allocation
+/// fails.
+pub fn number_in_text(
+    alloc: Global,
+    text: &str,
+    pointer: Pointer<'_>,
+) -> Result<Option<u64>, TextFault>
+    ensures number { IfOk result (λ n. (d : Data) × (read text.now ≡ Some d)
+        × IsNumberAt d (tokens pointer.entry) n) }
+    ensures unread { result ≡ Err NotJson → read text.now ≡ None }
+{
+    match resolve_in_text(alloc, text, pointer) {
+        Ok(value) => Ok(value.as_u64()),
+        Err(InTextError::Resolve(_error)) => Ok(None),
+        Err(InTextError::NotJson) => Err(TextFault::NotJson),
+        Err(InTextError::Memory(error)) => Err(TextFault::Memory(error)),
+    }
+}
+
+/// Returns the numbers at two pointers in one document, as the ends of a range, if both are there
+/// and the first is at most the second.
+///
+/// Each number is searched for by itself. Both are in the same document, since a text is read as at
+/// most one.
+///
+/// # Errors
+///
+/// As [`number_in_text`].
+pub fn range_in_text(
+    alloc: Global,
+    text: &str,
+    first: Pointer<'_>,
+    last: Pointer<'_>,
+) -> Result<Option<(u64, u64)>, TextFault>
+    ensures range { IfOk result (λ r. (d : Data) × (read text.now ≡ Some d)
+        × IsRangeAt d (tokens first.entry) (tokens last.entry) r) }
+{
+    let first = number_in_text(alloc, text, first)?;
+    let last = number_in_text(alloc, text, last)?;
+    match first {
+        None => Ok(None),
+        Some(first) => match last {
+            None => Ok(None),
+            Some(last) => if first <= last {
+                Ok(Some((first, last)))
+            } else {
+                Ok(None)
+            },
+        },
+    }
+}
