@@ -22,8 +22,8 @@ use std::alloc::Global;
 /// The new text is read side by side with the old one before it is returned. If that fails, the
 /// document is read, changed and printed, and the result is [`Edited::Rewritten`].
 ///
-/// Reads the text three times, and allocates for both texts, for their unescaped strings, and for
-/// the value.
+/// Reads the old text two or three times and the new one once, and allocates for both texts, for
+/// their unescaped strings, and for the value.
 ///
 /// # Errors
 ///

@@ -27,7 +27,8 @@ use std::convert::Infallible;
 /// does for one of several members with the same key, the document is read, changed and printed,
 /// and the result is [`Edited::Rewritten`].
 ///
-/// Reads the text three times, and allocates for both texts and for their unescaped strings.
+/// Reads the old text two or three times and the new one once, and allocates for both texts and for
+/// their unescaped strings.
 ///
 /// # Errors
 ///

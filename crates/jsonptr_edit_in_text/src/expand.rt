@@ -15,7 +15,8 @@ use std::alloc::{AllocError, Global};
 ///
 /// [`AllocError`] if an allocation fails.
 pub fn expand(alloc: Global, pointer: Pointer<'_>, value: &Value) -> Result<Value, AllocError>
-    ensures { IfOk result (λ v. nodes (view v) ≡ grown (tokens pointer.entry) (nodes (view value.now))) }
+    ensures { IfOk result
+        (λ v. nodes (view v) ≡ grown (tokens pointer.entry) (nodes (view value.now))) }
 {
     let mut expanded = Value::Null;
     match expanded.assign(alloc, pointer, value.clone()?) {
