@@ -179,12 +179,16 @@ new_member k name value ms ms2 e h same r = (
   subst (λ (n : List ℕ). InsertsMember k e ms (put n e ms2)) (sym same) (record {
     none = h.0;
     is = get_member-put k e ms2;
-    others = λ l other. get_member-put_other l k e ms2 other ∙ ap (get_member l) h.1;
+    others = λ l other. get_member-put_other l k e ms2 other ∙ h.1 l other;
   }),
 )
 
+-- a member with the key, which a later one replaces
+pub shadowed_member : (k name : List ℕ) (value : List ℕ) (ms ms2 : Members) (d : Data) → MembersAdded false k value ms ms2 → name ≡ k → MembersAdded false k value ms (put name d ms2)
+shadowed_member k name value ms ms2 d h same = (h.0, λ l other. get_member-put_other l name d ms2 (λ e. other (e ∙ same)) ∙ h.1 l other)
+
 pub old_member : (done : Bool) (k name : List ℕ) (value : List ℕ) (ms ms2 : Members) (d : Data) → MembersAdded done k value ms ms2 → (k ≡ name → ⊥) → MembersAdded done k value (put name d ms) (put name d ms2)
-old_member false k name value ms ms2 d h other = (get_member-put_other k name d ms other ∙ h.0, ap (put name d) h.1)
+old_member false k name value ms ms2 d h other = (get_member-put_other k name d ms other ∙ h.0, λ l apart. others_put k name l d ms ms2 (h.1 l apart))
 old_member true k name value ms ms2 d h other =
     let adds = h.2 in (
       h.0,

@@ -21,10 +21,12 @@ abbrev pub AddsItemIf : Bool → List ℕ → ℕ → List Token → Data → Li
 AddsItemIf true value depth old d new = (read value ≡ Some d) × (new ≡ old)
 AddsItemIf false value depth old d new = (after_end_array old ≡ None) × Reads depth old d new × (length new < length old)
 
--- `AddsMemberIf wanted value depth name old d new`: the same of a member with that name
-abbrev pub AddsMemberIf : Bool → List ℕ → ℕ → List ℕ → List Token → Data → List Token → Type 0
-AddsMemberIf true value depth name old d new = (read value ≡ Some d) × (new ≡ old)
-AddsMemberIf false value depth name old d new =
+-- `AddsMemberIf wanted named value depth name old d new`: the same of a member with that name. If it is not wanted, but
+-- named, it is one that the new member replaces, and the tokens are not those of it
+abbrev pub AddsMemberIf : Bool → Bool → List ℕ → ℕ → List ℕ → List Token → Data → List Token → Type 0
+AddsMemberIf true named value depth name old d new = (read value ≡ Some d) × (new ≡ old)
+AddsMemberIf false true value depth name old d new = new ≡ old
+AddsMemberIf false false value depth name old d new =
     (mid : List Token) × (read_key old ≡ Some (Some name, mid)) × Reads depth mid d new × (length new < length old)
 
 -- `ItemDiffers i R ds ds2`: the elements ds and ds2 differ only at i, where R relates them
@@ -63,10 +65,12 @@ abbrev pub ItemsAdded : Bool → ℕ → List ℕ → List Data → List Data �
 ItemsAdded true i value ds ds2 = ItemAdded i value ds ds2
 ItemsAdded false i value ds ds2 = ds2 ≡ ds
 
--- `MembersAdded done k value ms ms2`: the same of members, and of the key k
+-- `MembersAdded done k value ms ms2`: of the members ms2, which were read, the last with the key k is new if done. If not,
+-- those with the key k are to be replaced, and the others are ms
 abbrev pub MembersAdded : Bool → List ℕ → List ℕ → Members → Members → Type 0
 MembersAdded true k value ms ms2 = (e : Data) × (read value ≡ Some e) × InsertsMember k e ms ms2
-MembersAdded false k value ms ms2 = (get_member k ms ≡ None) × (ms2 ≡ ms)
+MembersAdded false k value ms ms2 =
+    (get_member k ms ≡ None) × ((l : List ℕ) → (l ≡ k → ⊥) → get_member l ms2 ≡ get_member l ms)
 
 -- `MayFollow done wanted named`: the wanted member has the key, and no later one has it
 abbrev pub MayFollow : Bool → Bool → Bool → Type 0

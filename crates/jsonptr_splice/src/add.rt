@@ -7,10 +7,11 @@ ghost use Rattle.jsonptr_skim.specs.Search.{choice_of};
 ghost use Rattle.jsonptr_splice.specs.Editing.{AddsChild, InsertsItem, InsertsMember};
 ghost use Rattle.jsonptr_splice.specs.PrivateEditing.{AddsItemIf, AddsMemberIf};
 
-use crate::decide::{is_at, is_either, is_text, may_add};
+use crate::decide::{is_at, is_either, is_text, may_follow};
 use crate::edit::{CheckError, Child};
 use crate::same::{same, same_key, same_text, same_token};
 use json::{Reader, Token};
+use jsonptr_skim::skip::skip;
 use std::alloc::Global;
 
 /// Passes over the next value of both. The longer one has one child more.
@@ -119,7 +120,8 @@ fn visit_item(
 }
 
 /// Passes over the rest of an object in both. The longer one has one member more, with the key and
-/// at the position. The shorter one does not have the key.
+/// at the position, and perhaps others with that key before it. The shorter one does not have the
+/// key.
 ///
 /// # Errors
 ///
@@ -144,10 +146,10 @@ fn add_member(
     'members: while let Some(name) = long.next_key()? {
         let wanted = is_at(count, position);
         let named = is_text(name, key);
-        if !may_add(is_done, wanted, named) {
+        if !may_follow(is_done, wanted, named) {
             return Err(CheckError::Mismatch);
         }
-        visit_member(alloc, short, long, depth, name, wanted, value)?;
+        visit_member(alloc, short, long, depth, name, wanted, named, value)?;
         is_done = is_either(is_done, wanted);
         count = count.saturating_add(1);
     }
@@ -157,8 +159,8 @@ fn add_member(
     Ok(())
 }
 
-/// Passes over the value of the next member of the longer one: the new one if it is wanted, and one
-/// that both have if it is not.
+/// Passes over the value of the next member of the longer one: the new one if it is wanted, one that
+/// the new one replaces if it has the key, and else one that both have.
 ///
 /// # Errors
 ///
@@ -170,15 +172,19 @@ fn visit_member(
     depth: usize,
     name: &str,
     wanted: bool,
+    named: bool,
     value: &str,
 ) -> Result<(), CheckError>
     ensures ok { OnOk result ((d : Data) × Reads depth long.old d long.new
-        × AddsMemberIf wanted value.now depth name.now short.old d short.new) }
+        × AddsMemberIf wanted named value.now depth name.now short.old d short.new) }
     ensures long_shorter { OnOk result (length long.new < length long.old) }
     ensures short_shorter { OnOk result (length short.new ≤ length short.old) }
 {
     if wanted {
         same_text(alloc, value, long, depth)
+    } else if named {
+        skip(long, depth)?;
+        Ok(())
     } else {
         same_key(short, name)?;
         same(short, long, depth, depth)?;

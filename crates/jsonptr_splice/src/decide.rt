@@ -27,15 +27,6 @@ pub fn may_follow(is_done: bool, wanted: bool, named: bool) -> bool
     }
 }
 
-/// Returns whether a member of the longer object may follow: the wanted one has the key, and no
-/// other one has it.
-pub fn may_add(is_done: bool, wanted: bool, named: bool) -> bool
-    ensures same { IsTrue result → named ≡ wanted }
-    ensures once { IsTrue result → MayFollow is_done wanted named }
-{
-    if wanted { named && !is_done } else { !named }
-}
-
 /// Returns whether one of the two is true.
 pub fn is_either(one: bool, other: bool) -> bool
     ensures { result ≡ (one || other) }

@@ -8,7 +8,7 @@ use Rattle.jsonptr_splice.proofs.SideLemmas.{no_name}
 use Rattle.jsonptr_splice.proofs.add.add_member.Goals as goal
 
 pub members-init : goal.members-init
-members-init c = (no_members, no_members, members_begin c.args.depth c.args.short.now, members_begin c.args.depth c.args.long.now, (refl, refl), omega arith, omega arith)
+members-init c = (no_members, no_members, members_begin c.args.depth c.args.short.now, members_begin c.args.depth c.args.long.now, (refl, λ l other. refl), omega arith, omega arith)
 
 pub members-preserved : goal.members-preserved
 members-preserved c =
@@ -18,8 +18,8 @@ members-preserved c =
     let passed = read_key-shorter c.members.long (Some c.in-Some.name.now) c.next_key.new.self named in
     let less = c.in_ok-visit_member.ensures.long_shorter in
     let short = c.in_ok-visit_member.ensures.short_shorter in
-    let may : c.may_add.result ≡ true = grind arith in
-    let next = members_after c.members.is_done c.is_at-wanted.result c.is_text-named.result c.args.key.now c.in-Some.name.now c.args.depth c.args.value.now c.args.short.now c.members.short c.visit_member.new.short i.0 i.1 r.0 i.2 i.4 r.2 c.is_text-named.ensures (c.may_add.ensures.same may) (c.may_add.ensures.once may) in (
+    let may : c.may_follow.result ≡ true = grind arith in
+    let next = members_after c.members.is_done c.is_at-wanted.result c.is_text-named.result c.args.key.now c.in-Some.name.now c.args.depth c.args.value.now c.args.short.now c.members.short c.visit_member.new.short i.0 i.1 r.0 i.2 i.4 r.2 c.is_text-named.ensures (c.may_follow.ensures may) in (
       next.0,
       put c.in-Some.name.now r.0 i.1,
       next.1,
