@@ -7,9 +7,11 @@
 mod add;
 mod append;
 pub mod check;
+pub mod cut;
 mod decide;
 pub mod edit;
 pub mod layout;
 pub mod locate;
 mod same;
+pub mod spacing;
 pub mod splice;
