@@ -1,3 +1,4 @@
+pub mod Child
 pub mod Editing
 pub mod PrivateEditing
 pub mod Spacing

@@ -1,20 +1,76 @@
 //! The white space around what an edit brings or removes, so that a text keeps its layout. These
 //! are hints: no contract says that they are right.
+ghost use Rattle.std.specs.Prelude.{◌≡◌, ◌≤◌, Some, IfOk, string_bytes};
+ghost use Rattle.serde_json.specs.Data.{depth};
+ghost use Rattle.serde_json.specs.Read.{read, max_depth};
+ghost use Rattle.serde_json.specs.View.{view};
 
 use crate::locate::{Extent, Place, Span, trimmed_end};
 use serde_json::Value;
 use std::alloc::{AllocError, Global};
 
-/// A text to put instead of a span. It owns the text.
+/// The JSON text of a value, in two layouts. It owns both.
 #[derive(Debug, Drop)]
-pub struct Piece {
-    /// What it replaces.
-    pub span: Span,
-    /// The new text.
-    pub text: String,
+pub struct ValueText {
+    /// The text on one line.
+    pub flat: String,
+    /// The text over lines, if it has any. Each line ends with `\n`, and the first has no
+    /// indentation.
+    pub lines: String,
 }
 
-/// Returns the piece that replaces the value that was located by another one.
+/// Returns the text of a value.
+///
+/// # Errors
+///
+/// [`AllocError`] if an allocation fails.
+pub fn text_of_value(alloc: Global, value: &Value) -> Result<ValueText, AllocError>
+    ensures { IfOk result (λ text. depth (view value.now) ≤ max_depth
+        → read (string_bytes text.flat) ≡ Some (view value.now)) }
+{
+    let flat = value.to_string(alloc)?;
+    let lines = value.to_string_pretty(alloc)?;
+    Ok(ValueText { flat, lines })
+}
+
+/// Returns the text of the value at the span, as it is there: its numbers, its strings and the order
+/// of its members are kept.
+///
+/// # Errors
+///
+/// [`AllocError`] if an allocation fails.
+pub fn text_at(alloc: Global, text: &str, span: Span) -> Result<ValueText, AllocError> {
+    let indent = indent_of(line_before(text, span.from));
+    let mut flat = String::new(alloc);
+    let mut lines = String::new(alloc);
+    let mut is_first = true;
+    for line in slice(text, span.from, span.to).split('\n') {
+        let line = line.strip_suffix('\r').unwrap_or(line);
+        if is_first {
+            flat.push_str(line)?;
+            lines.push_str(line)?;
+        } else {
+            flat.push_str(line.trim_start())?;
+            lines.push('\n')?;
+            lines.push_str(line.strip_prefix(indent).unwrap_or(line.trim_start()))?;
+        }
+        is_first = false;
+    }
+    Ok(ValueText { flat, lines })
+}
+
+/// A text that brings a child into an array or an object. It owns the text.
+#[derive(Debug, Drop)]
+pub struct Piece {
+    /// What it replaces: white space, or nothing.
+    pub span: Span,
+    /// The text: the child, with a comma and white space beside it.
+    pub text: String,
+    /// Where the child is in that text.
+    pub child: Extent,
+}
+
+/// Returns the text that replaces the value that was located by another one.
 ///
 /// The new text spans lines if the old one does, or if the old one is a scalar on a line of its own.
 ///
@@ -25,23 +81,17 @@ pub fn replacement(
     alloc: Global,
     text: &str,
     place: &Place,
-    value: &Value,
-) -> Result<Piece, AllocError> {
+    value: &ValueText,
+) -> Result<String, AllocError> {
     let span = place.value;
     let old = slice(text, span.from, span.to);
     let line = line_before(text, span.from);
-    let text = if old.contains('\n') || (!is_container(old) && is_own_line(line)) {
-        lines(
-            alloc,
-            value,
-            newline_of(text, span.from),
-            indent_of(line),
-            "",
-        )?
+    if old.contains('\n') || (!is_container(old) && is_own_line(line)) {
+        let newline = newline_of(text, span.from);
+        spread(alloc, value.lines.as_str(), newline, indent_of(line))
     } else {
-        value.to_string(alloc)?
-    };
-    Ok(Piece { span, text })
+        value.flat.clone()
+    }
 }
 
 /// Returns the piece that adds a child to the array or object at the span, before the child at the
@@ -57,35 +107,23 @@ pub fn addition(
     children: &[Extent],
     position: usize,
     key: Option<&str>,
-    value: &Value,
+    value: &ValueText,
 ) -> Result<Piece, AllocError> {
-    match children.get(position) {
-        Some(next) => {
-            let gap = gap_of(text, children);
-            let mut piece = body(alloc, text, container, children, gap, key, value)?;
-            piece.push(',')?;
-            piece.push_str(gap)?;
-            let (from, to) = (next.child.from, next.child.from);
-            Ok(Piece {
-                span: Span { from, to },
-                text: piece,
-            })
+    let gap = gap_of(text, children);
+    match (children.get(position), children.last()) {
+        (Some(next), _) => {
+            let colon = colon_of(text, container, children, gap);
+            let body = body_of(alloc, gap, key, colon, value)?;
+            let at = next.child.from;
+            framed(alloc, Span { from: at, to: at }, "", "", &body, ",", gap)
         }
-        None => match children.last() {
-            Some(last) => {
-                let gap = gap_of(text, children);
-                let mut piece = String::from_str(alloc, ",")?;
-                piece.push_str(gap)?;
-                let child = body(alloc, text, container, children, gap, key, value)?;
-                piece.push_str(child.as_str())?;
-                let (from, to) = (last.child.to, last.child.to);
-                Ok(Piece {
-                    span: Span { from, to },
-                    text: piece,
-                })
-            }
-            None => first_child(alloc, text, container, key, value),
-        },
+        (None, Some(last)) => {
+            let colon = colon_of(text, container, children, gap);
+            let body = body_of(alloc, gap, key, colon, value)?;
+            let at = last.child.to;
+            framed(alloc, Span { from: at, to: at }, ",", gap, &body, "", "")
+        }
+        (None, None) => first_child(alloc, text, container, key, value),
     }
 }
 
@@ -95,35 +133,89 @@ fn first_child(
     text: &str,
     container: Span,
     key: Option<&str>,
-    value: &Value,
+    value: &ValueText,
 ) -> Result<Piece, AllocError> {
-    let (from, to) = (
-        container.from.saturating_add(1),
-        container.to.saturating_sub(1),
-    );
-    let inner = slice(text, from, to);
-    let mut piece = String::new(alloc);
+    let span = inside(container);
+    let inner = slice(text, span.from, span.to);
     if inner.contains('\n') {
         let newline = if inner.contains('\r') { "\r\n" } else { "\n" };
         let indent = indent_of(line_before(text, container.from));
         let mut gap = String::from_str(alloc, newline)?;
         gap.push_str(indent)?;
         gap.push_str("  ")?;
-        piece.push_str(gap.as_str())?;
-        let child = body(alloc, text, container, &[], gap.as_str(), key, value)?;
-        piece.push_str(child.as_str())?;
-        piece.push_str(newline)?;
-        piece.push_str(indent)?;
+        let colon = colon_of(text, container, &[], gap.as_str());
+        let body = body_of(alloc, gap.as_str(), key, colon, value)?;
+        framed(alloc, span, gap.as_str(), "", &body, newline, indent)
     } else {
-        piece.push_str(inner)?;
-        let child = body(alloc, text, container, &[], "", key, value)?;
-        piece.push_str(child.as_str())?;
-        piece.push_str(inner)?;
+        let colon = colon_of(text, container, &[], "");
+        let body = body_of(alloc, "", key, colon, value)?;
+        framed(alloc, span, inner, "", &body, inner, "")
     }
-    Ok(Piece {
-        span: Span { from, to },
-        text: piece,
-    })
+}
+
+/// The text of a child. It owns the text.
+#[derive(Debug, Drop)]
+struct Body {
+    /// The key, if the child is a member, and the value.
+    text: String,
+    /// Where the value begins.
+    value: usize,
+}
+
+/// Returns the text of a child: its key, if it is a member, and its value, which spans lines if the
+/// white space before it does.
+fn body_of(
+    alloc: Global,
+    gap: &str,
+    key: Option<&str>,
+    colon: &str,
+    value: &ValueText,
+) -> Result<Body, AllocError> {
+    let mut text = String::new(alloc);
+    if let Some(key) = key {
+        text.push_str(key)?;
+        text.push_str(colon)?;
+    }
+    let start = text.len();
+    if gap.contains('\n') {
+        let lines = spread(alloc, value.lines.as_str(), gap, "")?;
+        text.push_str(lines.as_str())?;
+    } else {
+        text.push_str(value.flat.as_str())?;
+    }
+    Ok(Body { text, value: start })
+}
+
+/// Returns the piece with the child between two texts on each side.
+fn framed(
+    alloc: Global,
+    span: Span,
+    first: &str,
+    second: &str,
+    body: &Body,
+    third: &str,
+    last: &str,
+) -> Result<Piece, AllocError> {
+    let mut text = String::from_str(alloc, first)?;
+    text.push_str(second)?;
+    let from = text.len();
+    text.push_str(body.text.as_str())?;
+    let to = text.len();
+    text.push_str(third)?;
+    text.push_str(last)?;
+    let value = from.saturating_add(body.value);
+    let child = Extent {
+        child: Span { from, to },
+        value,
+    };
+    Ok(Piece { span, text, child })
+}
+
+/// Returns the span between the brackets of an array or object.
+fn inside(container: Span) -> Span {
+    let from = container.from.saturating_add(1);
+    let to = container.to.saturating_sub(1);
+    Span { from, to }
 }
 
 /// Returns the span to cut out so that the array or object loses the child at the position: with its
@@ -141,50 +233,15 @@ pub fn removal(container: Span, children: &[Extent], position: usize) -> Option<
             from: children.get(before)?.child.to,
             to: child.to,
         }),
-        None => Some(Span {
-            from: container.from.saturating_add(1),
-            to: container.to.saturating_sub(1),
-        }),
+        None => Some(inside(container)),
     }
 }
 
-/// Returns the text of a child: its key, if it is a member, and its value, which spans lines if the
-/// white space before it does.
-fn body(
-    alloc: Global,
-    text: &str,
-    container: Span,
-    children: &[Extent],
-    gap: &str,
-    key: Option<&str>,
-    value: &Value,
-) -> Result<String, AllocError> {
-    let mut body = String::new(alloc);
-    if let Some(key) = key {
-        body.push_str(key)?;
-        body.push_str(colon_of(text, container, children, gap))?;
-    }
-    let printed = if gap.contains('\n') {
-        lines(alloc, value, gap, "", "")?
-    } else {
-        value.to_string(alloc)?
-    };
-    body.push_str(printed.as_str())?;
-    Ok(body)
-}
-
-/// Returns the text of the value with line breaks, each of them the newline and the indentation.
-fn lines(
-    alloc: Global,
-    value: &Value,
-    newline: &str,
-    indent: &str,
-    first: &str,
-) -> Result<String, AllocError> {
-    let pretty = value.to_string_pretty(alloc)?;
-    let mut text = String::from_str(alloc, first)?;
+/// Returns the text with each of its line breaks replaced by the newline and the indentation.
+fn spread(alloc: Global, lines: &str, newline: &str, indent: &str) -> Result<String, AllocError> {
+    let mut text = String::new(alloc);
     let mut is_first = true;
-    for line in pretty.as_str().split('\n') {
+    for line in lines.split('\n') {
         if !is_first {
             text.push_str(newline)?;
             text.push_str(indent)?;

@@ -7,6 +7,7 @@
 mod add;
 mod append;
 pub mod check;
+pub mod child;
 pub mod cut;
 mod decide;
 pub mod edit;
@@ -14,4 +15,3 @@ pub mod layout;
 pub mod locate;
 mod same;
 pub mod spacing;
-pub mod splice;

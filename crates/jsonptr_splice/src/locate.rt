@@ -4,6 +4,7 @@ ghost use Rattle.std.specs.Prelude.{◌<◌, length, OnOk};
 
 use crate::edit::CheckError;
 use crate::same::MAX_DEPTH;
+use crate::spacing::is_space;
 use json::{Reader, Scratch, Token};
 use jsonptr_skim::scalar::is_scalar;
 use jsonptr_skim::selector::Selector;
@@ -30,6 +31,8 @@ pub struct Place {
     pub followed: usize,
     /// The position, among all children, of each child on the way.
     pub positions: Vec<usize>,
+    /// The positions of all children that the last selector selects. Members can have the same key.
+    pub same: Vec<usize>,
 }
 
 /// A child of an array or an object.
@@ -56,6 +59,7 @@ pub fn locate(alloc: Global, text: &str, selectors: &[Selector]) -> Result<Place
         container: all,
         followed: 0,
         positions: Vec::new(alloc),
+        same: Vec::new(alloc),
     };
     find(text, &mut reader, MAX_DEPTH, selectors, &mut place, 0)?;
     Ok(place)
@@ -164,7 +168,7 @@ fn find_item(
     let mut count = 0usize;
     'items: while !reader.take_end_array() {
         if selector.index == Some(count) {
-            note(&mut place.positions, level, count)?;
+            note(place, level, count, rest.is_empty())?;
             find(text, reader, depth, rest, place, level.saturating_add(1))?;
             entered = true;
         } else {
@@ -193,7 +197,7 @@ fn find_member(
     let mut count = 0usize;
     'members: while let Some(name) = reader.next_key()? {
         if name == selector.key.as_str() {
-            note(&mut place.positions, level, count)?;
+            note(place, level, count, rest.is_empty())?;
             find(text, reader, depth, rest, place, level.saturating_add(1))?;
             entered = true;
         } else {
@@ -270,10 +274,16 @@ fn members(
     Ok(extents)
 }
 
-/// Replaces the positions from `level` on by this one.
-fn note(positions: &mut Vec<usize>, level: usize, position: usize) -> Result<(), AllocError> {
-    positions.truncate(level);
-    positions.push(position)?;
+/// Notes that the selector of this level selects the child at the position: it replaces what was
+/// noted of an earlier child.
+fn note(place: &mut Place, level: usize, position: usize, last: bool) -> Result<(), AllocError> {
+    place.positions.truncate(level);
+    place.positions.push(position)?;
+    if last {
+        place.same.push(position)?;
+    } else {
+        place.same.clear();
+    }
     Ok(())
 }
 
@@ -297,16 +307,8 @@ fn end_of_value(bytes: &[u8], next: usize) -> usize {
 /// Returns where the white space before the offset begins.
 pub fn trimmed_end(bytes: &[u8], offset: usize) -> usize {
     let mut end = offset;
-    'spaces: while end > 0 && is_space(bytes.get(end - 1)) {
+    'spaces: while end > 0 && bytes.get(end - 1).is_some_and(|byte| is_space(*byte)) {
         end -= 1;
     }
     end
-}
-
-/// Returns whether the byte is white space of JSON.
-pub fn is_space(byte: Option<&u8>) -> bool {
-    match byte {
-        Some(c) => matches!(*c, b' ' | b'\t' | b'\n' | b'\r'),
-        None => false,
-    }
 }
