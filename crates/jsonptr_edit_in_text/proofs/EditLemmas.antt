@@ -5,6 +5,7 @@ use Rattle.std.specs.declared.alloc.AllocError.{AllocError}
 use Rattle.serde_json.specs.Data as json
 use Rattle.serde_json.specs.Data.{Data}
 use Rattle.serde_json.specs.Find as find
+use Rattle.serde_json.specs.Read.{read}
 use Rattle.jsonptr_grammar.specs.Text.{Text, dec}
 use Rattle.jsonptr_tree.specs.Node.{Step, key, place, Path, Label, Scalar, an_array, an_object, a_leaf, of_json, NodeMap, sub}
 use Rattle.jsonptr_tree.specs.Content as tree
@@ -21,9 +22,11 @@ use Rattle.jsonptr_tree.proofs.AssigningLemmas.{made, made-step, made-other_step
 use Rattle.jsonptr_skim.specs.Search as skim
 use Rattle.jsonptr_in_text.proofs.SearchLemmas.{len_same, member_content}
 use Rattle.jsonptr_splice.specs.Editing.{InsertsItem, InsertsMember}
+use Rattle.jsonptr_splice.specs.Spacing.{IsTrimmed, Splices}
+use Rattle.jsonptr_edit_in_text.specs.Bytes.{ReplacesBytes}
 use Rattle.jsonptr_edit_in_text.specs.EditInText.{AssignsInText}
-use Rattle.jsonptr_edit_in_text.specs.PrivateReaching.{ReachedInText, ReplacesScalar, AddsMemberAt, AppendsAt}
-use Rattle.jsonptr_edit_in_text.proofs.ReachingLemmas.{item_content, below, same_below, other_place, other_key}
+use Rattle.jsonptr_edit_in_text.specs.PrivateReaching.{ReachedInText, ReplacesScalar, AddsMemberAt, AppendsAt, Trades, Becomes, ScalarBecomes, MemberAdded, ElementAppended}
+use Rattle.jsonptr_edit_in_text.proofs.ReachingLemmas.{reached_so, item_content, below, same_below, other_place, other_key}
 
 label_there : (d at : Data) (w : Path) → content_at w (content d) ≡ Some (content at) → nodes d w ≡ Some (label_of (content at))
 label_there d at w h = ap (option_map label_of) h
@@ -182,8 +185,42 @@ if_new (Err e) P Q f h = h
 if_new (Ok None) P Q f h = h
 if_new (Ok (Some s)) P Q f h = f s h
 
+pub if_both : (r : Result (Option (String Global)) AllocError) (P Q : String Global → Type 0) → IfOk r (λ o. IfSome o P) → IfOk r (λ o. IfSome o Q) → IfOk r (λ o. IfSome o (λ s. P s × Q s))
+if_both (Err e) P Q h k = h
+if_both (Ok None) P Q h k = h
+if_both (Ok (Some s)) P Q h k = (h, k)
+
 pub same_data : (d e : Data) → Some d ≡ Some e → d ≡ e
 same_data d e h = cc
 
 pub scalar_label : (c : Content) (a : Scalar) → c ≡ scalar a → (b : Scalar) × (label_of c ≡ a_leaf b)
 scalar_label c a h = (a, ap label_of h)
+
+-- ---- what an edit does, by the text of its value
+
+pub of_value : (old new : Text) (tokens : List Text) (flat : Text) (v : Data) → read flat ≡ Some v → ReachedInText old new tokens (Becomes flat) → AssignsInText old tokens (nodes v) new
+of_value old new tokens flat v is h = assigns_value old new tokens (Becomes flat) v (λ at at2 m. same_data at2 v (sym m ∙ is)) h
+
+pub of_scalar : (old new : Text) (front : List Text) (flat : Text) (e : Data) → read flat ≡ Some e → ReachedInText old new front (ScalarBecomes flat) → ReachedInText old new front (ReplacesScalar e)
+of_scalar old new front flat e is h = reached_so old new front (ScalarBecomes flat) (ReplacesScalar e) (λ d d2 m. (m.0, same_data d2 e (sym m.1 ∙ is))) h
+
+pub of_member : (old new : Text) (front : List Text) (x flat : Text) (e : Data) → read flat ≡ Some e → ReachedInText old new front (MemberAdded x flat) → ReachedInText old new front (AddsMemberAt x e)
+of_member old new front x flat e is h = reached_so old new front (MemberAdded x flat) (AddsMemberAt x e) (λ d d2 m. subst (λ (y : Data). AddsMemberAt x y d d2) (same_data m.0 e (sym m.1 ∙ is)) m.2) h
+
+pub of_element : (old new : Text) (front : List Text) (x flat : Text) (e : Data) → read flat ≡ Some e → ReachedInText old new front (ElementAppended x flat) → ReachedInText old new front (AppendsAt x e)
+of_element old new front x flat e is h = reached_so old new front (ElementAppended x flat) (AppendsAt x e) (λ d d2 m. (m.ds, m.ds2, m.old, m.new, subst (λ (y : Data). InsertsItem (skim.items_len m.ds) y m.ds m.ds2) (same_data m.e e (sym m.reads ∙ is)) m.inserts, m.refers)) h
+
+-- ---- which bytes it changes
+
+pub replaces_bytes : (old new was piece flat : Text) (tokens : List Text) → Splices old new was piece → ReachedInText old new tokens (Trades was flat) → IsTrimmed was → ReplacesBytes old new tokens
+replaces_bytes old new was piece flat tokens splices h trimmed =
+    let r = h.4 in
+    record {
+      was = was;
+      piece = piece;
+      value = r.at;
+      splices = splices;
+      found = (h.0, h.2, record { path = r.path; named = r.named; there = r.there });
+      reads = r.changes.0;
+      trimmed = trimmed;
+    }

@@ -4,6 +4,7 @@ use mathlib.Core.Path.{fun_ext}
 use Rattle.serde_json.specs.Data as json
 use Rattle.serde_json.specs.Data.{Data}
 use Rattle.serde_json.specs.Find as find
+use Rattle.serde_json.specs.Read.{read}
 use Rattle.jsonptr_grammar.specs.Text.{Text}
 use Rattle.jsonptr_tree.specs.Node.{Step, key, place, Path, Label, an_array, NodeMap, NamesStep, Names, sub}
 use Rattle.jsonptr_tree.specs.Content as tree
@@ -15,7 +16,7 @@ use Rattle.jsonptr_tree.proofs.PutLemmas.{same_step-refl, cases_same, rest_after
 use Rattle.jsonptr_skim.specs.Search.{Choice}
 use Rattle.jsonptr_in_text.specs.Selecting.{AreChoicesOf}
 use Rattle.jsonptr_in_text.proofs.SearchLemmas.{len_same, member_content}
-use Rattle.jsonptr_edit_in_text.specs.PrivateReaching.{Reached}
+use Rattle.jsonptr_edit_in_text.specs.PrivateReaching.{Reached, ReachedInText}
 use Rattle.jsonptr_splice.specs.Editing.{OnlyItemDiffers, OnlyMemberDiffers, ChangesAt}
 
 pub item_content : (ds : json.Items) (i : ℕ) → get_item i (items ds) ≡ option_map content (find.get_item i ds)
@@ -108,3 +109,12 @@ reached (x ∷ xs) (c ∷ cs) R d d2 are (inr h) =
     subst (λ (y : Data). Reached R d y (x ∷ xs)) (sym h.new)
     (subst (λ (y : Data). Reached R y (json.object h.ms2) (x ∷ xs)) (sym h.old)
     (deeper R x xs (key c.0) (json.object h.ms) (json.object h.ms2) h.at h.at2 are.0.key_is (in_object h.ms h.ms2 c.0 h.at h.at2 h.differs) (reached xs cs R h.at h.at2 are.1 h.changes)))
+
+pub reached_in_text : (old new : Text) (tokens : List Text) (cs : List Choice) (R : Data → Data → Type 0) → AreChoicesOf tokens cs → ((d d2 : Data) × (read old ≡ Some d) × (read new ≡ Some d2) × ChangesAt cs R d d2) → ReachedInText old new tokens R
+reached_in_text old new tokens cs R are h = (h.0, h.1, h.2, h.3, reached tokens cs R h.0 h.1 are h.4)
+
+-- the relation of the two values, in other words
+pub reached_so : (old new : Text) (tokens : List Text) (R S : Data → Data → Type 0) → ((d d2 : Data) → R d d2 → S d d2) → ReachedInText old new tokens R → ReachedInText old new tokens S
+reached_so old new tokens R S f h =
+    let r = h.4 in
+    (h.0, h.1, h.2, h.3, record { path = r.path; at = r.at; at2 = r.at2; named = r.named; there = r.there; made = r.made; changes = f r.at r.at2 r.changes })

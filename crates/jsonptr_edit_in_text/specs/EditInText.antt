@@ -1,5 +1,5 @@
 -- Edits of a document in its text.
-use Rattle.std.specs.Prelude.{◌≡◌, ℕ, ◌<◌, ◌≤◌, List, ◌++◌, take, drop, Option, Some, None, ⊤, string_bytes}
+use Rattle.std.specs.Prelude.{◌≡◌, ◌<◌, List, Option, Some, None, ⊤, string_bytes}
 use Rattle.serde_json.specs.Data.{Data, null, depth}
 use Rattle.serde_json.specs.Read.{read, max_depth}
 use Rattle.jsonptr_grammar.specs.Text.{Text}
@@ -18,15 +18,6 @@ use Rattle.jsonptr_edit_in_text.specs.declared.edited.EditError.TheVariants.{Not
 abbrev pub text_of : Edited → Text
 text_of (InPlace s) = string_bytes s
 text_of (Rewritten s) = string_bytes s
-
--- `IsSpliced old new`: `new` is the text `old` with one piece replaced, from one offset to another
-abbrev pub IsSpliced : Text → Text → Type 0
-IsSpliced old new = (from to : ℕ) × (piece : Text) × (from ≤ to) × (new ≡ take from old ++ (piece ++ drop to old))
-
--- `KeepsBytes old e`: if e was edited in place, its text is `old` with one piece replaced
-abbrev pub KeepsBytes : Text → Edited → Type 0
-KeepsBytes old (InPlace s) = IsSpliced old (string_bytes s)
-KeepsBytes old (Rewritten s) = ⊤
 
 -- `AssignsInText old tokens v new`: the texts read as documents, and assigning v at the tokens turns the first document
 -- into the second

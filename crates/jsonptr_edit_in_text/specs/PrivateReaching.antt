@@ -1,14 +1,16 @@
 -- Words of private clauses: two values that differ at the location of some tokens.
-use Rattle.std.specs.Prelude.{◌≡◌, ◌⊎◌, List, Some, None, codes}
+use Rattle.std.specs.Prelude.{◌≡◌, ◌⊎◌, ℕ, List, Some, None, codes, string_bytes}
 use Rattle.serde_json.specs.Data.{Data, array, Items}
 use Rattle.serde_json.specs.Read.{read}
 use Rattle.jsonptr_skim.specs.Search.{items_len}
 use Rattle.jsonptr_splice.specs.Editing.{AddsMember, InsertsItem}
 use Rattle.jsonptr_grammar.specs.Text.{Text, dec}
-use Rattle.jsonptr_tree.specs.Node.{Path, Names, Scalar, a_leaf}
+use Rattle.jsonptr_tree.specs.Node.{Path, NodeMap, Names, Scalar, a_leaf}
 use Rattle.jsonptr_tree.specs.Content.{content_at, label_of}
 use Rattle.jsonptr_tree.specs.Json.{content, nodes}
 use Rattle.jsonptr_tree.specs.Put.{put}
+use Rattle.jsonptr_tree.specs.Growing.{grown}
+use Rattle.jsonptr_splice.specs.declared.layout.ValueText.{ValueText}
 
 -- `Reached R d d2 tokens`: the tokens name a path of d, and d2 is d with another value there, which R relates to the old
 -- one
@@ -41,3 +43,35 @@ AddsMemberAt x e d d2 = AddsMember (x, None) e d d2
 abbrev pub AppendsAt : Text → Data → Data → Data → Type 0
 AppendsAt x e d d2 = (ds ds2 : Items) × (d ≡ array ds) × (d2 ≡ array ds2) × InsertsItem (items_len ds) e ds ds2
     × ((x ≡ codes "-") ⊎ (x ≡ dec (items_len ds)))
+
+-- `Trades was piece d d2`: d is the value of the text `was`, and d2 that of the text `piece`
+abbrev pub Trades : Text → Text → Data → Data → Type 0
+Trades was piece d d2 = (read was ≡ Some d) × (read piece ≡ Some d2)
+
+-- `Becomes piece d d2`: d2 is the value of the text `piece`
+abbrev pub Becomes : Text → Data → Data → Type 0
+Becomes piece d d2 = read piece ≡ Some d2
+
+-- `ScalarBecomes piece d d2`: d is a scalar, and d2 is the value of the text `piece`
+abbrev pub ScalarBecomes : Text → Data → Data → Type 0
+ScalarBecomes piece d d2 = IsScalar d × (read piece ≡ Some d2)
+
+-- `MemberAdded x piece d d2`: d2 is the object d with the value of the text `piece` under the key x, which d lacks
+abbrev pub MemberAdded : Text → Text → Data → Data → Type 0
+MemberAdded x piece d d2 = (e : Data) × (read piece ≡ Some e) × AddsMember (x, None) e d d2
+
+-- `ElementAppended x piece d d2`: d2 is the array d with the value of the text `piece` after its last element, to which
+-- the token x refers
+pub record ElementAppended (x piece : Text) (d d2 : Data) : Type 0 where
+  pub ds : Items
+  pub ds2 : Items
+  pub e : Data
+  pub reads : read piece ≡ Some e
+  pub old : d ≡ array ds
+  pub new : d2 ≡ array ds2
+  pub inserts : InsertsItem (items_len ds) e ds ds2
+  pub refers : (x ≡ codes "-") ⊎ (x ≡ dec (items_len ds))
+
+-- `IsExpanded tokens v t`: the text t is that of v, expanded by `tokens`
+abbrev pub IsExpanded : List Text → NodeMap → ValueText → Type 0
+IsExpanded tokens v t = (e : Data) × (read (string_bytes t.flat) ≡ Some e) × (nodes e ≡ grown tokens v)

@@ -1,16 +1,23 @@
 //! Assigning in a text.
-ghost use Rattle.std.specs.Prelude.{IfOk, IfErr};
+ghost use Rattle.std.specs.Prelude.{◌≡◌, ◌∷◌, ◌++◌, List, ℕ, IfOk, IfErr, IfSome, string_bytes};
 ghost use Rattle.serde_json.specs.View.{view};
 ghost use Rattle.jsonptr.specs.Pointer.{tokens};
 ghost use Rattle.jsonptr_tree.specs.Json.{nodes};
-ghost use Rattle.jsonptr_edit_in_text.specs.EditInText.{text_of, KeepsBytes, AssignsInText, IsAssignError};
+ghost use Rattle.jsonptr_edit_in_text.specs.Bytes.{KeepsBytes, AssignsBytes, AddsBytes, ReplacesBytes};
+ghost use Rattle.jsonptr_edit_in_text.specs.EditInText.{text_of, AssignsInText, IsAssignError};
 
 use crate::edited::{EditError, Edited};
-use crate::in_place::assign_in_place;
+use crate::insert::{add_member, append};
+use crate::place::place_of;
+use crate::replace::{replace, replace_scalar};
 use crate::rewrite::assign_and_print;
-use jsonptr::{Pointer, assign};
+use crate::value_text::{expanded_text, value_text};
+use jsonptr::{Pointer, Token, assign};
+use jsonptr_in_text::selectors::selectors_of;
+use jsonptr_splice::layout::slice;
+use jsonptr_splice::locate::Place;
 use serde_json::Value;
-use std::alloc::Global;
+use std::alloc::{AllocError, Global};
 
 /// Assigns the value at the pointer in the document that the text contains, as
 /// [`Assign::assign`](jsonptr::assign::Assign) does.
@@ -47,7 +54,7 @@ pub fn assign_in_text(
 ) -> Result<Edited, EditError<assign::Error>>
     ensures assigned { IfOk result (λ e. AssignsInText text.now (tokens pointer.entry)
         (nodes (view value)) (text_of e)) }
-    ensures bytes { IfOk result (KeepsBytes text.now) }
+    ensures bytes { IfOk result (KeepsBytes (AssignsBytes text.now (tokens pointer.entry))) }
     ensures refused { IfErr result (IsAssignError text.now (tokens pointer.entry)
         (nodes (view value))) }
 {
@@ -56,4 +63,145 @@ pub fn assign_in_text(
     }
     let new = assign_and_print(alloc, text, pointer, value)?;
     Ok(Edited::Rewritten(new))
+}
+
+/// Assigns the value at the pointer in the text, with one piece of the text replaced. Returns `None`
+/// if that is not possible, and for every error of the pointer.
+///
+/// # Errors
+///
+/// [`AllocError`] if an allocation fails.
+fn assign_in_place(
+    alloc: Global,
+    text: &str,
+    pointer: Pointer<'_>,
+    value: &Value,
+) -> Result<Option<String>, AllocError>
+    ensures assigned { IfOk result (λ new. IfSome new (λ s.
+        AssignsInText text.now (tokens pointer.entry) (nodes (view value.now)) (string_bytes s))) }
+    ensures bytes { IfOk result (λ new. IfSome new
+        (λ s. AssignsBytes text.now (tokens pointer.entry) (string_bytes s))) }
+{
+    let selectors = selectors_of(alloc, pointer)?;
+    let Some(place) = place_of(alloc, text, &selectors)? else {
+        return Ok(None);
+    };
+    let Some((front, rest)) = pointer.split_at(place.followed) else {
+        return Ok(None);
+    };
+    assign_from(alloc, text, front, rest, &place, value)
+}
+
+/// Assigns the value at the two pointers, one after the other. The first one leads to the place, and
+/// the first token of the second one to no child of the value there.
+fn assign_from(
+    alloc: Global,
+    text: &str,
+    front: Pointer<'_>,
+    rest: Pointer<'_>,
+    place: &Place,
+    value: &Value,
+) -> Result<Option<String>, AllocError>
+    ensures assigned { IfOk result (λ new. IfSome new (λ s. AssignsInText text.now
+        (tokens front.entry ++ tokens rest.entry) (nodes (view value.now)) (string_bytes s))) }
+    ensures bytes { IfOk result (λ new. IfSome new (λ s. AssignsBytes text.now
+        (tokens front.entry ++ tokens rest.entry) (string_bytes s))) }
+{
+    let Some((token, after)) = rest.split_front() else {
+        return assign_there(alloc, text, front, place, value);
+    };
+    let there = slice(text, place.value.from, place.value.to);
+    if there.starts_with('{') {
+        assign_member(alloc, text, front, &token, after, place, value)
+    } else if there.starts_with('[') {
+        assign_element(alloc, text, front, &token, after, place, value)
+    } else {
+        assign_scalar(alloc, text, front, rest, place, value)
+    }
+}
+
+/// Replaces the value that the pointer resolves to.
+fn assign_there(
+    alloc: Global,
+    text: &str,
+    pointer: Pointer<'_>,
+    place: &Place,
+    value: &Value,
+) -> Result<Option<String>, AllocError>
+    ensures assigned { IfOk result (λ new. IfSome new (λ s.
+        AssignsInText text.now (tokens pointer.entry) (nodes (view value.now)) (string_bytes s))) }
+    ensures bytes { IfOk result (λ new. IfSome new
+        (λ s. ReplacesBytes text.now (string_bytes s) (tokens pointer.entry))) }
+{
+    let Some(value) = value_text(alloc, value)? else {
+        return Ok(None);
+    };
+    replace(alloc, text, pointer, place, &value)
+}
+
+/// Adds a member to the object that the pointer resolves to, with the key of the token and the value
+/// expanded by the tokens after it.
+fn assign_member(
+    alloc: Global,
+    text: &str,
+    pointer: Pointer<'_>,
+    token: &Token<'_>,
+    after: Pointer<'_>,
+    place: &Place,
+    value: &Value,
+) -> Result<Option<String>, AllocError>
+    ensures assigned { IfOk result (λ new. IfSome new (λ s. AssignsInText text.now
+        (tokens pointer.entry ++ token.now ∷ tokens after.entry) (nodes (view value.now))
+        (string_bytes s))) }
+    ensures bytes { IfOk result (λ new. IfSome new
+        (λ s. AddsBytes text.now (string_bytes s) token.now)) }
+{
+    let Some(value) = expanded_text(alloc, after, value)? else {
+        return Ok(None);
+    };
+    add_member(alloc, text, pointer, place, token, &value)
+}
+
+/// Appends the value, expanded by the tokens after the token, to the array that the pointer resolves
+/// to.
+fn assign_element(
+    alloc: Global,
+    text: &str,
+    pointer: Pointer<'_>,
+    token: &Token<'_>,
+    after: Pointer<'_>,
+    place: &Place,
+    value: &Value,
+) -> Result<Option<String>, AllocError>
+    ensures assigned { IfOk result (λ new. IfSome new (λ s. AssignsInText text.now
+        (tokens pointer.entry ++ token.now ∷ tokens after.entry) (nodes (view value.now))
+        (string_bytes s))) }
+    ensures bytes { IfOk result (λ new. IfSome new
+        (λ s. AddsBytes text.now (string_bytes s) token.now)) }
+{
+    let Some(value) = expanded_text(alloc, after, value)? else {
+        return Ok(None);
+    };
+    append(alloc, text, pointer, place, token, &value)
+}
+
+/// Replaces the scalar that the pointer resolves to by the value, expanded by at least one token.
+fn assign_scalar(
+    alloc: Global,
+    text: &str,
+    pointer: Pointer<'_>,
+    rest: Pointer<'_>,
+    place: &Place,
+    value: &Value,
+) -> Result<Option<String>, AllocError>
+    ensures assigned { (x : List ℕ) (after : List (List ℕ)) → tokens rest.entry ≡ x ∷ after
+        → IfOk result (λ new. IfSome new (λ s. AssignsInText text.now
+        (tokens pointer.entry ++ x ∷ after) (nodes (view value.now)) (string_bytes s))) }
+    ensures bytes { IfOk result (λ new. IfSome new
+        (λ s. ReplacesBytes text.now (string_bytes s) (tokens pointer.entry))) }
+{
+    let Some(value) = expanded_text(alloc, rest, value)? else {
+        return Ok(None);
+    };
+    replace_scalar(alloc, text, pointer, place, &value)
 }

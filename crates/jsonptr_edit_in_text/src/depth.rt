@@ -5,6 +5,9 @@ ghost use Rattle.serde_json.specs.View.{view, items_view, members_view};
 
 use serde_json::{Map, Value};
 
+/// How deep arrays and objects may nest, as in `serde_json`.
+pub const MAX_DEPTH: usize = 127;
+
 /// Returns whether the arrays and objects of the value nest at most so many levels deep.
 #[cycle(nests)]
 pub fn nests_within(value: &Value, levels: usize) -> bool

@@ -19,10 +19,15 @@
 mod assign;
 mod delete;
 mod depth;
+mod edit;
 mod edited;
 mod expand;
-mod in_place;
+mod insert;
+mod place;
+mod remove;
+mod replace;
 mod rewrite;
+mod value_text;
 
 pub use assign::assign_in_text;
 pub use delete::delete_in_text;

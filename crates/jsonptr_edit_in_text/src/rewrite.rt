@@ -6,9 +6,8 @@ ghost use Rattle.jsonptr.specs.Pointer.{tokens};
 ghost use Rattle.jsonptr_tree.specs.Json.{nodes};
 ghost use Rattle.jsonptr_edit_in_text.specs.EditInText.{AssignsInText, DeletesInText, LacksInText, IsAssignError, IsReadFault};
 
-use crate::depth::nests_within;
+use crate::depth::{MAX_DEPTH, nests_within};
 use crate::edited::EditError;
-use crate::in_place::MAX_DEPTH;
 use jsonptr::{Assign, Delete, Fault, Pointer, assign};
 use serde_json::Value;
 use std::alloc::{AllocError, Global};

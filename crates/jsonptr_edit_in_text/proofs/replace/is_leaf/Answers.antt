@@ -1,7 +1,7 @@
 use Rattle.std.proofs.Common.{ap, ◌∙◌}
 use Rattle.jsonptr_tree.proofs.JsonLemmas.{content_of, null_is, bool_is, number_is, string_is}
 use Rattle.jsonptr_edit_in_text.proofs.EditLemmas.{scalar_label}
-use Rattle.jsonptr_edit_in_text.proofs.in_place.is_leaf.Goals as goal
+use Rattle.jsonptr_edit_in_text.proofs.replace.is_leaf.Goals as goal
 
 pub returns-in-Null : goal.returns-in-Null
 returns-in-Null c = λ _. scalar_label _ _ (ap content_of c.in-Null.is ∙ null_is)

@@ -1,0 +1,22 @@
+use Rattle.std.proofs.Common.{◌∷◌, ◌++◌, Option, IfSome, string_bytes, refl, subst}
+use Rattle.serde_json.specs.View.{view}
+use Rattle.jsonptr.specs.Pointer.{tokens}
+use Rattle.jsonptr_tree.specs.Json.{nodes}
+use Rattle.jsonptr_splice.specs.declared.layout.ValueText.{ValueText}
+use Rattle.jsonptr_edit_in_text.specs.EditInText.{AssignsInText}
+use Rattle.jsonptr_edit_in_text.specs.PrivateReaching.{IsExpanded, ReachedInText, ElementAppended}
+use Rattle.jsonptr_edit_in_text.proofs.EditLemmas.{if_new, of_element, assigns_end}
+use Rattle.jsonptr_edit_in_text.proofs.assign.assign_element.Goals as goal
+
+pub returns-clause-assigned : goal.returns-clause-assigned
+returns-clause-assigned c =
+    let flat = string_bytes c.in-Some.value.flat in
+    let e = subst (λ (o : Option ValueText). IfSome o (IsExpanded (tokens c.args.after) (nodes (view c.args.value.now)))) c.in-Some.is c.in_ok-value.ensures in
+    let front = tokens c.args.pointer in
+    let x = c.args.token.now in
+    let after = tokens c.args.after in
+    if_new c.append.result
+    (λ s. ReachedInText c.args.text.now (string_bytes s) front (ElementAppended x flat))
+    (λ s. AssignsInText c.args.text.now (front ++ x ∷ after) (nodes (view c.args.value.now)) (string_bytes s))
+    (λ s h. assigns_end c.args.text.now (string_bytes s) (front ++ x ∷ after) front x after e.0 (nodes (view c.args.value.now)) refl e.2 (of_element c.args.text.now (string_bytes s) front x flat e.0 e.1 h))
+    c.append.ensures.reached

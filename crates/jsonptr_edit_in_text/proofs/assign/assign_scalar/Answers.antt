@@ -1,0 +1,22 @@
+use Rattle.std.proofs.Common.{◌∷◌, ◌++◌, List, Option, IfSome, string_bytes, refl, subst, ap, ◌∙◌}
+use Rattle.serde_json.specs.View.{view}
+use Rattle.jsonptr_grammar.specs.Text.{Text}
+use Rattle.jsonptr.specs.Pointer.{tokens}
+use Rattle.jsonptr_tree.specs.Growing.{grown}
+use Rattle.jsonptr_tree.specs.Json.{nodes}
+use Rattle.jsonptr_splice.specs.declared.layout.ValueText.{ValueText}
+use Rattle.jsonptr_edit_in_text.specs.EditInText.{AssignsInText}
+use Rattle.jsonptr_edit_in_text.specs.PrivateReaching.{IsExpanded, ReachedInText, ScalarBecomes}
+use Rattle.jsonptr_edit_in_text.proofs.EditLemmas.{if_new, of_scalar, assigns_scalar}
+use Rattle.jsonptr_edit_in_text.proofs.assign.assign_scalar.Goals as goal
+
+pub returns-clause-assigned : goal.returns-clause-assigned
+returns-clause-assigned c = λ x after rest.
+    let flat = string_bytes c.in-Some.value.flat in
+    let e = subst (λ (o : Option ValueText). IfSome o (IsExpanded (tokens c.args.rest) (nodes (view c.args.value.now)))) c.in-Some.is c.in_ok-value.ensures in
+    let front = tokens c.args.pointer in
+    if_new c.replace_scalar.result
+    (λ s. ReachedInText c.args.text.now (string_bytes s) front (ScalarBecomes flat))
+    (λ s. AssignsInText c.args.text.now (front ++ x ∷ after) (nodes (view c.args.value.now)) (string_bytes s))
+    (λ s h. assigns_scalar c.args.text.now (string_bytes s) (front ++ x ∷ after) front x after e.0 (nodes (view c.args.value.now)) refl (e.2 ∙ ap (λ (ts : List Text). grown ts (nodes (view c.args.value.now))) rest) (of_scalar c.args.text.now (string_bytes s) front flat e.0 e.1 h))
+    c.replace_scalar.ensures.reached

@@ -1,0 +1,23 @@
+use Rattle.std.proofs.Common.{◌≡◌, Option, Some, IfSome, string_bytes, ap, subst}
+use Rattle.serde_json.specs.Read.{read}
+use Rattle.serde_json.specs.View.{view}
+use Rattle.serde_json.specs.declared.value.Value.{Null}
+use Rattle.jsonptr.specs.Pointer.{tokens}
+use Rattle.jsonptr_tree.specs.Json.{nodes}
+use Rattle.jsonptr_tree.specs.Content.{map_of}
+use Rattle.jsonptr_tree.proofs.JsonLemmas.{null_is}
+use Rattle.jsonptr_splice.specs.declared.layout.ValueText.{ValueText}
+use Rattle.jsonptr_edit_in_text.specs.EditInText.{DeletesInText}
+use Rattle.jsonptr_edit_in_text.specs.PrivateReaching.{ReachedInText, Becomes}
+use Rattle.jsonptr_edit_in_text.proofs.EditLemmas.{if_new, of_value}
+use Rattle.jsonptr_edit_in_text.proofs.RemoveLemmas.{deletes_root}
+use Rattle.jsonptr_edit_in_text.proofs.delete.delete_root.Goals as goal
+
+pub returns-clause-deleted : goal.returns-clause-deleted
+returns-clause-deleted c = λ root.
+    let flat = string_bytes c.in-Some.null.flat in
+    if_new c.replace.result
+    (λ s. ReachedInText c.args.text.now (string_bytes s) (tokens c.args.pointer) (Becomes flat))
+    (λ s. DeletesInText c.args.text.now (tokens c.args.pointer) (string_bytes s))
+    (λ s h. deletes_root c.args.text.now (string_bytes s) (tokens c.args.pointer) (nodes (view Null)) root (ap map_of null_is) (of_value c.args.text.now (string_bytes s) (tokens c.args.pointer) flat (view Null) (subst (λ (o : Option ValueText). IfSome o (λ t. read (string_bytes t.flat) ≡ Some (view Null))) c.in-Some.is c.in_ok-null.ensures) h))
+    c.replace.ensures.reached

@@ -1,0 +1,63 @@
+//! One edit of a text, with the check that it is that edit.
+ghost use Rattle.std.specs.Prelude.{IfOk, IfSome, string_bytes};
+ghost use Rattle.jsonptr.specs.Pointer.{tokens};
+ghost use Rattle.jsonptr_skim.specs.Search.{choices};
+ghost use Rattle.jsonptr_splice.specs.Editing.{IsEdited, Makes};
+ghost use Rattle.jsonptr_splice.specs.Spacing.{Splices};
+ghost use Rattle.jsonptr_edit_in_text.specs.PrivateReaching.{ReachedInText};
+
+use jsonptr::Pointer;
+use jsonptr_in_text::selectors::selectors_of;
+use jsonptr_skim::selector::Selector;
+use jsonptr_splice::check::is_edited;
+use jsonptr_splice::cut::{Cut, splice};
+use jsonptr_splice::edit::Edit;
+use std::alloc::{AllocError, Global};
+
+/// Puts the piece into the text, if that makes the edit of the value that the selectors lead to.
+///
+/// # Errors
+///
+/// [`AllocError`] if an allocation fails.
+pub fn edit_by(
+    alloc: Global,
+    cut: &Cut<'_>,
+    selectors: &[Selector],
+    positions: &[usize],
+    piece: &str,
+    edit: &Edit,
+) -> Result<Option<String>, AllocError>
+    ensures edited { IfOk result (λ new. IfSome new (λ s.
+        IsEdited cut.now.text.now (string_bytes s) (choices selectors.now) edit.now)) }
+    ensures spliced { IfOk result (λ new. IfSome new (λ s.
+        Splices cut.now.text.now (string_bytes s) cut.now.was.now piece.now)) }
+{
+    let new = splice(alloc, cut, piece)?;
+    if is_edited(alloc, cut.text, new.as_str(), selectors, positions, edit)? {
+        Ok(Some(new))
+    } else {
+        Ok(None)
+    }
+}
+
+/// Puts the piece into the text, if that makes the edit of the value that the pointer resolves to.
+///
+/// # Errors
+///
+/// [`AllocError`] if an allocation fails.
+pub fn edit_at(
+    alloc: Global,
+    cut: &Cut<'_>,
+    pointer: Pointer<'_>,
+    positions: &[usize],
+    piece: &str,
+    edit: &Edit,
+) -> Result<Option<String>, AllocError>
+    ensures reached { IfOk result (λ new. IfSome new (λ s. ReachedInText cut.now.text.now
+        (string_bytes s) (tokens pointer.entry) (Makes edit.now))) }
+    ensures spliced { IfOk result (λ new. IfSome new (λ s.
+        Splices cut.now.text.now (string_bytes s) cut.now.was.now piece.now)) }
+{
+    let selectors = selectors_of(alloc, pointer)?;
+    edit_by(alloc, cut, &selectors, positions, piece, edit)
+}

@@ -1,0 +1,178 @@
+//! Adding a child to an array or an object in a text.
+ghost use Rattle.std.specs.Prelude.{◌≡◌, ◌⊎◌, List, ℕ, Some, IfOk, IfSome, codes, string_bytes};
+ghost use Rattle.jsonptr.specs.Pointer.{tokens};
+ghost use Rattle.jsonptr_grammar.specs.Text.{dec};
+ghost use Rattle.jsonptr_splice.specs.Editing.{Makes};
+ghost use Rattle.jsonptr_edit_in_text.specs.Bytes.{AddsBytes};
+ghost use Rattle.jsonptr_edit_in_text.specs.PrivateReaching.{ReachedInText, MemberAdded, ElementAppended};
+
+use crate::edit::edit_at;
+use crate::place::children_of;
+use jsonptr::index::Index;
+use jsonptr::{Pointer, Token};
+use jsonptr_skim::selector::Selector;
+use jsonptr_splice::child::is_one_child;
+use jsonptr_splice::cut::cut_at;
+use jsonptr_splice::edit::{Child, Edit};
+use jsonptr_splice::layout::{Piece, ValueText, addition};
+use jsonptr_splice::locate::Place;
+use jsonptr_splice::spacing::is_blank;
+use serde_json::Value;
+use std::alloc::{AllocError, Global};
+
+/// Adds a member with the key of the token to the object that the pointer resolves to. Returns
+/// `None` if that is not possible.
+///
+/// # Errors
+///
+/// [`AllocError`] if an allocation fails.
+pub fn add_member(
+    alloc: Global,
+    text: &str,
+    pointer: Pointer<'_>,
+    place: &Place,
+    token: &Token<'_>,
+    value: &ValueText,
+) -> Result<Option<String>, AllocError>
+    ensures reached { IfOk result (λ new. IfSome new (λ s. ReachedInText text.now (string_bytes s)
+        (tokens pointer.entry) (MemberAdded token.now (string_bytes value.now.flat)))) }
+    ensures bytes { IfOk result (λ new. IfSome new (λ s.
+        AddsBytes text.now (string_bytes s) token.now)) }
+{
+    let Some(members) = children_of(alloc, text, place.value)? else {
+        return Ok(None);
+    };
+    let position = members.len();
+    let key = token.decoded(alloc)?.into_owned(alloc)?;
+    let quoted = Value::String(key.clone()?).to_string(alloc)?;
+    let quoted = Some(quoted.as_str());
+    let piece = addition(alloc, text, place.value, &members, position, quoted, value)?;
+    let child = Child {
+        selector: Selector { key, index: None },
+        position,
+        value: value.flat.clone()?,
+    };
+    put_member(alloc, text, pointer, place, &piece, child)
+}
+
+/// Puts the text of a member into the object that the pointer resolves to.
+fn put_member(
+    alloc: Global,
+    text: &str,
+    pointer: Pointer<'_>,
+    place: &Place,
+    piece: &Piece,
+    child: Child,
+) -> Result<Option<String>, AllocError>
+    ensures reached { IfOk result (λ new. IfSome new (λ s. ReachedInText text.now (string_bytes s)
+        (tokens pointer.entry) (Makes (Edit.Add child)))) }
+    ensures bytes { IfOk result (λ new. IfSome new (λ s.
+        AddsBytes text.now (string_bytes s) (string_bytes child.selector.key))) }
+{
+    let Some(cut) = cut_at(text, piece.span.from, piece.span.to) else {
+        return Ok(None);
+    };
+    let key = Some(child.selector.key.as_str());
+    if !is_blank(cut.was) || !is_one_child(alloc, piece.text.as_str(), piece.child, key)? {
+        return Ok(None);
+    }
+    let edit = Edit::Add(child);
+    edit_at(
+        alloc,
+        &cut,
+        pointer,
+        &place.positions,
+        piece.text.as_str(),
+        &edit,
+    )
+}
+
+/// Adds an element at the end of the array that the pointer resolves to, if the token refers to the
+/// index after its last element. Returns `None` if that is not possible.
+///
+/// # Errors
+///
+/// [`AllocError`] if an allocation fails.
+pub fn append(
+    alloc: Global,
+    text: &str,
+    pointer: Pointer<'_>,
+    place: &Place,
+    token: &Token<'_>,
+    value: &ValueText,
+) -> Result<Option<String>, AllocError>
+    ensures reached { IfOk result (λ new. IfSome new (λ s. ReachedInText text.now (string_bytes s)
+        (tokens pointer.entry) (ElementAppended token.now (string_bytes value.now.flat)))) }
+    ensures bytes { IfOk result (λ new. IfSome new (λ s.
+        AddsBytes text.now (string_bytes s) token.now)) }
+{
+    let Some(elements) = children_of(alloc, text, place.value)? else {
+        return Ok(None);
+    };
+    let position = elements.len();
+    let Some(index) = append_index(token, position) else {
+        return Ok(None);
+    };
+    let piece = addition(alloc, text, place.value, &elements, position, None, value)?;
+    let child = element(alloc, index, value)?;
+    put_element(alloc, text, pointer, place, &piece, &Edit::Append(child))
+}
+
+/// Puts the text of an element into the array that the pointer resolves to.
+pub fn put_element(
+    alloc: Global,
+    text: &str,
+    pointer: Pointer<'_>,
+    place: &Place,
+    piece: &Piece,
+    edit: &Edit,
+) -> Result<Option<String>, AllocError>
+    ensures reached { IfOk result (λ new. IfSome new (λ s. ReachedInText text.now (string_bytes s)
+        (tokens pointer.entry) (Makes edit.now))) }
+    ensures bytes { (x : List ℕ) → IfOk result (λ new. IfSome new (λ s.
+        AddsBytes text.now (string_bytes s) x)) }
+{
+    let Some(cut) = cut_at(text, piece.span.from, piece.span.to) else {
+        return Ok(None);
+    };
+    if !is_blank(cut.was) || !is_one_child(alloc, piece.text.as_str(), piece.child, None)? {
+        return Ok(None);
+    }
+    edit_at(
+        alloc,
+        &cut,
+        pointer,
+        &place.positions,
+        piece.text.as_str(),
+        edit,
+    )
+}
+
+/// Returns the element with the index and the value.
+fn element(alloc: Global, index: usize, value: &ValueText) -> Result<Child, AllocError>
+    ensures index { IfOk result (λ child. child.selector.index ≡ Some index) }
+    ensures value { IfOk result
+        (λ child. string_bytes child.value ≡ string_bytes value.now.flat) }
+{
+    let selector = Selector {
+        key: String::new(alloc),
+        index: Some(index),
+    };
+    let value = value.flat.clone()?;
+    Ok(Child {
+        selector,
+        position: index,
+        value,
+    })
+}
+
+/// Returns the index that the token refers to: its number, or the length for `-`.
+fn append_index(token: &Token<'_>, length: usize) -> Option<usize>
+    ensures { IfSome result (λ i. (token.now ≡ codes "-") ⊎ (token.now ≡ dec i)) }
+{
+    match token.to_index() {
+        Ok(Index::Num(index)) => Some(index),
+        Ok(Index::Next) => Some(length),
+        Err(_) => None,
+    }
+}

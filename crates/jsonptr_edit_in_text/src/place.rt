@@ -1,0 +1,32 @@
+//! Where pointers lead in a text.
+
+use jsonptr_skim::selector::Selector;
+use jsonptr_splice::edit::CheckError;
+use jsonptr_splice::locate::{Extent, Place, Span, children, locate};
+use std::alloc::{AllocError, Global};
+
+/// Returns where the selectors lead in the text, or `None` if the text is not JSON.
+pub fn place_of(
+    alloc: Global,
+    text: &str,
+    selectors: &[Selector],
+) -> Result<Option<Place>, AllocError> {
+    match locate(alloc, text, selectors) {
+        Ok(place) => Ok(Some(place)),
+        Err(CheckError::Mismatch) => Ok(None),
+        Err(CheckError::Memory) => Err(AllocError),
+    }
+}
+
+/// Returns where the children of the array or object are, or `None` if it is neither.
+pub fn children_of(
+    alloc: Global,
+    text: &str,
+    container: Span,
+) -> Result<Option<Vec<Extent>>, AllocError> {
+    match children(alloc, text, container) {
+        Ok(extents) => Ok(Some(extents)),
+        Err(CheckError::Mismatch) => Ok(None),
+        Err(CheckError::Memory) => Err(AllocError),
+    }
+}

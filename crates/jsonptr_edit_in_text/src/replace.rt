@@ -1,0 +1,120 @@
+//! Replacing a value in a text.
+ghost use Rattle.std.specs.Prelude.{◌≡◌, Some, IfOk, IfSome, IsTrue, string_bytes};
+ghost use Rattle.serde_json.specs.Data.{Data};
+ghost use Rattle.serde_json.specs.Read.{read};
+ghost use Rattle.serde_json.specs.View.{view};
+ghost use Rattle.jsonptr.specs.Pointer.{tokens};
+ghost use Rattle.jsonptr_edit_in_text.specs.Bytes.{ReplacesBytes};
+ghost use Rattle.jsonptr_edit_in_text.specs.PrivateReaching.{ReachedInText, IsScalar, Trades, Becomes, ScalarBecomes};
+
+use crate::edit::edit_at;
+use jsonptr::Pointer;
+use jsonptr_splice::cut::{Cut, cut_at};
+use jsonptr_splice::edit::Edit;
+use jsonptr_splice::layout::{ValueText, replacement};
+use jsonptr_splice::locate::Place;
+use jsonptr_splice::spacing::is_trimmed;
+use serde_json::Value;
+use std::alloc::{AllocError, Global};
+
+/// Replaces the value that the pointer resolves to. Returns `None` if that is not possible.
+///
+/// # Errors
+///
+/// [`AllocError`] if an allocation fails.
+pub fn replace(
+    alloc: Global,
+    text: &str,
+    pointer: Pointer<'_>,
+    place: &Place,
+    value: &ValueText,
+) -> Result<Option<String>, AllocError>
+    ensures reached { IfOk result (λ new. IfSome new (λ s. ReachedInText text.now (string_bytes s)
+        (tokens pointer.entry) (Becomes (string_bytes value.now.flat)))) }
+    ensures bytes { IfOk result (λ new. IfSome new (λ s.
+        ReplacesBytes text.now (string_bytes s) (tokens pointer.entry))) }
+{
+    let Some(cut) = cut_at(text, place.value.from, place.value.to) else {
+        return Ok(None);
+    };
+    trade(alloc, &cut, pointer, place, value)
+}
+
+/// Replaces the scalar that the pointer resolves to. Returns `None` if that is not possible.
+///
+/// # Errors
+///
+/// [`AllocError`] if an allocation fails.
+pub fn replace_scalar(
+    alloc: Global,
+    text: &str,
+    pointer: Pointer<'_>,
+    place: &Place,
+    value: &ValueText,
+) -> Result<Option<String>, AllocError>
+    ensures reached { IfOk result (λ new. IfSome new (λ s. ReachedInText text.now (string_bytes s)
+        (tokens pointer.entry) (ScalarBecomes (string_bytes value.now.flat)))) }
+    ensures bytes { IfOk result (λ new. IfSome new (λ s.
+        ReplacesBytes text.now (string_bytes s) (tokens pointer.entry))) }
+{
+    let Some(cut) = cut_at(text, place.value.from, place.value.to) else {
+        return Ok(None);
+    };
+    if !is_scalar(alloc, cut.was)? {
+        return Ok(None);
+    }
+    trade(alloc, &cut, pointer, place, value)
+}
+
+/// Replaces the value that the pointer resolves to, and that was cut out.
+fn trade(
+    alloc: Global,
+    cut: &Cut<'_>,
+    pointer: Pointer<'_>,
+    place: &Place,
+    value: &ValueText,
+) -> Result<Option<String>, AllocError>
+    ensures reached { IfOk result (λ new. IfSome new (λ s. ReachedInText cut.now.text.now
+        (string_bytes s) (tokens pointer.entry)
+        (Trades cut.now.was.now (string_bytes value.now.flat)))) }
+    ensures bytes { IfOk result (λ new. IfSome new (λ s.
+        ReplacesBytes cut.now.text.now (string_bytes s) (tokens pointer.entry))) }
+{
+    if !is_trimmed(cut.was) {
+        return Ok(None);
+    }
+    let edit = Edit::Replace {
+        old: String::from_str(alloc, cut.was)?,
+        new: value.flat.clone()?,
+    };
+    let piece = replacement(alloc, cut.text, place, value)?;
+    edit_at(alloc, cut, pointer, &place.positions, piece.as_str(), &edit)
+}
+
+/// Returns whether the text is that of a scalar.
+fn is_scalar(alloc: Global, text: &str) -> Result<bool, AllocError>
+    ensures { IfOk result (λ b. IsTrue b → (d : Data) × (read text.now ≡ Some d) × IsScalar d) }
+{
+    if text.starts_with('{') || text.starts_with('[') {
+        return Ok(false);
+    }
+    match Value::from_str(alloc, text) {
+        Ok(value) => Ok(is_leaf(&value)),
+        Err(error) if error.is_memory() => Err(AllocError),
+        Err(_) => Ok(false),
+    }
+}
+
+/// Returns whether the value is neither an array nor an object.
+fn is_leaf(value: &Value) -> bool
+    ensures { IsTrue result → IsScalar (view value.now) }
+{
+    match value {
+        Value::Null => true,
+        Value::Bool(_) => true,
+        Value::Number(_) => true,
+        Value::String(_) => true,
+        Value::Array(_) => false,
+        Value::Object(_) => false,
+    }
+}
