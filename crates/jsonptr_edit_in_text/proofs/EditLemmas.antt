@@ -28,7 +28,7 @@ use Rattle.jsonptr_edit_in_text.specs.EditInText.{AssignsInText}
 use Rattle.jsonptr_edit_in_text.specs.PrivateReaching.{ReachedInText, ReplacesScalar, AddsMemberAt, AppendsAt, Trades, Becomes, ScalarBecomes, MemberAdded, ElementAppended}
 use Rattle.jsonptr_edit_in_text.proofs.ReachingLemmas.{reached_so, item_content, below, same_below, other_place, other_key}
 
-label_there : (d at : Data) (w : Path) → content_at w (content d) ≡ Some (content at) → nodes d w ≡ Some (label_of (content at))
+pub label_there : (d at : Data) (w : Path) → content_at w (content d) ≡ Some (content at) → nodes d w ≡ Some (label_of (content at))
 label_there d at w h = ap (option_map label_of) h
 
 pub map_there : (d at : Data) (w : Path) → content_at w (content d) ≡ Some (content at) → nodes at ≡ sub (nodes d) w
@@ -67,7 +67,7 @@ assigns_scalar old new tokens front x rest e v split is h =
 
 -- ---- a member added
 
-member_map : (ms ms2 : json.Members) (k : Text) (e : Data) → InsertsMember k e ms ms2 → nodes (json.object ms2) ≡ put (nodes (json.object ms)) (key k ∷ []) (nodes e)
+pub member_map : (ms ms2 : json.Members) (k : Text) (e : Data) → InsertsMember k e ms ms2 → nodes (json.object ms2) ≡ put (nodes (json.object ms)) (key k ∷ []) (nodes e)
 member_map ms ms2 k e h = same_by_step (nodes (json.object ms2)) (put (nodes (json.object ms)) (key k ∷ []) (nodes e))
     (sym (put_none (nodes (json.object ms)) (key k ∷ []) (nodes e) [] (rest_after-shorter [] (key k) [])))
     (λ t. at t (cases_same (key k) t))

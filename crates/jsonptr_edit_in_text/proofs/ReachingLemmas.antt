@@ -44,7 +44,7 @@ below d c s h = map_of-sub (s ∷ []) d c (ap (option_and_then (content_at [])) 
 pub same_below : (d d2 : Content) (t : Step) → tree.child t d2 ≡ tree.child t d → sub (map_of d2) (t ∷ []) ≡ sub (map_of d) (t ∷ [])
 same_below d d2 t h = fun_ext (λ (q : Path). ap (λ (o : Option Content). option_map label_of (option_and_then (content_at q) o)) h)
 
-put_level : (d d2 c c2 : Content) (s : Step) (p : Path) (v : NodeMap) → StepChanges d d2 s c c2 → map_of c2 ≡ put (map_of c) p v → map_of d2 ≡ put (map_of d) (s ∷ p) v
+pub put_level : (d d2 c c2 : Content) (s : Step) (p : Path) (v : NodeMap) → StepChanges d d2 s c c2 → map_of c2 ≡ put (map_of c) p v → map_of d2 ≡ put (map_of d) (s ∷ p) v
 put_level d d2 c c2 s p v h later = same_by_step (map_of d2) (put (map_of d) (s ∷ p) v)
     (ap (λ (l : Label). Some l) h.same_label ∙ sym (put_none (map_of d) (s ∷ p) v [] (rest_after-shorter [] s p)))
     (λ t. at t (cases_same s t))
@@ -72,7 +72,7 @@ in_array ds ds2 i at at2 h = record {
     others (key k) e = refl
     others (place j) e = item_content ds2 j ∙ ap (option_map content) (h.others j (other_place i j e)) ∙ sym (item_content ds j)
 
-in_object : (ms ms2 : json.Members) (k : Text) (at at2 : Data) → OnlyMemberDiffers k at at2 ms ms2 → StepChanges (content (json.object ms)) (content (json.object ms2)) (key k) (content at) (content at2)
+pub in_object : (ms ms2 : json.Members) (k : Text) (at at2 : Data) → OnlyMemberDiffers k at at2 ms ms2 → StepChanges (content (json.object ms)) (content (json.object ms2)) (key k) (content at) (content at2)
 in_object ms ms2 k at at2 h = record {
   same_label = refl;
   was = member_content k ms ∙ ap (option_map content) h.was;

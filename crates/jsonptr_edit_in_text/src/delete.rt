@@ -68,7 +68,7 @@ pub fn delete_in_text(
 /// # Errors
 ///
 /// [`AllocError`] if an allocation fails.
-fn delete_in_place(
+pub fn delete_in_place(
     alloc: Global,
     text: &str,
     pointer: Pointer<'_>,

@@ -16,6 +16,8 @@
 //! `rt.alloc()`, the allocator.
 #![tactic(auto)]
 
+mod add;
+mod apply;
 mod assign;
 mod delete;
 mod depth;
@@ -23,12 +25,15 @@ mod edit;
 mod edited;
 mod expand;
 mod insert;
+mod operate;
 mod place;
 mod remove;
 mod replace;
 mod rewrite;
+mod value_at;
 mod value_text;
 
+pub use apply::apply_in_text;
 pub use assign::assign_in_text;
 pub use delete::delete_in_text;
 pub use edited::{EditError, Edited};

@@ -5,10 +5,12 @@ ghost use Rattle.serde_json.specs.View.{view};
 ghost use Rattle.jsonptr.specs.Pointer.{tokens};
 ghost use Rattle.jsonptr_tree.specs.Json.{nodes};
 ghost use Rattle.jsonptr_edit_in_text.specs.EditInText.{AssignsInText, DeletesInText, LacksInText, IsAssignError, IsReadFault};
+ghost use Rattle.jsonptr_edit_in_text.specs.PatchInText.{PatchesInText, IsPatchFault};
 
 use crate::depth::{MAX_DEPTH, nests_within};
 use crate::edited::EditError;
 use jsonptr::{Assign, Delete, Fault, Pointer, assign};
+use jsonptr_patch::{Operation, PatchError, apply};
 use serde_json::Value;
 use std::alloc::{AllocError, Global};
 use std::convert::Infallible;
@@ -32,6 +34,32 @@ pub fn assign_and_print(
     let mut document = read_document(alloc, text)?;
     match document.assign(alloc, pointer, value) {
         Ok(_) => {}
+        Err(Fault::Refused(error)) => return Err(EditError::Refused(error)),
+        Err(Fault::Memory(error)) => return Err(EditError::Memory(error)),
+    }
+    if !nests_within(&document, MAX_DEPTH) {
+        return Err(EditError::TooDeep);
+    }
+    Ok(document.to_string(alloc)?)
+}
+
+/// Reads the text, applies the operations, and prints the document.
+///
+/// # Errors
+///
+/// Those of [`apply_in_text`](crate::apply_in_text).
+pub fn apply_and_print(
+    alloc: Global,
+    text: &str,
+    operations: Vec<Operation>,
+) -> Result<String, EditError<PatchError>>
+    ensures applied { IfOk result
+        (λ s. PatchesInText text.now operations.items (string_bytes s)) }
+    ensures refused { IfErr result (IsPatchFault text.now operations.items) }
+{
+    let mut document = read_document(alloc, text)?;
+    match apply(alloc, &mut document, operations) {
+        Ok(()) => {}
         Err(Fault::Refused(error)) => return Err(EditError::Refused(error)),
         Err(Fault::Memory(error)) => return Err(EditError::Memory(error)),
     }

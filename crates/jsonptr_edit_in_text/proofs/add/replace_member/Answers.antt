@@ -1,0 +1,49 @@
+use Rattle.std.proofs.Common.{[], ◌∷◌, ◌++◌, string_bytes, subst}
+use Rattle.jsonptr_grammar.specs.Text.{Text}
+use Rattle.jsonptr.specs.Pointer.{tokens}
+use Rattle.jsonptr_skim.specs.Search.{choices}
+use Rattle.jsonptr_splice.specs.Editing.{IsEdited}
+use Rattle.jsonptr_splice.specs.Spacing.{Splices}
+use Rattle.jsonptr_splice.specs.declared.edit.Edit.TheVariants.{Replace}
+use Rattle.jsonptr_edit_in_text.specs.Bytes.{ReplacesBytes}
+use Rattle.jsonptr_edit_in_text.specs.PrivateOperating.{AddsInText}
+use Rattle.jsonptr_edit_in_text.proofs.EditLemmas.{if_new, if_both}
+use Rattle.jsonptr_edit_in_text.proofs.OperatingLemmas.{traded, adds_in_place_of, replaces_member_bytes}
+use Rattle.jsonptr_edit_in_text.proofs.add.replace_member.Goals as goal
+
+pub returns-clause-added : goal.returns-clause-added
+returns-clause-added c =
+    let old = c.args.text.now in
+    let cut = c.in-Some.cut in
+    let front = tokens c.args.pointer in
+    let x = c.args.token.now in
+    let cs = choices c.args.selectors.now in
+    let before = c.in_ok-from_str.field-0 in
+    let after = c.in_ok-clone.field-0 in
+    let flat = string_bytes c.args.value.now.flat in
+    if_new c.edit_by.result
+    (λ s. IsEdited cut.text.now (string_bytes s) cs (Replace before after))
+    (λ s. AddsInText old (front ++ x ∷ []) flat (string_bytes s))
+    (λ s h. adds_in_place_of old (string_bytes s) front x cut.was.now flat (traded old cut.text.now (string_bytes s) front x cs before after cut.was.now flat c.in-Some.ensures c.requires c.in_ok-from_str.ensures.ok c.in_ok-clone.ensures.cases h))
+    c.edit_by.ensures.edited
+
+pub returns-clause-bytes : goal.returns-clause-bytes
+returns-clause-bytes c =
+    let old = c.args.text.now in
+    let cut = c.in-Some.cut in
+    let front = tokens c.args.pointer in
+    let x = c.args.token.now in
+    let cs = choices c.args.selectors.now in
+    let before = c.in_ok-from_str.field-0 in
+    let after = c.in_ok-clone.field-0 in
+    let flat = string_bytes c.args.value.now.flat in
+    let piece = c.as_str.result.now in
+    if_new c.edit_by.result
+    (λ s. IsEdited cut.text.now (string_bytes s) cs (Replace before after) × Splices cut.text.now (string_bytes s) cut.was.now piece)
+    (λ s. ReplacesBytes old (string_bytes s) (front ++ x ∷ []))
+    (λ s h. replaces_member_bytes old (string_bytes s) front x cut.was.now piece flat (subst (λ (t : Text). Splices t (string_bytes s) cut.was.now piece) c.in-Some.ensures h.1)
+        (traded old cut.text.now (string_bytes s) front x cs before after cut.was.now flat c.in-Some.ensures c.requires c.in_ok-from_str.ensures.ok c.in_ok-clone.ensures.cases h.0) (c.is_trimmed.ensures c.if-not-is_trimmed.false))
+    (if_both c.edit_by.result
+    (λ s. IsEdited cut.text.now (string_bytes s) cs (Replace before after))
+    (λ s. Splices cut.text.now (string_bytes s) cut.was.now piece)
+    c.edit_by.ensures.edited c.edit_by.ensures.spliced)

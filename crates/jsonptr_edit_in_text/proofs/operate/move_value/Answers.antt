@@ -1,0 +1,44 @@
+use Rattle.std.proofs.Common.{◌≡◌, Option, String, IfSome, true≢false, string_bytes, sym, ◌∙◌, subst}
+use Rattle.std.specs.declared.alloc.Global.{Global}
+use Rattle.jsonptr_grammar.specs.Text.{Text}
+use Rattle.jsonptr.specs.Pointer.{tokens}
+use Rattle.jsonptr_patch.specs.Operating.{IsProperFront}
+use Rattle.jsonptr_splice.specs.declared.layout.ValueText.{ValueText}
+use Rattle.jsonptr_edit_in_text.specs.Bytes.{DeletesBytes}
+use Rattle.jsonptr_edit_in_text.specs.EditInText.{DeletesInText}
+use Rattle.jsonptr_edit_in_text.specs.PatchInText.{AddsAtBytes}
+use Rattle.jsonptr_edit_in_text.specs.PrivateOperating.{FindsText, AddsInText, MovesInText}
+use Rattle.jsonptr_edit_in_text.proofs.EditLemmas.{if_new}
+use Rattle.jsonptr_edit_in_text.proofs.OperatingLemmas.{moves}
+use Rattle.jsonptr_edit_in_text.proofs.operate.move_value.Goals as goal
+
+pub returns-clause-moved : goal.returns-clause-moved
+returns-clause-moved c =
+    let old = c.args.text.now in
+    let from = tokens c.args.from in
+    let path = tokens c.args.path in
+    let flat = string_bytes c.in-Some.value.flat in
+    let left = c.as_str.result.now in
+    let apart : IsProperFront from path → ⊥ = λ h. true≢false (sym (c.is_below.ensures.1 h) ∙ c.if-is_below.false) in
+    let found = subst (λ (o : Option ValueText). IfSome o (λ t. FindsText old from (string_bytes t.flat))) c.in-Some.is c.in_ok-value.ensures in
+    let deleted = subst (λ (o : Option (String Global)). IfSome o (λ s. DeletesInText old from (string_bytes s))) c.in-Some-2.is c.in_ok-left.ensures.deleted in
+    let to_left = subst (λ (t : Text). DeletesInText old from t) (sym c.as_str.ensures.value) deleted in
+    if_new c.add_at.result
+    (λ s. AddsInText left path flat (string_bytes s))
+    (λ s. MovesInText old from path (string_bytes s))
+    (λ s h. moves old left (string_bytes s) from path flat apart found to_left h)
+    c.add_at.ensures.added
+
+pub returns-clause-bytes : goal.returns-clause-bytes
+returns-clause-bytes c =
+    let old = c.args.text.now in
+    let from = tokens c.args.from in
+    let path = tokens c.args.path in
+    let left = c.as_str.result.now in
+    let deleted = subst (λ (o : Option (String Global)). IfSome o (λ s. DeletesBytes old from (string_bytes s))) c.in-Some-2.is c.in_ok-left.ensures.bytes in
+    let to_left = subst (λ (t : Text). DeletesBytes old from t) (sym c.as_str.ensures.value) deleted in
+    if_new c.add_at.result
+    (λ s. AddsAtBytes left path (string_bytes s))
+    (λ s. (mid : Text) × DeletesBytes old from mid × AddsAtBytes mid path (string_bytes s))
+    (λ s h. (left, to_left, h))
+    c.add_at.ensures.bytes

@@ -1,0 +1,50 @@
+use Rattle.std.proofs.Common.{◌≡◌, List, IfOk, IfSome, string_bytes, sym, subst}
+use Rattle.serde_json.specs.View.{view}
+use Rattle.jsonptr_grammar.specs.Text.{Text}
+use Rattle.jsonptr.specs.Pointer.{tokens}
+use Rattle.jsonptr_tree.specs.Json.{nodes}
+use Rattle.jsonptr_patch.specs.declared.operation.Operation.{Operation}
+use Rattle.jsonptr_patch.specs.declared.operation.Operation.TheVariants.{Add, Remove, Move, Test}
+use Rattle.jsonptr_edit_in_text.specs.Bytes.{DeletesBytes}
+use Rattle.jsonptr_edit_in_text.specs.EditInText.{DeletesInText}
+use Rattle.jsonptr_edit_in_text.specs.PatchInText.{AddsAtBytes, OperationBytes}
+use Rattle.jsonptr_edit_in_text.specs.PrivateOperating.{OperatesInText, AddsValueInText}
+use Rattle.jsonptr_edit_in_text.proofs.EditLemmas.{if_new}
+use Rattle.jsonptr_edit_in_text.proofs.OperatingLemmas.{removes, tests}
+use Rattle.jsonptr_edit_in_text.proofs.operate.operate.Goals as goal
+
+pub returns-in-Add-clause-applied : goal.returns-in-Add-clause-applied
+returns-in-Add-clause-applied c =
+    let r = c.add_value.result in
+    let old = c.as_str-old.result.now in
+    let v = nodes (view c.in-Add.value) in
+    subst (λ (o : Operation). IfOk r (λ n. IfSome n (λ s. OperatesInText (string_bytes c.args.text) o (string_bytes s)))) (sym c.in-Add.is)
+    (subst (λ (t : Text). IfOk r (λ n. IfSome n (λ s. AddsValueInText t c.in-Add.path v (string_bytes s)))) c.as_str-old.ensures.value
+    (subst (λ (ts : List Text). IfOk r (λ n. IfSome n (λ s. AddsValueInText old ts v (string_bytes s)))) c.as_ptr.ensures.tokens c.add_value.ensures.added))
+
+pub returns-in-Remove-clause-applied : goal.returns-in-Remove-clause-applied
+returns-in-Remove-clause-applied c =
+    let r = c.delete_in_place.result in
+    let old = c.as_str-old.result.now in
+    subst (λ (o : Operation). IfOk r (λ n. IfSome n (λ s. OperatesInText (string_bytes c.args.text) o (string_bytes s)))) (sym c.in-Remove.is)
+    (if_new r
+    (λ s. DeletesInText (string_bytes c.args.text) c.in-Remove.path (string_bytes s))
+    (λ s. OperatesInText (string_bytes c.args.text) (Remove c.in-Remove.path) (string_bytes s))
+    (λ s h. removes (string_bytes c.args.text) (string_bytes s) c.in-Remove.path h)
+    (subst (λ (t : Text). IfOk r (λ n. IfSome n (λ s. DeletesInText t c.in-Remove.path (string_bytes s)))) c.as_str-old.ensures.value
+    (subst (λ (ts : List Text). IfOk r (λ n. IfSome n (λ s. DeletesInText old ts (string_bytes s)))) c.as_ptr-in-Remove.ensures.tokens c.delete_in_place.ensures.deleted)))
+
+pub returns-in-Move-clause-bytes : goal.returns-in-Move-clause-bytes
+returns-in-Move-clause-bytes c =
+    let r = c.move_value.result in
+    let old = c.as_str-old.result.now in
+    let from = tokens c.as_ptr-in-Move.result in
+    subst (λ (o : Operation). IfOk r (λ n. IfSome n (λ s. OperationBytes (string_bytes c.args.text) o (string_bytes s)))) (sym c.in-Move.is)
+    (subst (λ (t : Text). IfOk r (λ n. IfSome n (λ s. (mid : Text) × DeletesBytes t c.in-Move.from mid × AddsAtBytes mid c.in-Move.path (string_bytes s)))) c.as_str-old.ensures.value
+    (subst (λ (ts : List Text). IfOk r (λ n. IfSome n (λ s. (mid : Text) × DeletesBytes old ts mid × AddsAtBytes mid c.in-Move.path (string_bytes s)))) c.as_ptr-in-Move.ensures.tokens
+    (subst (λ (ts : List Text). IfOk r (λ n. IfSome n (λ s. (mid : Text) × DeletesBytes old from mid × AddsAtBytes mid ts (string_bytes s)))) c.as_ptr-in-Move-2.ensures.tokens c.move_value.ensures.bytes)))
+
+pub returns-then-branch-clause-applied : goal.returns-then-branch-clause-applied
+returns-then-branch-clause-applied c =
+    subst (λ (o : Operation). OperatesInText (string_bytes c.args.text) o (string_bytes c.args.text)) (sym c.in-Test.is)
+    (tests (string_bytes c.args.text) c.as_str-old.result.now (tokens c.as_ptr-in-Test.result) c.in-Test.path c.in-Test.value c.as_str-old.ensures.value c.as_ptr-in-Test.ensures.tokens (c.in_ok-passes-in-Test.ensures c.if-branch.true))

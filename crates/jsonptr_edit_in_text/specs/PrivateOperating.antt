@@ -1,0 +1,63 @@
+-- Words of private clauses: one operation of a patch, in a text.
+use Rattle.std.specs.Prelude.{◌≡◌, List, [], ◌∷◌, ◌++◌, Some, None}
+use Rattle.serde_json.specs.Data.{Data}
+use Rattle.serde_json.specs.Read.{read}
+use Rattle.jsonptr_grammar.specs.Text.{Text}
+use Rattle.jsonptr_tree.specs.Node.{NodeMap}
+use Rattle.jsonptr_tree.specs.Json.{nodes}
+use Rattle.jsonptr_walk.specs.Follow.{PutsAt}
+use Rattle.jsonptr_skim.specs.Search.{Choice}
+use Rattle.jsonptr_in_text.specs.InText.{FindsInText}
+use Rattle.jsonptr_in_text.specs.Selecting.{IsChoiceOf, AreChoicesOf}
+use Rattle.jsonptr_splice.specs.Editing.{AddsChild}
+use Rattle.jsonptr_patch.specs.Adding.{Adds}
+use Rattle.jsonptr_patch.specs.Operating.{Applies, Moves, Copies, Passes}
+use Rattle.jsonptr_patch.specs.declared.operation.Operation.{Operation}
+
+-- `OperatesInText old o new`: the texts read as documents, and the operation o turns the first into the second
+abbrev pub OperatesInText : Text → Operation → Text → Type 0
+OperatesInText old o new =
+    (d d2 : Data) × (read old ≡ Some d) × (read new ≡ Some d2) × Applies (nodes d) o (nodes d2)
+
+-- `PutsInText old tokens v new`: the same for a value that is replaced by v
+abbrev pub PutsInText : Text → List Text → NodeMap → Text → Type 0
+PutsInText old tokens v new =
+    (d d2 : Data) × (read old ≡ Some d) × (read new ≡ Some d2) × PutsAt (nodes d) tokens v (nodes d2)
+
+-- `AddsValueInText old tokens v new`: the same for a value v that is added
+abbrev pub AddsValueInText : Text → List Text → NodeMap → Text → Type 0
+AddsValueInText old tokens v new =
+    (d d2 : Data) × (read old ≡ Some d) × (read new ≡ Some d2) × Adds (nodes d) tokens v (nodes d2)
+
+-- `AddsInText old tokens piece new`: the same for the value of the text `piece` that is added
+abbrev pub AddsInText : Text → List Text → Text → Text → Type 0
+AddsInText old tokens piece new =
+    (d d2 e : Data) × (read old ≡ Some d) × (read new ≡ Some d2) × (read piece ≡ Some e)
+    × Adds (nodes d) tokens (nodes e) (nodes d2)
+
+-- `FindsText old tokens piece`: `tokens` identify the value of the text `piece`
+abbrev pub FindsText : Text → List Text → Text → Type 0
+FindsText old tokens piece = (e : Data) × (read piece ≡ Some e) × FindsInText old tokens e
+
+-- `MovesInText`, `CopiesInText`: the same for a value that is moved, and for one that is copied
+abbrev pub MovesInText : Text → List Text → List Text → Text → Type 0
+MovesInText old from path new =
+    (d d2 : Data) × (read old ≡ Some d) × (read new ≡ Some d2) × Moves (nodes d) from path (nodes d2)
+
+abbrev pub CopiesInText : Text → List Text → List Text → Text → Type 0
+CopiesInText old from path new =
+    (d d2 : Data) × (read old ≡ Some d) × (read new ≡ Some d2) × Copies (nodes d) from path (nodes d2)
+
+-- `PassesInText text tokens v`: the test that the value at `tokens` equals v passes
+abbrev pub PassesInText : Text → List Text → NodeMap → Type 0
+PassesInText text tokens v = (d : Data) × (read text ≡ Some d) × Passes (nodes d) tokens v
+
+-- `ChildAdded x piece d d2`: d2 is d with the value of the text `piece` as a child more, which the token x refers to
+abbrev pub ChildAdded : Text → Text → Data → Data → Type 0
+ChildAdded x piece d d2 =
+    (e : Data) × (c : Choice) × (read piece ≡ Some e) × IsChoiceOf x c × AddsChild c e d d2
+
+-- `AreMemberChoices tokens x cs`: cs are the selectors of `tokens`, and one of the member with the key x
+abbrev pub AreMemberChoices : List Text → Text → List Choice → Type 0
+AreMemberChoices tokens x cs =
+    (front : List Choice) × (cs ≡ front ++ (x, None) ∷ []) × AreChoicesOf tokens front

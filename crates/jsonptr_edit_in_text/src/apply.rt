@@ -1,0 +1,105 @@
+//! Applying a patch in a text (RFC 6902).
+ghost use Rattle.std.specs.Prelude.{◌≡◌, Some, IfOk, IfErr, IfSome, IsTrue, string_bytes};
+ghost use Rattle.serde_json.specs.Data.{Data};
+ghost use Rattle.serde_json.specs.Read.{read};
+ghost use Rattle.jsonptr_edit_in_text.specs.Bytes.{KeepsBytes};
+ghost use Rattle.jsonptr_edit_in_text.specs.EditInText.{text_of};
+ghost use Rattle.jsonptr_edit_in_text.specs.PatchInText.{PatchesInText, PatchBytes, IsPatchFault};
+
+use crate::edited::{EditError, Edited};
+use crate::operate::operate;
+use crate::rewrite::apply_and_print;
+use jsonptr::Pointer;
+use jsonptr_in_text::{InTextError, exists_in_text};
+use jsonptr_patch::{Operation, PatchError};
+use std::alloc::{AllocError, Global};
+
+/// Applies the operations of a patch in order to the document that the text contains, all of them or
+/// none, as [`apply`](jsonptr_patch::apply) does (RFC 6902, section 5).
+///
+/// Each operation changes one piece of the text that the one before left: `add` and `copy` as
+/// [`assign_in_text`](crate::assign_in_text) does, with an element before the one at its index,
+/// `remove` as [`delete_in_text`](crate::delete_in_text) does, and `replace` the bytes of one value.
+/// A `move` cuts its value out and then adds it. A value that is moved or copied keeps the form of
+/// its numbers and strings, and the order of its members. A `test` changes no byte.
+///
+/// Each new text is read side by side with the one before it. If that fails, the document is read,
+/// changed and printed, and the result is [`Edited::Rewritten`].
+///
+/// Each operation reads its text some four times, and allocates for the next one. After an error the
+/// document is read once more, since its own call determines the error.
+///
+/// # Errors
+///
+/// - [`EditError::NotJson`] if `serde_json` does not read the text.
+/// - [`EditError::Refused`] with the error of `apply`, if an operation fails.
+/// - [`EditError::TooDeep`] if the new document nests deeper than 127.
+/// - [`EditError::Memory`] if an allocation fails.
+///
+/// # Examples
+///
+/// ```rust
+/// let text = "{\n  \"size\": 1.0,\n  \"tags\": [\"old\"]\n}\n";
+/// let from = PointerBuf::from_text(alloc, "/size")?;
+/// let path = PointerBuf::from_text(alloc, "/tags/0")?;
+/// let patch = vec![in alloc; Operation::Move { from, path }]?;
+/// let edited = apply_in_text(alloc, text, patch)?;
+/// assert_eq!(rt; edited.as_str(), "{\n  \"tags\": [1.0,\"old\"]\n}\n");
+/// ```
+pub fn apply_in_text(
+    alloc: Global,
+    text: &str,
+    operations: Vec<Operation>,
+) -> Result<Edited, EditError<PatchError>>
+    ensures applied { IfOk result
+        (λ e. PatchesInText text.now operations.items (text_of e)) }
+    ensures bytes { IfOk result (KeepsBytes (PatchBytes text.now operations.items)) }
+    ensures refused { IfErr result (IsPatchFault text.now operations.items) }
+{
+    if let Some(new) = apply_in_place(alloc, text, &operations)? {
+        return Ok(Edited::InPlace(new));
+    }
+    let new = apply_and_print(alloc, text, operations)?;
+    Ok(Edited::Rewritten(new))
+}
+
+/// Applies the operations in order to the text, each in place. Returns `None` if that is not
+/// possible, and for every error of an operation.
+///
+/// # Errors
+///
+/// [`AllocError`] if an allocation fails.
+fn apply_in_place(
+    alloc: Global,
+    text: &str,
+    operations: &[Operation],
+) -> Result<Option<String>, AllocError>
+    ensures applied { IfOk result (λ new. IfSome new
+        (λ s. PatchesInText text.now operations.now (string_bytes s))) }
+    ensures bytes { IfOk result (λ new. IfSome new
+        (λ s. PatchBytes text.now operations.now (string_bytes s))) }
+{
+    if !is_document(alloc, text)? {
+        return Ok(None);
+    }
+    let mut current = String::from_str(alloc, text)?;
+    'operations: for operation in operations {
+        let Some(next) = operate(alloc, current, operation)? else {
+            return Ok(None);
+        };
+        current = next;
+    }
+    Ok(Some(current))
+}
+
+/// Returns whether `serde_json` reads the text.
+fn is_document(alloc: Global, text: &str) -> Result<bool, AllocError>
+    ensures { IfOk result (λ b. IsTrue b → (d : Data) × (read text.now ≡ Some d)) }
+{
+    match exists_in_text(alloc, text, Pointer::root()) {
+        Ok(exists) => Ok(exists),
+        Err(InTextError::Memory(error)) => Err(error),
+        Err(InTextError::NotJson) => Ok(false),
+        Err(InTextError::Resolve(_error)) => Ok(false),
+    }
+}

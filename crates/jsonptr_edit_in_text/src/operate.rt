@@ -1,0 +1,179 @@
+//! One operation of a patch in a text (RFC 6902, section 4).
+ghost use Rattle.std.specs.Prelude.{◌≡◌, IfOk, IfSome, IsTrue, ◌↔◌, string_bytes};
+ghost use Rattle.serde_json.specs.View.{view};
+ghost use Rattle.jsonptr.specs.Pointer.{tokens};
+ghost use Rattle.jsonptr_tree.specs.Json.{nodes};
+ghost use Rattle.jsonptr_grammar.specs.Text.{Text};
+ghost use Rattle.jsonptr_patch.specs.Operating.{IsProperFront};
+ghost use Rattle.jsonptr_edit_in_text.specs.Bytes.{ReplacesBytes, DeletesBytes};
+ghost use Rattle.jsonptr_edit_in_text.specs.PatchInText.{AddsAtBytes, OperationBytes};
+ghost use Rattle.jsonptr_edit_in_text.specs.PrivateOperating.{OperatesInText, PutsInText, AddsValueInText, MovesInText, CopiesInText, PassesInText};
+
+use crate::add::add_at;
+use crate::delete::delete_in_place;
+use crate::place::place_of;
+use crate::replace::replace;
+use crate::value_at::value_at;
+use crate::value_text::value_text;
+use jsonptr::{Fault, Pointer, PointerBuf};
+use jsonptr_in_text::selectors::selectors_of;
+use jsonptr_in_text::{InTextError, resolve_in_text};
+use jsonptr_patch::{Operation, apply};
+use serde_json::Value;
+use std::alloc::{AllocError, Global};
+
+/// Applies the operation to the text. Returns `None` if that is not possible, and for every error of
+/// the operation.
+///
+/// # Errors
+///
+/// [`AllocError`] if an allocation fails.
+pub fn operate(
+    alloc: Global,
+    text: String,
+    operation: &Operation,
+) -> Result<Option<String>, AllocError>
+    ensures applied { IfOk result (λ new. IfSome new
+        (λ s. OperatesInText (string_bytes text) operation.now (string_bytes s))) }
+    ensures bytes { IfOk result (λ new. IfSome new
+        (λ s. OperationBytes (string_bytes text) operation.now (string_bytes s))) }
+{
+    let old = text.as_str();
+    match operation {
+        Operation::Add { path, value } => add_value(alloc, old, path.as_ptr(), value),
+        Operation::Remove { path } => delete_in_place(alloc, old, path.as_ptr()),
+        Operation::Replace { path, value } => replace_value(alloc, old, path.as_ptr(), value),
+        Operation::Move { from, path } => move_value(alloc, old, from.as_ptr(), path.as_ptr()),
+        Operation::Copy { from, path } => copy_value(alloc, old, from.as_ptr(), path.as_ptr()),
+        Operation::Test { path, value } => {
+            if passes(alloc, old, path.as_ptr(), value)? {
+                Ok(Some(text))
+            } else {
+                Ok(None)
+            }
+        }
+    }
+}
+
+/// Adds the value at the pointer.
+fn add_value(
+    alloc: Global,
+    text: &str,
+    pointer: Pointer<'_>,
+    value: &Value,
+) -> Result<Option<String>, AllocError>
+    ensures added { IfOk result (λ new. IfSome new (λ s. AddsValueInText text.now
+        (tokens pointer.entry) (nodes (view value.now)) (string_bytes s))) }
+    ensures bytes { IfOk result (λ new. IfSome new (λ s.
+        AddsAtBytes text.now (tokens pointer.entry) (string_bytes s))) }
+{
+    let Some(value) = value_text(alloc, value)? else {
+        return Ok(None);
+    };
+    add_at(alloc, text, pointer, &value)
+}
+
+/// Replaces the value that the pointer resolves to.
+fn replace_value(
+    alloc: Global,
+    text: &str,
+    pointer: Pointer<'_>,
+    value: &Value,
+) -> Result<Option<String>, AllocError>
+    ensures put { IfOk result (λ new. IfSome new (λ s. PutsInText text.now
+        (tokens pointer.entry) (nodes (view value.now)) (string_bytes s))) }
+    ensures bytes { IfOk result (λ new. IfSome new (λ s.
+        ReplacesBytes text.now (string_bytes s) (tokens pointer.entry))) }
+{
+    let selectors = selectors_of(alloc, pointer)?;
+    let Some(place) = place_of(alloc, text, &selectors)? else {
+        return Ok(None);
+    };
+    if place.followed != selectors.len() {
+        return Ok(None);
+    }
+    let Some(value) = value_text(alloc, value)? else {
+        return Ok(None);
+    };
+    replace(alloc, text, pointer, &place, &value)
+}
+
+/// Moves the value at one pointer to another one.
+fn move_value(
+    alloc: Global,
+    text: &str,
+    from: Pointer<'_>,
+    path: Pointer<'_>,
+) -> Result<Option<String>, AllocError>
+    ensures moved { IfOk result (λ new. IfSome new (λ s. MovesInText text.now
+        (tokens from.entry) (tokens path.entry) (string_bytes s))) }
+    ensures bytes { IfOk result (λ new. IfSome new (λ s. (mid : Text)
+        × DeletesBytes text.now (tokens from.entry) mid
+        × AddsAtBytes mid (tokens path.entry) (string_bytes s))) }
+{
+    if is_below(path, from) {
+        return Ok(None);
+    }
+    let Some(value) = value_at(alloc, text, from)? else {
+        return Ok(None);
+    };
+    let Some(left) = delete_in_place(alloc, text, from)? else {
+        return Ok(None);
+    };
+    add_at(alloc, left.as_str(), path, &value)
+}
+
+/// Returns whether `other` is a proper prefix of the pointer.
+fn is_below(pointer: Pointer<'_>, other: Pointer<'_>) -> bool
+    ensures { IsTrue result ↔ IsProperFront (tokens other.entry) (tokens pointer.entry) }
+{
+    match pointer.strip_prefix(other) {
+        Some(rest) => !rest.is_root(),
+        None => false,
+    }
+}
+
+/// Adds a copy of the value at one pointer at another one.
+fn copy_value(
+    alloc: Global,
+    text: &str,
+    from: Pointer<'_>,
+    path: Pointer<'_>,
+) -> Result<Option<String>, AllocError>
+    ensures copied { IfOk result (λ new. IfSome new (λ s. CopiesInText text.now
+        (tokens from.entry) (tokens path.entry) (string_bytes s))) }
+    ensures bytes { IfOk result (λ new. IfSome new (λ s.
+        AddsAtBytes text.now (tokens path.entry) (string_bytes s))) }
+{
+    let Some(value) = value_at(alloc, text, from)? else {
+        return Ok(None);
+    };
+    add_at(alloc, text, path, &value)
+}
+
+/// Returns whether the value at the pointer equals the other one. `false` also if there is no such
+/// value, or if one of the two has a float.
+fn passes(
+    alloc: Global,
+    text: &str,
+    pointer: Pointer<'_>,
+    value: &Value,
+) -> Result<bool, AllocError>
+    ensures { IfOk result (λ b. IsTrue b
+        → PassesInText text.now (tokens pointer.entry) (nodes (view value.now))) }
+{
+    let mut found = match resolve_in_text(alloc, text, pointer) {
+        Ok(found) => found,
+        Err(InTextError::Memory(error)) => return Err(error),
+        Err(InTextError::NotJson) => return Ok(false),
+        Err(InTextError::Resolve(_error)) => return Ok(false),
+    };
+    let path = PointerBuf::new(alloc);
+    let value = value.clone()?;
+    let test = vec![in alloc; Operation::Test { path, value }]?;
+    match apply(alloc, &mut found, test) {
+        Ok(()) => Ok(true),
+        Err(Fault::Refused(_error)) => Ok(false),
+        Err(Fault::Memory(error)) => Err(error),
+    }
+}

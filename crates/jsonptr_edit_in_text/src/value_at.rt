@@ -1,0 +1,46 @@
+//! The text of a value that is copied or moved.
+ghost use Rattle.std.specs.Prelude.{IfOk, IfSome, string_bytes};
+ghost use Rattle.jsonptr.specs.Pointer.{tokens};
+ghost use Rattle.jsonptr_edit_in_text.specs.PrivateOperating.{FindsText};
+
+use crate::place::place_of;
+use jsonptr::Pointer;
+use jsonptr_in_text::selectors::selectors_of;
+use jsonptr_splice::check::is_edited;
+use jsonptr_splice::edit::Edit;
+use jsonptr_splice::layout::{ValueText, text_at};
+use std::alloc::{AllocError, Global};
+
+/// Returns the text of the value that the pointer resolves to, with its numbers and strings as they
+/// are there. Returns `None` if that is not possible.
+///
+/// # Errors
+///
+/// [`AllocError`] if an allocation fails.
+pub fn value_at(
+    alloc: Global,
+    text: &str,
+    pointer: Pointer<'_>,
+) -> Result<Option<ValueText>, AllocError>
+    ensures { IfOk result (λ found. IfSome found
+        (λ t. FindsText text.now (tokens pointer.entry) (string_bytes t.flat))) }
+{
+    let selectors = selectors_of(alloc, pointer)?;
+    let Some(place) = place_of(alloc, text, &selectors)? else {
+        return Ok(None);
+    };
+    if place.followed != selectors.len() {
+        return Ok(None);
+    }
+    let value = text_at(alloc, text, place.value)?;
+    let edit = Edit::Replace {
+        old: value.flat.clone()?,
+        new: value.flat.clone()?,
+    };
+    // Nothing is edited: the two readings show that the value there is that of the flat text.
+    if is_edited(alloc, text, text, &selectors, &place.positions, &edit)? {
+        Ok(Some(value))
+    } else {
+        Ok(None)
+    }
+}
