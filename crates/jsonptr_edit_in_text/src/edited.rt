@@ -4,6 +4,8 @@ ghost use Rattle.jsonptr_edit_in_text.specs.EditInText.{text_of};
 ghost use Rattle.jsonptr_edit_in_text.specs.declared.edited.EditError.TheVariants.{Memory};
 
 use std::alloc::AllocError;
+use std::fmt::Display;
+use thiserror::Error;
 
 /// A text after an edit.
 #[derive(Debug, Drop)]
@@ -37,15 +39,30 @@ impl Edited {
 }
 
 /// Why an edit in a text fails. `E` is the error of the call on the document.
-#[derive(Debug, Drop)]
+///
+/// # Examples
+///
+/// ```rust
+/// let value = Value::from(3);
+/// let edited = assign_in_text(alloc, r#"{"sizes": []}"#, Pointer::parse("/sizes/1")?, value);
+/// let message = format!(in alloc; "{}", edited.err().ok_or("an error")?)?;
+/// let want = "assign failed: json pointer token at offset 6 is out of bounds";
+/// assert_eq!(rt; message.as_str(), want);
+/// ```
+#[derive(Debug, Drop, Error)]
+#[error_bound(E: Display)]
 pub enum EditError<E> {
     /// `serde_json` does not read the text.
+    #[error("text is not JSON")]
     NotJson,
     /// The text is a document, and the call on it fails.
+    #[error("{0}")]
     Refused(E),
     /// The new document nests deeper than 127, so that its text could not be read.
+    #[error("document would nest deeper than 127")]
     TooDeep,
     /// An allocation failed.
+    #[error("out of memory")]
     Memory(AllocError),
 }
 

@@ -42,7 +42,7 @@ returns-clause-bytes c =
     (λ s. IsEdited cut.text.now (string_bytes s) cs (Replace before after) × Splices cut.text.now (string_bytes s) cut.was.now piece)
     (λ s. ReplacesBytes old (string_bytes s) (front ++ x ∷ []))
     (λ s h. replaces_member_bytes old (string_bytes s) front x cut.was.now piece flat (subst (λ (t : Text). Splices t (string_bytes s) cut.was.now piece) c.in-Some.ensures h.1)
-        (traded old cut.text.now (string_bytes s) front x cs before after cut.was.now flat c.in-Some.ensures c.requires c.in_ok-from_str.ensures.ok c.in_ok-clone.ensures.cases h.0) (c.is_trimmed.ensures c.if-not-is_trimmed.false))
+    (traded old cut.text.now (string_bytes s) front x cs before after cut.was.now flat c.in-Some.ensures c.requires c.in_ok-from_str.ensures.ok c.in_ok-clone.ensures.cases h.0) (c.is_trimmed.ensures c.if-not-is_trimmed.false))
     (if_both c.edit_by.result
     (λ s. IsEdited cut.text.now (string_bytes s) cs (Replace before after))
     (λ s. Splices cut.text.now (string_bytes s) cut.was.now piece)

@@ -25,6 +25,7 @@ operations-preserved c =
     let new = string_bytes c.in-Some.next in
     let applied = subst (λ (n : Option (String Global)). IfSome n (λ s. OperatesInText mid o (string_bytes s))) c.in-Some.is c.in_ok-next.ensures.applied in
     let bytes = subst (λ (n : Option (String Global)). IfSome n (λ s. OperationBytes mid o (string_bytes s))) c.in-Some.is c.in_ok-next.ensures.bytes in
-    let more : take i ops ++ o ∷ [] ≡ take (i + 1) ops = ap (λ (x : Operation). take i ops ++ x ∷ []) c.operation-item.is ∙ sym (take_more ops i o c.operations-test.true) in
-    (subst (λ (os : List Operation). PatchesInText old os new) more (patches_more old mid new (take i ops) o c.operations.invariant.0 applied),
-    subst (λ (os : List Operation). PatchBytes old os new) more (bytes_push old mid new (take i ops) o c.operations.invariant.1 bytes))
+    let more : take i ops ++ o ∷ [] ≡ take (i + 1) ops = ap (λ (x : Operation). take i ops ++ x ∷ []) c.operation-item.is ∙ sym (take_more ops i o c.operations-test.true) in (
+      subst (λ (os : List Operation). PatchesInText old os new) more (patches_more old mid new (take i ops) o c.operations.invariant.0 applied),
+      subst (λ (os : List Operation). PatchBytes old os new) more (bytes_push old mid new (take i ops) o c.operations.invariant.1 bytes),
+    )
