@@ -1,11 +1,12 @@
 #!/usr/bin/env python3
-"""Compares edits in texts with the calls on documents, on random texts and edits, and looks at each character of the texts.
+"""Runs worked examples of edits in texts, edits of files, and random edits of random texts.
 
     tools/edits_in_text.py [--count N] [--seed N] [PROGRAM]
 
-PROGRAM is the built program of crates/jsonptr_tool_edits. The new text must read as the document that `assign`, `delete`
-or `apply` makes, and the errors must be theirs. A reader in Python finds where the edit lands in the old text: no character
-outside changes, and what comes has the white space of its siblings. No document may be printed anew.
+PROGRAM is the built program of crates/jsonptr_tool_edits. The worked examples (edits/rows.py) and the files (edits/files.py)
+have their new texts and the lines that `diff` shows. Of N random edits each new text must read as the document that
+`assign`, `delete` or `apply` makes, and each error must be theirs. A reader in Python finds where an edit lands in the old
+text: no character outside changes, and what comes has the white space of its siblings. No document may be printed anew.
 """
 import argparse
 import collections
@@ -14,6 +15,7 @@ import os
 import sys
 from multiprocessing import Pool
 
+from edits import files, rows
 from edits.asking import Request, ask
 from edits.judging import check_meaning, judge_assign, judge_delete, judge_patch
 from edits.landing import Wrong
@@ -68,6 +70,15 @@ def run(words):
     return kinds, errors
 
 
+def faults_of_examples(path):
+    """Returns what is wrong with the outcomes of the worked examples and of the files."""
+    pairs = [list(rows.requests_of(it)) for it in rows.ROWS]
+    outcomes = iter(ask(path, [request for each in pairs for request, _ in each]))
+    errors = [fault for row, each in zip(rows.ROWS, pairs) for fault in rows.faults(row, [next(outcomes) for _ in each])]
+    outcomes = ask(path, [files.request_of(it) for it in files.CHANGES])
+    return errors + [it for it in map(files.fault_of, files.CHANGES, outcomes) if it]
+
+
 def main():
     parser = argparse.ArgumentParser(description=__doc__, formatter_class=argparse.RawDescriptionHelpFormatter)
     parser.add_argument("--count", type=int, default=100_000)
@@ -77,7 +88,7 @@ def main():
     path = words.program or program("jsonptr_tool_edits")
     starts = range(0, words.count, BATCH)
     batches = [(path, f"{words.seed} {it}", min(BATCH, words.count - it)) for it in starts]
-    kinds, errors = collections.Counter(), []
+    kinds, errors = collections.Counter(), [(0, it) for it in faults_of_examples(path)]
     with Pool(os.cpu_count()) as pool:
         for found, wrong in pool.imap_unordered(run, batches):
             kinds.update(found)
@@ -86,7 +97,8 @@ def main():
     errors += [(0, f"too few cases of {kind}") for kind in rare]
     if errors:
         sys.exit("\n".join(f"edits_in_text: {error[:900]}" for _, error in sorted(errors)[:20]))
-    print(f"edits_in_text: {words.count} cases, " + ", ".join(f"{count} {kind}" for kind, count in kinds.most_common()) + ", no difference")
+    examples = f"{len(rows.ROWS)} examples, {len(files.CHANGES)} edits of files"
+    print(f"edits_in_text: {examples}, {words.count} random cases, " + ", ".join(f"{count} {kind}" for kind, count in kinds.most_common()) + ", no difference")
 
 
 if __name__ == "__main__":
