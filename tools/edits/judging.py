@@ -139,6 +139,15 @@ def judge_operation(old, operation, outcome):
     came = landing.check(old, outcome.detail, at)
     if "value" in operation and not is_same_value(came, json.dumps(operation["value"])):
         raise Wrong(f"the new value is {came}")
+    if name == "copy":
+        check_moved(old, root, tokens_of(operation["from"]), came)
+
+
+def check_moved(old, root, source, came):
+    """Checks that a value that is moved or copied keeps its numbers, its strings and the order of its members."""
+    value, _, _ = landing.follow(root, source)
+    if spans.tokens_of(came) != spans.tokens_of(old[value.start : value.end]):
+        raise Wrong(f"the value becomes {came}")
 
 
 def judge_move(old, root, source, path, outcome):
@@ -158,7 +167,7 @@ def judge_move(old, root, source, path, outcome):
         try:
             if at is None:
                 raise Wrong("Python finds no landing")
-            landing.check(middle, outcome.detail, at)
+            check_moved(old, root, source, landing.check(middle, outcome.detail, at))
             return
         except Wrong as fault:
             faults.append(fault)

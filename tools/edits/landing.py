@@ -220,6 +220,8 @@ def value_of_member(old, landing, child):
     colons = [old[it.name_end : it.value.start] for it in landing.parent.children]
     if colons and colon not in colons:
         raise Wrong(f"the new member has {colon!r}, and its siblings do not")
+    if not colons and "\n" in colon:
+        raise Wrong("there is a line break between the new key and its value")
     return value
 
 

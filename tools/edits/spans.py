@@ -121,9 +121,9 @@ def read(text):
     return value
 
 
-def is_blank(text):
-    """Returns whether a text is white space."""
-    return not text.strip(SPACE)
+def tokens_of(text):
+    """Returns the tokens of the text of a value."""
+    return [match[match.lastindex] for match in TOKEN.finditer(text)]
 
 
 def blank_before(text, at):

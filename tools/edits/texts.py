@@ -159,8 +159,10 @@ class Texts:
         if at.children is None:
             if self.random.random() < 0.7 and tokens:
                 return self.beside(tokens)
-        elif not at.is_object and self.random.random() < 0.85:
-            tokens.append(self.random.choice(["-", str(len(at.children)), str(len(at.children))]))
+        elif not at.is_object:
+            length = len(at.children)
+            near = ["-", "-", *[str(length)] * 4, str(length + 1), self.random.choice(BAD_TOKENS)]
+            tokens.append(self.random.choice(near))
         if self.random.random() < 0.05:
             tokens.append(self.random.choice(BAD_TOKENS))
         if at.is_object or self.random.random() < 0.3:

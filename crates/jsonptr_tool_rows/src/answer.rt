@@ -76,6 +76,12 @@ pub enum Answer<'a> {
     IndexError(assign::Error),
     /// A text is not JSON.
     NotJson,
+    /// A document nests too deep.
+    TooDeep,
+    /// A text in which one piece is replaced.
+    InPlace(String),
+    /// A document that is printed anew.
+    Rewritten(String),
 }
 
 impl fmt::Display for Answer<'_> {
@@ -112,6 +118,9 @@ impl fmt::Display for Answer<'_> {
             Answer::NoValue(error) => error.fmt(f),
             Answer::IndexError(error) => error.fmt(f),
             Answer::NotJson => f.write_str("not JSON"),
+            Answer::TooDeep => f.write_str("too deep"),
+            Answer::InPlace(text) => write!(f, "in place {text}"),
+            Answer::Rewritten(text) => write!(f, "rewritten {text}"),
         }
     }
 }
