@@ -10,20 +10,21 @@ from .asking import Request
 
 
 class Row(NamedTuple):
-    """An example. `want` is the new text on one line, and `error` an error instead. `lines` is the new text on lines."""
+    """An example. `want` is the new text on one line, and `lines` the one on lines. Without them, the edit comes to `kind`."""
 
     command: str
     text: str
     pointer: str
     argument: str
     want: str | None = None
-    error: str | None = None
     lines: str | None = None
+    kind: str = "refused"
+    error: str = ""
 
 
 def assigns(text, pointer, value, want, lines=None):
     """An assignment."""
-    return Row("assign", text, pointer, value, want, lines=lines)
+    return Row("assign", text, pointer, value, want, lines)
 
 
 def refuses(text, pointer, value, error):
@@ -33,17 +34,22 @@ def refuses(text, pointer, value, error):
 
 def deletes(text, pointer, want, lines=None):
     """A deletion. Without a new text there is nothing to delete."""
-    return Row("delete", text, pointer, "", want, lines=lines)
+    return Row("delete", text, pointer, "", want, lines, kind="none")
 
 
 def applies(text, patch, want, lines=None):
     """A patch."""
-    return Row("apply", text, "", patch, want, lines=lines)
+    return Row("apply", text, "", patch, want, lines)
 
 
 def fails(text, patch, error):
     """A patch that fails."""
     return Row("apply", text, "", patch, error=error)
+
+
+def comes_to(kind, command, text, pointer="", argument=""):
+    """An edit of another kind of outcome."""
+    return Row(command, text, pointer, argument, kind=kind)
 
 
 def out_of_bounds(position, offset, length, index):
@@ -166,7 +172,31 @@ APPLIED = [
     ),
 ]
 
-ROWS = ASSIGNED + DELETED + APPENDIX + APPLIED
+NOT_JSON = [
+    comes_to("not JSON", *words)
+    for text in ("", " ", "{", "[1 2]", "1 2", "[1,]", '{"a":1}}', "[1e999]", '"\\ud800"', "\ufeff1", "01", "'a'", "// a\n1", "[" * 128 + "]" * 128)
+    for words in (("assign", text, "", "1"), ("delete", text), ("apply", text, "", "[]"))
+]
+
+
+def nested(depth, inner):
+    """Returns a text that nests so deep around an inner one."""
+    return "[" * depth + inner + "]" * depth
+
+
+DEEP = [
+    assigns(nested(127, "1.0"), "/0" * 127, "2", nested(127, "2")),
+    assigns(nested(126, "1"), "/0" * 126, "[]", nested(126, "[]")),
+    assigns("[]", "/0" * 127, "1", nested(127, "1"), nested(127, "1")),
+    assigns("null", "/a" * 127, "1", '{"a":' * 127 + "1" + "}" * 127, '{"a":' * 127 + "1" + "}" * 127),
+    deletes(nested(127, "1"), "/0" * 127, nested(127, "")),
+    comes_to("too deep", "assign", "[]", "/0" * 128, "1"),
+    comes_to("too deep", "assign", nested(127, "1"), "/0" * 127, "[]"),
+    comes_to("too deep", "assign", nested(126, "1"), "/0" * 126, "[[]]"),
+    comes_to("too deep", "apply", nested(127, "1"), "", '[{"op":"add","path":"/-","value":[]},{"op":"copy","from":"/0","path":"/1/0"}]'),
+]
+
+ROWS = ASSIGNED + DELETED + APPENDIX + APPLIED + NOT_JSON + DEEP
 
 
 def on_lines(text):
@@ -189,19 +219,17 @@ def name_of(text, child):
 
 
 def requests_of(row):
-    """Returns the requests of an example, and the text that each makes, or None for an error."""
+    """Returns the requests of an example, and the text that each makes, or None."""
     yield Request(row.command, row.text, row.pointer, row.argument), row.want
-    lines = row.lines or (row.want and on_lines(row.want))
-    yield Request(row.command, on_lines(row.text), row.pointer, row.argument), lines
+    if row.kind != "not JSON":
+        lines = row.lines or (row.want and on_lines(row.want))
+        yield Request(row.command, on_lines(row.text), row.pointer, row.argument), lines
 
 
 def faults(row, outcomes):
     """Yields what is wrong with the outcomes of an example."""
     for (request, want), outcome in zip(requests_of(row), outcomes):
-        if want is not None:
-            wanted = ("in place", want)
-        else:
-            wanted = ("refused", row.error) if row.error else ("none", "")
+        wanted = (row.kind, row.error) if want is None else ("in place", want)
         if (outcome.kind, outcome.detail) != wanted:
             yield f"{request} becomes {outcome[:2]}, expected {wanted}"
         if outcome.kind == "refused" and (outcome.call, outcome.printed) != wanted:
