@@ -136,7 +136,7 @@ def judge_operation(old, operation, outcome):
         if may_be_rewritten(at):
             return
         raise Wrong("the document is printed anew")
-    came = landing.check(old, outcome.detail, at)
+    came = landing.check(old, outcome.detail, at, name != "copy")
     if "value" in operation and not is_same_value(came, json.dumps(operation["value"])):
         raise Wrong(f"the new value is {came}")
     if name == "copy":
@@ -167,7 +167,7 @@ def judge_move(old, root, source, path, outcome):
         try:
             if at is None:
                 raise Wrong("Python finds no landing")
-            check_moved(old, root, source, landing.check(middle, outcome.detail, at))
+            check_moved(old, root, source, landing.check(middle, outcome.detail, at, is_printed=False))
             return
         except Wrong as fault:
             faults.append(fault)

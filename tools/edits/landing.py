@@ -3,6 +3,7 @@ import itertools
 from typing import NamedTuple
 
 from . import spans
+from .spans import SPACE
 
 
 class Replaced(NamedTuple):
@@ -99,16 +100,33 @@ def piece(old, new, start, end):
     return new[start : len(new) - left]
 
 
-def check(old, new, landing):
-    """Checks that a new text is an old one with an edit at its landing. Returns the text of the value that came, or None."""
+def check(old, new, landing, is_printed=True):
+    """Checks that a new text is an old one with an edit at its landing. Returns the text of the value that came, or None.
+
+    A value that is printed is on one line without white space, or has a line for each child. One that is moved or copied
+    may have other white space.
+    """
     check_newlines(old, new)
     if isinstance(landing, Replaced):
-        return check_replaced(old, new, landing)
-    if isinstance(landing, Added):
-        return check_added(old, new, landing)
-    if new not in without(old, landing):
+        came, margin = check_replaced(old, new, landing)
+    elif isinstance(landing, Added):
+        came, margin = check_added(old, new, landing)
+    elif new in without(old, landing):
+        return None
+    else:
         raise Wrong("the removed child is not cut out with its comma and its white space")
-    return None
+    if is_printed and any(it in came for it in SPACE):
+        check_printed(came, margin)
+    return came
+
+
+def check_printed(came, margin):
+    """Checks the white space of a new value: there is none, or each child is on a line of its own."""
+    value = spans.read(came)
+    flat = "".join(spans.tokens_of(came))
+    lines = [spans.spread(came, value, newline + margin) for newline in ("\n", "\r\n")] if "\n" in came else []
+    if came not in (flat, *lines):
+        raise Wrong(f"the new value has white space of its own: {came!r}")
 
 
 def check_newlines(old, new):
@@ -122,17 +140,17 @@ def check_newlines(old, new):
 
 
 def check_replaced(old, new, landing):
-    """Checks a text in which a value is replaced, and returns the text of the new one."""
+    """Checks a text in which a value is replaced. Returns the text of the new one, and its indentation."""
     value = landing.value
     came = piece(old, new, value.start, value.end)
-    if not came or came != came.strip(spans.SPACE):
+    if not came or came != came.strip(SPACE):
         raise Wrong("there is white space around the new value")
     if "\n" in came:
         around = spans.blank_before(old, value.start) if landing.parent is None else spans.own_space(old, landing.parent)
         if "\n" not in old[value.start : value.end] + around:
             raise Wrong("the new value spans lines, and neither the old one nor its container does")
         check_last_line(came, spans.indentation(old, value.start))
-    return came
+    return came, spans.indentation(old, value.start)
 
 
 def check_last_line(came, indentation):
@@ -142,7 +160,7 @@ def check_last_line(came, indentation):
 
 
 def check_added(old, new, landing):
-    """Checks a text to which a child is added, and returns the text of its value."""
+    """Checks a text to which a child is added. Returns the text of its value, and its indentation."""
     parent, position = landing.parent, landing.position
     children = parent.children
     if not children:
@@ -154,15 +172,15 @@ def check_added(old, new, landing):
         gap, child = split_blank(came[1:])
     else:
         came = piece(old, new, children[position].start, children[position].start)
-        child = came.rstrip(spans.SPACE)
-        gap, child = came[len(child) :], child[:-1].rstrip(spans.SPACE) if child[-1:] == "," else "!"
+        child = came.rstrip(SPACE)
+        gap, child = came[len(child) :], child[:-1].rstrip(SPACE) if child[-1:] == "," else "!"
     check_gap(old, parent, gap)
     return check_child(old, landing, gap, child, ("\n" in gap))
 
 
 def split_blank(text):
     """Returns the white space at the start of a text, and the rest."""
-    rest = text.lstrip(spans.SPACE)
+    rest = text.lstrip(SPACE)
     return text[: len(text) - len(rest)], rest
 
 
@@ -179,31 +197,31 @@ def check_gap(old, parent, gap):
 
 
 def check_first(old, new, landing):
-    """Checks a text to which the only child of an array or object is added, and returns the text of its value."""
+    """Checks a text to which the only child of an array or object is added. Returns its value and its indentation."""
     parent = landing.parent
     inner = old[parent.start + 1 : parent.end - 1]
     lead, came = split_blank(piece(old, new, parent.start + 1, parent.end - 1))
-    child = came.rstrip(spans.SPACE)
+    child = came.rstrip(SPACE)
     trail = came[len(child) :]
     newline = "\r\n" if "\r\n" in inner else "\n"
     margin = newline + spans.indentation(old, parent.start)
     if "\n" in inner and (lead, trail) != (margin + "  ", margin):
         raise Wrong(f"the new child is between {lead!r} and {trail!r}")
-    if "\n" not in inner and "\n" in lead + trail:
-        raise Wrong("the new child is on a line of its own, and its container was on one line")
+    if "\n" not in inner and (lead != trail or lead not in ("", inner)):
+        raise Wrong(f"the new child is between {lead!r} and {trail!r}")
     return check_child(old, landing, lead, child, "\n" in inner)
 
 
 def check_child(old, landing, lead, child, may_span):
-    """Checks the text of a new child after white space, and returns the text of its value."""
+    """Checks the text of a new child after white space. Returns the text of its value, and its indentation."""
     value = child if landing.key is None else value_of_member(old, landing, child)
-    if not value or value != value.strip(spans.SPACE):
+    if not value or value != value.strip(SPACE):
         raise Wrong("there is white space around the new child")
     if "\n" in value:
         if not may_span:
             raise Wrong("the new value spans lines, and its container does not")
         check_last_line(value, lead[lead.rfind("\n") + 1 :])
-    return value
+    return value, lead[lead.rfind("\n") + 1 :]
 
 
 def value_of_member(old, landing, child):
@@ -220,9 +238,17 @@ def value_of_member(old, landing, child):
     colons = [old[it.name_end : it.value.start] for it in landing.parent.children]
     if colons and colon not in colons:
         raise Wrong(f"the new member has {colon!r}, and its siblings do not")
+    if not colons and colon not in (":", ": ", colon_before(old, landing.parent)):
+        raise Wrong(f"the new member has {colon!r}")
     if not colons and "\n" in colon:
         raise Wrong("there is a line break between the new key and its value")
     return value
+
+
+def colon_before(old, value):
+    """Returns the colon before a value and the white space around it, if it is that of a member."""
+    before = old[: value.start].rstrip(SPACE)
+    return spans.blank_before(before, len(before) - 1) + ":" + old[len(before) : value.start] if before.endswith(":") else ""
 
 
 def without(old, landing):

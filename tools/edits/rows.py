@@ -201,21 +201,7 @@ ROWS = ASSIGNED + DELETED + APPENDIX + APPLIED + NOT_JSON + DEEP
 
 def on_lines(text):
     """Returns a text with a line for each child."""
-    return spread(text, spans.read(text), "\n")
-
-
-def spread(text, value, margin):
-    """Returns the text of a value with a line for each child, after a margin and two spaces more."""
-    if not value.children:
-        return text[value.start : value.end]
-    inner = margin + "  "
-    children = (name_of(text, it) + spread(text, it.value, inner) for it in value.children)
-    return text[value.start] + inner + ("," + inner).join(children) + margin + text[value.end - 1]
-
-
-def name_of(text, child):
-    """Returns the key of a member and its colon, or nothing for an element."""
-    return "" if child.key is None else text[child.start : child.name_end] + ": "
+    return spans.spread(text, spans.read(text), "\n")
 
 
 def requests_of(row):

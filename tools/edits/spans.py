@@ -126,6 +126,22 @@ def tokens_of(text):
     return [match[match.lastindex] for match in TOKEN.finditer(text)]
 
 
+def spread(text, value, margin):
+    """Returns the text of a value with a line for each child, after a margin and two spaces more."""
+    if value.children is None:
+        return text[value.start : value.end]
+    if not value.children:
+        return text[value.start] + text[value.end - 1]
+    inner = margin + "  "
+    children = (name_of(text, it) + spread(text, it.value, inner) for it in value.children)
+    return text[value.start] + inner + ("," + inner).join(children) + margin + text[value.end - 1]
+
+
+def name_of(text, child):
+    """Returns the key of a member and its colon, or nothing for an element."""
+    return "" if child.key is None else text[child.start : child.name_end] + ": "
+
+
 def blank_before(text, at):
     """Returns the white space before a character."""
     return text[len(text[:at].rstrip(SPACE)) : at]
