@@ -93,7 +93,7 @@ def main():
         for found, wrong in pool.imap_unordered(run, batches):
             kinds.update(found)
             errors += wrong
-    rare = [kind for kind in KINDS if kinds[kind] < words.count // 2000]
+    rare = [kind for kind in KINDS if kinds[kind] < words.count // 5000]
     errors += [(0, f"too few cases of {kind}") for kind in rare]
     if errors:
         sys.exit("\n".join(f"edits_in_text: {error[:900]}" for _, error in sorted(errors)[:20]))
