@@ -6,7 +6,7 @@ from .landing import Replaced, Wrong
 from .texts import tokens_of
 
 # Whether removing one of several members with the same key may print the document anew.
-REPEATED_KEYS_MAY_BE_REWRITTEN = True
+REPEATED_KEYS_MAY_BE_REWRITTEN = False
 
 
 def whole(digits):

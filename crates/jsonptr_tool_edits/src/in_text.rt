@@ -52,7 +52,10 @@ fn outcome_of(edited: Edited) -> Outcome {
 }
 
 /// Returns the outcome that an error is.
-fn of_error<E: Display + Debug + Drop>(alloc: Global, error: EditError<E>) -> anyhow::Result<Outcome> {
+fn of_error<E: Display + Debug + Drop>(
+    alloc: Global,
+    error: EditError<E>,
+) -> anyhow::Result<Outcome> {
     match error {
         EditError::NotJson => Ok(Outcome::plain(alloc, "not JSON")),
         EditError::TooDeep => Ok(Outcome::plain(alloc, "too deep")),
