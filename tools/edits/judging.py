@@ -136,16 +136,18 @@ def judge_operation(old, operation, outcome):
         if may_be_rewritten(at):
             return
         raise Wrong("the document is printed anew")
-    came = landing.check(old, outcome.detail, at, name != "copy")
+    if name == "copy":
+        check_moved(old, root, tokens_of(operation["from"]), old, outcome.detail, at)
+        return
+    came = landing.check(old, outcome.detail, at)
     if "value" in operation and not is_same_value(came, json.dumps(operation["value"])):
         raise Wrong(f"the new value is {came}")
-    if name == "copy":
-        check_moved(old, root, tokens_of(operation["from"]), came)
 
 
-def check_moved(old, root, source, came):
-    """Checks that a value that is moved or copied keeps its numbers, its strings and the order of its members."""
+def check_moved(old, root, source, middle, new, at):
+    """Checks a text to which a value of an old text is added: it keeps its numbers, its strings and the order of its members."""
     value, _, _ = landing.follow(root, source)
+    came = landing.check(middle, new, at, moved=(old, value))
     if spans.tokens_of(came) != spans.tokens_of(old[value.start : value.end]):
         raise Wrong(f"the value becomes {came}")
 
@@ -167,7 +169,7 @@ def judge_move(old, root, source, path, outcome):
         try:
             if at is None:
                 raise Wrong("Python finds no landing")
-            check_moved(old, root, source, landing.check(middle, outcome.detail, at, is_printed=False))
+            check_moved(old, root, source, middle, outcome.detail, at)
             return
         except Wrong as fault:
             faults.append(fault)

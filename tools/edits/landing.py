@@ -100,13 +100,14 @@ def piece(old, new, start, end):
     return new[start : len(new) - left]
 
 
-def check(old, new, landing, is_printed=True):
+def check(old, new, landing, moved=None):
     """Checks that a new text is an old one with an edit at its landing. Returns the text of the value that came, or None.
 
-    A value that is printed is on one line without white space, or has a line for each child. One that is moved or copied
-    may have other white space.
+    A value that is printed is on one line without white space, or has a line for each child. One that was `moved` or
+    copied, from a text and a value in it, may have other white space. If its last line had the indentation of its first
+    one there, it has it here.
     """
-    check_newlines(old, new)
+    check_newlines(old if moved is None else moved[0], new)
     if isinstance(landing, Replaced):
         came, margin = check_replaced(old, new, landing)
     elif isinstance(landing, Added):
@@ -115,9 +116,16 @@ def check(old, new, landing, is_printed=True):
         return None
     else:
         raise Wrong("the removed child is not cut out with its comma and its white space")
-    if is_printed and any(it in came for it in SPACE):
+    if moved is None and any(it in came for it in SPACE):
         check_printed(came, margin)
+    if moved is not None and "\n" in came and is_even(*moved) and spans.indentation(came, len(came)) != margin:
+        raise Wrong("the last line of the moved value has another indentation than its first one")
     return came
+
+
+def is_even(text, value):
+    """Returns whether the last line of a value has the indentation of its first one."""
+    return spans.indentation(text, value.start) == spans.indentation(text, value.end)
 
 
 def check_printed(came, margin):
@@ -149,14 +157,7 @@ def check_replaced(old, new, landing):
         around = spans.blank_before(old, value.start) if landing.parent is None else spans.own_space(old, landing.parent)
         if "\n" not in old[value.start : value.end] + around:
             raise Wrong("the new value spans lines, and neither the old one nor its container does")
-        check_last_line(came, spans.indentation(old, value.start))
     return came, spans.indentation(old, value.start)
-
-
-def check_last_line(came, indentation):
-    """Checks the indentation of the last line of a value that spans lines."""
-    if spans.indentation(came, len(came)) != indentation:
-        raise Wrong("the last line of the new value has another indentation than its first one")
 
 
 def check_added(old, new, landing):
@@ -217,10 +218,8 @@ def check_child(old, landing, lead, child, may_span):
     value = child if landing.key is None else value_of_member(old, landing, child)
     if not value or value != value.strip(SPACE):
         raise Wrong("there is white space around the new child")
-    if "\n" in value:
-        if not may_span:
-            raise Wrong("the new value spans lines, and its container does not")
-        check_last_line(value, lead[lead.rfind("\n") + 1 :])
+    if "\n" in value and not may_span:
+        raise Wrong("the new value spans lines, and its container does not")
     return value, lead[lead.rfind("\n") + 1 :]
 
 
