@@ -547,6 +547,32 @@ def edits_in_text():
     for text in ("", "{", '{"a":1}}', '{"b":1e309,"a":1}', "\ufeff1", "[" * 128 + "]" * 128):
         yield edited("assign in text", text, "/a", "1", answer="not JSON")
         yield edited("delete in text", text, "/a", answer="not JSON")
+        yield edited("apply in text", text, "remove", "/a", answer="not JSON")
+        yield edited("apply in text", text, answer="not JSON")
+    yield from patches_in_text(pretty)
+
+
+def patches_in_text(pretty):
+    """Patches in a text."""
+    added = '{ "b" : 1.50, "a" : [ 2 ,\t"x",\t{"c":"\\u0041"} ] }'
+    yield edited("apply in text", pretty, answer=f"in place {pretty}")
+    yield edited("apply in text", pretty, "add", "/a/1", '"x"', answer=f"in place {added}")
+    moved = '{ "a" : [ 2 ,\t{"c":"\\u0041","d":1.50} ] }'
+    yield edited("apply in text", pretty, "move", "/b", "/a/1/d", answer=f"in place {moved}")
+    copied = '{ "b" : 1.50, "a" : [ 2 ,\t{"c":"\\u0041"} ], "e" : [ 2 ,\t{"c":"\\u0041"} ] }'
+    yield edited("apply in text", pretty, "copy", "/a", "/e", answer=f"in place {copied}")
+    several = ["remove", "/a/0", "replace", "/b", "null", "test", "/b", "null"]
+    yield edited("apply in text", pretty, *several, answer='in place { "b" : null, "a" : [ {"c":"\\u0041"} ] }')
+    yield edited("apply in text", pretty, "remove", "", answer="in place null")
+    failed = "patch failed at operation {}: {}"
+    missing = failed.format(0, RESOLVE_NOT_FOUND.format(0))
+    yield edited("apply in text", pretty, "remove", "/q", answer=missing)
+    yield edited("apply in text", pretty, "add", "/x", "1", "test", "/x", "2", answer=failed.format(1, "test failed"))
+    yield edited("apply in text", pretty, "add", "/a/9", "1", answer=failed.format(0, ASSIGN_OUT_OF_BOUNDS.format(2)))
+    below = failed.format(0, "from is a proper prefix of path")
+    yield edited("apply in text", pretty, "move", "/a", "/a/0", answer=below)
+    deep = ["add", "", "[" * 127 + "]" * 127, "copy", "", "/" + "0/" * 125 + "0"]
+    yield edited("apply in text", "1", *deep, answer="too deep")
 
 
 def found():

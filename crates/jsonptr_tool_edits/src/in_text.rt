@@ -1,7 +1,7 @@
 //! The edits in a text.
 use crate::outcome::Outcome;
 use crate::request::{NoRequest, Request};
-use jsonptr_edit_in_text::{EditError, Edited, assign_in_text, delete_in_text};
+use jsonptr_edit_in_text::{EditError, Edited, apply_in_text, assign_in_text, delete_in_text};
 use std::alloc::Global;
 use std::convert::Infallible;
 use std::fmt::{Debug, Display};
@@ -15,6 +15,7 @@ pub fn edit(alloc: Global, request: &Request) -> anyhow::Result<Outcome> {
     match request.command.as_str() {
         "assign" => assign(alloc, request),
         "delete" => delete(alloc, request),
+        "apply" => apply(alloc, request),
         _ => Err(NoRequest.into()),
     }
 }
@@ -34,6 +35,15 @@ fn delete(alloc: Global, request: &Request) -> anyhow::Result<Outcome> {
         Ok(Some(edited)) => Ok(outcome_of(edited)),
         Ok(None) => Ok(Outcome::plain(alloc, "none")),
         Err(error) => of_deletion_error(alloc, error),
+    }
+}
+
+/// Applies a patch.
+fn apply(alloc: Global, request: &Request) -> anyhow::Result<Outcome> {
+    let operations = request.operations(alloc)?;
+    match apply_in_text(alloc, request.text.as_str(), operations) {
+        Ok(edited) => Ok(outcome_of(edited)),
+        Err(error) => of_error(alloc, error),
     }
 }
 

@@ -53,6 +53,7 @@ fn main(rt: HostRuntime) -> anyhow::Result<()> {
         "in text" => in_text::run(&rt, row),
         "assign in text" => text_edits::run_assign(&rt, row),
         "delete in text" => text_edits::run_delete(&rt, row),
+        "apply in text" => text_edits::run_apply(&rt, row),
         "deep" => deep::run(&rt, row),
         "undo" => undos::run(&rt, row),
         "patch" => patches::run(&rt, row),

@@ -1,9 +1,10 @@
 //! Cases of edits in a text.
 use crate::answer::Answer;
+use crate::patches::operations;
 use crate::row::Row;
 use crate::stage;
 use jsonptr::Pointer;
-use jsonptr_edit_in_text::{EditError, Edited, assign_in_text, delete_in_text};
+use jsonptr_edit_in_text::{EditError, Edited, apply_in_text, assign_in_text, delete_in_text};
 use serde_json::Value;
 
 /// Runs a case of an assignment, with these lines: the text, the pointer, and the value.
@@ -36,6 +37,24 @@ pub fn run_delete(rt: &HostRuntime, mut row: Row<'_>) -> anyhow::Result<()> {
         Ok(None) => Answer::Nothing,
         Err(EditError::NotJson) => Answer::NotJson,
         Err(EditError::Refused(never)) => match never {},
+        Err(EditError::TooDeep) => Answer::TooDeep,
+        Err(EditError::Memory(_)) => Answer::Memory,
+    };
+    finish(rt, said, text)
+}
+
+/// Runs a case of a patch, with these lines: the text, and the lines of operations, each a command
+/// and its arguments.
+pub fn run_apply(rt: &HostRuntime, mut row: Row<'_>) -> anyhow::Result<()> {
+    let text = row.next();
+    let patch = operations(rt.alloc(), &mut row)?;
+    println!(rt; "{text}")?;
+    stage::begin(rt)?;
+    let edited = apply_in_text(rt.alloc(), text, patch);
+    let said = match edited {
+        Ok(edited) => of_edited(edited),
+        Err(EditError::NotJson) => Answer::NotJson,
+        Err(EditError::Refused(error)) => Answer::PatchFailed(error),
         Err(EditError::TooDeep) => Answer::TooDeep,
         Err(EditError::Memory(_)) => Answer::Memory,
     };
