@@ -514,6 +514,67 @@ def in_text():
         yield allocates("in text", "exists_in_text", text, pointer, answer="true")
 
 
+def edited(*lines, answer):
+    """An edit in a text, which is borrowed: the command and its arguments. The text is the second line."""
+    return Case(lines, f"{answer}\n", f"{lines[1]}\n")
+
+
+def edits_in_text():
+    """Edits in a text."""
+    pretty = '{ "b" : 1.50, "a" : [ 2 ,\t{"c":"\\u0041"} ] }'
+    assigned = [
+        ("/b", "2", '{ "b" : 2, "a" : [ 2 ,\t{"c":"\\u0041"} ] }'),
+        ("/a/1/c", '{"y":1,"x":[]}', '{ "b" : 1.50, "a" : [ 2 ,\t{"c":{"x":[],"y":1}} ] }'),
+        ("/a/1/c/-/e", "null", '{ "b" : 1.50, "a" : [ 2 ,\t{"c":[{"e":null}]} ] }'),
+        ("/a/-", '"x"', '{ "b" : 1.50, "a" : [ 2 ,\t{"c":"\\u0041"},\t"x" ] }'),
+        ("/a/1/d~1/0", "0", '{ "b" : 1.50, "a" : [ 2 ,\t{"c":"\\u0041","d/":[0]} ] }'),
+        ("", "[]", "[]"),
+    ]
+    for pointer, value, text in assigned:
+        yield edited("assign in text", pretty, pointer, value, answer=f"in place {text}")
+    yield edited("assign in text", pretty, "/a/3", "0", answer=ASSIGN_OUT_OF_BOUNDS.format(2))
+    yield edited("assign in text", pretty, "/a/x", "0", answer=ASSIGN_BAD_INDEX.format(2))
+    yield edited("assign in text", "{}", "/0" * 128, "0", answer="too deep")
+    yield edited("assign in text", f'{{"a":"{LONG}","b":[1]}}', "/b/-", "2", answer=f'in place {{"a":"{LONG}","b":[1,2]}}')
+    deleted = [
+        ("/b", '{ "a" : [ 2 ,\t{"c":"\\u0041"} ] }'), ("/a/0", '{ "b" : 1.50, "a" : [ {"c":"\\u0041"} ] }'),
+        ("/a/1/c", '{ "b" : 1.50, "a" : [ 2 ,\t{} ] }'), ("/a", '{ "b" : 1.50 }'), ("", "null"),
+    ]
+    for pointer, text in deleted:
+        yield edited("delete in text", pretty, pointer, answer=f"in place {text}")
+    for pointer in ("/c", "/a/-", "/b/b"):
+        yield edited("delete in text", pretty, pointer, answer="none")
+    for text in ("", "{", '{"a":1}}', '{"b":1e309,"a":1}', "\ufeff1", "[" * 128 + "]" * 128):
+        yield edited("assign in text", text, "/a", "1", answer="not JSON")
+        yield edited("delete in text", text, "/a", answer="not JSON")
+        yield edited("apply in text", text, "remove", "/a", answer="not JSON")
+        yield edited("apply in text", text, answer="not JSON")
+    yield from patches_in_text(pretty)
+
+
+def patches_in_text(pretty):
+    """Patches in a text."""
+    added = '{ "b" : 1.50, "a" : [ 2 ,\t"x",\t{"c":"\\u0041"} ] }'
+    yield edited("apply in text", pretty, answer=f"in place {pretty}")
+    yield edited("apply in text", pretty, "add", "/a/1", '"x"', answer=f"in place {added}")
+    moved = '{ "a" : [ 2 ,\t{"c":"\\u0041","d":1.50} ] }'
+    yield edited("apply in text", pretty, "move", "/b", "/a/1/d", answer=f"in place {moved}")
+    copied = '{ "b" : 1.50, "a" : [ 2 ,\t{"c":"\\u0041"} ], "e" : [ 2 ,\t{"c":"\\u0041"} ] }'
+    yield edited("apply in text", pretty, "copy", "/a", "/e", answer=f"in place {copied}")
+    several = ["remove", "/a/0", "replace", "/b", "null", "test", "/b", "null"]
+    yield edited("apply in text", pretty, *several, answer='in place { "b" : null, "a" : [ {"c":"\\u0041"} ] }')
+    yield edited("apply in text", pretty, "remove", "", answer="in place null")
+    failed = "patch failed at operation {}: {}"
+    missing = failed.format(0, RESOLVE_NOT_FOUND.format(0))
+    yield edited("apply in text", pretty, "remove", "/q", answer=missing)
+    yield edited("apply in text", pretty, "add", "/x", "1", "test", "/x", "2", answer=failed.format(1, "test failed"))
+    yield edited("apply in text", pretty, "add", "/a/9", "1", answer=failed.format(0, ASSIGN_OUT_OF_BOUNDS.format(2)))
+    below = failed.format(0, "from is a proper prefix of path")
+    yield edited("apply in text", pretty, "move", "/a", "/a/0", answer=below)
+    deep = ["add", "", "[" * 127 + "]" * 127, "copy", "", "/" + "0/" * 125 + "0"]
+    yield edited("apply in text", "1", *deep, answer="too deep")
+
+
 def found():
     """`resolve` and `resolve_mut` in a JSON document."""
     for pointer, value in VECTORS:
@@ -1524,7 +1585,7 @@ def values_of_errors():
 TABLES = [
     texts, pointers_of_texts, cut, indices, tokens, numbers, measures, pairs, ranges, copies, edits, owned,
     found, assigned, in_tables, labelled, undos, undos_told, patches, applied, refused, journaled, patch_documents,
-    differences, in_text,
+    differences, in_text, edits_in_text,
     sessions, single_calls, refused_calls, reports, bounds, shown,
     large_documents, large_undos_and_patches, few_requests, values_of_errors,
 ]

@@ -71,19 +71,19 @@ def run(command, path):
     return usage.ru_utime + usage.ru_stime, usage.ru_maxrss * 1024
 
 
-def write(kind, count, path):
-    """Writes the document of a file."""
+def write(document, count, path):
+    """Writes the document that is made from a count."""
     with open(path, "w", encoding="utf-8") as file:
-        json.dump(SHAPES[kind].document(count), file)
+        json.dump(document(count), file)
 
 
-def make(kind, count, path):
+def make(document, count, path):
     """Writes the document of a file in a process of its own, since the memory of this one counts for each program."""
-    process = multiprocessing.Process(target=write, args=(kind, count, path))
+    process = multiprocessing.Process(target=write, args=(document, count, path))
     process.start()
     process.join()
     if process.exitcode:
-        sys.exit(f"no file of {count} {kind}")
+        sys.exit(f"no file of {count} items")
 
 
 def measured(programs, path, rounds):
@@ -117,7 +117,7 @@ def rows(words):
             continue
         shape = SHAPES[kind]
         with tempfile.NamedTemporaryFile(suffix=".json") as file:
-            make(kind, count, file.name)
+            make(shape.document, count, file.name)
             size, pointer = os.path.getsize(file.name), shape.pointer(count)
             programs = {name: [getattr(words, name), "resolve", pointer] for name in names}
             if words.jq:

@@ -87,7 +87,7 @@ pub fn replacement(
     let old = slice(text, span.from, span.to);
     let line = line_before(text, span.from);
     if old.contains('\n') || (!is_container(old) && is_own_line(line)) {
-        let newline = newline_of(text, span.from);
+        let newline = newline_of(text, span.to);
         spread(alloc, value.lines.as_str(), newline, indent_of(line))
     } else {
         value.flat.clone()
@@ -138,7 +138,7 @@ fn first_child(
     let span = inside(container);
     let inner = slice(text, span.from, span.to);
     if inner.contains('\n') {
-        let newline = if inner.contains('\r') { "\r\n" } else { "\n" };
+        let newline = if inner.contains("\r\n") { "\r\n" } else { "\n" };
         let indent = indent_of(line_before(text, container.from));
         let mut gap = String::from_str(alloc, newline)?;
         gap.push_str(indent)?;
@@ -178,7 +178,7 @@ fn body_of(
     }
     let start = text.len();
     if gap.contains('\n') {
-        let lines = spread(alloc, value.lines.as_str(), gap, "")?;
+        let lines = spread(alloc, value.lines.as_str(), last_break(gap), "")?;
         text.push_str(lines.as_str())?;
     } else {
         text.push_str(value.flat.as_str())?;
@@ -279,14 +279,31 @@ fn colon_of<'t>(text: &'t str, container: Span, children: &[Extent], gap: &str) 
         None => {
             let before = slice(text, 0, container.from);
             let end = trimmed_end(before.as_bytes(), before.len());
-            if slice(text, 0, end).ends_with(':') {
+            let outer = if slice(text, 0, end).ends_with(':') {
                 after_quote(before)
+            } else {
+                "\n"
+            };
+            if !outer.contains('\n') {
+                outer
             } else if gap.contains('\n') {
                 ": "
             } else {
                 ":"
             }
         }
+    }
+}
+
+/// Returns the last line break of white space, and what is after it.
+fn last_break(space: &str) -> &str {
+    match space.rfind('\n') {
+        Some(at) => if slice(space, 0, at).ends_with('\r') {
+            space.get(at.saturating_sub(1)..).unwrap_or(space)
+        } else {
+            space.get(at..).unwrap_or(space)
+        },
+        None => space,
     }
 }
 

@@ -8,7 +8,6 @@ use crate::spacing::is_space;
 use json::{Reader, Scratch, Token};
 use jsonptr_skim::scalar::is_scalar;
 use jsonptr_skim::selector::Selector;
-use jsonptr_skim::skip::skip;
 use std::alloc::{AllocError, Global};
 
 /// Where something begins and ends in a text, in bytes.
@@ -79,7 +78,7 @@ fn find(
 {
     let from = reader.offset();
     let Some((selector, rest)) = selectors.split_first() else {
-        skip(reader, depth)?;
+        reader.skip_value(depth)?;
         let to = end_of_value(text.as_bytes(), reader.offset());
         place.value = Span { from, to };
         place.followed = level;
@@ -172,7 +171,7 @@ fn find_item(
             find(text, reader, depth, rest, place, level.saturating_add(1))?;
             entered = true;
         } else {
-            skip(reader, depth)?;
+            reader.skip_value(depth)?;
         }
         count = count.saturating_add(1);
     }
@@ -201,7 +200,7 @@ fn find_member(
             find(text, reader, depth, rest, place, level.saturating_add(1))?;
             entered = true;
         } else {
-            skip(reader, depth)?;
+            reader.skip_value(depth)?;
         }
         count = count.saturating_add(1);
     }
@@ -235,7 +234,7 @@ fn elements(
     let mut extents = Vec::new(alloc);
     'items: while !reader.take_end_array() {
         let from = base.saturating_add(reader.offset());
-        skip(reader, MAX_DEPTH)?;
+        reader.skip_value(MAX_DEPTH)?;
         let to = end_of_value(text.as_bytes(), base.saturating_add(reader.offset()));
         let value = from;
         keep(
@@ -260,7 +259,7 @@ fn members(
     let mut from = base.saturating_add(reader.offset());
     'members: while let Some(_) = reader.next_key()? {
         let value = base.saturating_add(reader.offset());
-        skip(reader, MAX_DEPTH)?;
+        reader.skip_value(MAX_DEPTH)?;
         let to = end_of_value(text.as_bytes(), base.saturating_add(reader.offset()));
         keep(
             &mut extents,

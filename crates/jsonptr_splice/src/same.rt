@@ -20,6 +20,7 @@ pub const MAX_DEPTH: usize = 127;
 ///
 /// [`Invalid`] if the values differ, or if one of them nests too deep or is not JSON.
 #[cycle(same)]
+#[inline(always)]
 pub fn same(
     one: &mut Reader<'_>,
     two: &mut Reader<'_>,
@@ -61,6 +62,7 @@ pub fn same(
 ///
 /// As [`same`].
 #[cycle(same)]
+#[inline(never)]
 fn same_items(
     one: &mut Reader<'_>,
     two: &mut Reader<'_>,
@@ -90,6 +92,7 @@ fn same_items(
 ///
 /// As [`same`].
 #[cycle(same)]
+#[inline(never)]
 fn same_members(
     one: &mut Reader<'_>,
     two: &mut Reader<'_>,
@@ -141,6 +144,7 @@ pub fn same_text(
 /// # Errors
 ///
 /// [`Invalid`] if it is not the same, or if there is none.
+#[inline(always)]
 pub fn same_token<'a>(one: &mut Reader<'a>, two: &mut Reader<'_>) -> Result<Token<'a>, Invalid>
     ensures one { IfOk result (λ t. one.old ≡ token_of t ∷ one.new) }
     ensures two { IfOk result (λ t. two.old ≡ token_of t ∷ two.new) }
@@ -159,6 +163,7 @@ pub fn same_token<'a>(one: &mut Reader<'a>, two: &mut Reader<'_>) -> Result<Toke
 /// # Errors
 ///
 /// [`Invalid`] if the object ends, or if the key is another one.
+#[inline(always)]
 pub fn same_key(reader: &mut Reader<'_>, key: &str) -> Result<(), Invalid>
     ensures { OnOk result (read_key reader.old ≡ Some (Some key.now, reader.new)) }
 {
@@ -167,6 +172,7 @@ pub fn same_key(reader: &mut Reader<'_>, key: &str) -> Result<(), Invalid>
 }
 
 /// Returns whether the tokens are equal.
+#[inline(always)]
 fn are_same(token: Token<'_>, twin: Token<'_>) -> bool
     ensures { IsTrue result → token_of twin.entry ≡ token_of token.entry }
 {

@@ -5,6 +5,7 @@ use jsonptr::{
     assign, resolve,
 };
 use jsonptr_in_text::InTextError;
+use jsonptr_patch::PatchError;
 use jsonptr_tabled::TabledPointer;
 use std::alloc::AllocError;
 use std::borrow::CowStr;
@@ -76,6 +77,14 @@ pub enum Answer<'a> {
     IndexError(assign::Error),
     /// A text is not JSON.
     NotJson,
+    /// An operation of a patch fails.
+    PatchFailed(PatchError),
+    /// A document nests too deep.
+    TooDeep,
+    /// A text in which one piece is replaced.
+    InPlace(String),
+    /// A document that is printed anew.
+    Rewritten(String),
 }
 
 impl fmt::Display for Answer<'_> {
@@ -112,6 +121,10 @@ impl fmt::Display for Answer<'_> {
             Answer::NoValue(error) => error.fmt(f),
             Answer::IndexError(error) => error.fmt(f),
             Answer::NotJson => f.write_str("not JSON"),
+            Answer::PatchFailed(error) => error.fmt(f),
+            Answer::TooDeep => f.write_str("too deep"),
+            Answer::InPlace(text) => write!(f, "in place {text}"),
+            Answer::Rewritten(text) => write!(f, "rewritten {text}"),
         }
     }
 }

@@ -23,6 +23,7 @@ mod sessions;
 mod shows;
 mod stage;
 mod tabled;
+mod text_edits;
 mod texts;
 mod tokens;
 mod undos;
@@ -50,6 +51,9 @@ fn main(rt: HostRuntime) -> anyhow::Result<()> {
         "edit" => edits::run(&rt, row),
         "document" => documents::run(&rt, row),
         "in text" => in_text::run(&rt, row),
+        "assign in text" => text_edits::run_assign(&rt, row),
+        "delete in text" => text_edits::run_delete(&rt, row),
+        "apply in text" => text_edits::run_apply(&rt, row),
         "deep" => deep::run(&rt, row),
         "undo" => undos::run(&rt, row),
         "patch" => patches::run(&rt, row),
