@@ -8,6 +8,7 @@ pub mod InText
 pub mod Overlay
 pub mod Walking
 pub mod Editing
+pub mod EditsInText
 pub mod Sessions
 pub mod PatchDocuments
 pub mod PrivateWalking
