@@ -47,7 +47,7 @@ IMPORTS = {
     "jsonptr::index": "Index IntegerCause InvalidCharacterError OutOfBoundsError ParseIndexError StringOrToken",
     "jsonptr::token": "Number",
     "jsonptr_diff": "change diff",
-    "jsonptr_edit_in_text": "EditError Edited assign_in_text delete_in_text",
+    "jsonptr_edit_in_text": "EditError Edited apply_in_text assign_in_text delete_in_text",
     "jsonptr_in_text": "InTextError exists_in_text resolve_in_slice resolve_in_text",
     "jsonptr_patch": "Operation PatchError apply delete_with_undo",
     "jsonptr_patch_document": "Member PatchDocumentError read_patch write_patch",

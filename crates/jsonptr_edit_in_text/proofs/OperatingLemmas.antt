@@ -308,3 +308,8 @@ pub patches_more : (old mid new : Text) (os : List Operation) (o : Operation) �
 patches_more old mid new os o h last =
     let same : last.0 ≡ h.1 = one_reading mid last.0 h.1 last.2 h.3 in
     (h.0, last.1, h.2, last.3, patches_push (nodes h.0) (nodes h.1) (nodes last.1) os o h.4 (subst (λ (y : Data). Applies (nodes y) o (nodes last.1)) same last.4))
+
+pub patches_first : (old mid new : Text) (o : Operation) (os : List Operation) → OperatesInText old o mid → PatchesInText mid os new → PatchesInText old (o ∷ os) new
+patches_first old mid new o os first rest =
+    let same : rest.0 ≡ first.1 = one_reading mid rest.0 first.1 rest.2 first.3 in
+    (first.0, rest.1, first.2, rest.3, (nodes first.1, first.4, subst (λ (y : Data). Patches (nodes y) os (nodes rest.1)) same rest.4))

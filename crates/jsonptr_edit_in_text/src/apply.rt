@@ -1,5 +1,5 @@
 //! Applying a patch in a text (RFC 6902).
-ghost use Rattle.std.specs.Prelude.{◌≡◌, Some, IfOk, IfErr, IfSome, IsTrue, string_bytes};
+ghost use Rattle.std.specs.Prelude.{◌≡◌, [], Some, IfOk, IfErr, IfSome, IsTrue, string_bytes};
 ghost use Rattle.serde_json.specs.Data.{Data};
 ghost use Rattle.serde_json.specs.Read.{read};
 ghost use Rattle.jsonptr_edit_in_text.specs.Bytes.{KeepsBytes};
@@ -79,10 +79,42 @@ fn apply_in_place(
     ensures bytes { IfOk result (λ new. IfSome new
         (λ s. PatchBytes text.now operations.now (string_bytes s))) }
 {
-    if !is_document(alloc, text)? {
+    let Some((first, rest)) = operations.split_first() else {
+        return unchanged(alloc, text);
+    };
+    let start = String::from_str(alloc, text)?;
+    let Some(next) = operate(alloc, start, first)? else {
         return Ok(None);
+    };
+    apply_rest(alloc, next, rest)
+}
+
+/// Returns the text, if it is a document.
+fn unchanged(alloc: Global, text: &str) -> Result<Option<String>, AllocError>
+    ensures applied { IfOk result (λ new. IfSome new
+        (λ s. PatchesInText text.now [] (string_bytes s))) }
+    ensures same { IfOk result (λ new. IfSome new (λ s. string_bytes s ≡ text.now)) }
+{
+    if is_document(alloc, text)? {
+        Ok(Some(String::from_str(alloc, text)?))
+    } else {
+        Ok(None)
     }
-    let mut current = String::from_str(alloc, text)?;
+}
+
+/// Applies the operations in order to the text, which is a document, each in place.
+fn apply_rest(
+    alloc: Global,
+    text: String,
+    operations: &[Operation],
+) -> Result<Option<String>, AllocError>
+    ensures applied { (d : Data) → read (string_bytes text) ≡ Some d → IfOk result
+        (λ new. IfSome new
+        (λ s. PatchesInText (string_bytes text) operations.now (string_bytes s))) }
+    ensures bytes { IfOk result (λ new. IfSome new
+        (λ s. PatchBytes (string_bytes text) operations.now (string_bytes s))) }
+{
+    let mut current = text;
     'operations: for operation in operations {
         let Some(next) = operate(alloc, current, operation)? else {
             return Ok(None);

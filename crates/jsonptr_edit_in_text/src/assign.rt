@@ -92,8 +92,8 @@ fn assign_in_place(
     assign_from(alloc, text, front, rest, &place, value)
 }
 
-/// Assigns the value at the two pointers, one after the other. The first one leads to the place, and
-/// the first token of the second one to no child of the value there.
+/// Assigns the value at the two pointers, one after the other. The first one leads to the value that was located,
+/// and the first token of the second one to no child of it.
 fn assign_from(
     alloc: Global,
     text: &str,

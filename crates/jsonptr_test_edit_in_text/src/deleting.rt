@@ -119,15 +119,15 @@ fn what_is_not_there_is_none(rt: HostRuntime) -> Result<(), Fail> {
 }
 
 #[test]
-fn one_of_two_members_with_a_key_is_rewritten(rt: HostRuntime) -> Result<(), Fail> {
+fn all_members_with_a_key_are_cut_out(rt: HostRuntime) -> Result<(), Fail> {
     let edited = delete_in_text(
         rt.alloc(),
-        r#"{"a":1, "a":2, "b":3}"#,
+        r#"{"a":1, "a":2, "b":3, "a" : 4}"#,
         Pointer::parse("/a")?,
     );
     let text = match edited {
-        Ok(Some(Edited::Rewritten(text))) => text,
-        _ => return Err("a rewritten text".into()),
+        Ok(Some(Edited::InPlace(text))) => text,
+        _ => return Err("a text that is edited in place".into()),
     };
     assert_eq!(rt; text.as_str(), r#"{"b":3}"#);
     Ok(())

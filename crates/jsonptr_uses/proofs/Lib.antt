@@ -13,3 +13,4 @@ mod WalkingLemmas
 mod NextLemmas
 mod SessionsLemmas
 pub mod InTextLemmas
+mod EditsInTextLemmas

@@ -1,31 +1,41 @@
-use Rattle.std.proofs.Common.{◌≡◌, ◌+◌, ℕ, List, [], ◌∷◌, ◌++◌, take, Option, Some, String, IfSome, string_bytes, refl, sym, ap, ◌∙◌, subst, arith}
+use Rattle.std.proofs.Common.{◌≡◌, ◌∷◌, List, Option, String, IfOk, IfSome, string_bytes, sym, subst}
 use Rattle.std.specs.declared.alloc.Global.{Global}
-use Rattle.std.proofs.lemmas.List.{take_more}
-use Rattle.serde_json.specs.Read.{read}
 use Rattle.jsonptr_grammar.specs.Text.{Text}
 use Rattle.jsonptr_patch.specs.declared.operation.Operation.{Operation}
 use Rattle.jsonptr_edit_in_text.specs.PatchInText.{PatchesInText, PatchBytes, OperationBytes}
 use Rattle.jsonptr_edit_in_text.specs.PrivateOperating.{OperatesInText}
-use Rattle.jsonptr_edit_in_text.proofs.OperatingLemmas.{patches_more, bytes_push}
+use Rattle.jsonptr_edit_in_text.proofs.EditLemmas.{if_new}
+use Rattle.jsonptr_edit_in_text.proofs.OperatingLemmas.{patches_first}
 use Rattle.jsonptr_edit_in_text.proofs.apply.apply_in_place.Goals as goal
 
-pub operations-init : goal.operations-init
-operations-init c =
-    let d = c.in_ok-is_document.ensures c.if-not-branch.false in
-    let same = c.in_ok-current.ensures.ok in
-    ((d.0, d.0, d.1, subst (λ (t : Text). read t ≡ Some d.0) (sym same) d.1, refl), same)
-
-pub operations-preserved : goal.operations-preserved
-operations-preserved c =
-    let ops = c.args.operations.now in
-    let i = c.operations.operation-index in
-    let o = c.operation-item.result in
+pub returns-clause-applied : goal.returns-clause-applied
+returns-clause-applied c =
+    let r = c.apply_rest.result in
     let old = c.args.text.now in
-    let mid = string_bytes c.operations.current in
-    let new = string_bytes c.in-Some.next in
-    let applied = subst (λ (n : Option (String Global)). IfSome n (λ s. OperatesInText mid o (string_bytes s))) c.in-Some.is c.in_ok-next.ensures.applied in
-    let bytes = subst (λ (n : Option (String Global)). IfSome n (λ s. OperationBytes mid o (string_bytes s))) c.in-Some.is c.in_ok-next.ensures.bytes in
-    let more : take i ops ++ o ∷ [] ≡ take (i + 1) ops = ap (λ (x : Operation). take i ops ++ x ∷ []) c.operation-item.is ∙ sym (take_more ops i o c.operations-test.true) in (
-      subst (λ (os : List Operation). PatchesInText old os new) more (patches_more old mid new (take i ops) o c.operations.invariant.0 applied),
-      subst (λ (os : List Operation). PatchBytes old os new) more (bytes_push old mid new (take i ops) o c.operations.invariant.1 bytes),
-    )
+    let o = c.in-Some.first.now in
+    let os = c.in-Some.rest.now in
+    let mid = string_bytes c.in-Some-2.next in
+    let first = subst (λ (t : Text). OperatesInText t o mid) c.in_ok-start.ensures.ok
+    (subst (λ (n : Option (String Global)). IfSome n (λ s. OperatesInText (string_bytes c.in_ok-start.start) o (string_bytes s))) c.in-Some-2.is c.in_ok-next.ensures.applied) in
+    subst (λ (all : List Operation). IfOk r (λ n. IfSome n (λ s. PatchesInText old all (string_bytes s)))) (sym c.in-Some.ensures.cases.0)
+    (if_new r
+    (λ s. PatchesInText mid os (string_bytes s))
+    (λ s. PatchesInText old (o ∷ os) (string_bytes s))
+    (λ s h. patches_first old mid (string_bytes s) o os first h)
+    (c.apply_rest.ensures.applied first.1 first.3))
+
+pub returns-clause-bytes : goal.returns-clause-bytes
+returns-clause-bytes c =
+    let r = c.apply_rest.result in
+    let old = c.args.text.now in
+    let o = c.in-Some.first.now in
+    let os = c.in-Some.rest.now in
+    let mid = string_bytes c.in-Some-2.next in
+    let first = subst (λ (t : Text). OperationBytes t o mid) c.in_ok-start.ensures.ok
+    (subst (λ (n : Option (String Global)). IfSome n (λ s. OperationBytes (string_bytes c.in_ok-start.start) o (string_bytes s))) c.in-Some-2.is c.in_ok-next.ensures.bytes) in
+    subst (λ (all : List Operation). IfOk r (λ n. IfSome n (λ s. PatchBytes old all (string_bytes s)))) (sym c.in-Some.ensures.cases.0)
+    (if_new r
+    (λ s. PatchBytes mid os (string_bytes s))
+    (λ s. PatchBytes old (o ∷ os) (string_bytes s))
+    (λ s h. (mid, first, h))
+    c.apply_rest.ensures.bytes)

@@ -1,0 +1,28 @@
+use Rattle.std.proofs.Common.{◌≡◌, ◌+◌, ℕ, List, [], ◌∷◌, ◌++◌, take, Option, Some, String, IfSome, string_bytes, refl, sym, ap, ◌∙◌, subst, arith}
+use Rattle.std.specs.declared.alloc.Global.{Global}
+use Rattle.std.proofs.lemmas.List.{take_more}
+use Rattle.serde_json.specs.Read.{read}
+use Rattle.jsonptr_grammar.specs.Text.{Text}
+use Rattle.jsonptr_patch.specs.declared.operation.Operation.{Operation}
+use Rattle.jsonptr_edit_in_text.specs.PatchInText.{PatchesInText, PatchBytes, OperationBytes}
+use Rattle.jsonptr_edit_in_text.specs.PrivateOperating.{OperatesInText}
+use Rattle.jsonptr_edit_in_text.proofs.OperatingLemmas.{patches_more, bytes_push}
+use Rattle.jsonptr_edit_in_text.proofs.apply.apply_rest.Goals as goal
+
+pub operations-init : goal.operations-init
+operations-init c = (λ d reads. (d, d, reads, reads, refl), refl)
+
+pub operations-preserved : goal.operations-preserved
+operations-preserved c =
+    let ops = c.args.operations.now in
+    let i = c.operations.operation-index in
+    let o = c.operation-item.result in
+    let old = string_bytes c.args.text in
+    let mid = string_bytes c.operations.current in
+    let new = string_bytes c.in-Some.next in
+    let applied = subst (λ (n : Option (String Global)). IfSome n (λ s. OperatesInText mid o (string_bytes s))) c.in-Some.is c.in_ok-next.ensures.applied in
+    let bytes = subst (λ (n : Option (String Global)). IfSome n (λ s. OperationBytes mid o (string_bytes s))) c.in-Some.is c.in_ok-next.ensures.bytes in
+    let more : take i ops ++ o ∷ [] ≡ take (i + 1) ops = ap (λ (x : Operation). take i ops ++ x ∷ []) c.operation-item.is ∙ sym (take_more ops i o c.operations-test.true) in (
+      λ d reads. subst (λ (os : List Operation). PatchesInText old os new) more (patches_more old mid new (take i ops) o (c.operations.invariant.0 d reads) applied),
+      subst (λ (os : List Operation). PatchBytes old os new) more (bytes_push old mid new (take i ops) o c.operations.invariant.1 bytes),
+    )
