@@ -1,0 +1,43 @@
+//! The handle of a document.
+ghost use Rattle.std.specs.Prelude.{◌≡◌, true, IsTrue, MatchOption, is_some};
+
+use crate::apart::Apart;
+use crate::slot::Slot;
+use serde_json::Value;
+use std::alloc::Global;
+use std::mem;
+
+/// A document, or none.
+#[repr(C)]
+#[derive(Drop)]
+pub struct Document {
+    slot: Slot,
+    is_full: bool,
+    ghost tied: { is_full ≡ true → IsTrue (is_some slot.content) },
+}
+
+impl Document {
+    ghost use Rattle.jsonptr_handle.specs.Document.{Holds, IsEmpty};
+
+    /// Takes the document out of the handle.
+    pub fn take(&mut self, alloc: Global) -> Option<Box<Value, Global>>
+        ensures taken { MatchOption result (IsEmpty self.old) (λ b. Holds self.old b.value) }
+        ensures empty { IsEmpty self.new }
+    {
+        if self.is_full {
+            self.is_full = false;
+            let slot = mem::replace(&mut self.slot, Slot::vacant());
+            Some(slot.into_apart(alloc).into_box())
+        } else {
+            None
+        }
+    }
+
+    /// Puts a document into the handle.
+    pub fn put(&mut self, value: Box<Value, Global>)
+        ensures { Holds self.new value.value }
+    {
+        self.slot = Slot::holding(Apart::from_box(value));
+        self.is_full = true;
+    }
+}
