@@ -1,12 +1,12 @@
 -- Which document a handle holds.
-use Rattle.std.specs.Prelude.{◌≡◌, true, false, Some}
+use Rattle.std.specs.Prelude.{◌≡◌, Bool, true, false, Option, Some, None, IsTrue, is_some}
 use Rattle.serde_json.specs.declared.value.Value.{Value}
-use Rattle.jsonptr_handle.specs.declared.document.Document.{Document}
 
--- `Holds d v`: the handle `d` holds the document `v`
-abbrev pub Holds : Document → Value → Type 0
-Holds d v = (d.is_full ≡ true) × (d.slot.content ≡ Some v)
+-- `held is_full content`: the document of a handle with this flag, and with this value in its slot
+abbrev pub held : Bool → Option Value → Option Value
+held true content = content
+held false content = None
 
--- `IsEmpty d`: the handle `d` holds no document
-abbrev pub IsEmpty : Document → Type 0
-IsEmpty d = d.is_full ≡ false
+-- `IsTied is_full content`: if the flag is set, a value is in the slot
+abbrev pub IsTied : Bool → Option Value → Type 0
+IsTied is_full content = is_full ≡ true → IsTrue (is_some content)
