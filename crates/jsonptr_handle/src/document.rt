@@ -1,41 +1,30 @@
 //! The handle of a document.
-ghost use Rattle.std.specs.Prelude.{◌≡◌, Bool, true, false, Option, Some, None, option_map};
-ghost use Rattle.std.specs.Coded.{coded_option};
-ghost use Rattle.serde_json.specs.declared.value.Value.{Value as JsonValue};
-ghost use Rattle.serde_json.specs.contracts.value.Value.{the_row};
-ghost use Rattle.jsonptr_handle.specs.Document.{held, IsTied};
+ghost use Rattle.std.specs.Prelude.{◌≡◌, true, IsTrue, MatchOption, is_some};
 
 use crate::apart::Apart;
 use crate::slot::Slot;
 use serde_json::Value;
 use std::alloc::Global;
-use std::marker::Model;
 use std::mem;
 
-/// A document, or none.
+/// A document, or none. In C it is a pointer and a `bool`, which is zeroed memory at first.
+///
+/// A handle that is dropped does not free its document: [`take`](Document::take) that first.
 #[repr(C)]
 #[derive(Drop)]
 pub struct Document {
     slot: Slot,
     is_full: bool,
-}
-
-/// A contract sees the document that the handle holds, or `None`.
-impl Model for Document {
-    ghost Value = { Option JsonValue };
-
-    ghost coded = { coded_option the_row.coded };
-
-    ghost view = { λ d. held d.is_full d.slot.content };
-
-    ghost invariant = { λ d. IsTied d.is_full d.slot.content };
+    ghost tied: { is_full ≡ true → IsTrue (is_some slot.content) },
 }
 
 impl Document {
-    /// Takes the document out of the handle.
+    ghost use Rattle.jsonptr_handle.specs.Document.{Holds, IsEmpty};
+
+    /// Takes the document out of the handle, which is empty afterwards.
     pub fn take(&mut self, alloc: Global) -> Option<Box<Value, Global>>
-        ensures taken { option_map (λ b. b.value) result ≡ self.old }
-        ensures empty { self.new ≡ None }
+        ensures taken { MatchOption result (IsEmpty self.old) (λ b. Holds self.old b.value) }
+        ensures empty { IsEmpty self.new }
     {
         if self.is_full {
             self.is_full = false;
@@ -46,11 +35,12 @@ impl Document {
         }
     }
 
-    /// Puts a document into the handle. One that it holds is leaked, so take that out first.
-    pub fn put(&mut self, value: Box<Value, Global>)
-        ensures { self.new ≡ Some value.value }
+    /// Puts a document into the handle. One that is in it already is not freed:
+    /// [`take`](Document::take) that first.
+    pub fn put(&mut self, document: Box<Value, Global>)
+        ensures { Holds self.new document.value }
     {
-        self.slot = Slot::holding(Apart::from_box(value));
+        self.slot = Slot::holding(Apart::from_box(document));
         self.is_full = true;
     }
 }
