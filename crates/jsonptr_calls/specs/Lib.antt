@@ -1,0 +1,4 @@
+-- What the calls for C return, and why they fail.
+pub mod Pointers
+pub mod Failures
+pub mod Values
