@@ -2,3 +2,5 @@
 pub mod Pointers
 pub mod Failures
 pub mod Values
+pub mod Kinds
+pub mod Nodes

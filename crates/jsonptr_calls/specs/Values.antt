@@ -1,6 +1,6 @@
 -- Values of a document, and their texts.
 use Rattle.std.specs.Prelude.{◌≡◌, ◌≤◌, ℕ, List, Some}
-use Rattle.serde_json.specs.Data.{Data, depth}
+use Rattle.serde_json.specs.Data.{Data, depth, string}
 use Rattle.serde_json.specs.Read.{max_depth, read}
 use Rattle.jsonptr.specs.Json.{FindsValue}
 use Rattle.jsonptr.specs.Text.{Text}
@@ -13,3 +13,11 @@ FindsAt d bytes e = (tokens : List Text) × HasTokens bytes tokens × FindsValue
 -- `IsTextOf d text`: `text` reads back as the value `d`, unless that nests too deep to be read
 abbrev pub IsTextOf : Data → List ℕ → Type 0
 IsTextOf d text = depth d ≤ max_depth → read text ≡ Some d
+
+-- `FindsTextOf d bytes text`: `text` is the JSON text of the value that the pointer `bytes` resolves to
+abbrev pub FindsTextOf : Data → List ℕ → List ℕ → Type 0
+FindsTextOf d bytes text = (e : Data) × FindsAt d bytes e × IsTextOf e text
+
+-- `FindsString d bytes s`: the pointer `bytes` resolves to the string `s`
+abbrev pub FindsString : Data → List ℕ → List ℕ → Type 0
+FindsString d bytes s = FindsAt d bytes (string s)

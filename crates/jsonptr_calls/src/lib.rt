@@ -6,4 +6,7 @@
 
 pub mod buffer;
 pub mod failure;
+pub mod kind;
+pub mod node;
 pub mod pointers;
+pub mod values;
