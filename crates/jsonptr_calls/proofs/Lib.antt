@@ -1,1 +1,2 @@
 pub mod PointerLemmas
+pub mod KindLemmas

@@ -67,10 +67,11 @@ abbrev pub IsNotPopped : List ℕ → Failure → Type 0
 IsNotPopped bytes NoToken = HasTokens bytes []
 IsNotPopped bytes e = IsNoPointer bytes e
 
--- `IsNoJson bytes e`: the `bytes` are not the text of a JSON document, and `e` reports that
-abbrev pub IsNoJson : List ℕ → Failure → Type 0
-IsNoJson bytes (NotJson offset) = IsUtf8 bytes × (read bytes ≡ None)
-IsNoJson bytes e = IsNotUtf8 bytes e
+-- `IsNotParsed bytes e`: the `bytes` are not the text of a JSON document, or an allocation failed, and `e` reports that
+abbrev pub IsNotParsed : List ℕ → Failure → Type 0
+IsNotParsed bytes (NotJson offset) = read bytes ≡ None
+IsNotParsed bytes (Memory e) = ⊤
+IsNotParsed bytes e = IsNotUtf8 bytes e
 
 -- `Unfound d bytes e`: the pointer `bytes` does not resolve in the document `d`, and `e` reports why
 abbrev pub Unfound : Data → List ℕ → Failure → Type 0
@@ -92,6 +93,6 @@ IsNotRead d bytes room (NoRoom needed) =
 IsNotRead d bytes room OtherKind = (v : Data) × FindsAt d bytes v × (as_str v ≡ None)
 IsNotRead d bytes room e = Unfound d bytes e
 
--- `FailsOn d P e`: the handle `d` holds no document, and `e` reports that, or it holds one with which `P e`
+-- `FailsOn d P e`: the handle `d` holds no document, and `e` reports that, or it holds one that meets `P`
 abbrev pub FailsOn : Document → (Value → Type 0) → Failure → Type 0
 FailsOn d P e = ((e ≡ NoDocument) × IsEmpty d) ⊎ ((v : Value) × Holds d v × P v)

@@ -5,8 +5,10 @@
 #![tactic(auto)]
 
 pub mod buffer;
+pub mod documents;
 pub mod failure;
 pub mod kind;
 pub mod node;
 pub mod pointers;
+pub mod reading;
 pub mod values;

@@ -1,0 +1,116 @@
+//! Documents behind a handle.
+ghost use Rattle.std.specs.Prelude.{◌≡◌, IfErr, IfOk, OnErr, length, take};
+ghost use Rattle.serde_json.specs.View.{view};
+ghost use Rattle.jsonptr_handle.specs.Document.{IsEmpty, Keeps};
+ghost use Rattle.jsonptr_calls.specs.Failures.{FailsOn, IsNotParsed, IsNotPrinted, IsNotRead, Unfound};
+ghost use Rattle.jsonptr_calls.specs.Nodes.{FindsNode};
+ghost use Rattle.jsonptr_calls.specs.Values.{FindsTextOf, FindsString, HoldsWith, ReadsInto};
+
+use crate::failure::Failure;
+use crate::node::Node;
+use crate::reading::read;
+use crate::values::{self, Layout};
+use jsonptr_handle::document::Document;
+use std::alloc::{AllocError, Global};
+
+/// Reads a JSON text into the handle. A document that it holds is freed.
+///
+/// # Errors
+///
+/// - [`Failure::NotUtf8`] and [`Failure::NotJson`].
+/// - [`Failure::Memory`] if an allocation fails.
+///
+/// The handle is unchanged.
+pub fn parse(alloc: Global, document: &mut Document, text: &[u8]) -> Result<(), Failure>
+    ensures parsed { IfOk result (λ _. ReadsInto text.now document.new) }
+    ensures refused { IfErr result (IsNotParsed text.now) }
+    ensures unchanged { OnErr result (document.new ≡ document.old) }
+{
+    let Ok(value) = Box::new(alloc, read(alloc, text)?) else {
+        return Err(Failure::Memory(AllocError));
+    };
+    free(alloc, document);
+    document.put(value);
+    Ok(())
+}
+
+/// Frees the document that the handle holds, if any.
+pub fn free(alloc: Global, document: &mut Document)
+    ensures { IsEmpty document.new }
+{
+    let _freed = document.take(alloc);
+}
+
+/// Copies the JSON text of the value that the pointer resolves to to the buffer, and returns its
+/// length.
+///
+/// # Errors
+///
+/// [`Failure::NoDocument`], and those of [`values::print_at`]. The buffer is unchanged.
+pub fn print_at(
+    alloc: Global,
+    document: &mut Document,
+    pointer: &[u8],
+    layout: Layout,
+    out: &mut [u8],
+) -> Result<usize, Failure>
+    ensures printed { IfOk result (λ n.
+        HoldsWith document.old (λ v. FindsTextOf (view v) pointer.now (take n out.new))) }
+    ensures refused { IfErr result (λ e.
+        FailsOn document.old (λ v. IsNotPrinted (view v) pointer.now (length out.old) e) e) }
+    ensures unchanged { OnErr result (out.new ≡ out.old) }
+    ensures kept { Keeps document.old document.new }
+{
+    let Some(value) = document.take(alloc) else {
+        return Err(Failure::NoDocument);
+    };
+    let printed = values::print_at(alloc, &value, pointer, layout, out);
+    document.put(value);
+    printed
+}
+
+/// Copies the string that the pointer resolves to to the buffer, and returns its length in bytes.
+///
+/// # Errors
+///
+/// [`Failure::NoDocument`], and those of [`values::string_at`]. The buffer is unchanged.
+pub fn string_at(
+    alloc: Global,
+    document: &mut Document,
+    pointer: &[u8],
+    out: &mut [u8],
+) -> Result<usize, Failure>
+    ensures string { IfOk result (λ n.
+        HoldsWith document.old (λ v. FindsString (view v) pointer.now (take n out.new))) }
+    ensures refused { IfErr result (λ e.
+        FailsOn document.old (λ v. IsNotRead (view v) pointer.now (length out.old) e) e) }
+    ensures unchanged { OnErr result (out.new ≡ out.old) }
+    ensures kept { Keeps document.old document.new }
+{
+    let Some(value) = document.take(alloc) else {
+        return Err(Failure::NoDocument);
+    };
+    let copied = values::string_at(alloc, &value, pointer, out);
+    document.put(value);
+    copied
+}
+
+/// Returns what the value is that the pointer resolves to.
+///
+/// # Errors
+///
+/// [`Failure::NoDocument`], and those of [`values::find`].
+pub fn node_at(alloc: Global, document: &mut Document, pointer: &[u8]) -> Result<Node, Failure>
+    ensures described { IfOk result (λ node.
+        HoldsWith document.old (λ v. FindsNode (view v) pointer.now node)) }
+    ensures refused { IfErr result (λ e.
+        FailsOn document.old (λ v. Unfound (view v) pointer.now e) e) }
+    ensures kept { Keeps document.old document.new }
+{
+    let Some(value) = document.take(alloc) else {
+        return Err(Failure::NoDocument);
+    };
+    let node = Node::at(alloc, &value, pointer);
+    document.put(value);
+    node
+}
