@@ -1,2 +1,1 @@
 pub mod PointerLemmas
-pub mod KindLemmas

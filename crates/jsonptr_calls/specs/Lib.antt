@@ -4,3 +4,4 @@ pub mod Failures
 pub mod Values
 pub mod Kinds
 pub mod Nodes
+pub mod Editing

@@ -38,7 +38,6 @@ pub fn kind(value: &Value) -> u32
 }
 
 /// Returns the number of elements or members of the value, or of the bytes of a string.
-#[tactic(auto, using(crate::proofs::KindLemmas::elements_count, crate::proofs::KindLemmas::entries_count))]
 pub fn length(value: &Value) -> usize
     ensures { result ≡ length_of (view value.now) }
 {

@@ -6,6 +6,7 @@
 
 pub mod buffer;
 pub mod documents;
+pub mod editing;
 pub mod failure;
 pub mod kind;
 pub mod node;
