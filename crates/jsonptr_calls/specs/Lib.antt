@@ -5,3 +5,4 @@ pub mod Values
 pub mod Kinds
 pub mod Nodes
 pub mod Editing
+pub mod InTexts

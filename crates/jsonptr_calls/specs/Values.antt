@@ -33,3 +33,7 @@ HoldsWith d P = (v : Value) × Holds d v × P v
 -- `ReadsInto text d`: the handle `d` holds the document that `text` is the text of
 abbrev pub ReadsInto : List ℕ → Document → Type 0
 ReadsInto text d = HoldsWith d (λ v. read text ≡ Some (view v))
+
+-- `Changes d P n`: the handles `d` and `n` hold documents that `P` relates
+abbrev pub Changes : Document → (Data → Data → Type 0) → Document → Type 0
+Changes d P n = (v w : Value) × Holds d v × Holds n w × P (view v) (view w)

@@ -1,11 +1,15 @@
 //! Documents behind a handle.
-ghost use Rattle.std.specs.Prelude.{◌≡◌, IfErr, IfOk, OnErr, length, take};
+ghost use Rattle.std.specs.Prelude.{◌≡◌, ◌⊎◌, IfErr, IfOk, OnErr, Some, length, take};
+ghost use Rattle.serde_json.specs.Read.{read as read_text};
 ghost use Rattle.serde_json.specs.View.{view};
+ghost use Rattle.serde_json.specs.declared.value.Value.{Value};
 ghost use Rattle.jsonptr_handle.specs.Document.{IsEmpty, Keeps};
+ghost use Rattle.jsonptr_calls.specs.Editing.{AssignsAt, DeletesAt, IsNotAssigned, IsNotDeleted};
 ghost use Rattle.jsonptr_calls.specs.Failures.{FailsOn, IsNotParsed, IsNotPrinted, IsNotRead, Unfound};
 ghost use Rattle.jsonptr_calls.specs.Nodes.{FindsNode};
-ghost use Rattle.jsonptr_calls.specs.Values.{FindsTextOf, FindsString, HoldsWith, ReadsInto};
+ghost use Rattle.jsonptr_calls.specs.Values.{Changes, FindsTextOf, FindsString, HoldsWith, ReadsInto};
 
+use crate::editing;
 use crate::failure::Failure;
 use crate::node::Node;
 use crate::reading::read;
@@ -113,4 +117,55 @@ pub fn node_at(alloc: Global, document: &mut Document, pointer: &[u8]) -> Result
     let node = Node::at(alloc, &value, pointer);
     document.put(value);
     node
+}
+
+/// Assigns the value that the text is at the location that the pointer identifies, by
+/// [`editing::assign`].
+///
+/// # Errors
+///
+/// - [`Failure::NotUtf8`] and [`Failure::NotJson`] for the text, which is read first.
+/// - [`Failure::NoDocument`], and those of [`editing::assign`].
+///
+/// The document is unchanged.
+pub fn assign(
+    alloc: Global,
+    document: &mut Document,
+    pointer: &[u8],
+    text: &[u8],
+) -> Result<(), Failure>
+    ensures assigned { IfOk result (λ _. (v : Value) × (read_text text.now ≡ Some (view v))
+        × Changes document.old (λ d n. AssignsAt d pointer.now (view v) n) document.new) }
+    ensures refused { IfErr result (λ e. IsNotParsed text.now e
+        ⊎ FailsOn document.old (λ v. IsNotAssigned (view v) pointer.now e) e) }
+    ensures kept { OnErr result (Keeps document.old document.new) }
+{
+    let assigned = read(alloc, text)?;
+    let Some(mut value) = document.take(alloc) else {
+        return Err(Failure::NoDocument);
+    };
+    let outcome = editing::assign(alloc, &mut value, pointer, assigned);
+    document.put(value);
+    outcome
+}
+
+/// Removes the value that the pointer resolves to, and returns whether there was one, by
+/// [`editing::delete`].
+///
+/// # Errors
+///
+/// [`Failure::NoDocument`], and those of [`editing::delete`]. The document is unchanged.
+pub fn delete(alloc: Global, document: &mut Document, pointer: &[u8]) -> Result<bool, Failure>
+    ensures deleted { IfOk result (λ found.
+        Changes document.old (λ d n. DeletesAt d pointer.now found n) document.new) }
+    ensures refused { IfErr result (λ e.
+        FailsOn document.old (λ v. IsNotDeleted pointer.now e) e) }
+    ensures kept { OnErr result (Keeps document.old document.new) }
+{
+    let Some(mut value) = document.take(alloc) else {
+        return Err(Failure::NoDocument);
+    };
+    let outcome = editing::delete(alloc, &mut value, pointer);
+    document.put(value);
+    outcome
 }

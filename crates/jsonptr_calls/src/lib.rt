@@ -12,4 +12,5 @@ pub mod kind;
 pub mod node;
 pub mod pointers;
 pub mod reading;
+pub mod texts;
 pub mod values;

@@ -43,7 +43,7 @@ pub enum Layout {
 /// # Errors
 ///
 /// [`AllocError`] if an allocation fails.
-fn json_text(alloc: Global, value: &Value, layout: Layout) -> Result<Vec<u8>, AllocError>
+pub fn json_text(alloc: Global, value: &Value, layout: Layout) -> Result<Vec<u8>, AllocError>
     ensures { IfOk result (λ text. IsTextOf (view value.now) text.items) }
 {
     match layout {
