@@ -6,3 +6,4 @@ pub mod Kinds
 pub mod Nodes
 pub mod Editing
 pub mod InTexts
+pub mod Patches

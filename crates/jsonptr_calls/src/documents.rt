@@ -2,19 +2,22 @@
 ghost use Rattle.std.specs.Prelude.{◌≡◌, ◌⊎◌, IfErr, IfOk, OnErr, Some, length, take};
 ghost use Rattle.serde_json.specs.Read.{read as read_text};
 ghost use Rattle.serde_json.specs.View.{view};
-ghost use Rattle.serde_json.specs.declared.value.Value.{Value};
+ghost use Rattle.serde_json.specs.declared.value.Value.{Value as JsonValue};
 ghost use Rattle.jsonptr_handle.specs.Document.{IsEmpty, Keeps};
 ghost use Rattle.jsonptr_calls.specs.Editing.{AssignsAt, DeletesAt, IsNotAssigned, IsNotDeleted};
 ghost use Rattle.jsonptr_calls.specs.Failures.{FailsOn, IsNotParsed, IsNotPrinted, IsNotRead, Unfound};
 ghost use Rattle.jsonptr_calls.specs.Nodes.{FindsNode};
+ghost use Rattle.jsonptr_calls.specs.Patches.{AppliesText, IsDiffText, IsNotApplied, IsNotPatchText};
 ghost use Rattle.jsonptr_calls.specs.Values.{Changes, FindsTextOf, FindsString, HoldsWith, ReadsInto};
 
 use crate::editing;
 use crate::failure::Failure;
 use crate::node::Node;
+use crate::patches;
 use crate::reading::read;
 use crate::values::{self, Layout};
 use jsonptr_handle::document::Document;
+use serde_json::Value;
 use std::alloc::{AllocError, Global};
 
 /// Reads a JSON text into the handle. A document that it holds is freed.
@@ -134,7 +137,7 @@ pub fn assign(
     pointer: &[u8],
     text: &[u8],
 ) -> Result<(), Failure>
-    ensures assigned { IfOk result (λ _. (v : Value) × (read_text text.now ≡ Some (view v))
+    ensures assigned { IfOk result (λ _. (v : JsonValue) × (read_text text.now ≡ Some (view v))
         × Changes document.old (λ d n. AssignsAt d pointer.now (view v) n) document.new) }
     ensures refused { IfErr result (λ e. IsNotParsed text.now e
         ⊎ FailsOn document.old (λ v. IsNotAssigned (view v) pointer.now e) e) }
@@ -168,4 +171,87 @@ pub fn delete(alloc: Global, document: &mut Document, pointer: &[u8]) -> Result<
     let outcome = editing::delete(alloc, &mut value, pointer);
     document.put(value);
     outcome
+}
+
+/// Applies the patch document that the text is, whole or not at all, by [`patches::apply_text`].
+///
+/// # Errors
+///
+/// - Those of [`patches::read_text`], for the text, which is read first.
+/// - [`Failure::NoDocument`].
+/// - [`Failure::PatchFailed`] with the first operation that fails.
+/// - [`Failure::Memory`] if an allocation fails.
+///
+/// The document is unchanged.
+pub fn patch(alloc: Global, document: &mut Document, text: &[u8]) -> Result<(), Failure>
+    ensures applied { IfOk result (λ _.
+        Changes document.old (λ d n. AppliesText text.now d n) document.new) }
+    ensures refused { IfErr result (λ e. IsNotPatchText text.now e
+        ⊎ FailsOn document.old (λ v. IsNotApplied text.now (view v) e) e) }
+    ensures kept { OnErr result (Keeps document.old document.new) }
+{
+    let operations = patches::read_text(alloc, text)?;
+    let Some(mut value) = document.take(alloc) else {
+        return Err(Failure::NoDocument);
+    };
+    let outcome = patches::apply_all(alloc, &mut value, operations);
+    document.put(value);
+    outcome
+}
+
+/// Copies a patch document that turns the document `old` into `new` to the buffer, and returns its
+/// length, by [`patches::diff_text`].
+///
+/// # Errors
+///
+/// - [`Failure::NoDocument`] if one of the handles holds no document.
+/// - [`Failure::NoRoom`] if the buffer is shorter than the text.
+/// - [`Failure::Memory`] if an allocation fails.
+///
+/// The buffer is unchanged.
+pub fn diff(
+    alloc: Global,
+    old: &mut Document,
+    new: &mut Document,
+    layout: Layout,
+    out: &mut [u8],
+) -> Result<usize, Failure>
+    ensures differing { IfOk result (λ n. HoldsWith old.old (λ v.
+        HoldsWith new.old (λ w. IsDiffText (view v) (view w) (take n out.new)))) }
+    ensures unchanged { OnErr result (out.new ≡ out.old) }
+    ensures old_kept { Keeps old.old old.new }
+    ensures new_kept { Keeps new.old new.new }
+{
+    let Some(value) = old.take(alloc) else {
+        return Err(Failure::NoDocument);
+    };
+    let written = diff_with(alloc, &value, new, layout, out);
+    old.put(value);
+    written
+}
+
+/// Copies a patch document that turns a document into the one in the handle to the buffer, and
+/// returns its length.
+///
+/// # Errors
+///
+/// Those of [`diff`].
+fn diff_with(
+    alloc: Global,
+    old: &Value,
+    new: &mut Document,
+    layout: Layout,
+    out: &mut [u8],
+) -> Result<usize, Failure>
+    ensures differing { IfOk result (λ n.
+        HoldsWith new.old (λ w. IsDiffText (view old.now) (view w) (take n out.new))) }
+    ensures unchanged { OnErr result (out.new ≡ out.old) }
+    ensures kept { Keeps new.old new.new }
+{
+    let Some(value) = new.take(alloc) else {
+        return Err(Failure::NoDocument);
+    };
+    let written = patches::diff_text(alloc, old, &value, layout, out);
+    new.put(value);
+    written
 }

@@ -3,6 +3,8 @@ ghost use Rattle.std.specs.Prelude.{◌≡◌};
 ghost use Rattle.jsonptr_calls.specs.declared.failure.Failure.TheVariants.{Memory};
 
 use jsonptr::{ParseError, assign, resolve};
+use jsonptr_patch::PatchError;
+use jsonptr_patch_document::PatchDocumentError;
 use std::alloc::AllocError;
 use thiserror::Error;
 
@@ -48,6 +50,12 @@ pub enum Failure {
     /// A value cannot be assigned at a pointer.
     #[error(transparent)]
     NotAssigned(assign::Error),
+    /// A document is not a patch.
+    #[error(transparent)]
+    NotPatch(PatchDocumentError),
+    /// An operation of a patch fails.
+    #[error(transparent)]
+    PatchFailed(PatchError),
 }
 
 impl From<AllocError> for Failure {

@@ -10,6 +10,7 @@ pub mod editing;
 pub mod failure;
 pub mod kind;
 pub mod node;
+pub mod patches;
 pub mod pointers;
 pub mod reading;
 pub mod texts;
