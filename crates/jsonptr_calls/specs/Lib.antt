@@ -7,3 +7,6 @@ pub mod Nodes
 pub mod Editing
 pub mod InTexts
 pub mod Patches
+pub mod Kinding
+pub mod Records
+pub mod Outcomes
