@@ -1,11 +1,10 @@
-//! The exports.
+//! The functions of the library that C calls.
+//!
+//! They do nothing but call `jsonptr_calls`, which has their contracts, and report the outcome. C
+//! passes a slice as a pointer and a length, and nothing for `alloc`. `tools/c/guard.c` calls them,
+//! and `tools/c/jsonptr.h` declares what it exports.
 #![tactic(auto)]
 
-use jsonptr_handle::document::Document;
-use std::alloc::Global;
-
-/// Frees the document of the handle.
-#[unsafe(no_mangle)]
-pub extern "C" fn jsonptrcore_document_free(alloc: Global, document: &mut Document) {
-    let _value = document.take(alloc);
-}
+mod documents;
+mod errors;
+mod pointers;

@@ -11,5 +11,5 @@ shortens bytes short tokens front last whole parts is =
     let again : text (front ++ last ∷ []) ≡ bytes = ap text (sym parts) ∙ whole in
     let joined : bytes ≡ text front ++ text (last ∷ []) = sym again ∙ text-append front (last ∷ []) in
     let taken : take (length short) bytes ≡ text front =
-        ap (λ b. take (length short) b) joined ∙ take_at (text front) (text (last ∷ [])) (length short) (ap length (sym is)) in
+    ap (λ b. take (length short) b) joined ∙ take_at (text front) (text (last ∷ [])) (length short) (ap length (sym is)) in
     (last, (front, sym taken, again))

@@ -18,7 +18,7 @@ use Rattle.jsonptr_patch_document.specs.declared.error.PatchDocumentError.TheVar
 use Rattle.jsonptr_calls.specs.declared.failure.Failure.{Failure}
 use Rattle.jsonptr_calls.specs.declared.failure.Failure.TheVariants.{Memory, NoRoom, NoDocument, NotUtf8, NotJson, NotPointer, NoToken, NotFound, OtherKind, NotAssigned, NotPatch, PatchFailed}
 
--- `status_of e`: the status of a call that fails with `e`. The numbers 3 and 14 are of the layer in C
+-- `status_of e`: the status of a call that fails with `e`. The number 3 is of the layer in C, which looks for NULL
 abbrev pub status_of : Failure → ℕ
 status_of (Memory e) = 1
 status_of (NoRoom needed) = 2

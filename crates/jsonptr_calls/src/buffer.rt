@@ -15,9 +15,7 @@ pub fn copy_to(text: &[u8], out: &mut [u8]) -> Result<usize, Failure>
         (λ e. LacksRoom (length text.now) (length out.old) e × (out.new ≡ out.old)) }
 {
     if text.len() > out.len() {
-        return Err(Failure::NoRoom {
-            needed: text.len(),
-        });
+        return Err(Failure::NoRoom { needed: text.len() });
     }
     out[..text.len()].copy_from_slice(text);
     Ok(text.len())

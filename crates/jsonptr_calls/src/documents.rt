@@ -10,12 +10,11 @@ ghost use Rattle.jsonptr_calls.specs.Nodes.{FindsNode};
 ghost use Rattle.jsonptr_calls.specs.Patches.{AppliesText, IsDiffText, IsNotApplied, IsNotPatchText};
 ghost use Rattle.jsonptr_calls.specs.Values.{Changes, FindsTextOf, FindsString, HoldsWith, ReadsInto};
 
-use crate::editing;
 use crate::failure::Failure;
 use crate::node::Node;
-use crate::patches;
 use crate::reading::read;
 use crate::values::{self, Layout};
+use crate::{editing, patches};
 use jsonptr_handle::document::Document;
 use serde_json::Value;
 use std::alloc::{AllocError, Global};

@@ -228,9 +228,10 @@ fn slashes(bytes: &[u8]) -> usize
 }
 
 /// Returns the offset of the first byte at fault, and how many bytes are at fault, or 0 if that is
-/// not known.
+/// not known. Of a buffer that is too short it returns the length that is needed.
 pub fn span(failure: &Failure, pointer: &[u8]) -> (usize, usize) {
     match failure {
+        Failure::NoRoom { needed } => (0, *needed),
         Failure::NotUtf8 { offset } | Failure::NotJson { offset } => (*offset, 0),
         Failure::NotPointer(error) => escape_span(error, pointer.len()),
         Failure::NotFound(error) => token_span(pointer, error.offset()),

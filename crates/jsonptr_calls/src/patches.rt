@@ -41,11 +41,7 @@ pub fn read_text(alloc: Global, text: &[u8]) -> Result<Vec<Operation>, Failure>
 ///
 /// [`Failure::PatchFailed`] with the first operation that fails, and [`Failure::Memory`] if an
 /// allocation fails. The document is unchanged.
-pub fn apply_all(
-    alloc: Global,
-    document: &mut Value,
-    patch: Vec<Operation>,
-) -> Result<(), Failure>
+pub fn apply_all(alloc: Global, document: &mut Value, patch: Vec<Operation>) -> Result<(), Failure>
     ensures applied { IfOk result (λ _.
         Patches (nodes (view document.old)) patch.items (nodes (view document.new))) }
     ensures sorted { IfOk result (λ _. All OperationHasSortedKeys patch.items

@@ -64,12 +64,7 @@ pub fn count(bytes: &[u8]) -> Result<usize, Failure>
 /// - [`Failure::NoToken`] if the pointer has no token there.
 /// - [`Failure::NoRoom`] if the buffer is shorter than the token.
 /// - [`Failure::Memory`] if an allocation fails. Only a token that contains `~` needs one.
-pub fn token(
-    alloc: Global,
-    bytes: &[u8],
-    position: usize,
-    out: &mut [u8],
-) -> Result<usize, Failure>
+pub fn token(alloc: Global, bytes: &[u8], position: usize, out: &mut [u8]) -> Result<usize, Failure>
     ensures token { IfOk result (λ n. HasToken bytes.now position (take n out.new)) }
     ensures refused { IfErr result (IsNoToken bytes.now position (list_length out.old)) }
     ensures unchanged { OnErr result (out.new ≡ out.old) }
@@ -105,12 +100,7 @@ pub fn escape(alloc: Global, bytes: &[u8], out: &mut [u8]) -> Result<usize, Fail
 /// - Those of [`parse`], for the pointer and for the token, which must be UTF-8.
 /// - [`Failure::NoRoom`] if the buffer is shorter than the pointer or than the longer one.
 /// - [`Failure::Memory`] if an allocation fails.
-pub fn push(
-    alloc: Global,
-    buffer: &mut [u8],
-    length: usize,
-    token: &[u8],
-) -> Result<usize, Failure>
+pub fn push(alloc: Global, buffer: &mut [u8], length: usize, token: &[u8]) -> Result<usize, Failure>
     ensures pushed { IfOk result (λ n.
         Extends (take length buffer.old) token.now (take n buffer.new)) }
     ensures refused { IfErr result

@@ -42,5 +42,7 @@ fn offset_at(text: &[u8], line: usize, column: usize) -> usize {
         let length = rest.iter().take_while(|byte| **byte != b'\n').count();
         start = start.saturating_add(length).saturating_add(1);
     }
-    start.saturating_add(column.saturating_sub(1)).min(text.len())
+    start
+        .saturating_add(column.saturating_sub(1))
+        .min(text.len())
 }

@@ -88,8 +88,7 @@ pub fn message(alloc: Global, record: &ErrorRecord, out: &mut [u8]) -> Result<us
 fn fixed_message(status: u32) -> &'static str {
     match status {
         OK => "no error",
-        3 => "an argument is NULL",
-        14 => "two arguments are the same document",
+        3 => "an argument is NULL or too long, or one document is passed twice",
         _ => "unknown status",
     }
 }
