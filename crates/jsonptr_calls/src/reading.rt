@@ -6,7 +6,7 @@ ghost use Rattle.jsonptr_calls.specs.Failures.{IsNotParsed};
 
 use crate::failure::Failure;
 use crate::pointers::text_of;
-use serde_json::Value;
+use serde_json::{Error, Value};
 use std::alloc::{AllocError, Global};
 
 /// Returns the document that the bytes are the text of.
@@ -26,10 +26,27 @@ pub fn read(alloc: Global, bytes: &[u8]) -> Result<Value, Failure>
                 Err(Failure::Memory(AllocError))
             } else {
                 Err(Failure::NotJson {
-                    offset: offset_at(bytes, error.line(), error.column()),
+                    offset: error_offset(bytes, &error),
                 })
             }
         }
+    }
+}
+
+/// Returns the offset that the error reports.
+fn error_offset(bytes: &[u8], error: &Error) -> usize {
+    if error.is_eof() {
+        bytes.len()
+    } else {
+        offset_at(bytes, error.line(), error.column())
+    }
+}
+
+/// Returns the offset at which reading the bytes stops, or 0 if they are the text of a document.
+pub fn stop(alloc: Global, bytes: &[u8]) -> usize {
+    match read(alloc, bytes) {
+        Err(Failure::NotJson { offset }) => offset,
+        _ => 0,
     }
 }
 

@@ -5,6 +5,7 @@ ghost use Rattle.jsonptr_calls.specs.InTexts.{FindsIn, FindsTextIn, IsNotInText,
 use crate::buffer::copy_to;
 use crate::failure::Failure;
 use crate::pointers::{parse, text_of};
+use crate::reading::stop;
 use crate::values::{Layout, json_text};
 use jsonptr_in_text::{InTextError, resolve_in_text};
 use serde_json::Value;
@@ -15,7 +16,8 @@ use std::alloc::Global;
 /// # Errors
 ///
 /// - Those of [`parse`], for the pointer.
-/// - [`Failure::NotUtf8`] and [`Failure::NotJson`], for the text. The offset of the second is 0.
+/// - [`Failure::NotUtf8`] and [`Failure::NotJson`], for the text. It is read again to find where
+///   reading stops.
 /// - [`Failure::NotFound`] if the pointer does not resolve to a value.
 /// - [`Failure::Memory`] if an allocation fails.
 fn find_in(alloc: Global, text: &[u8], pointer: &[u8]) -> Result<Value, Failure>
@@ -25,7 +27,9 @@ fn find_in(alloc: Global, text: &[u8], pointer: &[u8]) -> Result<Value, Failure>
     let pointer = parse(pointer)?;
     match resolve_in_text(alloc, text_of(text)?, pointer) {
         Ok(value) => Ok(value),
-        Err(InTextError::NotJson) => Err(Failure::NotJson { offset: 0 }),
+        Err(InTextError::NotJson) => Err(Failure::NotJson {
+            offset: stop(alloc, text),
+        }),
         Err(InTextError::Resolve(error)) => Err(Failure::NotFound(error)),
         Err(InTextError::Memory(error)) => Err(Failure::Memory(error)),
     }
@@ -37,7 +41,8 @@ fn find_in(alloc: Global, text: &[u8], pointer: &[u8]) -> Result<Value, Failure>
 /// # Errors
 ///
 /// - [`Failure::NotUtf8`] and [`Failure::NotPointer`], for the pointer.
-/// - [`Failure::NotUtf8`] and [`Failure::NotJson`], for the text. The offset of the second is 0.
+/// - [`Failure::NotUtf8`] and [`Failure::NotJson`], for the text. It is read again to find where
+///   reading stops.
 /// - [`Failure::NotFound`] if the pointer does not resolve to a value.
 /// - [`Failure::NoRoom`] if the buffer is shorter than the text of the value.
 /// - [`Failure::Memory`] if an allocation fails.
