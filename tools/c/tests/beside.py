@@ -52,11 +52,16 @@ DIFFERENCES = [
      lambda: jsonpatch.JsonPatch([{"op": "test", "path": "", "value": 1.5}]).apply(1.5), "JsonPatchError", 1.5),
     ("removing the whole document leaves null",
      lambda: jsonptr.Patch([{"op": "remove", "path": ""}]).apply({"a": 1}),
-     lambda: jsonpatch.JsonPatch([{"op": "remove", "path": ""}]).apply({"a": 1}), None, "TypeError"),
+     lambda: jsonpatch.JsonPatch([{"op": "remove", "path": ""}]).apply({"a": 1}), None, "JsonPatchConflict"),
     ("an integer above 2^64 - 1 becomes a double: theirs keeps it",
      lambda: jsonptr.resolve([2 ** 70], "/0"), lambda: jsonpointer.resolve_pointer([2 ** 70], "/0"), float(2 ** 70),
      2 ** 70),
 ]
+
+# Before version 3 jsonpointer ignored a leading zero of an index, which RFC 6901 does not allow.
+if int(jsonpointer.__version__.split(".")[0]) < 3:
+    DIFFERENCES.append(("an index has no leading zero: theirs ignores it", lambda: jsonptr.resolve([1, 2], "/01"),
+                        lambda: jsonpointer.resolve_pointer([1, 2], "/01"), "NotFound", 2))
 
 failures = 0
 
@@ -82,10 +87,10 @@ def report(*words):
 
 
 def is_named(document, pointer):
-    """Returns whether a pointer leads to one of the named differences: `-`, or a child of a string."""
+    """Returns whether a pointer leads to a named difference: `-` or `01` at an array, or a child of a string."""
     tokens = pointer.split("/")[1:]
     for token in tokens:
-        if isinstance(document, str) or token == "-" and isinstance(document, list):
+        if isinstance(document, str) or token in ("-", "01") and isinstance(document, list):
             return True
         try:
             document = jsonpointer.resolve_pointer(document, "/" + token)
@@ -189,6 +194,7 @@ def check_errors():
         report("no exception")
 
 
+print("jsonpointer", jsonpointer.__version__, "and jsonpatch", jsonpatch.__version__)
 print(check_pointers(), "pointers and documents compared")
 print(check_patches(), "patches and documents compared")
 print(check_differences_of_documents(), "pairs of documents compared")
