@@ -59,8 +59,8 @@ static jsonptr_status refuse(jsonptr_error *error) {
     return JSONPTR_BAD_ARGUMENT;
 }
 
-/* The argument, or the place for one that is not wanted. */
-#define OR(argument, place) ((argument) != NULL ? (argument) : &(place))
+/* The argument, or the address of `instead` for one that is not wanted. */
+#define OR(argument, instead) ((argument) != NULL ? (argument) : &(instead))
 
 jsonptr_status jsonptr_error_message(const jsonptr_error *error, char *out, size_t capacity, size_t *length) {
     unwanted none;

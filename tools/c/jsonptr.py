@@ -75,6 +75,7 @@ for _name, _arguments in {
 _lib.jsonptr_document_free.argtypes, _lib.jsonptr_document_free.restype = [_HANDLE], None
 _lib.jsonptr_version.restype = ctypes.c_char_p
 _get, _in_text = _lib.jsonptr_document_get, _lib.jsonptr_resolve_in_text
+_scan = json.JSONDecoder().scan_once  # reads a text that begins with its value, as those of the library do
 
 
 class JsonPointerError(ValueError):
@@ -226,7 +227,7 @@ class Document:
 
     def resolve(self, pointer):
         """Returns the value that the pointer resolves to, as a Python value."""
-        return json.loads(self.get(pointer))
+        return _scan(self.get(pointer).decode(), 0)[0]
 
     def assign(self, pointer, value):
         """Assigns a Python value at the pointer, and creates what is missing on the way."""

@@ -5,7 +5,7 @@ ghost use Rattle.std.specs.Box.Ownership.{box_owns};
 use std::alloc::Allocator;
 use std::marker::Model;
 
-/// The pointer and the allocator of a box. The value behind the pointer is still owned.
+/// The pointer and the allocator of a box. The value at the pointer is still owned.
 pub struct Apart<T, A: Allocator> {
     pub(crate) address: *mut T,
     pub(crate) allocator: A,
