@@ -93,6 +93,11 @@ IsNotRead d bytes room (NoRoom needed) =
 IsNotRead d bytes room OtherKind = (v : Data) × FindsAt d bytes v × (as_str v ≡ None)
 IsNotRead d bytes room e = Unfound d bytes e
 
+-- `IsNotWritten room e`: a text is longer than `room` bytes, and `e` reports its length, or an allocation failed
+abbrev pub IsNotWritten : ℕ → Failure → Type 0
+IsNotWritten room (NoRoom needed) = room < needed
+IsNotWritten room e = IsOutOfMemory e
+
 -- `FailsOn d P e`: the handle `d` holds no document, and `e` reports that, or it holds one that meets `P`
 abbrev pub FailsOn : Document → (Value → Type 0) → Failure → Type 0
 FailsOn d P e = ((e ≡ NoDocument) × IsEmpty d) ⊎ ((v : Value) × Holds d v × P v)

@@ -5,7 +5,7 @@ ghost use Rattle.serde_json.specs.View.{view};
 ghost use Rattle.serde_json.specs.declared.value.Value.{Value as JsonValue};
 ghost use Rattle.jsonptr_handle.specs.Document.{IsEmpty, Keeps};
 ghost use Rattle.jsonptr_calls.specs.Editing.{AssignsAt, DeletesAt, IsNotAssigned, IsNotDeleted};
-ghost use Rattle.jsonptr_calls.specs.Failures.{FailsOn, IsNotParsed, IsNotPrinted, IsNotRead, Unfound};
+ghost use Rattle.jsonptr_calls.specs.Failures.{FailsOn, IsNotParsed, IsNotPrinted, IsNotRead, IsNotWritten, Unfound};
 ghost use Rattle.jsonptr_calls.specs.Nodes.{FindsNode};
 ghost use Rattle.jsonptr_calls.specs.Patches.{AppliesText, IsDiffText, IsNotApplied, IsNotPatchText};
 ghost use Rattle.jsonptr_calls.specs.Values.{Changes, FindsTextOf, FindsString, HoldsWith, ReadsInto};
@@ -217,6 +217,8 @@ pub fn diff(
 ) -> Result<usize, Failure>
     ensures differing { IfOk result (λ n. HoldsWith old.old (λ v.
         HoldsWith new.old (λ w. IsDiffText (view v) (view w) (take n out.new)))) }
+    ensures refused { IfErr result (λ e. FailsOn old.old
+        (λ v. FailsOn new.old (λ w. IsNotWritten (length out.old) e) e) e) }
     ensures unchanged { OnErr result (out.new ≡ out.old) }
     ensures old_kept { Keeps old.old old.new }
     ensures new_kept { Keeps new.old new.new }
@@ -244,6 +246,8 @@ fn diff_with(
 ) -> Result<usize, Failure>
     ensures differing { IfOk result (λ n.
         HoldsWith new.old (λ w. IsDiffText (view old.now) (view w) (take n out.new))) }
+    ensures refused { IfErr result (λ e.
+        FailsOn new.old (λ w. IsNotWritten (length out.old) e) e) }
     ensures unchanged { OnErr result (out.new ≡ out.old) }
     ensures kept { Keeps new.old new.new }
 {

@@ -4,6 +4,7 @@ ghost use Rattle.serde_json.specs.View.{view};
 ghost use Rattle.jsonptr.specs.Json.{nodes, HasSortedKeys};
 ghost use Rattle.jsonptr_patch.specs.Order.{OperationHasSortedKeys};
 ghost use Rattle.jsonptr_patch.specs.Patching.{Patches};
+ghost use Rattle.jsonptr_calls.specs.Failures.{IsNotWritten};
 ghost use Rattle.jsonptr_calls.specs.Patches.{IsPatchText, IsNotPatchText, IsNotAppliedList, IsDiffText};
 
 use crate::buffer::copy_to;
@@ -72,6 +73,7 @@ pub fn diff_text(
 ) -> Result<usize, Failure>
     ensures differing { IfOk result (λ n.
         IsDiffText (view old.now) (view new.now) (take n out.new)) }
+    ensures refused { IfErr result (IsNotWritten (length out.old)) }
     ensures unchanged { OnErr result (out.new ≡ out.old) }
 {
     let document = write_patch(alloc, &diff(alloc, old, new)?)?;

@@ -21,6 +21,16 @@ pub struct Document {
 impl Document {
     ghost use Rattle.jsonptr_handle.specs.Document.{Holds, IsEmpty};
 
+    /// Returns a handle that holds no document.
+    pub fn empty() -> Document
+        ensures { IsEmpty result }
+    {
+        Document {
+            slot: Slot::vacant(),
+            is_full: false,
+        }
+    }
+
     /// Takes the document out of the handle, which is empty afterwards.
     pub fn take(&mut self, alloc: Global) -> Option<Box<Value, Global>>
         ensures taken { MatchOption result (IsEmpty self.old) (λ b. Holds self.old b.value) }
