@@ -1,6 +1,8 @@
 //! Messages of errors.
-use jsonptr_calls::finish::finish_length;
-use jsonptr_calls::record::{ErrorRecord, message};
+ghost use Rattle.std.specs.Prelude.{◌≡◌, ◌≢◌};
+
+use jsonptr_calls::finish::fail_with_length;
+use jsonptr_calls::record::{ErrorRecord, OK, message};
 use std::alloc::Global;
 
 /// Copies the message of the error to the buffer.
@@ -10,7 +12,17 @@ pub extern "C" fn jsonptrcore_error_message(
     error: &ErrorRecord,
     out: &mut [u8],
     length: &mut usize,
-) -> u32 {
-    let mut unused = ErrorRecord::none();
-    finish_length(message(alloc, error, out), b"", length, &mut unused)
+) -> u32
+    ensures unchanged { result ≢ 0 → out.new ≡ out.old }
+{
+    match message(alloc, error, out) {
+        Ok(copied) => {
+            *length = copied;
+            OK
+        }
+        Err(failure) => {
+            let mut unused = ErrorRecord::none();
+            fail_with_length(&failure, b"", length, &mut unused)
+        }
+    }
 }

@@ -1,62 +1,42 @@
-//! The outcome of a call, as C receives it.
-ghost use Rattle.std.specs.Prelude.{◌≡◌, MatchResult};
+//! The outcome of a call, as C receives it: a status, and the record of an error.
+ghost use Rattle.std.specs.Prelude.{◌≡◌, ◌≢◌};
 ghost use Rattle.jsonptr_calls.specs.Outcomes.{Reports, ReportsLength};
+ghost use Rattle.jsonptr_calls.specs.Records.{IsBlank};
 
 use crate::failure::Failure;
 use crate::record::{ErrorRecord, OK};
 
-/// Returns the status of the call, and writes the record of its error.
-pub fn finish(outcome: Result<(), Failure>, pointer: &[u8], error: &mut ErrorRecord) -> u32
-    ensures { Reports outcome result error.new }
+/// Returns the status of a call that succeeds, and clears the record.
+pub fn succeed(error: &mut ErrorRecord) -> u32
+    ensures status { result ≡ 0 }
+    ensures record { IsBlank error.new }
 {
-    match outcome {
-        Ok(()) => {
-            *error = ErrorRecord::none();
-            OK
-        }
-        Err(failure) => {
-            *error = ErrorRecord::of(&failure, pointer);
-            error.status
-        }
-    }
+    *error = ErrorRecord::none();
+    OK
 }
 
-/// Returns the status of the call, and writes the record of its error or its result.
-pub fn finish_with<T: Copy>(
-    outcome: Result<T, Failure>,
-    pointer: &[u8],
-    value: &mut T,
-    error: &mut ErrorRecord,
-) -> u32
-    ensures status { Reports outcome result error.new }
-    ensures value { MatchResult outcome (λ v. value.new ≡ v) (λ _. value.new ≡ value.old) }
+/// Returns the status of a call with this pointer that fails, and writes the record of the error.
+pub fn fail(failure: &Failure, pointer: &[u8], error: &mut ErrorRecord) -> u32
+    ensures reported { Reports failure.now result error.new }
+    ensures failed { result ≢ 0 }
 {
-    match outcome {
-        Ok(found) => {
-            *value = found;
-            *error = ErrorRecord::none();
-            OK
-        }
-        Err(failure) => {
-            *error = ErrorRecord::of(&failure, pointer);
-            error.status
-        }
-    }
+    *error = ErrorRecord::of(failure, pointer);
+    error.status
 }
 
-/// Returns the status of the call, and writes the record of its error and the length of its result,
-/// also if the buffer is shorter.
-pub fn finish_length(
-    outcome: Result<usize, Failure>,
+/// Does what [`fail`] does, and writes the length that the result needs if the buffer is too short.
+pub fn fail_with_length(
+    failure: &Failure,
     pointer: &[u8],
     length: &mut usize,
     error: &mut ErrorRecord,
 ) -> u32
-    ensures status { Reports outcome result error.new }
-    ensures length { ReportsLength outcome length.old length.new }
+    ensures reported { Reports failure.now result error.new }
+    ensures failed { result ≢ 0 }
+    ensures length { ReportsLength failure.now length.old length.new }
 {
-    if let Err(Failure::NoRoom { needed }) = &outcome {
+    if let Failure::NoRoom { needed } = failure {
         *length = *needed;
     }
-    finish_with(outcome, pointer, length, error)
+    fail(failure, pointer, error)
 }

@@ -1,4 +1,7 @@
 //! The error of a call as numbers, which C reads.
+ghost use Rattle.std.specs.Prelude.{◌≡◌, IfErr, OnErr, length};
+ghost use Rattle.jsonptr_calls.specs.Failures.{IsNotWritten};
+
 use crate::buffer::copy_to;
 use crate::failure::Failure;
 use crate::faults::{kind, member, operation, position, slash, span, status};
@@ -77,7 +80,10 @@ impl ErrorRecord {
 ///
 /// [`Failure::NoRoom`] if the buffer is shorter than the message, and [`Failure::Memory`] if an
 /// allocation fails. The buffer is unchanged.
-pub fn message(alloc: Global, record: &ErrorRecord, out: &mut [u8]) -> Result<usize, Failure> {
+pub fn message(alloc: Global, record: &ErrorRecord, out: &mut [u8]) -> Result<usize, Failure>
+    ensures unchanged { OnErr result (out.new ≡ out.old) }
+    ensures refused { IfErr result (IsNotWritten (length out.old)) }
+{
     match failure_of(record) {
         Some(failure) => copy_to(failure.to_string(alloc)?.as_str().as_bytes(), out),
         None => copy_to(fixed_message(record.status).as_bytes(), out),

@@ -3,7 +3,7 @@
  *     times FILE ROUNDS
  *
  * FILE has a JSON document. Each line of the output is a case, the library, and the least time of all rounds in
- * nanoseconds. In a round the libraries take turns. Debian's cJSON comes without pointers and patches, so `walk` does what a
+ * nanoseconds. The libraries take turns in each round. Debian's cJSON comes without pointers and patches, so `walk` does what a
  * program with cJSON writes. json-c 0.16 has no patches: the same changes are made by its pointers. */
 #include "jsonptr.h"
 
