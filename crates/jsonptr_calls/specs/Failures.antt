@@ -4,19 +4,17 @@ use Rattle.std.specs.Str.Lossy.{utf8_valid_len}
 use Rattle.serde_json.specs.Data.{Data}
 use Rattle.serde_json.specs.Find.{as_str}
 use Rattle.serde_json.specs.Read.{read}
-use Rattle.serde_json.specs.View.{view}
 use Rattle.serde_json.specs.declared.value.Value.{Value}
 use Rattle.jsonptr.specs.Json.{nodes}
-use Rattle.jsonptr.specs.Text.{Text, esc, text}
+use Rattle.jsonptr.specs.Text.{Text, esc}
 use Rattle.jsonptr.specs.ParseError.{IsParseErrorOf}
 use Rattle.jsonptr.specs.Resolve.{Refuses}
-use Rattle.jsonptr.specs.Assign.{RefusesAssign}
 use Rattle.jsonptr_handle.specs.Document.{Holds, IsEmpty}
 use Rattle.jsonptr_handle.specs.declared.document.Document.{Document}
-use Rattle.jsonptr_calls.specs.Pointers.{HasTokens, HasToken, Extends}
+use Rattle.jsonptr_calls.specs.Pointers.{HasTokens, HasToken}
 use Rattle.jsonptr_calls.specs.Values.{FindsAt, FindsString}
 use Rattle.jsonptr_calls.specs.declared.failure.Failure.{Failure}
-use Rattle.jsonptr_calls.specs.declared.failure.Failure.TheVariants.{Memory, NoRoom, NoDocument, NotUtf8, NotJson, NotPointer, NoToken, NotFound, OtherKind, NotAssigned}
+use Rattle.jsonptr_calls.specs.declared.failure.Failure.TheVariants.{Memory, NoRoom, NoDocument, NotUtf8, NotJson, NotPointer, NoToken, NotFound, OtherKind}
 
 -- `IsOutOfMemory e`: an allocation failed
 abbrev pub IsOutOfMemory : Failure → Type 0
