@@ -15,12 +15,14 @@ One file without dependencies. Documents cross to the library as JSON text:
     [{'op': 'replace', 'path': '/a', 'value': 2}]
 
 The library is searched for beside this file, in `../lib`, and where the system has its libraries. The environment
-variable JSONPTR_LIBRARY names another file. A `Document` is for one call at a time: threads that share one need a lock.
+variable JSONPTR_LIBRARY names another file. Threads may share a `Document`, which has a lock; the lock of Python is free
+while the library works.
 """
 import ctypes
 import ctypes.util
 import json
 import os
+import threading
 
 __all__ = ["Document", "JsonPointerError", "JsonPatchError", "NotFound", "Patch", "escape", "make_patch", "resolve",
            "resolve_in_text", "tokens", "version"]
@@ -75,6 +77,7 @@ for _name, _arguments in {
 _lib.jsonptr_document_free.argtypes, _lib.jsonptr_document_free.restype = [_HANDLE], None
 _lib.jsonptr_version.restype = ctypes.c_char_p
 _get, _in_text = _lib.jsonptr_document_get, _lib.jsonptr_resolve_in_text
+_string_at = ctypes.string_at
 _scan = json.JSONDecoder().scan_once  # reads a text that begins with its value, as those of the library do
 
 
@@ -129,19 +132,16 @@ class _Buffer:
         self.bytes = ctypes.create_string_buffer(size)
         self.address = ctypes.addressof(self.bytes)
 
-    def take(self):
-        """Returns the result that was copied to the buffer."""
-        return ctypes.string_at(self.address, self.length.value)
-
     def fill(self, call, *arguments):
         """Calls a function that copies a result to the buffer, and returns the result."""
         status = call(*arguments, self.address, self.size, self.at_length, self.at_error)
-        if status == NO_ROOM:
-            self.grow(max(self.length.value, 2 * self.size))
-            status = call(*arguments, self.address, self.size, self.at_length, self.at_error)
         if status:
-            _check(status, self.error)
-        return self.take()
+            if status == NO_ROOM:
+                self.grow(max(self.length.value, 2 * self.size))
+                status = call(*arguments, self.address, self.size, self.at_length, self.at_error)
+            if status:
+                _check(status, self.error)
+        return _string_at(self.address, self.length.value)
 
 
 def _message(error):
@@ -203,27 +203,31 @@ class Document:
     """
 
     def __init__(self, text):
+        self._lock = threading.Lock()
         self._handle = _Handle()
         self._at = ctypes.byref(self._handle)
         self._buffer = _Buffer()
         text = _bytes(text)
-        self._check(_lib.jsonptr_document_parse(self._at, text, len(text), self._buffer.at_error))
+        self._call(_lib.jsonptr_document_parse, text, len(text))
 
     @classmethod
     def of(cls, value):
         """Returns the document of a Python value."""
         return cls(_json(value))
 
-    def _check(self, status):
-        if status:
-            _check(status, self._buffer.error)
+    def _call(self, call, *arguments):
+        """Calls a function on the document that returns no text."""
+        with self._lock:
+            status = call(self._at, *arguments, self._buffer.at_error)
+            if status:
+                _check(status, self._buffer.error)
 
     def get(self, pointer):
         """Returns the JSON text of the value that the pointer resolves to, as bytes."""
-        pointer, buffer = _bytes(pointer), self._buffer
-        if not _get(self._at, pointer, len(pointer), 0, buffer.address, buffer.size, buffer.at_length, buffer.at_error):
-            return ctypes.string_at(buffer.address, buffer.length.value)
-        return buffer.fill(_get, self._at, pointer, len(pointer), 0)
+        if pointer.__class__ is str:
+            pointer = pointer.encode()
+        with self._lock:
+            return self._buffer.fill(_get, self._at, pointer, len(pointer), 0)
 
     def resolve(self, pointer):
         """Returns the value that the pointer resolves to, as a Python value."""
@@ -232,24 +236,23 @@ class Document:
     def assign(self, pointer, value):
         """Assigns a Python value at the pointer, and creates what is missing on the way."""
         pointer, text = _bytes(pointer), _json(value)
-        self._check(_lib.jsonptr_document_assign(self._at, pointer, len(pointer), text, len(text), self._buffer.at_error))
+        self._call(_lib.jsonptr_document_assign, pointer, len(pointer), text, len(text))
 
     def delete(self, pointer):
         """Deletes the value that the pointer resolves to, and returns whether there was one."""
         pointer, found = _bytes(pointer), ctypes.c_bool()
-        self._check(_lib.jsonptr_document_delete(self._at, pointer, len(pointer), ctypes.byref(found),
-                                                 self._buffer.at_error))
+        self._call(_lib.jsonptr_document_delete, pointer, len(pointer), ctypes.byref(found))
         return found.value
 
     def apply(self, patch):
         """Applies a patch, all of it or nothing: a `Patch`, JSON text, or a list of operations."""
-        text = patch.text if isinstance(patch, Patch) else _bytes(patch) if isinstance(patch, (str, bytes)) \
-            else _json(patch)
-        self._check(_lib.jsonptr_document_patch(self._at, text, len(text), self._buffer.at_error))
+        text = patch.text if isinstance(patch, Patch) else Patch(patch).text
+        self._call(_lib.jsonptr_document_patch, text, len(text))
 
     def text(self, pretty=False):
         """Returns the JSON text of the document."""
-        return self._buffer.fill(_get, self._at, b"", 0, PRETTY if pretty else 0).decode()
+        with self._lock:
+            return self._buffer.fill(_get, self._at, b"", 0, PRETTY if pretty else 0).decode()
 
     def value(self):
         """Returns the document as a Python value."""
@@ -259,13 +262,13 @@ class Document:
         return f"Document({self.text()!r})"
 
     def __eq__(self, other):
-        return isinstance(other, Document) and self.text() == other.text()
+        return self.text() == other.text() if isinstance(other, Document) else NotImplemented
 
     __hash__ = None
 
-    def __del__(self):
+    def __del__(self, _free=_lib.jsonptr_document_free):
         if hasattr(self, "_at"):
-            _lib.jsonptr_document_free(self._at)
+            _free(self._at)
 
 
 class Patch:
@@ -295,4 +298,6 @@ def make_patch(old, new):
     new = new if isinstance(new, Document) else Document.of(new)
     if old is new:
         return Patch([])
-    return Patch(_Buffer().fill(_lib.jsonptr_document_diff, old._at, new._at, 0))
+    first, second = sorted((old, new), key=id)  # two threads take the two locks in one order
+    with first._lock, second._lock:
+        return Patch(_Buffer().fill(_lib.jsonptr_document_diff, old._at, new._at, 0))

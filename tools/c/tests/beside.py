@@ -6,6 +6,7 @@ is gone is reported.
 import itertools
 import json
 import sys
+import threading
 
 import jsonpatch
 import jsonpointer
@@ -194,10 +195,28 @@ def check_errors():
         report("no exception")
 
 
+def check_threads():
+    """Checks that threads may share a document: each reads its own member while others write theirs."""
+    document = jsonptr.Document.of({str(number): "x" * (100 * number) for number in range(8)})
+
+    def run(number):
+        for length in range(200):
+            document.assign(f"/{number}", "x" * (number * length))
+            if document.resolve(f"/{number}") != "x" * (number * length):
+                report("thread", number, "read another text")
+
+    threads = [threading.Thread(target=run, args=[number]) for number in range(8)]
+    for thread in threads:
+        thread.start()
+    for thread in threads:
+        thread.join()
+
+
 print("jsonpointer", jsonpointer.__version__, "and jsonpatch", jsonpatch.__version__)
 print(check_pointers(), "pointers and documents compared")
 print(check_patches(), "patches and documents compared")
 print(check_differences_of_documents(), "pairs of documents compared")
 check_named()
 check_errors()
+check_threads()
 sys.exit(failures > 0)
