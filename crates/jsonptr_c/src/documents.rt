@@ -1,5 +1,5 @@
 //! Documents.
-ghost use Rattle.std.specs.Prelude.{◌≡◌, ◌≢◌, ◌⊎◌, Some, take, length as list_length};
+ghost use Rattle.std.specs.Prelude.{◌≡◌, ◌≢◌, ◌⊎◌, [], Some, take, length as list_length};
 ghost use Rattle.serde_json.specs.Read.{read as read_text};
 ghost use Rattle.serde_json.specs.View.{view};
 ghost use Rattle.serde_json.specs.declared.value.Value.{Value};
@@ -42,7 +42,7 @@ pub extern "C" fn jsonptrcore_document_parse(
     error: &mut ErrorRecord,
 ) -> u32
     ensures parsed { result ≡ 0 → ReadsInto text.now document.new }
-    ensures refused { result ≢ 0 → (e : Failure) × Reports e result error.new
+    ensures refused { result ≢ 0 → (e : Failure) × Reports e [] result error.new
         × IsNotParsed text.now e }
     ensures unchanged { result ≢ 0 → document.new ≡ document.old }
 {
@@ -73,7 +73,7 @@ pub extern "C" fn jsonptrcore_document_print(
 ) -> u32
     ensures printed { result ≡ 0 → HoldsWith document.old
         (λ v. FindsTextOf (view v) pointer.now (take length.new out.new)) }
-    ensures refused { result ≢ 0 → (e : Failure) × Reports e result error.new
+    ensures refused { result ≢ 0 → (e : Failure) × Reports e pointer.now result error.new
         × FailsOn document.old
         (λ v. IsNotPrinted (view v) pointer.now (list_length out.old) e) e }
     ensures unchanged { result ≢ 0 → out.new ≡ out.old }
@@ -100,7 +100,7 @@ pub extern "C" fn jsonptrcore_document_string(
 ) -> u32
     ensures string { result ≡ 0 → HoldsWith document.old
         (λ v. FindsString (view v) pointer.now (take length.new out.new)) }
-    ensures refused { result ≢ 0 → (e : Failure) × Reports e result error.new
+    ensures refused { result ≢ 0 → (e : Failure) × Reports e pointer.now result error.new
         × FailsOn document.old
         (λ v. IsNotRead (view v) pointer.now (list_length out.old) e) e }
     ensures unchanged { result ≢ 0 → out.new ≡ out.old }
@@ -126,7 +126,7 @@ pub extern "C" fn jsonptrcore_document_node(
 ) -> u32
     ensures described { result ≡ 0 → HoldsWith document.old
         (λ v. FindsNode (view v) pointer.now node.new) }
-    ensures refused { result ≢ 0 → (e : Failure) × Reports e result error.new
+    ensures refused { result ≢ 0 → (e : Failure) × Reports e pointer.now result error.new
         × FailsOn document.old (λ v. Unfound (view v) pointer.now e) e }
     ensures kept { Keeps document.old document.new }
 {
@@ -150,7 +150,7 @@ pub extern "C" fn jsonptrcore_document_assign(
 ) -> u32
     ensures assigned { result ≡ 0 → (v : Value) × (read_text text.now ≡ Some (view v))
         × Changes document.old (λ d n. AssignsAt d pointer.now (view v) n) document.new }
-    ensures refused { result ≢ 0 → (e : Failure) × Reports e result error.new
+    ensures refused { result ≢ 0 → (e : Failure) × Reports e pointer.now result error.new
         × (IsNotParsed text.now e
         ⊎ FailsOn document.old (λ v. IsNotAssigned (view v) pointer.now e) e) }
     ensures kept { result ≢ 0 → Keeps document.old document.new }
@@ -172,7 +172,7 @@ pub extern "C" fn jsonptrcore_document_delete(
 ) -> u32
     ensures deleted { result ≡ 0 → Changes document.old
         (λ d n. DeletesAt d pointer.now found.new n) document.new }
-    ensures refused { result ≢ 0 → (e : Failure) × Reports e result error.new
+    ensures refused { result ≢ 0 → (e : Failure) × Reports e pointer.now result error.new
         × FailsOn document.old (λ v. IsNotDeleted pointer.now e) e }
     ensures kept { result ≢ 0 → Keeps document.old document.new }
 {
@@ -195,7 +195,7 @@ pub extern "C" fn jsonptrcore_document_patch(
 ) -> u32
     ensures applied { result ≡ 0
         → Changes document.old (λ d n. AppliesText text.now d n) document.new }
-    ensures refused { result ≢ 0 → (e : Failure) × Reports e result error.new
+    ensures refused { result ≢ 0 → (e : Failure) × Reports e [] result error.new
         × (IsNotPatchText text.now e
         ⊎ FailsOn document.old (λ v. IsNotApplied text.now (view v) e) e) }
     ensures kept { result ≢ 0 → Keeps document.old document.new }
@@ -219,7 +219,7 @@ pub extern "C" fn jsonptrcore_document_diff(
 ) -> u32
     ensures differing { result ≡ 0 → HoldsWith old.old (λ v. HoldsWith new.old
         (λ w. IsDiffText (view v) (view w) (take length.new out.new))) }
-    ensures refused { result ≢ 0 → (e : Failure) × Reports e result error.new
+    ensures refused { result ≢ 0 → (e : Failure) × Reports e [] result error.new
         × FailsOn old.old (λ v. FailsOn new.old
         (λ w. IsNotWritten (list_length out.old) e) e) e }
     ensures unchanged { result ≢ 0 → out.new ≡ out.old }
@@ -248,7 +248,7 @@ pub extern "C" fn jsonptrcore_text_print(
 ) -> u32
     ensures printed { result ≡ 0
         → FindsTextIn text.now pointer.now (take length.new out.new) }
-    ensures refused { result ≢ 0 → (e : Failure) × Reports e result error.new
+    ensures refused { result ≢ 0 → (e : Failure) × Reports e pointer.now result error.new
         × IsNotPrintedFrom text.now pointer.now (list_length out.old) e }
     ensures unchanged { result ≢ 0 → out.new ≡ out.old }
 {

@@ -1,5 +1,5 @@
 //! JSON Pointers.
-ghost use Rattle.std.specs.Prelude.{◌≡◌, ◌≢◌, take, length as list_length};
+ghost use Rattle.std.specs.Prelude.{◌≡◌, ◌≢◌, [], take, length as list_length};
 ghost use Rattle.jsonptr.specs.Text.{esc};
 ghost use Rattle.jsonptr_calls.specs.Failures.{IsNoPointer, IsNoToken, IsNotEscaped, IsNotPopped, IsNotPushed};
 ghost use Rattle.jsonptr_calls.specs.Outcomes.{Reports};
@@ -19,7 +19,7 @@ pub extern "C" fn jsonptrcore_pointer_count(
     error: &mut ErrorRecord,
 ) -> u32
     ensures count { result ≡ 0 → HasCount pointer.now tokens.new }
-    ensures refused { result ≢ 0 → (e : Failure) × Reports e result error.new
+    ensures refused { result ≢ 0 → (e : Failure) × Reports e pointer.now result error.new
         × IsNoPointer pointer.now e }
 {
     match count(pointer) {
@@ -42,7 +42,7 @@ pub extern "C" fn jsonptrcore_pointer_token(
     error: &mut ErrorRecord,
 ) -> u32
     ensures token { result ≡ 0 → HasToken pointer.now position (take length.new out.new) }
-    ensures refused { result ≢ 0 → (e : Failure) × Reports e result error.new
+    ensures refused { result ≢ 0 → (e : Failure) × Reports e pointer.now result error.new
         × IsNoToken pointer.now position (list_length out.old) e }
     ensures unchanged { result ≢ 0 → out.new ≡ out.old }
 {
@@ -65,7 +65,7 @@ pub extern "C" fn jsonptrcore_pointer_escape(
     error: &mut ErrorRecord,
 ) -> u32
     ensures escaped { result ≡ 0 → take length.new out.new ≡ esc text.now }
-    ensures refused { result ≢ 0 → (e : Failure) × Reports e result error.new
+    ensures refused { result ≢ 0 → (e : Failure) × Reports e [] result error.new
         × IsNotEscaped text.now (list_length out.old) e }
     ensures unchanged { result ≢ 0 → out.new ≡ out.old }
 {
@@ -79,6 +79,7 @@ pub extern "C" fn jsonptrcore_pointer_escape(
 }
 
 /// Appends a token to the pointer at the start of the buffer.
+#[tactic(auto, using(std::proofs::lemmas::List::take_min))]
 #[unsafe(no_mangle)]
 pub extern "C" fn jsonptrcore_pointer_push(
     alloc: Global,
@@ -89,7 +90,7 @@ pub extern "C" fn jsonptrcore_pointer_push(
 ) -> u32
     ensures pushed { result ≡ 0
         → Extends (take length.old buffer.old) text.now (take length.new buffer.new) }
-    ensures refused { result ≢ 0 → (e : Failure) × Reports e result error.new
+    ensures refused { result ≢ 0 → (e : Failure) × Reports e (take length.old buffer.old) result error.new
         × IsNotPushed (take length.old buffer.old) text.now (list_length buffer.old) e }
     ensures unchanged { result ≢ 0 → buffer.new ≡ buffer.old }
     ensures same_length { result ≢ 0 → length.new ≡ length.old }
@@ -100,8 +101,8 @@ pub extern "C" fn jsonptrcore_pointer_push(
             succeed(error)
         }
         Err(failure) => {
-            let pointer = buffer.get(..*length).unwrap_or(b"");
-            fail(&failure, pointer, error)
+            let end = (*length).min(buffer.len());
+            fail(&failure, &buffer[..end], error)
         }
     }
 }
@@ -114,7 +115,7 @@ pub extern "C" fn jsonptrcore_pointer_pop(
     error: &mut ErrorRecord,
 ) -> u32
     ensures popped { result ≡ 0 → Shortens pointer.now length.new }
-    ensures refused { result ≢ 0 → (e : Failure) × Reports e result error.new
+    ensures refused { result ≢ 0 → (e : Failure) × Reports e pointer.now result error.new
         × IsNotPopped pointer.now e }
     ensures same_length { result ≢ 0 → length.new ≡ length.old }
 {

@@ -1,9 +1,9 @@
 -- The numbers by which C knows an error. They never change.
-use Rattle.std.specs.Prelude.{ℕ}
+use Rattle.std.specs.Prelude.{ℕ, ◌+◌, ◌-◌, ◌^◌, ◌==◌, List, count_by, min, take}
 use Rattle.jsonptr.specs.Types.ParseError.{ParseError}
 use Rattle.jsonptr.specs.ParseError.{pointer_offset_of}
-use Rattle.jsonptr.specs.Resolve.{resolve_offset_of}
-use Rattle.jsonptr.specs.Assign.{assign_offset_of}
+use Rattle.jsonptr.specs.Resolve.{resolve_offset_of, resolve_position_of}
+use Rattle.jsonptr.specs.Assign.{assign_offset_of, assign_position_of}
 use Rattle.jsonptr.specs.declared.resolve.Error as resolve
 use Rattle.jsonptr.specs.declared.resolve.Error.TheVariants as resolve_error
 use Rattle.jsonptr.specs.declared.assign.Error as assign
@@ -145,3 +145,57 @@ slash_of (NotAssigned e) = assign_offset_of e
 slash_of (NotPatch e) = document_slash_of e
 slash_of (PatchFailed e) = patch_slash_of e
 slash_of e = 0
+
+-- `patch_position_of e`: the position of the token at fault of an operation, or 0
+abbrev pub patch_position_of : PatchError → ℕ
+patch_position_of (patch_error.NoTarget i cause) = resolve_position_of cause
+patch_position_of (patch_error.BadPlace i cause) = assign_position_of cause
+patch_position_of (patch_error.MoveIntoSelf i) = 0
+patch_position_of (patch_error.TestFloat i) = 0
+patch_position_of (patch_error.TestFailed i) = 0
+
+-- `position_of e bytes`: the position of the token at fault of a call with the pointer `bytes`, or 0. If `bytes` are not a
+-- pointer, it is the number of slashes before that of the token
+abbrev pub position_of : Failure → List ℕ → ℕ
+position_of (NotPointer e) bytes = count_by (λ b. b == 47) (take (pointer_offset_of e) bytes)
+position_of (NotFound e) bytes = resolve_position_of e
+position_of (NotAssigned e) bytes = assign_position_of e
+position_of (PatchFailed e) bytes = patch_position_of e
+position_of e bytes = 0
+
+-- `capped n`: `n`, or the greatest `usize` if it is greater
+abbrev pub capped : ℕ → ℕ
+capped n = min n (2 ^ 64 - 1)
+
+-- `tilde_of e`: the offset of a `~` that begins no escape, or 0
+abbrev pub tilde_of : ParseError → ℕ
+tilde_of parse_error.NoLeadingSlash = 0
+tilde_of (parse_error.InvalidEncoding offset source) = capped (offset + source.offset)
+
+-- `patch_offset_of e`: the offset of the token at fault of an operation, after its slash, or 0
+abbrev pub patch_offset_of : PatchError → ℕ
+patch_offset_of (patch_error.NoTarget i cause) = capped (resolve_offset_of cause + 1)
+patch_offset_of (patch_error.BadPlace i cause) = capped (assign_offset_of cause + 1)
+patch_offset_of (patch_error.MoveIntoSelf i) = 0
+patch_offset_of (patch_error.TestFloat i) = 0
+patch_offset_of (patch_error.TestFailed i) = 0
+
+-- `document_offset_of e`: the offset of the first byte at fault of a pointer in a patch document, or 0
+abbrev pub document_offset_of : PatchDocumentError → ℕ
+document_offset_of document_error.NotArray = 0
+document_offset_of (document_error.NotObject i) = 0
+document_offset_of (document_error.MissingMember i m) = 0
+document_offset_of (document_error.NotString i m) = 0
+document_offset_of (document_error.UnknownOp i) = 0
+document_offset_of (document_error.NotPointer i m cause) = tilde_of cause
+
+-- `offset_of e`: the offset of the first byte at fault: of a token the one after its slash; or 0
+abbrev pub offset_of : Failure → ℕ
+offset_of (NotUtf8 offset) = offset
+offset_of (NotJson offset) = offset
+offset_of (NotPointer e) = tilde_of e
+offset_of (NotFound e) = capped (resolve_offset_of e + 1)
+offset_of (NotAssigned e) = capped (assign_offset_of e + 1)
+offset_of (NotPatch e) = document_offset_of e
+offset_of (PatchFailed e) = patch_offset_of e
+offset_of e = 0

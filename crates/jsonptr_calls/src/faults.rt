@@ -1,6 +1,7 @@
 //! The numbers of an error, by its variants.
-ghost use Rattle.std.specs.Prelude.{◌≡◌, ◌==◌, count_by};
-ghost use Rattle.jsonptr_calls.specs.Kinding.{status_of, failure_kind_of, member_of, operation_of, slash_of, resolve_kind_of, assign_kind_of, parse_kind_of, patch_kind_of, document_kind_of, document_member_of, member_number, document_operation_of, patch_operation_of, patch_slash_of, document_slash_of};
+ghost use Rattle.std.specs.Prelude.{◌≡◌, ◌==◌, ℕ, count_by, take};
+ghost use Rattle.jsonptr_calls.specs.Kinding.{status_of, failure_kind_of, member_of, operation_of, slash_of, resolve_kind_of, assign_kind_of, parse_kind_of, patch_kind_of, document_kind_of, document_member_of, member_number, document_operation_of, patch_operation_of, patch_slash_of, document_slash_of, position_of, patch_position_of, offset_of, tilde_of, document_offset_of, patch_offset_of};
+ghost use Rattle.jsonptr_calls.specs.declared.failure.Failure.TheVariants.{NoRoom};
 
 use crate::failure::Failure;
 use jsonptr::{ParseError, assign, resolve};
@@ -209,15 +210,35 @@ fn patch_slash(error: &PatchError) -> usize
 }
 
 /// Returns the position of the token at fault, or 0.
-pub fn position(failure: &Failure, pointer: &[u8]) -> usize {
+pub fn position(failure: &Failure, pointer: &[u8]) -> usize
+    ensures { result ≡ position_of failure.now pointer.now }
+{
     match failure {
-        Failure::NotPointer(error) => slashes(pointer.get(..error.pointer_offset()).unwrap_or(b"")),
+        Failure::NotPointer(error) => slashes_before(pointer, error.pointer_offset()),
         Failure::NotFound(error) => error.position(),
         Failure::NotAssigned(error) => error.position(),
-        Failure::PatchFailed(PatchError::NoTarget { cause, .. }) => cause.position(),
-        Failure::PatchFailed(PatchError::BadPlace { cause, .. }) => cause.position(),
+        Failure::PatchFailed(error) => patch_position(error),
         _ => 0,
     }
+}
+
+/// Returns the position of the token at fault of an operation, or 0.
+fn patch_position(error: &PatchError) -> usize
+    ensures { result ≡ patch_position_of error.now }
+{
+    match error {
+        PatchError::NoTarget { cause, .. } => cause.position(),
+        PatchError::BadPlace { cause, .. } => cause.position(),
+        _ => 0,
+    }
+}
+
+/// Returns the number of slashes before the offset.
+#[tactic(auto, using(std::proofs::lemmas::List::take_min))]
+fn slashes_before(pointer: &[u8], offset: usize) -> usize
+    ensures { result ≡ count_by (λ b. b == 47) (take offset pointer.now) }
+{
+    slashes(&pointer[..offset.min(pointer.len())])
 }
 
 /// Returns the number of slashes.
@@ -227,42 +248,71 @@ fn slashes(bytes: &[u8]) -> usize
     bytes.iter().filter(|byte| **byte == b'/').count()
 }
 
-/// Returns the offset of the first byte at fault, and how many bytes are at fault, or 0 if that is
-/// not known. Of a buffer that is too short it returns the length that is needed.
-pub fn span(failure: &Failure, pointer: &[u8]) -> (usize, usize) {
+/// Returns the offset of the first byte at fault, or 0.
+pub fn offset(failure: &Failure) -> usize
+    ensures { result ≡ offset_of failure.now }
+{
     match failure {
-        Failure::NoRoom { needed } => (0, *needed),
-        Failure::NotUtf8 { offset } | Failure::NotJson { offset } => (*offset, 0),
-        Failure::NotPointer(error) => escape_span(error, pointer.len()),
-        Failure::NotFound(error) => token_span(pointer, error.offset()),
-        Failure::NotAssigned(error) => token_span(pointer, error.offset()),
-        Failure::PatchFailed(PatchError::NoTarget { cause, .. }) => {
-            (cause.offset().saturating_add(1), 0)
-        }
-        Failure::PatchFailed(PatchError::BadPlace { cause, .. }) => {
-            (cause.offset().saturating_add(1), 0)
-        }
-        Failure::NotPatch(PatchDocumentError::NotPointer { cause, .. }) => escape_span(cause, 0),
-        _ => (0, 0),
+        Failure::NotUtf8 { offset } | Failure::NotJson { offset } => *offset,
+        Failure::NotPointer(error) => tilde(error),
+        Failure::NotFound(error) => error.offset().saturating_add(1),
+        Failure::NotAssigned(error) => error.offset().saturating_add(1),
+        Failure::NotPatch(error) => document_offset(error),
+        Failure::PatchFailed(error) => patch_offset(error),
+        _ => 0,
     }
 }
 
-/// Returns the offset of a `~` that begins no escape in a text of this length, and the number of
-/// bytes of the wrong escape.
-fn escape_span(error: &ParseError, length: usize) -> (usize, usize) {
+/// Returns the offset of a `~` that begins no escape, or 0.
+fn tilde(error: &ParseError) -> usize
+    ensures { result ≡ tilde_of error.now }
+{
     match error {
-        ParseError::NoLeadingSlash => (0, 0),
-        ParseError::InvalidEncoding { offset, source } => {
-            let tilde = offset.saturating_add(source.offset);
-            let escape = length.saturating_sub(tilde).min(2);
-            (tilde, escape)
-        }
+        ParseError::NoLeadingSlash => 0,
+        ParseError::InvalidEncoding { offset, source } => offset.saturating_add(source.offset),
     }
 }
 
-/// Returns the offset and the length of the encoded token after the slash at an offset.
-fn token_span(pointer: &[u8], slash: usize) -> (usize, usize) {
-    let start = slash.saturating_add(1);
-    let rest = pointer.get(start..).unwrap_or(b"");
-    (start, rest.iter().take_while(|byte| **byte != b'/').count())
+/// Returns the offset of the first byte at fault of a pointer in a patch document, or 0.
+fn document_offset(error: &PatchDocumentError) -> usize
+    ensures { result ≡ document_offset_of error.now }
+{
+    match error {
+        PatchDocumentError::NotPointer { cause, .. } => tilde(cause),
+        _ => 0,
+    }
+}
+
+/// Returns the offset of the token at fault of an operation, or 0.
+fn patch_offset(error: &PatchError) -> usize
+    ensures { result ≡ patch_offset_of error.now }
+{
+    match error {
+        PatchError::NoTarget { cause, .. } => cause.offset().saturating_add(1),
+        PatchError::BadPlace { cause, .. } => cause.offset().saturating_add(1),
+        _ => 0,
+    }
+}
+
+/// Returns the number of bytes at fault, or 0 if it is not known. Of a buffer that is too short it
+/// returns the length that is needed.
+pub fn length(failure: &Failure, pointer: &[u8]) -> usize
+    ensures { (needed : ℕ) → failure.now ≡ NoRoom needed → result ≡ needed }
+{
+    match failure {
+        Failure::NoRoom { needed } => *needed,
+        Failure::NotPointer(ParseError::InvalidEncoding { offset, source }) => {
+            let tilde = offset.saturating_add(source.offset);
+            pointer.len().saturating_sub(tilde).min(2)
+        }
+        Failure::NotFound(error) => token_length(pointer, error.offset()),
+        Failure::NotAssigned(error) => token_length(pointer, error.offset()),
+        _ => 0,
+    }
+}
+
+/// Returns the length of the encoded token after the slash at an offset.
+fn token_length(pointer: &[u8], slash: usize) -> usize {
+    let token = pointer.get(slash.saturating_add(1)..).unwrap_or(b"");
+    token.iter().take_while(|byte| **byte != b'/').count()
 }

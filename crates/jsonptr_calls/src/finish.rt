@@ -17,7 +17,7 @@ pub fn succeed(error: &mut ErrorRecord) -> u32
 
 /// Returns the status of a call with this pointer that fails, and writes the record of the error.
 pub fn fail(failure: &Failure, pointer: &[u8], error: &mut ErrorRecord) -> u32
-    ensures reported { Reports failure.now result error.new }
+    ensures reported { Reports failure.now pointer.now result error.new }
     ensures failed { result ≢ 0 }
 {
     *error = ErrorRecord::of(failure, pointer);
@@ -31,7 +31,7 @@ pub fn fail_with_length(
     length: &mut usize,
     error: &mut ErrorRecord,
 ) -> u32
-    ensures reported { Reports failure.now result error.new }
+    ensures reported { Reports failure.now pointer.now result error.new }
     ensures failed { result ≢ 0 }
     ensures length { ReportsLength failure.now length.old length.new }
 {

@@ -1,10 +1,10 @@
 //! The error of a call as numbers, which C reads.
-ghost use Rattle.std.specs.Prelude.{◌≡◌, IfErr, OnErr, length};
+ghost use Rattle.std.specs.Prelude.{◌≡◌, IfErr, OnErr, length as list_length};
 ghost use Rattle.jsonptr_calls.specs.Failures.{IsNotWritten};
 
 use crate::buffer::copy_to;
 use crate::failure::Failure;
-use crate::faults::{kind, member, operation, position, slash, span, status};
+use crate::faults::{kind, length, member, offset, operation, position, slash, status};
 use crate::rebuild::failure_of;
 use std::alloc::Global;
 
@@ -57,9 +57,8 @@ impl ErrorRecord {
 
     /// Returns the record of an error of a call with this pointer.
     pub fn of(failure: &Failure, pointer: &[u8]) -> ErrorRecord
-        ensures { Records failure.now result }
+        ensures { Records failure.now pointer.now result }
     {
-        let (offset, length) = span(failure, pointer);
         ErrorRecord {
             status: status(failure),
             kind: kind(failure),
@@ -68,8 +67,8 @@ impl ErrorRecord {
             operation: operation(failure) as u64,
             position: position(failure, pointer) as u64,
             slash: slash(failure) as u64,
-            offset: offset as u64,
-            length: length as u64,
+            offset: offset(failure) as u64,
+            length: length(failure, pointer) as u64,
         }
     }
 }
@@ -82,7 +81,7 @@ impl ErrorRecord {
 /// allocation fails. The buffer is unchanged.
 pub fn message(alloc: Global, record: &ErrorRecord, out: &mut [u8]) -> Result<usize, Failure>
     ensures unchanged { OnErr result (out.new ≡ out.old) }
-    ensures refused { IfErr result (IsNotWritten (length out.old)) }
+    ensures refused { IfErr result (IsNotWritten (list_length out.old)) }
 {
     match failure_of(record) {
         Some(failure) => copy_to(failure.to_string(alloc)?.as_str().as_bytes(), out),
