@@ -11,6 +11,7 @@
 //! - [`differences`]: a copy that is kept up to date by differences.
 //! - [`sessions`]: calls on a document that is read from a text.
 //! - [`in_text`]: numbers in the text of a document.
+//! - [`handles`]: a document in a handle, as a program in C uses it.
 //! - [`tabled`]: a look-up by a pointer with a table.
 //! - [`overlay`]: a document type of one's own.
 //! - [`conditions`] and [`edits`]: conditions of calls, and edits that undo each other.
@@ -22,6 +23,7 @@ pub mod cursor_editor;
 pub mod differences;
 pub mod editor;
 pub mod edits;
+pub mod handles;
 pub mod in_text;
 pub mod overlay;
 pub mod patch_documents;
