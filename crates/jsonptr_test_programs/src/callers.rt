@@ -1,5 +1,6 @@
 //! The callers: each call once with enough memory, and what no contract says.
 mod editors;
+mod handles;
 mod patch_documents;
 mod readers;
 mod sessions;

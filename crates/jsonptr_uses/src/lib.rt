@@ -12,6 +12,7 @@
 //! - [`sessions`]: calls on a document that is read from a text.
 //! - [`in_text`]: numbers in the text of a document.
 //! - [`edits_in_text`]: two edits in the text of a document.
+//! - [`handles`]: a document in a handle, as a program in C uses it.
 //! - [`tabled`]: a look-up by a pointer with a table.
 //! - [`overlay`]: a document type of one's own.
 //! - [`conditions`] and [`edits`]: conditions of calls, and edits that undo each other.
@@ -24,6 +25,7 @@ pub mod differences;
 pub mod editor;
 pub mod edits;
 pub mod edits_in_text;
+pub mod handles;
 pub mod in_text;
 pub mod overlay;
 pub mod patch_documents;

@@ -1,0 +1,262 @@
+//! Documents.
+ghost use Rattle.std.specs.Prelude.{◌≡◌, ◌≢◌, ◌⊎◌, [], Some, take, length as list_length};
+ghost use Rattle.serde_json.specs.Read.{read as read_text};
+ghost use Rattle.serde_json.specs.View.{view};
+ghost use Rattle.serde_json.specs.declared.value.Value.{Value};
+ghost use Rattle.jsonptr_handle.specs.Document.{IsEmpty, Keeps};
+ghost use Rattle.jsonptr_calls.specs.Editing.{AssignsAt, DeletesAt, IsNotAssigned, IsNotDeleted};
+ghost use Rattle.jsonptr_calls.specs.Failures.{FailsOn, IsNotParsed, IsNotPrinted, IsNotRead, IsNotWritten, Unfound};
+ghost use Rattle.jsonptr_calls.specs.InTexts.{FindsTextIn, IsNotPrintedFrom};
+ghost use Rattle.jsonptr_calls.specs.Nodes.{FindsNode};
+ghost use Rattle.jsonptr_calls.specs.Outcomes.{Reports};
+ghost use Rattle.jsonptr_calls.specs.Patches.{AppliesText, IsDiffText, IsNotApplied, IsNotPatchText};
+ghost use Rattle.jsonptr_calls.specs.Values.{Changes, FindsTextOf, FindsString, HoldsWith, ReadsInto};
+ghost use Rattle.jsonptr_calls.specs.declared.failure.Failure.{Failure};
+
+use jsonptr_calls::documents::{
+    assign, delete, diff, free, node_at, parse, patch, print_at, string_at,
+};
+use jsonptr_calls::finish::{fail, fail_with_length, succeed};
+use jsonptr_calls::node::Node;
+use jsonptr_calls::record::ErrorRecord;
+use jsonptr_calls::texts::print_in;
+use jsonptr_calls::values::Layout;
+use jsonptr_handle::document::Document;
+use std::alloc::Global;
+
+/// Returns the layout of a text.
+fn layout(is_pretty: bool) -> Layout {
+    if is_pretty {
+        Layout::Pretty
+    } else {
+        Layout::Compact
+    }
+}
+
+/// Reads a JSON text into the handle.
+#[unsafe(no_mangle)]
+pub extern "C" fn jsonptrcore_document_parse(
+    alloc: Global,
+    document: &mut Document,
+    text: &[u8],
+    error: &mut ErrorRecord,
+) -> u32
+    ensures parsed { result ≡ 0 → ReadsInto text.now document.new }
+    ensures refused { result ≢ 0 → (e : Failure) × Reports e [] result error.new
+        × IsNotParsed text.now e }
+    ensures unchanged { result ≢ 0 → document.new ≡ document.old }
+{
+    match parse(alloc, document, text) {
+        Ok(()) => succeed(error),
+        Err(failure) => fail(&failure, b"", error),
+    }
+}
+
+/// Frees the document in the handle.
+#[unsafe(no_mangle)]
+pub extern "C" fn jsonptrcore_document_free(alloc: Global, document: &mut Document)
+    ensures { IsEmpty document.new }
+{
+    free(alloc, document);
+}
+
+/// Copies the JSON text of the value at the pointer to the buffer.
+#[unsafe(no_mangle)]
+pub extern "C" fn jsonptrcore_document_print(
+    alloc: Global,
+    document: &mut Document,
+    pointer: &[u8],
+    is_pretty: bool,
+    out: &mut [u8],
+    length: &mut usize,
+    error: &mut ErrorRecord,
+) -> u32
+    ensures printed { result ≡ 0 → HoldsWith document.old
+        (λ v. FindsTextOf (view v) pointer.now (take length.new out.new)) }
+    ensures refused { result ≢ 0 → (e : Failure) × Reports e pointer.now result error.new
+        × FailsOn document.old
+        (λ v. IsNotPrinted (view v) pointer.now (list_length out.old) e) e }
+    ensures unchanged { result ≢ 0 → out.new ≡ out.old }
+    ensures kept { Keeps document.old document.new }
+{
+    match print_at(alloc, document, pointer, layout(is_pretty), out) {
+        Ok(copied) => {
+            *length = copied;
+            succeed(error)
+        }
+        Err(failure) => fail_with_length(&failure, pointer, length, error),
+    }
+}
+
+/// Copies the string at the pointer to the buffer.
+#[unsafe(no_mangle)]
+pub extern "C" fn jsonptrcore_document_string(
+    alloc: Global,
+    document: &mut Document,
+    pointer: &[u8],
+    out: &mut [u8],
+    length: &mut usize,
+    error: &mut ErrorRecord,
+) -> u32
+    ensures string { result ≡ 0 → HoldsWith document.old
+        (λ v. FindsString (view v) pointer.now (take length.new out.new)) }
+    ensures refused { result ≢ 0 → (e : Failure) × Reports e pointer.now result error.new
+        × FailsOn document.old
+        (λ v. IsNotRead (view v) pointer.now (list_length out.old) e) e }
+    ensures unchanged { result ≢ 0 → out.new ≡ out.old }
+    ensures kept { Keeps document.old document.new }
+{
+    match string_at(alloc, document, pointer, out) {
+        Ok(copied) => {
+            *length = copied;
+            succeed(error)
+        }
+        Err(failure) => fail_with_length(&failure, pointer, length, error),
+    }
+}
+
+/// Says what the value at the pointer is.
+#[unsafe(no_mangle)]
+pub extern "C" fn jsonptrcore_document_node(
+    alloc: Global,
+    document: &mut Document,
+    pointer: &[u8],
+    node: &mut Node,
+    error: &mut ErrorRecord,
+) -> u32
+    ensures described { result ≡ 0 → HoldsWith document.old
+        (λ v. FindsNode (view v) pointer.now node.new) }
+    ensures refused { result ≢ 0 → (e : Failure) × Reports e pointer.now result error.new
+        × FailsOn document.old (λ v. Unfound (view v) pointer.now e) e }
+    ensures kept { Keeps document.old document.new }
+{
+    match node_at(alloc, document, pointer) {
+        Ok(found) => {
+            *node = found;
+            succeed(error)
+        }
+        Err(failure) => fail(&failure, pointer, error),
+    }
+}
+
+/// Assigns the value that the text is at the pointer.
+#[unsafe(no_mangle)]
+pub extern "C" fn jsonptrcore_document_assign(
+    alloc: Global,
+    document: &mut Document,
+    pointer: &[u8],
+    text: &[u8],
+    error: &mut ErrorRecord,
+) -> u32
+    ensures assigned { result ≡ 0 → (v : Value) × (read_text text.now ≡ Some (view v))
+        × Changes document.old (λ d n. AssignsAt d pointer.now (view v) n) document.new }
+    ensures refused { result ≢ 0 → (e : Failure) × Reports e pointer.now result error.new
+        × (IsNotParsed text.now e
+        ⊎ FailsOn document.old (λ v. IsNotAssigned (view v) pointer.now e) e) }
+    ensures kept { result ≢ 0 → Keeps document.old document.new }
+{
+    match assign(alloc, document, pointer, text) {
+        Ok(()) => succeed(error),
+        Err(failure) => fail(&failure, pointer, error),
+    }
+}
+
+/// Removes the value at the pointer.
+#[unsafe(no_mangle)]
+pub extern "C" fn jsonptrcore_document_delete(
+    alloc: Global,
+    document: &mut Document,
+    pointer: &[u8],
+    found: &mut bool,
+    error: &mut ErrorRecord,
+) -> u32
+    ensures deleted { result ≡ 0 → Changes document.old
+        (λ d n. DeletesAt d pointer.now found.new n) document.new }
+    ensures refused { result ≢ 0 → (e : Failure) × Reports e pointer.now result error.new
+        × FailsOn document.old (λ v. IsNotDeleted pointer.now e) e }
+    ensures kept { result ≢ 0 → Keeps document.old document.new }
+{
+    match delete(alloc, document, pointer) {
+        Ok(deleted) => {
+            *found = deleted;
+            succeed(error)
+        }
+        Err(failure) => fail(&failure, pointer, error),
+    }
+}
+
+/// Applies the patch document that the text is.
+#[unsafe(no_mangle)]
+pub extern "C" fn jsonptrcore_document_patch(
+    alloc: Global,
+    document: &mut Document,
+    text: &[u8],
+    error: &mut ErrorRecord,
+) -> u32
+    ensures applied { result ≡ 0
+        → Changes document.old (λ d n. AppliesText text.now d n) document.new }
+    ensures refused { result ≢ 0 → (e : Failure) × Reports e [] result error.new
+        × (IsNotPatchText text.now e
+        ⊎ FailsOn document.old (λ v. IsNotApplied text.now (view v) e) e) }
+    ensures kept { result ≢ 0 → Keeps document.old document.new }
+{
+    match patch(alloc, document, text) {
+        Ok(()) => succeed(error),
+        Err(failure) => fail(&failure, b"", error),
+    }
+}
+
+/// Copies a patch document that turns one document into another to the buffer.
+#[unsafe(no_mangle)]
+pub extern "C" fn jsonptrcore_document_diff(
+    alloc: Global,
+    old: &mut Document,
+    new: &mut Document,
+    is_pretty: bool,
+    out: &mut [u8],
+    length: &mut usize,
+    error: &mut ErrorRecord,
+) -> u32
+    ensures differing { result ≡ 0 → HoldsWith old.old (λ v. HoldsWith new.old
+        (λ w. IsDiffText (view v) (view w) (take length.new out.new))) }
+    ensures refused { result ≢ 0 → (e : Failure) × Reports e [] result error.new
+        × FailsOn old.old (λ v. FailsOn new.old
+        (λ w. IsNotWritten (list_length out.old) e) e) e }
+    ensures unchanged { result ≢ 0 → out.new ≡ out.old }
+    ensures old_kept { Keeps old.old old.new }
+    ensures new_kept { Keeps new.old new.new }
+{
+    match diff(alloc, old, new, layout(is_pretty), out) {
+        Ok(copied) => {
+            *length = copied;
+            succeed(error)
+        }
+        Err(failure) => fail_with_length(&failure, b"", length, error),
+    }
+}
+
+/// Copies the JSON text of the value at the pointer in a JSON text to the buffer.
+#[unsafe(no_mangle)]
+pub extern "C" fn jsonptrcore_text_print(
+    alloc: Global,
+    text: &[u8],
+    pointer: &[u8],
+    is_pretty: bool,
+    out: &mut [u8],
+    length: &mut usize,
+    error: &mut ErrorRecord,
+) -> u32
+    ensures printed { result ≡ 0
+        → FindsTextIn text.now pointer.now (take length.new out.new) }
+    ensures refused { result ≢ 0 → (e : Failure) × Reports e pointer.now result error.new
+        × IsNotPrintedFrom text.now pointer.now (list_length out.old) e }
+    ensures unchanged { result ≢ 0 → out.new ≡ out.old }
+{
+    match print_in(alloc, text, pointer, layout(is_pretty), out) {
+        Ok(copied) => {
+            *length = copied;
+            succeed(error)
+        }
+        Err(failure) => fail_with_length(&failure, pointer, length, error),
+    }
+}

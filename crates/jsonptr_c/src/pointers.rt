@@ -1,0 +1,129 @@
+//! JSON Pointers.
+ghost use Rattle.std.specs.Prelude.{◌≡◌, ◌≢◌, [], take, length as list_length};
+ghost use Rattle.jsonptr.specs.Text.{esc};
+ghost use Rattle.jsonptr_calls.specs.Failures.{IsNoPointer, IsNoToken, IsNotEscaped, IsNotPopped, IsNotPushed};
+ghost use Rattle.jsonptr_calls.specs.Outcomes.{Reports};
+ghost use Rattle.jsonptr_calls.specs.Pointers.{HasCount, HasToken, Extends, Shortens};
+ghost use Rattle.jsonptr_calls.specs.declared.failure.Failure.{Failure};
+
+use jsonptr_calls::finish::{fail, fail_with_length, succeed};
+use jsonptr_calls::pointers::{count, escape, pop, push, token};
+use jsonptr_calls::record::ErrorRecord;
+use std::alloc::Global;
+
+/// Counts the tokens of the pointer.
+#[unsafe(no_mangle)]
+pub extern "C" fn jsonptrcore_pointer_count(
+    pointer: &[u8],
+    tokens: &mut usize,
+    error: &mut ErrorRecord,
+) -> u32
+    ensures count { result ≡ 0 → HasCount pointer.now tokens.new }
+    ensures refused { result ≢ 0 → (e : Failure) × Reports e pointer.now result error.new
+        × IsNoPointer pointer.now e }
+{
+    match count(pointer) {
+        Ok(found) => {
+            *tokens = found;
+            succeed(error)
+        }
+        Err(failure) => fail(&failure, pointer, error),
+    }
+}
+
+/// Copies a decoded token of the pointer to the buffer.
+#[unsafe(no_mangle)]
+pub extern "C" fn jsonptrcore_pointer_token(
+    alloc: Global,
+    pointer: &[u8],
+    position: usize,
+    out: &mut [u8],
+    length: &mut usize,
+    error: &mut ErrorRecord,
+) -> u32
+    ensures token { result ≡ 0 → HasToken pointer.now position (take length.new out.new) }
+    ensures refused { result ≢ 0 → (e : Failure) × Reports e pointer.now result error.new
+        × IsNoToken pointer.now position (list_length out.old) e }
+    ensures unchanged { result ≢ 0 → out.new ≡ out.old }
+{
+    match token(alloc, pointer, position, out) {
+        Ok(copied) => {
+            *length = copied;
+            succeed(error)
+        }
+        Err(failure) => fail_with_length(&failure, pointer, length, error),
+    }
+}
+
+/// Copies the escaped text of a token to the buffer.
+#[unsafe(no_mangle)]
+pub extern "C" fn jsonptrcore_pointer_escape(
+    alloc: Global,
+    text: &[u8],
+    out: &mut [u8],
+    length: &mut usize,
+    error: &mut ErrorRecord,
+) -> u32
+    ensures escaped { result ≡ 0 → take length.new out.new ≡ esc text.now }
+    ensures refused { result ≢ 0 → (e : Failure) × Reports e [] result error.new
+        × IsNotEscaped text.now (list_length out.old) e }
+    ensures unchanged { result ≢ 0 → out.new ≡ out.old }
+{
+    match escape(alloc, text, out) {
+        Ok(copied) => {
+            *length = copied;
+            succeed(error)
+        }
+        Err(failure) => fail_with_length(&failure, b"", length, error),
+    }
+}
+
+/// Appends a token to the pointer at the start of the buffer.
+#[tactic(auto, using(std::proofs::lemmas::List::take_min))]
+#[unsafe(no_mangle)]
+pub extern "C" fn jsonptrcore_pointer_push(
+    alloc: Global,
+    buffer: &mut [u8],
+    length: &mut usize,
+    text: &[u8],
+    error: &mut ErrorRecord,
+) -> u32
+    ensures pushed { result ≡ 0
+        → Extends (take length.old buffer.old) text.now (take length.new buffer.new) }
+    ensures refused { result ≢ 0 → (e : Failure) × Reports e (take length.old buffer.old) result error.new
+        × IsNotPushed (take length.old buffer.old) text.now (list_length buffer.old) e }
+    ensures unchanged { result ≢ 0 → buffer.new ≡ buffer.old }
+    ensures same_length { result ≢ 0 → length.new ≡ length.old }
+{
+    match push(alloc, buffer, *length, text) {
+        Ok(longer) => {
+            *length = longer;
+            succeed(error)
+        }
+        Err(failure) => {
+            let end = (*length).min(buffer.len());
+            fail(&failure, &buffer[..end], error)
+        }
+    }
+}
+
+/// Returns the length of the pointer without its last token.
+#[unsafe(no_mangle)]
+pub extern "C" fn jsonptrcore_pointer_pop(
+    pointer: &[u8],
+    length: &mut usize,
+    error: &mut ErrorRecord,
+) -> u32
+    ensures popped { result ≡ 0 → Shortens pointer.now length.new }
+    ensures refused { result ≢ 0 → (e : Failure) × Reports e pointer.now result error.new
+        × IsNotPopped pointer.now e }
+    ensures same_length { result ≢ 0 → length.new ≡ length.old }
+{
+    match pop(pointer) {
+        Ok(shorter) => {
+            *length = shorter;
+            succeed(error)
+        }
+        Err(failure) => fail(&failure, pointer, error),
+    }
+}

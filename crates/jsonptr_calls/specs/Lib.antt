@@ -1,0 +1,12 @@
+-- What the calls for C return, and why they fail.
+pub mod Pointers
+pub mod Failures
+pub mod Values
+pub mod Kinds
+pub mod Nodes
+pub mod Editing
+pub mod InTexts
+pub mod Patches
+pub mod Kinding
+pub mod Records
+pub mod Outcomes

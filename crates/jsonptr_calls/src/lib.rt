@@ -1,0 +1,21 @@
+//! The calls of the library for C: JSON Pointers and JSON documents as bytes, handles and buffers.
+//!
+//! `jsonptr_c` exports them. A text comes in as bytes, which need not be UTF-8, and a result is
+//! written to a buffer of the caller, with the length that it needs.
+#![tactic(auto)]
+
+pub mod buffer;
+pub mod documents;
+pub mod editing;
+pub mod failure;
+pub mod faults;
+pub mod finish;
+pub mod kind;
+pub mod node;
+pub mod patches;
+pub mod pointers;
+pub mod reading;
+mod rebuild;
+pub mod record;
+pub mod texts;
+pub mod values;

@@ -1,0 +1,82 @@
+//! JSON Patch documents (RFC 6902) as bytes.
+ghost use Rattle.std.specs.Prelude.{◌≡◌, IfErr, IfOk, OnErr, All, length, take};
+ghost use Rattle.serde_json.specs.View.{view};
+ghost use Rattle.jsonptr.specs.Json.{nodes, HasSortedKeys};
+ghost use Rattle.jsonptr_patch.specs.Order.{OperationHasSortedKeys};
+ghost use Rattle.jsonptr_patch.specs.Patching.{Patches};
+ghost use Rattle.jsonptr_calls.specs.Failures.{IsNotWritten};
+ghost use Rattle.jsonptr_calls.specs.Patches.{IsPatchText, IsNotPatchText, IsNotAppliedList, IsDiffText};
+
+use crate::buffer::copy_to;
+use crate::failure::Failure;
+use crate::reading::read;
+use crate::values::{Layout, json_text};
+use jsonptr::Fault;
+use jsonptr_diff::diff;
+use jsonptr_patch::{Operation, apply};
+use jsonptr_patch_document::{read_patch, write_patch};
+use serde_json::Value;
+use std::alloc::Global;
+
+/// Returns the operations of the patch document that the bytes are the text of.
+///
+/// # Errors
+///
+/// - [`Failure::NotUtf8`] and [`Failure::NotJson`].
+/// - [`Failure::NotPatch`] if the document is not a patch.
+/// - [`Failure::Memory`] if an allocation fails.
+pub fn read_text(alloc: Global, text: &[u8]) -> Result<Vec<Operation>, Failure>
+    ensures read { IfOk result (λ patch. IsPatchText text.now patch.items) }
+    ensures refused { IfErr result (IsNotPatchText text.now) }
+{
+    match read_patch(alloc, &read(alloc, text)?) {
+        Ok(patch) => Ok(patch),
+        Err(Fault::Refused(error)) => Err(Failure::NotPatch(error)),
+        Err(Fault::Memory(error)) => Err(Failure::Memory(error)),
+    }
+}
+
+/// Applies the operations in order, whole or not at all.
+///
+/// # Errors
+///
+/// [`Failure::PatchFailed`] with the first operation that fails, and [`Failure::Memory`] if an
+/// allocation fails. The document is unchanged.
+pub fn apply_all(alloc: Global, document: &mut Value, patch: Vec<Operation>) -> Result<(), Failure>
+    ensures applied { IfOk result (λ _.
+        Patches (nodes (view document.old)) patch.items (nodes (view document.new))) }
+    ensures sorted { IfOk result (λ _. All OperationHasSortedKeys patch.items
+        → HasSortedKeys (view document.old) → HasSortedKeys (view document.new)) }
+    ensures refused { IfErr result (IsNotAppliedList (view document.old) patch.items) }
+    ensures unchanged { OnErr result (view document.new ≡ view document.old) }
+{
+    match apply(alloc, document, patch) {
+        Ok(()) => Ok(()),
+        Err(Fault::Refused(error)) => Err(Failure::PatchFailed(error)),
+        Err(Fault::Memory(error)) => Err(Failure::Memory(error)),
+    }
+}
+
+/// Copies the text of a patch document that turns the document `old` into `new` to the buffer, and
+/// returns its length.
+///
+/// # Errors
+///
+/// [`Failure::NoRoom`] if the buffer is shorter than the text, and [`Failure::Memory`] if an
+/// allocation fails. The buffer is unchanged.
+pub fn diff_text(
+    alloc: Global,
+    old: &Value,
+    new: &Value,
+    layout: Layout,
+    out: &mut [u8],
+) -> Result<usize, Failure>
+    ensures differing { IfOk result (λ n.
+        IsDiffText (view old.now) (view new.now) (take n out.new)) }
+    ensures refused { IfErr result (IsNotWritten (length out.old)) }
+    ensures unchanged { OnErr result (out.new ≡ out.old) }
+{
+    let document = write_patch(alloc, &diff(alloc, old, new)?)?;
+    let text = json_text(alloc, &document, layout)?;
+    copy_to(&text, out)
+}

@@ -1,0 +1,2 @@
+pub mod ApartSteps
+pub mod SlotSteps

@@ -1,0 +1,6 @@
+//! A JSON document that a program in C can hold.
+#![tactic(auto)]
+
+mod apart;
+pub mod document;
+mod slot;

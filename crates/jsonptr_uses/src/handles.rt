@@ -1,0 +1,56 @@
+//! A document in a handle, as a program in C uses it.
+ghost use Rattle.std.specs.Prelude.{◌≡◌, Some, IfOk, take};
+ghost use Rattle.serde_json.specs.Data.{Data};
+ghost use Rattle.serde_json.specs.Read.{read};
+ghost use Rattle.serde_json.specs.View.{view};
+ghost use Rattle.jsonptr_calls.specs.Patches.{AppliesText};
+ghost use Rattle.jsonptr_calls.specs.Values.{HoldsWith, FindsTextOf};
+
+use jsonptr_calls::documents::{free, parse, patch, print_at};
+use jsonptr_calls::failure::Failure;
+use jsonptr_calls::values::Layout;
+use jsonptr_handle::document::Document;
+use std::alloc::Global;
+
+/// Applies a patch document to a JSON text, copies the value that the pointer resolves to in the new
+/// document to the buffer, and returns the length of its text.
+///
+/// # Errors
+///
+/// Those of `parse`, `patch` and `print_at`.
+pub fn value_after_patch(
+    alloc: Global,
+    text: &[u8],
+    operations: &[u8],
+    pointer: &[u8],
+    out: &mut [u8],
+) -> Result<usize, Failure>
+    ensures { IfOk result (λ n. (d m : Data) × (read text.now ≡ Some d)
+        × AppliesText operations.now d m × FindsTextOf m pointer.now (take n out.new)) }
+{
+    let mut document = Document::empty();
+    parse(alloc, &mut document, text)?;
+    let copied = patched_value(alloc, &mut document, operations, pointer, out);
+    free(alloc, &mut document);
+    copied
+}
+
+/// Applies a patch document to the document in the handle, copies the value that the pointer resolves
+/// to to the buffer, and returns the length of its text.
+///
+/// # Errors
+///
+/// Those of `patch` and `print_at`.
+fn patched_value(
+    alloc: Global,
+    document: &mut Document,
+    operations: &[u8],
+    pointer: &[u8],
+    out: &mut [u8],
+) -> Result<usize, Failure>
+    ensures { IfOk result (λ n. HoldsWith document.old (λ v. (m : Data)
+        × AppliesText operations.now (view v) m × FindsTextOf m pointer.now (take n out.new))) }
+{
+    patch(alloc, document, operations)?;
+    print_at(alloc, document, pointer, Layout::Compact, out)
+}

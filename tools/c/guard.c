@@ -1,0 +1,221 @@
+/* The functions of jsonptr.h. Each looks for NULL, for a length that no object has, and for one document that is passed
+ * twice, and then calls the proved function. Nothing else is decided here. */
+#include "jsonptr.h"
+
+/* The proved functions, from crates/jsonptr_c. No pointer may be NULL. */
+uint32_t jsonptrcore_error_message(const jsonptr_error *error, char *out, size_t capacity, size_t *length);
+uint32_t jsonptrcore_pointer_count(const char *pointer, size_t pointer_length, size_t *count, jsonptr_error *error);
+uint32_t jsonptrcore_pointer_token(const char *pointer, size_t pointer_length, size_t position, char *out,
+                                   size_t capacity, size_t *length, jsonptr_error *error);
+uint32_t jsonptrcore_pointer_escape(const char *token, size_t token_length, char *out, size_t capacity, size_t *length,
+                                    jsonptr_error *error);
+uint32_t jsonptrcore_pointer_push(char *buffer, size_t capacity, size_t *length, const char *token, size_t token_length,
+                                  jsonptr_error *error);
+uint32_t jsonptrcore_pointer_pop(const char *pointer, size_t pointer_length, size_t *length, jsonptr_error *error);
+uint32_t jsonptrcore_document_parse(jsonptr_document *document, const char *text, size_t text_length,
+                                    jsonptr_error *error);
+void jsonptrcore_document_free(jsonptr_document *document);
+uint32_t jsonptrcore_document_print(jsonptr_document *document, const char *pointer, size_t pointer_length,
+                                    bool is_pretty, char *out, size_t capacity, size_t *length, jsonptr_error *error);
+uint32_t jsonptrcore_document_string(jsonptr_document *document, const char *pointer, size_t pointer_length, char *out,
+                                     size_t capacity, size_t *length, jsonptr_error *error);
+uint32_t jsonptrcore_document_node(jsonptr_document *document, const char *pointer, size_t pointer_length,
+                                   jsonptr_node *node, jsonptr_error *error);
+uint32_t jsonptrcore_document_assign(jsonptr_document *document, const char *pointer, size_t pointer_length,
+                                     const char *text, size_t text_length, jsonptr_error *error);
+uint32_t jsonptrcore_document_delete(jsonptr_document *document, const char *pointer, size_t pointer_length, bool *found,
+                                     jsonptr_error *error);
+uint32_t jsonptrcore_document_patch(jsonptr_document *document, const char *text, size_t text_length,
+                                    jsonptr_error *error);
+uint32_t jsonptrcore_document_diff(jsonptr_document *from, jsonptr_document *to, bool is_pretty, char *out,
+                                   size_t capacity, size_t *length, jsonptr_error *error);
+uint32_t jsonptrcore_text_print(const char *text, size_t text_length, const char *pointer, size_t pointer_length,
+                                bool is_pretty, char *out, size_t capacity, size_t *length, jsonptr_error *error);
+
+/* Whether a pointer and a length can be a slice: NULL only with length 0. */
+static bool is_slice(const void *start, size_t length) {
+    return start != NULL ? length <= PTRDIFF_MAX : length == 0;
+}
+
+/* Returns the start of a slice. Of an empty one it may be any address but NULL. */
+static const char *start_of(const char *start) {
+    static const char empty = 0;
+    return start != NULL ? start : &empty;
+}
+
+/* What is written for an optional argument that is NULL, and where an empty buffer starts. */
+typedef struct unwanted {
+    jsonptr_error error;
+    size_t length;
+    bool found;
+    char buffer;
+} unwanted;
+
+/* Reports a bad argument. */
+static jsonptr_status refuse(jsonptr_error *error) {
+    if (error != NULL) {
+        *error = (jsonptr_error){ .status = JSONPTR_BAD_ARGUMENT };
+    }
+    return JSONPTR_BAD_ARGUMENT;
+}
+
+/* The argument, or the address of `instead` for one that is not wanted. */
+#define OR(argument, instead) ((argument) != NULL ? (argument) : &(instead))
+
+jsonptr_status jsonptr_error_message(const jsonptr_error *error, char *out, size_t capacity, size_t *length) {
+    unwanted none;
+    if (error == NULL || !is_slice(out, capacity)) {
+        return JSONPTR_BAD_ARGUMENT;
+    }
+    return jsonptrcore_error_message(error, OR(out, none.buffer), capacity, OR(length, none.length));
+}
+
+jsonptr_status jsonptr_pointer_count(const char *pointer, size_t pointer_length, size_t *count, jsonptr_error *error) {
+    unwanted none;
+    if (!is_slice(pointer, pointer_length)) {
+        return refuse(error);
+    }
+    return jsonptrcore_pointer_count(start_of(pointer), pointer_length, OR(count, none.length), OR(error, none.error));
+}
+
+jsonptr_status jsonptr_pointer_token(const char *pointer, size_t pointer_length, size_t position, char *out,
+                                     size_t capacity, size_t *length, jsonptr_error *error) {
+    unwanted none;
+    if (!is_slice(pointer, pointer_length) || !is_slice(out, capacity)) {
+        return refuse(error);
+    }
+    return jsonptrcore_pointer_token(start_of(pointer), pointer_length, position, OR(out, none.buffer), capacity,
+                                     OR(length, none.length), OR(error, none.error));
+}
+
+jsonptr_status jsonptr_pointer_escape(const char *token, size_t token_length, char *out, size_t capacity, size_t *length,
+                                      jsonptr_error *error) {
+    unwanted none;
+    if (!is_slice(token, token_length) || !is_slice(out, capacity)) {
+        return refuse(error);
+    }
+    return jsonptrcore_pointer_escape(start_of(token), token_length, OR(out, none.buffer), capacity,
+                                      OR(length, none.length), OR(error, none.error));
+}
+
+jsonptr_status jsonptr_pointer_push(char *buffer, size_t capacity, size_t *length, const char *token,
+                                    size_t token_length, jsonptr_error *error) {
+    unwanted none;
+    if (length == NULL || !is_slice(buffer, capacity) || !is_slice(token, token_length)) {
+        return refuse(error);
+    }
+    return jsonptrcore_pointer_push(OR(buffer, none.buffer), capacity, length, start_of(token), token_length,
+                                    OR(error, none.error));
+}
+
+jsonptr_status jsonptr_pointer_pop(const char *pointer, size_t *length, jsonptr_error *error) {
+    unwanted none;
+    if (length == NULL || !is_slice(pointer, *length)) {
+        return refuse(error);
+    }
+    return jsonptrcore_pointer_pop(start_of(pointer), *length, length, OR(error, none.error));
+}
+
+jsonptr_status jsonptr_document_parse(jsonptr_document *document, const char *text, size_t text_length,
+                                      jsonptr_error *error) {
+    unwanted none;
+    if (document == NULL || !is_slice(text, text_length)) {
+        return refuse(error);
+    }
+    return jsonptrcore_document_parse(document, start_of(text), text_length, OR(error, none.error));
+}
+
+void jsonptr_document_free(jsonptr_document *document) {
+    if (document != NULL) {
+        jsonptrcore_document_free(document);
+    }
+}
+
+jsonptr_status jsonptr_document_print(jsonptr_document *document, uint32_t flags, char *out, size_t capacity,
+                                      size_t *length, jsonptr_error *error) {
+    return jsonptr_document_get(document, "", 0, flags, out, capacity, length, error);
+}
+
+jsonptr_status jsonptr_document_get(jsonptr_document *document, const char *pointer, size_t pointer_length,
+                                    uint32_t flags, char *out, size_t capacity, size_t *length, jsonptr_error *error) {
+    unwanted none;
+    if (document == NULL || !is_slice(pointer, pointer_length) || !is_slice(out, capacity)) {
+        return refuse(error);
+    }
+    return jsonptrcore_document_print(document, start_of(pointer), pointer_length, flags & JSONPTR_PRETTY,
+                                      OR(out, none.buffer), capacity, OR(length, none.length), OR(error, none.error));
+}
+
+jsonptr_status jsonptr_document_string(jsonptr_document *document, const char *pointer, size_t pointer_length, char *out,
+                                       size_t capacity, size_t *length, jsonptr_error *error) {
+    unwanted none;
+    if (document == NULL || !is_slice(pointer, pointer_length) || !is_slice(out, capacity)) {
+        return refuse(error);
+    }
+    return jsonptrcore_document_string(document, start_of(pointer), pointer_length, OR(out, none.buffer), capacity,
+                                       OR(length, none.length), OR(error, none.error));
+}
+
+jsonptr_status jsonptr_document_node(jsonptr_document *document, const char *pointer, size_t pointer_length,
+                                     jsonptr_node *node, jsonptr_error *error) {
+    unwanted none;
+    if (document == NULL || node == NULL || !is_slice(pointer, pointer_length)) {
+        return refuse(error);
+    }
+    return jsonptrcore_document_node(document, start_of(pointer), pointer_length, node, OR(error, none.error));
+}
+
+jsonptr_status jsonptr_document_assign(jsonptr_document *document, const char *pointer, size_t pointer_length,
+                                       const char *text, size_t text_length, jsonptr_error *error) {
+    unwanted none;
+    if (document == NULL || !is_slice(pointer, pointer_length) || !is_slice(text, text_length)) {
+        return refuse(error);
+    }
+    return jsonptrcore_document_assign(document, start_of(pointer), pointer_length, start_of(text), text_length,
+                                       OR(error, none.error));
+}
+
+jsonptr_status jsonptr_document_delete(jsonptr_document *document, const char *pointer, size_t pointer_length,
+                                       bool *found, jsonptr_error *error) {
+    unwanted none;
+    if (document == NULL || !is_slice(pointer, pointer_length)) {
+        return refuse(error);
+    }
+    return jsonptrcore_document_delete(document, start_of(pointer), pointer_length, OR(found, none.found),
+                                       OR(error, none.error));
+}
+
+jsonptr_status jsonptr_document_patch(jsonptr_document *document, const char *text, size_t text_length,
+                                      jsonptr_error *error) {
+    unwanted none;
+    if (document == NULL || !is_slice(text, text_length)) {
+        return refuse(error);
+    }
+    return jsonptrcore_document_patch(document, start_of(text), text_length, OR(error, none.error));
+}
+
+jsonptr_status jsonptr_document_diff(jsonptr_document *from, jsonptr_document *to, uint32_t flags, char *out,
+                                     size_t capacity, size_t *length, jsonptr_error *error) {
+    unwanted none;
+    if (from == NULL || to == NULL || from == to || !is_slice(out, capacity)) {
+        return refuse(error);
+    }
+    return jsonptrcore_document_diff(from, to, flags & JSONPTR_PRETTY, OR(out, none.buffer), capacity,
+                                     OR(length, none.length), OR(error, none.error));
+}
+
+jsonptr_status jsonptr_resolve_in_text(const char *text, size_t text_length, const char *pointer, size_t pointer_length,
+                                       uint32_t flags, char *out, size_t capacity, size_t *length,
+                                       jsonptr_error *error) {
+    unwanted none;
+    if (!is_slice(text, text_length) || !is_slice(pointer, pointer_length) || !is_slice(out, capacity)) {
+        return refuse(error);
+    }
+    return jsonptrcore_text_print(start_of(text), text_length, start_of(pointer), pointer_length,
+                                  flags & JSONPTR_PRETTY, OR(out, none.buffer), capacity, OR(length, none.length),
+                                  OR(error, none.error));
+}
+
+const char *jsonptr_version(void) {
+    return JSONPTR_VERSION;
+}

@@ -1,0 +1,303 @@
+"""JSON Pointers (RFC 6901) and JSON Patches (RFC 6902) by the proved library `libjsonptr.so`.
+
+One file without dependencies. Documents cross to the library as JSON text:
+
+    >>> import jsonptr
+    >>> jsonptr.resolve({"sizes": [3, 5]}, "/sizes/1")
+    5
+    >>> document = jsonptr.Document('{"sizes": [3, 5]}')
+    >>> document.resolve("/sizes/1")
+    5
+    >>> document.apply([{"op": "add", "path": "/sizes/-", "value": 8}])
+    >>> document.text()
+    '{"sizes":[3,5,8]}'
+    >>> jsonptr.make_patch({"a": 1}, {"a": 2}).operations
+    [{'op': 'replace', 'path': '/a', 'value': 2}]
+
+The library is searched for beside this file, in `../lib`, and where the system has its libraries. The environment
+variable JSONPTR_LIBRARY names another file. Threads may share a `Document`, which has a lock; the lock of Python is free
+while the library works.
+"""
+import ctypes
+import ctypes.util
+import json
+import os
+import threading
+
+__all__ = ["Document", "JsonPointerError", "JsonPatchError", "NotFound", "Patch", "escape", "make_patch", "resolve",
+           "resolve_in_text", "tokens", "version"]
+
+OK, NO_MEMORY, NO_ROOM, BAD_ARGUMENT, NO_DOCUMENT, NOT_UTF8, NOT_JSON, NOT_POINTER, NO_TOKEN, NOT_FOUND, OTHER_KIND, \
+    NOT_ASSIGNED, NOT_PATCH, PATCH_FAILED = range(14)
+PRETTY = 1
+MEMBERS = [None, "op", "path", "from", "value"]
+
+
+def _library():
+    """Loads the library."""
+    here = os.path.dirname(os.path.abspath(__file__))
+    names = [os.environ.get("JSONPTR_LIBRARY"), os.path.join(here, "libjsonptr.so.0"),
+             os.path.join(here, "..", "lib", "libjsonptr.so.0")]
+    for name in names:
+        if name and os.path.exists(name):
+            return ctypes.CDLL(name)
+    return ctypes.CDLL(ctypes.util.find_library("jsonptr") or "libjsonptr.so.0")
+
+
+class _Handle(ctypes.Structure):
+    _fields_ = [("address", ctypes.c_void_p), ("is_full", ctypes.c_bool)]
+
+
+class _Error(ctypes.Structure):
+    _fields_ = [("status", ctypes.c_uint32), ("kind", ctypes.c_uint32), ("member", ctypes.c_uint32),
+                ("reserved", ctypes.c_uint32), ("operation", ctypes.c_uint64), ("position", ctypes.c_uint64),
+                ("slash", ctypes.c_uint64), ("offset", ctypes.c_uint64), ("length", ctypes.c_uint64)]
+
+
+_lib = _library()
+_TEXT = [ctypes.c_char_p, ctypes.c_size_t]
+_SIZE = ctypes.POINTER(ctypes.c_size_t)
+_OUT = [ctypes.c_void_p, ctypes.c_size_t, _SIZE]
+_HANDLE, _ERROR = ctypes.POINTER(_Handle), ctypes.POINTER(_Error)
+for _name, _arguments in {
+    "error_message": [_ERROR, *_OUT],
+    "pointer_count": [*_TEXT, _SIZE, _ERROR],
+    "pointer_token": [*_TEXT, ctypes.c_size_t, *_OUT, _ERROR],
+    "pointer_escape": [*_TEXT, *_OUT, _ERROR],
+    "document_parse": [_HANDLE, *_TEXT, _ERROR],
+    "document_get": [_HANDLE, *_TEXT, ctypes.c_uint32, *_OUT, _ERROR],
+    "document_assign": [_HANDLE, *_TEXT, *_TEXT, _ERROR],
+    "document_delete": [_HANDLE, *_TEXT, ctypes.POINTER(ctypes.c_bool), _ERROR],
+    "document_patch": [_HANDLE, *_TEXT, _ERROR],
+    "document_diff": [_HANDLE, _HANDLE, ctypes.c_uint32, *_OUT, _ERROR],
+    "resolve_in_text": [*_TEXT, *_TEXT, ctypes.c_uint32, *_OUT, _ERROR],
+}.items():
+    _function = getattr(_lib, "jsonptr_" + _name)
+    _function.argtypes, _function.restype = _arguments, ctypes.c_uint32
+_lib.jsonptr_document_free.argtypes, _lib.jsonptr_document_free.restype = [_HANDLE], None
+_lib.jsonptr_version.restype = ctypes.c_char_p
+_get, _in_text = _lib.jsonptr_document_get, _lib.jsonptr_resolve_in_text
+_string_at = ctypes.string_at
+_scan = json.JSONDecoder().scan_once  # reads a text that begins with its value, as those of the library do
+
+
+class JsonPointerError(ValueError):
+    """An error of the library. Its message is that of the library for Rattle.
+
+    `status` and `kind` are the numbers of jsonptr.h. `position` is that of the token at fault, from 0, and `slash` the
+    offset of the slash before it. `offset` and `length` are the bytes at fault. `operation` and `member` are those of a
+    patch, or None.
+    """
+
+    def __init__(self, error):
+        super().__init__(_message(error))
+        self.status, self.kind = error.status, error.kind
+        self.position, self.slash, self.offset, self.length = error.position, error.slash, error.offset, error.length
+        of_patch = error.status in (NOT_PATCH, PATCH_FAILED)
+        self.operation = error.operation if of_patch else None
+        self.member = MEMBERS[error.member]
+
+
+class NotFound(JsonPointerError, LookupError):
+    """The pointer does not resolve to a value."""
+
+
+class JsonPatchError(JsonPointerError):
+    """A document is not a patch, or an operation of it fails."""
+
+
+_CLASSES = {NOT_FOUND: NotFound, NOT_PATCH: JsonPatchError, PATCH_FAILED: JsonPatchError}
+
+
+def _check(status, error):
+    """Raises the exception of a status that is not OK."""
+    if status == NO_MEMORY:
+        raise MemoryError
+    if status:
+        raise _CLASSES.get(status, JsonPointerError)(error)
+
+
+class _Buffer:
+    """A buffer for results, which grows."""
+
+    def __init__(self, size=512):
+        self.length = ctypes.c_size_t()
+        self.at_length = ctypes.byref(self.length)
+        self.error = _Error()
+        self.at_error = ctypes.byref(self.error)
+        self.grow(size)
+
+    def grow(self, size):
+        self.size = size
+        self.bytes = ctypes.create_string_buffer(size)
+        self.address = ctypes.addressof(self.bytes)
+
+    def fill(self, call, *arguments):
+        """Calls a function that copies a result to the buffer, and returns the result."""
+        status = call(*arguments, self.address, self.size, self.at_length, self.at_error)
+        if status:
+            if status == NO_ROOM:
+                self.grow(max(self.length.value, 2 * self.size))
+                status = call(*arguments, self.address, self.size, self.at_length, self.at_error)
+            if status:
+                _check(status, self.error)
+        return _string_at(self.address, self.length.value)
+
+
+def _message(error):
+    """Returns the message of an error."""
+    length, out = ctypes.c_size_t(), ctypes.create_string_buffer(1024)
+    _lib.jsonptr_error_message(ctypes.byref(error), out, 1024, ctypes.byref(length))
+    return out.raw[:length.value].decode()
+
+
+def _bytes(text):
+    """Returns the UTF-8 of a string, and bytes as they are."""
+    return text.encode() if isinstance(text, str) else text
+
+
+def _json(value):
+    """Returns the JSON text of a value."""
+    return json.dumps(value, separators=(",", ":"), ensure_ascii=False).encode()
+
+
+def version():
+    """Returns the version of the library."""
+    return _lib.jsonptr_version().decode()
+
+
+def tokens(pointer):
+    """Returns the decoded tokens of a pointer."""
+    text, count, buffer = _bytes(pointer), ctypes.c_size_t(), _Buffer(64)
+    _check(_lib.jsonptr_pointer_count(text, len(text), ctypes.byref(count), buffer.at_error), buffer.error)
+    call = _lib.jsonptr_pointer_token
+    return [buffer.fill(call, text, len(text), position).decode() for position in range(count.value)]
+
+
+def escape(token):
+    """Returns a token as it is written in a pointer."""
+    text = _bytes(token)
+    return _Buffer(len(text) + 16).fill(_lib.jsonptr_pointer_escape, text, len(text)).decode()
+
+
+def resolve(document, pointer):
+    """Returns the value that the pointer resolves to in a `Document` or in a Python value.
+
+    A Python value crosses to the library as JSON text, whole. To resolve more than once, make a `Document`.
+    """
+    if isinstance(document, Document):
+        return document.resolve(pointer)
+    return json.loads(resolve_in_text(_json(document), pointer))
+
+
+def resolve_in_text(text, pointer):
+    """Returns the JSON text of the value that the pointer resolves to in a JSON text, as bytes."""
+    text, pointer = _bytes(text), _bytes(pointer)
+    return _Buffer().fill(_in_text, text, len(text), pointer, len(pointer), 0)
+
+
+class Document:
+    """A JSON document in the memory of the library.
+
+    It is made of JSON text, as `str` or `bytes`, and `Document.of` makes it of a Python value.
+    """
+
+    def __init__(self, text):
+        self._lock = threading.Lock()
+        self._handle = _Handle()
+        self._at = ctypes.byref(self._handle)
+        self._buffer = _Buffer()
+        text = _bytes(text)
+        self._call(_lib.jsonptr_document_parse, text, len(text))
+
+    @classmethod
+    def of(cls, value):
+        """Returns the document of a Python value."""
+        return cls(_json(value))
+
+    def _call(self, call, *arguments):
+        """Calls a function on the document that returns no text."""
+        with self._lock:
+            status = call(self._at, *arguments, self._buffer.at_error)
+            if status:
+                _check(status, self._buffer.error)
+
+    def get(self, pointer):
+        """Returns the JSON text of the value that the pointer resolves to, as bytes."""
+        if pointer.__class__ is str:
+            pointer = pointer.encode()
+        with self._lock:
+            return self._buffer.fill(_get, self._at, pointer, len(pointer), 0)
+
+    def resolve(self, pointer):
+        """Returns the value that the pointer resolves to, as a Python value."""
+        return _scan(self.get(pointer).decode(), 0)[0]
+
+    def assign(self, pointer, value):
+        """Assigns a Python value at the pointer, and creates what is missing on the way."""
+        pointer, text = _bytes(pointer), _json(value)
+        self._call(_lib.jsonptr_document_assign, pointer, len(pointer), text, len(text))
+
+    def delete(self, pointer):
+        """Deletes the value that the pointer resolves to, and returns whether there was one."""
+        pointer, found = _bytes(pointer), ctypes.c_bool()
+        self._call(_lib.jsonptr_document_delete, pointer, len(pointer), ctypes.byref(found))
+        return found.value
+
+    def apply(self, patch):
+        """Applies a patch, all of it or nothing: a `Patch`, JSON text, or a list of operations."""
+        text = patch.text if isinstance(patch, Patch) else Patch(patch).text
+        self._call(_lib.jsonptr_document_patch, text, len(text))
+
+    def text(self, pretty=False):
+        """Returns the JSON text of the document."""
+        with self._lock:
+            return self._buffer.fill(_get, self._at, b"", 0, PRETTY if pretty else 0).decode()
+
+    def value(self):
+        """Returns the document as a Python value."""
+        return self.resolve("")
+
+    def __repr__(self):
+        return f"Document({self.text()!r})"
+
+    def __eq__(self, other):
+        return self.text() == other.text() if isinstance(other, Document) else NotImplemented
+
+    __hash__ = None
+
+    def __del__(self, _free=_lib.jsonptr_document_free):
+        if hasattr(self, "_at"):
+            _free(self._at)
+
+
+class Patch:
+    """A JSON Patch: a list of operations, or the JSON text of one."""
+
+    def __init__(self, operations):
+        self.text = _bytes(operations) if isinstance(operations, (str, bytes)) else _json(operations)
+
+    @property
+    def operations(self):
+        """The operations, as Python values."""
+        return json.loads(self.text)
+
+    def apply(self, value):
+        """Returns a Python value after the operations. The value itself is unchanged."""
+        document = Document.of(value)
+        document.apply(self)
+        return document.value()
+
+    def __repr__(self):
+        return f"Patch({self.text.decode()!r})"
+
+
+def make_patch(old, new):
+    """Returns a patch that turns one value into another. Each is a `Document` or a Python value."""
+    old = old if isinstance(old, Document) else Document.of(old)
+    new = new if isinstance(new, Document) else Document.of(new)
+    if old is new:
+        return Patch([])
+    first, second = sorted((old, new), key=id)  # two threads take the two locks in one order
+    with first._lock, second._lock:
+        return Patch(_Buffer().fill(_lib.jsonptr_document_diff, old._at, new._at, 0))

@@ -1,0 +1,88 @@
+/* Arguments that no call accepts: NULL with a length, NULL handles, lengths that no object has, one document twice. Each
+ * is reported, and nothing crashes. NULL with length 0 is the empty text, and NULL for what is not wanted is accepted. */
+#include "tests.h"
+
+#define BAD JSONPTR_BAD_ARGUMENT
+
+/* Checks that a call returns a status. */
+#define EXPECT(call, wanted) expect_number("status", #call, (call), (wanted))
+
+static void check_bad(void) {
+    jsonptr_document document = parsed("[7]");
+    jsonptr_error error;
+    jsonptr_node node;
+    char out[8];
+    size_t length = 1, huge = SIZE_MAX;
+    EXPECT(jsonptr_pointer_count(NULL, 1, &length, &error), BAD);
+    expect_number("status of the error", "NULL", error.status, BAD);
+    expect_number("kind of the error", "NULL", error.kind, 0);
+    expect_message("NULL", &error, "an argument is NULL or too long, or one document is passed twice");
+    EXPECT(jsonptr_pointer_count("", huge, &length, NULL), BAD);
+    EXPECT(jsonptr_pointer_token(NULL, 1, 0, out, 8, &length, NULL), BAD);
+    EXPECT(jsonptr_pointer_token("/a", 2, 0, NULL, 8, &length, NULL), BAD);
+    EXPECT(jsonptr_pointer_token("/a", 2, 0, out, huge, &length, NULL), BAD);
+    EXPECT(jsonptr_pointer_escape(NULL, 1, out, 8, &length, NULL), BAD);
+    EXPECT(jsonptr_pointer_escape("a", 1, NULL, 8, &length, NULL), BAD);
+    EXPECT(jsonptr_pointer_push(NULL, 8, &length, "a", 1, NULL), BAD);
+    EXPECT(jsonptr_pointer_push(out, 8, NULL, "a", 1, NULL), BAD);
+    EXPECT(jsonptr_pointer_push(out, 8, &length, NULL, 1, NULL), BAD);
+    EXPECT(jsonptr_pointer_pop(NULL, &length, NULL), BAD);
+    EXPECT(jsonptr_pointer_pop("", NULL, NULL), BAD);
+    EXPECT(jsonptr_document_parse(NULL, "1", 1, NULL), BAD);
+    EXPECT(jsonptr_document_parse(&document, NULL, 1, NULL), BAD);
+    EXPECT(jsonptr_document_parse(&document, "1", huge, NULL), BAD);
+    EXPECT(jsonptr_document_print(NULL, 0, out, 8, &length, NULL), BAD);
+    EXPECT(jsonptr_document_print(&document, 0, NULL, 8, &length, NULL), BAD);
+    EXPECT(jsonptr_document_get(NULL, "", 0, 0, out, 8, &length, NULL), BAD);
+    EXPECT(jsonptr_document_get(&document, NULL, 1, 0, out, 8, &length, NULL), BAD);
+    EXPECT(jsonptr_document_string(NULL, "", 0, out, 8, &length, NULL), BAD);
+    EXPECT(jsonptr_document_string(&document, NULL, 1, out, 8, &length, NULL), BAD);
+    EXPECT(jsonptr_document_string(&document, "", 0, NULL, 8, &length, NULL), BAD);
+    EXPECT(jsonptr_document_node(NULL, "", 0, &node, NULL), BAD);
+    EXPECT(jsonptr_document_node(&document, "", 0, NULL, NULL), BAD);
+    EXPECT(jsonptr_document_node(&document, NULL, 1, &node, NULL), BAD);
+    EXPECT(jsonptr_document_assign(NULL, "", 0, "1", 1, NULL), BAD);
+    EXPECT(jsonptr_document_assign(&document, NULL, 1, "1", 1, NULL), BAD);
+    EXPECT(jsonptr_document_assign(&document, "", 0, NULL, 1, NULL), BAD);
+    EXPECT(jsonptr_document_delete(NULL, "", 0, NULL, NULL), BAD);
+    EXPECT(jsonptr_document_delete(&document, NULL, 1, NULL, NULL), BAD);
+    EXPECT(jsonptr_document_patch(NULL, "[]", 2, NULL), BAD);
+    EXPECT(jsonptr_document_patch(&document, NULL, 2, NULL), BAD);
+    EXPECT(jsonptr_document_diff(&document, &document, 0, out, 8, &length, NULL), BAD);
+    EXPECT(jsonptr_document_diff(&document, NULL, 0, out, 8, &length, NULL), BAD);
+    EXPECT(jsonptr_document_diff(NULL, &document, 0, out, 8, &length, NULL), BAD);
+    EXPECT(jsonptr_resolve_in_text(NULL, 1, "", 0, 0, out, 8, &length, NULL), BAD);
+    EXPECT(jsonptr_resolve_in_text("1", 1, NULL, 1, 0, out, 8, &length, NULL), BAD);
+    EXPECT(jsonptr_resolve_in_text("1", 1, "", 0, 0, NULL, 8, &length, NULL), BAD);
+    EXPECT(jsonptr_error_message(NULL, out, 8, &length), BAD);
+    EXPECT(jsonptr_error_message(&error, NULL, 8, &length), BAD);
+    jsonptr_document_free(NULL);
+    expect_document("after bad arguments", &document, "[7]");
+    jsonptr_document_free(&document);
+}
+
+static void check_empty(void) {
+    jsonptr_document document = parsed("[7]");
+    size_t length = 9;
+    EXPECT(jsonptr_pointer_count(NULL, 0, &length, NULL), JSONPTR_OK);
+    expect_number("tokens", "NULL", length, 0);
+    EXPECT(jsonptr_pointer_count("/a", 2, NULL, NULL), JSONPTR_OK);
+    EXPECT(jsonptr_document_parse(&document, NULL, 0, NULL), JSONPTR_NOT_JSON);
+    EXPECT(jsonptr_document_get(&document, NULL, 0, 0, NULL, 0, &length, NULL), JSONPTR_NO_ROOM);
+    expect_number("length", "the root", length, 3);
+    EXPECT(jsonptr_document_get(&document, "/0", 2, 0, NULL, 0, NULL, NULL), JSONPTR_NO_ROOM);
+    EXPECT(jsonptr_document_delete(&document, "/0", 2, NULL, NULL), JSONPTR_OK);
+    EXPECT(jsonptr_document_assign(&document, NULL, 0, "{}", 2, NULL), JSONPTR_OK);
+    expect_document("NULL as the root", &document, "{}");
+    EXPECT(jsonptr_resolve_in_text(NULL, 0, NULL, 0, 0, NULL, 0, NULL, NULL), JSONPTR_NOT_JSON);
+    length = 0;
+    EXPECT(jsonptr_pointer_push(NULL, 0, &length, NULL, 0, NULL), JSONPTR_NO_ROOM);
+    EXPECT(jsonptr_pointer_pop(NULL, &length, NULL), JSONPTR_NO_TOKEN);
+    jsonptr_document_free(&document);
+}
+
+int main(void) {
+    check_bad();
+    check_empty();
+    return report("arguments");
+}

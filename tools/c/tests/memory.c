@@ -1,0 +1,138 @@
+/* Each request for memory fails in turn. A call whose request fails returns JSONPTR_NO_MEMORY, and the document prints as
+ * before. After each round no block is left. The linker calls these functions in place of malloc, realloc and free. */
+#include "tests.h"
+
+void *__real_malloc(size_t size);
+void *__real_realloc(void *block, size_t size);
+void __real_free(void *block);
+
+/* The requests until the one that fails, or -1. */
+static long left = -1;
+static long blocks;
+
+static bool fails(void) {
+    return left >= 0 && left-- == 0;
+}
+
+void *__wrap_malloc(size_t size) {
+    void *block = fails() ? NULL : __real_malloc(size);
+    blocks += block != NULL;
+    return block;
+}
+
+void *__wrap_realloc(void *block, size_t size) {
+    void *moved = fails() ? NULL : __real_realloc(block, size);
+    blocks += block == NULL && moved != NULL;
+    return moved;
+}
+
+void __wrap_free(void *block) {
+    blocks -= block != NULL;
+    __real_free(block);
+}
+
+#define DOCUMENT "{\"a/b\":[1,{\"c\":null}],\"long key that is stored\":[[],{},\"a string that is stored\",15]}"
+#define OTHER "{\"a/b\":[2,{\"d\":\"another string\"}],\"x\":[0]}"
+#define PATCH "[{\"op\":\"copy\",\"from\":\"/a~1b\",\"path\":\"/copy\"},{\"op\":\"add\",\"path\":\"/a~1b/-\",\"value\":\"new\"}," \
+              "{\"op\":\"move\",\"from\":\"/copy/0\",\"path\":\"/m~0n\"},{\"op\":\"remove\",\"path\":\"/long key that is stored/2\"}]"
+
+typedef struct state {
+    jsonptr_document document, other;
+    char out[512];
+} state;
+
+static jsonptr_status parse(state *s) {
+    return jsonptr_document_parse(&s->document, TEXT(DOCUMENT), NULL);
+}
+
+static jsonptr_status print(state *s) {
+    return jsonptr_document_print(&s->document, JSONPTR_PRETTY, s->out, sizeof s->out, NULL, NULL);
+}
+
+static jsonptr_status get(state *s) {
+    return jsonptr_document_get(&s->document, TEXT("/a~1b/1"), 0, s->out, sizeof s->out, NULL, NULL);
+}
+
+static jsonptr_status string(state *s) {
+    return jsonptr_document_string(&s->document, TEXT("/long key that is stored/2"), s->out, sizeof s->out, NULL, NULL);
+}
+
+static jsonptr_status node(state *s) {
+    jsonptr_node found;
+    return jsonptr_document_node(&s->document, TEXT("/a~1b/1"), &found, NULL);
+}
+
+static jsonptr_status assign(state *s) {
+    return jsonptr_document_assign(&s->document, TEXT("/new~1member/-/of/0"), TEXT("[\"a value\", {}]"), NULL);
+}
+
+static jsonptr_status delete(state *s) {
+    return jsonptr_document_delete(&s->document, TEXT("/a~1b/0"), NULL, NULL);
+}
+
+static jsonptr_status patch(state *s) {
+    return jsonptr_document_patch(&s->document, TEXT(PATCH), NULL);
+}
+
+static jsonptr_status diff(state *s) {
+    return jsonptr_document_diff(&s->document, &s->other, 0, s->out, sizeof s->out, NULL, NULL);
+}
+
+static jsonptr_status in_text(state *s) {
+    return jsonptr_resolve_in_text(TEXT(DOCUMENT), TEXT("/long key that is stored/2"), 0, s->out, sizeof s->out, NULL, NULL);
+}
+
+static jsonptr_status token(state *s) {
+    return jsonptr_pointer_token(TEXT("/a~1b"), 0, s->out, sizeof s->out, NULL, NULL);
+}
+
+static jsonptr_status escape(state *s) {
+    return jsonptr_pointer_escape(TEXT("a/b"), s->out, sizeof s->out, NULL, NULL);
+}
+
+static jsonptr_status push(state *s) {
+    size_t length = 0;
+    return jsonptr_pointer_push(s->out, sizeof s->out, &length, TEXT("a/b"), NULL);
+}
+
+static jsonptr_status message(state *s) {
+    jsonptr_error error = { .status = JSONPTR_NOT_FOUND, .kind = JSONPTR_KIND_NO_MEMBER };
+    return jsonptr_error_message(&error, s->out, sizeof s->out, NULL);
+}
+
+static const struct {
+    const char *name;
+    jsonptr_status (*call)(state *);
+} calls[] = {
+    { "parse", parse }, { "print", print }, { "get", get }, { "string", string }, { "node", node }, { "assign", assign },
+    { "delete", delete }, { "patch", patch }, { "diff", diff }, { "in_text", in_text }, { "token", token },
+    { "escape", escape }, { "push", push }, { "message", message },
+};
+
+int main(void) {
+    long total = 0;
+    for (size_t i = 0; i < sizeof calls / sizeof *calls; i++) {
+        jsonptr_status status = JSONPTR_NO_MEMORY;
+        for (long round = 0; status == JSONPTR_NO_MEMORY; round++) {
+            state s = { .document = parsed(DOCUMENT), .other = parsed(OTHER) };
+            left = round;
+            status = calls[i].call(&s);
+            left = -1;
+            if (status == JSONPTR_NO_MEMORY) {
+                expect_document(calls[i].name, &s.document, DOCUMENT);
+                expect_document(calls[i].name, &s.other, OTHER);
+                total++;
+            } else {
+                expect_number("status", calls[i].name, status, JSONPTR_OK);
+            }
+            jsonptr_document_free(&s.document);
+            jsonptr_document_free(&s.other);
+            expect_number("blocks left", calls[i].name, (unsigned long long)blocks, 0);
+        }
+    }
+    if (total < 100) {
+        printf("only %ld requests failed\n", total);
+        failures++;
+    }
+    return report("memory");
+}

@@ -1,0 +1,477 @@
+/* Tables of calls and results. The values are from RFC 6901, RFC 6902 and the documentation of the Rust crate. */
+#include "tests.h"
+
+#define COUNT(table) (sizeof(table) / sizeof *(table))
+
+/* The document of RFC 6901, section 5, and what its pointers evaluate to. */
+static const char *rfc_document = "{\"foo\": [\"bar\", \"baz\"], \"\": 0, \"a/b\": 1, \"c%d\": 2, \"e^f\": 3, \"g|h\": 4,"
+                                  " \"i\\\\j\": 5, \"k\\\"l\": 6, \" \": 7, \"m~n\": 8}";
+
+static const struct {
+    const char *pointer, *value;
+} rfc_pointers[] = {
+    { "/foo", "[\"bar\",\"baz\"]" }, { "/foo/0", "\"bar\"" }, { "/", "0" }, { "/a~1b", "1" }, { "/c%d", "2" },
+    { "/e^f", "3" }, { "/g|h", "4" }, { "/i\\j", "5" }, { "/k\"l", "6" }, { "/ ", "7" }, { "/m~0n", "8" },
+};
+
+static void check_rfc_pointers(void) {
+    jsonptr_document document = parsed(rfc_document);
+    for (size_t i = 0; i < COUNT(rfc_pointers); i++) {
+        const char *pointer = rfc_pointers[i].pointer;
+        char out[64];
+        size_t length = 0;
+        jsonptr_error error;
+        expect_number("status", pointer,
+                      jsonptr_document_get(&document, TEXT(pointer), 0, out, sizeof out, &length, &error), JSONPTR_OK);
+        expect_text("value", pointer, out, length, rfc_pointers[i].value);
+        expect_number("status of the error", pointer, error.status, JSONPTR_OK);
+        length = 0;
+        expect_number("status in text", pointer,
+                      jsonptr_resolve_in_text(TEXT(rfc_document), TEXT(pointer), 0, out, sizeof out, &length, &error),
+                      JSONPTR_OK);
+        expect_text("value in text", pointer, out, length, rfc_pointers[i].value);
+    }
+    jsonptr_document_free(&document);
+}
+
+/* Texts as pointers: the status, and the number of tokens or the error. */
+static const struct {
+    const char *text;
+    jsonptr_status status;
+    size_t count;
+    uint32_t kind;
+    uint64_t position, slash, offset, length;
+    const char *message;
+} pointers[] = {
+    { "", JSONPTR_OK, 0, 0, 0, 0, 0, 0, "no error" },
+    { "/", JSONPTR_OK, 1, 0, 0, 0, 0, 0, "no error" },
+    { "/a~1b/~0/0", JSONPTR_OK, 3, 0, 0, 0, 0, 0, "no error" },
+    { "a", JSONPTR_NOT_POINTER, 0, JSONPTR_KIND_NO_LEADING_SLASH, 0, 0, 0, 0,
+      "json pointer failed to parse; does not start with a slash ('/') and is not empty" },
+    { "/a/b~2c", JSONPTR_NOT_POINTER, 0, JSONPTR_KIND_BAD_ESCAPE, 1, 2, 4, 2,
+      "json pointer failed to parse; the first token in the partial-pointer starting at offset 2 is malformed" },
+    { "/a/b/~", JSONPTR_NOT_POINTER, 0, JSONPTR_KIND_BAD_ESCAPE, 2, 4, 5, 1,
+      "json pointer failed to parse; the first token in the partial-pointer starting at offset 4 is malformed" },
+    { "/caf\xe9", JSONPTR_NOT_UTF8, 0, 0, 0, 0, 4, 0, "text is not UTF-8" },
+};
+
+static void check_pointers(void) {
+    for (size_t i = 0; i < COUNT(pointers); i++) {
+        const char *text = pointers[i].text;
+        size_t count = 0;
+        jsonptr_error error;
+        expect_number("status", text, jsonptr_pointer_count(TEXT(text), &count, &error), pointers[i].status);
+        expect_number("tokens", text, count, pointers[i].count);
+        expect_number("status of the error", text, error.status, pointers[i].status);
+        expect_number("kind", text, error.kind, pointers[i].kind);
+        expect_number("position", text, error.position, pointers[i].position);
+        expect_number("slash", text, error.slash, pointers[i].slash);
+        expect_number("offset", text, error.offset, pointers[i].offset);
+        expect_number("length", text, error.length, pointers[i].length);
+        expect_message(text, &error, pointers[i].message);
+    }
+}
+
+/* Tokens, escaped and by position. */
+static const struct {
+    const char *token, *escaped;
+} tokens[] = { { "", "" }, { "a", "a" }, { "a/b", "a~1b" }, { "m~n", "m~0n" }, { "~1", "~01" }, { "\xc3\xa9", "\xc3\xa9" } };
+
+static void check_tokens(void) {
+    char path[64], out[64];
+    size_t path_length = 0, length = 0;
+    jsonptr_error error;
+    for (size_t i = 0; i < COUNT(tokens); i++) {
+        const char *token = tokens[i].token;
+        expect_number("status of the escape", token, jsonptr_pointer_escape(TEXT(token), out, sizeof out, &length, &error),
+                      JSONPTR_OK);
+        expect_text("escape", token, out, length, tokens[i].escaped);
+        expect_number("status of the push", token,
+                      jsonptr_pointer_push(path, sizeof path, &path_length, TEXT(token), &error), JSONPTR_OK);
+    }
+    expect_text("path", "the tokens", path, path_length, "//a/a~1b/m~0n/~01/\xc3\xa9");
+    for (size_t i = 0; i < COUNT(tokens); i++) {
+        expect_number("status of the token", tokens[i].token,
+                      jsonptr_pointer_token(path, path_length, i, out, sizeof out, &length, &error), JSONPTR_OK);
+        expect_text("token", tokens[i].token, out, length, tokens[i].token);
+    }
+    expect_number("status past the end", "the tokens",
+                  jsonptr_pointer_token(path, path_length, COUNT(tokens), out, sizeof out, &length, &error),
+                  JSONPTR_NO_TOKEN);
+    expect_message("past the end", &error, "the pointer has no such token");
+    expect_number("status of a short buffer", "a~1b",
+                  jsonptr_pointer_token(path, path_length, 2, out, 2, &length, &error), JSONPTR_NO_ROOM);
+    expect_number("length of a short buffer", "a~1b", length, 3);
+    expect_number("status of a full buffer", "x", jsonptr_pointer_push(path, path_length, &path_length, "x", 1, &error),
+                  JSONPTR_NO_ROOM);
+    expect_number("length that is needed", "x", error.length, path_length + 2);
+    for (size_t i = COUNT(tokens); i > 0; i--) {
+        expect_number("status of the pop", tokens[i - 1].token, jsonptr_pointer_pop(path, &path_length, &error),
+                      JSONPTR_OK);
+    }
+    expect_number("length", "the root", path_length, 0);
+    expect_number("status of the pop", "the root", jsonptr_pointer_pop(path, &path_length, &error), JSONPTR_NO_TOKEN);
+}
+
+/* Pointers that do not resolve. */
+static const struct {
+    const char *document, *pointer;
+    uint32_t kind;
+    uint64_t position, slash, offset, length;
+    const char *message;
+} unresolved[] = {
+    { "{\"sizes\": [3, 5]}", "/sizes/2/unit", JSONPTR_KIND_OUT_OF_BOUNDS, 1, 6, 7, 1,
+      "resolve failed: json pointer token at offset 6 is out of bounds" },
+    { "{\"sizes\": [3, 5]}", "/sizes/-", JSONPTR_KIND_OUT_OF_BOUNDS, 1, 6, 7, 1,
+      "resolve failed: json pointer token at offset 6 is out of bounds" },
+    { "[3, 5]", "/01", JSONPTR_KIND_NOT_AN_INDEX, 0, 0, 1, 2,
+      "resolve failed: json pointer token at offset 0 failed to parse as an index" },
+    { "{\"a\": 1}", "/width", JSONPTR_KIND_NO_MEMBER, 0, 0, 1, 5,
+      "resolve failed: json pointer token at 0 was not found in value" },
+    { "{\"a\": null}", "/a/b/c", JSONPTR_KIND_NO_CHILDREN, 1, 2, 3, 1,
+      "resolve failed: json pointer token at 2 is unreachable (previous token resolved to a scalar or null value)" },
+};
+
+/* Checks the fields of an error. */
+static void expect_error(const char *about, const jsonptr_error *error, jsonptr_status status, size_t i) {
+    expect_number("status", about, error->status, status);
+    expect_number("kind", about, error->kind, unresolved[i].kind);
+    expect_number("position", about, error->position, unresolved[i].position);
+    expect_number("slash", about, error->slash, unresolved[i].slash);
+    expect_number("offset", about, error->offset, unresolved[i].offset);
+    expect_number("length", about, error->length, unresolved[i].length);
+    expect_message(about, error, unresolved[i].message);
+}
+
+static void check_unresolved(void) {
+    for (size_t i = 0; i < COUNT(unresolved); i++) {
+        const char *pointer = unresolved[i].pointer;
+        jsonptr_document document = parsed(unresolved[i].document);
+        char out[64];
+        size_t length = 77;
+        jsonptr_error error;
+        jsonptr_node node;
+        jsonptr_document_get(&document, TEXT(pointer), 0, out, sizeof out, &length, &error);
+        expect_error(pointer, &error, JSONPTR_NOT_FOUND, i);
+        expect_number("length after an error", pointer, length, 77);
+        jsonptr_document_node(&document, TEXT(pointer), &node, &error);
+        expect_error(pointer, &error, JSONPTR_NOT_FOUND, i);
+        jsonptr_resolve_in_text(TEXT(unresolved[i].document), TEXT(pointer), 0, out, sizeof out, &length, &error);
+        expect_error(pointer, &error, JSONPTR_NOT_FOUND, i);
+        jsonptr_document_free(&document);
+    }
+}
+
+/* Texts that are not JSON, and where reading stops. */
+static const struct {
+    const char *text;
+    jsonptr_status status;
+    uint64_t offset;
+} unread[] = {
+    { "", JSONPTR_NOT_JSON, 0 }, { "[1,", JSONPTR_NOT_JSON, 3 }, { "{\n \"a\": x}", JSONPTR_NOT_JSON, 8 },
+    { "1 2", JSONPTR_NOT_JSON, 2 }, { "\"\xff\"", JSONPTR_NOT_UTF8, 1 },
+};
+
+static void check_unread(void) {
+    for (size_t i = 0; i < COUNT(unread); i++) {
+        const char *text = unread[i].text;
+        jsonptr_document document = parsed("[7]");
+        char out[8];
+        size_t length = 0;
+        jsonptr_error error;
+        expect_number("status", text, jsonptr_document_parse(&document, TEXT(text), &error), unread[i].status);
+        expect_number("offset", text, error.offset, unread[i].offset);
+        expect_message(text, &error, unread[i].status == JSONPTR_NOT_JSON ? "text is not JSON" : "text is not UTF-8");
+        expect_document(text, &document, "[7]");
+        expect_number("status of assigning", text,
+                      jsonptr_document_assign(&document, "/0", 2, TEXT(text), &error), unread[i].status);
+        expect_number("status of patching", text, jsonptr_document_patch(&document, TEXT(text), &error),
+                      unread[i].status);
+        expect_number("status in text", text,
+                      jsonptr_resolve_in_text(TEXT(text), "", 0, 0, out, sizeof out, &length, &error), unread[i].status);
+        expect_number("offset in text", text, error.offset, unread[i].offset);
+        expect_document(text, &document, "[7]");
+        jsonptr_document_free(&document);
+    }
+}
+
+/* Nodes. */
+static const char *nodes_document = "{\"n\": null, \"t\": true, \"f\": false, \"i\": -7, \"u\": 18446744073709551615,"
+                                    " \"d\": 2.5, \"s\": \"gr\\u00fc\\n\", \"a\": [1, 2, 3], \"o\": {\"x\": 1}}";
+
+static const struct {
+    const char *pointer;
+    jsonptr_node node;
+} nodes[] = {
+    { "/n", { .kind = JSONPTR_NULL } },
+    { "/t", { .kind = JSONPTR_BOOLEAN, .is_true = true } },
+    { "/f", { .kind = JSONPTR_BOOLEAN } },
+    { "/i", { .kind = JSONPTR_NUMBER, .has_integer = true, .integer = -7, .number = -7 } },
+    { "/u", { .kind = JSONPTR_NUMBER, .has_natural = true, .natural = UINT64_MAX, .number = 18446744073709551616.0 } },
+    { "/d", { .kind = JSONPTR_NUMBER, .number = 2.5 } },
+    { "/a/2", { .kind = JSONPTR_NUMBER, .has_integer = true, .has_natural = true, .integer = 3, .natural = 3, .number = 3 } },
+    { "/s", { .kind = JSONPTR_STRING, .length = 5 } },
+    { "/a", { .kind = JSONPTR_ARRAY, .length = 3 } },
+    { "/o", { .kind = JSONPTR_OBJECT, .length = 1 } },
+    { "", { .kind = JSONPTR_OBJECT, .length = 9 } },
+};
+
+static void check_nodes(void) {
+    jsonptr_document document = parsed(nodes_document);
+    for (size_t i = 0; i < COUNT(nodes); i++) {
+        const char *pointer = nodes[i].pointer;
+        const jsonptr_node *wanted = &nodes[i].node;
+        jsonptr_node node;
+        jsonptr_error error;
+        expect_number("status", pointer, jsonptr_document_node(&document, TEXT(pointer), &node, &error), JSONPTR_OK);
+        expect_number("kind", pointer, node.kind, wanted->kind);
+        expect_number("is_true", pointer, node.is_true, wanted->is_true);
+        expect_number("has_integer", pointer, node.has_integer, wanted->has_integer);
+        expect_number("has_natural", pointer, node.has_natural, wanted->has_natural);
+        expect_number("integer", pointer, (unsigned long long)node.integer, (unsigned long long)wanted->integer);
+        expect_number("natural", pointer, node.natural, wanted->natural);
+        expect_number("number", pointer, node.number == wanted->number, 1);
+        expect_number("length", pointer, node.length, wanted->length);
+    }
+    char out[8];
+    size_t length = 0;
+    jsonptr_error error;
+    expect_number("status of the string", "/s",
+                  jsonptr_document_string(&document, "/s", 2, out, sizeof out, &length, &error), JSONPTR_OK);
+    expect_text("string", "/s", out, length, "gr\xc3\xbc\n");
+    expect_number("status of the string", "/a",
+                  jsonptr_document_string(&document, "/a", 2, out, sizeof out, &length, &error), JSONPTR_OTHER_KIND);
+    expect_message("/a", &error, "the value is of another kind");
+    jsonptr_document_free(&document);
+}
+
+/* Assignments. */
+static const struct {
+    const char *document, *pointer, *value;
+    jsonptr_status status;
+    const char *after;
+    uint32_t kind;
+    const char *message;
+} assignments[] = {
+    { "{\"width\": 3}", "/width", "4", JSONPTR_OK, "{\"width\":4}", 0, "no error" },
+    { "{\"page\": 7}", "/page/lines/0/text", "\"Hello\"", JSONPTR_OK, "{\"page\":{\"lines\":[{\"text\":\"Hello\"}]}}", 0,
+      "no error" },
+    { "{}", "/marks/-/at", "12", JSONPTR_OK, "{\"marks\":[{\"at\":12}]}", 0, "no error" },
+    { "[3]", "/-", "5", JSONPTR_OK, "[3,5]", 0, "no error" },
+    { "[3]", "/1", "5", JSONPTR_OK, "[3,5]", 0, "no error" },
+    { "[3]", "", "{}", JSONPTR_OK, "{}", 0, "no error" },
+    { "[3]", "/2", "5", JSONPTR_NOT_ASSIGNED, "[3]", JSONPTR_KIND_INDEX_ABOVE_LENGTH,
+      "assign failed: json pointer token at offset 0 is out of bounds" },
+    { "{\"a\":[3]}", "/a/first", "5", JSONPTR_NOT_ASSIGNED, "{\"a\":[3]}", JSONPTR_KIND_NOT_A_NEW_INDEX,
+      "assign failed: json pointer token at offset 2 failed to parse as an array index" },
+    { "[3]", "0", "5", JSONPTR_NOT_POINTER, "[3]", JSONPTR_KIND_NO_LEADING_SLASH,
+      "json pointer failed to parse; does not start with a slash ('/') and is not empty" },
+};
+
+static void check_assignments(void) {
+    for (size_t i = 0; i < COUNT(assignments); i++) {
+        const char *pointer = assignments[i].pointer;
+        jsonptr_document document = parsed(assignments[i].document);
+        jsonptr_error error;
+        expect_number("status", pointer,
+                      jsonptr_document_assign(&document, TEXT(pointer), TEXT(assignments[i].value), &error),
+                      assignments[i].status);
+        expect_number("kind", pointer, error.kind, assignments[i].kind);
+        expect_message(pointer, &error, assignments[i].message);
+        expect_document(pointer, &document, assignments[i].after);
+        jsonptr_document_free(&document);
+    }
+}
+
+/* Deletions. */
+static const struct {
+    const char *document, *pointer, *after;
+    bool found;
+} deletions[] = {
+    { "{\"page\":{\"title\":1,\"lines\":7}}", "/page/lines", "{\"page\":{\"title\":1}}", true },
+    { "[3,5,8]", "/0", "[5,8]", true },
+    { "[5,8]", "/2", "[5,8]", false },
+    { "[5,8]", "/-", "[5,8]", false },
+    { "{\"a\":1}", "/a/b", "{\"a\":1}", false },
+    { "{\"a\":1}", "", "null", true },
+};
+
+static void check_deletions(void) {
+    for (size_t i = 0; i < COUNT(deletions); i++) {
+        const char *pointer = deletions[i].pointer;
+        jsonptr_document document = parsed(deletions[i].document);
+        bool found = !deletions[i].found;
+        expect_number("status", pointer, jsonptr_document_delete(&document, TEXT(pointer), &found, NULL), JSONPTR_OK);
+        expect_number("found", pointer, found, deletions[i].found);
+        expect_document(pointer, &document, deletions[i].after);
+        jsonptr_document_free(&document);
+    }
+}
+
+/* Patches: RFC 6902, appendix A, and what is not a patch. */
+static const struct {
+    const char *document, *patch;
+    jsonptr_status status;
+    const char *after;
+    uint32_t kind, member;
+    uint64_t operation;
+    const char *message;
+} patches[] = {
+    { "{\"foo\":\"bar\"}", "[{\"op\":\"add\",\"path\":\"/baz\",\"value\":\"qux\"}]", JSONPTR_OK,
+      "{\"baz\":\"qux\",\"foo\":\"bar\"}", 0, 0, 0, "no error" },
+    { "{\"foo\":[\"bar\",\"baz\"]}", "[{\"op\":\"add\",\"path\":\"/foo/1\",\"value\":\"qux\"}]", JSONPTR_OK,
+      "{\"foo\":[\"bar\",\"qux\",\"baz\"]}", 0, 0, 0, "no error" },
+    { "{\"baz\":\"qux\",\"foo\":\"bar\"}", "[{\"op\":\"remove\",\"path\":\"/baz\"}]", JSONPTR_OK, "{\"foo\":\"bar\"}", 0, 0,
+      0, "no error" },
+    { "{\"foo\":[\"bar\",\"qux\",\"baz\"]}", "[{\"op\":\"remove\",\"path\":\"/foo/1\"}]", JSONPTR_OK,
+      "{\"foo\":[\"bar\",\"baz\"]}", 0, 0, 0, "no error" },
+    { "{\"baz\":\"qux\",\"foo\":\"bar\"}", "[{\"op\":\"replace\",\"path\":\"/baz\",\"value\":\"boo\"}]", JSONPTR_OK,
+      "{\"baz\":\"boo\",\"foo\":\"bar\"}", 0, 0, 0, "no error" },
+    { "{\"foo\":{\"bar\":\"baz\",\"waldo\":\"fred\"},\"qux\":{\"corge\":\"grault\"}}",
+      "[{\"op\":\"move\",\"from\":\"/foo/waldo\",\"path\":\"/qux/thud\"}]", JSONPTR_OK,
+      "{\"foo\":{\"bar\":\"baz\"},\"qux\":{\"corge\":\"grault\",\"thud\":\"fred\"}}", 0, 0, 0, "no error" },
+    { "{\"foo\":[\"all\",\"grass\",\"cows\",\"eat\"]}", "[{\"op\":\"move\",\"from\":\"/foo/1\",\"path\":\"/foo/3\"}]",
+      JSONPTR_OK, "{\"foo\":[\"all\",\"cows\",\"eat\",\"grass\"]}", 0, 0, 0, "no error" },
+    { "{\"baz\":\"qux\",\"foo\":[\"a\",2,\"c\"]}",
+      "[{\"op\":\"test\",\"path\":\"/baz\",\"value\":\"qux\"},{\"op\":\"test\",\"path\":\"/foo/1\",\"value\":2}]",
+      JSONPTR_OK, "{\"baz\":\"qux\",\"foo\":[\"a\",2,\"c\"]}", 0, 0, 0, "no error" },
+    { "{\"baz\":\"qux\"}", "[{\"op\":\"test\",\"path\":\"/baz\",\"value\":\"bar\"}]", JSONPTR_PATCH_FAILED,
+      "{\"baz\":\"qux\"}", JSONPTR_KIND_TEST_FAILED, 0, 0, "patch failed at operation 0: test failed" },
+    { "{\"foo\":\"bar\"}", "[{\"op\":\"add\",\"path\":\"/child\",\"value\":{\"grandchild\":{}}}]", JSONPTR_OK,
+      "{\"child\":{\"grandchild\":{}},\"foo\":\"bar\"}", 0, 0, 0, "no error" },
+    { "{\"foo\":\"bar\"}", "[{\"op\":\"add\",\"path\":\"/baz\",\"value\":\"qux\",\"xyz\":123}]", JSONPTR_OK,
+      "{\"baz\":\"qux\",\"foo\":\"bar\"}", 0, 0, 0, "no error" },
+    { "{\"foo\":\"bar\"}", "[{\"op\":\"add\",\"path\":\"/baz/bat\",\"value\":\"qux\"}]", JSONPTR_PATCH_FAILED,
+      "{\"foo\":\"bar\"}", JSONPTR_KIND_NO_MEMBER, 0, 0,
+      "patch failed at operation 0: resolve failed: json pointer token at 0 was not found in value" },
+    { "{\"/\":9,\"~1\":10}", "[{\"op\":\"test\",\"path\":\"/~01\",\"value\":10}]", JSONPTR_OK, "{\"/\":9,\"~1\":10}", 0, 0, 0,
+      "no error" },
+    { "{\"foo\":[\"bar\"]}", "[{\"op\":\"add\",\"path\":\"/foo/-\",\"value\":[\"abc\",\"def\"]}]", JSONPTR_OK,
+      "{\"foo\":[\"bar\",[\"abc\",\"def\"]]}", 0, 0, 0, "no error" },
+    { "{\"a\":1}", "[{\"op\":\"add\",\"path\":\"/b\",\"value\":2},{\"op\":\"remove\",\"path\":\"/c\"}]",
+      JSONPTR_PATCH_FAILED, "{\"a\":1}", JSONPTR_KIND_NO_MEMBER, 0, 1,
+      "patch failed at operation 1: resolve failed: json pointer token at 0 was not found in value" },
+    { "[1]", "[{\"op\":\"add\",\"path\":\"/2\",\"value\":2}]", JSONPTR_PATCH_FAILED, "[1]",
+      JSONPTR_KIND_INDEX_ABOVE_LENGTH, 0, 0,
+      "patch failed at operation 0: assign failed: json pointer token at offset 0 is out of bounds" },
+    { "{\"a\":{}}", "[{\"op\":\"move\",\"from\":\"/a\",\"path\":\"/a/b\"}]", JSONPTR_PATCH_FAILED, "{\"a\":{}}",
+      JSONPTR_KIND_MOVE_INTO_SELF, 0, 0, "patch failed at operation 0: from is a proper prefix of path" },
+    { "[1.5]", "[{\"op\":\"test\",\"path\":\"/0\",\"value\":1.5}]", JSONPTR_PATCH_FAILED, "[1.5]", JSONPTR_KIND_TEST_FLOAT, 0,
+      0, "patch failed at operation 0: a float cannot be tested" },
+    { "[1]", "{}", JSONPTR_NOT_PATCH, "[1]", JSONPTR_KIND_NOT_AN_ARRAY, 0, 0, "not a JSON Patch document: not an array" },
+    { "[1]", "[1]", JSONPTR_NOT_PATCH, "[1]", JSONPTR_KIND_NOT_AN_OBJECT, 0, 0,
+      "not a JSON Patch document: operation 0 is not an object" },
+    { "[1]", "[{\"op\":\"remove\",\"path\":\"/0\"},{\"op\":\"copy\",\"path\":\"/b\"}]", JSONPTR_NOT_PATCH, "[1]",
+      JSONPTR_KIND_NO_SUCH_MEMBER, JSONPTR_MEMBER_FROM, 1,
+      "not a JSON Patch document: operation 1 has no member `from`" },
+    { "[1]", "[{\"op\":\"add\",\"path\":\"/0\"}]", JSONPTR_NOT_PATCH, "[1]", JSONPTR_KIND_NO_SUCH_MEMBER,
+      JSONPTR_MEMBER_VALUE, 0, "not a JSON Patch document: operation 0 has no member `value`" },
+    { "[1]", "[{\"op\":1}]", JSONPTR_NOT_PATCH, "[1]", JSONPTR_KIND_NOT_A_STRING, JSONPTR_MEMBER_OP, 0,
+      "not a JSON Patch document: member `op` of operation 0 is not a string" },
+    { "[1]", "[{\"op\":\"spam\",\"path\":\"\"}]", JSONPTR_NOT_PATCH, "[1]", JSONPTR_KIND_UNKNOWN_OP, JSONPTR_MEMBER_OP, 0,
+      "not a JSON Patch document: member `op` of operation 0 is not an operation" },
+    { "[1]", "[{\"op\":\"remove\",\"path\":\"/a/b~\"}]", JSONPTR_NOT_PATCH, "[1]", JSONPTR_KIND_BAD_ESCAPE,
+      JSONPTR_MEMBER_PATH, 0,
+      "not a JSON Patch document: member `path` of operation 0: json pointer failed to parse; the first token in the "
+      "partial-pointer starting at offset 2 is malformed" },
+};
+
+static void check_patches(void) {
+    for (size_t i = 0; i < COUNT(patches); i++) {
+        const char *patch = patches[i].patch;
+        jsonptr_document document = parsed(patches[i].document);
+        jsonptr_error error;
+        expect_number("status", patch, jsonptr_document_patch(&document, TEXT(patch), &error), patches[i].status);
+        expect_number("kind", patch, error.kind, patches[i].kind);
+        expect_number("member", patch, error.member, patches[i].member);
+        expect_number("operation", patch, error.operation, patches[i].operation);
+        expect_message(patch, &error, patches[i].message);
+        expect_document(patch, &document, patches[i].after);
+        jsonptr_document_free(&document);
+    }
+}
+
+/* Differences: the patch of each pair turns the one into the other. */
+static const struct {
+    const char *from, *to, *patch;
+} differences[] = {
+    { "{\"a\":1}", "{\"a\":2}", "[{\"op\":\"replace\",\"path\":\"/a\",\"value\":2}]" },
+    { "{\"a\":1}", "{\"a\":1}", "[]" },
+    { "{\"a\":1,\"b\":2}", "{\"b\":2}", "[{\"op\":\"remove\",\"path\":\"/a\"}]" },
+    { "[\"x\",\"y\"]", "[\"x\",\"z\",\"y\"]", "[{\"op\":\"add\",\"path\":\"/1\",\"value\":\"z\"}]" },
+    { "[1]", "null", "[{\"op\":\"replace\",\"path\":\"\",\"value\":null}]" },
+};
+
+static void check_differences(void) {
+    for (size_t i = 0; i < COUNT(differences); i++) {
+        jsonptr_document from = parsed(differences[i].from), to = parsed(differences[i].to);
+        char out[256];
+        size_t length = 0;
+        expect_number("status", differences[i].patch,
+                      jsonptr_document_diff(&from, &to, 0, out, sizeof out, &length, NULL), JSONPTR_OK);
+        expect_text("patch", differences[i].patch, out, length, differences[i].patch);
+        expect_document("the first", &from, differences[i].from);
+        expect_document("the second", &to, differences[i].to);
+        expect_number("status of applying", differences[i].patch, jsonptr_document_patch(&from, out, length, NULL),
+                      JSONPTR_OK);
+        expect_document("the changed one", &from, differences[i].to);
+        jsonptr_document_free(&from);
+        jsonptr_document_free(&to);
+    }
+}
+
+/* Layout, buffers and empty handles. */
+static void check_handles(void) {
+    jsonptr_document document = parsed("{\"b\": [1, {}], \"a\": \"x\"}"), empty = JSONPTR_DOCUMENT_INIT;
+    char out[64];
+    size_t length = 0;
+    jsonptr_error error;
+    expect_number("status", "pretty", jsonptr_document_print(&document, JSONPTR_PRETTY, out, sizeof out, &length, &error),
+                  JSONPTR_OK);
+    expect_text("text", "pretty", out, length, "{\n  \"a\": \"x\",\n  \"b\": [\n    1,\n    {}\n  ]\n}");
+    memset(out, '#', sizeof out);
+    expect_number("status", "a short buffer", jsonptr_document_print(&document, 0, out, 19, &length, &error),
+                  JSONPTR_NO_ROOM);
+    expect_number("length", "a short buffer", length, 20);
+    expect_number("length in the error", "a short buffer", error.length, 20);
+    expect_text("buffer", "a short buffer", out, 20, "####################");
+    expect_message("a short buffer", &error, "the buffer is too short");
+    expect_number("status", "an exact buffer", jsonptr_document_print(&document, 0, out, 20, &length, &error), JSONPTR_OK);
+    expect_number("next byte", "an exact buffer", (unsigned char)out[20], '#');
+    jsonptr_document_free(&document);
+    jsonptr_document_free(&document);
+    jsonptr_document_free(&empty);
+    expect_number("status", "an empty handle", jsonptr_document_print(&document, 0, out, sizeof out, &length, &error),
+                  JSONPTR_NO_DOCUMENT);
+    expect_message("an empty handle", &error, "the handle holds no document");
+    expect_number("patch", "an empty handle", jsonptr_document_patch(&empty, "[]", 2, NULL), JSONPTR_NO_DOCUMENT);
+    expect_number("assign", "an empty handle", jsonptr_document_assign(&empty, "", 0, "1", 1, NULL), JSONPTR_NO_DOCUMENT);
+    expect_number("delete", "an empty handle", jsonptr_document_delete(&empty, "", 0, NULL, NULL), JSONPTR_NO_DOCUMENT);
+    expect_number("diff", "an empty handle", jsonptr_document_diff(&empty, &document, 0, out, 64, NULL, NULL),
+                  JSONPTR_NO_DOCUMENT);
+    expect_number("status", "the emptied handle", jsonptr_document_parse(&document, "1", 1, NULL), JSONPTR_OK);
+    expect_number("status", "the full handle", jsonptr_document_parse(&document, "2", 1, NULL), JSONPTR_OK);
+    expect_document("the full handle", &document, "2");
+    jsonptr_document_free(&document);
+    char deep[256];
+    memset(deep, '[', 128);
+    memset(deep + 128, ']', 128);
+    expect_number("status", "127 arrays", jsonptr_document_parse(&document, deep + 1, 254, NULL), JSONPTR_OK);
+    jsonptr_document_free(&document);
+    expect_number("status", "128 arrays", jsonptr_document_parse(&document, deep, 256, NULL), JSONPTR_NOT_JSON);
+}
+
+int main(void) {
+    check_rfc_pointers();
+    check_pointers();
+    check_tokens();
+    check_unresolved();
+    check_unread();
+    check_nodes();
+    check_assignments();
+    check_deletions();
+    check_patches();
+    check_differences();
+    check_handles();
+    return report("tables");
+}

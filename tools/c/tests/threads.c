@@ -1,0 +1,43 @@
+/* Eight threads, each with a document of its own, and with calls that need none. */
+#include "tests.h"
+
+#include <pthread.h>
+
+#define THREADS 8
+#define ROUNDS 2000
+
+/* Returns the number of wrong results. */
+static void *run(void *number) {
+    size_t wrong = 0;
+    char text[64], wanted[8], out[64];
+    int text_length = snprintf(text, sizeof text, "{\"a\": [1, \"%d\"]}", *(int *)number);
+    int wanted_length = snprintf(wanted, sizeof wanted, "\"%d\"", *(int *)number);
+    for (int round = 0; round < ROUNDS; round++) {
+        jsonptr_document document = JSONPTR_DOCUMENT_INIT;
+        size_t length = 0;
+        wrong += jsonptr_document_parse(&document, text, (size_t)text_length, NULL) != JSONPTR_OK;
+        wrong += jsonptr_document_assign(&document, "/b~1c/0", 7, "[{}]", 4, NULL) != JSONPTR_OK;
+        wrong += jsonptr_document_get(&document, "/a/1", 4, 0, out, sizeof out, &length, NULL) != JSONPTR_OK;
+        wrong += length != (size_t)wanted_length || memcmp(out, wanted, length) != 0;
+        wrong += jsonptr_resolve_in_text(text, (size_t)text_length, "/a/1", 4, 0, out, sizeof out, &length, NULL)
+                 != JSONPTR_OK;
+        wrong += length != (size_t)wanted_length || memcmp(out, wanted, length) != 0;
+        jsonptr_document_free(&document);
+    }
+    return (void *)wrong;
+}
+
+int main(void) {
+    pthread_t threads[THREADS];
+    int numbers[THREADS];
+    for (int i = 0; i < THREADS; i++) {
+        numbers[i] = i;
+        expect_number("start", "a thread", (unsigned long long)pthread_create(&threads[i], NULL, run, &numbers[i]), 0);
+    }
+    for (int i = 0; i < THREADS; i++) {
+        void *wrong = NULL;
+        expect_number("end", "a thread", (unsigned long long)pthread_join(threads[i], &wrong), 0);
+        expect_number("wrong results", "a thread", (size_t)wrong, 0);
+    }
+    return report("threads");
+}
