@@ -1,0 +1,5 @@
+-- Definitions of the contracts of commands on texts.
+pub mod Failures
+pub mod Layouts
+pub mod Results
+pub mod PrivateResults

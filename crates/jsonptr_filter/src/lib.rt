@@ -1,0 +1,14 @@
+//! What the commands of a program do with the text of a JSON document, and with a document on each
+//! line of an input.
+//!
+//! - [`task`]: what to do with a document: find a value, assign one, delete one, or apply a patch.
+//! - [`layout`]: how the result is printed.
+//! - [`result`]: the result of a task on one text.
+//! - [`failure`]: the errors, and the exit status of each.
+#![tactic(auto)]
+
+mod edit;
+pub mod failure;
+pub mod layout;
+pub mod result;
+pub mod task;

@@ -1,0 +1,3 @@
+//! The examples in doc comments. `tools/doc_examples.py --write` makes these files.
+mod filter_layout;
+mod filter_result;

@@ -1,0 +1,5 @@
+//! Tests of commands on texts, over public items alone.
+#![tactic(auto)]
+
+#[cfg(test)]
+mod doc_examples;
