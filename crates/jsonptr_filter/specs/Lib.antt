@@ -2,4 +2,6 @@
 pub mod Failures
 pub mod Layouts
 pub mod Results
+pub mod LineResults
 pub mod PrivateResults
+pub mod PrivateLineResults

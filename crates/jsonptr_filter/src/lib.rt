@@ -10,5 +10,6 @@
 mod edit;
 pub mod failure;
 pub mod layout;
+mod line;
 pub mod result;
 pub mod task;
