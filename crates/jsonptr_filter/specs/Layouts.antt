@@ -1,5 +1,5 @@
 -- The text of a value in each layout.
-use Rattle.std.specs.Prelude.{◌≡◌, ◌≤◌, ℕ, List, false, Some, MatchOption}
+use Rattle.std.specs.Prelude.{◌≡◌, ◌≤◌, false, Some, MatchOption}
 use Rattle.json.specs.Lex as lex
 use Rattle.json.specs.Print.{print}
 use Rattle.json.specs.Layout.{pretty}

@@ -2,6 +2,10 @@
 pub mod Failures
 pub mod Layouts
 pub mod Results
+pub mod Documents
 pub mod LineResults
+pub mod Runs
 pub mod PrivateResults
 pub mod PrivateLineResults
+pub mod PrivateRuns
+pub mod PrivateDocuments

@@ -1,10 +1,10 @@
 -- What is written for each line of an input, if each line is a document.
-use Rattle.std.specs.Prelude.{◌≡◌, ◌≢◌, ◌⊎◌, ℕ, ◌+◌, List, [], ◌∷◌, ◌++◌, length, true, false, String, Option, Some, None, codes, decimal, string_bytes, ⊤}
+use Rattle.std.specs.Prelude.{◌≡◌, ◌⊎◌, ℕ, ◌+◌, List, [], ◌∷◌, ◌++◌, String, Option, Some, None, codes, decimal, string_bytes, ⊤}
 use Rattle.std.specs.Str.{IsUtf8}
 use Rattle.std.specs.declared.alloc.Global.{Global}
 use Rattle.serde_json.specs.Read.{read}
 use Rattle.jsonptr_grammar.specs.Text.{Text}
-use Rattle.jsonptr_lines.specs.Lines.{IsOneLine, AreLines}
+use Rattle.jsonptr_lines.specs.Lines.{IsOneLine}
 use Rattle.jsonptr_filter.specs.Results.{Yields, Fails}
 use Rattle.jsonptr_filter.specs.declared.failure.Failure.{Failure}
 use Rattle.jsonptr_filter.specs.declared.failure.Failure.TheVariants.{NotJson, LineBreak, Memory, Read, Write}
@@ -51,10 +51,6 @@ LinesGive run n (l ∷ ls) out err =
     × LinesGive run (n + 1) ls os rs
     × (out ≡ o ++ os)
     × (err ≡ r ++ rs)
-
--- `AreFirstLines bytes ls`: `ls` are the first lines of the input `bytes`, or all of them
-abbrev pub AreFirstLines : List ℕ → List Text → Type 0
-AreFirstLines bytes ls = (more : List Text) × AreLines bytes (ls ++ more)
 
 -- `StopsRun e`: the error e ends the run, whichever line it comes at
 abbrev pub StopsRun : Failure → Type 0

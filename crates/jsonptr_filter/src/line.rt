@@ -135,7 +135,7 @@ fn put_fault<W: io::Write, E: io::Write>(
         × Appends (E.contents errors.old) (E.contents errors.new) report.now) }
     ensures failed { IfErr result (λ e. (e ≡ Write)
         × AppendsPrefix (W.contents output.old) (W.contents output.new)
-            (fallback_line fallback.now)
+        (fallback_line fallback.now)
         × AppendsPrefix (E.contents errors.old) (E.contents errors.new) report.now) }
 {
     put_fallback(fallback, output)?;
@@ -148,7 +148,7 @@ fn put_fallback<W: io::Write>(fallback: &Option<String>, output: &mut W) -> Resu
         (fallback_line fallback.now)) }
     ensures failed { IfErr result (λ e. (e ≡ Write)
         × AppendsPrefix (W.contents output.old) (W.contents output.new)
-            (fallback_line fallback.now)) }
+        (fallback_line fallback.now)) }
 {
     match fallback {
         Some(text) => put_text(output, text.as_str()),

@@ -1,5 +1,5 @@
 -- Lines of an input.
-use Rattle.std.proofs.Common.{◌≡◌, ◌≢◌, ◌⊎◌, inl, inr, ℕ, zero, suc, ◌-◌, ◌<◌, ◌≤◌, List, [], ◌∷◌, ◌++◌, length, get_or, Option, None, Some, Bool, true, false, refl, sym, ap, ◌∙◌, subst, arith, length-take}
+use Rattle.std.proofs.Common.{◌≡◌, ◌≢◌, ◌⊎◌, inl, inr, ℕ, zero, suc, ◌-◌, ◌<◌, ◌≤◌, List, [], ◌∷◌, ◌++◌, length, get_or, Option, None, Some, Bool, true, false, refl, sym, ap, ◌∙◌, subst, arith, length-take, append_assoc}
 use Rattle.std.proofs.lemmas.List.{get_or-take, get_or_default}
 use Rattle.std.proofs.lemmas.Bool.{eqb-true, eq-eqb}
 use Rattle.std.specs.Prelude.{IfSome, if◌then◌else◌, nat_lt, ◌==◌, slice_index}
@@ -7,7 +7,7 @@ use Rattle.std.specs.Io.{StopsAt}
 use Rattle.std.specs.Io.BufRead.{take_through, ends_with_byte}
 use Rattle.std.specs.Io.KnownBytes.{Consumes}
 use Rattle.jsonptr_lines.specs.Lines.{IsOneLine, AreLines, IsNextLine}
-use Rattle.jsonptr_lines.specs.PrivateLines.{CutsBreak}
+use Rattle.jsonptr_lines.specs.PrivateLines.{CutsBreak, joined, AreAllLines}
 use Rattle.jsonptr_lines.specs.declared.read.Ending.{Ending}
 use Rattle.jsonptr_lines.specs.declared.read.Ending.TheVariants.{Break, Input, Nothing}
 
@@ -150,3 +150,19 @@ next_of old new got line Input stops some known read cut = (
         let through : IsOneLine (take_through 10 xs) = subst IsOneLine (cut.0 ∙ h) one in
         sym (whole xs through) ∙ sym h ∙ sym cut.0
 next_of old new got line Nothing stops some known read cut = absurd cut
+
+-- ---- lines in a row
+
+pub all_lines-push : (ls : List Line) (l : Line) → AreAllLines ls → IsOneLine l → AreAllLines (ls ++ l ∷ [])
+all_lines-push [] l h p = (p, tt)
+all_lines-push (k ∷ ls) l h p = (h.0, all_lines-push ls l h.1 p)
+
+pub joined-push : (ls : List Line) (l : Line) → joined (ls ++ l ∷ []) ≡ joined ls ++ (l ++ 10 ∷ [])
+joined-push [] l = refl
+joined-push (k ∷ ls) l = ap (λ (t : Line). k ++ 10 ∷ t) (joined-push ls l) ∙ sym (append_assoc k (10 ∷ joined ls) (l ++ 10 ∷ []))
+
+-- the lines of what comes after some lines are lines after these
+pub lines_after : (ls more : List Line) (rest : Line) → AreAllLines ls → AreLines rest more → AreLines (joined ls ++ rest) (ls ++ more)
+lines_after [] more rest h p = p
+lines_after (l ∷ ls) more rest h p =
+    (h.0, inl (joined ls ++ rest, append_assoc l (10 ∷ joined ls) rest, lines_after ls more rest h.1 p))

@@ -1,4 +1,3 @@
-use Rattle.std.specs.Option.{MatchOption}
 use Rattle.jsonptr.specs.Pointer.{tokens}
 use Rattle.jsonptr_filter.proofs.ResultLemmas.{deletes_then}
 use Rattle.jsonptr_filter.proofs.edit.delete.Goals as goal

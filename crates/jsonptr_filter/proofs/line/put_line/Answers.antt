@@ -1,6 +1,6 @@
 use Rattle.std.proofs.Common.{string_bytes, ◌∙◌}
 use Rattle.std.proofs.lemmas.Result.{err_from_is_err_and}
-use Rattle.jsonptr_filter.proofs.ResultLemmas.{result_stops, line_fault, fault_stops}
+use Rattle.jsonptr_filter.proofs.ResultLemmas.{result_stops}
 use Rattle.jsonptr_filter.proofs.line.put_line.Goals as goal
 
 pub returns-in_err-put_text-in-Ok-clause-failed : goal.returns-in_err-put_text-in-Ok-clause-failed
