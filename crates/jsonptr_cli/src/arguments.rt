@@ -9,6 +9,7 @@ const VERSION: &str = "0.8.2";
 /// Returns the command line of the program.
 pub fn command<'a>(alloc: Global) -> Result<Command<'a>, AllocError> {
     Command::new(alloc, "jp")
+        .bin_name("jp")?
         .version(VERSION)
         .about("Finds and changes values of JSON documents by JSON Pointers")
         .subcommand_required(true)

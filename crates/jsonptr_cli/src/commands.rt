@@ -8,6 +8,7 @@ use crate::task::{layout_of, run_task};
 use clap::{ArgMatches, Error};
 use clap::error::ErrorKind;
 use jsonptr::{Pointer, Token};
+use jsonptr_filter::difference::difference_of;
 use jsonptr_filter::layout::{Layout, show};
 use jsonptr_filter::task::Task;
 use serde_json::Value;
@@ -60,6 +61,7 @@ fn run_command(rt: &HostRuntime, name: &str, matches: &ArgMatches<'_>) -> Result
         "get" => get(rt, matches),
         "set" => set(rt, matches),
         "delete" => delete(rt, matches),
+        "diff" => diff(rt, matches),
         "tokens" => tokens(rt, matches),
         "escape" => escape(rt, matches),
         "unescape" => unescape(rt, matches),
@@ -93,6 +95,25 @@ fn delete(rt: &HostRuntime, matches: &ArgMatches<'_>) -> Result<u8, Problem> {
     let text = argument(matches, "POINTER");
     let pointer = pointer_of(rt.alloc(), text)?;
     run_task(rt, matches, Task::Delete(pointer), text)
+}
+
+/// Prints the patch document that turns one document into another.
+fn diff(rt: &HostRuntime, matches: &ArgMatches<'_>) -> Result<u8, Problem> {
+    let alloc = rt.alloc();
+    let old = document_of(rt, argument(matches, "OLD"))?;
+    let new = document_of(rt, argument(matches, "NEW"))?;
+    let difference = difference_of(alloc, &old, &new, layout_of(matches))?;
+    print_line(rt, difference.text.as_str())?;
+    Ok(if difference.is_empty { 0 } else { NOT_APPLIED })
+}
+
+/// Reads a document from a file or from standard input.
+fn document_of(rt: &HostRuntime, file: &str) -> Result<Value, Problem> {
+    let bytes = read_all(rt, Some(file))?;
+    match Value::from_slice(rt.alloc(), &bytes) {
+        Ok(value) => Ok(value),
+        Err(_) => Err(Problem::of_bytes(rt.alloc(), name_of(Some(file)), &bytes)),
+    }
 }
 
 /// Prints the tokens of a pointer.

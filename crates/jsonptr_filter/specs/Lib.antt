@@ -2,6 +2,7 @@
 pub mod Failures
 pub mod Layouts
 pub mod Results
+pub mod Differences
 pub mod Documents
 pub mod LineResults
 pub mod Runs

@@ -4,11 +4,13 @@
 //! - [`task`]: what to do with a document: find a value, assign one, delete one, or apply a patch.
 //! - [`layout`]: how the result is printed.
 //! - [`result`]: the result of a task on one text.
+//! - [`difference`]: the patch document that turns one document into another.
 //! - [`document`]: a task on one document, from a reader to a writer.
 //! - [`lines`]: a task on each line of an input.
 //! - [`failure`]: the errors, and the exit status of each.
 #![tactic(auto)]
 
+pub mod difference;
 pub mod document;
 mod edit;
 pub mod failure;
