@@ -14,6 +14,7 @@ import tempfile
 from concurrent.futures import ThreadPoolExecutor
 from typing import NamedTuple
 
+from call_cases import RESOLVE_NOT_FOUND
 from harness import TOOLS, TOP, CheckFailed, build_shim, program, run_with_shim
 
 PROGRAM = program("jsonptr_cli")
@@ -40,7 +41,7 @@ class Case(NamedTuple):
 
 
 TEXT = '{\n  "b": 1.0,\n  "a/b": [1, 2]\n}\n'
-NOT_FOUND = "resolve failed: json pointer token at offset 0 was not found in value"
+NOT_FOUND = RESOLVE_NOT_FOUND.format(0)
 
 
 def cases():
@@ -64,6 +65,7 @@ def cases():
     yield Case(("set", "--pretty", "", "[[]]"), "1", "[\n  []\n]\n")
     yield Case(("delete", "/b"), TEXT, '{\n  "a/b": [1, 2]\n}\n')
     yield Case(("delete", "--compact", "/a~1b/0"), TEXT, '{"a/b":[2],"b":1.0}\n')
+    yield Case(("diff", "/dev/null", "-"), "1", "", "jp: /dev/null: not JSON: EOF while parsing at line 1 column 0\n", 3)
     yield Case(("tokens", "/a~1b//~0"), "", '["a/b","","~"]\n')
     yield Case(("tokens", "--raw", "/a~1b/x"), "", "a/b\nx\n")
     yield Case(("tokens", ""), "", "[]\n")
@@ -75,13 +77,13 @@ def cases():
 
 def failing():
     """Errors: a line that names the input, and the pointer with carets below the token at fault."""
-    missing = f"jp: standard input: {NOT_FOUND}\n/c\n^^ key not found in object\n"
+    missing = f"jp: standard input: {NOT_FOUND}\n/c\n ^ not found in value\n"
     yield Case(("get", "/c"), TEXT, "", missing, 1)
     yield Case(("delete", "/c"), TEXT, "", "jp: standard input: delete failed: json pointer does not resolve\n", 1)
-    not_json = "jp: standard input: not JSON: EOF while parsing an object at line 1 column 1\n"
+    not_json = "jp: standard input: not JSON: EOF while parsing at line 1 column 1\n"
     for words in [("get", "/a"), ("set", "/a", "1"), ("delete", "/a")]:
         yield Case(words, "{", "", not_json, 3)
-    value = "jp: JSON: not JSON: expected value at line 1 column 1\n"
+    value = "jp: JSON: not JSON: invalid JSON at line 1 column 1\n"
     yield Case(("set", "/a", "x"), TEXT, "", value, 3)
 
 
@@ -114,7 +116,8 @@ def check_result(case, given):
     wanted = (case.output.encode(), case.errors.encode(), case.status)
     if (given.stdout, given.stderr, given.returncode) != wanted:
         found = f"status {given.returncode}, {given.stdout[:300]!r}, {given.stderr[:300]!r}"
-        raise CheckFailed(f"{case.words} on {case.input[:80]!r}: {found}, and not {wanted!r}")
+        expected = f"status {case.status}, {case.output[:300]!r}, {case.errors[:300]!r}"
+        raise CheckFailed(f"{case.words} on {case.input[:80]!r}: {found}, and not {expected}")
 
 
 def check_usage():
@@ -188,7 +191,6 @@ def check_files(folder):
     with open(path, "w", encoding="utf-8") as file:
         file.write("{}")
     os.chmod(path, 0)
-    os.chmod(folder, 0o755)
     user = {"user": "nobody"} if os.getuid() == 0 else {}
     wanted = [
         (f"{folder}/none.json", "No such file or directory (os error 2)"),
@@ -363,6 +365,8 @@ def check_examples(folder):
 
 def main():
     with tempfile.TemporaryDirectory() as folder, ThreadPoolExecutor(os.cpu_count()) as pool:
+        # The user `nobody` runs the program on files below.
+        os.chmod(folder, 0o755)
         shim = build_shim(folder)
         # First, and alone: a process that another thread starts can hold the end of a pipe that is closed here.
         runs = check_streams() + check_usage()

@@ -112,6 +112,7 @@ fn document_of(rt: &HostRuntime, file: &str) -> Result<Value, Problem> {
     let bytes = read_all(rt, Some(file))?;
     match Value::from_slice(rt.alloc(), &bytes) {
         Ok(value) => Ok(value),
+        Err(error) if error.is_memory() => Err(Problem::Memory),
         Err(_) => Err(Problem::of_bytes(rt.alloc(), name_of(Some(file)), &bytes)),
     }
 }
@@ -179,6 +180,7 @@ fn pointer_of<'a>(alloc: Global, text: &'a str) -> Result<Pointer<'a>, Problem> 
 fn value_of(alloc: Global, name: &str, text: &str) -> Result<Value, Problem> {
     match Value::from_str(alloc, text) {
         Ok(value) => Ok(value),
+        Err(error) if error.is_memory() => Err(Problem::Memory),
         Err(_) => Err(Problem::of_bytes(alloc, name, text.as_bytes())),
     }
 }
