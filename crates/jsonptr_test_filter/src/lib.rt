@@ -3,3 +3,5 @@
 
 #[cfg(test)]
 mod doc_examples;
+#[cfg(test)]
+mod streams;

@@ -7,7 +7,10 @@ use std::test::Fail;
 fn show_example(rt: HostRuntime) -> Result<(), Fail> {
     let alloc = rt.alloc();
     let value = Value::from_str(alloc, r#"{"a": [1]}"#)?;
-    assert_eq!(rt; show(alloc, &value, Layout::Compact)?.as_str(), r#"{"a":[1]}"#);
+    assert_eq!(rt;
+        show(alloc, &value, Layout::Compact)?.as_str(),
+        r#"{"a":[1]}"#
+    );
     let name = Value::from_str(alloc, r#""Ada""#)?;
     assert_eq!(rt; show(alloc, &name, Layout::Raw)?.as_str(), "Ada");
     Ok(())
