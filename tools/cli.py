@@ -155,7 +155,9 @@ def check_documents():
     """Checks that the man page, the completions and the guide name each command and flag."""
     for name, path in [*INSTALLED.items(), ("guide", GUIDE)]:
         with open(path, encoding="utf-8") as file:
-            text = file.read().replace("\\-", "-")
+            text = file.read()
+        if path.endswith(".1"):
+            text = re.sub(r"Fl -(?=[a-z])", "--", text)
         for command in commands():
             missing = [word for word in [command, *flags(command)] if word not in text]
             if missing:

@@ -68,7 +68,7 @@ fn on_document(
     }
 }
 
-/// Runs the task on a file, and puts the result in its place.
+/// Runs the task on a file, and replaces its content by the result.
 fn in_place(
     rt: &HostRuntime,
     file: Option<&str>,

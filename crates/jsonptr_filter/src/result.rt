@@ -33,7 +33,8 @@ use std::alloc::Global;
 /// let new = result_in_text(alloc, &task, Layout::Kept, "{\"a\": 1, \"b\": 1}")?;
 /// assert_eq!(rt; new.as_str(), "{\"a\": 1, \"b\": 2}");
 /// let get = Task::Get(Pointer::parse("/c")?, Some(Value::Null));
-/// assert_eq!(rt; result_in_text(alloc, &get, Layout::Kept, new.as_str())?.as_str(), "null");
+/// let other = result_in_text(alloc, &get, Layout::Kept, new.as_str())?;
+/// assert_eq!(rt; other.as_str(), "null");
 /// ```
 pub fn result_in_text(
     alloc: Global,

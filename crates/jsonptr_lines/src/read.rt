@@ -44,7 +44,8 @@ pub enum Ending {
 /// assert_eq!(rt; line.as_slice(), b"one".as_slice());
 /// assert_eq!(rt; next_line(&mut input, &mut line).ok(), Some(Ending::Input));
 /// assert_eq!(rt; line.as_slice(), b"two".as_slice());
-/// assert_eq!(rt; next_line(&mut input, &mut line).ok(), Some(Ending::Nothing));
+/// let last = next_line(&mut input, &mut line).ok();
+/// assert_eq!(rt; last, Some(Ending::Nothing));
 /// ```
 pub fn next_line<R: BufRead>(input: &mut R, line: &mut Vec<u8>) -> Result<Ending, LineFault>
     ensures done { IfOk result

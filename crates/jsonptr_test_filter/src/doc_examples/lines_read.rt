@@ -11,9 +11,7 @@ fn next_line_example(rt: HostRuntime) -> Result<(), Fail> {
     assert_eq!(rt; line.as_slice(), b"one".as_slice());
     assert_eq!(rt; next_line(&mut input, &mut line).ok(), Some(Ending::Input));
     assert_eq!(rt; line.as_slice(), b"two".as_slice());
-    assert_eq!(rt;
-        next_line(&mut input, &mut line).ok(),
-        Some(Ending::Nothing)
-    );
+    let last = next_line(&mut input, &mut line).ok();
+    assert_eq!(rt; last, Some(Ending::Nothing));
     Ok(())
 }
