@@ -18,7 +18,7 @@
 
 mod assign;
 mod delete;
-mod depth;
+pub mod depth;
 mod edited;
 mod expand;
 mod in_place;

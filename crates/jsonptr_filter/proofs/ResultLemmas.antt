@@ -8,7 +8,9 @@ use Rattle.jsonptr_tree.specs.Json.{nodes}
 use Rattle.jsonptr_edit_in_text.specs.EditInText.{text_of, AssignsInText, DeletesInText}
 use Rattle.jsonptr_edit_in_text.specs.declared.edited.Edited.{Edited}
 use Rattle.jsonptr_lines.specs.Streams.{AppendsPrefix}
-use Rattle.jsonptr_filter.specs.Results.{Restyles, Sets, Deletes}
+use Rattle.jsonptr_patch.specs.declared.operation.Operation.{Operation}
+use Rattle.jsonptr_patch_document.specs.Document.{IsPatch}
+use Rattle.jsonptr_filter.specs.Results.{Restyles, Sets, Deletes, PatchesInText, PatchesBy}
 use Rattle.jsonptr_filter.specs.LineResults.{YieldsLine, IsLineFault, IsReport, StopsRun, fallback_line}
 use Rattle.jsonptr_filter.specs.PrivateLineResults.{Known, OrMemory, IsNoMemory, StopsPut}
 use Rattle.jsonptr_filter.specs.declared.failure.Failure.{Failure}
@@ -48,3 +50,8 @@ pub fault_stops : (run : LineTask) (n : ℕ) (l : Text) (w0 w1 e0 e1 : Known) (f
     → AppendsPrefix w0 w1 (fallback_line run.fallback) → AppendsPrefix e0 e1 report → StopsPut run n l w0 w1 e0 e1 e
 fault_stops run n l w0 w1 e0 e1 f report e fault is_report is wrote told =
     (subst StopsRun (sym is) tt, inr (fallback_line run.fallback, report, inr (f, fault, refl, is_report), wrote, told))
+
+pub patches_then : (text : Text) (patch : Data) (layout : Layout) (os : List Operation) (new : Text) (r : Result (String Global) Failure)
+    → IsPatch patch os → PatchesInText text os new → IfOk r (λ s. Restyles layout new (string_bytes s)) → IfOk r (λ s. PatchesBy text patch layout (string_bytes s))
+patches_then text patch layout os new (Ok s) is applied h = (os, new, is, applied, h)
+patches_then text patch layout os new (Err f) is applied h = tt

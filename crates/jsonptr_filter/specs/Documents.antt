@@ -11,13 +11,14 @@ use Rattle.jsonptr_filter.specs.declared.failure.Failure.TheVariants.{NotJson, M
 use Rattle.jsonptr_filter.specs.declared.layout.Layout.{Layout}
 use Rattle.jsonptr_filter.specs.declared.layout.Layout.TheVariants.{Kept}
 use Rattle.jsonptr_filter.specs.declared.task.Task.{Task}
-use Rattle.jsonptr_filter.specs.declared.task.Task.TheVariants.{Get, Set, Delete}
+use Rattle.jsonptr_filter.specs.declared.task.Task.TheVariants.{Get, Set, Delete, Patch}
 
 -- `EndsInBreak task layout`: a line feed is printed after the result. A changed document that keeps its layout gets none
 abbrev pub EndsInBreak : Task → Layout → Type 0
 EndsInBreak (Get p fallback) layout = ⊤
 EndsInBreak (Set p v) layout = layout ≢ Kept
 EndsInBreak (Delete p) layout = layout ≢ Kept
+EndsInBreak (Patch d) layout = layout ≢ Kept
 
 -- `Prints task layout bytes out`: `out` is printed for the task on the document `bytes`
 abbrev pub Prints : Task → Layout → List ℕ → Text → Type 0

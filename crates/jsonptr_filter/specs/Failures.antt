@@ -7,14 +7,16 @@ use Rattle.jsonptr_in_text.specs.declared.resolve.InTextError.TheVariants as in_
 use Rattle.jsonptr_edit_in_text.specs.declared.edited.EditError.{EditError}
 use Rattle.jsonptr_edit_in_text.specs.declared.edited.EditError.TheVariants as edit
 use Rattle.jsonptr_filter.specs.declared.failure.Failure.{Failure}
-use Rattle.jsonptr_filter.specs.declared.failure.Failure.TheVariants.{BadPointer, NoValue, BadPlace, NotThere, TooDeep, LineBreak, NotJson, ArgumentNotJson, Memory, Read, Write}
+use Rattle.jsonptr_filter.specs.declared.failure.Failure.TheVariants.{BadPointer, NotPatch, NoValue, BadPlace, NotThere, BadPatch, TooDeep, LineBreak, NotJson, ArgumentNotJson, Memory, Read, Write}
 
 -- `status_of e`: the exit status of the program after the error e
 abbrev pub status_of : Failure → ℕ
 status_of (BadPointer e) = 1
+status_of (NotPatch e) = 1
 status_of (NoValue e) = 1
 status_of (BadPlace e) = 1
 status_of NotThere = 1
+status_of (BadPatch e) = 1
 status_of TooDeep = 1
 status_of LineBreak = 1
 status_of NotJson = 3

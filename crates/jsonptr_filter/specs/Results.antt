@@ -1,7 +1,7 @@
 -- The text that a task makes of the text of a document, and why it makes none.
-use Rattle.std.specs.Prelude.{◌≡◌, ◌⊎◌, List, Option, Some, None, ⊤}
-use Rattle.serde_json.specs.Data.{Data}
-use Rattle.serde_json.specs.Read.{read}
+use Rattle.std.specs.Prelude.{◌≡◌, ◌<◌, ◌⊎◌, List, Option, Some, None, ⊤}
+use Rattle.serde_json.specs.Data.{Data, depth}
+use Rattle.serde_json.specs.Read.{read, max_depth}
 use Rattle.serde_json.specs.View.{view}
 use Rattle.serde_json.specs.declared.value.Value.{Value}
 use Rattle.jsonptr_grammar.specs.Text.{Text}
@@ -9,16 +9,19 @@ use Rattle.jsonptr_tree.specs.Node.{NodeMap}
 use Rattle.jsonptr_tree.specs.Json.{nodes}
 use Rattle.jsonptr.specs.Pointer.{tokens}
 use Rattle.jsonptr.specs.declared.resolve.Error.{Error}
+use Rattle.jsonptr_patch.specs.Patching.{Patches, RefusesPatch}
+use Rattle.jsonptr_patch.specs.declared.operation.Operation.{Operation}
+use Rattle.jsonptr_patch_document.specs.Document.{IsPatch, IsNoPatch}
 use Rattle.jsonptr_in_text.specs.InText.{FindsInText, RefusesInText}
 use Rattle.jsonptr_edit_in_text.specs.EditInText.{AssignsInText, IsAssignError, DeletesInText, LacksInText}
 use Rattle.jsonptr_edit_in_text.specs.declared.edited.EditError.TheVariants as edit
 use Rattle.jsonptr_filter.specs.Layouts.{Shows}
 use Rattle.jsonptr_filter.specs.declared.failure.Failure.{Failure}
-use Rattle.jsonptr_filter.specs.declared.failure.Failure.TheVariants.{NoValue, BadPlace, NotThere, TooDeep, NotJson, Memory}
+use Rattle.jsonptr_filter.specs.declared.failure.Failure.TheVariants.{NotPatch, NoValue, BadPlace, NotThere, BadPatch, TooDeep, NotJson, Memory}
 use Rattle.jsonptr_filter.specs.declared.layout.Layout.{Layout}
 use Rattle.jsonptr_filter.specs.declared.layout.Layout.TheVariants.{Kept, Compact, Pretty, Raw}
 use Rattle.jsonptr_filter.specs.declared.task.Task.{Task}
-use Rattle.jsonptr_filter.specs.declared.task.Task.TheVariants.{Get, Set, Delete}
+use Rattle.jsonptr_filter.specs.declared.task.Task.TheVariants.{Get, Set, Delete, Patch}
 
 -- `Restyles layout text out`: `out` is the document of `text` in this layout
 abbrev pub Restyles : Layout → Text → Text → Type 0
@@ -46,11 +49,24 @@ Sets text ts v layout out = (new : Text) × AssignsInText text ts v new × Resty
 abbrev pub Deletes : Text → List Text → Layout → Text → Type 0
 Deletes text ts layout out = (new : Text) × DeletesInText text ts new × Restyles layout new out
 
+-- `PatchesInText text os new`: both texts are documents, and the operations os turn the first into the second
+abbrev pub PatchesInText : Text → List Operation → Text → Type 0
+PatchesInText text os new =
+    (d d2 : Data) × (read text ≡ Some d) × (read new ≡ Some d2) × Patches (nodes d) os (nodes d2)
+
+-- `PatchesBy text patch layout out`: `out` is the document of `text` after the operations that the document `patch` is,
+-- in this layout
+abbrev pub PatchesBy : Text → Data → Layout → Text → Type 0
+PatchesBy text patch layout out =
+    (os : List Operation) × (new : Text)
+    × IsPatch patch os × PatchesInText text os new × Restyles layout new out
+
 -- `Yields task layout text out`: `out` is the result of the task on `text`, in this layout
 abbrev pub Yields : Task → Layout → Text → Text → Type 0
 Yields (Get p fallback) layout text out = Gets text (tokens p) fallback layout out
 Yields (Set p v) layout text out = Sets text (tokens p) (nodes (view v)) layout out
 Yields (Delete p) layout text out = Deletes text (tokens p) layout out
+Yields (Patch d) layout text out = PatchesBy text (view d) layout out
 
 -- `FailsToGet text ts fallback e`: e is why no value is found, if it is not for memory
 abbrev pub FailsToGet : Text → List Text → Option Value → Failure → Type 0
@@ -74,8 +90,22 @@ FailsToDelete text ts NotThere = LacksInText text ts
 FailsToDelete text ts (Memory f) = ⊤
 FailsToDelete text ts e = ⊥
 
+-- `FailsToPatch text patch e`: e is why the patch is not applied, if it is not for memory
+abbrev pub FailsToPatch : Text → Data → Failure → Type 0
+FailsToPatch text patch (NotPatch f) = IsNoPatch patch f
+FailsToPatch text patch NotJson = read text ≡ None
+FailsToPatch text patch (BadPatch f) =
+    (os : List Operation) × (d : Data)
+    × IsPatch patch os × (read text ≡ Some d) × RefusesPatch (nodes d) os f
+FailsToPatch text patch TooDeep =
+    (os : List Operation) × (d d2 : Data)
+    × IsPatch patch os × (read text ≡ Some d) × (max_depth < depth d2) × Patches (nodes d) os (nodes d2)
+FailsToPatch text patch (Memory f) = ⊤
+FailsToPatch text patch e = ⊥
+
 -- `Fails task text e`: e is why the task has no result on `text`, if it is not for memory
 abbrev pub Fails : Task → Text → Failure → Type 0
 Fails (Get p fallback) text e = FailsToGet text (tokens p) fallback e
 Fails (Set p v) text e = FailsToSet text (tokens p) (nodes (view v)) e
 Fails (Delete p) text e = FailsToDelete text (tokens p) e
+Fails (Patch d) text e = FailsToPatch text (view d) e

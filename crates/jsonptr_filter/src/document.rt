@@ -58,7 +58,7 @@ fn ends_in_break(task: &Task<'_>, layout: Layout) -> bool
 {
     match task {
         Task::Get(_, _) => true,
-        Task::Set(_, _) | Task::Delete(_) => layout != Layout::Kept,
+        Task::Set(_, _) | Task::Delete(_) | Task::Patch(_) => layout != Layout::Kept,
     }
 }
 

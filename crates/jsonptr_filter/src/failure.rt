@@ -6,6 +6,8 @@ ghost use Rattle.jsonptr_filter.specs.declared.failure.Failure.TheVariants.{Memo
 use jsonptr::{ParseError, assign, resolve};
 use jsonptr_edit_in_text::EditError;
 use jsonptr_in_text::InTextError;
+use jsonptr_patch::PatchError;
+use jsonptr_patch_document::PatchDocumentError;
 use std::alloc::AllocError;
 use std::convert::Infallible;
 use thiserror::Error;
@@ -16,6 +18,9 @@ pub enum Failure {
     /// The text of a pointer is not a valid JSON Pointer.
     #[error(transparent)]
     BadPointer(ParseError),
+    /// A patch document is not a patch.
+    #[error(transparent)]
+    NotPatch(PatchDocumentError),
     /// The pointer does not resolve to a value.
     #[error(transparent)]
     NoValue(resolve::Error),
@@ -25,6 +30,9 @@ pub enum Failure {
     /// The pointer of the value to delete does not resolve.
     #[error("delete failed: json pointer does not resolve")]
     NotThere,
+    /// An operation of the patch fails.
+    #[error(transparent)]
+    BadPatch(PatchError),
     /// The new document nests deeper than 127.
     #[error("the new document nests deeper than 127")]
     TooDeep,
@@ -56,9 +64,11 @@ impl Failure {
     {
         match self {
             Failure::BadPointer(_)
+            | Failure::NotPatch(_)
             | Failure::NoValue(_)
             | Failure::BadPlace(_)
             | Failure::NotThere
+            | Failure::BadPatch(_)
             | Failure::TooDeep
             | Failure::LineBreak => 1,
             Failure::NotJson | Failure::ArgumentNotJson => 3,

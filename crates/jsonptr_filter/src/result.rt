@@ -6,6 +6,7 @@ ghost use Rattle.jsonptr_filter.specs.Results.{Yields, Fails, Gets, FailsToGet};
 use crate::edit::{delete, set};
 use crate::failure::Failure;
 use crate::layout::{Layout, show};
+use crate::patching::patch;
 use crate::task::Task;
 use jsonptr::Pointer;
 use jsonptr_in_text::{InTextError, resolve_in_text};
@@ -15,14 +16,17 @@ use std::alloc::Global;
 /// Returns the text that the task makes of the text of a document.
 ///
 /// [`Task::Get`] finds its value in the text, and reads no document. [`Task::Set`] and
-/// [`Task::Delete`] edit the text, as `jsonptr_edit_in_text` does. In a layout other than
-/// [`Layout::Kept`] the new document is then printed anew.
+/// [`Task::Delete`] edit the text, as `jsonptr_edit_in_text` does. [`Task::Patch`] reads the document
+/// and prints it without white space. In a layout other than [`Layout::Kept`] the new document is
+/// then printed anew.
 ///
 /// # Errors
 ///
 /// - [`Failure::NotJson`] if the text is not JSON.
 /// - [`Failure::NoValue`], [`Failure::BadPlace`] and [`Failure::NotThere`] if the pointer does not
 ///   apply.
+/// - [`Failure::NotPatch`] if the patch document is not a patch, and [`Failure::BadPatch`] if an
+///   operation fails.
 /// - [`Failure::TooDeep`] if the new document nests deeper than 127.
 /// - [`Failure::Memory`] if an allocation fails.
 ///
@@ -49,6 +53,7 @@ pub fn result_in_text(
         Task::Get(pointer, fallback) => get(alloc, text, *pointer, fallback, layout),
         Task::Set(pointer, value) => set(alloc, text, *pointer, value, layout),
         Task::Delete(pointer) => delete(alloc, text, *pointer, layout),
+        Task::Patch(document) => patch(alloc, text, document, layout),
     }
 }
 

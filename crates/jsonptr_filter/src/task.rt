@@ -13,4 +13,6 @@ pub enum Task<'a> {
     Set(Pointer<'a>, Value),
     /// Deletes the value that the pointer resolves to.
     Delete(Pointer<'a>),
+    /// Applies the patch that this document is (RFC 6902).
+    Patch(Value),
 }
