@@ -65,6 +65,12 @@ def cases():
     yield Case(("set", "--pretty", "", "[[]]"), "1", "[\n  []\n]\n")
     yield Case(("delete", "/b"), TEXT, '{\n  "a/b": [1, 2]\n}\n')
     yield Case(("delete", "--compact", "/a~1b/0"), TEXT, '{"a/b":[2],"b":1.0}\n')
+    patch = '[{"op":"remove","path":"/a"}]'
+    yield Case(("patch", "--check", "-", "/dev/null"), patch, "", "jp: /dev/null: not JSON: EOF while parsing at line 1 column 0\n", 3)
+    bad = '[{"op":"remove","path":"/a~b"}]'
+    message = "not a JSON Patch document: member `path` of operation 0: json pointer failed to parse; the first token in the partial-pointer starting at offset 0 is malformed"
+    drawn = "/a~b\n  ^^ '~' must be followed by '0' or '1'"
+    yield Case(("patch", "-", "/dev/null"), bad, "", f"jp: standard input: {message}\n{drawn}\n", 1)
     yield Case(("diff", "/dev/null", "-"), "1", "", "jp: /dev/null: not JSON: EOF while parsing at line 1 column 0\n", 3)
     yield Case(("tokens", "/a~1b//~0"), "", '["a/b","","~"]\n')
     yield Case(("tokens", "--raw", "/a~1b/x"), "", "a/b\nx\n")
@@ -102,6 +108,8 @@ def usage():
     yield ("set", "/a", "1", "f", "-i", "--lines")
     yield ("get", "--lines", "--raw", "--default", '"a\\nb"', "/a")
     yield ("delete", "/a", "--unknown")
+    yield ("patch", "-", "-")
+    yield ("patch", "x", "y", "--check", "-i")
 
 
 def run(words, text="", **options):

@@ -3,12 +3,13 @@
 
     tools/bench/cli.py [--rounds N] [--only WORD] JP [--jq PROGRAM]
 
-JP is the built program of crates/jsonptr_cli. The programs run in turn on each file. A result is the least processor
-time of all rounds, and the greatest peak memory.
+JP is the built program of crates/jsonptr_cli. Both programs run on each file. A result is the least processor
+time of all rounds, and the peak memory, which `/usr/bin/time` measures (Debian: `time`).
 """
 import argparse
 import json
 import os
+import subprocess
 import sys
 import tempfile
 from multiprocessing import Process
@@ -57,6 +58,14 @@ ROWS = [
 ]
 
 
+def memory_of(command, path):
+    """Returns the peak memory in bytes of a run on a file, which does not begin as a copy of this process."""
+    with tempfile.NamedTemporaryFile() as report, open(path, "rb") as given:
+        words = ["/usr/bin/time", "-f", "%M", "-o", report.name, *command]
+        subprocess.run(words, stdin=given, stdout=subprocess.DEVNULL, check=True)
+        return 1024 * int(report.read())
+
+
 def shown(result):
     """Returns a result for a cell."""
     seconds, memory = result
@@ -80,11 +89,9 @@ def main():
             row.make(file.name)
             rounds = words.rounds if os.path.getsize(file.name) < 50_000_000 else min(words.rounds, 3)
             found = {}
-            for _ in range(rounds):
-                for name, command in {"jp": [words.jp, *row.ours], "jq": [words.jq, "-c", *row.jq]}.items():
-                    seconds, memory = run(command, file.name)
-                    least, most = found.get(name, (seconds, memory))
-                    found[name] = min(least, seconds), max(most, memory)
+            for name, command in {"jp": [words.jp, *row.ours], "jq": [words.jq, "-c", *row.jq]}.items():
+                seconds = min(run(command, file.name)[0] for _ in range(rounds))
+                found[name] = seconds, memory_of(command, file.name)
         (ours, our_memory), (theirs, their_memory) = found["jp"], found["jq"]
         ratios = f"{ours / theirs:.2f} | {our_memory / their_memory:.2f}"
         print(f"| {row.name} | {shown(found['jp'])} | {shown(found['jq'])} | {ratios} |", flush=True)

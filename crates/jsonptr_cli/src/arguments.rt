@@ -17,6 +17,7 @@ pub fn command<'a>(alloc: Global) -> Result<Command<'a>, AllocError> {
         .subcommand(get(alloc)?)?
         .subcommand(set(alloc)?)?
         .subcommand(delete(alloc)?)?
+        .subcommand(patch(alloc)?)?
         .subcommand(diff(alloc)?)?
         .subcommand(tokens(alloc)?)?
         .subcommand(escape(alloc)?)?
@@ -53,6 +54,20 @@ fn delete<'a>(alloc: Global) -> Result<Command<'a>, AllocError> {
         .about("Prints the document without the value that the pointer resolves to")
         .arg(pointer(alloc))?
         .arg(file(alloc))?;
+    with_lines(alloc, with_in_place(alloc, with_layout(alloc, command)?)?)
+}
+
+/// Returns the command `patch`.
+fn patch<'a>(alloc: Global) -> Result<Command<'a>, AllocError> {
+    let command = Command::new(alloc, "patch")
+        .about("Prints the document after a JSON Patch (RFC 6902)")
+        .arg(arg!(in alloc; <PATCHFILE> "The patch document, or - for standard input"))?
+        .arg(file(alloc))?
+        .arg(
+            arg!(in alloc; --check "Prints nothing: the exit status says whether the patch applies")
+                .conflicts_with("in-place")?
+                .conflicts_with("lines")?,
+        )?;
     with_lines(alloc, with_in_place(alloc, with_layout(alloc, command)?)?)
 }
 

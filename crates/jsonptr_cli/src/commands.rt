@@ -1,7 +1,7 @@
 //! The commands.
 
 use crate::arguments;
-use crate::input::{name_of, read_all};
+use crate::input::{is_standard, name_of, read_all};
 use crate::output::Output;
 use crate::problem::{FILE, NOT_APPLIED, NOT_JSON, Problem, USAGE};
 use crate::task::{layout_of, run_task};
@@ -10,6 +10,7 @@ use clap::error::ErrorKind;
 use jsonptr::{Pointer, Token};
 use jsonptr_filter::difference::difference_of;
 use jsonptr_filter::layout::{Layout, show};
+use jsonptr_filter::patching::operations_of;
 use jsonptr_filter::task::Task;
 use serde_json::Value;
 use std::alloc::Global;
@@ -61,6 +62,7 @@ fn run_command(rt: &HostRuntime, name: &str, matches: &ArgMatches<'_>) -> Result
         "get" => get(rt, matches),
         "set" => set(rt, matches),
         "delete" => delete(rt, matches),
+        "patch" => patch(rt, matches),
         "diff" => diff(rt, matches),
         "tokens" => tokens(rt, matches),
         "escape" => escape(rt, matches),
@@ -95,6 +97,21 @@ fn delete(rt: &HostRuntime, matches: &ArgMatches<'_>) -> Result<u8, Problem> {
     let text = argument(matches, "POINTER");
     let pointer = pointer_of(rt.alloc(), text)?;
     run_task(rt, matches, Task::Delete(pointer), text)
+}
+
+/// Applies a patch document.
+fn patch(rt: &HostRuntime, matches: &ArgMatches<'_>) -> Result<u8, Problem> {
+    let alloc = rt.alloc();
+    let name = argument(matches, "PATCHFILE");
+    if is_standard(Some(name)) && is_standard(matches.get_str("FILE")) {
+        let message = "standard input cannot be the patch and the document";
+        return Err(Problem::new(alloc, USAGE, "PATCHFILE", message));
+    }
+    let document = document_of(rt, name)?;
+    match operations_of(alloc, &document) {
+        Ok(_) => run_task(rt, matches, Task::Patch(document), ""),
+        Err(failure) => Err(Problem::of_patch(alloc, name, &document, failure)),
+    }
 }
 
 /// Prints the patch document that turns one document into another.

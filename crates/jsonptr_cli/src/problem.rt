@@ -65,6 +65,15 @@ impl Problem {
         }
     }
 
+    /// Returns the problem of a document that is not a patch.
+    pub fn of_patch(alloc: Global, name: &str, document: &Value, failure: Failure) -> Problem {
+        let status = failure.status();
+        match patch_text(alloc, name, document, failure) {
+            Ok(Some(text)) => Problem::Other(status, text),
+            Ok(None) | Err(_) => Problem::Memory,
+        }
+    }
+
     /// Returns the problem of an argument that is not a pointer.
     pub fn of_pointer(alloc: Global, text: &str, error: ParseError) -> Problem {
         match pointer_text(alloc, text, error) {
@@ -130,6 +139,26 @@ fn drawing(alloc: Global, pointer: &str, failure: Failure) -> Result<Option<Stri
         Failure::BadPlace(error) => Ok(Some(error.into_report(subject).render(alloc)?)),
         _ => Ok(None),
     }
+}
+
+/// Returns the text of the error of a document that is not a patch, with the pointer at fault if there
+/// is one. Returns `None` if the failure is a failed allocation.
+fn patch_text(
+    alloc: Global,
+    name: &str,
+    document: &Value,
+    failure: Failure,
+) -> Result<Option<String>, AllocError> {
+    let Failure::NotPatch(error) = failure else {
+        return Ok(None);
+    };
+    let mut text = format!(in alloc; "jp: {name}: {error}\n")?;
+    if let Some(pointer) = error.pointer_text(document) {
+        let report = error.into_report(String::from_str(alloc, pointer)?);
+        text.push_str(report.render(alloc)?.as_str())?;
+        text.push('\n')?;
+    }
+    Ok(Some(text))
 }
 
 /// Returns the text of the error of a pointer.

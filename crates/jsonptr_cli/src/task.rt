@@ -38,12 +38,25 @@ pub fn run_task(
 ) -> Result<u8, Problem> {
     let file = matches.get_str("FILE");
     let layout = layout_of(matches);
-    if matches.get_flag("lines") {
+    if matches.get_flag("check") {
+        check(rt, file, &task)
+    } else if matches.get_flag("lines") {
         on_lines(rt, file, task, layout, matches.get_flag("strict"))
     } else if matches.get_flag("in-place") {
         in_place(rt, file, &task, layout, pointer)
     } else {
         on_document(rt, file, &task, layout, pointer)
+    }
+}
+
+/// Runs the task on one document, and prints nothing.
+fn check(rt: &HostRuntime, file: Option<&str>, task: &Task<'_>) -> Result<u8, Problem> {
+    let alloc = rt.alloc();
+    let bytes = read_all(rt, file)?;
+    match document_result(alloc, task, Layout::Kept, &bytes) {
+        Ok(_) => Ok(0),
+        Err(Failure::NotJson) => Err(Problem::of_bytes(alloc, name_of(file), &bytes)),
+        Err(failure) => Err(Problem::of_failure(alloc, name_of(file), "", failure)),
     }
 }
 

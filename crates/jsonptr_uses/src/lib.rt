@@ -11,12 +11,14 @@
 //! - [`differences`]: a copy that is kept up to date by differences.
 //! - [`sessions`]: calls on a document that is read from a text.
 //! - [`in_text`]: numbers in the text of a document.
+//! - [`commands`]: a command on the text of a document.
 //! - [`tabled`]: a look-up by a pointer with a table.
 //! - [`overlay`]: a document type of one's own.
 //! - [`conditions`] and [`edits`]: conditions of calls, and edits that undo each other.
 #![tactic(auto)]
 
 pub mod checker;
+pub mod commands;
 pub mod conditions;
 pub mod cursor_editor;
 pub mod differences;
