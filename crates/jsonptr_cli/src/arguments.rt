@@ -31,10 +31,12 @@ fn get<'a>(alloc: Global) -> Result<Command<'a>, AllocError> {
         .arg(pointer(alloc))?
         .arg(file(alloc))?
         .arg(
-            arg!(in alloc; --default <JSON> "Prints this value if the pointer resolves to none")
-                .allow_negative_numbers(true),
+            arg!(in alloc; --default <JSON> "Prints this value if the pointer resolves to none").allow_negative_numbers(
+                true,
+            ),
         )?
-        .arg(arg!(in alloc; --raw "Prints a string without quotes").conflicts_with("pretty")?)?;
+        .arg(arg!(in alloc; --raw "Prints a string without quotes").conflicts_with("pretty")?)?
+        .arg(toml_flag(alloc))?;
     with_lines(alloc, with_layout(alloc, command)?)
 }
 
@@ -44,7 +46,9 @@ fn set<'a>(alloc: Global) -> Result<Command<'a>, AllocError> {
         .about("Prints the document with the value assigned at the pointer")
         .arg(pointer(alloc))?
         .arg(arg!(in alloc; <JSON> "The value").allow_negative_numbers(true))?
-        .arg(file(alloc))?;
+        .arg(file(alloc))?
+        .arg(toml_flag(alloc))?
+        .arg(reformat(alloc)?)?;
     with_lines(alloc, with_in_place(alloc, with_layout(alloc, command)?)?)
 }
 
@@ -53,7 +57,9 @@ fn delete<'a>(alloc: Global) -> Result<Command<'a>, AllocError> {
     let command = Command::new(alloc, "delete")
         .about("Prints the document without the value that the pointer resolves to")
         .arg(pointer(alloc))?
-        .arg(file(alloc))?;
+        .arg(file(alloc))?
+        .arg(toml_flag(alloc))?
+        .arg(reformat(alloc)?)?;
     with_lines(alloc, with_in_place(alloc, with_layout(alloc, command)?)?)
 }
 
@@ -74,7 +80,9 @@ fn patch<'a>(alloc: Global) -> Result<Command<'a>, AllocError> {
 /// Returns the command `diff`.
 fn diff<'a>(alloc: Global) -> Result<Command<'a>, AllocError> {
     let command = Command::new(alloc, "diff")
-        .about("Prints a JSON Patch (RFC 6902) that turns one document into another. The exit status is 1 if they differ")
+        .about(
+            "Prints a JSON Patch (RFC 6902) that turns one document into another. The exit status is 1 if they differ",
+        )
         .arg(arg!(in alloc; <OLD> "The document before, or - for standard input"))?
         .arg(arg!(in alloc; <NEW> "The document after, or - for standard input"))?;
     with_layout(alloc, command)
@@ -112,12 +120,23 @@ fn file<'a>(alloc: Global) -> Arg<'a> {
     arg!(in alloc; [FILE] "The file; standard input if it is missing or -")
 }
 
+/// Returns the flag for TOML.
+fn toml_flag<'a>(alloc: Global) -> Arg<'a> {
+    arg!(in alloc; --toml "Takes TOML, as for a file whose name ends in .toml; comments and layout go")
+}
+
+/// Returns the flag that allows a TOML file to lose its comments and layout.
+fn reformat<'a>(alloc: Global) -> Result<Arg<'a>, AllocError> {
+    arg!(in alloc; --reformat "Lets --in-place print a TOML file anew").requires_arg("in-place")
+}
+
 /// Adds the flags for the layout.
 fn with_layout<'a>(alloc: Global, command: Command<'a>) -> Result<Command<'a>, AllocError> {
     command
         .arg(
-            arg!(in alloc; --pretty "Prints a line for each member and element")
-                .conflicts_with("compact")?,
+            arg!(in alloc; --pretty "Prints a line for each member and element").conflicts_with(
+                "compact",
+            )?,
         )?
         .arg(arg!(in alloc; --compact "Prints without white space"))
 }
@@ -126,12 +145,14 @@ fn with_layout<'a>(alloc: Global, command: Command<'a>) -> Result<Command<'a>, A
 fn with_lines<'a>(alloc: Global, command: Command<'a>) -> Result<Command<'a>, AllocError> {
     command
         .arg(
-            arg!(in alloc; --lines "Takes each line as a document, and prints each result as a line")
-                .conflicts_with("pretty")?,
+            arg!(in alloc; --lines "Takes each line as a document, and prints each result as a line").conflicts_with(
+                "pretty",
+            )?,
         )?
         .arg(
-            arg!(in alloc; --strict "Stops at the first line at fault; needs --lines")
-                .requires_arg("lines")?,
+            arg!(in alloc; --strict "Stops at the first line at fault; needs --lines").requires_arg(
+                "lines",
+            )?,
         )
 }
 

@@ -1,12 +1,13 @@
 //! The commands.
 
-use crate::arguments;
 use crate::input::{is_standard, name_of, read_all};
-use crate::output::Output;
+use crate::output::{print_line, print_text};
 use crate::problem::{FILE, NOT_APPLIED, NOT_JSON, Problem, USAGE};
 use crate::task::{layout_of, run_task};
-use clap::{ArgMatches, Error};
+use crate::toml_file::is_toml;
+use crate::{arguments, toml_file};
 use clap::error::ErrorKind;
+use clap::{ArgMatches, Error};
 use jsonptr::{Pointer, Token};
 use jsonptr_filter::difference::difference_of;
 use jsonptr_filter::layout::{Layout, show};
@@ -15,9 +16,7 @@ use jsonptr_filter::task::Task;
 use serde_json::Value;
 use std::alloc::Global;
 use std::borrow::CowStr;
-use std::env;
-use std::io;
-use std::io::Write;
+use std::{env, io};
 
 /// Runs the program, and returns its exit status.
 pub fn run(rt: &HostRuntime) -> Result<u8, Problem> {
@@ -76,6 +75,9 @@ fn get(rt: &HostRuntime, matches: &ArgMatches<'_>) -> Result<u8, Problem> {
     let alloc = rt.alloc();
     let text = argument(matches, "POINTER");
     let pointer = pointer_of(alloc, text)?;
+    if is_toml(matches) {
+        return toml_file::get(rt, matches, pointer);
+    }
     let fallback = match matches.get_str("default") {
         Some(json) => Some(value_of(alloc, "--default", json)?),
         None => None,
@@ -88,6 +90,9 @@ fn set(rt: &HostRuntime, matches: &ArgMatches<'_>) -> Result<u8, Problem> {
     let alloc = rt.alloc();
     let text = argument(matches, "POINTER");
     let pointer = pointer_of(alloc, text)?;
+    if is_toml(matches) {
+        return toml_file::set(rt, matches, pointer, argument(matches, "JSON"));
+    }
     let value = value_of(alloc, "JSON", argument(matches, "JSON"))?;
     run_task(rt, matches, Task::Set(pointer, value), text)
 }
@@ -96,6 +101,9 @@ fn set(rt: &HostRuntime, matches: &ArgMatches<'_>) -> Result<u8, Problem> {
 fn delete(rt: &HostRuntime, matches: &ArgMatches<'_>) -> Result<u8, Problem> {
     let text = argument(matches, "POINTER");
     let pointer = pointer_of(rt.alloc(), text)?;
+    if is_toml(matches) {
+        return toml_file::delete(rt, matches, pointer);
+    }
     run_task(rt, matches, Task::Delete(pointer), text)
 }
 
@@ -110,7 +118,7 @@ fn patch(rt: &HostRuntime, matches: &ArgMatches<'_>) -> Result<u8, Problem> {
     let document = document_of(rt, name)?;
     match operations_of(alloc, &document) {
         Ok(_) => run_task(rt, matches, Task::Patch(document), ""),
-        Err(failure) => Err(Problem::of_patch(alloc, name, &document, failure)),
+        Err(failure) => Err(Problem::of_patch(alloc, name_of(Some(name)), &document, failure)),
     }
 }
 
@@ -199,22 +207,5 @@ fn value_of(alloc: Global, name: &str, text: &str) -> Result<Value, Problem> {
         Ok(value) => Ok(value),
         Err(error) if error.is_memory() => Err(Problem::Memory),
         Err(_) => Err(Problem::of_bytes(alloc, name, text.as_bytes())),
-    }
-}
-
-/// Prints a text and a line break.
-fn print_line(rt: &HostRuntime, text: &str) -> Result<u8, Problem> {
-    let mut line = String::from_str(rt.alloc(), text)?;
-    line.push('\n')?;
-    print_text(rt, line.as_str())?;
-    Ok(0)
-}
-
-/// Prints a text.
-fn print_text(rt: &HostRuntime, text: &str) -> Result<(), Problem> {
-    let mut output = Output::new(rt);
-    match output.write_all(text.as_bytes()) {
-        Ok(()) => Ok(()),
-        Err(_) => Err(output.problem(rt.alloc())),
     }
 }

@@ -2,11 +2,10 @@
 
 use crate::input::problem;
 use crate::problem::{FILE, Problem};
-use std::fs;
 use std::fs::{File, Metadata, OpenOptions};
-use std::io;
 use std::io::{ErrorKind, Write};
 use std::os::unix::fs::{MetadataExt, OpenOptionsExt, chown};
+use std::{fs, io};
 
 /// The number of names that are tried for the temporary file.
 const NAMES: u32 = 1_000;
@@ -31,7 +30,14 @@ fn replace(rt: &HostRuntime, path: &str, text: &str) -> io::Result<()> {
         return Err(io::Error::new(ErrorKind::InvalidInput, "not a regular file"));
     }
     let (temporary, file) = create_beside(rt, target.as_path().as_str())?;
-    match fill_and_rename(rt, file, temporary.as_str(), target.as_path().as_str(), &metadata, text) {
+    match fill_and_rename(
+        rt,
+        file,
+        temporary.as_str(),
+        target.as_path().as_str(),
+        &metadata,
+        text,
+    ) {
         Ok(()) => sync_folder(rt, target.as_path().as_str()),
         Err(error) => {
             let _ = fs::remove_file(rt, temporary.as_str());

@@ -11,6 +11,7 @@ mod input;
 mod output;
 mod problem;
 mod task;
+mod toml_file;
 
 use crate::problem::Problem;
 use std::process::ExitCode;

@@ -44,3 +44,20 @@ impl Write for Output {
         self.stream.flush()
     }
 }
+
+/// Prints a text and a line break.
+pub fn print_line(rt: &HostRuntime, text: &str) -> Result<u8, Problem> {
+    let mut line = String::from_str(rt.alloc(), text)?;
+    line.push('\n')?;
+    print_text(rt, line.as_str())?;
+    Ok(0)
+}
+
+/// Prints a text.
+pub fn print_text(rt: &HostRuntime, text: &str) -> Result<(), Problem> {
+    let mut output = Output::new(rt);
+    match output.write_all(text.as_bytes()) {
+        Ok(()) => Ok(()),
+        Err(_) => Err(output.problem(rt.alloc())),
+    }
+}
