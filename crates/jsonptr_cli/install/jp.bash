@@ -12,8 +12,8 @@ _jp() {
     done
     local words
     case $command in
-        get) words="--raw --pretty --compact --default --lines --strict --help" ;;
-        set | delete) words="--pretty --compact --in-place --lines --strict --help" ;;
+        get) words="--toml --raw --pretty --compact --default --lines --strict --help" ;;
+        set | delete) words="--toml --reformat --pretty --compact --in-place --lines --strict --help" ;;
         patch) words="--check --pretty --compact --in-place --lines --strict --help" ;;
         diff) words="--pretty --compact --help" ;;
         tokens) words="--raw --help" ;;

@@ -54,7 +54,7 @@ pub fn find_in_toml(alloc: Global, text: &str, pointer: Pointer<'_>) -> Result<V
 ///
 /// ```rust
 /// let port = Pointer::parse("/port")?;
-/// let new = assign_in_toml(alloc, "port = 80 # as ever\n", port, Value::Integer(8080))?;
+/// let new = assign_in_toml(alloc, "port = 80 # as ever\n", port, 8080.into())?;
 /// assert_eq!(rt; new.as_str(), "port = 8080\n");
 /// ```
 pub fn assign_in_toml(

@@ -5,7 +5,7 @@
 //! let text = "# The size\nsize = 3\n";
 //! let size = Pointer::parse("/size")?;
 //! assert_eq!(rt; find_in_toml(alloc, text, size)?.as_integer(), Some(3));
-//! let new = assign_in_toml(alloc, text, size, Value::Integer(5))?;
+//! let new = assign_in_toml(alloc, text, size, 5.into())?;
 //! assert_eq!(rt; new.as_str(), "size = 5\n");
 //! ```
 //!

@@ -4,5 +4,7 @@ mod filter_document;
 mod filter_layout;
 mod filter_lines;
 mod filter_result;
+mod in_toml_change;
+mod in_toml_lib;
 mod lines_read;
 mod lines_write;
