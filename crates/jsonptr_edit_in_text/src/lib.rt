@@ -20,7 +20,7 @@ mod add;
 mod apply;
 mod assign;
 mod delete;
-mod depth;
+pub mod depth;
 mod edit;
 mod edited;
 mod expand;

@@ -13,12 +13,14 @@
 //! - [`in_text`]: numbers in the text of a document.
 //! - [`edits_in_text`]: two edits in the text of a document.
 //! - [`handles`]: a document in a handle, as a program in C uses it.
+//! - [`commands`]: a command on the text of a document.
 //! - [`tabled`]: a look-up by a pointer with a table.
 //! - [`overlay`]: a document type of one's own.
 //! - [`conditions`] and [`edits`]: conditions of calls, and edits that undo each other.
 #![tactic(auto)]
 
 pub mod checker;
+pub mod commands;
 pub mod conditions;
 pub mod cursor_editor;
 pub mod differences;

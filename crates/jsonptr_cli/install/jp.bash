@@ -1,0 +1,32 @@
+# Completions of jp for bash.
+
+_jp() {
+    local word=${COMP_WORDS[COMP_CWORD]} previous=${COMP_WORDS[COMP_CWORD - 1]} command= at
+    for ((at = 1; at < COMP_CWORD; at++)); do
+        case ${COMP_WORDS[at]} in
+            get | set | delete | patch | diff | tokens | escape | unescape)
+                command=${COMP_WORDS[at]}
+                break
+                ;;
+        esac
+    done
+    local words
+    case $command in
+        get) words="--toml --raw --pretty --compact --default --lines --strict --help" ;;
+        set | delete) words="--toml --reformat --pretty --compact --in-place --lines --strict --help" ;;
+        patch) words="--check --pretty --compact --in-place --lines --strict --help" ;;
+        diff) words="--pretty --compact --help" ;;
+        tokens) words="--raw --help" ;;
+        escape | unescape) words="--help" ;;
+        *) words="get set delete patch diff tokens escape unescape help --help --version" ;;
+    esac
+    if [[ $previous == --default ]]; then
+        COMPREPLY=()
+    elif [[ -z $command || $word == -* ]]; then
+        mapfile -t COMPREPLY < <(compgen -W "$words" -- "$word")
+    else
+        mapfile -t COMPREPLY < <(compgen -f -- "$word")
+    fi
+}
+
+complete -o filenames -F _jp jp

@@ -1,0 +1,30 @@
+//! The program `jp`: finds and changes values of JSON documents by JSON Pointers (RFC 6901).
+//!
+//! What a command prints is stated and proved in `jsonptr_filter`. Here are the command line, the
+//! files, the standard streams and the texts of errors.
+#![tactic(auto)]
+
+mod arguments;
+mod commands;
+mod in_place;
+mod input;
+mod output;
+mod problem;
+mod task;
+mod toml_file;
+
+use crate::problem::Problem;
+use std::process::ExitCode;
+
+fn main(rt: HostRuntime) -> ExitCode {
+    match commands::run(&rt) {
+        Ok(status) => ExitCode::from(status),
+        Err(problem) => {
+            if let Some(text) = problem.text() {
+                // If standard error fails too, there is nowhere to report it.
+                let _ = eprint!(rt; "{text}");
+            }
+            ExitCode::from(problem.status())
+        }
+    }
+}

@@ -1,0 +1,166 @@
+//! Running a task: on one document, on each line, or on a file in place.
+
+use crate::in_place::replace_file;
+use crate::input::{is_standard, name_of, open, problem, read_all};
+use crate::output::Output;
+use crate::problem::{NOT_APPLIED, Problem, USAGE};
+use clap::ArgMatches;
+use jsonptr_filter::document::{document_result, run_document};
+use jsonptr_filter::failure::Failure;
+use jsonptr_filter::layout::{Layout, show};
+use jsonptr_filter::line::LineTask;
+use jsonptr_filter::lines::{Ended, run_lines};
+use jsonptr_filter::task::Task;
+use std::io::{BufReader, BufWriter};
+
+/// The bytes that are read or written at once where each line is a document.
+const BLOCK: usize = 65_536;
+
+/// Returns how results are printed.
+pub fn layout_of(matches: &ArgMatches<'_>) -> Layout {
+    if matches.get_flag("raw") {
+        Layout::Raw
+    } else if matches.get_flag("pretty") {
+        Layout::Pretty
+    } else if matches.get_flag("compact") {
+        Layout::Compact
+    } else {
+        Layout::Kept
+    }
+}
+
+/// Runs the task as the flags say, and returns the exit status.
+pub fn run_task(
+    rt: &HostRuntime,
+    matches: &ArgMatches<'_>,
+    task: Task<'_>,
+    pointer: &str,
+) -> Result<u8, Problem> {
+    let file = matches.get_str("FILE");
+    let layout = layout_of(matches);
+    if matches.get_flag("check") {
+        check(rt, file, &task)
+    } else if matches.get_flag("lines") {
+        on_lines(rt, file, task, layout, matches.get_flag("strict"))
+    } else if matches.get_flag("in-place") {
+        in_place(rt, file, &task, layout, pointer)
+    } else {
+        on_document(rt, file, &task, layout, pointer)
+    }
+}
+
+/// Runs the task on one document, and prints nothing.
+fn check(rt: &HostRuntime, file: Option<&str>, task: &Task<'_>) -> Result<u8, Problem> {
+    let alloc = rt.alloc();
+    let bytes = read_all(rt, file)?;
+    match document_result(alloc, task, Layout::Kept, &bytes) {
+        Ok(_) => Ok(0),
+        Err(Failure::NotJson) => Err(Problem::of_bytes(alloc, name_of(file), &bytes)),
+        Err(failure) => Err(Problem::of_failure(alloc, name_of(file), "", failure)),
+    }
+}
+
+/// Runs the task on one document, and prints the result.
+fn on_document(
+    rt: &HostRuntime,
+    file: Option<&str>,
+    task: &Task<'_>,
+    layout: Layout,
+    pointer: &str,
+) -> Result<u8, Problem> {
+    let alloc = rt.alloc();
+    let mut input = open(rt, file)?;
+    let mut output = Output::new(rt);
+    let mut bytes = Vec::new(alloc);
+    match run_document(alloc, task, layout, &mut input, &mut bytes, &mut output) {
+        Ok(()) => Ok(0),
+        Err(Failure::Read) => Err(input.read_problem(alloc, name_of(file))),
+        Err(Failure::Write) => Err(output.problem(alloc)),
+        Err(Failure::NotJson) => Err(Problem::of_bytes(alloc, name_of(file), &bytes)),
+        Err(failure) => Err(Problem::of_failure(alloc, name_of(file), pointer, failure)),
+    }
+}
+
+/// Runs the task on a file, and replaces its content by the result.
+fn in_place(
+    rt: &HostRuntime,
+    file: Option<&str>,
+    task: &Task<'_>,
+    layout: Layout,
+    pointer: &str,
+) -> Result<u8, Problem> {
+    let alloc = rt.alloc();
+    let Some(path) = file else {
+        return Err(Problem::new(alloc, USAGE, "--in-place", "needs a file"));
+    };
+    if is_standard(file) {
+        return Err(Problem::new(alloc, USAGE, "--in-place", "needs a file"));
+    }
+    let bytes = read_all(rt, file)?;
+    match document_result(alloc, task, layout, &bytes) {
+        Ok(new) => {
+            if new.as_bytes() != bytes.as_slice() {
+                replace_file(rt, path, new.as_str())?;
+            }
+            Ok(0)
+        }
+        Err(Failure::NotJson) => Err(Problem::of_bytes(alloc, path, &bytes)),
+        Err(failure) => Err(Problem::of_failure(alloc, path, pointer, failure)),
+    }
+}
+
+/// Runs the task on each line of the input, and prints each result as a line.
+fn on_lines(
+    rt: &HostRuntime,
+    file: Option<&str>,
+    task: Task<'_>,
+    layout: Layout,
+    is_strict: bool,
+) -> Result<u8, Problem> {
+    let alloc = rt.alloc();
+    let fallback = fallback_of(rt, &task, layout)?;
+    let name = format!(in alloc; "jp: {}", name_of(file))?;
+    let run = LineTask {
+        task,
+        layout,
+        fallback,
+        name,
+        is_strict,
+    };
+    let source = open(rt, file)?;
+    let Ok(mut input) = BufReader::with_capacity(alloc, BLOCK, source) else {
+        return Err(Problem::Memory);
+    };
+    let Ok(mut output) = BufWriter::with_capacity(alloc, BLOCK, Output::new(rt)) else {
+        return Err(Problem::Memory);
+    };
+    let Ok(mut errors) = BufWriter::with_capacity(alloc, BLOCK, rt.stderr()) else {
+        return Err(Problem::Memory);
+    };
+    match run_lines(alloc, &run, &mut input, &mut output, &mut errors) {
+        Ok(Ended::Fine) => Ok(0),
+        Ok(Ended::Faults | Ended::Stopped) => Ok(NOT_APPLIED),
+        Err(Failure::Read) => Err(input.get_ref().read_problem(alloc, name_of(file))),
+        Err(Failure::Write) => Err(output.get_ref().problem(alloc)),
+        Err(_) => Err(Problem::Memory),
+    }
+}
+
+/// Returns what is printed for a line at fault: the value of `--default`, which must be one line.
+fn fallback_of(
+    rt: &HostRuntime,
+    task: &Task<'_>,
+    layout: Layout,
+) -> Result<Option<String>, Problem> {
+    let alloc = rt.alloc();
+    let Task::Get(_, Some(value)) = task else {
+        return Ok(None);
+    };
+    let mut text = show(alloc, value, layout)?;
+    if text.as_bytes().contains(&b'\n') {
+        let message = "contains a line break, which --lines does not allow";
+        return Err(Problem::new(alloc, USAGE, "--default", message));
+    }
+    text.push('\n')?;
+    Ok(Some(text))
+}

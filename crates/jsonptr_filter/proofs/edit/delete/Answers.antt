@@ -1,0 +1,8 @@
+use Rattle.jsonptr.specs.Pointer.{tokens}
+use Rattle.jsonptr_filter.proofs.ResultLemmas.{deletes_then}
+use Rattle.jsonptr_filter.proofs.edit.delete.Goals as goal
+
+pub returns-in-Some-clause-done : goal.returns-in-Some-clause-done
+returns-in-Some-clause-done c =
+    let deleted = rw c.in-Some.is at c.in_ok-edited.ensures.deleted in
+    deletes_then c.args.text.now (tokens c.args.pointer) c.args.layout c.in-Some.edited _ c.restyle.result deleted c.into_string.ensures c.restyle.ensures.done

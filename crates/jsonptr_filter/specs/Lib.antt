@@ -1,0 +1,12 @@
+-- Definitions of the contracts of commands on texts.
+pub mod Failures
+pub mod Layouts
+pub mod Results
+pub mod Differences
+pub mod Documents
+pub mod LineResults
+pub mod Runs
+pub mod PrivateResults
+pub mod PrivateLineResults
+pub mod PrivateRuns
+pub mod PrivateDocuments

@@ -1,0 +1,32 @@
+-- Why a text is not printed anew, and why a patch is not read or applied. Used only by private contracts.
+use Rattle.std.specs.Prelude.{◌≡◌, ◌<◌, List, Some, None, ⊤}
+use Rattle.serde_json.specs.Data.{Data, depth}
+use Rattle.serde_json.specs.Read.{read, max_depth}
+use Rattle.jsonptr_grammar.specs.Text.{Text}
+use Rattle.jsonptr_tree.specs.Json.{nodes}
+use Rattle.jsonptr_patch.specs.Patching.{Patches, RefusesPatch}
+use Rattle.jsonptr_patch.specs.declared.operation.Operation.{Operation}
+use Rattle.jsonptr_patch_document.specs.Document.{IsNoPatch}
+use Rattle.jsonptr_filter.specs.declared.failure.Failure.{Failure}
+use Rattle.jsonptr_filter.specs.declared.failure.Failure.TheVariants.{NotPatch, BadPatch, TooDeep, NotJson, Memory}
+
+-- `IsRestyleError text e`: e is why the document of `text` is not printed, if it is not for memory
+abbrev pub IsRestyleError : Text → Failure → Type 0
+IsRestyleError text NotJson = read text ≡ None
+IsRestyleError text (Memory f) = ⊤
+IsRestyleError text e = ⊥
+
+-- `IsNotPatch patch e`: e is why the document `patch` is not read as a patch, if it is not for memory
+abbrev pub IsNotPatch : Data → Failure → Type 0
+IsNotPatch patch (NotPatch f) = IsNoPatch patch f
+IsNotPatch patch (Memory f) = ⊤
+IsNotPatch patch e = ⊥
+
+-- `FailsToApply text os e`: e is why the operations os are not applied, if it is not for memory
+abbrev pub FailsToApply : Text → List Operation → Failure → Type 0
+FailsToApply text os NotJson = read text ≡ None
+FailsToApply text os (BadPatch f) = (d : Data) × (read text ≡ Some d) × RefusesPatch (nodes d) os f
+FailsToApply text os TooDeep =
+    (d d2 : Data) × (read text ≡ Some d) × (max_depth < depth d2) × Patches (nodes d) os (nodes d2)
+FailsToApply text os (Memory f) = ⊤
+FailsToApply text os e = ⊥

@@ -1,0 +1,111 @@
+-- The text that a task makes of the text of a document, and why it makes none.
+use Rattle.std.specs.Prelude.{◌≡◌, ◌<◌, ◌⊎◌, List, Option, Some, None, ⊤}
+use Rattle.serde_json.specs.Data.{Data, depth}
+use Rattle.serde_json.specs.Read.{read, max_depth}
+use Rattle.serde_json.specs.View.{view}
+use Rattle.serde_json.specs.declared.value.Value.{Value}
+use Rattle.jsonptr_grammar.specs.Text.{Text}
+use Rattle.jsonptr_tree.specs.Node.{NodeMap}
+use Rattle.jsonptr_tree.specs.Json.{nodes}
+use Rattle.jsonptr.specs.Pointer.{tokens}
+use Rattle.jsonptr.specs.declared.resolve.Error.{Error}
+use Rattle.jsonptr_patch.specs.Patching.{Patches, RefusesPatch}
+use Rattle.jsonptr_patch.specs.declared.operation.Operation.{Operation}
+use Rattle.jsonptr_patch_document.specs.Document.{IsPatch, IsNoPatch}
+use Rattle.jsonptr_in_text.specs.InText.{FindsInText, RefusesInText}
+use Rattle.jsonptr_edit_in_text.specs.EditInText.{AssignsInText, IsAssignError, DeletesInText, LacksInText}
+use Rattle.jsonptr_edit_in_text.specs.declared.edited.EditError.TheVariants as edit
+use Rattle.jsonptr_filter.specs.Layouts.{Shows}
+use Rattle.jsonptr_filter.specs.declared.failure.Failure.{Failure}
+use Rattle.jsonptr_filter.specs.declared.failure.Failure.TheVariants.{NotPatch, NoValue, BadPlace, NotThere, BadPatch, TooDeep, NotJson, Memory}
+use Rattle.jsonptr_filter.specs.declared.layout.Layout.{Layout}
+use Rattle.jsonptr_filter.specs.declared.layout.Layout.TheVariants.{Kept, Compact, Pretty, Raw}
+use Rattle.jsonptr_filter.specs.declared.task.Task.{Task}
+use Rattle.jsonptr_filter.specs.declared.task.Task.TheVariants.{Get, Set, Delete, Patch}
+
+-- `Restyles layout text out`: `out` is the document of `text` in this layout
+abbrev pub Restyles : Layout → Text → Text → Type 0
+Restyles Kept text out = out ≡ text
+Restyles Compact text out = (d : Data) × (read text ≡ Some d) × Shows Compact d out
+Restyles Pretty text out = (d : Data) × (read text ≡ Some d) × Shows Pretty d out
+Restyles Raw text out = (d : Data) × (read text ≡ Some d) × Shows Raw d out
+
+-- `Finds text ts fallback v`: v is the value that the tokens identify in the document of `text`. If they identify none,
+-- v is the value in `fallback`
+abbrev pub Finds : Text → List Text → Option Value → Data → Type 0
+Finds text ts fallback v =
+    FindsInText text ts v
+    ⊎ ((other : Value) × (e : Error) × (fallback ≡ Some other) × (v ≡ view other) × RefusesInText text ts e)
+
+-- `Gets text ts fallback layout out`: `out` is the text of that value in this layout
+abbrev pub Gets : Text → List Text → Option Value → Layout → Text → Type 0
+Gets text ts fallback layout out = (v : Data) × Finds text ts fallback v × Shows layout v out
+
+-- `Sets text ts v layout out`: `out` is the document of `text` with v assigned at the tokens, in this layout
+abbrev pub Sets : Text → List Text → NodeMap → Layout → Text → Type 0
+Sets text ts v layout out = (new : Text) × AssignsInText text ts v new × Restyles layout new out
+
+-- `Deletes text ts layout out`: `out` is the document of `text` without the value at the tokens, in this layout
+abbrev pub Deletes : Text → List Text → Layout → Text → Type 0
+Deletes text ts layout out = (new : Text) × DeletesInText text ts new × Restyles layout new out
+
+-- `PatchesInText text os new`: both texts are documents, and the operations os turn the first into the second
+abbrev pub PatchesInText : Text → List Operation → Text → Type 0
+PatchesInText text os new =
+    (d d2 : Data) × (read text ≡ Some d) × (read new ≡ Some d2) × Patches (nodes d) os (nodes d2)
+
+-- `PatchesBy text patch layout out`: `out` is the document of `text` after the operations that the document `patch` is,
+-- in this layout
+abbrev pub PatchesBy : Text → Data → Layout → Text → Type 0
+PatchesBy text patch layout out =
+    (os : List Operation) × (new : Text)
+    × IsPatch patch os × PatchesInText text os new × Restyles layout new out
+
+-- `Yields task layout text out`: `out` is the result of the task on `text`, in this layout
+abbrev pub Yields : Task → Layout → Text → Text → Type 0
+Yields (Get p fallback) layout text out = Gets text (tokens p) fallback layout out
+Yields (Set p v) layout text out = Sets text (tokens p) (nodes (view v)) layout out
+Yields (Delete p) layout text out = Deletes text (tokens p) layout out
+Yields (Patch d) layout text out = PatchesBy text (view d) layout out
+
+-- `FailsToGet text ts fallback e`: e is why no value is found, if it is not for memory
+abbrev pub FailsToGet : Text → List Text → Option Value → Failure → Type 0
+FailsToGet text ts fallback NotJson = read text ≡ None
+FailsToGet text ts fallback (NoValue f) = (fallback ≡ None) × RefusesInText text ts f
+FailsToGet text ts fallback (Memory f) = ⊤
+FailsToGet text ts fallback e = ⊥
+
+-- `FailsToSet text ts v e`: e is why v is not assigned at the tokens, if it is not for memory
+abbrev pub FailsToSet : Text → List Text → NodeMap → Failure → Type 0
+FailsToSet text ts v NotJson = read text ≡ None
+FailsToSet text ts v (BadPlace f) = IsAssignError text ts v (edit.Refused f)
+FailsToSet text ts v TooDeep = IsAssignError text ts v edit.TooDeep
+FailsToSet text ts v (Memory f) = ⊤
+FailsToSet text ts v e = ⊥
+
+-- `FailsToDelete text ts e`: e is why nothing is deleted, if it is not for memory
+abbrev pub FailsToDelete : Text → List Text → Failure → Type 0
+FailsToDelete text ts NotJson = read text ≡ None
+FailsToDelete text ts NotThere = LacksInText text ts
+FailsToDelete text ts (Memory f) = ⊤
+FailsToDelete text ts e = ⊥
+
+-- `FailsToPatch text patch e`: e is why the patch is not applied, if it is not for memory
+abbrev pub FailsToPatch : Text → Data → Failure → Type 0
+FailsToPatch text patch (NotPatch f) = IsNoPatch patch f
+FailsToPatch text patch NotJson = read text ≡ None
+FailsToPatch text patch (BadPatch f) =
+    (os : List Operation) × (d : Data)
+    × IsPatch patch os × (read text ≡ Some d) × RefusesPatch (nodes d) os f
+FailsToPatch text patch TooDeep =
+    (os : List Operation) × (d d2 : Data)
+    × IsPatch patch os × (read text ≡ Some d) × (max_depth < depth d2) × Patches (nodes d) os (nodes d2)
+FailsToPatch text patch (Memory f) = ⊤
+FailsToPatch text patch e = ⊥
+
+-- `Fails task text e`: e is why the task has no result on `text`, if it is not for memory
+abbrev pub Fails : Task → Text → Failure → Type 0
+Fails (Get p fallback) text e = FailsToGet text (tokens p) fallback e
+Fails (Set p v) text e = FailsToSet text (tokens p) (nodes (view v)) e
+Fails (Delete p) text e = FailsToDelete text (tokens p) e
+Fails (Patch d) text e = FailsToPatch text (view d) e

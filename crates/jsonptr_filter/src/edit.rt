@@ -1,0 +1,94 @@
+//! Changing a document in its text, and printing it anew where that is wanted.
+ghost use Rattle.std.specs.Prelude.{◌≡◌, Some, IfOk, IfErr, string_bytes};
+ghost use Rattle.serde_json.specs.Read.{read};
+ghost use Rattle.serde_json.specs.View.{view};
+ghost use Rattle.jsonptr.specs.Pointer.{tokens};
+ghost use Rattle.jsonptr_tree.specs.Json.{nodes};
+ghost use Rattle.jsonptr_filter.specs.Results.{Restyles, Sets, Deletes, FailsToSet, FailsToDelete};
+ghost use Rattle.jsonptr_filter.specs.PrivateResults.{IsRestyleError};
+
+use crate::failure::Failure;
+use crate::layout::{Layout, show};
+use jsonptr::Pointer;
+use jsonptr_edit_in_text::{assign_in_text, delete_in_text};
+use serde_json::Value;
+use std::alloc::{AllocError, Global};
+
+/// Assigns the value at the pointer in the text, and returns the new document in this layout.
+///
+/// # Errors
+///
+/// Those of [`Task::Set`](crate::task::Task::Set).
+pub fn set(
+    alloc: Global,
+    text: &str,
+    pointer: Pointer<'_>,
+    value: &Value,
+    layout: Layout,
+) -> Result<String, Failure>
+    ensures done { IfOk result (λ s. Sets text.now (tokens pointer.entry)
+        (nodes (view value.now)) layout (string_bytes s)) }
+    ensures failed { IfErr result (FailsToSet text.now (tokens pointer.entry)
+        (nodes (view value.now))) }
+{
+    let edited = assign_in_text(alloc, text, pointer, value.clone()?)?;
+    restyle(alloc, edited.into_string(), layout)
+}
+
+/// Deletes the value that the pointer resolves to in the text, and returns the new document in this
+/// layout.
+///
+/// # Errors
+///
+/// Those of [`Task::Delete`](crate::task::Task::Delete).
+pub fn delete(
+    alloc: Global,
+    text: &str,
+    pointer: Pointer<'_>,
+    layout: Layout,
+) -> Result<String, Failure>
+    ensures done { IfOk result (λ s. Deletes text.now (tokens pointer.entry) layout
+        (string_bytes s)) }
+    ensures failed { IfErr result (FailsToDelete text.now (tokens pointer.entry)) }
+{
+    match delete_in_text(alloc, text, pointer)? {
+        Some(edited) => restyle(alloc, edited.into_string(), layout),
+        None => Err(Failure::NotThere),
+    }
+}
+
+/// Returns the document of the text in this layout.
+///
+/// # Errors
+///
+/// [`Failure::NotJson`] if the text is not JSON, and [`Failure::Memory`] if an allocation fails. With
+/// [`Layout::Kept`] the text is returned as it is.
+pub fn restyle(alloc: Global, text: String, layout: Layout) -> Result<String, Failure>
+    ensures done { IfOk result
+        (λ s. Restyles layout (string_bytes text) (string_bytes s)) }
+    ensures failed { IfErr result (IsRestyleError (string_bytes text)) }
+{
+    match layout {
+        Layout::Kept => Ok(text),
+        layout => {
+            let document = read_text(alloc, text.as_str())?;
+            Ok(show(alloc, &document, layout)?)
+        }
+    }
+}
+
+/// Reads the document that the text is.
+///
+/// # Errors
+///
+/// [`Failure::NotJson`] if the text is not JSON, and [`Failure::Memory`] if an allocation fails.
+pub fn read_text(alloc: Global, text: &str) -> Result<Value, Failure>
+    ensures done { IfOk result (λ v. read text.now ≡ Some (view v)) }
+    ensures failed { IfErr result (IsRestyleError text.now) }
+{
+    match Value::from_str(alloc, text) {
+        Ok(value) => Ok(value),
+        Err(error) if error.is_memory() => Err(Failure::Memory(AllocError)),
+        Err(_) => Err(Failure::NotJson),
+    }
+}

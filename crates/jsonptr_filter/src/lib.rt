@@ -1,0 +1,23 @@
+//! What the commands of a program do with the text of a JSON document, and with a document on each
+//! line of an input.
+//!
+//! - [`task`]: what to do with a document: find a value, assign one, delete one, or apply a patch.
+//! - [`layout`]: how the result is printed.
+//! - [`result`]: the result of a task on one text.
+//! - [`difference`]: the patch document that turns one document into another.
+//! - [`document`]: a task on one document, from a reader to a writer.
+//! - [`lines`]: a task on each line of an input.
+//! - [`patching`]: applying a patch document.
+//! - [`failure`]: the errors, and the exit status of each.
+#![tactic(auto)]
+
+pub mod difference;
+pub mod document;
+mod edit;
+pub mod failure;
+pub mod layout;
+pub mod line;
+pub mod lines;
+pub mod patching;
+pub mod result;
+pub mod task;

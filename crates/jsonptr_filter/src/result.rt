@@ -1,0 +1,86 @@
+//! The result of a task on the text of a document.
+ghost use Rattle.std.specs.Prelude.{IfOk, IfErr, string_bytes};
+ghost use Rattle.jsonptr.specs.Pointer.{tokens};
+ghost use Rattle.jsonptr_filter.specs.Results.{Yields, Fails, Gets, FailsToGet};
+
+use crate::edit::{delete, set};
+use crate::failure::Failure;
+use crate::layout::{Layout, show};
+use crate::patching::patch;
+use crate::task::Task;
+use jsonptr::Pointer;
+use jsonptr_in_text::{InTextError, resolve_in_text};
+use serde_json::Value;
+use std::alloc::Global;
+
+/// Returns the text that the task makes of the text of a document.
+///
+/// [`Task::Get`] finds its value in the text, and reads no document. [`Task::Set`] and
+/// [`Task::Delete`] edit the text, as `jsonptr_edit_in_text` does. [`Task::Patch`] reads the document
+/// and prints it without white space. In a layout other than [`Layout::Kept`] the new document is
+/// then printed anew.
+///
+/// # Errors
+///
+/// - [`Failure::NotJson`] if the text is not JSON.
+/// - [`Failure::NoValue`], [`Failure::BadPlace`] and [`Failure::NotThere`] if the pointer does not
+///   apply.
+/// - [`Failure::NotPatch`] if the patch document is not a patch, and [`Failure::BadPatch`] if an
+///   operation fails.
+/// - [`Failure::TooDeep`] if the new document nests deeper than 127.
+/// - [`Failure::Memory`] if an allocation fails.
+///
+/// # Examples
+///
+/// ```rust
+/// let task = Task::Set(Pointer::parse("/b")?, Value::from(2));
+/// let new = result_in_text(alloc, &task, Layout::Kept, "{\"a\": 1, \"b\": 1}")?;
+/// assert_eq!(rt; new.as_str(), "{\"a\": 1, \"b\": 2}");
+/// let get = Task::Get(Pointer::parse("/c")?, Some(Value::Null));
+/// let other = result_in_text(alloc, &get, Layout::Kept, new.as_str())?;
+/// assert_eq!(rt; other.as_str(), "null");
+/// ```
+pub fn result_in_text(
+    alloc: Global,
+    task: &Task<'_>,
+    layout: Layout,
+    text: &str,
+) -> Result<String, Failure>
+    ensures done { IfOk result (λ s. Yields task.now layout text.now (string_bytes s)) }
+    ensures failed { IfErr result (Fails task.now text.now) }
+{
+    match task {
+        Task::Get(pointer, fallback) => get(alloc, text, *pointer, fallback, layout),
+        Task::Set(pointer, value) => set(alloc, text, *pointer, value, layout),
+        Task::Delete(pointer) => delete(alloc, text, *pointer, layout),
+        Task::Patch(document) => patch(alloc, text, document, layout),
+    }
+}
+
+/// Returns the text of the value that the pointer resolves to in the text, or else that of the other
+/// value, if there is one.
+///
+/// # Errors
+///
+/// Those of [`Task::Get`].
+fn get(
+    alloc: Global,
+    text: &str,
+    pointer: Pointer<'_>,
+    fallback: &Option<Value>,
+    layout: Layout,
+) -> Result<String, Failure>
+    ensures done { IfOk result (λ s. Gets text.now (tokens pointer.entry) fallback.now layout
+        (string_bytes s)) }
+    ensures failed { IfErr result (FailsToGet text.now (tokens pointer.entry) fallback.now) }
+{
+    match resolve_in_text(alloc, text, pointer) {
+        Ok(value) => Ok(show(alloc, &value, layout)?),
+        Err(InTextError::Resolve(error)) => match fallback {
+            Some(value) => Ok(show(alloc, value, layout)?),
+            None => Err(Failure::NoValue(error)),
+        },
+        Err(InTextError::NotJson) => Err(Failure::NotJson),
+        Err(InTextError::Memory(error)) => Err(Failure::Memory(error)),
+    }
+}

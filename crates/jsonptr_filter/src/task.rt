@@ -1,0 +1,18 @@
+//! What to do with a document.
+
+use jsonptr::Pointer;
+use serde_json::Value;
+
+/// What to do with a document.
+#[derive(Debug, Drop)]
+pub enum Task<'a> {
+    /// Finds the value that the pointer resolves to. If there is none, the other value is the
+    /// result, if there is one.
+    Get(Pointer<'a>, Option<Value>),
+    /// Assigns the value at the pointer.
+    Set(Pointer<'a>, Value),
+    /// Deletes the value that the pointer resolves to.
+    Delete(Pointer<'a>),
+    /// Applies the patch that this document is (RFC 6902).
+    Patch(Value),
+}

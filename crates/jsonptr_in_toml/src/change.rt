@@ -1,0 +1,112 @@
+//! Finding, assigning and deleting in a TOML text.
+ghost use Rattle.std.specs.Prelude.{IfOk, IfErr, string_bytes};
+ghost use Rattle.toml.specs.View.{view};
+ghost use Rattle.jsonptr.specs.Pointer.{tokens};
+ghost use Rattle.jsonptr_in_toml.specs.InToml.{FindsInToml, AssignsInToml, DeletesInToml, FailsToFind, FailsToAssign, FailsToDelete};
+
+use crate::document::{print_toml, read_toml};
+use crate::error::InTomlError;
+use jsonptr::{Assign, Delete, Fault, Pointer, Resolve};
+use std::alloc::Global;
+use toml::Value;
+
+// The most tokens of a pointer to assign at, which is the depth that the kit's reader allows.
+const MAX_TOKENS: usize = 80;
+
+/// Returns the value that the pointer resolves to in the document that the text contains.
+///
+/// # Errors
+///
+/// - [`InTomlError::NotToml`] if the text is not TOML.
+/// - [`InTomlError::NoValue`] if the pointer does not resolve to a value.
+/// - [`InTomlError::Memory`] if an allocation fails.
+///
+/// # Examples
+///
+/// ```rust
+/// let port = Pointer::parse("/server/port")?;
+/// let value = find_in_toml(alloc, "[server]\nport = 80\n", port)?;
+/// assert_eq!(rt; value.as_integer(), Some(80));
+/// ```
+pub fn find_in_toml(alloc: Global, text: &str, pointer: Pointer<'_>) -> Result<Value, InTomlError>
+    ensures done { IfOk result (λ v. FindsInToml text.now (tokens pointer.entry) (view v)) }
+    ensures failed { IfErr result (FailsToFind text.now (tokens pointer.entry)) }
+{
+    let document = read_toml(alloc, text)?;
+    match document.resolve(alloc, pointer) {
+        Ok(found) => Ok(found.clone()?),
+        Err(Fault::Refused(error)) => Err(InTomlError::NoValue(error)),
+        Err(Fault::Memory(error)) => Err(InTomlError::Memory(error)),
+    }
+}
+
+/// Assigns the value at the pointer, and returns the text of the new document.
+///
+/// # Errors
+///
+/// - [`InTomlError::TooDeep`] if the pointer has more than 80 tokens.
+/// - [`InTomlError::NotToml`] if the text is not TOML.
+/// - [`InTomlError::BadPlace`] if no value can be assigned at the pointer.
+/// - [`InTomlError::NoText`] if the new document is not a table.
+/// - [`InTomlError::Memory`] if an allocation fails.
+///
+/// # Examples
+///
+/// ```rust
+/// let port = Pointer::parse("/port")?;
+/// let new = assign_in_toml(alloc, "port = 80 # as ever\n", port, 8080.into())?;
+/// assert_eq!(rt; new.as_str(), "port = 8080\n");
+/// ```
+pub fn assign_in_toml(
+    alloc: Global,
+    text: &str,
+    pointer: Pointer<'_>,
+    value: Value,
+) -> Result<String, InTomlError>
+    ensures done { IfOk result (λ s. AssignsInToml text.now (tokens pointer.entry) (view value)
+        (string_bytes s)) }
+    ensures failed { IfErr result (FailsToAssign text.now (tokens pointer.entry) (view value)) }
+{
+    if pointer.count() > MAX_TOKENS {
+        return Err(InTomlError::TooDeep);
+    }
+    let mut document = read_toml(alloc, text)?;
+    match document.assign(alloc, pointer, value) {
+        Ok(_) => {}
+        Err(Fault::Refused(error)) => return Err(InTomlError::BadPlace(error)),
+        Err(Fault::Memory(error)) => return Err(InTomlError::Memory(error)),
+    }
+    print_toml(alloc, &document)
+}
+
+/// Deletes the value that the pointer resolves to, and returns the text of the new document. Deleting
+/// the root leaves an empty document.
+///
+/// # Errors
+///
+/// - [`InTomlError::NotToml`] if the text is not TOML.
+/// - [`InTomlError::NotThere`] if the pointer does not resolve to a value.
+/// - [`InTomlError::Memory`] if an allocation fails.
+///
+/// # Examples
+///
+/// ```rust
+/// let port = Pointer::parse("/port")?;
+/// let new = delete_in_toml(alloc, "port = 80\nname = 'a'\n", port)?;
+/// assert_eq!(rt; new.as_str(), "name = \"a\"\n");
+/// ```
+pub fn delete_in_toml(
+    alloc: Global,
+    text: &str,
+    pointer: Pointer<'_>,
+) -> Result<String, InTomlError>
+    ensures done { IfOk result
+        (λ s. DeletesInToml text.now (tokens pointer.entry) (string_bytes s)) }
+    ensures failed { IfErr result (FailsToDelete text.now (tokens pointer.entry)) }
+{
+    let mut document = read_toml(alloc, text)?;
+    match document.delete(alloc, pointer)? {
+        Some(_) => print_toml(alloc, &document),
+        None => Err(InTomlError::NotThere),
+    }
+}

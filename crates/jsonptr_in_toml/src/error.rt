@@ -1,0 +1,41 @@
+//! Why a value is not found or changed in a TOML text.
+ghost use Rattle.std.specs.Prelude.{◌≡◌};
+ghost use Rattle.jsonptr_in_toml.specs.declared.error.InTomlError.TheVariants.{Memory};
+
+use jsonptr::{assign, resolve};
+use std::alloc::AllocError;
+use thiserror::Error;
+
+/// Why a value is not found or changed in a TOML text.
+#[derive(Debug, Drop, Error)]
+pub enum InTomlError {
+    /// The text is not a TOML document.
+    #[error("not TOML")]
+    NotToml,
+    /// The pointer does not resolve to a value.
+    #[error(transparent)]
+    NoValue(resolve::Error),
+    /// No value can be assigned at the pointer.
+    #[error(transparent)]
+    BadPlace(assign::Error),
+    /// The pointer of the value to delete does not resolve.
+    #[error("delete failed: json pointer does not resolve")]
+    NotThere,
+    /// The pointer has more than 80 tokens. A document that nests deeper could not be read.
+    #[error("the pointer has more than 80 tokens")]
+    TooDeep,
+    /// The new document is not a table, or has a date-time that TOML has no text for.
+    #[error("the new document has no TOML text")]
+    NoText,
+    /// An allocation failed.
+    #[error("out of memory")]
+    Memory(AllocError),
+}
+
+impl From<AllocError> for InTomlError {
+    ghost from_gives = { λ error fault. fault ≡ Memory error };
+
+    fn from(error: AllocError) -> InTomlError {
+        InTomlError::Memory(error)
+    }
+}

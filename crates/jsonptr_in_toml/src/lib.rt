@@ -1,0 +1,21 @@
+//! Finds and changes values in the text of a TOML document. The document is read, and printed anew
+//! after a change: its comments and its layout are not kept.
+//!
+//! ```rust
+//! let text = "# The size\nsize = 3\n";
+//! let size = Pointer::parse("/size")?;
+//! assert_eq!(rt; find_in_toml(alloc, text, size)?.as_integer(), Some(3));
+//! let new = assign_in_toml(alloc, text, size, 5.into())?;
+//! assert_eq!(rt; new.as_str(), "size = 5\n");
+//! ```
+//!
+//! In the examples `rt` is the runtime that `main` and each test receive, and `alloc` is
+//! `rt.alloc()`, the allocator.
+#![tactic(auto)]
+
+mod change;
+mod document;
+mod error;
+
+pub use change::{assign_in_toml, delete_in_toml, find_in_toml};
+pub use error::InTomlError;

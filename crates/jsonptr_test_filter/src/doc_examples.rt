@@ -1,0 +1,10 @@
+//! The examples in doc comments. `tools/doc_examples.py --write` makes these files.
+mod filter_difference;
+mod filter_document;
+mod filter_layout;
+mod filter_lines;
+mod filter_result;
+mod in_toml_change;
+mod in_toml_lib;
+mod lines_read;
+mod lines_write;

@@ -1,0 +1,7 @@
+//! Tests of commands on texts, over public items alone.
+#![tactic(auto)]
+
+#[cfg(test)]
+mod doc_examples;
+#[cfg(test)]
+mod streams;

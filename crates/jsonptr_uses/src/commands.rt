@@ -1,0 +1,34 @@
+//! A command of one's own on the text of a document.
+ghost use Rattle.std.specs.Prelude.{IfOk, string_bytes};
+ghost use Rattle.serde_json.specs.Data.{string};
+ghost use Rattle.jsonptr.specs.Json.{nodes};
+ghost use Rattle.jsonptr.specs.Pointer.{tokens};
+ghost use Rattle.jsonptr_edit_in_text.specs.EditInText.{AssignsInText};
+
+use jsonptr::Pointer;
+use jsonptr_filter::failure::Failure;
+use jsonptr_filter::layout::Layout;
+use jsonptr_filter::result::result_in_text;
+use jsonptr_filter::task::Task;
+use serde_json::Value;
+use std::alloc::Global;
+
+/// Returns the text of the document with this string assigned at the pointer. The layout of the text
+/// stays.
+///
+/// # Errors
+///
+/// Those of [`result_in_text`].
+pub fn with_string(
+    alloc: Global,
+    text: &str,
+    pointer: Pointer<'_>,
+    value: &str,
+) -> Result<String, Failure>
+    ensures { IfOk result (λ s. AssignsInText text.now (tokens pointer.entry)
+        (nodes (string value.now)) (string_bytes s)) }
+{
+    let value = Value::String(String::from_str(alloc, value)?);
+    let task = Task::Set(pointer, value);
+    result_in_text(alloc, &task, Layout::Kept, text)
+}

@@ -1,0 +1,400 @@
+"""Runs the built program `jp` as a process: its commands, errors, streams and files, and the examples of its guide.
+
+It needs Linux, bash, a C compiler, and a user `nobody` if it runs as root. It also checks that the man page, the
+completions and the guide name each command and flag that `--help` shows.
+"""
+import json
+import os
+import re
+import shutil
+import stat
+import subprocess
+import sys
+import tempfile
+from concurrent.futures import ThreadPoolExecutor
+from typing import NamedTuple
+
+from call_cases import RESOLVE_NOT_FOUND
+from harness import TOOLS, TOP, CheckFailed, build_shim, program, run_with_shim
+
+PROGRAM = program("jsonptr_cli")
+SECONDS = 60
+GUIDE = f"{TOP}/docs/COMMAND_LINE.md"
+INSTALLED = {
+    "man page": f"{TOP}/crates/jsonptr_cli/install/jp.1",
+    "completions for bash": f"{TOP}/crates/jsonptr_cli/install/jp.bash",
+    "completions for zsh": f"{TOP}/crates/jsonptr_cli/install/_jp",
+}
+CONSOLE = re.compile(r"^```console\n(.*?)^```$", re.MULTILINE | re.DOTALL)
+MARK = "-- next --"
+LINES = 100_000
+
+
+class Case(NamedTuple):
+    """Arguments and input of a run, its two outputs, and its exit status."""
+
+    words: tuple
+    input: str
+    output: str
+    errors: str = ""
+    status: int = 0
+
+
+TEXT = '{\n  "b": 1.0,\n  "a/b": [1, 2]\n}\n'
+NOT_FOUND = RESOLVE_NOT_FOUND.format(0)
+
+
+def cases():
+    """Commands that succeed and fail, on standard input."""
+    yield Case(("get", "/b"), TEXT, "1.0\n")
+    yield Case(("get", "/a~1b/1", "-"), TEXT, "2\n")
+    yield Case(("get", ""), TEXT, '{"a/b":[1,2],"b":1.0}\n')
+    yield Case(("get", "--pretty", "/a~1b"), TEXT, "[\n  1,\n  2\n]\n")
+    yield Case(("get", "--compact", "/a~1b"), TEXT, "[1,2]\n")
+    yield Case(("get", "/s"), '{"s":"x\\n\\u00e9"}', '"x\\né"\n')
+    yield Case(("get", "--raw", "/s"), '{"s":"x\\n\\u00e9"}', "x\né\n")
+    yield Case(("get", "--raw", "/s"), '{"s":[1, "x"]}', '[1,"x"]\n')
+    yield Case(("get", "--default", "-1", "/c"), TEXT, "-1\n")
+    yield Case(("get", "--default", '"x"', "--raw", "/c"), TEXT, "x\n")
+    yield Case(("get", "--default", "[1, 2]", "/b"), TEXT, "1.0\n")
+    yield Case(("set", "/b", "2"), TEXT, TEXT.replace("1.0", "2"))
+    yield Case(("set", "/b", "-2"), TEXT, TEXT.replace("1.0", "-2"))
+    yield Case(("set", "/b", '{"x": [ ]}'), '{"b":0}', '{"b":{"x": [ ]}}'.replace(": [ ]", ":[]"))
+    yield Case(("set", "/a~1b/-", "3"), TEXT, TEXT.replace("2]", "2, 3]"))
+    yield Case(("set", "--compact", "/c", "null"), TEXT, '{"a/b":[1,2],"b":1.0,"c":null}\n')
+    yield Case(("set", "--pretty", "", "[[]]"), "1", "[\n  []\n]\n")
+    yield Case(("delete", "/b"), TEXT, '{\n  "a/b": [1, 2]\n}\n')
+    yield Case(("delete", "--compact", "/a~1b/0"), TEXT, '{"a/b":[2],"b":1.0}\n')
+    patch = '[{"op":"remove","path":"/a"}]'
+    yield Case(("patch", "--check", "-", "/dev/null"), patch, "", "jp: /dev/null: not JSON: EOF while parsing at line 1 column 0\n", 3)
+    bad = '[{"op":"remove","path":"/a~b"}]'
+    message = "not a JSON Patch document: member `path` of operation 0: json pointer failed to parse; the first token in the partial-pointer starting at offset 0 is malformed"
+    drawn = "/a~b\n  ^^ '~' must be followed by '0' or '1'"
+    yield Case(("patch", "-", "/dev/null"), bad, "", f"jp: standard input: {message}\n{drawn}\n", 1)
+    yield Case(("diff", "/dev/null", "-"), "1", "", "jp: /dev/null: not JSON: EOF while parsing at line 1 column 0\n", 3)
+    yield Case(("tokens", "/a~1b//~0"), "", '["a/b","","~"]\n')
+    yield Case(("tokens", "--raw", "/a~1b/x"), "", "a/b\nx\n")
+    yield Case(("tokens", ""), "", "[]\n")
+    yield Case(("escape", "a/b~c"), "", "a~1b~0c\n")
+    yield Case(("escape", "--", "-x"), "", "-x\n")
+    yield Case(("unescape", "a~1b~0c"), "", "a/b~c\n")
+    yield from failing()
+
+
+def failing():
+    """Errors: a line that names the input, and the pointer with carets below the token at fault."""
+    missing = f"jp: standard input: {NOT_FOUND}\n/c\n ^ not found in value\n"
+    yield Case(("get", "/c"), TEXT, "", missing, 1)
+    yield Case(("delete", "/c"), TEXT, "", "jp: standard input: delete failed: json pointer does not resolve\n", 1)
+    not_json = "jp: standard input: not JSON: EOF while parsing at line 1 column 1\n"
+    for words in [("get", "/a"), ("set", "/a", "1"), ("delete", "/a")]:
+        yield Case(words, "{", "", not_json, 3)
+    value = "jp: JSON: not JSON: invalid JSON at line 1 column 1\n"
+    yield Case(("set", "/a", "x"), TEXT, "", value, 3)
+
+
+def usage():
+    """Command lines that are wrong: status 2, nothing on standard output, and the usage on standard error."""
+    yield ()
+    yield ("find",)
+    yield ("get",)
+    yield ("get", "/a", "b", "c")
+    yield ("get", "--raw", "--pretty", "/a")
+    yield ("get", "--strict", "/a")
+    yield ("get", "--in-place", "/a", "f")
+    yield ("set", "/a")
+    yield ("set", "/a", "1", "-i")
+    yield ("set", "/a", "1", "-i", "-")
+    yield ("set", "/a", "1", "f", "-i", "--lines")
+    yield ("get", "--lines", "--raw", "--default", '"a\\nb"', "/a")
+    yield ("delete", "/a", "--unknown")
+    yield ("patch", "-", "-")
+    yield ("patch", "x", "y", "--check", "-i")
+
+
+def run(words, text="", **options):
+    """Runs the program on a text."""
+    given = text.encode(errors="surrogateescape")
+    words = [word.encode(errors="surrogateescape") for word in words]
+    return subprocess.run([PROGRAM, *words], input=given, capture_output=True, timeout=SECONDS, **options)
+
+
+def check_result(case, given):
+    """Checks that a run has the result of its case."""
+    wanted = (case.output.encode(), case.errors.encode(), case.status)
+    if (given.stdout, given.stderr, given.returncode) != wanted:
+        found = f"status {given.returncode}, {given.stdout[:300]!r}, {given.stderr[:300]!r}"
+        expected = f"status {case.status}, {case.output[:300]!r}, {case.errors[:300]!r}"
+        raise CheckFailed(f"{case.words} on {case.input[:80]!r}: {found}, and not {expected}")
+
+
+def check_usage():
+    """Checks wrong command lines, `--help` of each command and `--version`, and returns the number of runs."""
+    runs = 0
+    for words in usage():
+        given = run(words)
+        if given.returncode != 2 or given.stdout or not given.stderr:
+            raise CheckFailed(f"{words}: status {given.returncode}, {given.stdout!r}, {given.stderr!r}")
+        runs += 1
+    for command in [(), *((name,) for name in commands())]:
+        given = run((*command, "--help"))
+        if given.returncode or given.stderr or b"Usage: jp" not in given.stdout:
+            raise CheckFailed(f"{command} --help: status {given.returncode}, {given.stdout!r}, {given.stderr!r}")
+        runs += 1
+    version = run(("--version",)).stdout.decode()
+    if not re.fullmatch(r"jp \d+\.\d+\.\d+\n", version):
+        raise CheckFailed(f"--version prints {version!r}")
+    return runs + 1
+
+
+def commands():
+    """Returns the commands that `--help` lists."""
+    text = run(("--help",)).stdout.decode()
+    listed = text.partition("Commands:\n")[2].partition("\n\n")[0]
+    return [name for name in re.findall(r"^  (\S+)", listed, re.MULTILINE) if name != "help"]
+
+
+def flags(command):
+    """Returns the flags that the help of a command lists."""
+    return sorted(set(re.findall(r"--[a-z][a-z-]*", run((command, "--help")).stdout.decode())))
+
+
+def check_documents():
+    """Checks that the man page, the completions and the guide name each command and flag."""
+    for name, path in [*INSTALLED.items(), ("guide", GUIDE)]:
+        with open(path, encoding="utf-8") as file:
+            text = file.read()
+        if path.endswith(".1"):
+            text = re.sub(r"Fl -(?=[a-z])", "--", text)
+        for command in commands():
+            missing = [word for word in [command, *flags(command)] if word not in text]
+            if missing:
+                raise CheckFailed(f"the {name} lacks {missing} of `jp {command}`")
+
+
+def check_streams():
+    """Runs commands on streams that fail, and returns the number of runs."""
+    runs = 0
+    for words in [("get", "/b"), ("set", "/b", "1"), ("get", "--lines", "/b"), ("tokens", "/b")]:
+        text = '{"b":1}\n'
+        with open("/dev/full", "wb") as full:
+            given = subprocess.run([PROGRAM, *words], input=text.encode(), stdout=full, stderr=subprocess.PIPE)
+        if (given.returncode, given.stderr) != (5, b"jp: standard output: writing failed\n"):
+            raise CheckFailed(f"{words} to a full device: status {given.returncode}, {given.stderr!r}")
+        reading, writing = os.pipe()
+        os.close(reading)
+        given = subprocess.run([PROGRAM, *words], input=text.encode(), stdout=writing, stderr=subprocess.PIPE)
+        os.close(writing)
+        if (given.returncode, given.stderr) != (0, b""):
+            raise CheckFailed(f"{words} to a closed pipe: status {given.returncode}, {given.stderr!r}")
+        runs += 2
+    script = f'seq 1 {LINES} | "$1" get --lines "" | head -1; echo "${{PIPESTATUS[*]}}"'
+    given = subprocess.run(["bash", "-c", script, "", PROGRAM], capture_output=True, timeout=SECONDS)
+    if (given.stdout.split(b"\n")[0], given.stderr) != (b"1", b"") or given.stdout.split()[2] != b"0":
+        raise CheckFailed(f"| head -1: {given.stdout!r}, {given.stderr!r}")
+    return runs + 1
+
+
+def check_files(folder):
+    """Runs the program on files that are missing, folders, or unreadable, and returns the number of runs."""
+    path = f"{folder}/secret.json"
+    with open(path, "w", encoding="utf-8") as file:
+        file.write("{}")
+    os.chmod(path, 0)
+    user = {"user": "nobody"} if os.getuid() == 0 else {}
+    wanted = [
+        (f"{folder}/none.json", "No such file or directory (os error 2)"),
+        (folder, "Is a directory (os error 21)"),
+        (path, "Permission denied (os error 13)"),
+    ]
+    runs = 0
+    for name, message in wanted:
+        for words in [("get", "", name), ("get", "--lines", "", name), ("delete", "/a", name, "-i")]:
+            given = run(words, **user)
+            expected = f"jp: {name}: {message}\n"
+            short = f"jp: {name}: reading failed\n"
+            if given.returncode != 5 or given.stdout or given.stderr.decode() not in (expected, short):
+                raise CheckFailed(f"{words}: status {given.returncode}, {given.stderr!r}")
+            runs += 1
+    return runs
+
+
+def damaged_lines():
+    """Returns 100,000 lines of which some are damaged, and what `get` and `set` print and report for them."""
+    lines, found, changed, faults = [], [], [], []
+    for number in range(1, LINES + 1):
+        value = {"id": number, "name": "é" * (number % 7)}
+        line = json.dumps(value, ensure_ascii=number % 2 == 0)
+        if number % 997 == 0:
+            line = line[: number % 13]
+        elif number % 1009 == 0:
+            line = '{"other": 1}'
+        lines.append(line)
+        try:
+            value = json.loads(line)
+        except ValueError:
+            faults.append((number, "not JSON"))
+            continue
+        if "id" in value:
+            found.append(str(value["id"]))
+        else:
+            faults.append((number, NOT_FOUND))
+        changed.append(line.replace(f'"id": {value.get("id")}', '"id": 0') if "id" in value else '{"other": 1, "id": 0}')
+    return lines, found, changed, faults
+
+
+def check_lines():
+    """Checks runs over lines, and returns the number of runs."""
+    lines, found, changed, faults = damaged_lines()
+    text = "".join(f"{line}\n" for line in lines)
+    report = "".join(f"jp: standard input:{number}: {message}\n" for number, message in faults)
+    damaged = "".join(f"jp: standard input:{number}: {message}\n" for number, message in faults if message == "not JSON")
+    each = "".join(f"{line}\n" for line in found)
+    check_result(Case(("get", "--lines", "/id"), text, each, report, 1), run(("get", "--lines", "/id"), text))
+    check_result(Case(("get", "--lines", "/id"), text[:-1], each, report, 1), run(("get", "--lines", "/id"), text[:-1]))
+    each = "".join(f"{line}\n" for line in changed)
+    check_result(Case(("set",), text, each, damaged, 1), run(("set", "--lines", "/id", "0"), text))
+    given = run(("get", "--lines", "--default", "null", "/id"), text)
+    if (given.stdout.count(b"\n"), given.stderr.decode(), given.returncode) != (LINES, damaged, 1):
+        raise CheckFailed(f"--default: {given.stdout.count(10)} lines, status {given.returncode}")
+    first = faults[0][0]
+    each = "".join(f"{line}\n" for line in found[: first - 1])
+    words = ("get", "--lines", "--strict", "/id")
+    check_result(Case(words, text, each, report.partition("\n")[0] + "\n", 1), run(words, text))
+    words = ("get", "--lines", "--raw", "/s")
+    check_result(Case(words, '{"s":"a"}\n{"s":"a\\nb"}\n', "a\n", "jp: standard input:2: the result contains a line break\n", 1),
+                 run(words, '{"s":"a"}\n{"s":"a\\nb"}\n'))
+    return 6
+
+
+def check_in_place(folder):
+    """Checks `--in-place`, also where the program is killed before it renames, and returns the number of runs."""
+    shim = f"{folder}/killed_rename.so"
+    subprocess.run(["cc", "-O2", "-shared", "-fPIC", "-o", shim, f"{TOOLS}/killed_rename.c"], check=True)
+    path, link = f"{folder}/data.json", f"{folder}/link.json"
+    with open(path, "w", encoding="utf-8") as file:
+        file.write(TEXT)
+    os.chmod(path, 0o640)
+    os.symlink("data.json", link)
+    before = os.stat(path)
+    given = run(("set", "/b", "1.0", link, "--in-place"))
+    if given.returncode or given.stderr or os.stat(path).st_ino != before.st_ino:
+        raise CheckFailed(f"a change of nothing wrote the file: {given.stderr!r}")
+    given = run(("set", "/b", "2", link, "--in-place"), env={"LD_PRELOAD": shim})
+    left = sorted(os.listdir(folder))
+    if given.returncode != -9 or read(path) != TEXT or "data.json.jp-0" not in left:
+        raise CheckFailed(f"killed before the rename: status {given.returncode}, {left}, {read(path)!r}")
+    given = run(("set", "/b", "2", link, "-i"))
+    after = os.lstat(link)
+    if given.returncode or given.stdout or given.stderr or read(path) != TEXT.replace("1.0", "2"):
+        raise CheckFailed(f"in place: status {given.returncode}, {given.stderr!r}, {read(path)!r}")
+    if not stat.S_ISLNK(after.st_mode) or stat.S_IMODE(os.stat(path).st_mode) != 0o640:
+        raise CheckFailed("in place: the link or the permissions did not stay")
+    given = run(("delete", "/none", path, "-i"))
+    if given.returncode != 1 or read(path) != TEXT.replace("1.0", "2"):
+        raise CheckFailed(f"in place, with an error: status {given.returncode}, {read(path)!r}")
+    given = run(("delete", "/b", "/dev/null", "-i"))
+    if given.returncode == 0:
+        raise CheckFailed("in place: a device was replaced")
+    return 5 + check_locked(folder, path)
+
+
+def check_locked(folder, path):
+    """Checks that a file in a folder that cannot be written stays as it is."""
+    if os.getuid() != 0:
+        return 0
+    locked = f"{folder}/locked"
+    os.mkdir(locked, 0o755)
+    shutil.copy(path, f"{locked}/data.json")
+    os.chmod(f"{locked}/data.json", 0o644)
+    given = run(("delete", "/b", f"{locked}/data.json", "-i"), user="nobody")
+    if given.returncode != 5 or read(f"{locked}/data.json") != read(path) or os.listdir(locked) != ["data.json"]:
+        raise CheckFailed(f"in a locked folder: status {given.returncode}, {given.stderr!r}")
+    return 1
+
+
+def read(path):
+    """Returns the text of a file."""
+    with open(path, encoding="utf-8") as file:
+        return file.read()
+
+
+def check_memory(case, shim):
+    """Runs a case once for each memory request, with that one failing, and returns the number of requests."""
+    words = [PROGRAM, *case.words]
+    usual, requests, _ = run_with_shim(words, case.input, shim, 0, count="run", may_keep=True)
+    check_result(case, usual)
+    without = Case(case.words, case.input, "", "jp: out of memory\n", 4)
+    for fail in [*range(1, requests + 1), "all"]:
+        given, _, _ = run_with_shim(words, case.input, shim, fail, count="run", may_keep=True)
+        if (given.stdout, given.returncode) == (case.output.encode(), case.status):
+            continue
+        check_result(without, given)
+    return requests
+
+
+def examples():
+    """Yields the commands and outputs of each console block of the guide."""
+    for block in CONSOLE.findall(read(GUIDE)):
+        commands, outputs = [], []
+        for line in block.splitlines():
+            if line.startswith("$ "):
+                commands.append(line[2:])
+                outputs.append("")
+            else:
+                outputs[-1] += line + "\n"
+        yield commands, outputs
+
+
+def check_examples(folder):
+    """Runs the examples of the guide, in order, in one folder, and returns the number of commands.
+
+    `cat FILE` of a file that is not there makes the file.
+    """
+    binaries = f"{folder}/bin"
+    os.mkdir(binaries)
+    os.symlink(PROGRAM, f"{binaries}/jp")
+    environment = {**os.environ, "PATH": f"{binaries}:{os.environ['PATH']}", "LC_ALL": "C.UTF-8"}
+    count = 0
+    for commands, outputs in examples():
+        for command, output in zip(commands, outputs):
+            name = command.removeprefix("cat ")
+            if command.startswith("cat ") and not os.path.exists(f"{folder}/{name}"):
+                with open(f"{folder}/{name}", "w", encoding="utf-8") as file:
+                    file.write(output)
+        script = "".join(f"{command}\ns=$?; echo '{MARK}'; (exit $s)\n" for command in commands)
+        given = subprocess.run(["bash", "-c", script], cwd=folder, env=environment, stdout=subprocess.PIPE,
+                               stderr=subprocess.STDOUT, timeout=SECONDS)
+        found = given.stdout.decode().split(f"{MARK}\n")[:-1]
+        if found != outputs:
+            wrong = next((it for it in zip(commands, outputs, found) if it[1] != it[2]), (commands, outputs, found))
+            raise CheckFailed(f"the guide's example {wrong[0]}: {wrong[2]!r}, and not {wrong[1]!r}")
+        count += len(commands)
+    return count
+
+
+def main():
+    with tempfile.TemporaryDirectory() as folder, ThreadPoolExecutor(os.cpu_count()) as pool:
+        # The user `nobody` runs the program on files below.
+        os.chmod(folder, 0o755)
+        shim = build_shim(folder)
+        # First, and alone: a process that another thread starts can hold the end of a pipe that is closed here.
+        runs = check_streams() + check_usage()
+        for name in ["files", "in_place", "guide"]:
+            os.mkdir(f"{folder}/{name}")
+        runs += check_files(f"{folder}/files") + check_in_place(f"{folder}/in_place") + check_lines()
+        all_cases = list(cases())
+        for case, given in zip(all_cases, pool.map(lambda case: run(case.words, case.input), all_cases)):
+            check_result(case, given)
+        requests = sum(pool.map(lambda case: check_memory(case, shim), all_cases))
+        check_documents()
+        count = check_examples(f"{folder}/guide")
+    runs += len(all_cases)
+    print(f"cli: {runs} runs, {requests} memory requests made to fail, {count} commands of the guide")
+
+
+if __name__ == "__main__":
+    try:
+        main()
+    except CheckFailed as error:
+        sys.exit(f"cli: {error}")
