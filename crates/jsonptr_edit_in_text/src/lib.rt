@@ -20,7 +20,7 @@ mod add;
 mod apply;
 mod assign;
 mod delete;
-pub mod depth;
+mod depth;
 mod edit;
 mod edited;
 mod expand;

@@ -10,7 +10,8 @@ use Rattle.jsonptr_edit_in_text.specs.declared.edited.Edited.{Edited}
 use Rattle.jsonptr_lines.specs.Streams.{AppendsPrefix}
 use Rattle.jsonptr_patch.specs.declared.operation.Operation.{Operation}
 use Rattle.jsonptr_patch_document.specs.Document.{IsPatch}
-use Rattle.jsonptr_filter.specs.Results.{Restyles, Sets, Deletes, PatchesInText, PatchesBy}
+use Rattle.jsonptr_edit_in_text.specs.PatchInText.{PatchesInText}
+use Rattle.jsonptr_filter.specs.Results.{Restyles, Sets, Deletes, PatchesBy}
 use Rattle.jsonptr_filter.specs.LineResults.{YieldsLine, IsLineFault, IsReport, StopsRun, fallback_line}
 use Rattle.jsonptr_filter.specs.PrivateLineResults.{Known, OrMemory, IsNoMemory, StopsPut}
 use Rattle.jsonptr_filter.specs.declared.failure.Failure.{Failure}

@@ -14,6 +14,7 @@ use Rattle.jsonptr_patch.specs.declared.operation.Operation.{Operation}
 use Rattle.jsonptr_patch_document.specs.Document.{IsPatch, IsNoPatch}
 use Rattle.jsonptr_in_text.specs.InText.{FindsInText, RefusesInText}
 use Rattle.jsonptr_edit_in_text.specs.EditInText.{AssignsInText, IsAssignError, DeletesInText, LacksInText}
+use Rattle.jsonptr_edit_in_text.specs.PatchInText.{PatchesInText}
 use Rattle.jsonptr_edit_in_text.specs.declared.edited.EditError.TheVariants as edit
 use Rattle.jsonptr_filter.specs.Layouts.{Shows}
 use Rattle.jsonptr_filter.specs.declared.failure.Failure.{Failure}
@@ -48,11 +49,6 @@ Sets text ts v layout out = (new : Text) × AssignsInText text ts v new × Resty
 -- `Deletes text ts layout out`: `out` is the document of `text` without the value at the tokens, in this layout
 abbrev pub Deletes : Text → List Text → Layout → Text → Type 0
 Deletes text ts layout out = (new : Text) × DeletesInText text ts new × Restyles layout new out
-
--- `PatchesInText text os new`: both texts are documents, and the operations os turn the first into the second
-abbrev pub PatchesInText : Text → List Operation → Text → Type 0
-PatchesInText text os new =
-    (d d2 : Data) × (read text ≡ Some d) × (read new ≡ Some d2) × Patches (nodes d) os (nodes d2)
 
 -- `PatchesBy text patch layout out`: `out` is the document of `text` after the operations that the document `patch` is,
 -- in this layout

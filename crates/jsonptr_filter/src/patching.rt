@@ -2,33 +2,26 @@
 ghost use Rattle.std.specs.Prelude.{IfOk, IfErr, string_bytes};
 ghost use Rattle.serde_json.specs.View.{view};
 ghost use Rattle.jsonptr_patch_document.specs.Document.{IsPatch};
-ghost use Rattle.jsonptr_filter.specs.Results.{PatchesInText, PatchesBy, FailsToPatch};
+ghost use Rattle.jsonptr_edit_in_text.specs.PatchInText.{PatchesInText};
+ghost use Rattle.jsonptr_filter.specs.Results.{PatchesBy, FailsToPatch};
 ghost use Rattle.jsonptr_filter.specs.PrivateResults.{FailsToApply, IsNotPatch};
 
-use crate::edit::{read_text, restyle};
+use crate::edit::restyle;
 use crate::failure::Failure;
 use crate::layout::Layout;
 use jsonptr::Fault;
-use jsonptr_edit_in_text::depth::nests_within;
-use jsonptr_patch::{Operation, apply};
+use jsonptr_edit_in_text::{EditError, apply_in_text};
+use jsonptr_patch::Operation;
 use jsonptr_patch_document::read_patch;
 use serde_json::Value;
 use std::alloc::Global;
-
-// The greatest depth that `serde_json` reads.
-const MAX_DEPTH: usize = 127;
 
 /// Applies the patch document to the text, and returns the new document in this layout.
 ///
 /// # Errors
 ///
 /// Those of [`Task::Patch`](crate::task::Task::Patch).
-pub fn patch(
-    alloc: Global,
-    text: &str,
-    document: &Value,
-    layout: Layout,
-) -> Result<String, Failure>
+pub fn patch(alloc: Global, text: &str, document: &Value, layout: Layout) -> Result<String, Failure>
     ensures done { IfOk result (λ s. PatchesBy text.now (view document.now) layout
         (string_bytes s)) }
     ensures failed { IfErr result (FailsToPatch text.now (view document.now)) }
@@ -54,20 +47,17 @@ pub fn operations_of(alloc: Global, document: &Value) -> Result<Vec<Operation>, 
     }
 }
 
-/// Applies the operations to the document of the text, all of them or none.
+/// Applies the operations in the text, all of them or none.
 fn apply_text(alloc: Global, text: &str, operations: Vec<Operation>) -> Result<String, Failure>
     ensures done { IfOk result
         (λ s. PatchesInText text.now operations.items (string_bytes s)) }
     ensures failed { IfErr result (FailsToApply text.now operations.items) }
 {
-    let mut document = read_text(alloc, text)?;
-    match apply(alloc, &mut document, operations) {
-        Ok(()) => {}
-        Err(Fault::Refused(error)) => return Err(Failure::BadPatch(error)),
-        Err(Fault::Memory(error)) => return Err(Failure::Memory(error)),
+    match apply_in_text(alloc, text, operations) {
+        Ok(edited) => Ok(edited.into_string()),
+        Err(EditError::NotJson) => Err(Failure::NotJson),
+        Err(EditError::Refused(error)) => Err(Failure::BadPatch(error)),
+        Err(EditError::TooDeep) => Err(Failure::TooDeep),
+        Err(EditError::Memory(error)) => Err(Failure::Memory(error)),
     }
-    if !nests_within(&document, MAX_DEPTH) {
-        return Err(Failure::TooDeep);
-    }
-    Ok(document.to_string(alloc)?)
 }

@@ -15,10 +15,9 @@ use std::alloc::Global;
 
 /// Returns the text that the task makes of the text of a document.
 ///
-/// [`Task::Get`] finds its value in the text, and reads no document. [`Task::Set`] and
-/// [`Task::Delete`] edit the text, as `jsonptr_edit_in_text` does. [`Task::Patch`] reads the document
-/// and prints it without white space. In a layout other than [`Layout::Kept`] the new document is
-/// then printed anew.
+/// [`Task::Get`] finds its value in the text, and reads no document. [`Task::Set`],
+/// [`Task::Delete`] and [`Task::Patch`] edit the text, as `jsonptr_edit_in_text` does. In a layout
+/// other than [`Layout::Kept`] the new document is then printed anew.
 ///
 /// # Errors
 ///
