@@ -77,7 +77,6 @@ for _name, _arguments in {
 _lib.jsonptr_document_free.argtypes, _lib.jsonptr_document_free.restype = [_HANDLE], None
 _lib.jsonptr_version.restype = ctypes.c_char_p
 _get, _in_text = _lib.jsonptr_document_get, _lib.jsonptr_resolve_in_text
-_string_at = ctypes.string_at
 _scan = json.JSONDecoder().scan_once  # reads a text that begins with its value, as those of the library do
 
 
@@ -141,7 +140,7 @@ class _Buffer:
                 status = call(*arguments, self.address, self.size, self.at_length, self.at_error)
             if status:
                 _check(status, self.error)
-        return _string_at(self.address, self.length.value)
+        return self.bytes[:self.length.value]
 
 
 def _message(error):
@@ -226,8 +225,11 @@ class Document:
         """Returns the JSON text of the value that the pointer resolves to, as bytes."""
         if pointer.__class__ is str:
             pointer = pointer.encode()
+        buffer = self._buffer
         with self._lock:
-            return self._buffer.fill(_get, self._at, pointer, len(pointer), 0)
+            if _get(self._at, pointer, len(pointer), 0, buffer.address, buffer.size, buffer.at_length, buffer.at_error):
+                return buffer.fill(_get, self._at, pointer, len(pointer), 0)
+            return buffer.bytes[:buffer.length.value]
 
     def resolve(self, pointer):
         """Returns the value that the pointer resolves to, as a Python value."""
