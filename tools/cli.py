@@ -357,6 +357,9 @@ def check_examples(folder):
     environment = {**os.environ, "PATH": f"{binaries}:{os.environ['PATH']}", "LC_ALL": "C.UTF-8"}
     count = 0
     for commands, outputs in examples():
+        if any("parallel " in command for command in commands) and not shutil.which("parallel"):
+            print("cli: GNU parallel is not on this machine, so its example is left out")
+            continue
         for command, output in zip(commands, outputs):
             name = command.removeprefix("cat ")
             if command.startswith("cat ") and not os.path.exists(f"{folder}/{name}"):
