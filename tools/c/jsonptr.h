@@ -26,8 +26,8 @@
  *         return status != JSONPTR_OK;
  *     }
  *
- *     cc first.c $(pkg-config --cflags --libs jsonptr)    with the shared library
- *     cc first.c -I PREFIX/include PREFIX/lib/libjsonptr.a    with the static one
+ *     cc first.c $(pkg-config --cflags --libs jsonptr)        with the shared library
+ *     cc first.c -I PREFIX/include PREFIX/lib/libjsonptr.a    with the static library
  *
  * CONVENTIONS
  *
@@ -143,7 +143,7 @@ typedef uint32_t jsonptr_status;
 #define JSONPTR_KIND_INDEX_ABOVE_LENGTH 8u  /* the index is greater than the length of the array */
 /* JSONPTR_PATCH_FAILED */
 #define JSONPTR_KIND_MOVE_INTO_SELF     9u  /* `from` is a proper prefix of `path` */
-#define JSONPTR_KIND_TEST_FLOAT        10u  /* one of the values has a number that is not an integer */
+#define JSONPTR_KIND_TEST_FLOAT        10u  /* a test of a number that is not an integer */
 #define JSONPTR_KIND_TEST_FAILED       11u  /* the values of a test differ */
 /* JSONPTR_NOT_PATCH */
 #define JSONPTR_KIND_NOT_AN_ARRAY      12u  /* the patch is not an array */
@@ -206,12 +206,12 @@ typedef uint32_t jsonptr_status;
  * The offset of NOT_UTF8 is that of the first byte that is not UTF-8. The offset
  * of NOT_JSON is where reading stopped:
  *
- *     in a string, number or word that is malformed    its first byte
- *     in a text that ends too early                    the length of the text
- *     of a number too large, or nesting too deep       the fault, or just after it
- *     otherwise                                        the fault, or just after it
+ *     a string, number or word is malformed    its first byte, of a string the quote
+ *     the text ends too early                  the length of the text
+ *     a number is too large for a double       in the number, or after it
+ *     anything else                            the fault, or just after it
  *
- * So ["abc\ud800"] and [truex] have offset 1, [1, has 3, and [1e999] has 6. */
+ * So ["abc\ud800"] and [truex] have offset 1, [1, has 3, [1e999, 2] has 8. */
 typedef struct jsonptr_error {
     uint32_t status;     /* what the call returned */
     uint32_t kind;       /* JSONPTR_KIND_..: what is at fault */

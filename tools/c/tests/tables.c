@@ -173,6 +173,7 @@ static const struct {
     { "[\"abc\\ud800\"]", JSONPTR_NOT_JSON, 1 }, { "[0, \"a\nb\"]", JSONPTR_NOT_JSON, 4 },
     { "[truex]", JSONPTR_NOT_JSON, 1 }, { "[0, 01]", JSONPTR_NOT_JSON, 4 }, { "[nul", JSONPTR_NOT_JSON, 4 },
     { "[1e999]", JSONPTR_NOT_JSON, 6 }, { "[123456789, 1e999, 2]", JSONPTR_NOT_JSON, 19 },
+    { "[1e999, 2]", JSONPTR_NOT_JSON, 8 }, { "{1: 2}", JSONPTR_NOT_JSON, 2 }, { "[1 2]", JSONPTR_NOT_JSON, 3 },
 };
 
 static void check_unread(void) {
