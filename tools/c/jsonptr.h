@@ -3,26 +3,45 @@
  * The library reads a JSON document into a handle. It finds, copies, assigns
  * and deletes the values that pointers identify, and applies patches.
  *
- *     jsonptr_document document = JSONPTR_DOCUMENT_INIT;
- *     const char *text = "{\"sizes\": [3, 5]}";
- *     char out[64];
- *     size_t length;
- *     jsonptr_error error;
+ *     #include <jsonptr.h>
+ *     #include <stdio.h>
+ *     #include <string.h>
  *
- *     if (jsonptr_document_parse(&document, text, strlen(text), &error)
- *         || jsonptr_document_get(&document, "/sizes/1", 8, 0, out, sizeof out, &length, &error))
- *         return 1;
- *     printf("%.*s\n", (int)length, out);        // 5
- *     jsonptr_document_free(&document);
+ *     int main(void) {
+ *         const char *text = "{\"sizes\": [3, 5]}";
+ *         jsonptr_document document = JSONPTR_DOCUMENT_INIT;
+ *         jsonptr_error error;
+ *         char out[256];
+ *         size_t length = 0;
+ *         jsonptr_status status;
+ *
+ *         status = jsonptr_document_parse(&document, text, strlen(text), &error);
+ *         if (status == JSONPTR_OK)
+ *             status = jsonptr_document_get(&document, "/sizes/1", 8, JSONPTR_COMPACT,
+ *                                           out, sizeof out, &length, &error);
+ *         if (status != JSONPTR_OK)
+ *             jsonptr_error_message(&error, out, sizeof out, &length);
+ *         printf("%.*s\n", (int)length, out);        // 5
+ *         jsonptr_document_free(&document);
+ *         return status != JSONPTR_OK;
+ *     }
+ *
+ *     cc first.c $(pkg-config --cflags --libs jsonptr)    with the shared library
+ *     cc first.c -I PREFIX/include PREFIX/lib/libjsonptr.a    with the static one
  *
  * CONVENTIONS
  *
  * Status      A call returns JSONPTR_OK, which is 0, or the number of an error.
  *             After an error a document is unchanged: it prints the same text
- *             as before. So is the buffer that a result is copied to.
+ *             as before. The buffer for a result is not written to.
+ *             "Returns" lists the errors in the order in which a call looks for
+ *             them. JSONPTR_BAD_ARGUMENT is always the first, and is not listed
+ *             where it only means NULL or a length above PTRDIFF_MAX.
+ *             JSONPTR_NO_MEMORY can come at any point.
  * Texts       A text is a pointer and a length in bytes. It needs no closing
- *             zero and is never written to. Texts are UTF-8. NULL with length 0
- *             is the empty text, which as a pointer is the whole document.
+ *             zero and is never written to. Texts are UTF-8. The empty text, as
+ *             a pointer, is the whole document. A byte order mark at the start
+ *             of a JSON text is JSONPTR_NOT_JSON at offset 0.
  * Results     A result is copied to a buffer of the caller. No zero is put
  *             after it. `*length` is set to the length of the result, also by
  *             JSONPTR_NO_ROOM, where the buffer is shorter: so call with
@@ -32,13 +51,20 @@
  *             library owns only the document in a handle, until
  *             jsonptr_document_free. It keeps no pointer to what it is passed,
  *             and no pointer into a document is ever returned.
- * NULL        Where a call says "may be NULL", NULL means "not wanted". Any
- *             other NULL is JSONPTR_BAD_ARGUMENT and no crash, except NULL
- *             with length 0.
+ * NULL        NULL with length 0 is the empty text, and NULL with capacity 0
+ *             the empty buffer. Where a call says "may be NULL", NULL means
+ *             "not wanted". Any other NULL is JSONPTR_BAD_ARGUMENT, never a
+ *             crash.
  * Memory      Blocks are from malloc, realloc and free of the program. A failed
  *             allocation is JSONPTR_NO_MEMORY.
- * Depth       Arrays and objects that nest deeper than 127 are JSONPTR_NOT_JSON.
- * Numbers     Integers from -2^63 to 2^64-1 are exact, other numbers are double.
+ * Depth       A text whose arrays and objects nest deeper than 127 is
+ *             JSONPTR_NOT_JSON. jsonptr_document_assign and
+ *             jsonptr_document_patch can make a document that nests deeper.
+ *             It prints, but this library does not read that text again.
+ * Numbers     Integers from -2^63 to 2^64-1 are exact. Every other number is
+ *             the nearest double, also 1.0, 1e2 (printed as 100.0) and -0
+ *             (printed as -0.0). A number that is too large for a double, such
+ *             as 1e999, is JSONPTR_NOT_JSON.
  * Keys        Of a repeated key the last member counts. Members are printed in
  *             the order of their keys.
  * Threads     There are no globals. Two threads may use two documents at once.
@@ -51,8 +77,8 @@
  * WHAT THE CALLER MUST UPHOLD
  *
  * The library is proved: whatever bytes it is passed, no call reads or writes
- * outside of what it was given. No proof reaches into the caller. So this must
- * hold of each call, or its behavior is undefined:
+ * outside of what it was given. No proof reaches into the caller, and none
+ * counts the stack. So this must hold of each call, or its behavior is undefined:
  *
  *  - A text of length n points to n bytes that no one writes to during the call.
  *  - A buffer of capacity n points to n writable bytes. They need no value.
@@ -61,6 +87,11 @@
  *  - A handle was JSONPTR_DOCUMENT_INIT (or all zeros) before its first call. It
  *    is changed by these calls alone. It may be moved by memcpy, but a copy must
  *    not be used beside the original.
+ *  - The stack has room. Calls recurse into a document, with at most 750 bytes a
+ *    level in our measurements. 128 KiB are enough for a document that was read,
+ *    8 MiB for 10,000 levels. Only assign and patch make a document deeper, by
+ *    at most a level for each byte of their texts. So limit the length of
+ *    pointers and patches from strangers before these two calls.
  *
  * The functions fit any program on x86-64 with the ABI of Linux. The numbers of
  * statuses, kinds and members never change.
@@ -99,7 +130,7 @@ typedef uint32_t jsonptr_status;
 
 /* What is at fault, more exactly than by the status: jsonptr_error.kind. */
 #define JSONPTR_KIND_NONE               0u
-/* JSONPTR_NOT_POINTER, and JSONPTR_NOT_PATCH for a member of an operation */
+/* JSONPTR_NOT_POINTER, and JSONPTR_NOT_PATCH for the `path` or `from` of an operation */
 #define JSONPTR_KIND_NO_LEADING_SLASH   1u  /* not empty, and does not start with a slash */
 #define JSONPTR_KIND_BAD_ESCAPE         2u  /* a '~' is not followed by '0' or '1' */
 /* JSONPTR_NOT_FOUND, and JSONPTR_PATCH_FAILED */
@@ -112,7 +143,7 @@ typedef uint32_t jsonptr_status;
 #define JSONPTR_KIND_INDEX_ABOVE_LENGTH 8u  /* the index is greater than the length of the array */
 /* JSONPTR_PATCH_FAILED */
 #define JSONPTR_KIND_MOVE_INTO_SELF     9u  /* `from` is a proper prefix of `path` */
-#define JSONPTR_KIND_TEST_FLOAT        10u  /* a float cannot be tested */
+#define JSONPTR_KIND_TEST_FLOAT        10u  /* one of the values has a number that is not an integer */
 #define JSONPTR_KIND_TEST_FAILED       11u  /* the values of a test differ */
 /* JSONPTR_NOT_PATCH */
 #define JSONPTR_KIND_NOT_AN_ARRAY      12u  /* the patch is not an array */
@@ -129,30 +160,81 @@ typedef uint32_t jsonptr_status;
 #define JSONPTR_MEMBER_VALUE 4u
 
 /* The error of a call. A call that succeeds sets all fields to 0. Each error
- * sets `status`, and the fields that its kind has; the others are 0.
+ * sets `status`, and the fields in this table; the others are 0.
+ *
+ *     status        kind                          fields
+ *     NO_ROOM       0                             length, which is needed
+ *     NOT_UTF8      0                             offset
+ *     NOT_JSON      0                             offset
+ *     NOT_POINTER   NO_LEADING_SLASH              kind; the fault is at offset 0
+ *                   BAD_ESCAPE                    kind, position, slash, offset, length
+ *     NOT_FOUND     NOT_AN_INDEX, OUT_OF_BOUNDS,
+ *                   NO_MEMBER, NO_CHILDREN        kind, position, slash, offset, length
+ *     NOT_ASSIGNED  NOT_A_NEW_INDEX,
+ *                   INDEX_ABOVE_LENGTH            kind, position, slash, offset, length
+ *     NOT_PATCH     NOT_AN_ARRAY                  kind
+ *                   NOT_AN_OBJECT                 kind, operation
+ *                   NO_SUCH_MEMBER, NOT_A_STRING,
+ *                   UNKNOWN_OP, NO_LEADING_SLASH  kind, operation, member
+ *                   BAD_ESCAPE                    kind, operation, member, slash, offset
+ *     PATCH_FAILED  those of NOT_FOUND and
+ *                   NOT_ASSIGNED                  kind, operation, position, slash, offset
+ *                   MOVE_INTO_SELF, TEST_FLOAT,
+ *                   TEST_FAILED                   kind, operation
+ *     others        0                             none
+ *
+ * The fields position, slash, offset and length are of a pointer. A token's
+ * offset is that of its first byte, and its length is that of its escaped text:
  *
  *          /sizes/2/unit     in  {"sizes": [3, 5]}
  *                ^^
  *     position 1, slash 6, offset 7, length 1
- */
+ *
+ * The offset of BAD_ESCAPE is that of the '~', and its length is 2, or 1 at the
+ * end of the pointer.
+ *
+ * The pointer of NOT_PATCH is the string `path` or `from`, as `member` says. It
+ * is the decoded string, so \u002f counts as one byte. length is 0, and position
+ * is 0 even if slash is not.
+ *
+ * The pointer of PATCH_FAILED is the string `path` of the operation, but of
+ * "move" and "copy" it is `from` if that does not resolve. The fields do not say
+ * which: kinds 7 and 8 are always of `path`; for kinds 3 to 6, `path` is at fault
+ * if `from` resolves in the document that this operation is applied to. member
+ * and length are 0.
+ *
+ * The offset of NOT_UTF8 is that of the first byte that is not UTF-8. The offset
+ * of NOT_JSON is where reading stopped:
+ *
+ *     in a string, number or word that is malformed    its first byte
+ *     in a text that ends too early                    the length of the text
+ *     of a number too large, or nesting too deep       the fault, or just after it
+ *     otherwise                                        the fault, or just after it
+ *
+ * So ["abc\ud800"] and [truex] have offset 1, [1, has 3, and [1e999] has 6. */
 typedef struct jsonptr_error {
     uint32_t status;     /* what the call returned */
     uint32_t kind;       /* JSONPTR_KIND_..: what is at fault */
-    uint32_t member;     /* JSONPTR_MEMBER_..: NOT_PATCH, the member at fault */
+    uint32_t member;     /* JSONPTR_MEMBER_..: the member at fault, only of NOT_PATCH */
     uint32_t reserved;   /* 0 */
     uint64_t operation;  /* NOT_PATCH, PATCH_FAILED: the operation, from 0 */
     uint64_t position;   /* the token at fault, from 0 */
     uint64_t slash;      /* the offset of the slash before that token, in bytes */
-    uint64_t offset;     /* the offset of the first byte at fault, in its text */
-    uint64_t length;     /* the bytes at fault, 0 if not known; NO_ROOM: the length that is needed */
+    uint64_t offset;     /* the offset at fault, in bytes; of NOT_JSON, where reading stopped */
+    uint64_t length;     /* the bytes at fault; of NO_ROOM, the length that is needed */
 } jsonptr_error;
 
-/* Copies the message of an error, as "resolve failed: json pointer token at 0
- * was not found in value".
+/* Copies the message of an error, such as "resolve failed: json pointer token at
+ * offset 6 is out of bounds". The number after "token at", "token at offset" or
+ * "starting at offset" is `slash`, and that after "operation" is `operation`.
+ * NOT_UTF8 and NOT_JSON have no number in the message: print `offset` beside it.
+ * The message of a success is "no error".
+ *
+ * The message is made of the struct alone, which may be copied and kept after
+ * its document is freed. No message is longer than 200 bytes.
  *
  * Returns   JSONPTR_OK, JSONPTR_NO_ROOM, JSONPTR_NO_MEMORY.
- *           JSONPTR_BAD_ARGUMENT if `error` is NULL.
- * length    may be NULL.
+ * length    may be NULL, but `error` may not.
  * Cost      linear in the message. */
 jsonptr_status jsonptr_error_message(const jsonptr_error *error,
                                      char *out, size_t capacity, size_t *length);
@@ -161,8 +243,8 @@ jsonptr_status jsonptr_error_message(const jsonptr_error *error,
 
 /* Tests whether a text is a JSON Pointer, and counts its tokens.
  *
- * Returns   JSONPTR_OK, JSONPTR_NOT_UTF8, JSONPTR_NOT_POINTER with kind,
- *           position, slash, offset and length.
+ * Returns   JSONPTR_OK, JSONPTR_NOT_UTF8 with offset,
+ *           JSONPTR_NOT_POINTER with kind, position, slash, offset and length.
  * count     may be NULL. "" has 0 tokens, "/" has one, which is empty.
  * error     may be NULL.
  * Cost      linear in the pointer. Allocates nothing. */
@@ -171,8 +253,8 @@ jsonptr_status jsonptr_pointer_count(const char *pointer, size_t pointer_length,
 
 /* Copies a token, decoded: "~1" is "/", "~0" is "~". `position` is from 0.
  *
- * Returns   JSONPTR_OK, JSONPTR_NO_TOKEN, JSONPTR_NO_ROOM, JSONPTR_NO_MEMORY,
- *           and those of jsonptr_pointer_count.
+ * Returns   JSONPTR_OK, those of jsonptr_pointer_count, JSONPTR_NO_TOKEN,
+ *           JSONPTR_NO_ROOM, JSONPTR_NO_MEMORY.
  * length    may be NULL, and so may `error`.
  * Cost      linear in the pointer. Allocates only for a token with a '~'. */
 jsonptr_status jsonptr_pointer_token(const char *pointer, size_t pointer_length,
@@ -182,7 +264,8 @@ jsonptr_status jsonptr_pointer_token(const char *pointer, size_t pointer_length,
 
 /* Copies a token, escaped, as it is written in a pointer: "a/b" is "a~1b".
  *
- * Returns   JSONPTR_OK, JSONPTR_NOT_UTF8, JSONPTR_NO_ROOM, JSONPTR_NO_MEMORY.
+ * Returns   JSONPTR_OK, JSONPTR_NOT_UTF8 with offset, JSONPTR_NO_ROOM,
+ *           JSONPTR_NO_MEMORY.
  * length    may be NULL, and so may `error`.
  * Cost      linear in the token. Allocates only for a token with '~' or '/'. */
 jsonptr_status jsonptr_pointer_escape(const char *token, size_t token_length,
@@ -198,8 +281,10 @@ jsonptr_status jsonptr_pointer_escape(const char *token, size_t token_length,
  * length    is the length of the pointer, and is set to that of the longer one.
  *           An error leaves it and the buffer; of JSONPTR_NO_ROOM the length
  *           that is needed is `error->length`.
- * Returns   JSONPTR_OK, JSONPTR_NO_ROOM, JSONPTR_NO_MEMORY, JSONPTR_NOT_UTF8,
- *           JSONPTR_NOT_POINTER if the buffer has no pointer.
+ * Returns   JSONPTR_OK, JSONPTR_NO_ROOM if `*length` is above the capacity,
+ *           those of jsonptr_pointer_count for the pointer, JSONPTR_NOT_UTF8 with
+ *           offset for the token, JSONPTR_NO_ROOM, JSONPTR_NO_MEMORY.
+ *           JSONPTR_NOT_UTF8 does not say which of the two texts it is of.
  * error     may be NULL.
  * Cost      linear in the longer pointer. */
 jsonptr_status jsonptr_pointer_push(char *buffer, size_t capacity, size_t *length,
@@ -209,8 +294,8 @@ jsonptr_status jsonptr_pointer_push(char *buffer, size_t capacity, size_t *lengt
 /* Removes the last token of a pointer: sets `*length` to the length without it.
  * The bytes stay, so the removed token is after the new end.
  *
- * Returns   JSONPTR_OK, JSONPTR_NO_TOKEN if the pointer is "",
- *           and those of jsonptr_pointer_count. An error leaves `*length`.
+ * Returns   JSONPTR_OK, those of jsonptr_pointer_count, JSONPTR_NO_TOKEN if the
+ *           pointer is "". An error leaves `*length`.
  * error     may be NULL.
  * Cost      linear in the pointer. Allocates nothing. */
 jsonptr_status jsonptr_pointer_pop(const char *pointer, size_t *length,
@@ -226,14 +311,15 @@ typedef struct jsonptr_document {
 
 #define JSONPTR_DOCUMENT_INIT { NULL, false }
 
-/* Flags of a call that prints. */
+/* Flags of a call that prints. Other bits are ignored: pass 0 for them, since a
+ * later version may use them. */
 #define JSONPTR_COMPACT 0u  /* no spaces */
-#define JSONPTR_PRETTY  1u  /* on lines, indented by two spaces */
+#define JSONPTR_PRETTY  1u  /* on lines, indented by two spaces, no newline at the end */
 
 /* Reads a JSON text into a handle. A document that it holds is freed.
  *
- * Returns   JSONPTR_OK, JSONPTR_NO_MEMORY, JSONPTR_NOT_UTF8 with offset,
- *           JSONPTR_NOT_JSON with offset. An error leaves the handle.
+ * Returns   JSONPTR_OK, JSONPTR_NOT_UTF8 with offset, JSONPTR_NOT_JSON with
+ *           offset, JSONPTR_NO_MEMORY. An error leaves the handle.
  * error     may be NULL.
  * Cost      linear in the text. */
 jsonptr_status jsonptr_document_parse(jsonptr_document *document,
@@ -258,9 +344,9 @@ jsonptr_status jsonptr_document_print(jsonptr_document *document, uint32_t flags
 
 /* Copies the JSON text of the value that a pointer resolves to.
  *
- * Returns   JSONPTR_OK, JSONPTR_NO_DOCUMENT, JSONPTR_NO_ROOM, JSONPTR_NO_MEMORY,
- *           those of jsonptr_pointer_count,
- *           JSONPTR_NOT_FOUND with kind, position, slash, offset and length.
+ * Returns   JSONPTR_OK, JSONPTR_NO_DOCUMENT, those of jsonptr_pointer_count,
+ *           JSONPTR_NOT_FOUND with kind, position, slash, offset and length,
+ *           JSONPTR_NO_ROOM, JSONPTR_NO_MEMORY.
  * length    may be NULL, and so may `error`.
  * Cost      linear in the pointer and in the text, and logarithmic in each
  *           object on the way. */
@@ -273,7 +359,7 @@ jsonptr_status jsonptr_document_get(jsonptr_document *document,
 /* Copies the string that a pointer resolves to, without quotes and escapes.
  *
  * Returns   as jsonptr_document_get, and JSONPTR_OTHER_KIND if the value is not
- *           a string.
+ *           a string, before JSONPTR_NO_ROOM.
  * length    may be NULL, and so may `error`.
  * Cost      linear in the pointer and in the string. */
 jsonptr_status jsonptr_document_string(jsonptr_document *document,
@@ -304,9 +390,9 @@ typedef struct jsonptr_node {
 /* Says what the value is that a pointer resolves to: its kind, its length, its
  * number.
  *
- * Returns   JSONPTR_OK, JSONPTR_NO_DOCUMENT, JSONPTR_NO_MEMORY,
- *           those of jsonptr_pointer_count, JSONPTR_NOT_FOUND.
- *           An error leaves `*node`.
+ * Returns   JSONPTR_OK, JSONPTR_NO_DOCUMENT, those of jsonptr_pointer_count,
+ *           JSONPTR_NOT_FOUND with kind, position, slash, offset and length,
+ *           JSONPTR_NO_MEMORY. An error leaves `*node`.
  * error     may be NULL.
  * Cost      linear in the pointer. Allocates only for a token with a '~'. */
 jsonptr_status jsonptr_document_node(jsonptr_document *document,
@@ -315,13 +401,19 @@ jsonptr_status jsonptr_document_node(jsonptr_document *document,
 
 /* Assigns the value of a JSON text at the location of a pointer. What is there
  * is replaced. Missing objects and arrays on the way are created: "0" and "-"
- * make an array, other tokens an object. "-" appends to an array.
+ * make an array, other tokens an object. A string, number, boolean or null on
+ * the way is replaced by such an object or array. "-" appends to an array.
  *
- * Returns   JSONPTR_OK, JSONPTR_NO_DOCUMENT, JSONPTR_NO_MEMORY,
- *           JSONPTR_NOT_UTF8 and JSONPTR_NOT_JSON for the text, which is read
- *           first, those of jsonptr_pointer_count,
- *           JSONPTR_NOT_ASSIGNED with kind, position, slash, offset and length.
- *           An error leaves the document.
+ *     /a/b/0   in {}           makes {"a": {"b": [..]}}
+ *     /a/b     in {"a": 1}     makes {"a": {"b": ..}}
+ *
+ * Returns   JSONPTR_OK, JSONPTR_NOT_UTF8 with offset and JSONPTR_NOT_JSON with
+ *           offset for the text, JSONPTR_NO_DOCUMENT,
+ *           those of jsonptr_pointer_count for the pointer,
+ *           JSONPTR_NOT_ASSIGNED with kind, position, slash, offset and length,
+ *           JSONPTR_NO_MEMORY. An error leaves the document.
+ *           JSONPTR_NOT_UTF8 does not say which of the two texts it is of: it is
+ *           the text's, unless the text is UTF-8.
  * error     may be NULL.
  * Cost      linear in both texts. */
 jsonptr_status jsonptr_document_assign(jsonptr_document *document,
@@ -332,8 +424,8 @@ jsonptr_status jsonptr_document_assign(jsonptr_document *document,
 /* Deletes the value that a pointer resolves to. If there is none, the document
  * is unchanged, and that is no error. Deleting "" leaves null.
  *
- * Returns   JSONPTR_OK, JSONPTR_NO_DOCUMENT, JSONPTR_NO_MEMORY, those of
- *           jsonptr_pointer_count. An error leaves the document.
+ * Returns   JSONPTR_OK, JSONPTR_NO_DOCUMENT, those of jsonptr_pointer_count,
+ *           JSONPTR_NO_MEMORY. An error leaves the document and `*found`.
  * found     may be NULL: whether there was a value. So may `error`.
  * Cost      linear in the pointer, in the value, and in the elements after it. */
 jsonptr_status jsonptr_document_delete(jsonptr_document *document,
@@ -345,10 +437,16 @@ jsonptr_status jsonptr_document_delete(jsonptr_document *document,
 /* Applies a patch document, all of it or nothing. The text is an array, such as
  * [{"op": "add", "path": "/sizes/-", "value": 8}].
  *
- * Returns   JSONPTR_OK, JSONPTR_NO_DOCUMENT, JSONPTR_NO_MEMORY,
- *           JSONPTR_NOT_UTF8 and JSONPTR_NOT_JSON for the text,
- *           JSONPTR_NOT_PATCH with kind, operation and member,
- *           JSONPTR_PATCH_FAILED with kind, operation, position and slash.
+ * Unlike RFC 6902, a "test" fails with JSONPTR_KIND_TEST_FLOAT if either of its
+ * values is or contains a number that is not an integer from -2^63 to 2^64-1.
+ * 1.0 and -0 are such numbers. Where the RFC says nothing: "remove" of the path
+ * "" leaves null.
+ *
+ * Returns   JSONPTR_OK, JSONPTR_NOT_UTF8 with offset, JSONPTR_NOT_JSON with
+ *           offset, JSONPTR_NOT_PATCH with kind, operation and member, and of a
+ *           bad escape with slash and offset, JSONPTR_NO_DOCUMENT,
+ *           JSONPTR_PATCH_FAILED with kind and operation, and with position,
+ *           slash and offset if a pointer is at fault, JSONPTR_NO_MEMORY.
  *           An error leaves the document as it was before the first operation.
  * error     may be NULL.
  * Cost      linear in the text and in what the operations change. */
@@ -360,8 +458,8 @@ jsonptr_status jsonptr_document_patch(jsonptr_document *document,
  * Applied to `from`, it makes a document that prints as `to`. It is not always
  * the shortest one.
  *
- * Returns   JSONPTR_OK, JSONPTR_NO_DOCUMENT, JSONPTR_NO_ROOM, JSONPTR_NO_MEMORY.
- *           JSONPTR_BAD_ARGUMENT if both are one handle.
+ * Returns   JSONPTR_OK, JSONPTR_BAD_ARGUMENT also if both are one handle,
+ *           JSONPTR_NO_DOCUMENT, JSONPTR_NO_ROOM, JSONPTR_NO_MEMORY.
  * length    may be NULL, and so may `error`.
  * Cost      linear in both documents, except for long arrays that differ. */
 jsonptr_status jsonptr_document_diff(jsonptr_document *from, jsonptr_document *to,
@@ -374,9 +472,15 @@ jsonptr_status jsonptr_document_diff(jsonptr_document *from, jsonptr_document *t
 /* Copies the JSON text of the value that a pointer resolves to in a JSON text,
  * in one pass and without a document. The result is that of
  * jsonptr_document_parse and jsonptr_document_get, which is slower for one
- * pointer and faster for many.
+ * pointer and faster for many. All of the text is read and must be JSON. If both
+ * texts are at fault, the error is the pointer's.
  *
- * Returns   as these two.
+ * Returns   JSONPTR_OK, those of jsonptr_pointer_count for the pointer,
+ *           JSONPTR_NOT_UTF8 with offset and JSONPTR_NOT_JSON with offset for the
+ *           text, JSONPTR_NOT_FOUND with kind, position, slash, offset and
+ *           length, JSONPTR_NO_ROOM, JSONPTR_NO_MEMORY.
+ *           JSONPTR_NOT_UTF8 does not say which of the two texts it is of: it is
+ *           the pointer's, unless the pointer is UTF-8.
  * length    may be NULL, and so may `error`.
  * Cost      linear in the text. */
 jsonptr_status jsonptr_resolve_in_text(const char *text, size_t text_length,

@@ -83,8 +83,10 @@ _scan = json.JSONDecoder().scan_once  # reads a text that begins with its value,
 class JsonPointerError(ValueError):
     """An error of the library. Its message is that of the library for Rattle.
 
-    `status` and `kind` are the numbers of jsonptr.h. `position` is that of the token at fault, from 0, and `slash` the
-    offset of the slash before it. `offset` and `length` are the bytes at fault. `operation` and `member` are those of a
+    `status` and `kind` are the numbers of jsonptr.h, which says in a table which error has which of the other fields.
+    `position` is that of the token at fault, from 0, and `slash` the offset of the slash before it. `offset` and
+    `length` are the bytes at fault, in UTF-8; of a text that is not JSON, `offset` is where reading stopped. A field
+    that an error does not have is 0: a pointer in a patch has no `length`. `operation` and `member` are those of a
     patch, or None.
     """
 
@@ -190,7 +192,10 @@ def resolve(document, pointer):
 
 
 def resolve_in_text(text, pointer):
-    """Returns the JSON text of the value that the pointer resolves to in a JSON text, as bytes."""
+    """Returns the JSON text of the value that the pointer resolves to in a JSON text, as bytes.
+
+    If both the text and the pointer are at fault, the error is the pointer's.
+    """
     text, pointer = _bytes(text), _bytes(pointer)
     return _Buffer().fill(_in_text, text, len(text), pointer, len(pointer), 0)
 
@@ -236,23 +241,29 @@ class Document:
         return _scan(self.get(pointer).decode(), 0)[0]
 
     def assign(self, pointer, value):
-        """Assigns a Python value at the pointer, and creates what is missing on the way."""
+        """Assigns a Python value at the pointer, and creates what is missing on the way.
+
+        A string, number, boolean or null on the way is replaced by a new object or array.
+        """
         pointer, text = _bytes(pointer), _json(value)
         self._call(_lib.jsonptr_document_assign, pointer, len(pointer), text, len(text))
 
     def delete(self, pointer):
-        """Deletes the value that the pointer resolves to, and returns whether there was one."""
+        """Deletes the value that the pointer resolves to, and returns whether there was one. "" leaves None."""
         pointer, found = _bytes(pointer), ctypes.c_bool()
         self._call(_lib.jsonptr_document_delete, pointer, len(pointer), ctypes.byref(found))
         return found.value
 
     def apply(self, patch):
-        """Applies a patch, all of it or nothing: a `Patch`, JSON text, or a list of operations."""
+        """Applies a patch, all of it or nothing: a `Patch`, JSON text, or a list of operations.
+
+        Unlike RFC 6902, a `test` fails if one of its values contains a float. `remove` of "" leaves None.
+        """
         text = patch.text if isinstance(patch, Patch) else Patch(patch).text
         self._call(_lib.jsonptr_document_patch, text, len(text))
 
     def text(self, pretty=False):
-        """Returns the JSON text of the document."""
+        """Returns the JSON text of the document. A pretty text has no newline at its end."""
         with self._lock:
             return self._buffer.fill(_get, self._at, b"", 0, PRETTY if pretty else 0).decode()
 

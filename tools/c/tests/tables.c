@@ -169,7 +169,10 @@ static const struct {
     uint64_t offset;
 } unread[] = {
     { "", JSONPTR_NOT_JSON, 0 }, { "[1,", JSONPTR_NOT_JSON, 3 }, { "{\n \"a\": x}", JSONPTR_NOT_JSON, 8 },
-    { "1 2", JSONPTR_NOT_JSON, 2 }, { "\"\xff\"", JSONPTR_NOT_UTF8, 1 },
+    { "1 2", JSONPTR_NOT_JSON, 2 }, { "\"\xff\"", JSONPTR_NOT_UTF8, 1 }, { "\xef\xbb\xbf[1]", JSONPTR_NOT_JSON, 0 },
+    { "[\"abc\\ud800\"]", JSONPTR_NOT_JSON, 1 }, { "[0, \"a\nb\"]", JSONPTR_NOT_JSON, 4 },
+    { "[truex]", JSONPTR_NOT_JSON, 1 }, { "[0, 01]", JSONPTR_NOT_JSON, 4 }, { "[nul", JSONPTR_NOT_JSON, 4 },
+    { "[1e999]", JSONPTR_NOT_JSON, 6 }, { "[123456789, 1e999, 2]", JSONPTR_NOT_JSON, 19 },
 };
 
 static void check_unread(void) {
@@ -193,6 +196,58 @@ static void check_unread(void) {
         expect_document(text, &document, "[7]");
         jsonptr_document_free(&document);
     }
+}
+
+/* Numbers, as they are printed. */
+static const struct {
+    const char *read, *printed;
+} numbers[] = {
+    { "18446744073709551615", "18446744073709551615" }, { "-9223372036854775808", "-9223372036854775808" },
+    { "18446744073709551616", "1.8446744073709552e+19" }, { "1.0", "1.0" }, { "1e2", "100.0" }, { "-0", "-0.0" },
+    { "1e-999", "0.0" },
+};
+
+static void check_numbers(void) {
+    for (size_t i = 0; i < COUNT(numbers); i++) {
+        jsonptr_document document = parsed(numbers[i].read);
+        expect_document(numbers[i].read, &document, numbers[i].printed);
+        jsonptr_document_free(&document);
+    }
+}
+
+/* Two texts that are both at fault: which one the error is of. */
+static void check_two_texts(void) {
+    jsonptr_document document = parsed("[7]"), empty = JSONPTR_DOCUMENT_INIT;
+    char out[8];
+    size_t length = 0;
+    jsonptr_error error;
+    expect_number("pointer first", "x in [",
+                  jsonptr_resolve_in_text("[", 1, "x", 1, 0, out, sizeof out, &length, &error), JSONPTR_NOT_POINTER);
+    expect_number("pointer first", "/~ in \xff",
+                  jsonptr_resolve_in_text("\xff", 1, "/~", 2, 0, out, sizeof out, &length, &error), JSONPTR_NOT_POINTER);
+    expect_number("whole text", "/0 in [7, x]",
+                  jsonptr_resolve_in_text("[7, x]", 6, "/0", 2, 0, out, sizeof out, &length, &error), JSONPTR_NOT_JSON);
+    expect_number("text first", "x = [", jsonptr_document_assign(&document, "x", 1, "[", 1, &error), JSONPTR_NOT_JSON);
+    expect_number("text first", "\xff = [\xff", jsonptr_document_assign(&document, "\xff", 1, "[\xff", 2, &error),
+                  JSONPTR_NOT_UTF8);
+    expect_number("offset in the text", "\xff = [\xff", error.offset, 1);
+    expect_number("text first", "[ in no document", jsonptr_document_assign(&empty, "x", 1, "[", 1, &error),
+                  JSONPTR_NOT_JSON);
+    expect_number("document next", "x in no document", jsonptr_document_assign(&empty, "x", 1, "1", 1, &error),
+                  JSONPTR_NO_DOCUMENT);
+    expect_number("patch first", "{} in no document", jsonptr_document_patch(&empty, "{}", 2, &error),
+                  JSONPTR_NOT_PATCH);
+    expect_number("document first", "x in no document",
+                  jsonptr_document_get(&empty, "x", 1, 0, out, sizeof out, &length, &error), JSONPTR_NO_DOCUMENT);
+    length = 1;
+    out[0] = 'x';
+    expect_number("pointer first", "x and \xff", jsonptr_pointer_push(out, sizeof out, &length, "\xff", 1, &error),
+                  JSONPTR_NOT_POINTER);
+    length = 9;
+    expect_number("length first", "9 of 8 bytes", jsonptr_pointer_push(out, sizeof out, &length, "\xff", 1, &error),
+                  JSONPTR_NO_ROOM);
+    expect_document("the document", &document, "[7]");
+    jsonptr_document_free(&document);
 }
 
 /* Nodes. */
@@ -260,6 +315,8 @@ static const struct {
     { "[3]", "/-", "5", JSONPTR_OK, "[3,5]", 0, "no error" },
     { "[3]", "/1", "5", JSONPTR_OK, "[3,5]", 0, "no error" },
     { "[3]", "", "{}", JSONPTR_OK, "{}", 0, "no error" },
+    { "{\"a\": 1}", "/a/b", "2", JSONPTR_OK, "{\"a\":{\"b\":2}}", 0, "no error" },
+    { "{\"a\": \"text\"}", "/a/0/b", "2", JSONPTR_OK, "{\"a\":[{\"b\":2}]}", 0, "no error" },
     { "[3]", "/2", "5", JSONPTR_NOT_ASSIGNED, "[3]", JSONPTR_KIND_INDEX_ABOVE_LENGTH,
       "assign failed: json pointer token at offset 0 is out of bounds" },
     { "{\"a\":[3]}", "/a/first", "5", JSONPTR_NOT_ASSIGNED, "{\"a\":[3]}", JSONPTR_KIND_NOT_A_NEW_INDEX,
@@ -358,6 +415,7 @@ static const struct {
       JSONPTR_KIND_MOVE_INTO_SELF, 0, 0, "patch failed at operation 0: from is a proper prefix of path" },
     { "[1.5]", "[{\"op\":\"test\",\"path\":\"/0\",\"value\":1.5}]", JSONPTR_PATCH_FAILED, "[1.5]", JSONPTR_KIND_TEST_FLOAT, 0,
       0, "patch failed at operation 0: a float cannot be tested" },
+    { "[1]", "[{\"op\":\"remove\",\"path\":\"\"}]", JSONPTR_OK, "null", 0, 0, 0, "no error" },
     { "[1]", "{}", JSONPTR_NOT_PATCH, "[1]", JSONPTR_KIND_NOT_AN_ARRAY, 0, 0, "not a JSON Patch document: not an array" },
     { "[1]", "[1]", JSONPTR_NOT_PATCH, "[1]", JSONPTR_KIND_NOT_AN_OBJECT, 0, 0,
       "not a JSON Patch document: operation 0 is not an object" },
@@ -388,6 +446,62 @@ static void check_patches(void) {
         expect_message(patch, &error, patches[i].message);
         expect_document(patch, &document, patches[i].after);
         jsonptr_document_free(&document);
+    }
+}
+
+/* Patches with a pointer at fault: where. */
+static const struct {
+    const char *patch;
+    jsonptr_status status;
+    uint32_t kind, member;
+    uint64_t position, slash, offset;
+} faulty[] = {
+    { "[{\"op\":\"remove\",\"path\":\"/sizes/7\"}]", JSONPTR_PATCH_FAILED, JSONPTR_KIND_OUT_OF_BOUNDS, 0, 1, 6, 7 },
+    { "[{\"op\":\"add\",\"path\":\"/sizes/x\",\"value\":1}]", JSONPTR_PATCH_FAILED, JSONPTR_KIND_NOT_A_NEW_INDEX, 0, 1,
+      6, 7 },
+    { "[{\"op\":\"add\",\"path\":\"/sizes/0/x\",\"value\":1}]", JSONPTR_PATCH_FAILED, JSONPTR_KIND_NO_CHILDREN, 0, 2,
+      8, 9 },
+    { "[{\"op\":\"move\",\"path\":\"/no/x\",\"from\":\"/sizes/7\"}]", JSONPTR_PATCH_FAILED, JSONPTR_KIND_OUT_OF_BOUNDS,
+      0, 1, 6, 7 },
+    { "[{\"op\":\"copy\",\"path\":\"/sizes/0/x\",\"from\":\"/sizes/1\"}]", JSONPTR_PATCH_FAILED,
+      JSONPTR_KIND_NO_CHILDREN, 0, 2, 8, 9 },
+    { "[{\"op\":\"copy\",\"path\":\"/sizes/9\",\"from\":\"/sizes/1\"}]", JSONPTR_PATCH_FAILED,
+      JSONPTR_KIND_INDEX_ABOVE_LENGTH, 0, 1, 6, 7 },
+    { "[{\"op\":\"move\",\"path\":\"/no/x\",\"from\":\"/no\"}]", JSONPTR_PATCH_FAILED, JSONPTR_KIND_MOVE_INTO_SELF, 0,
+      0, 0, 0 },
+    { "[{\"op\":\"test\",\"path\":\"/sizes\",\"value\":[3.0]}]", JSONPTR_PATCH_FAILED, JSONPTR_KIND_TEST_FLOAT, 0, 0, 0,
+      0 },
+    { "[{\"op\":\"remove\",\"path\":\"/ok/a~2\"}]", JSONPTR_NOT_PATCH, JSONPTR_KIND_BAD_ESCAPE, JSONPTR_MEMBER_PATH, 0, 3,
+      5 },
+    { "[{\"op\":\"copy\",\"path\":\"\",\"from\":\"\\u002f~7\"}]", JSONPTR_NOT_PATCH, JSONPTR_KIND_BAD_ESCAPE,
+      JSONPTR_MEMBER_FROM, 0, 0, 1 },
+    { "[{\"op\":\"remove\",\"path\":\"ok\"}]", JSONPTR_NOT_PATCH, JSONPTR_KIND_NO_LEADING_SLASH, JSONPTR_MEMBER_PATH, 0, 0,
+      0 },
+};
+
+static void check_faulty(void) {
+    jsonptr_document document = parsed("{\"sizes\": [3, 5]}");
+    for (size_t i = 0; i < COUNT(faulty); i++) {
+        const char *patch = faulty[i].patch;
+        jsonptr_error error;
+        expect_number("status", patch, jsonptr_document_patch(&document, TEXT(patch), &error), faulty[i].status);
+        expect_number("kind", patch, error.kind, faulty[i].kind);
+        expect_number("member", patch, error.member, faulty[i].member);
+        expect_number("position", patch, error.position, faulty[i].position);
+        expect_number("slash", patch, error.slash, faulty[i].slash);
+        expect_number("offset", patch, error.offset, faulty[i].offset);
+        expect_number("length", patch, error.length, 0);
+        expect_document(patch, &document, "{\"sizes\":[3,5]}");
+    }
+    jsonptr_document_free(&document);
+}
+
+/* The longest message: all statuses, kinds and members, with the greatest numbers. */
+static void check_longest_message(void) {
+    for (uint32_t i = 0; i < 15 * 18 * 6; i++) {
+        jsonptr_error error = { i / 108, i / 6 % 18, i % 6, 0, UINT64_MAX, UINT64_MAX, UINT64_MAX, UINT64_MAX, UINT64_MAX };
+        char out[200];
+        expect_number("status", "a message of 200 bytes", jsonptr_error_message(&error, out, sizeof out, NULL), JSONPTR_OK);
     }
 }
 
@@ -438,6 +552,8 @@ static void check_handles(void) {
     expect_message("a short buffer", &error, "the buffer is too short");
     expect_number("status", "an exact buffer", jsonptr_document_print(&document, 0, out, 20, &length, &error), JSONPTR_OK);
     expect_number("next byte", "an exact buffer", (unsigned char)out[20], '#');
+    expect_number("status", "other flags", jsonptr_document_print(&document, ~JSONPTR_PRETTY, out, 20, &length, &error),
+                  JSONPTR_OK);
     jsonptr_document_free(&document);
     jsonptr_document_free(&document);
     jsonptr_document_free(&empty);
@@ -458,7 +574,16 @@ static void check_handles(void) {
     memset(deep + 128, ']', 128);
     expect_number("status", "127 arrays", jsonptr_document_parse(&document, deep + 1, 254, NULL), JSONPTR_OK);
     jsonptr_document_free(&document);
-    expect_number("status", "128 arrays", jsonptr_document_parse(&document, deep, 256, NULL), JSONPTR_NOT_JSON);
+    expect_number("status", "128 arrays", jsonptr_document_parse(&document, deep, 256, &error), JSONPTR_NOT_JSON);
+    expect_number("offset", "128 arrays", error.offset, 128);
+    document = parsed("[]");
+    expect_number("status", "assigning 127 arrays", jsonptr_document_assign(&document, "/0", 2, deep + 1, 254, NULL),
+                  JSONPTR_OK);
+    char printed[256];
+    expect_number("status", "printing 128 arrays",
+                  jsonptr_document_print(&document, 0, printed, sizeof printed, &length, NULL), JSONPTR_OK);
+    expect_number("text", "128 arrays", memcmp(printed, deep, sizeof deep) == 0, 1);
+    jsonptr_document_free(&document);
 }
 
 int main(void) {
@@ -467,10 +592,14 @@ int main(void) {
     check_tokens();
     check_unresolved();
     check_unread();
+    check_numbers();
+    check_two_texts();
     check_nodes();
     check_assignments();
     check_deletions();
     check_patches();
+    check_faulty();
+    check_longest_message();
     check_differences();
     check_handles();
     return report("tables");
