@@ -23,12 +23,7 @@ const MAX_DEPTH: usize = 127;
 /// # Errors
 ///
 /// Those of [`Task::Patch`](crate::task::Task::Patch).
-pub fn patch(
-    alloc: Global,
-    text: &str,
-    document: &Value,
-    layout: Layout,
-) -> Result<String, Failure>
+pub fn patch(alloc: Global, text: &str, document: &Value, layout: Layout) -> Result<String, Failure>
     ensures done { IfOk result (λ s. PatchesBy text.now (view document.now) layout
         (string_bytes s)) }
     ensures failed { IfErr result (FailsToPatch text.now (view document.now)) }
