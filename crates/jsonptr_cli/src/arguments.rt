@@ -3,8 +3,8 @@
 use clap::{Arg, ArgAction, Command, arg};
 use std::alloc::{AllocError, Global};
 
-/// The version of the program, which is that of the port.
-const VERSION: &str = "0.8.2";
+/// The version of the program, which is the last one of the changelog.
+const VERSION: &str = "0.1.0";
 
 /// Returns the command line of the program.
 pub fn command<'a>(alloc: Global) -> Result<Command<'a>, AllocError> {
