@@ -1,7 +1,6 @@
 -- A line from its parts, lines in a row, and which values are leaves.
-use Rattle.std.proofs.Common.{◌≡◌, ℕ, ◌+◌, ◌<◌, ◌≤◌, Bool, true, false, ◌==◌, ◌↔◌, IsTrue, List, [], ◌∷◌, ◌++◌, length, get_or, take, String, Vec, Global, refl, sym, ap, subst, ◌∙◌, append_assoc, append-nil, true≢false}
-use Rattle.std.specs.List.{Contains}
-use Rattle.std.specs.BTreeMap.{BTreeMap, btree_map_len}
+use Rattle.std.proofs.Common.{◌≡◌, ℕ, ◌+◌, ◌<◌, ◌≤◌, Bool, ◌==◌, ◌↔◌, IsTrue, List, [], ◌∷◌, ◌++◌, length, get_or, take, String, Vec, Global, refl, sym, ap, subst, ◌∙◌, append_assoc, append-nil, true≢false}
+use Rattle.std.specs.BTreeMap.{BTreeMap}
 use Rattle.std.proofs.lemmas.List.{take_all, take_more}
 use Rattle.std.proofs.Math.Dec.{eqb-suc-zero}
 use Rattle.serde_json.specs.Data.{Data, array, object, no_items, no_members}

@@ -353,7 +353,7 @@ entry_found [] e more h = ap (λ (o : Ordering). cond (is_eq o) (Some e.1) (look
 entry_found (first ∷ done) e more h =
     let later = entry_found done e more h.1 in
     let above : slice_cmp nat_cmp (string_bytes e.0) (string_bytes first.0) ≡ Greater =
-        nat_list_cmp_total.antisymm (string_bytes e.0) (string_bytes first.0) ∙ ap ordering_reverse (below_middle first done e more h.0) in
+    nat_list_cmp_total.antisymm (string_bytes e.0) (string_bytes first.0) ∙ ap ordering_reverse (below_middle first done e more h.0) in
     ap (λ (o : Ordering). cond (is_eq o) (Some first.1) (lookup (is_at (λ l. slice_cmp nat_cmp (string_bytes e.0) (string_bytes l))) (done ++ e ∷ more))) above ∙ later
 
 -- the node map below a member

@@ -1,4 +1,4 @@
-use Rattle.std.proofs.Common.{◌≡◌, List, ℕ, ◌++◌, arith, subst, string_bytes}
+use Rattle.std.proofs.Common.{◌≡◌, ◌++◌, arith, subst, string_bytes}
 use Rattle.serde_json.specs.View.{view}
 use Rattle.jsonptr.specs.Pointer.{tokens}
 use Rattle.jsonptr.specs.Text.{Text, text}
