@@ -1,4 +1,4 @@
-//! A JSON document as lines.
+//! The lines of a JSON document.
 ghost use Rattle.std.specs.Prelude.{◌≡◌, ◌↔◌, ◌++◌, IfOk, IsTrue, string_bytes};
 ghost use Rattle.serde_json.specs.View.{view};
 ghost use Rattle.jsonptr.specs.Json.{nodes, FindsValue};
@@ -13,6 +13,16 @@ use serde_json::{Map, Value};
 use std::alloc::{AllocError, Global};
 
 /// Which nodes of a document get a line.
+///
+/// # Examples
+///
+/// ```rust
+/// let document = Value::from_str(alloc, r#"{"a": [1]}"#)?;
+/// let leaves = list(alloc, &document, Listed::Leaves)?;
+/// assert_eq!(rt; leaves.as_str(), "/a/0\t1\n");
+/// let nodes = list(alloc, &document, Listed::AllNodes)?;
+/// assert_eq!(rt; nodes.as_str(), "\t{}\n/a\t[]\n/a/0\t1\n");
+/// ```
 #[derive(Clone, Copy, Debug, PartialEq, Eq)]
 pub enum Listed {
     /// The leaves: scalars, empty arrays and empty objects.
@@ -21,7 +31,30 @@ pub enum Listed {
     AllNodes,
 }
 
-/// Returns the lines for the nodes of the document, in document order.
+/// Returns the lines of the document, one for each node or for each leaf, in document order.
+///
+/// A line is the pointer of the node, a tab, the JSON text of its value without white space, and a
+/// line break. The value of an array or object is printed without its elements or members. A node
+/// comes before those below it, elements come in their order, and members by the bytes of their
+/// keys.
+///
+/// A pointer with a control character, which is a byte below 32, is printed as a JSON string. So a
+/// line has one tab, and a line break at its end only. Every other pointer starts with `/` or is
+/// empty.
+///
+/// Takes time linear in the length of the lines, and logarithmic time for each object above a node.
+///
+/// # Errors
+///
+/// [`AllocError`] if an allocation fails.
+///
+/// # Examples
+///
+/// ```rust
+/// let document = Value::from_str(alloc, r#"{"a/b": null, "c\td": {}}"#)?;
+/// let lines = list(alloc, &document, Listed::Leaves)?;
+/// assert_eq!(rt; lines.as_str(), "/a~1b\tnull\n\"/c\\td\"\t{}\n");
+/// ```
 pub fn list(alloc: Global, document: &Value, which: Listed) -> Result<String, AllocError>
     ensures { IfOk result (λ s. Lists which (view document.now) (string_bytes s)) }
 {

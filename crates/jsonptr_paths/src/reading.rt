@@ -1,4 +1,4 @@
-//! A JSON document from lines.
+//! The JSON document that lines build.
 ghost use Rattle.std.specs.Prelude.{◌≡◌, ◌≢◌, ◌<◌, [], All, MatchOption, Some, None, IfOk, IfErr, string_bytes};
 ghost use Rattle.serde_json.specs.Data.{string};
 ghost use Rattle.serde_json.specs.Read.{read};
@@ -17,7 +17,7 @@ use serde_json::Value;
 use std::alloc::{AllocError, Global};
 use thiserror::Error;
 
-/// Why a line adds no value to a document.
+/// Why a line adds no value to a document. Its text is one line.
 #[derive(Debug, Drop, Error)]
 pub enum LineError {
     /// The line has no tab.
@@ -37,7 +37,7 @@ pub enum LineError {
     BadPlace(assign::Error),
 }
 
-/// Why lines build no document.
+/// Why lines build no document. Its text is one line.
 #[derive(Debug, Drop, Error)]
 pub enum BuildError {
     /// The line with this number, from 1, adds no value.
@@ -51,7 +51,29 @@ pub enum BuildError {
 // The most tokens of a pointer, which is the depth that a document has at most when it is read.
 const MAX_TOKENS: usize = 127;
 
-/// Returns the document that the lines build.
+/// Returns the document that the lines build: the value of each line is assigned at its pointer, in
+/// order, and the document is `null` at first.
+///
+/// A line is a pointer or a JSON string of one, a tab, and a JSON text. What is missing on the way to
+/// a value is created, as `assign` does: `0` and `-` create an array, and every other
+/// token an object. The lines of [`Listed::AllNodes`](crate::listing::Listed) name the kind of each
+/// container before what is in it, so no kind has to be guessed. A text without lines is `null`.
+///
+/// # Errors
+///
+/// - [`BuildError::Line`] with the number of the first line that adds no value.
+/// - [`BuildError::Memory`] if an allocation fails.
+///
+/// # Examples
+///
+/// ```rust
+/// let document = build(alloc, "\t{}\n/a\t[]\n/a/0\t1\n/0\ttrue\n")?;
+/// assert_eq!(rt; document.to_string(alloc)?.as_str(), r#"{"0":true,"a":[1]}"#);
+/// let guessed = build(alloc, "/0\ttrue\n")?;
+/// assert_eq!(rt; guessed.to_string(alloc)?.as_str(), "[true]");
+/// let error = build(alloc, "/a\t1\nb\t2\n").err().ok_or("an error")?;
+/// assert_eq!(rt; error.to_string(alloc)?.as_str(), "line 2: not a pointer");
+/// ```
 pub fn build(alloc: Global, text: &str) -> Result<Value, BuildError>
     ensures done { IfOk result (λ v. Builds text.now (nodes (view v))) }
     ensures failed { IfErr result (StopsBuilding text.now) }

@@ -1,4 +1,4 @@
-//! A walk over all nodes of a JSON document.
+//! A walk over all nodes of a JSON document (RFC 6901, section 4).
 ghost use Rattle.std.specs.Prelude.{IfOk};
 ghost use Rattle.serde_json.specs.View.{view};
 ghost use Rattle.serde_json.specs.declared.value.Value.{Array, Object};
@@ -19,6 +19,15 @@ use std::borrow::CowStr;
 /// # Errors
 ///
 /// [`AllocError`] if an allocation fails.
+///
+/// # Examples
+///
+/// ```rust
+/// let document = Value::from_str(alloc, r#"{"a": [1]}"#)?;
+/// let found = pointers(alloc, &document)?;
+/// assert_eq!(rt; found.len(), 3);
+/// assert_eq!(rt; found[2].as_ptr().as_str(), "/a/0");
+/// ```
 pub fn pointers(alloc: Global, document: &Value) -> Result<Vec<PointerBuf>, AllocError>
     ensures { IfOk result (λ found. IsWalk (nodes (view document.now)) found.items) }
 {
