@@ -12,6 +12,7 @@ import subprocess
 import sys
 import tempfile
 from concurrent.futures import ThreadPoolExecutor
+from random import Random
 from typing import NamedTuple
 
 from call_cases import RESOLVE_NOT_FOUND
@@ -65,6 +66,7 @@ def cases():
     yield Case(("set", "--pretty", "", "[[]]"), "1", "[\n  []\n]\n")
     yield Case(("delete", "/b"), TEXT, '{\n  "a/b": [1, 2]\n}\n')
     yield Case(("delete", "--compact", "/a~1b/0"), TEXT, '{"a/b":[2],"b":1.0}\n')
+    yield from on_paths()
     patch = '[{"op":"remove","path":"/a"}]'
     yield Case(("patch", "--check", "-", "/dev/null"), patch, "", "jp: /dev/null: not JSON: EOF while parsing at line 1 column 0\n", 3)
     bad = '[{"op":"remove","path":"/a~b"}]'
@@ -79,6 +81,29 @@ def cases():
     yield Case(("escape", "--", "-x"), "", "-x\n")
     yield Case(("unescape", "a~1b~0c"), "", "a/b~c\n")
     yield from failing()
+
+
+def on_paths():
+    """A document as lines, and the document that lines build."""
+    yield Case(("paths",), TEXT, "/a~1b/0\t1\n/a~1b/1\t2\n/b\t1.0\n")
+    nodes = "\t{}\n/a~1b\t[]\n/a~1b/0\t1\n/a~1b/1\t2\n/b\t1.0\n"
+    yield Case(("paths", "--all"), TEXT, nodes)
+    yield Case(("from-paths",), nodes, '{"a/b":[1,2],"b":1.0}\n')
+    yield Case(("from-paths", "--pretty"), "/a/0\t1\n", '{\n  "a": [\n    1\n  ]\n}\n')
+    yield Case(("paths",), '"x"', '\t"x"\n')
+    yield Case(("paths",), '{"":[{}],"t\\tb":"\\n"}', '//0\t{}\n"/t\\tb"\t"\\n"\n')
+    yield Case(("from-paths",), '"/t\\tb"\t1', '{"t\tb":1}\n'.replace("\t", "\\t"))
+    yield Case(("from-paths",), '\t{}\n/0\ttrue\n', '{"0":true}\n')
+    yield Case(("from-paths",), "/0\ttrue\n", "[true]\n")
+    yield Case(("from-paths",), "", "null\n")
+    yield Case(("from-paths",), "/a\t1\n/b 2\n", "", "jp: standard input: line 2: no tab after the pointer\n", 3)
+    yield Case(("from-paths",), "a\t1\n", "", "jp: standard input: line 1: not a pointer\n", 3)
+    yield Case(("from-paths",), "/a\tx\n", "", "jp: standard input: line 1: not JSON after the tab\n", 3)
+    yield Case(("from-paths",), "/x" * 127 + "\t1\n", '{"x":' * 127 + "1" + "}" * 127 + "\n")
+    yield Case(("from-paths",), "/x" * 128 + "\t1\n", "", "jp: standard input: line 1: the pointer has more than 127 tokens\n", 1)
+    message = "assign failed: json pointer token at offset 0 is out of bounds"
+    yield Case(("from-paths",), "\t[]\n/1\t1\n", "", f"jp: standard input: line 2: {message}\n", 1)
+    yield Case(("paths",), "{", "", "jp: standard input: not JSON: EOF while parsing at line 1 column 1\n", 3)
 
 
 def failing():
@@ -109,6 +134,9 @@ def usage():
     yield ("get", "--lines", "--raw", "--default", '"a\\nb"', "/a")
     yield ("delete", "/a", "--unknown")
     yield ("patch", "-", "-")
+    yield ("paths", "/a", "f")
+    yield ("paths", "--pretty")
+    yield ("from-paths", "--all")
     yield ("patch", "x", "y", "--check", "-i")
 
 
@@ -175,7 +203,7 @@ def check_documents():
 def check_streams():
     """Runs commands on streams that fail, and returns the number of runs."""
     runs = 0
-    for words in [("get", "/b"), ("set", "/b", "1"), ("get", "--lines", "/b"), ("tokens", "/b")]:
+    for words in [("get", "/b"), ("set", "/b", "1"), ("get", "--lines", "/b"), ("paths",), ("tokens", "/b")]:
         text = '{"b":1}\n'
         with open("/dev/full", "wb") as full:
             given = subprocess.run([PROGRAM, *words], input=text.encode(), stdout=full, stderr=subprocess.PIPE)
@@ -265,6 +293,51 @@ def check_lines():
     check_result(Case(words, '{"s":"a"}\n{"s":"a\\nb"}\n', "a\n", "jp: standard input:2: the result contains a line break\n", 1),
                  run(words, '{"s":"a"}\n{"s":"a\\nb"}\n'))
     return 6
+
+
+def random_value(random, depth):
+    """Returns a random JSON value."""
+    kind = random.randrange(7 if depth else 5)
+    if kind == 5:
+        return [random_value(random, depth - 1) for _ in range(random.randrange(4))]
+    if kind == 6:
+        keys = ["", "0", "1", "-", "a", "a/b", "~", "~1", "t\tb", "n\nl", "é", '"', "\\"]
+        return {random.choice(keys): random_value(random, depth - 1) for _ in range(random.randrange(5))}
+    return [None, True, random.randrange(-9, 10**6), random.random(), "a\t\n/~é"][kind]
+
+
+def resolve(value, pointer):
+    """Returns the value that a pointer resolves to."""
+    for token in pointer.split("/")[1:]:
+        token = token.replace("~1", "/").replace("~0", "~")
+        value = value[int(token)] if isinstance(value, list) else value[token]
+    return value
+
+
+def count_nodes(value):
+    """Returns the number of nodes of a value."""
+    below = value.values() if isinstance(value, dict) else value if isinstance(value, list) else []
+    return 1 + sum(map(count_nodes, below))
+
+
+def check_round_trips():
+    """Checks on random documents that the lines of all nodes are those of the document and build it again."""
+    random = Random(1)
+    for _ in range(200):
+        value = random_value(random, 5)
+        listed = run(("paths", "--all"), json.dumps(value)).stdout.decode()
+        rows = [line.split("\t") for line in listed.split("\n")[:-1]]
+        pointers = [json.loads(field) if field.startswith('"') else field for field, _ in rows]
+        if len(set(pointers)) != len(rows) or len(rows) != count_nodes(value):
+            raise CheckFailed(f"paths --all of {value!r}: {listed!r}")
+        for pointer, (_, text) in zip(pointers, rows):
+            found = resolve(value, pointer)
+            if json.loads(text) != (type(found)() if isinstance(found, (list, dict)) else found):
+                raise CheckFailed(f"paths --all of {value!r}: {pointer!r} has {text}")
+        given = run(("from-paths",), listed)
+        if given.returncode or json.loads(given.stdout) != value:
+            raise CheckFailed(f"from-paths of {listed!r}: status {given.returncode}, {given.stdout!r}")
+    return 400
 
 
 def check_in_place(folder):
@@ -386,6 +459,7 @@ def main():
         for name in ["files", "in_place", "guide"]:
             os.mkdir(f"{folder}/{name}")
         runs += check_files(f"{folder}/files") + check_in_place(f"{folder}/in_place") + check_lines()
+        runs += check_round_trips()
         all_cases = list(cases())
         for case, given in zip(all_cases, pool.map(lambda case: run(case.words, case.input), all_cases)):
             check_result(case, given)

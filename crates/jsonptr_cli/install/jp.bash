@@ -4,7 +4,7 @@ _jp() {
     local word=${COMP_WORDS[COMP_CWORD]} previous=${COMP_WORDS[COMP_CWORD - 1]} command= at
     for ((at = 1; at < COMP_CWORD; at++)); do
         case ${COMP_WORDS[at]} in
-            get | set | delete | patch | diff | tokens | escape | unescape)
+            get | set | delete | paths | from-paths | patch | diff | tokens | escape | unescape)
                 command=${COMP_WORDS[at]}
                 break
                 ;;
@@ -14,11 +14,13 @@ _jp() {
     case $command in
         get) words="--toml --raw --pretty --compact --default --lines --strict --help" ;;
         set | delete) words="--toml --reformat --pretty --compact --in-place --lines --strict --help" ;;
+        paths) words="--all --help" ;;
+        from-paths) words="--pretty --compact --help" ;;
         patch) words="--check --pretty --compact --in-place --lines --strict --help" ;;
         diff) words="--pretty --compact --help" ;;
         tokens) words="--raw --help" ;;
         escape | unescape) words="--help" ;;
-        *) words="get set delete patch diff tokens escape unescape help --help --version" ;;
+        *) words="get set delete paths from-paths patch diff tokens escape unescape help --help --version" ;;
     esac
     if [[ $previous == --default ]]; then
         COMPREPLY=()

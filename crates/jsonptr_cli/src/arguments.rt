@@ -3,8 +3,8 @@
 use clap::{Arg, ArgAction, Command, arg};
 use std::alloc::{AllocError, Global};
 
-/// The version of the program, which is that of the port.
-const VERSION: &str = "0.8.2";
+/// The version of the program, which is the last one of the changelog.
+const VERSION: &str = "0.1.0";
 
 /// Returns the command line of the program.
 pub fn command<'a>(alloc: Global) -> Result<Command<'a>, AllocError> {
@@ -17,6 +17,8 @@ pub fn command<'a>(alloc: Global) -> Result<Command<'a>, AllocError> {
         .subcommand(get(alloc)?)?
         .subcommand(set(alloc)?)?
         .subcommand(delete(alloc)?)?
+        .subcommand(paths(alloc)?)?
+        .subcommand(from_paths(alloc)?)?
         .subcommand(patch(alloc)?)?
         .subcommand(diff(alloc)?)?
         .subcommand(tokens(alloc)?)?
@@ -61,6 +63,24 @@ fn delete<'a>(alloc: Global) -> Result<Command<'a>, AllocError> {
         .arg(toml_flag(alloc))?
         .arg(reformat(alloc)?)?;
     with_lines(alloc, with_in_place(alloc, with_layout(alloc, command)?)?)
+}
+
+/// Returns the command `paths`.
+fn paths<'a>(alloc: Global) -> Result<Command<'a>, AllocError> {
+    Command::new(alloc, "paths")
+        .about("Prints a line for each leaf: its pointer, a tab, and its value as JSON")
+        .arg(file(alloc))?
+        .arg(
+            arg!(in alloc; --all "Prints a line for each node, from which from-paths makes the document"),
+        )
+}
+
+/// Returns the command `from-paths`.
+fn from_paths<'a>(alloc: Global) -> Result<Command<'a>, AllocError> {
+    let command = Command::new(alloc, "from-paths")
+        .about("Prints the document that lines of pointers, tabs and JSON values build")
+        .arg(file(alloc))?;
+    with_layout(alloc, command)
 }
 
 /// Returns the command `patch`.

@@ -2,6 +2,7 @@
 
 use crate::input::{is_standard, name_of, read_all};
 use crate::output::{print_line, print_text};
+use crate::paths::{from_paths, paths};
 use crate::problem::{FILE, NOT_APPLIED, NOT_JSON, Problem, USAGE};
 use crate::task::{layout_of, run_task};
 use crate::toml_file::is_toml;
@@ -61,6 +62,8 @@ fn run_command(rt: &HostRuntime, name: &str, matches: &ArgMatches<'_>) -> Result
         "get" => get(rt, matches),
         "set" => set(rt, matches),
         "delete" => delete(rt, matches),
+        "paths" => paths(rt, matches),
+        "from-paths" => from_paths(rt, matches),
         "patch" => patch(rt, matches),
         "diff" => diff(rt, matches),
         "tokens" => tokens(rt, matches),

@@ -9,6 +9,7 @@ mod commands;
 mod in_place;
 mod input;
 mod output;
+mod paths;
 mod problem;
 mod task;
 mod toml_file;

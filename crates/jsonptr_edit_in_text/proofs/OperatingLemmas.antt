@@ -32,7 +32,7 @@ use Rattle.jsonptr_patch.specs.declared.operation.Operation.TheVariants.{Test}
 use Rattle.jsonptr_patch.proofs.AddingLemmas.{taken}
 use Rattle.jsonptr_patch.proofs.InsertingLemmas.{cases_place, with_place-same, with_place-below, with_place-above, with_place-root}
 use Rattle.jsonptr_patch.proofs.OperatingLemmas.{patches_push}
-use Rattle.jsonptr_splice.specs.Editing.{InsertsItem, AddsMember, AddsChild, ChangesChild, ChangesAt, IsEdited}
+use Rattle.jsonptr_splice.specs.Editing.{InsertsItem, AddsChild, ChangesChild, ChangesAt, IsEdited}
 use Rattle.jsonptr_splice.specs.declared.edit.Edit.TheVariants.{Replace}
 use Rattle.jsonptr_splice.specs.Spacing.{IsTrimmed, Splices}
 use Rattle.jsonptr_edit_in_text.specs.Bytes.{ReplacesBytes}

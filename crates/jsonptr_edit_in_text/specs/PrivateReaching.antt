@@ -1,5 +1,5 @@
 -- Words of private clauses: two values that differ at the location of some tokens.
-use Rattle.std.specs.Prelude.{◌≡◌, ◌⊎◌, ℕ, List, Some, None, codes, string_bytes}
+use Rattle.std.specs.Prelude.{◌≡◌, ◌⊎◌, List, Some, None, codes, string_bytes}
 use Rattle.serde_json.specs.Data.{Data, array, Items}
 use Rattle.serde_json.specs.Read.{read}
 use Rattle.jsonptr_skim.specs.Search.{items_len}

@@ -10,7 +10,7 @@ use thiserror::Error;
 /// A text after an edit.
 #[derive(Debug, Drop)]
 pub enum Edited {
-    /// The old text with one piece replaced. All other bytes are those of the old text.
+    /// The old text with the bytes at the location of the edit changed. All others are unchanged.
     InPlace(String),
     /// The whole document, printed anew without white space.
     Rewritten(String),

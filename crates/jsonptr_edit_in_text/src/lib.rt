@@ -8,9 +8,13 @@
 //! assert_eq!(rt; edited.as_str(), new);
 //! ```
 //!
-//! Each call makes two promises. *Meaning*: the new text reads as the document that the call of
-//! `jsonptr` makes of the document that the old text reads as. *Bytes*: the new text is the old one
-//! with one piece replaced.
+//! - [`assign_in_text`] and [`delete_in_text`] edit at a pointer, as `assign` and `delete` do.
+//! - [`apply_in_text`] applies a JSON Patch (RFC 6902), all of its operations or none.
+//!
+//! Each call makes two promises. *Meaning*: the new text reads as the document that the call on
+//! documents makes of the document that the old text reads as. *Bytes*: a value that is replaced
+//! changes exactly its own bytes, a child that is added replaces none but white space, and a child
+//! that is removed takes at most one comma and the white space beside it along.
 //!
 //! In the examples `rt` is the runtime that `main` and each test receive, and `alloc` is
 //! `rt.alloc()`, the allocator.

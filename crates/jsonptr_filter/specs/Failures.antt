@@ -6,8 +6,20 @@ use Rattle.jsonptr_in_text.specs.declared.resolve.InTextError.{InTextError}
 use Rattle.jsonptr_in_text.specs.declared.resolve.InTextError.TheVariants as in_text
 use Rattle.jsonptr_edit_in_text.specs.declared.edited.EditError.{EditError}
 use Rattle.jsonptr_edit_in_text.specs.declared.edited.EditError.TheVariants as edit
+use Rattle.jsonptr_paths.specs.declared.reading.LineError.{LineError}
+use Rattle.jsonptr_paths.specs.declared.reading.LineError.TheVariants as line
+use Rattle.jsonptr_paths.specs.declared.reading.BuildError.{BuildError}
+use Rattle.jsonptr_paths.specs.declared.reading.BuildError.TheVariants as build
 use Rattle.jsonptr_filter.specs.declared.failure.Failure.{Failure}
-use Rattle.jsonptr_filter.specs.declared.failure.Failure.TheVariants.{BadPointer, NotPatch, NoValue, BadPlace, NotThere, BadPatch, TooDeep, LineBreak, NotJson, ArgumentNotJson, Memory, Read, Write}
+use Rattle.jsonptr_filter.specs.declared.failure.Failure.TheVariants.{BadPointer, NotPatch, NoValue, BadPlace, NotThere, BadPatch, TooDeep, LineBreak, BadLine, NotUtf8, NotJson, ArgumentNotJson, Memory, Read, Write}
+
+-- `status_of_line e`: the exit status if a line adds no value, for the reason e
+abbrev pub status_of_line : LineError → ℕ
+status_of_line line.NoTab = 3
+status_of_line line.NotPointer = 3
+status_of_line line.TooDeep = 1
+status_of_line line.NotJson = 3
+status_of_line (line.BadPlace e) = 1
 
 -- `status_of e`: the exit status of the program after the error e
 abbrev pub status_of : Failure → ℕ
@@ -19,6 +31,8 @@ status_of NotThere = 1
 status_of (BadPatch e) = 1
 status_of TooDeep = 1
 status_of LineBreak = 1
+status_of (BadLine number e) = status_of_line e
+status_of NotUtf8 = 3
 status_of NotJson = 3
 status_of ArgumentNotJson = 3
 status_of (Memory e) = 4
@@ -44,3 +58,8 @@ of_delete_error edit.NotJson = NotJson
 of_delete_error (edit.Refused e) = elim e [ ]
 of_delete_error edit.TooDeep = TooDeep
 of_delete_error (edit.Memory e) = Memory e
+
+-- `of_build_error e`: the error of the command if lines build no document
+abbrev pub of_build_error : BuildError → Failure
+of_build_error (build.Line number e) = BadLine number e
+of_build_error (build.Memory e) = Memory e

@@ -4,6 +4,7 @@ pub mod Layouts
 pub mod Results
 pub mod Differences
 pub mod Documents
+pub mod Paths
 pub mod LineResults
 pub mod Runs
 pub mod PrivateResults

@@ -101,7 +101,7 @@ pub fn run_document<R: io::Read, W: io::Write>(
 }
 
 /// Reads all of the input into `bytes`.
-fn read_all<R: io::Read>(input: &mut R, bytes: &mut Vec<u8>) -> Result<(), Failure>
+pub(crate) fn read_all<R: io::Read>(input: &mut R, bytes: &mut Vec<u8>) -> Result<(), Failure>
     ensures done { OnOk result (IfSome (R.remaining input.old) (λ xs. bytes.new.items ≡ xs)) }
     ensures failed { IfErr result IsReadFailure }
 {
@@ -116,7 +116,7 @@ fn read_all<R: io::Read>(input: &mut R, bytes: &mut Vec<u8>) -> Result<(), Failu
 }
 
 /// Writes all of the text, and flushes.
-fn put_all<W: io::Write>(output: &mut W, text: &str) -> Result<(), Failure>
+pub(crate) fn put_all<W: io::Write>(output: &mut W, text: &str) -> Result<(), Failure>
     ensures done { OnOk result
         (Appends (W.contents output.old) (W.contents output.new) text.now) }
     ensures failed { IfErr result (λ e. (e ≡ Write)

@@ -1,6 +1,6 @@
 //! The errors of a command, and its exit status.
 ghost use Rattle.std.specs.Prelude.{◌≡◌};
-ghost use Rattle.jsonptr_filter.specs.Failures.{of_in_text_error, of_assign_error, of_delete_error, status_of};
+ghost use Rattle.jsonptr_filter.specs.Failures.{of_in_text_error, of_assign_error, of_delete_error, of_build_error, status_of, status_of_line};
 ghost use Rattle.jsonptr_filter.specs.declared.failure.Failure.TheVariants.{Memory};
 
 use jsonptr::{ParseError, assign, resolve};
@@ -8,6 +8,7 @@ use jsonptr_edit_in_text::EditError;
 use jsonptr_in_text::InTextError;
 use jsonptr_patch::PatchError;
 use jsonptr_patch_document::PatchDocumentError;
+use jsonptr_paths::reading::{BuildError, LineError};
 use std::alloc::AllocError;
 use std::convert::Infallible;
 use thiserror::Error;
@@ -39,6 +40,12 @@ pub enum Failure {
     /// The result of a line contains a line break.
     #[error("the result contains a line break")]
     LineBreak,
+    /// The line with this number, from 1, adds no value to the document that lines build.
+    #[error("line {0}: {1}")]
+    BadLine(usize, LineError),
+    /// Lines are not UTF-8.
+    #[error("not UTF-8")]
+    NotUtf8,
     /// The text is not a JSON text, or not UTF-8.
     #[error("not JSON")]
     NotJson,
@@ -58,7 +65,7 @@ pub enum Failure {
 
 impl Failure {
     /// Returns the exit status of the program: 1 if the pointer or the patch does not apply, 3 if a
-    /// text is not JSON, 4 if an allocation failed, and 5 if a read or a write failed.
+    /// text or a line is not what it must be, 4 if an allocation failed, and 5 if a read or a write failed.
     pub fn status(&self) -> u8
         ensures { result ≡ status_of self.now }
     {
@@ -71,9 +78,32 @@ impl Failure {
             | Failure::BadPatch(_)
             | Failure::TooDeep
             | Failure::LineBreak => 1,
-            Failure::NotJson | Failure::ArgumentNotJson => 3,
+            Failure::BadLine(_, error) => line_status(error),
+            Failure::NotUtf8 | Failure::NotJson | Failure::ArgumentNotJson => 3,
             Failure::Memory(_) => 4,
             Failure::Read | Failure::Write => 5,
+        }
+    }
+}
+
+/// Returns the exit status for a line that adds no value: 3 if it is not a pointer, a tab and a JSON
+/// text, and 1 if no value can be assigned there.
+fn line_status(error: &LineError) -> u8
+    ensures { result ≡ status_of_line error.now }
+{
+    match error {
+        LineError::NoTab | LineError::NotPointer | LineError::NotJson => 3,
+        LineError::TooDeep | LineError::BadPlace(_) => 1,
+    }
+}
+
+impl From<BuildError> for Failure {
+    ghost from_gives = { λ error failure. failure ≡ of_build_error error };
+
+    fn from(error: BuildError) -> Failure {
+        match error {
+            BuildError::Line(number, error) => Failure::BadLine(number, error),
+            BuildError::Memory(error) => Failure::Memory(error),
         }
     }
 }

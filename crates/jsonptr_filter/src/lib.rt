@@ -7,6 +7,7 @@
 //! - [`difference`]: the patch document that turns one document into another.
 //! - [`document`]: a task on one document, from a reader to a writer.
 //! - [`lines`]: a task on each line of an input.
+//! - [`paths`]: a document as lines of pointers and values, and a document from such lines.
 //! - [`patching`]: applying a patch document.
 //! - [`failure`]: the errors, and the exit status of each.
 #![tactic(auto)]
@@ -19,5 +20,6 @@ pub mod layout;
 pub mod line;
 pub mod lines;
 pub mod patching;
+pub mod paths;
 pub mod result;
 pub mod task;

@@ -1,5 +1,5 @@
 -- One turn of reading a value beside the same value with one child more.
-use Rattle.std.proofs.Common.{◌≡◌, ℕ, List, [], ◌∷◌, ◌++◌, length, Bool, true, false, ◌||◌, IsTrue, ◌↔◌, true≢false, refl, sym, ◌∙◌, subst}
+use Rattle.std.proofs.Common.{◌≡◌, ℕ, List, [], ◌∷◌, ◌++◌, length, Bool, true, false, ◌||◌, IsTrue, ◌↔◌, true≢false, refl, sym, subst}
 use Rattle.json.specs.Token.{Token}
 use Rattle.serde_json.specs.Data.{Data, Members, put}
 use Rattle.jsonptr_skim.specs.PrivateReading.{ItemsSoFar, MembersSoFar}

@@ -1,4 +1,4 @@
-use Rattle.std.proofs.Common.{◌≡◌, ◌∷◌, List, Option, String, IfOk, IfSome, string_bytes, sym, subst}
+use Rattle.std.proofs.Common.{◌∷◌, List, Option, String, IfOk, IfSome, string_bytes, sym, subst}
 use Rattle.std.specs.declared.alloc.Global.{Global}
 use Rattle.jsonptr_grammar.specs.Text.{Text}
 use Rattle.jsonptr_patch.specs.declared.operation.Operation.{Operation}

@@ -1,8 +1,6 @@
-use Rattle.std.proofs.Common.{◌≡◌, ◌+◌, ℕ, List, [], ◌∷◌, ◌++◌, take, Option, Some, String, IfSome, string_bytes, refl, sym, ap, ◌∙◌, subst, arith}
+use Rattle.std.proofs.Common.{◌≡◌, ◌+◌, List, [], ◌∷◌, ◌++◌, take, Option, String, IfSome, string_bytes, refl, sym, ap, ◌∙◌, subst}
 use Rattle.std.specs.declared.alloc.Global.{Global}
 use Rattle.std.proofs.lemmas.List.{take_more}
-use Rattle.serde_json.specs.Read.{read}
-use Rattle.jsonptr_grammar.specs.Text.{Text}
 use Rattle.jsonptr_patch.specs.declared.operation.Operation.{Operation}
 use Rattle.jsonptr_edit_in_text.specs.PatchInText.{PatchesInText, PatchBytes, OperationBytes}
 use Rattle.jsonptr_edit_in_text.specs.PrivateOperating.{OperatesInText}

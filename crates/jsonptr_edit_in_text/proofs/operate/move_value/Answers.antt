@@ -1,4 +1,4 @@
-use Rattle.std.proofs.Common.{◌≡◌, Option, String, IfSome, true≢false, string_bytes, sym, ◌∙◌, subst}
+use Rattle.std.proofs.Common.{Option, String, IfSome, true≢false, string_bytes, sym, ◌∙◌, subst}
 use Rattle.std.specs.declared.alloc.Global.{Global}
 use Rattle.jsonptr_grammar.specs.Text.{Text}
 use Rattle.jsonptr.specs.Pointer.{tokens}

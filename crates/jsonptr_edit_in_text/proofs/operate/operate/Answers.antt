@@ -1,10 +1,10 @@
-use Rattle.std.proofs.Common.{◌≡◌, List, IfOk, IfSome, string_bytes, sym, subst}
+use Rattle.std.proofs.Common.{List, IfOk, IfSome, string_bytes, sym, subst}
 use Rattle.serde_json.specs.View.{view}
 use Rattle.jsonptr_grammar.specs.Text.{Text}
 use Rattle.jsonptr.specs.Pointer.{tokens}
 use Rattle.jsonptr_tree.specs.Json.{nodes}
 use Rattle.jsonptr_patch.specs.declared.operation.Operation.{Operation}
-use Rattle.jsonptr_patch.specs.declared.operation.Operation.TheVariants.{Add, Remove, Move, Test}
+use Rattle.jsonptr_patch.specs.declared.operation.Operation.TheVariants.{Remove}
 use Rattle.jsonptr_edit_in_text.specs.Bytes.{DeletesBytes}
 use Rattle.jsonptr_edit_in_text.specs.EditInText.{DeletesInText}
 use Rattle.jsonptr_edit_in_text.specs.PatchInText.{AddsAtBytes, OperationBytes}

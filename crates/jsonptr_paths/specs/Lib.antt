@@ -1,0 +1,6 @@
+-- The nodes of a document in order, the lines that list them, and what is read from such lines.
+pub mod Walking
+pub mod Listing
+pub mod Reading
+pub mod PrivateWalking
+pub mod PrivateReading

@@ -1,0 +1,25 @@
+//! A JSON document as lines, one for each node, and a document from such lines.
+//!
+//! - [`walk`]: the pointers of all nodes of a document, in order.
+//! - [`listing`]: the lines of a document.
+//! - [`reading`]: the document that lines build.
+//!
+//! A line is a JSON Pointer (RFC 6901), a tab, and a JSON text without white space (RFC 8259):
+//!
+//! ```text
+//! {"a":[1,true],"b":{}}        Leaves        AllNodes
+//!
+//!                                            ⟶{}
+//!                                            /a⟶[]
+//!                              /a/0⟶1        /a/0⟶1
+//!                              /a/1⟶true     /a/1⟶true
+//!                              /b⟶{}         /b⟶{}
+//! ```
+//!
+//! An array or object with children has its line as an empty one, so the lines are linear in the
+//! document, and lines of all nodes can be read back one by one.
+#![tactic(auto)]
+
+pub mod listing;
+pub mod reading;
+pub mod walk;

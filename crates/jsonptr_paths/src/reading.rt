@@ -1,0 +1,198 @@
+//! The JSON document that lines build.
+ghost use Rattle.std.specs.Prelude.{◌≡◌, ◌≢◌, ◌<◌, [], All, MatchOption, Some, None, IfOk, IfErr, string_bytes};
+ghost use Rattle.serde_json.specs.Data.{string};
+ghost use Rattle.serde_json.specs.Read.{read};
+ghost use Rattle.serde_json.specs.View.{view};
+ghost use Rattle.jsonptr.specs.Fault.{IfRefused};
+ghost use Rattle.jsonptr.specs.Json.{nodes};
+ghost use Rattle.jsonptr.specs.Text.{Text, text};
+ghost use Rattle.jsonptr.specs.Grammar.{IsPointer};
+ghost use Rattle.jsonptr_paths.specs.Reading.{CutsAt, ReadsField, AssignsLine, Builds, IsLineError, StopsBuilding};
+ghost use Rattle.jsonptr_paths.specs.PrivateReading.{IsFirstLine, of_line};
+ghost use Rattle.jsonptr_paths.specs.declared.reading.LineError.TheVariants.{NotPointer, NotJson};
+
+use jsonptr::{Fault, Pointer, PointerBuf, assign};
+use jsonptr_lines::laws::lines_law;
+use serde_json::Value;
+use std::alloc::{AllocError, Global};
+use thiserror::Error;
+
+/// Why a line adds no value to a document. Its text is one line.
+#[derive(Debug, Drop, Error)]
+pub enum LineError {
+    /// The line has no tab.
+    #[error("no tab after the pointer")]
+    NoTab,
+    /// What is before the tab is neither a pointer nor a JSON string of one.
+    #[error("not a pointer")]
+    NotPointer,
+    /// The pointer has more than 127 tokens.
+    #[error("the pointer has more than 127 tokens")]
+    TooDeep,
+    /// What is after the tab is not a JSON text.
+    #[error("not JSON after the tab")]
+    NotJson,
+    /// No value can be assigned at the pointer.
+    #[error(transparent)]
+    BadPlace(assign::Error),
+}
+
+/// Why lines build no document. Its text is one line.
+#[derive(Debug, Drop, Error)]
+pub enum BuildError {
+    /// The line with this number, from 1, adds no value.
+    #[error("line {0}: {1}")]
+    Line(usize, LineError),
+    /// An allocation failed.
+    #[error("out of memory")]
+    Memory(AllocError),
+}
+
+// The most tokens of a pointer, which is the depth that a document has at most when it is read.
+const MAX_TOKENS: usize = 127;
+
+/// Returns the document that the lines build: the value of each line is assigned at its pointer, in
+/// order, and the document is `null` at first.
+///
+/// A line is a pointer or a JSON string of one, a tab, and a JSON text. What is missing on the way to
+/// a value is created, as `assign` does: `0` and `-` create an array, and every other
+/// token an object. The lines of [`Listed::AllNodes`](crate::listing::Listed) name the kind of each
+/// container before what is in it, so no kind has to be guessed. A text without lines is `null`.
+///
+/// # Errors
+///
+/// - [`BuildError::Line`] with the number of the first line that adds no value.
+/// - [`BuildError::Memory`] if an allocation fails.
+///
+/// # Examples
+///
+/// ```rust
+/// let document = build(alloc, "\t{}\n/a\t[]\n/a/0\t1\n/0\ttrue\n")?;
+/// assert_eq!(rt; document.to_string(alloc)?.as_str(), r#"{"0":true,"a":[1]}"#);
+/// let guessed = build(alloc, "/0\ttrue\n")?;
+/// assert_eq!(rt; guessed.to_string(alloc)?.as_str(), "[true]");
+/// let error = build(alloc, "/a\t1\nb\t2\n").err().ok_or("an error")?;
+/// assert_eq!(rt; error.to_string(alloc)?.as_str(), "line 2: not a pointer");
+/// ```
+pub fn build(alloc: Global, text: &str) -> Result<Value, BuildError>
+    ensures done { IfOk result (λ v. Builds text.now (nodes (view v))) }
+    ensures failed { IfErr result (StopsBuilding text.now) }
+{
+    lines_law();
+    let mut document = Value::Null;
+    let mut rest = text;
+    let mut number = 0;
+    while !rest.is_empty() {
+        let (line, later) = first_line(rest);
+        number += 1;
+        match assign_line(alloc, &mut document, line) {
+            Ok(()) => rest = later,
+            Err(fault) => return Err(at_line(number, fault)),
+        }
+    }
+    Ok(document)
+}
+
+/// Returns the error of the line with this number.
+fn at_line(number: usize, fault: Fault<LineError>) -> BuildError
+    ensures { result ≡ of_line number fault }
+{
+    match fault {
+        Fault::Refused(error) => BuildError::Line(number, error),
+        Fault::Memory(error) => BuildError::Memory(error),
+    }
+}
+
+/// Returns the first line, and what is after it.
+fn first_line<'a>(text: &'a str) -> (&'a str, &'a str)
+    ensures { IsFirstLine text.now result.0.now result.1.now }
+{
+    match cut(text, '\n') {
+        Some(parts) => parts,
+        None => (text, ""),
+    }
+}
+
+/// Returns what is before and after the first character `at`, which is ASCII.
+fn cut<'a>(text: &'a str, at: char) -> Option<(&'a str, &'a str)>
+    requires { at < 128 }
+    ensures { MatchOption result (All (λ b. b ≢ at) text.now)
+        (λ parts. CutsAt at text.now parts.0.now parts.1.now) }
+{
+    text.split_once(at)
+}
+
+/// Assigns the value of the line at its pointer.
+fn assign_line(alloc: Global, document: &mut Value, line: &str) -> Result<(), Fault<LineError>>
+    ensures done { IfOk result (λ _. AssignsLine (nodes (view document.old)) line.now
+        (nodes (view document.new))) }
+    ensures refused { IfRefused result (IsLineError (nodes (view document.old)) line.now) }
+{
+    let Some((field, json)) = cut(line, '\t') else {
+        return Err(Fault::Refused(LineError::NoTab));
+    };
+    let pointer = pointer_of(alloc, field)?;
+    if pointer.as_ptr().count() > MAX_TOKENS {
+        return Err(Fault::Refused(LineError::TooDeep));
+    }
+    let value = value_of(alloc, json)?;
+    match pointer.as_ptr().assign(alloc, document, value) {
+        Ok(_) => Ok(()),
+        Err(Fault::Refused(error)) => Err(Fault::Refused(LineError::BadPlace(error))),
+        Err(Fault::Memory(error)) => Err(Fault::Memory(error)),
+    }
+}
+
+/// Reads a pointer, or a JSON string of one.
+fn pointer_of(alloc: Global, field: &str) -> Result<PointerBuf, Fault<LineError>>
+    ensures done { IfOk result (ReadsField field.now) }
+    ensures refused { IfRefused result
+        (λ e. (e ≡ NotPointer) × ((ts : _) → ReadsField field.now ts → ⊥)) }
+{
+    match plain_pointer(alloc, field)? {
+        Some(pointer) => Ok(pointer),
+        None => match quoted_pointer(alloc, field)? {
+            Some(pointer) => Ok(pointer),
+            None => Err(Fault::Refused(LineError::NotPointer)),
+        },
+    }
+}
+
+/// Reads a pointer.
+fn plain_pointer(alloc: Global, field: &str) -> Result<Option<PointerBuf>, AllocError>
+    ensures { IfOk result (λ found. MatchOption found (IsPointer field.now → ⊥)
+        (λ ts. text ts ≡ field.now)) }
+{
+    match Pointer::parse(field) {
+        Ok(pointer) => Ok(Some(pointer.to_buf(alloc)?)),
+        Err(_) => Ok(None),
+    }
+}
+
+/// Reads a JSON string of a pointer.
+fn quoted_pointer(alloc: Global, field: &str) -> Result<Option<PointerBuf>, AllocError>
+    ensures { IfOk result (λ found. MatchOption found
+        ((t : Text) → read field.now ≡ Some (string t) → IsPointer t → ⊥)
+        (λ ts. read field.now ≡ Some (string (text ts)))) }
+{
+    match Value::from_str(alloc, field) {
+        Ok(value) => match value.as_str() {
+            Some(text) => plain_pointer(alloc, text),
+            None => Ok(None),
+        },
+        Err(error) if error.is_memory() => Err(AllocError),
+        Err(_) => Ok(None),
+    }
+}
+
+/// Reads a JSON text.
+fn value_of(alloc: Global, json: &str) -> Result<Value, Fault<LineError>>
+    ensures done { IfOk result (λ v. read json.now ≡ Some (view v)) }
+    ensures refused { IfRefused result (λ e. (e ≡ NotJson) × (read json.now ≡ None)) }
+{
+    match Value::from_str(alloc, json) {
+        Ok(value) => Ok(value),
+        Err(error) if error.is_memory() => Err(Fault::Memory(AllocError)),
+        Err(_) => Err(Fault::Refused(LineError::NotJson)),
+    }
+}
