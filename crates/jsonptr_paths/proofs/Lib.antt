@@ -1,4 +1,4 @@
 -- Lemmas on the walk over a document, on the lines of its nodes, and on what is read from lines.
-mod WalkingLemmas
+pub mod WalkingLemmas
 mod ListingLemmas
 mod ReadingLemmas

@@ -1,4 +1,4 @@
--- Lemmas on the undos of an editor, on removals, patches, settings in layers, references, checks and walks, on a
+-- Lemmas on the undos of an editor, on removals, patches, settings in layers, references and checks, on a
 -- cursor, on the next element, and on calls that are read.
 pub mod UndoingLemmas
 mod RemovingLemmas
@@ -9,7 +9,6 @@ mod ReferencesLemmas
 mod CheckingLemmas
 mod OverlayLemmas
 mod EditingLemmas
-mod WalkingLemmas
 mod NextLemmas
 mod SessionsLemmas
 pub mod InTextLemmas

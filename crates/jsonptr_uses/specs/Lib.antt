@@ -1,14 +1,12 @@
 -- Where the undos of an editor lead, and where references lead. The values of settings in layers and of an overlay.
--- What a document is checked for, and the walk over a document. Sessions on texts. Why a patch document is not applied.
+-- What a document is checked for. Sessions on texts. Why a patch document is not applied.
 pub mod Undoing
 pub mod Settings
 pub mod References
 pub mod Checking
 pub mod InText
 pub mod Overlay
-pub mod Walking
 pub mod Editing
 pub mod EditsInText
 pub mod Sessions
 pub mod PatchDocuments
-pub mod PrivateWalking

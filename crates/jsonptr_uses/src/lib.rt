@@ -5,7 +5,7 @@
 //! - [`settings`]: settings in layers.
 //! - [`references`]: references inside a document.
 //! - [`checker`]: required members and their types.
-//! - [`walk`]: the pointers of all nodes of a document.
+//! - [`nodes`]: the nodes of a document, counted, and read back from their lines.
 //! - [`editor`], [`cursor_editor`] and [`patches`]: changes that can be undone.
 //! - [`patch_documents`]: a patch document that is applied.
 //! - [`differences`]: a copy that is kept up to date by differences.
@@ -29,6 +29,7 @@ pub mod edits;
 pub mod edits_in_text;
 pub mod handles;
 pub mod in_text;
+pub mod nodes;
 pub mod overlay;
 pub mod patch_documents;
 pub mod patches;
@@ -36,5 +37,4 @@ pub mod references;
 pub mod sessions;
 pub mod settings;
 pub mod tabled;
-pub mod walk;
 pub mod writes;

@@ -1,12 +1,13 @@
 //! Layered settings, references, an overlay, a checker and a walk.
 use jsonptr::Pointer;
+use jsonptr_paths::walk::pointers;
 use jsonptr_uses::checker::{Kind, Required, violations};
 use jsonptr_uses::conditions::{len_of_constant, len_of_known, place_of_fault};
 use jsonptr_uses::in_text::range_in_text;
+use jsonptr_uses::nodes::{count_nodes, rebuilt};
 use jsonptr_uses::overlay::{Overlay, found_in};
 use jsonptr_uses::references::{ReferenceError, resolve_reference};
 use jsonptr_uses::settings::{get, get_json, get_or};
-use jsonptr_uses::walk::pointers;
 use serde_json::Value;
 use std::alloc::Global;
 use std::test::Fail;
@@ -268,7 +269,7 @@ fn a_walk_comes_to_many_nodes(rt: HostRuntime) -> Result<(), Fail> {
     }
     text.push_str("]")?;
     let document = Value::from_str(alloc, text.as_str())?;
-    assert_eq!(rt; pointers(alloc, &document)?.len(), 2002);
+    assert_eq!(rt; count_nodes(alloc, &document)?, 2002);
     Ok(())
 }
 
@@ -297,6 +298,21 @@ fn ranges_in_text(rt: HostRuntime) -> Result<(), Fail> {
         (r#"{"from":3,"to":[5]"#, None),
     ] {
         assert!(rt; has_range(rt.alloc(), text, want)?, "{text}");
+    }
+    Ok(())
+}
+
+#[test]
+fn a_document_is_built_again_from_its_lines(rt: HostRuntime) -> Result<(), Fail> {
+    let alloc = rt.alloc();
+    for text in [
+        "1",
+        "[]",
+        r#"{"0":[{},[0,[1]],{"":null}],"a/b":{"1":"\t\n"},"t\tb":-1}"#,
+        "[0,1,2,3,4,5,6,7,8,9,10,11]",
+    ] {
+        let document = Value::from_str(alloc, text)?;
+        assert_eq!(rt; rebuilt(alloc, &document)?, document);
     }
     Ok(())
 }
