@@ -6,7 +6,10 @@ use std::test::Fail;
 fn build_example(rt: HostRuntime) -> Result<(), Fail> {
     let alloc = rt.alloc();
     let document = build(alloc, "\t{}\n/a\t[]\n/a/0\t1\n/0\ttrue\n")?;
-    assert_eq!(rt; document.to_string(alloc)?.as_str(), r#"{"0":true,"a":[1]}"#);
+    assert_eq!(rt;
+        document.to_string(alloc)?.as_str(),
+        r#"{"0":true,"a":[1]}"#
+    );
     let guessed = build(alloc, "/0\ttrue\n")?;
     assert_eq!(rt; guessed.to_string(alloc)?.as_str(), "[true]");
     let error = build(alloc, "/a\t1\nb\t2\n").err().ok_or("an error")?;
