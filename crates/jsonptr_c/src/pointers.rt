@@ -90,7 +90,8 @@ pub extern "C" fn jsonptrcore_pointer_push(
 ) -> u32
     ensures pushed { result ≡ 0
         → Extends (take length.old buffer.old) text.now (take length.new buffer.new) }
-    ensures refused { result ≢ 0 → (e : Failure) × Reports e (take length.old buffer.old) result error.new
+    ensures refused { result ≢ 0 → (e : Failure)
+        × Reports e (take length.old buffer.old) result error.new
         × IsNotPushed (take length.old buffer.old) text.now (list_length buffer.old) e }
     ensures unchanged { result ≢ 0 → buffer.new ≡ buffer.old }
     ensures same_length { result ≢ 0 → length.new ≡ length.old }
