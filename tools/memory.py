@@ -34,9 +34,15 @@ def run(lines, shim, fail):
     return Run(*parts_of(completed), requests, greatest)
 
 
+# An edit in a text prints its value over lines too, and indents up to 127 levels by two spaces more each.
+GREATEST_OVER_LINES = 65_536
+
+
 def greatest_for(case):
     """Returns the size in bytes that a request of a case may have: in proportion to its lines and its texts."""
-    return 2048 + 160 * len(case.lines) + 20 * sum(len(text.encode()) for text in (*case.lines, case.answer, case.after))
+    texts = (*case.lines, case.answer, case.after)
+    greatest = 2048 + 160 * len(case.lines) + 20 * sum(len(text.encode()) for text in texts)
+    return max(greatest, GREATEST_OVER_LINES) if case.lines[0] in ("assign in text", "apply in text") else greatest
 
 
 def described(result):
