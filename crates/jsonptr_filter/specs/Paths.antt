@@ -5,7 +5,7 @@ use Rattle.std.specs.Str.{IsUtf8}
 use Rattle.serde_json.specs.Data.{Data}
 use Rattle.serde_json.specs.Read.{read}
 use Rattle.jsonptr_grammar.specs.Text.{Text}
-use Rattle.jsonptr_tree.specs.Json.{nodes}
+use Rattle.jsonptr_tree.specs.Json.{nodes, HasSortedKeys}
 use Rattle.jsonptr_lines.specs.Streams.{ForInput, AppendsPrefix}
 use Rattle.jsonptr_paths.specs.Listing.{Lists}
 use Rattle.jsonptr_paths.specs.Reading.{Builds, StopsBuilding}
@@ -26,11 +26,13 @@ FailsToList bytes NotJson = IsUtf8 bytes → read bytes ≡ None
 FailsToList bytes (Memory f) = ⊤
 FailsToList bytes e = ⊥
 
--- `BuildsText layout bytes out`: `out` is a line with the document that the lines `bytes` build, in this layout
+-- `BuildsText layout bytes out`: `out` is a line with the document that the lines `bytes` build, in this layout and with
+-- its keys sorted
 abbrev pub BuildsText : Layout → List ℕ → Text → Type 0
 BuildsText layout bytes out =
     (d : Data) × (shown : Text)
-    × IsUtf8 bytes × Builds bytes (nodes d) × Shows layout d shown × (out ≡ shown ++ 10 ∷ [])
+    × IsUtf8 bytes × Builds bytes (nodes d) × HasSortedKeys d × Shows layout d shown
+    × (out ≡ shown ++ 10 ∷ [])
 
 -- `FailsToBuild bytes e`: e is why the lines `bytes` build no document, if it is not for memory
 abbrev pub FailsToBuild : List ℕ → Failure → Type 0

@@ -10,12 +10,14 @@
 //! - [`paths`]: a document as lines of pointers and values, and a document from such lines.
 //! - [`patching`]: applying a patch document.
 //! - [`failure`]: the errors, and the exit status of each.
+//! - [`laws`]: that lines build the document that they list.
 #![tactic(auto)]
 
 pub mod difference;
 pub mod document;
 mod edit;
 pub mod failure;
+pub mod laws;
 pub mod layout;
 pub mod line;
 pub mod lines;

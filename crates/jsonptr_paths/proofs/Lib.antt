@@ -2,3 +2,7 @@
 pub mod WalkingLemmas
 mod ListingLemmas
 mod ReadingLemmas
+mod OrderLemmas
+mod RebuildingLemmas
+mod PlainLemmas
+mod RowLemmas

@@ -24,18 +24,18 @@ use Rattle.jsonptr_paths.specs.PrivateWalking.{token_of, tokens_to, Among, Ascen
 
 -- elements of lists
 
-among_left : {X : Type 0} (xs ys : List X) (x : X) → Among xs x → Among (xs ++ ys) x
+pub among_left : {X : Type 0} (xs ys : List X) (x : X) → Among xs x → Among (xs ++ ys) x
 among_left [] ys x h = absurd h
 among_left (z ∷ xs) ys x h = elim h [
   | inl e ↦ inl e
   | inr k ↦ inr (among_left xs ys x k)
 ]
 
-among_right : {X : Type 0} (xs ys : List X) (x : X) → Among ys x → Among (xs ++ ys) x
+pub among_right : {X : Type 0} (xs ys : List X) (x : X) → Among ys x → Among (xs ++ ys) x
 among_right [] ys x h = h
 among_right (z ∷ xs) ys x h = inr (among_right xs ys x h)
 
-among_cases : {X : Type 0} (xs ys : List X) (x : X) → Among (xs ++ ys) x → Among xs x ⊎ Among ys x
+pub among_cases : {X : Type 0} (xs ys : List X) (x : X) → Among (xs ++ ys) x → Among xs x ⊎ Among ys x
 among_cases [] ys x h = inr h
 among_cases (z ∷ xs) ys x h = elim h [
   | inl e ↦ inl (inl e)
@@ -59,7 +59,7 @@ map_among f (z ∷ xs) y h = elim h [
   | inr k ↦ let r = map_among f xs y k in (r.0, inr r.1, r.2)
 ]
 
-contains_among : {X : Type 0} (xs : List X) (x : X) → Contains xs x → Among xs x
+pub contains_among : {X : Type 0} (xs : List X) (x : X) → Contains xs x → Among xs x
 contains_among xs x h = at xs h.0 h.1 h.2
   where
     at : (ys : List _) (k : ℕ) → k < length ys → get_or ys k x ≡ x → Among ys x
@@ -67,7 +67,7 @@ contains_among xs x h = at xs h.0 h.1 h.2
     at (y ∷ ys) zero inside e = inl (sym e)
     at (y ∷ ys) (suc k) inside e = inr (at ys k (omega arith) e)
 
-among_contains : {X : Type 0} (xs : List X) (x : X) → Among xs x → Contains xs x
+pub among_contains : {X : Type 0} (xs : List X) (x : X) → Among xs x → Contains xs x
 among_contains [] x h = absurd h
 among_contains (y ∷ ys) x h = elim h [
   | inl e ↦ (0, omega arith, sym e)

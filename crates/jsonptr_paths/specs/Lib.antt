@@ -4,3 +4,4 @@ pub mod Listing
 pub mod Reading
 pub mod PrivateWalking
 pub mod PrivateReading
+pub mod PrivateRebuilding

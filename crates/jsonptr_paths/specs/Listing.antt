@@ -1,6 +1,7 @@
 -- The lines that list the nodes of a document.
 use Rattle.std.specs.Prelude.{◌≡◌, ◌≤◌, ◌⊎◌, List, [], ◌∷◌, ◌++◌, All, false, Some}
-use Rattle.json.specs.Print.{quoted}
+use Rattle.json.specs.Lex.{tokens}
+use Rattle.json.specs.Print.{quoted, print}
 use Rattle.serde_json.specs.Data.{Data, null, boolean, number, string, array, object, no_items, no_members}
 use Rattle.serde_json.specs.Read.{read}
 use Rattle.serde_json.specs.Written.{has_float, compact_text}
@@ -35,6 +36,7 @@ IsField t field = (IsPlain t × (field ≡ t)) ⊎ ((IsPlain t → ⊥) × (fiel
 -- `IsCompact v t`: t is the JSON text of v without white space. Only the digits of a float are left open
 pub record IsCompact (v : Data) (t : Text) : Type 0 where
   pub exact : has_float v ≡ false → t ≡ compact_text v
+  pub compact : t ≡ print (tokens t)
   pub reads_back : read t ≡ Some v
 
 -- `IsLineOf p v line`: `line` is the line of the node v at the pointer with the text p: the pointer, a tab, the value

@@ -20,6 +20,7 @@
 //! document, and lines of all nodes can be read back one by one.
 #![tactic(auto)]
 
+pub mod laws;
 pub mod listing;
 pub mod reading;
 pub mod walk;

@@ -4,7 +4,7 @@ ghost use Rattle.serde_json.specs.Data.{string};
 ghost use Rattle.serde_json.specs.Read.{read};
 ghost use Rattle.serde_json.specs.View.{view};
 ghost use Rattle.jsonptr.specs.Fault.{IfRefused};
-ghost use Rattle.jsonptr.specs.Json.{nodes};
+ghost use Rattle.jsonptr.specs.Json.{nodes, HasSortedKeys};
 ghost use Rattle.jsonptr.specs.Text.{Text, text};
 ghost use Rattle.jsonptr.specs.Grammar.{IsPointer};
 ghost use Rattle.jsonptr_paths.specs.Reading.{CutsAt, ReadsField, AssignsLine, Builds, IsLineError, StopsBuilding};
@@ -57,7 +57,10 @@ const MAX_TOKENS: usize = 127;
 /// A line is a pointer or a JSON string of one, a tab, and a JSON text. What is missing on the way to
 /// a value is created, as `assign` does: `0` and `-` create an array, and every other
 /// token an object. The lines of [`Listed::AllNodes`](crate::listing::Listed) name the kind of each
-/// container before what is in it, so no kind has to be guessed. A text without lines is `null`.
+/// container before what is in it, so no kind has to be guessed. They build the document that they
+/// list again ([`round_trip_law`](crate::laws::round_trip_law)). A text without lines is `null`.
+///
+/// The members of each object are in the order of their keys.
 ///
 /// # Errors
 ///
@@ -76,6 +79,7 @@ const MAX_TOKENS: usize = 127;
 /// ```
 pub fn build(alloc: Global, text: &str) -> Result<Value, BuildError>
     ensures done { IfOk result (λ v. Builds text.now (nodes (view v))) }
+    ensures sorted { IfOk result (λ v. HasSortedKeys (view v)) }
     ensures failed { IfErr result (StopsBuilding text.now) }
 {
     lines_law();
@@ -126,6 +130,8 @@ fn cut<'a>(text: &'a str, at: char) -> Option<(&'a str, &'a str)>
 fn assign_line(alloc: Global, document: &mut Value, line: &str) -> Result<(), Fault<LineError>>
     ensures done { IfOk result (λ _. AssignsLine (nodes (view document.old)) line.now
         (nodes (view document.new))) }
+    ensures sorted { IfOk result (λ _. HasSortedKeys (view document.old)
+        → HasSortedKeys (view document.new)) }
     ensures refused { IfRefused result (IsLineError (nodes (view document.old)) line.now) }
 {
     let Some((field, json)) = cut(line, '\t') else {
@@ -188,6 +194,7 @@ fn quoted_pointer(alloc: Global, field: &str) -> Result<Option<PointerBuf>, Allo
 /// Reads a JSON text.
 fn value_of(alloc: Global, json: &str) -> Result<Value, Fault<LineError>>
     ensures done { IfOk result (λ v. read json.now ≡ Some (view v)) }
+    ensures sorted { IfOk result (λ v. HasSortedKeys (view v)) }
     ensures refused { IfRefused result (λ e. (e ≡ NotJson) × (read json.now ≡ None)) }
 {
     match Value::from_str(alloc, json) {

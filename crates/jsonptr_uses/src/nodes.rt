@@ -1,13 +1,15 @@
 //! The nodes of a document, counted, and read back from their lines.
-ghost use Rattle.std.specs.Prelude.{◌≡◌, List, length, IfOk, string_bytes};
+ghost use Rattle.std.specs.Prelude.{◌≡◌, ◌≤◌, ℕ, List, length, IfOk, Err};
+ghost use Rattle.serde_json.specs.Data.{depth};
+ghost use Rattle.serde_json.specs.Read.{max_depth};
 ghost use Rattle.serde_json.specs.View.{view};
-ghost use Rattle.jsonptr.specs.Json.{nodes};
+ghost use Rattle.jsonptr.specs.Json.{nodes, HasSortedKeys};
 ghost use Rattle.jsonptr.specs.Text.{Text};
 ghost use Rattle.jsonptr_paths.specs.Walking.{IsWalk};
-ghost use Rattle.jsonptr_paths.specs.Listing.{Lists};
-ghost use Rattle.jsonptr_paths.specs.Reading.{Builds};
-ghost use Rattle.jsonptr_paths.specs.declared.listing.Listed.TheVariants.{AllNodes};
+ghost use Rattle.jsonptr_paths.specs.declared.reading.LineError.{LineError};
+ghost use Rattle.jsonptr_paths.specs.declared.reading.BuildError.TheVariants.{Line};
 
+use jsonptr_paths::laws::round_trip_law;
 use jsonptr_paths::listing::{Listed, list};
 use jsonptr_paths::reading::{BuildError, build};
 use jsonptr_paths::walk::pointers;
@@ -27,15 +29,20 @@ pub fn count_nodes(alloc: Global, document: &Value) -> Result<usize, AllocError>
     Ok(found.as_slice().len())
 }
 
-/// Returns the document that the lines of all nodes of a document build.
+/// Returns the document that the lines of all nodes of a document build. It is the same document,
+/// if its keys are sorted, as those of each document that is read are.
 ///
 /// # Errors
 ///
-/// [`BuildError::Line`] if a line adds no value, and [`BuildError::Memory`] if an allocation fails.
+/// [`BuildError::Memory`] if an allocation fails. [`BuildError::Line`] comes only from a document that
+/// nests deeper than 127.
 pub fn rebuilt(alloc: Global, document: &Value) -> Result<Value, BuildError>
-    ensures { IfOk result (λ v. (lines : Text)
-        × Lists AllNodes (view document.now) lines × Builds lines (nodes (view v))) }
+    ensures same { IfOk result (λ v. HasSortedKeys (view document.now)
+        → view v ≡ view document.now) }
+    ensures no_line { (number : ℕ) (e : LineError) → depth (view document.now) ≤ max_depth
+        → result ≡ Err (Line number e) → ⊥ }
 {
+    round_trip_law();
     match list(alloc, document, Listed::AllNodes) {
         Ok(lines) => build(alloc, lines.as_str()),
         Err(error) => Err(BuildError::Memory(error)),

@@ -15,6 +15,7 @@ loop-rest-preserved c =
           c.loop-rest.invariant.1
           c.in-Ok.ensures.done,
       omega (arith, less, c.loop-rest.invariant.2),
+      c.in-Ok.ensures.sorted c.loop-rest.invariant.3,
     )
 
 pub returns-clause-done : goal.returns-clause-done

@@ -2,7 +2,7 @@ use Rattle.std.proofs.Common.{◌+◌, ◌≤◌, length}
 use denote.Text.{Utf8}
 use denote.Shadow.{shadow}
 use Rattle.serde_json.specs.View.{view}
-use Rattle.jsonptr.specs.Json.{nodes}
+use Rattle.jsonptr.specs.Json.{nodes, HasSortedKeys}
 use Rattle.jsonptr_paths.specs.PrivateReading.{Progress}
 use Rattle.jsonptr_paths.proofs.reading.build.Given as goal
 
@@ -11,6 +11,7 @@ invariant-loop-rest l =
     shadow (Utf8 l.rest)
     × Progress l.text l.rest l.number (nodes (view l.document))
     × (l.number + length l.rest ≤ length l.text)
+    × HasSortedKeys (view l.document)
 
 abbrev pub decreases-loop-rest : goal.decreases-loop-rest
 decreases-loop-rest l = length l.rest

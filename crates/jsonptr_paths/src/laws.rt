@@ -1,0 +1,34 @@
+//! Laws of documents as lines.
+ghost use Rattle.std.specs.Prelude.{◌≡◌, ◌≤◌, ℕ, [], ◌∷◌, ◌++◌};
+ghost use Rattle.serde_json.specs.Data.{Data, depth};
+ghost use Rattle.serde_json.specs.Read.{max_depth};
+ghost use Rattle.jsonptr.specs.Json.{nodes, HasSortedKeys};
+ghost use Rattle.jsonptr.specs.Node.{NodeMap};
+ghost use Rattle.jsonptr.specs.Text.{Text};
+ghost use Rattle.jsonptr_lines.specs.Lines.{IsOneLine};
+ghost use Rattle.jsonptr_paths.specs.Listing.{IsLineOf, Lists};
+ghost use Rattle.jsonptr_paths.specs.Reading.{Builds, StopsBuilding};
+ghost use Rattle.jsonptr_paths.specs.declared.listing.Listed.TheVariants.{AllNodes};
+ghost use Rattle.jsonptr_paths.specs.declared.reading.LineError.{LineError};
+ghost use Rattle.jsonptr_paths.specs.declared.reading.BuildError.TheVariants.{Line};
+
+/// States that the lines of all nodes of a document build that document.
+///
+/// The document that they build has the same node map, floats included. With sorted keys, as each
+/// document that is read has, it is the same value. If the document nests at most 127 deep, as each
+/// document that is read does, no line is at fault: `build` then fails only if an allocation fails.
+pub fn round_trip_law()
+    ensures rebuilt { (d : Data) (lines : Text) (m : NodeMap)
+        → Lists AllNodes d lines → Builds lines m → m ≡ nodes d }
+    ensures same_value { (d e : Data) (lines : Text) → HasSortedKeys d → HasSortedKeys e
+        → Lists AllNodes d lines → Builds lines (nodes e) → e ≡ d }
+    ensures no_error { (d : Data) (lines : Text) (number : ℕ) (e : LineError)
+        → depth d ≤ max_depth → Lists AllNodes d lines
+        → StopsBuilding lines (Line number e) → ⊥ }
+{}
+
+/// States that the line of a node has one line feed, at its end.
+pub fn one_line_law()
+    ensures { (pointer : Text) (v : Data) (line : Text) → IsLineOf pointer v line
+        → (l : Text) × (line ≡ l ++ 10 ∷ []) × IsOneLine l }
+{}
