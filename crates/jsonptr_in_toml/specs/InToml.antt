@@ -1,4 +1,4 @@
--- Finding and changing values in the text of a TOML document.
+-- Finding, changing and listing values in the text of a TOML document.
 use Rattle.std.specs.Prelude.{◌≡◌, ◌<◌, List, Option, Some, None, length, false, ⊤}
 use Rattle.toml.specs.Data.{Data, table, no_members, Members}
 use Rattle.toml.specs.Parse.{parse_document}
@@ -10,6 +10,8 @@ use Rattle.jsonptr_tree.specs.Assigning.{Assigns}
 use Rattle.jsonptr_tree.specs.Removing.{Deletes}
 use Rattle.jsonptr.specs.Resolve.{Refuses}
 use Rattle.jsonptr.specs.Assign.{RefusesAssign}
+use Rattle.jsonptr_paths.specs.TomlListing.{Lists}
+use Rattle.jsonptr_paths.specs.declared.listing.Listed.{Listed}
 use Rattle.jsonptr_in_toml.specs.declared.error.InTomlError.{InTomlError}
 use Rattle.jsonptr_in_toml.specs.declared.error.InTomlError.TheVariants.{NotToml, NoValue, BadPlace, NotThere, TooDeep, NoText, Memory}
 
@@ -38,6 +40,10 @@ DeletesInToml text ts new =
     (d d2 : Data) × ReadsAs text d × PrintsAs d2 new
     × ((v : Data) × FindsValue d ts v) × Deletes (nodes d) ts (nodes (table no_members)) (nodes d2)
 
+-- `ListsInToml which text out`: `out` lists the nodes, or the leaves, of the document of `text`
+abbrev pub ListsInToml : Listed → Text → Text → Type 0
+ListsInToml which text out = (d : Data) × ReadsAs text d × Lists which d out
+
 -- `FailsToFind text ts e`: e is why no value is found, if it is not for memory
 abbrev pub FailsToFind : Text → List Text → InTomlError → Type 0
 FailsToFind text ts NotToml = parse_document text ≡ None
@@ -61,3 +67,9 @@ FailsToDelete text ts NotThere = (d : Data) × ReadsAs text d × ((w : Path) →
 FailsToDelete text ts NoText = ⊤
 FailsToDelete text ts (Memory f) = ⊤
 FailsToDelete text ts e = ⊥
+
+-- `FailsToList text e`: e is why nothing is listed, if it is not for memory
+abbrev pub FailsToList : Text → InTomlError → Type 0
+FailsToList text NotToml = parse_document text ≡ None
+FailsToList text (Memory f) = ⊤
+FailsToList text e = ⊥

@@ -1,3 +1,3 @@
--- Finding and changing values in the text of a TOML document.
+-- Finding, changing and listing values in the text of a TOML document.
 pub mod InToml
 pub mod PrivateInToml

@@ -1,5 +1,5 @@
-//! Finds and changes values in the text of a TOML document. The document is read, and printed anew
-//! after a change: its comments and its layout are not kept.
+//! Finds, changes and lists values in the text of a TOML document. The document is read, and printed
+//! anew after a change: its comments and its layout are not kept.
 //!
 //! ```rust
 //! let text = "# The size\nsize = 3\n";
@@ -7,6 +7,8 @@
 //! assert_eq!(rt; find_in_toml(alloc, text, size)?.as_integer(), Some(3));
 //! let new = assign_in_toml(alloc, text, size, 5.into())?;
 //! assert_eq!(rt; new.as_str(), "size = 5\n");
+//! let lines = list_in_toml(alloc, text, Listed::Leaves)?;
+//! assert_eq!(rt; lines.as_str(), "/size\t3\n");
 //! ```
 //!
 //! In the examples `rt` is the runtime that `main` and each test receive, and `alloc` is
@@ -16,6 +18,8 @@
 mod change;
 mod document;
 mod error;
+mod listing;
 
 pub use change::{assign_in_toml, delete_in_toml, find_in_toml};
 pub use error::InTomlError;
+pub use listing::list_in_toml;

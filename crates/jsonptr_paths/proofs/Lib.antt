@@ -1,6 +1,8 @@
 -- Lemmas on the walk over a document, on the lines of its nodes, and on what is read from lines.
 pub mod WalkingLemmas
+mod VisitingLemmas
 mod ListingLemmas
+mod TomlListingLemmas
 mod ReadingLemmas
 mod OrderLemmas
 mod RebuildingLemmas

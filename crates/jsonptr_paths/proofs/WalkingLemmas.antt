@@ -1,5 +1,5 @@
 -- What a walk over the parts of a document appends, part by part, and that it is a walk over the whole.
-use Rattle.std.proofs.Common.{◌≡◌, inl, inr, ℕ, zero, suc, ◌+◌, ◌<◌, ◌≤◌, ◌⊎◌, Bool, true, false, cond, is_eq, List, [], ◌∷◌, ◌++◌, length, get_or, map, Option, Some, None, IsSome, option_map, String, Vec, Global, Ordering, Less, Equal, Greater, nat_cmp, string_bytes, string_cmp, refl, sym, ap, subst, ◌∙◌, arith, append_assoc, append-nil, true≢false}
+use Rattle.std.proofs.Common.{◌≡◌, inl, inr, ℕ, zero, suc, ◌+◌, ◌<◌, ◌≤◌, ◌⊎◌, Bool, true, false, cond, is_eq, List, [], ◌∷◌, ◌++◌, length, get_or, map, Option, Some, None, IsSome, option_map, String, Global, Ordering, Less, Equal, Greater, nat_cmp, string_bytes, string_cmp, refl, sym, ap, subst, ◌∙◌, arith, append_assoc, append-nil, true≢false}
 use Rattle.std.specs.List.{Contains, AllByRecursion}
 use Rattle.std.specs.List.Sorted.{IsStrictlySortedBy}
 use Rattle.std.specs.BTreeMap.{BTreeMap, get_by_text, is_at}
@@ -11,14 +11,11 @@ use Rattle.std.proofs.lemmas.Cmp.{nat_list_cmp_total, tied_itself}
 use Rattle.std.proofs.lemmas.List.{map-append}
 use Rattle.std.proofs.lemmas.Map.Text.{is_eq-slice_cmp}
 use Rattle.std.proofs.lemmas.Slice.Eq.{bytes_eq-Decides}
-use Rattle.serde_json.specs.View.{view}
-use Rattle.serde_json.specs.declared.value.Value.{Value, Array, Object}
-use Rattle.serde_json.proofs.Views.{Entry}
-use Rattle.jsonptr.specs.Text.{Text, dec}
-use Rattle.jsonptr.specs.Json.{content, nodes, value_at}
+use Rattle.jsonptr_tree.specs.Content.{content_at}
+use Rattle.jsonptr.specs.Text.{Text}
 use Rattle.jsonptr.specs.Node.{Step, key, place, Path, Label, an_object, an_array, a_leaf, NodeMap, sub, NamesStep, Names, MayHave, IsTree}
 use Rattle.jsonptr.specs.Content.{Content, label_of, map_of}
-use Rattle.jsonptr.proofs.Calling.{Names-here, Names_one_path, IsTree-above, IsTree-named}
+use Rattle.jsonptr.proofs.Calling.{map_of-IsTree, Names-here, Names_one_path, IsTree-above, IsTree-named}
 use Rattle.jsonptr_paths.specs.Walking.{ChildBefore, Before, IsWalk}
 use Rattle.jsonptr_paths.specs.PrivateWalking.{token_of, tokens_to, Among, Ascends, AddsPointers, Whole, Below}
 
@@ -202,19 +199,10 @@ adds_root n through old mid new pushed root a = record {
     first [] h = (a.there [] h).0
     first (s ∷ v) h = tt
 
--- a leaf is its root alone
-pub adds_leaf : (n : NodeMap) (through : List Text) (old new : List (List Text)) → new ≡ old ++ through ∷ [] → IsTree n → ((s : Step) → MayHave (n []) s → ⊥) → AddsPointers n Whole through old new
-adds_leaf n through old new pushed tree none = adds_root n through old new new pushed tree.root (adds_none n Below through new below)
-  where
-    below : (w : Path) → Below w → IsSome (n w) → ⊥
-    below [] p some = p
-    below (s ∷ w) p some = none s (tree.parent [] s (IsTree-above n tree (s ∷ []) w some))
-
-no_child : (o : Option Label) (l : Label) → o ≡ Some l → (v : _) → l ≡ a_leaf v → (s : Step) → MayHave o s → ⊥
-no_child o l is v leaf s h = subst (λ (x : Option Label). MayHave x s) (is ∙ ap (λ x. Some x) leaf) h
-
-pub scalar_leaf : (n : NodeMap) (v : _) (through : List Text) (old new : List (List Text)) → n [] ≡ Some (a_leaf v) → new ≡ old ++ through ∷ [] → IsTree n → AddsPointers n Whole through old new
-scalar_leaf n v through old new is pushed tree = adds_leaf n through old new pushed tree (no_child (n []) (a_leaf v) is v refl)
+-- nothing is below a scalar
+pub leaf_below : (n : NodeMap) (v : _) → IsTree n → n [] ≡ Some (a_leaf v) → (w : Path) → Below w → IsSome (n w) → ⊥
+leaf_below n v tree leaf [] p some = p
+leaf_below n v tree leaf (s ∷ w) p some = subst (λ (o : Option Label). MayHave o s) leaf (tree.parent [] s (IsTree-above n tree (s ∷ []) w some))
 
 -- elements
 
@@ -224,83 +212,76 @@ InFirst len [] = ⊥
 InFirst len (key k ∷ w) = ⊥
 InFirst len (place i ∷ w) = i < len
 
-pub no_element : (n : NodeMap) (through : List Text) (old : List (List Text)) → AddsPointers n (InFirst 0) through old old
-no_element n through old = adds_none n (InFirst 0) through old none
+pub in_none : (w : Path) → InFirst 0 w → ⊥
+in_none [] p = p
+in_none (key k ∷ w) p = p
+in_none (place i ∷ w) p = omega (arith, p)
+
+pub in_more : (i : ℕ) (w : Path) → InFirst i w → InFirst (i + 1) w
+in_more i [] p = p
+in_more i (key k ∷ w) p = p
+in_more i (place j ∷ w) p = omega (arith, p)
+
+pub in_cases : (i : ℕ) (w : Path) → InFirst (i + 1) w → InFirst i w ⊎ ((u : Path) × (w ≡ place i ∷ u))
+in_cases i [] p = absurd p
+in_cases i (key k ∷ w) p = absurd p
+in_cases i (place j ∷ w) p = elim (cases_lt j i) [
+  | inl l ↦ inl l
+  | inr g ↦ let same : j ≡ i = omega (arith, p) in inr (w, ap (λ k. place k ∷ w) same)
+]
+
+pub in_before : (i : ℕ) (w u : Path) → InFirst i w → Before w (place i ∷ u)
+in_before i [] u p = tt
+in_before i (key k ∷ w) u p = absurd p
+in_before i (place j ∷ w) u p = inl p
+
+pub in_below : (i : ℕ) (w : Path) → InFirst i w → Below w
+in_below i [] p = p
+in_below i (s ∷ w) p = tt
+
+-- each path below an array leads through one of its elements
+pub below_in : (n : NodeMap) (len i : ℕ) → IsTree n → n [] ≡ Some (an_array len) → len ≤ i → (w : Path) → Below w → IsSome (n w) → InFirst i w
+below_in n len i tree label long [] p some = p
+below_in n len i tree label long (s ∷ w) p some = inside s w (subst (λ (o : Option Label). MayHave o s) label (tree.parent [] s (IsTree-above n tree (s ∷ []) w some)))
   where
-    none : (w : Path) → InFirst 0 w → IsSome (n w) → ⊥
-    none [] p some = p
-    none (key k ∷ w) p some = p
-    none (place i ∷ w) p some = omega (arith, p)
-
-pub element_more : (n m : NodeMap) (through : List Text) (i : ℕ) (old mid new : List (List Text)) → AddsPointers n (InFirst i) through old mid → AddsPointers m Whole (through ++ dec i ∷ []) mid new → m ≡ sub n (place i ∷ []) → AddsPointers n (InFirst (i + 1)) through old new
-element_more n m through i old mid new a b is = adds_part n m (InFirst i) (InFirst (i + 1)) through (place i) old mid new a b is weaker (λ w. omega arith) cases before
-  where
-    weaker : (w : Path) → InFirst i w → InFirst (i + 1) w
-    weaker [] p = p
-    weaker (key k ∷ w) p = p
-    weaker (place j ∷ w) p = omega (arith, p)
-
-    cases : (w : Path) → InFirst (i + 1) w → InFirst i w ⊎ ((u : Path) × (w ≡ place i ∷ u))
-    cases [] p = absurd p
-    cases (key k ∷ w) p = absurd p
-    cases (place j ∷ w) p = elim (cases_lt j i) [
-      | inl l ↦ inl l
-      | inr g ↦ let same : j ≡ i = omega (arith, p) in inr (w, ap (λ k. place k ∷ w) same)
-    ]
-
-    before : (w u : Path) → InFirst i w → Before w (place i ∷ u)
-    before [] u p = tt
-    before (key k ∷ w) u p = absurd p
-    before (place j ∷ w) u p = inl p
-
-pub elements_all : (n : NodeMap) (len : ℕ) (through : List Text) (old new : List (List Text)) → IsTree n → n [] ≡ Some (an_array len) → (i : ℕ) → len ≤ i → AddsPointers n (InFirst i) through old new → AddsPointers n Below through old new
-elements_all n len through old new tree label i long a = adds_same n (InFirst i) Below through old new a weaker stronger
-  where
-    weaker : (w : Path) → InFirst i w → Below w
-    weaker [] p = p
-    weaker (s ∷ w) p = tt
-
     inside : (s : Step) (w : Path) → MayHave (Some (an_array len)) s → InFirst i (s ∷ w)
     inside (key k) w h = h
-    inside (place j) w h = omega (arith, h)
-
-    stronger : (w : Path) → Below w → IsSome (n w) → InFirst i w
-    stronger [] p some = p
-    stronger (s ∷ w) p some = inside s w (subst (λ (o : Option Label). MayHave o s) label (tree.parent [] s (IsTree-above n tree (s ∷ []) w some)))
+    inside (place j) w h = omega (arith, h, long)
 
 -- members
 
+-- an entry of an object or a table with values of the type V
+abbrev pub EntryOf : Type 0 → Type 0
+EntryOf V = String Global × V
+
 -- one of the entries has the key
-abbrev KeyAmong : List Entry → Text → Type 0
+abbrev KeyAmong : {V : Type 0} → List (EntryOf V) → Text → Type 0
 KeyAmong [] k = ⊥
 KeyAmong (e ∷ es) k = (k ≡ string_bytes e.0) ⊎ KeyAmong es k
 
 -- the path leads through one of the entries
-abbrev pub Under : List Entry → Path → Type 0
+abbrev pub Under : {V : Type 0} → List (EntryOf V) → Path → Type 0
 Under es [] = ⊥
 Under es (key k ∷ w) = KeyAmong es k
 Under es (place i ∷ w) = ⊥
 
-pub no_member : (n : NodeMap) (through : List Text) (old : List (List Text)) → AddsPointers n (Under []) through old old
-no_member n through old = adds_none n (Under []) through old none
-  where
-    none : (w : Path) → Under [] w → IsSome (n w) → ⊥
-    none [] p some = p
-    none (key k ∷ w) p some = p
-    none (place i ∷ w) p some = p
+pub under_none : (V : Type 0) (w : Path) → Under {V = V} [] w → ⊥
+under_none V [] p = p
+under_none V (key k ∷ w) p = p
+under_none V (place i ∷ w) p = p
 
-key_left : (es : List Entry) (e : Entry) (k : Text) → KeyAmong es k → KeyAmong (es ++ e ∷ []) k
+key_left : {V : Type 0} (es : List (EntryOf V)) (e : EntryOf V) (k : Text) → KeyAmong es k → KeyAmong (es ++ e ∷ []) k
 key_left [] e k h = absurd h
 key_left (x ∷ es) e k h = elim h [
   | inl s ↦ inl s
   | inr r ↦ inr (key_left es e k r)
 ]
 
-key_last : (es : List Entry) (e : Entry) → KeyAmong (es ++ e ∷ []) (string_bytes e.0)
+pub key_last : {V : Type 0} (es : List (EntryOf V)) (e : EntryOf V) → KeyAmong (es ++ e ∷ []) (string_bytes e.0)
 key_last [] e = inl refl
 key_last (x ∷ es) e = inr (key_last es e)
 
-key_cases : (es : List Entry) (e : Entry) (k : Text) → KeyAmong (es ++ e ∷ []) k → KeyAmong es k ⊎ (k ≡ string_bytes e.0)
+key_cases : {V : Type 0} (es : List (EntryOf V)) (e : EntryOf V) (k : Text) → KeyAmong (es ++ e ∷ []) k → KeyAmong es k ⊎ (k ≡ string_bytes e.0)
 key_cases [] e k h = elim h [
   | inl s ↦ inr s
   | inr r ↦ absurd r
@@ -313,11 +294,11 @@ key_cases (x ∷ es) e k h = elim h [
   ]
 ]
 
-below_middle : (first : Entry) (es : List Entry) (e : Entry) (more : List Entry) → AllByRecursion (λ y. string_cmp first.0 y ≡ Less) (keys_of (es ++ e ∷ more)) → string_cmp first.0 e.0 ≡ Less
+below_middle : {V : Type 0} (first : EntryOf V) (es : List (EntryOf V)) (e : EntryOf V) (more : List (EntryOf V)) → AllByRecursion (λ y. string_cmp first.0 y ≡ Less) (keys_of (es ++ e ∷ more)) → string_cmp first.0 e.0 ≡ Less
 below_middle first [] e more h = h.0
 below_middle first (x ∷ es) e more h = below_middle first es e more h.1
 
-key_before : (done : List Entry) (e : Entry) (more : List Entry) → IsStrictlySortedBy string_cmp (keys_of (done ++ e ∷ more)) → (k : Text) → KeyAmong done k → slice_cmp nat_cmp k (string_bytes e.0) ≡ Less
+key_before : {V : Type 0} (done : List (EntryOf V)) (e : EntryOf V) (more : List (EntryOf V)) → IsStrictlySortedBy string_cmp (keys_of (done ++ e ∷ more)) → (k : Text) → KeyAmong done k → slice_cmp nat_cmp k (string_bytes e.0) ≡ Less
 unfolding IsStrictlySortedBy
 key_before [] e more h k among = absurd among
 key_before (x ∷ done) e more h k among = elim among [
@@ -325,29 +306,30 @@ key_before (x ∷ done) e more h k among = elim among [
   | inr r ↦ key_before done e more h.1 k r
 ]
 
-pub member_more : (n m : NodeMap) (through : List Text) (done : List Entry) (e : Entry) (more : List Entry) (old mid new : List (List Text)) → AddsPointers n (Under done) through old mid → AddsPointers m Whole (through ++ string_bytes e.0 ∷ []) mid new → m ≡ sub n (key (string_bytes e.0) ∷ []) → IsStrictlySortedBy string_cmp (keys_of (done ++ e ∷ more)) → AddsPointers n (Under (done ++ e ∷ [])) through old new
-member_more n m through done e more old mid new a b is sorted = adds_part n m (Under done) (Under (done ++ e ∷ [])) through (key (string_bytes e.0)) old mid new a b is weaker (λ w. key_last done e) cases before
-  where
-    weaker : (w : Path) → Under done w → Under (done ++ e ∷ []) w
-    weaker [] p = p
-    weaker (key k ∷ w) p = key_left done e k p
-    weaker (place j ∷ w) p = p
+pub under_more : {V : Type 0} (done : List (EntryOf V)) (e : EntryOf V) (w : Path) → Under done w → Under (done ++ e ∷ []) w
+under_more done e [] p = p
+under_more done e (key k ∷ w) p = key_left done e k p
+under_more done e (place j ∷ w) p = p
 
-    cases : (w : Path) → Under (done ++ e ∷ []) w → Under done w ⊎ ((u : Path) × (w ≡ key (string_bytes e.0) ∷ u))
-    cases [] p = absurd p
-    cases (key k ∷ w) p = elim (key_cases done e k p) [
-      | inl l ↦ inl l
-      | inr same ↦ inr (w, ap (λ l. key l ∷ w) same)
-    ]
-    cases (place j ∷ w) p = absurd p
+pub under_cases : {V : Type 0} (done : List (EntryOf V)) (e : EntryOf V) (w : Path) → Under (done ++ e ∷ []) w → Under done w ⊎ ((u : Path) × (w ≡ key (string_bytes e.0) ∷ u))
+under_cases done e [] p = absurd p
+under_cases done e (key k ∷ w) p = elim (key_cases done e k p) [
+  | inl l ↦ inl l
+  | inr same ↦ inr (w, ap (λ l. key l ∷ w) same)
+]
+under_cases done e (place j ∷ w) p = absurd p
 
-    before : (w u : Path) → Under done w → Before w (key (string_bytes e.0) ∷ u)
-    before [] u p = tt
-    before (key k ∷ w) u p = inl (key_before done e more sorted k p)
-    before (place j ∷ w) u p = absurd p
+pub under_before : {V : Type 0} (done : List (EntryOf V)) (e : EntryOf V) (more : List (EntryOf V)) → IsStrictlySortedBy string_cmp (keys_of (done ++ e ∷ more)) → (w u : Path) → Under done w → Before w (key (string_bytes e.0) ∷ u)
+under_before done e more sorted [] u p = tt
+under_before done e more sorted (key k ∷ w) u p = inl (key_before done e more sorted k p)
+under_before done e more sorted (place j ∷ w) u p = absurd p
+
+pub under_below : {V : Type 0} (es : List (EntryOf V)) (w : Path) → Under es w → Below w
+under_below es [] p = p
+under_below es (s ∷ w) p = tt
 
 -- an entry of a map in order is the one that its key finds
-entry_found : (done : List Entry) (e : Entry) (more : List Entry) → IsStrictlySortedBy string_cmp (keys_of (done ++ e ∷ more)) → lookup (is_at (λ l. slice_cmp nat_cmp (string_bytes e.0) (string_bytes l))) (done ++ e ∷ more) ≡ Some e.1
+entry_found : {V : Type 0} (done : List (EntryOf V)) (e : EntryOf V) (more : List (EntryOf V)) → IsStrictlySortedBy string_cmp (keys_of (done ++ e ∷ more)) → lookup (is_at (λ l. slice_cmp nat_cmp (string_bytes e.0) (string_bytes l))) (done ++ e ∷ more) ≡ Some e.1
 unfolding IsStrictlySortedBy
 entry_found [] e more h = ap (λ (o : Ordering). cond (is_eq o) (Some e.1) (lookup (is_at (λ l. slice_cmp nat_cmp (string_bytes e.0) (string_bytes l))) more)) (tied_itself nat_list_cmp_total (string_bytes e.0))
 entry_found (first ∷ done) e more h =
@@ -356,79 +338,35 @@ entry_found (first ∷ done) e more h =
     nat_list_cmp_total.antisymm (string_bytes e.0) (string_bytes first.0) ∙ ap ordering_reverse (below_middle first done e more h.0) in
     ap (λ (o : Ordering). cond (is_eq o) (Some first.1) (lookup (is_at (λ l. slice_cmp nat_cmp (string_bytes e.0) (string_bytes l))) (done ++ e ∷ more))) above ∙ later
 
--- the node map below a member
-member_map : (m : BTreeMap (String Global) Value) (done : List Entry) (e : Entry) (more : List Entry) → m.entries ≡ done ++ e ∷ more → IsStrictlySortedBy string_cmp (keys_of m.entries) → value_at (key (string_bytes e.0) ∷ []) (view (Object m)) ≡ option_map (λ v. content (view v)) (get_by_text m (string_bytes e.0)) → value_at (key (string_bytes e.0) ∷ []) (view (Object m)) ≡ Some (content (view e.1))
-member_map m done e more is sorted law =
-    let found = entry_found done e more (subst (λ (es : List Entry). IsStrictlySortedBy string_cmp (keys_of es)) is sorted) in
-    let there : get_by_text m (string_bytes e.0) ≡ Some e.1 = ap (λ (es : List Entry). lookup (is_at (λ l. slice_cmp nat_cmp (string_bytes e.0) (string_bytes l))) es) is ∙ found in
-    law ∙ ap (option_map (λ v. content (view v))) there
+pub entry_there : {V : Type 0} (m : BTreeMap (String Global) V) (done : List (EntryOf V)) (e : EntryOf V) (more : List (EntryOf V)) → m.entries ≡ done ++ e ∷ more → IsStrictlySortedBy string_cmp (keys_of m.entries) → get_by_text m (string_bytes e.0) ≡ Some e.1
+entry_there {V} m done e more is sorted =
+    let found = entry_found done e more (subst (λ (es : List (EntryOf V)). IsStrictlySortedBy string_cmp (keys_of es)) is sorted) in
+    ap (λ (es : List (EntryOf V)). lookup (is_at (λ l. slice_cmp nat_cmp (string_bytes e.0) (string_bytes l))) es) is ∙ found
 
 -- the key of a found value is the key of an entry
-found_key : (es : List Entry) (k : Text) → IsSome (lookup (is_at (λ l. slice_cmp nat_cmp k (string_bytes l))) es) → KeyAmong es k
+found_key : {V : Type 0} (es : List (EntryOf V)) (k : Text) → IsSome (lookup (is_at (λ l. slice_cmp nat_cmp k (string_bytes l))) es) → KeyAmong es k
 found_key [] k h = absurd (true≢false (sym h))
-found_key (e ∷ es) k h = by_test (found_key es k) (is_eq (slice_cmp nat_cmp k (string_bytes e.0))) refl h
+found_key {V} (e ∷ es) k h = by_test (found_key es k) (is_eq (slice_cmp nat_cmp k (string_bytes e.0))) refl h
   where
     by_test : (IsSome (lookup (is_at (λ l. slice_cmp nat_cmp k (string_bytes l))) es) → KeyAmong es k) → (b : Bool) → is_eq (slice_cmp nat_cmp k (string_bytes e.0)) ≡ b → IsSome (cond b (Some e.1) (lookup (is_at (λ l. slice_cmp nat_cmp k (string_bytes l))) es)) → KeyAmong (e ∷ es) k
     by_test later true is some = inl ((bytes_eq-Decides k (string_bytes e.0)).0 (sym (is_eq-slice_cmp k (string_bytes e.0)) ∙ is))
     by_test later false is some = inr (later some)
 
-some_there : (o : Option Value) (c : Option Content) → c ≡ option_map (λ v. content (view v)) o → IsSome (option_map label_of c) → IsSome o
-some_there None c is some = absurd (true≢false (sym (subst (λ (d : Option Content). IsSome (option_map label_of d)) is some)))
-some_there (Some v) c is some = refl
+some_there : {V : Type 0} (inside : V → Content) (o : Option V) (c : Option Content) → c ≡ option_map inside o → IsSome (option_map label_of c) → IsSome o
+some_there inside None c e h = absurd (true≢false (sym (subst (λ (x : Option Content). IsSome (option_map label_of x)) e h)))
+some_there inside (Some v) c e h = refl
 
-pub members_all : (m : BTreeMap (String Global) Value) (through : List Text) (old new : List (List Text)) → IsTree (nodes (view (Object m))) → nodes (view (Object m)) [] ≡ Some an_object → ((k : List ℕ) → value_at (key k ∷ []) (view (Object m)) ≡ option_map (λ v. content (view v)) (get_by_text m k)) → AddsPointers (nodes (view (Object m))) (Under m.entries) through old new → AddsPointers (nodes (view (Object m))) Below through old new
-members_all m through old new tree label law a = adds_same n (Under m.entries) Below through old new a weaker stronger
+-- each path below an object leads through one of its members
+pub below_under : {V : Type 0} (inside : V → Content) (c : Content) (m : BTreeMap (String Global) V) → map_of c [] ≡ Some an_object → ((k : List ℕ) → content_at (key k ∷ []) c ≡ option_map inside (get_by_text m k)) → (w : Path) → Below w → IsSome (map_of c w) → Under m.entries w
+below_under inside c m label law [] p some = p
+below_under {V} inside c m label law (s ∷ w) p some =
+    let tree = map_of-IsTree c in
+    let one = IsTree-above (map_of c) tree (s ∷ []) w some in
+    under s w (subst (λ (o : Option Label). MayHave o s) label (tree.parent [] s one)) one
   where
-    n : NodeMap
-    n = nodes (view (Object m))
-
-    weaker : (w : Path) → Under m.entries w → Below w
-    weaker [] p = p
-    weaker (s ∷ w) p = tt
-
-    inside : (s : Step) (w : Path) → MayHave (Some an_object) s → IsSome (nodes (view (Object m)) (s ∷ [])) → Under m.entries (s ∷ w)
-    inside (key k) w h some = found_key m.entries k (some_there (get_by_text m k) (value_at (key k ∷ []) (view (Object m))) (law k) some)
-    inside (place j) w h some = h
-
-    stronger : (w : Path) → Below w → IsSome (nodes (view (Object m)) w) → Under m.entries w
-    stronger [] p some = p
-    stronger (s ∷ w) p some =
-        let one = IsTree-above (nodes (view (Object m))) tree (s ∷ []) w some in
-        inside s w (subst (λ (o : Option Label). MayHave o s) label (tree.parent [] s one)) one
-
--- in the terms of the code
-
-pub whole_value : (v w : Value) (through : List Text) (old mid new : List (List Text)) → v ≡ w → mid ≡ old ++ through ∷ [] → IsTree (nodes (view w)) → AddsPointers (nodes (view w)) Below through mid new → AddsPointers (nodes (view v)) Whole through old new
-whole_value v w through old mid new is pushed tree a = subst (λ (u : Value). AddsPointers (nodes (view u)) Whole through old new) (sym is) (adds_root (nodes (view w)) through old mid new pushed tree.root a)
-
-pub element_step : (v : Vec Value Global) (vs : List Value) (i : ℕ) (e : Value) (through at : List Text) (old mid new : List (List Text))
-    → vs ≡ v.items
-    → i < length vs
-    → e ≡ get_or vs i e
-    → ((j : ℕ) (x : Value) → j < length v.items → value_at (place j ∷ []) (view (Array v)) ≡ Some (content (view (get_or v.items j x))))
-    → ((c : Content) → value_at (place i ∷ []) (view (Array v)) ≡ Some c → map_of c ≡ sub (nodes (view (Array v))) (place i ∷ []))
-    → at ≡ through ++ dec i ∷ []
-    → AddsPointers (nodes (view (Array v))) (InFirst i) through old mid
-    → AddsPointers (nodes (view e)) Whole at mid new
-    → AddsPointers (nodes (view (Array v))) (InFirst (i + 1)) through old new
-element_step v vs i e through at old mid new same inside read element below leads a b =
-    let short : i < length v.items = subst (λ (l : List Value). i < length l) same inside in
-    let here : e ≡ get_or v.items i e = read ∙ ap (λ (l : List Value). get_or l i e) same in
-    let there : value_at (place i ∷ []) (view (Array v)) ≡ Some (content (view e)) = element i e short ∙ ap (λ (u : Value). Some (content (view u))) (sym here) in
-    element_more (nodes (view (Array v))) (nodes (view e)) through i old mid new a (subst (λ (ts : List Text). AddsPointers (nodes (view e)) Whole ts mid new) leads b) (below (content (view e)) there)
-
-pub member_step : (m : BTreeMap (String Global) Value) (done : List Entry) (e : Entry) (more : List Entry) (through at : List Text) (old mid new : List (List Text))
-    → m.entries ≡ done ++ e ∷ more
-    → IsStrictlySortedBy string_cmp (keys_of m.entries)
-    → ((k : List ℕ) → value_at (key k ∷ []) (view (Object m)) ≡ option_map (λ v. content (view v)) (get_by_text m k))
-    → ((w : Path) (c : Content) → value_at w (view (Object m)) ≡ Some c → map_of c ≡ sub (nodes (view (Object m))) w)
-    → at ≡ through ++ string_bytes e.0 ∷ []
-    → AddsPointers (nodes (view (Object m))) (Under done) through old mid
-    → AddsPointers (nodes (view e.1)) Whole at mid new
-    → AddsPointers (nodes (view (Object m))) (Under (done ++ e ∷ [])) through old new
-member_step m done e more through at old mid new is sorted member below leads a b =
-    let there = member_map m done e more is sorted (member (string_bytes e.0)) in
-    member_more (nodes (view (Object m))) (nodes (view e.1)) through done e more old mid new a (subst (λ (ts : List Text). AddsPointers (nodes (view e.1)) Whole ts mid new) leads b) (below (key (string_bytes e.0) ∷ []) (content (view e.1)) there) (subst (λ (es : List Entry). IsStrictlySortedBy string_cmp (keys_of es)) is sorted)
+    under : (s : Step) (w : Path) → MayHave (Some an_object) s → IsSome (map_of c (s ∷ [])) → Under m.entries (s ∷ w)
+    under (key k) w h there = found_key m.entries k (some_there inside (get_by_text m k) (content_at (key k ∷ []) c) (law k) there)
+    under (place j) w h there = h
 
 -- the whole walk
 

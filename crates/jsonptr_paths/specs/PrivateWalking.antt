@@ -1,6 +1,13 @@
--- What a walk over a part of a document appends to a list. Used only by private contracts; no public contract depends
--- on this file.
+-- What a walk over a part of a document visits. Used only by private contracts; no public contract depends on this
+-- file.
 use Rattle.std.specs.Prelude.{◌≡◌, ◌⊎◌, ⊤, List, [], ◌∷◌, ◌++◌, map, IsSome}
+use Rattle.serde_json.specs.View.{view}
+use Rattle.serde_json.specs.declared.value.Value.{Value}
+use Rattle.toml.specs.View.{view as toml_view}
+use Rattle.toml.specs.declared.value.Value.{Value as TomlValue}
+use Rattle.jsonptr_tree.specs.Content.{Content, map_of, FindsContent}
+use Rattle.jsonptr.specs.Json.{content}
+use Rattle.jsonptr_tree.specs.TomlValue.{content as toml_content}
 use Rattle.jsonptr.specs.Text.{Text, dec}
 use Rattle.jsonptr.specs.Node.{Step, key, place, Path, NodeMap}
 use Rattle.jsonptr_paths.specs.Walking.{Before}
@@ -43,3 +50,26 @@ Whole w = ⊤
 abbrev pub Below : Path → Type 0
 Below [] = ⊥
 Below (s ∷ w) = ⊤
+
+-- `VisitsAll visits finds lists s t`: visiting the values that the lists of tokens find, in this order, turns the
+-- visitor `s` into `t`.
+abbrev pub VisitsAll : {S V : Type 0} → (S → List Text → V → S → Type 0) → (List Text → V → Type 0) → List (List Text) → S → S → Type 0
+VisitsAll visits finds [] s t = t ≡ s
+VisitsAll {S} {V} visits finds (ts ∷ lists) s u = (v : V) × (t : S) × finds ts v × visits s ts v t × VisitsAll visits finds lists t u
+
+-- `Walks inside visits v P through s t`: visiting the nodes of `v` whose paths have the property `P`, in document order,
+-- turns the visitor `s` into `t`. `through` are the tokens that find `v` in the document.
+pub record Walks {S V : Type 0} (inside : V → Content) (visits : S → List Text → V → S → Type 0)
+    (v : V) (P : Path → Type 0) (through : List Text) (s t : S) : Type 0 where
+  pub lists : List (List Text)
+  pub adds : AddsPointers (map_of (inside v)) P through [] lists
+  pub visited : (d : Content) → FindsContent d through (inside v)
+      → VisitsAll visits (λ ts u. FindsContent d ts (inside u)) lists s t
+
+-- `inside v` is what the JSON value `v` contains.
+abbrev pub inside : Value → Content
+inside v = content (view v)
+
+-- `inside_toml v` is what the TOML value `v` contains.
+abbrev pub inside_toml : TomlValue → Content
+inside_toml v = toml_content (toml_view v)

@@ -1,7 +1,8 @@
-//! A JSON document as lines, one for each node, and a document from such lines.
+//! A JSON or TOML document as lines, one for each node, and a JSON document from such lines.
 //!
 //! - [`walk`]: the pointers of all nodes of a document, in order.
 //! - [`listing`]: the lines of a document.
+//! - [`toml_listing`]: the lines of a TOML document.
 //! - [`reading`]: the document that lines build.
 //!
 //! A line is a JSON Pointer (RFC 6901), a tab, and a JSON text without white space (RFC 8259):
@@ -23,4 +24,6 @@
 pub mod laws;
 pub mod listing;
 pub mod reading;
+pub mod toml_listing;
+mod toml_walk;
 pub mod walk;

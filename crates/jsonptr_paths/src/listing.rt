@@ -1,14 +1,14 @@
 //! The lines of a JSON document.
 ghost use Rattle.std.specs.Prelude.{◌≡◌, ◌↔◌, ◌++◌, IfOk, IsTrue, string_bytes};
+ghost use Rattle.json.specs.Print.{quoted};
 ghost use Rattle.serde_json.specs.View.{view};
-ghost use Rattle.jsonptr.specs.Json.{nodes, FindsValue};
-ghost use Rattle.jsonptr.specs.Node.{Path, Names};
 ghost use Rattle.jsonptr.specs.Pointer.{tokens, text_of};
 ghost use Rattle.jsonptr.specs.Text.{Text, text};
+ghost use Rattle.jsonptr_paths.specs.PrivateListing.{IsLine};
 ghost use Rattle.jsonptr_paths.specs.Listing.{emptied, IsLeaf, IsPlain, IsField, IsCompact, IsLineOf, IsShown, Lists};
 
-use crate::walk::pointers;
-use jsonptr::{Fault, Pointer, Resolve};
+use crate::walk::{Visitor, visit_nodes};
+use jsonptr::Pointer;
 use serde_json::{Map, Value};
 use std::alloc::{AllocError, Global};
 
@@ -58,32 +58,35 @@ pub enum Listed {
 pub fn list(alloc: Global, document: &Value, which: Listed) -> Result<String, AllocError>
     ensures { IfOk result (λ s. Lists which (view document.now) (string_bytes s)) }
 {
-    let pointers = pointers(alloc, document)?;
-    let mut out = String::new(alloc);
-    for pointer in &pointers {
-        push_node(alloc, &mut out, document, pointer.as_ptr(), which)?;
-    }
+    let mut lister = Lister {
+        alloc,
+        which,
+        out: String::new(alloc),
+    };
+    visit_nodes(alloc, document, Pointer::root(), &mut lister)?;
+    let Lister {
+        alloc: _,
+        which: _,
+        out,
+    } = lister;
     Ok(out)
 }
 
-/// Appends what is printed for the node that the pointer resolves to.
-fn push_node(
+/// A visitor that appends the line of each node that is listed.
+#[derive(Drop)]
+struct Lister {
     alloc: Global,
-    out: &mut String,
-    document: &Value,
-    pointer: Pointer<'_>,
     which: Listed,
-) -> Result<(), AllocError>
-    requires { (w : Path) × Names (nodes (view document.now)) (tokens pointer) w }
-    ensures { IfOk result (λ _. (v : _) × (one : Text)
-        × FindsValue (view document.now) (tokens pointer.entry) v
-        × IsShown which (text (tokens pointer.entry)) v one
-        × (string_bytes out.new ≡ string_bytes out.old ++ one)) }
-{
-    match document.resolve(alloc, pointer) {
-        Ok(value) => push_shown(alloc, out, pointer, value, which),
-        Err(Fault::Refused(_)) => unreachable!(),
-        Err(Fault::Memory(error)) => Err(error),
+    out: String,
+}
+
+impl Visitor<Value> for Lister {
+    ghost visits = { λ s ts v t. (t.which ≡ s.which) × ((one : Text)
+        × IsShown s.which (text ts) (view v) one
+        × (string_bytes t.out ≡ string_bytes s.out ++ one)) };
+
+    fn visit(&mut self, pointer: Pointer<'_>, value: &Value) -> Result<(), AllocError> {
+        push_shown(self.alloc, &mut self.out, pointer, value, self.which)
     }
 }
 
@@ -100,10 +103,10 @@ fn push_shown(
         × (string_bytes out.new ≡ string_bytes out.old ++ one)) }
 {
     match which {
-        Listed::AllNodes => push_line(alloc, out, pointer, value),
+        Listed::AllNodes => push_value(alloc, out, pointer, value),
         Listed::Leaves => {
             if is_leaf(value) {
-                push_line(alloc, out, pointer, value)
+                push_value(alloc, out, pointer, value)
             } else {
                 Ok(())
             }
@@ -123,7 +126,7 @@ fn is_leaf(value: &Value) -> bool
 }
 
 /// Appends the line of the value at the pointer.
-fn push_line(
+fn push_value(
     alloc: Global,
     out: &mut String,
     pointer: Pointer<'_>,
@@ -133,9 +136,24 @@ fn push_line(
         × IsLineOf (text (tokens pointer.entry)) (view value.now) one
         × (string_bytes out.new ≡ string_bytes out.old ++ one)) }
 {
+    let short = short_text(alloc, value)?;
+    push_line(alloc, out, pointer, short.as_str())
+}
+
+/// Appends a line: the pointer, a tab, the text of a value, and a line break.
+pub(crate) fn push_line(
+    alloc: Global,
+    out: &mut String,
+    pointer: Pointer<'_>,
+    short: &str,
+) -> Result<(), AllocError>
+    ensures { IfOk result (λ _. (one : Text)
+        × IsLine (text (tokens pointer.entry)) short.now one
+        × (string_bytes out.new ≡ string_bytes out.old ++ one)) }
+{
     push_field(alloc, out, pointer.as_str())?;
     out.push('\t')?;
-    push_short(alloc, out, value)?;
+    out.push_str(short)?;
     out.push('\n')?;
     Ok(())
 }
@@ -148,10 +166,17 @@ fn push_field(alloc: Global, out: &mut String, pointer: &str) -> Result<(), Allo
     if is_plain(pointer.as_bytes()) {
         out.push_str(pointer)?;
     } else {
-        let quoted = Value::String(String::from_str(alloc, pointer)?).to_string(alloc)?;
+        let quoted = quoted_text(alloc, pointer)?;
         out.push_str(quoted.as_str())?;
     }
     Ok(())
+}
+
+/// Returns the JSON string of a text.
+pub(crate) fn quoted_text(alloc: Global, text: &str) -> Result<String, AllocError>
+    ensures { IfOk result (λ s. string_bytes s ≡ quoted text.now) }
+{
+    Value::String(String::from_str(alloc, text)?).to_string(alloc)
 }
 
 /// Returns whether no byte is that of a control character.
@@ -159,16 +184,6 @@ fn is_plain(bytes: &[u8]) -> bool
     ensures { IsTrue result ↔ IsPlain bytes.now }
 {
     bytes.iter().all(|byte| *byte >= 32)
-}
-
-/// Appends the JSON text of the value without its elements or members.
-fn push_short(alloc: Global, out: &mut String, value: &Value) -> Result<(), AllocError>
-    ensures { IfOk result (λ _. (short : Text) × IsCompact (emptied (view value.now)) short
-        × (string_bytes out.new ≡ string_bytes out.old ++ short)) }
-{
-    let short = short_text(alloc, value)?;
-    out.push_str(short.as_str())?;
-    Ok(())
 }
 
 /// Returns the JSON text of the value without its elements or members.

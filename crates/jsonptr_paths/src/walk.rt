@@ -1,17 +1,45 @@
 //! A walk over all nodes of a JSON document (RFC 6901, section 4).
-ghost use Rattle.std.specs.Prelude.{IfOk};
+ghost use Rattle.std.specs.Prelude.{◌≡◌, IfOk, List, [], ◌∷◌, ◌++◌};
 ghost use Rattle.serde_json.specs.View.{view};
 ghost use Rattle.serde_json.specs.declared.value.Value.{Array, Object};
 ghost use Rattle.jsonptr.specs.Json.{nodes};
 ghost use Rattle.jsonptr.specs.Pointer.{tokens};
+ghost use Rattle.jsonptr.specs.Text.{Text};
 ghost use Rattle.jsonptr_paths.specs.Walking.{IsWalk};
-ghost use Rattle.jsonptr_paths.specs.PrivateWalking.{AddsPointers, Whole, Below};
+ghost use Rattle.jsonptr_paths.specs.PrivateWalking.{Walks, Whole, Below, inside};
 
 use jsonptr::tree::json::json_law;
 use jsonptr::{Pointer, PointerBuf, Token};
 use serde_json::{Map, Value};
 use std::alloc::{AllocError, Global};
 use std::borrow::CowStr;
+
+/// What is done at each node of a walk.
+pub(crate) trait Visitor<V> {
+    // `visits s ts v t`: visiting the value `v` at the tokens `ts` turns the visitor `s` into `t`
+    ghost visits: { Self → List Text → V → Self → Type 0 };
+
+    /// Visits the value at the pointer.
+    fn visit(&mut self, pointer: Pointer<'_>, value: &V) -> Result<(), AllocError>
+        ensures { IfOk result (λ _. visits self.old (tokens pointer.entry) value.now self.new) };
+}
+
+/// A visitor that collects the pointers.
+#[derive(Drop)]
+struct Collector {
+    alloc: Global,
+    found: Vec<PointerBuf>,
+}
+
+impl Visitor<Value> for Collector {
+    ghost visits = { λ s ts v t. t.found.items ≡ s.found.items ++ ts ∷ [] };
+
+    fn visit(&mut self, pointer: Pointer<'_>, _value: &Value) -> Result<(), AllocError> {
+        let found = pointer.to_buf(self.alloc)?;
+        self.found.push(found)?;
+        Ok(())
+    }
+}
 
 /// Returns the pointers of all nodes of the document, each once, in document order. A node comes
 /// before those below it, elements come in their order, and members by the bytes of their keys.
@@ -31,71 +59,76 @@ use std::borrow::CowStr;
 pub fn pointers(alloc: Global, document: &Value) -> Result<Vec<PointerBuf>, AllocError>
     ensures { IfOk result (λ found. IsWalk (nodes (view document.now)) found.items) }
 {
-    json_law();
-    let mut found = Vec::new(alloc);
-    visit(alloc, document, Pointer::root(), &mut found)?;
+    let mut collector = Collector {
+        alloc,
+        found: Vec::new(alloc),
+    };
+    visit_nodes(alloc, document, Pointer::root(), &mut collector)?;
+    let Collector { alloc: _, found } = collector;
     Ok(found)
 }
 
-/// Appends the pointers of all nodes of the value at `through`.
+/// Visits all nodes of the value at `through`, in document order.
+///
+/// Holds no more memory than the visitor, and a pointer for each level of the value.
 #[cycle(walk)]
-fn visit(
+pub(crate) fn visit_nodes<T: Visitor<Value>>(
     alloc: Global,
     value: &Value,
     through: Pointer<'_>,
-    found: &mut Vec<PointerBuf>,
+    visitor: &mut T,
 ) -> Result<(), AllocError>
-    ensures { IfOk result (λ _. AddsPointers (nodes (view value.now)) Whole (tokens through.entry)
-        found.old.items found.new.items) }
+    ensures { IfOk result (λ _. Walks inside T.visits value.now Whole (tokens through.entry)
+        visitor.old visitor.new) }
 {
     json_law();
-    found.push(through.to_buf(alloc)?)?;
+    visitor.visit(through, value)?;
     match value {
         Value::Null => Ok(()),
         Value::Bool(_) => Ok(()),
         Value::Number(_) => Ok(()),
         Value::String(_) => Ok(()),
-        Value::Array(elements) => visit_elements(alloc, elements, through, found),
-        Value::Object(members) => visit_members(alloc, members, through, found),
+        Value::Array(elements) => visit_elements(alloc, elements, through, visitor),
+        Value::Object(members) => visit_members(alloc, members, through, visitor),
     }
 }
 
-/// Appends the pointers of all nodes below an array.
+/// Visits all nodes below an array.
 #[cycle(walk)]
-fn visit_elements(
+fn visit_elements<T: Visitor<Value>>(
     alloc: Global,
     elements: &Vec<Value>,
     through: Pointer<'_>,
-    found: &mut Vec<PointerBuf>,
+    visitor: &mut T,
 ) -> Result<(), AllocError>
-    ensures { IfOk result (λ _. AddsPointers (nodes (view (Array elements.now))) Below
-        (tokens through.entry) found.old.items found.new.items) }
+    ensures { IfOk result (λ _. Walks inside T.visits (Array elements.now) Below
+        (tokens through.entry) visitor.old visitor.new) }
 {
     json_law();
     for (index, element) in elements.iter().enumerate() {
         let token = Token::from_number(alloc, index)?;
         let place = through.with_trailing_token(alloc, token)?;
-        visit(alloc, element, place.as_ptr(), found)?;
+        visit_nodes(alloc, element, place.as_ptr(), visitor)?;
     }
     Ok(())
 }
 
-/// Appends the pointers of all nodes below an object.
+/// Visits all nodes below an object.
 #[cycle(walk)]
-fn visit_members(
+fn visit_members<T: Visitor<Value>>(
     alloc: Global,
     members: &Map<String, Value>,
     through: Pointer<'_>,
-    found: &mut Vec<PointerBuf>,
+    visitor: &mut T,
 ) -> Result<(), AllocError>
-    ensures { IfOk result (λ _. AddsPointers (nodes (view (Object members.now))) Below
-        (tokens through.entry) found.old.items found.new.items) }
+    ensures { IfOk result (λ _. Walks inside T.visits (Object members.now) Below
+        (tokens through.entry) visitor.old visitor.new) }
 {
     json_law();
     for (key, member) in members.iter() {
         let token = Token::new(alloc, CowStr::Borrowed(key.as_str()))?;
         let place = through.with_trailing_token(alloc, token)?;
-        visit(alloc, member, place.as_ptr(), found)?;
+        visit_nodes(alloc, member, place.as_ptr(), visitor)?;
     }
     Ok(())
 }

@@ -5,3 +5,5 @@
 mod doc_examples;
 #[cfg(test)]
 mod streams;
+#[cfg(test)]
+mod toml_lines;

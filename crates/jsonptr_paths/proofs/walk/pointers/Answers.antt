@@ -1,13 +1,8 @@
-use Rattle.serde_json.specs.View.{view}
-use Rattle.jsonptr.specs.Json.{nodes}
 use Rattle.jsonptr.specs.Pointer.{tokens}
-use Rattle.jsonptr_paths.proofs.WalkingLemmas.{walk_whole}
+use Rattle.jsonptr_paths.specs.PrivateWalking.{inside}
+use Rattle.jsonptr_paths.specs.declared.walk.Collector.{Collector}
+use Rattle.jsonptr_paths.proofs.VisitingLemmas.{collects_all}
 use Rattle.jsonptr_paths.proofs.walk.pointers.Goals as goal
 
 pub returns : goal.returns
-returns c =
-    walk_whole (nodes (view c.args.document.now)) c.visit.new.found.items (tokens c.root.result) c.new-found.result.items
-    c.root.ensures.tokens
-    c.new-found.ensures.items
-    (c.json_law.ensures.tree (view c.args.document.now))
-    c.in_ok-visit.ensures
+returns c = collects_all inside (λ (s : Collector). s.found.items) c.args.document.now (tokens c.root.result) _ c.visit_nodes.new.visitor c.root.ensures.tokens c.new.ensures.items c.in_ok-visit_nodes.ensures
