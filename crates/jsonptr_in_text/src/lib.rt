@@ -23,7 +23,7 @@
 //! One pass over the text. Memory for the text's strings, unescaped, and for the value that is
 //! found. The stack is in proportion to the depth that is read, at most 127.
 //!
-//! To resolve in many short texts keep one [`Scratch`], and lend it to the calls that end in `_with`:
+//! To resolve in many short texts keep one [`Scratch`], and pass it to the calls that end in `_with`:
 //! it keeps its memory from text to text.
 //!
 //! In the examples `rt` is the runtime that `main` and each test receive, and `alloc` is

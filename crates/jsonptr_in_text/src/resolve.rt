@@ -90,7 +90,7 @@ pub fn resolve_in_text(
 }
 
 /// Returns the value that the pointer resolves to in the document that the text contains, as
-/// [`resolve_in_text`] does, with memory that the caller lends.
+/// [`resolve_in_text`] does, in a scratch of the caller.
 ///
 /// A caller that resolves in many texts keeps one [`Scratch`]. It has room for unescaped strings, as
 /// much as the longest text so far, and an index of 16 KiB, which [`Scratch::new`] clears. So on short
@@ -169,7 +169,7 @@ pub fn resolve_in_slice(
 }
 
 /// Returns the value that the pointer resolves to in the document that the bytes contain, as
-/// [`resolve_in_slice`] does, with memory that the caller lends, as to [`resolve_in_text_with`].
+/// [`resolve_in_slice`] does, in a scratch of the caller, as [`resolve_in_text_with`] uses it.
 ///
 /// # Errors
 ///
@@ -229,7 +229,7 @@ pub fn exists_in_text(alloc: Global, text: &str, pointer: Pointer<'_>) -> Result
 }
 
 /// Returns whether the pointer resolves to a value in the document that the text contains, as
-/// [`exists_in_text`] does, with memory that the caller lends, as to [`resolve_in_text_with`].
+/// [`exists_in_text`] does, in a scratch of the caller, as [`resolve_in_text_with`] uses it.
 ///
 /// # Errors
 ///

@@ -36,8 +36,8 @@ pub fn find_in_text(alloc: Global, text: &str, selectors: &[Selector]) -> Result
     find_in_text_with(alloc, &mut scratch, text, selectors)
 }
 
-/// Follows the selectors in the JSON value that the text contains, as [`find_in_text`] does, with
-/// memory that the caller lends.
+/// Follows the selectors in the JSON value that the text contains, as [`find_in_text`] does, in a
+/// scratch of the caller.
 ///
 /// The scratch is that of any earlier call, also of one that failed. It keeps its memory, so that a
 /// search in a text that is no longer allocates for the found value alone.

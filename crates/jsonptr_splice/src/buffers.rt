@@ -4,7 +4,7 @@ use json::Scratch;
 use std::alloc::Global;
 
 /// Memory for reading two texts side by side, and a third one beside them. A caller that makes many
-/// edits keeps one and lends it to each.
+/// edits keeps one and passes it to each.
 ///
 /// Each part has room for the unescaped strings of a text, as much as the longest text so far, and an
 /// index of 16 KiB, which `new` clears. No call minds what an earlier one left, also after an error.

@@ -41,8 +41,8 @@ pub fn is_edited(
     is_edited_with(&mut buffers, old, new, selectors, positions, edit)
 }
 
-/// Returns whether the new text reads as the old one with the edit, as [`is_edited`] does, with memory
-/// that the caller lends.
+/// Returns whether the new text reads as the old one with the edit, as [`is_edited`] does, in buffers
+/// of the caller.
 ///
 /// # Errors
 ///
