@@ -487,7 +487,7 @@ VECTORS = [
 
 def in_text():
     """Resolving in text."""
-    calls = ("resolve_in_text", "resolve_in_slice")
+    calls = ("resolve_in_text", "resolve_in_text_with", "resolve_in_slice")
     for pointer, value in VECTORS:
         for call in calls:
             yield allocates("in text", call, SECTION_5, pointer, answer=value)
@@ -531,7 +531,8 @@ def edits_in_text():
         ("", "[]", "[]"),
     ]
     for pointer, value, text in assigned:
-        yield edited("assign in text", pretty, pointer, value, answer=f"in place {text}")
+        for call in ("assign in text", "assign in text with"):
+            yield edited(call, pretty, pointer, value, answer=f"in place {text}")
     yield edited("assign in text", pretty, "/a/3", "0", answer=ASSIGN_OUT_OF_BOUNDS.format(2))
     yield edited("assign in text", pretty, "/a/x", "0", answer=ASSIGN_BAD_INDEX.format(2))
     yield edited("assign in text", "{}", "/0" * 128, "0", answer="too deep")
@@ -545,7 +546,8 @@ def edits_in_text():
     for pointer in ("/c", "/a/-", "/b/b"):
         yield edited("delete in text", pretty, pointer, answer="none")
     for text in ("", "{", '{"a":1}}', '{"b":1e309,"a":1}', "\ufeff1", "[" * 128 + "]" * 128):
-        yield edited("assign in text", text, "/a", "1", answer="not JSON")
+        for call in ("assign in text", "assign in text with"):
+            yield edited(call, text, "/a", "1", answer="not JSON")
         yield edited("delete in text", text, "/a", answer="not JSON")
         yield edited("apply in text", text, "remove", "/a", answer="not JSON")
         yield edited("apply in text", text, answer="not JSON")

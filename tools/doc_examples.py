@@ -51,7 +51,8 @@ IMPORTS = {
     "jsonptr::index": "Index IntegerCause InvalidCharacterError OutOfBoundsError ParseIndexError StringOrToken",
     "jsonptr::token": "Number",
     "jsonptr_diff": "change diff",
-    "jsonptr_edit_in_text": "EditError Edited apply_in_text assign_in_text delete_in_text",
+    "jsonptr_edit_in_text": "Buffers EditError Edited apply_in_text apply_in_text_with assign_in_text assign_in_text_with "
+    "delete_in_text delete_in_text_with",
     "jsonptr_filter::difference": "difference_of",
     "jsonptr_filter::document": "document_result run_document",
     "jsonptr_filter::failure": "Failure",
@@ -59,9 +60,10 @@ IMPORTS = {
     "jsonptr_filter::line": "LineTask",
     "jsonptr_filter::lines": "Ended run_lines",
     "jsonptr_filter::paths": "built_text listed_text run_build run_list",
-    "jsonptr_filter::result": "result_in_text",
+    "jsonptr_filter::result": "result_in_text result_in_text_with",
     "jsonptr_filter::task": "Task",
-    "jsonptr_in_text": "InTextError exists_in_text resolve_in_slice resolve_in_text",
+    "jsonptr_in_text": "InTextError Scratch exists_in_text exists_in_text_with resolve_in_slice resolve_in_slice_with resolve_in_text "
+    "resolve_in_text_with",
     "jsonptr_in_toml": "assign_in_toml delete_in_toml find_in_toml list_in_toml",
     "jsonptr_lines::read": "Ending next_line",
     "jsonptr_lines::write": "write_bytes",

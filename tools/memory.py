@@ -42,7 +42,7 @@ def greatest_for(case):
     """Returns the size in bytes that a request of a case may have: in proportion to its lines and its texts."""
     texts = (*case.lines, case.answer, case.after)
     greatest = 2048 + 160 * len(case.lines) + 20 * sum(len(text.encode()) for text in texts)
-    return max(greatest, GREATEST_OVER_LINES) if case.lines[0] in ("assign in text", "apply in text") else greatest
+    return max(greatest, GREATEST_OVER_LINES) if case.lines[0] in ("assign in text", "assign in text with", "apply in text") else greatest
 
 
 def described(result):

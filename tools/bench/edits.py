@@ -5,7 +5,8 @@
 
 OURS is the built program of crates/jsonptr_tool_edits. The ways run in turn on each file. A time is the processor time of
 one edit: the least of all rounds, without starting the program and reading the file. That of `jq` is of a whole run. Memory
-is the greatest of a run that makes one edit.
+is the greatest of a run that makes one edit. The edits in a text share one `Buffers`; the column "with its own buffers"
+has the time of the first edit where each makes its own.
 """
 import argparse
 import json
@@ -96,12 +97,13 @@ def measured(words, kind, count, turns, path):
     shape, times = SHAPES[kind], {}
     for name in EDITS:
         edit = edit_of(name, shape, count)
-        commands = {(way, number): [words.ours, way, *edit, str(number)] for way in ("text", "document") for number in (0, turns)}
+        ways = ("text", "document", "own") if name == EDITS[0] else ("text", "document")
+        commands = {(way, number): [words.ours, way, *edit, str(number)] for way in ways for number in (0, turns)}
         try:
             found = least(commands, path, words.rounds)
         except subprocess.CalledProcessError:
             continue
-        times[name] = [(found[way, turns][0] - found[way, 0][0]) / turns for way in ("text", "document")]
+        times[name] = [(found[way, turns][0] - found[way, 0][0]) / turns for way in ways]
     edit = edit_of(EDITS[0], shape, count)
     commands = {way: [words.ours, way, *edit, "1"] for way in ("text", "document")}
     if words.jq:
@@ -118,7 +120,7 @@ def cell(times):
     """Returns both times of an edit and their ratio."""
     if times is None:
         return ""
-    ours, document = times
+    ours, document, *_ = times
     return f"{shown(ours)} / {shown(document)} = {ours / document:.2f}"
 
 
@@ -138,7 +140,7 @@ def main():
     parser.add_argument("ours")
     parser.add_argument("--jq")
     words = parser.parse_args()
-    names = ["Text", "Size", *EDITS, "memory in text", "memory of the document", *(["`jq`"] if words.jq else [])]
+    names = ["Text", "Size", *EDITS, "with its own buffers", "memory in text", "memory of the document", *(["`jq`"] if words.jq else [])]
     print("| " + " | ".join(names) + " |")
     print("|---" * len(names) + "|")
     for kind, count, size_name, turns in FILES:
@@ -147,7 +149,8 @@ def main():
         with tempfile.NamedTemporaryFile(suffix=".json") as file:
             make(SHAPES[kind].document, count, file.name)
             times, memory = measured(words, kind, count, turns, file.name)
-            cells = [cell(times.get(name)) for name in EDITS] + memory_of(memory, os.path.getsize(file.name))
+            own = times.get(EDITS[0], ["", "", ""])[2]
+            cells = [cell(times.get(name)) for name in EDITS] + [own and shown(own)] + memory_of(memory, os.path.getsize(file.name))
         print(f"| {SHAPES[kind].name.format(count)} | {size_name} | " + " | ".join(cells) + " |")
         sys.stdout.flush()
 

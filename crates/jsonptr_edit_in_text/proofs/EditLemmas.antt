@@ -1,5 +1,5 @@
 -- What edits of a text are in the words of assignments.
-use Rattle.std.proofs.Common.{◌≡◌, ℕ, zero, suc, ◌<◌, ◌≤◌, max, List, [], ◌∷◌, ◌++◌, Option, Some, None, option_map, Result, Ok, Err, IfOk, IfSome, String, ◌⊎◌, inl, inr, ⊎_elim, codes, true, false, refl, sym, ap, ◌∙◌, subst, arith}
+use Rattle.std.proofs.Common.{◌≡◌, ℕ, zero, suc, ◌<◌, ◌≤◌, max, List, [], ◌∷◌, ◌++◌, Option, Some, None, option_map, Result, Ok, Err, IfOk, IfSome, String, string_bytes, ◌⊎◌, inl, inr, ⊎_elim, codes, true, false, refl, sym, ap, ◌∙◌, subst, arith}
 use Rattle.std.specs.declared.alloc.Global.{Global}
 use Rattle.std.specs.declared.alloc.AllocError.{AllocError}
 use Rattle.serde_json.specs.Data as json
@@ -21,7 +21,9 @@ use Rattle.jsonptr_tree.proofs.PutLemmas.{cases_same, same_by_step, put-step, pu
 use Rattle.jsonptr_tree.proofs.AssigningLemmas.{made, made-step, made-other_step, Assigns_named, Assigns_leaf, Assigns_object_below, Assigns_end_below, Assigns-leaf, Assigns-named}
 use Rattle.jsonptr_skim.specs.Search as skim
 use Rattle.jsonptr_in_text.proofs.SearchLemmas.{len_same, member_content}
-use Rattle.jsonptr_splice.specs.Editing.{InsertsItem, InsertsMember}
+use Rattle.jsonptr_splice.specs.declared.edit.Child.{Child}
+use Rattle.jsonptr_splice.specs.declared.edit.Edit.TheVariants as edit
+use Rattle.jsonptr_splice.specs.Editing.{InsertsItem, InsertsMember, AddsMember, AddsChild, Makes}
 use Rattle.jsonptr_splice.specs.Spacing.{IsTrimmed, Splices}
 use Rattle.jsonptr_edit_in_text.specs.Bytes.{ReplacesBytes}
 use Rattle.jsonptr_edit_in_text.specs.EditInText.{AssignsInText}
@@ -224,3 +226,13 @@ replaces_bytes old new was piece flat tokens splices h trimmed =
       reads = r.changes.0;
       trimmed = trimmed;
     }
+
+pub member_made : (child : Child) (x flat : Text) (d d2 : Data) → string_bytes child.selector.key ≡ x → child.selector.index ≡ None → string_bytes child.value ≡ flat → Makes (edit.Add child) d d2 → MemberAdded x flat d d2
+member_made child x flat d d2 named index value m = (m.0, ap read (sym value) ∙ m.1, member m.2)
+  where
+    member : AddsChild (skim.choice_of child.selector) m.0 d d2 → AddsMember (x, None) m.0 d d2
+    member (inl a) = absurd (none child.selector.index a.i index a.selects)
+      where
+        none : (o : Option ℕ) (i : ℕ) → o ≡ None → o ≡ Some i → ⊥
+        none o i e f = cc
+    member (inr b) = record { ms = b.ms; ms2 = b.ms2; old = b.old; new = b.new; inserts = subst (λ (k : Text). InsertsMember k m.0 b.ms b.ms2) named b.inserts }

@@ -15,6 +15,7 @@ use jsonptr::index::Index;
 use jsonptr::{Pointer, Token};
 use jsonptr_in_text::selectors::{selector_of, selectors_of};
 use jsonptr_skim::selector::Selector;
+use jsonptr_splice::buffers::Buffers;
 use jsonptr_splice::cut::cut_at;
 use jsonptr_splice::edit::{Child, Edit};
 use jsonptr_splice::layout::{ValueText, addition, replacement, slice};
@@ -29,6 +30,7 @@ use std::alloc::{AllocError, Global};
 /// [`AllocError`] if an allocation fails.
 pub fn add_at(
     alloc: Global,
+    buffers: &mut Buffers,
     text: &str,
     pointer: Pointer<'_>,
     value: &ValueText,
@@ -39,27 +41,33 @@ pub fn add_at(
         AddsAtBytes text.now (tokens pointer.entry) (string_bytes s))) }
 {
     match pointer.split_back() {
-        None => add_root(alloc, text, value),
-        Some((front, token)) => add_child(alloc, text, front, &token, value),
+        None => add_root(alloc, buffers, text, value),
+        Some((front, token)) => add_child(alloc, buffers, text, front, &token, value),
     }
 }
 
 /// Replaces the root by the value.
-fn add_root(alloc: Global, text: &str, value: &ValueText) -> Result<Option<String>, AllocError>
+fn add_root(
+    alloc: Global,
+    buffers: &mut Buffers,
+    text: &str,
+    value: &ValueText,
+) -> Result<Option<String>, AllocError>
     ensures added { IfOk result (λ new. IfSome new (λ s. AddsInText text.now []
         (string_bytes value.now.flat) (string_bytes s))) }
     ensures bytes { IfOk result (λ new. IfSome new (λ s.
         ReplacesBytes text.now (string_bytes s) [])) }
 {
-    let Some(place) = place_of(alloc, text, &[])? else {
+    let Some(place) = place_of(alloc, buffers, text, &[])? else {
         return Ok(None);
     };
-    replace(alloc, text, Pointer::root(), &place, value)
+    replace(alloc, buffers, text, Pointer::root(), &place, value)
 }
 
 /// Adds the value as the child that the token refers to, of the value that the pointer resolves to.
 fn add_child(
     alloc: Global,
+    buffers: &mut Buffers,
     text: &str,
     pointer: Pointer<'_>,
     token: &Token<'_>,
@@ -72,16 +80,18 @@ fn add_child(
         AddsAtBytes text.now (tokens pointer.entry ++ token.now ∷ []) (string_bytes s))) }
 {
     let selectors = member_selectors(alloc, pointer, token)?;
-    let Some(place) = place_of(alloc, text, &selectors)? else {
+    let Some(place) = place_of(alloc, buffers, text, &selectors)? else {
         return Ok(None);
     };
     if place.followed == selectors.len() {
-        return replace_member(alloc, text, pointer, token, &selectors, &place, value);
+        return replace_member(
+            alloc, buffers, text, pointer, token, &selectors, &place, value,
+        );
     }
     if place.followed.checked_add(1) != Some(selectors.len()) {
         return Ok(None);
     }
-    add_new(alloc, text, pointer, token, &place, value)
+    add_new(alloc, buffers, text, pointer, token, &place, value)
 }
 
 /// Returns the selectors of the pointer, and one of the member with the key of the token.
@@ -102,6 +112,7 @@ fn member_selectors(
 /// Replaces the member with the key of the token, of the object that the pointer resolves to.
 fn replace_member(
     alloc: Global,
+    buffers: &mut Buffers,
     text: &str,
     pointer: Pointer<'_>,
     token: &Token<'_>,
@@ -129,6 +140,7 @@ fn replace_member(
     let piece = replacement(alloc, text, place, value)?;
     edit_by(
         alloc,
+        buffers,
         &cut,
         selectors,
         &place.positions,
@@ -140,6 +152,7 @@ fn replace_member(
 /// Adds the value as a new child of the array or object that the pointer resolves to.
 fn add_new(
     alloc: Global,
+    buffers: &mut Buffers,
     text: &str,
     pointer: Pointer<'_>,
     token: &Token<'_>,
@@ -154,11 +167,11 @@ fn add_new(
 {
     let there = slice(text, place.value.from, place.value.to);
     if there.starts_with('{') {
-        return add_member(alloc, text, pointer, place, token, value);
+        return add_member(alloc, buffers, text, pointer, place, token, value);
     }
     match token.to_index() {
-        Ok(Index::Next) => append(alloc, text, pointer, place, token, value),
-        Ok(Index::Num(index)) => insert(alloc, text, pointer, token, index, place, value),
+        Ok(Index::Next) => append(alloc, buffers, text, pointer, place, token, value),
+        Ok(Index::Num(index)) => insert(alloc, buffers, text, pointer, token, index, place, value),
         Err(_) => Ok(None),
     }
 }
@@ -167,6 +180,7 @@ fn add_new(
 /// after the last one. The token is the index.
 fn insert(
     alloc: Global,
+    buffers: &mut Buffers,
     text: &str,
     pointer: Pointer<'_>,
     token: &Token<'_>,
@@ -179,7 +193,7 @@ fn insert(
     ensures bytes { IfOk result (λ new. IfSome new (λ s.
         AddsBytes text.now (string_bytes s) token.now)) }
 {
-    let Some(elements) = children_of(alloc, text, place.value)? else {
+    let Some(elements) = children_of(alloc, buffers, text, place.value)? else {
         return Ok(None);
     };
     let piece = addition(alloc, text, place.value, &elements, index, None, value)?;
@@ -188,5 +202,13 @@ fn insert(
         position: index,
         value: value.flat.clone()?,
     };
-    put_element(alloc, text, pointer, place, &piece, &Edit::Add(child))
+    put_element(
+        alloc,
+        buffers,
+        text,
+        pointer,
+        place,
+        &piece,
+        &Edit::Add(child),
+    )
 }

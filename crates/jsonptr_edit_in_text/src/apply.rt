@@ -10,8 +10,9 @@ use crate::edited::{EditError, Edited};
 use crate::operate::operate;
 use crate::rewrite::apply_and_print;
 use jsonptr::Pointer;
-use jsonptr_in_text::{InTextError, exists_in_text};
+use jsonptr_in_text::{InTextError, exists_in_text_with};
 use jsonptr_patch::{Operation, PatchError};
+use jsonptr_splice::buffers::Buffers;
 use std::alloc::{AllocError, Global};
 
 /// Applies the operations of a patch in order to the document that the text contains, all of them or
@@ -56,7 +57,39 @@ pub fn apply_in_text(
     ensures bytes { IfOk result (KeepsBytes (PatchBytes text.now operations.items)) }
     ensures refused { IfErr result (IsPatchFault text.now operations.items) }
 {
-    if let Some(new) = apply_in_place(alloc, text, &operations)? {
+    let mut buffers = Buffers::new(alloc);
+    apply_in_text_with(alloc, &mut buffers, text, operations)
+}
+
+/// Applies the operations of a patch in order to the document that the text contains, as
+/// [`apply_in_text`] does, in buffers of the caller, as
+/// [`assign_in_text_with`](crate::assign_in_text_with) uses them.
+///
+/// # Errors
+///
+/// Those of [`apply_in_text`].
+///
+/// # Examples
+///
+/// ```rust
+/// let mut buffers = Buffers::new(alloc);
+/// let path = PointerBuf::from_text(alloc, "/tags/0")?;
+/// let patch = vec![in alloc; Operation::Remove { path }]?;
+/// let edited = apply_in_text_with(alloc, &mut buffers, "{\"tags\": [1.0, 2]}", patch)?;
+/// assert_eq!(rt; edited.as_str(), "{\"tags\": [2]}");
+/// ```
+pub fn apply_in_text_with(
+    alloc: Global,
+    buffers: &mut Buffers,
+    text: &str,
+    operations: Vec<Operation>,
+) -> Result<Edited, EditError<PatchError>>
+    ensures applied { IfOk result
+        (λ e. PatchesInText text.now operations.items (text_of e)) }
+    ensures bytes { IfOk result (KeepsBytes (PatchBytes text.now operations.items)) }
+    ensures refused { IfErr result (IsPatchFault text.now operations.items) }
+{
+    if let Some(new) = apply_in_place(alloc, buffers, text, &operations)? {
         return Ok(Edited::InPlace(new));
     }
     let new = apply_and_print(alloc, text, operations)?;
@@ -71,6 +104,7 @@ pub fn apply_in_text(
 /// [`AllocError`] if an allocation fails.
 fn apply_in_place(
     alloc: Global,
+    buffers: &mut Buffers,
     text: &str,
     operations: &[Operation],
 ) -> Result<Option<String>, AllocError>
@@ -80,22 +114,22 @@ fn apply_in_place(
         (λ s. PatchBytes text.now operations.now (string_bytes s))) }
 {
     let Some((first, rest)) = operations.split_first() else {
-        return unchanged(alloc, text);
+        return unchanged(alloc, buffers, text);
     };
     let start = String::from_str(alloc, text)?;
-    let Some(next) = operate(alloc, start, first)? else {
+    let Some(next) = operate(alloc, buffers, start, first)? else {
         return Ok(None);
     };
-    apply_rest(alloc, next, rest)
+    apply_rest(alloc, buffers, next, rest)
 }
 
 /// Returns the text, if it is a document.
-fn unchanged(alloc: Global, text: &str) -> Result<Option<String>, AllocError>
+fn unchanged(alloc: Global, buffers: &mut Buffers, text: &str) -> Result<Option<String>, AllocError>
     ensures applied { IfOk result (λ new. IfSome new
         (λ s. PatchesInText text.now [] (string_bytes s))) }
     ensures same { IfOk result (λ new. IfSome new (λ s. string_bytes s ≡ text.now)) }
 {
-    if is_document(alloc, text)? {
+    if is_document(alloc, buffers, text)? {
         Ok(Some(String::from_str(alloc, text)?))
     } else {
         Ok(None)
@@ -105,6 +139,7 @@ fn unchanged(alloc: Global, text: &str) -> Result<Option<String>, AllocError>
 /// Applies the operations in order to the text, which is a document, each in place.
 fn apply_rest(
     alloc: Global,
+    buffers: &mut Buffers,
     text: String,
     operations: &[Operation],
 ) -> Result<Option<String>, AllocError>
@@ -116,7 +151,7 @@ fn apply_rest(
 {
     let mut current = text;
     'operations: for operation in operations {
-        let Some(next) = operate(alloc, current, operation)? else {
+        let Some(next) = operate(alloc, buffers, current, operation)? else {
             return Ok(None);
         };
         current = next;
@@ -125,10 +160,10 @@ fn apply_rest(
 }
 
 /// Returns whether `serde_json` reads the text.
-fn is_document(alloc: Global, text: &str) -> Result<bool, AllocError>
+fn is_document(alloc: Global, buffers: &mut Buffers, text: &str) -> Result<bool, AllocError>
     ensures { IfOk result (λ b. IsTrue b → (d : Data) × (read text.now ≡ Some d)) }
 {
-    match exists_in_text(alloc, text, Pointer::root()) {
+    match exists_in_text_with(alloc, &mut buffers.old, text, Pointer::root()) {
         Ok(exists) => Ok(exists),
         Err(InTextError::Memory(error)) => Err(error),
         Err(InTextError::NotJson) => Ok(false),

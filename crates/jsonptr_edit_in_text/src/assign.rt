@@ -14,6 +14,7 @@ use crate::rewrite::assign_and_print;
 use crate::value_text::{expanded_text, value_text};
 use jsonptr::{Pointer, Token, assign};
 use jsonptr_in_text::selectors::selectors_of;
+use jsonptr_splice::buffers::Buffers;
 use jsonptr_splice::layout::slice;
 use jsonptr_splice::locate::Place;
 use serde_json::Value;
@@ -58,7 +59,45 @@ pub fn assign_in_text(
     ensures refused { IfErr result (IsAssignError text.now (tokens pointer.entry)
         (nodes (view value))) }
 {
-    if let Some(new) = assign_in_place(alloc, text, pointer, &value)? {
+    let mut buffers = Buffers::new(alloc);
+    assign_in_text_with(alloc, &mut buffers, text, pointer, value)
+}
+
+/// Assigns the value at the pointer in the document that the text contains, as [`assign_in_text`]
+/// does, in buffers of the caller.
+///
+/// A caller that edits many texts keeps one [`Buffers`] and passes it to each call. It has room for the
+/// unescaped strings of three texts, as much as the longest texts so far, and three indices of 16 KiB,
+/// which [`Buffers::new`] clears. No call minds what an earlier one left, also after an error.
+///
+/// # Errors
+///
+/// Those of [`assign_in_text`].
+///
+/// # Examples
+///
+/// ```rust
+/// let size = Pointer::parse("/size")?;
+/// let mut buffers = Buffers::new(alloc);
+/// let first = assign_in_text_with(alloc, &mut buffers, "{\"size\": 3}", size, Value::from(7))?;
+/// assert_eq!(rt; first.as_str(), "{\"size\": 7}");
+/// let second = assign_in_text_with(alloc, &mut buffers, "{}", size, Value::from(8))?;
+/// assert_eq!(rt; second.as_str(), "{\"size\":8}");
+/// ```
+pub fn assign_in_text_with(
+    alloc: Global,
+    buffers: &mut Buffers,
+    text: &str,
+    pointer: Pointer<'_>,
+    value: Value,
+) -> Result<Edited, EditError<assign::Error>>
+    ensures assigned { IfOk result (λ e. AssignsInText text.now (tokens pointer.entry)
+        (nodes (view value)) (text_of e)) }
+    ensures bytes { IfOk result (KeepsBytes (AssignsBytes text.now (tokens pointer.entry))) }
+    ensures refused { IfErr result (IsAssignError text.now (tokens pointer.entry)
+        (nodes (view value))) }
+{
+    if let Some(new) = assign_in_place(alloc, buffers, text, pointer, &value)? {
         return Ok(Edited::InPlace(new));
     }
     let new = assign_and_print(alloc, text, pointer, value)?;
@@ -73,6 +112,7 @@ pub fn assign_in_text(
 /// [`AllocError`] if an allocation fails.
 fn assign_in_place(
     alloc: Global,
+    buffers: &mut Buffers,
     text: &str,
     pointer: Pointer<'_>,
     value: &Value,
@@ -83,19 +123,20 @@ fn assign_in_place(
         (λ s. AssignsBytes text.now (tokens pointer.entry) (string_bytes s))) }
 {
     let selectors = selectors_of(alloc, pointer)?;
-    let Some(place) = place_of(alloc, text, &selectors)? else {
+    let Some(place) = place_of(alloc, buffers, text, &selectors)? else {
         return Ok(None);
     };
     let Some((front, rest)) = pointer.split_at(place.followed) else {
         return Ok(None);
     };
-    assign_from(alloc, text, front, rest, &place, value)
+    assign_from(alloc, buffers, text, front, rest, &place, value)
 }
 
 /// Assigns the value at the two pointers, one after the other. The first one leads to the value that was located,
 /// and the first token of the second one to no child of it.
 fn assign_from(
     alloc: Global,
+    buffers: &mut Buffers,
     text: &str,
     front: Pointer<'_>,
     rest: Pointer<'_>,
@@ -108,21 +149,22 @@ fn assign_from(
         (tokens front.entry ++ tokens rest.entry) (string_bytes s))) }
 {
     let Some((token, after)) = rest.split_front() else {
-        return assign_there(alloc, text, front, place, value);
+        return assign_there(alloc, buffers, text, front, place, value);
     };
     let there = slice(text, place.value.from, place.value.to);
     if there.starts_with('{') {
-        assign_member(alloc, text, front, &token, after, place, value)
+        assign_member(alloc, buffers, text, front, &token, after, place, value)
     } else if there.starts_with('[') {
-        assign_element(alloc, text, front, &token, after, place, value)
+        assign_element(alloc, buffers, text, front, &token, after, place, value)
     } else {
-        assign_scalar(alloc, text, front, rest, place, value)
+        assign_scalar(alloc, buffers, text, front, rest, place, value)
     }
 }
 
 /// Replaces the value that the pointer resolves to.
 fn assign_there(
     alloc: Global,
+    buffers: &mut Buffers,
     text: &str,
     pointer: Pointer<'_>,
     place: &Place,
@@ -136,13 +178,14 @@ fn assign_there(
     let Some(value) = value_text(alloc, value)? else {
         return Ok(None);
     };
-    replace(alloc, text, pointer, place, &value)
+    replace(alloc, buffers, text, pointer, place, &value)
 }
 
 /// Adds a member to the object that the pointer resolves to, with the key of the token and the value
 /// expanded by the tokens after it.
 fn assign_member(
     alloc: Global,
+    buffers: &mut Buffers,
     text: &str,
     pointer: Pointer<'_>,
     token: &Token<'_>,
@@ -159,13 +202,14 @@ fn assign_member(
     let Some(value) = expanded_text(alloc, after, value)? else {
         return Ok(None);
     };
-    add_member(alloc, text, pointer, place, token, &value)
+    add_member(alloc, buffers, text, pointer, place, token, &value)
 }
 
 /// Appends the value, expanded by the tokens after the token, to the array that the pointer resolves
 /// to.
 fn assign_element(
     alloc: Global,
+    buffers: &mut Buffers,
     text: &str,
     pointer: Pointer<'_>,
     token: &Token<'_>,
@@ -182,12 +226,13 @@ fn assign_element(
     let Some(value) = expanded_text(alloc, after, value)? else {
         return Ok(None);
     };
-    append(alloc, text, pointer, place, token, &value)
+    append(alloc, buffers, text, pointer, place, token, &value)
 }
 
 /// Replaces the scalar that the pointer resolves to by the value, expanded by at least one token.
 fn assign_scalar(
     alloc: Global,
+    buffers: &mut Buffers,
     text: &str,
     pointer: Pointer<'_>,
     rest: Pointer<'_>,
@@ -203,5 +248,5 @@ fn assign_scalar(
     let Some(value) = expanded_text(alloc, rest, value)? else {
         return Ok(None);
     };
-    replace_scalar(alloc, text, pointer, place, &value)
+    replace_scalar(alloc, buffers, text, pointer, place, &value)
 }

@@ -12,6 +12,7 @@ use crate::rewrite::delete_and_print;
 use crate::value_text::value_text;
 use jsonptr::Pointer;
 use jsonptr_in_text::selectors::selectors_of;
+use jsonptr_splice::buffers::Buffers;
 use jsonptr_splice::locate::Place;
 use serde_json::Value;
 use std::alloc::{AllocError, Global};
@@ -53,7 +54,40 @@ pub fn delete_in_text(
         (KeepsBytes (DeletesBytes text.now (tokens pointer.entry)))) }
     ensures refused { IfErr result (IsReadFault text.now) }
 {
-    if let Some(new) = delete_in_place(alloc, text, pointer)? {
+    let mut buffers = Buffers::new(alloc);
+    delete_in_text_with(alloc, &mut buffers, text, pointer)
+}
+
+/// Deletes the value that the pointer resolves to in the document that the text contains, as
+/// [`delete_in_text`] does, in buffers of the caller, as
+/// [`assign_in_text_with`](crate::assign_in_text_with) uses them.
+///
+/// # Errors
+///
+/// Those of [`delete_in_text`].
+///
+/// # Examples
+///
+/// ```rust
+/// let mut buffers = Buffers::new(alloc);
+/// let first = Pointer::parse("/0")?;
+/// let edited = delete_in_text_with(alloc, &mut buffers, "[1.0, 2]", first)?;
+/// assert_eq!(rt; edited.ok_or("a value")?.as_str(), "[2]");
+/// assert!(rt; delete_in_text_with(alloc, &mut buffers, "[]", first)?.is_none());
+/// ```
+pub fn delete_in_text_with(
+    alloc: Global,
+    buffers: &mut Buffers,
+    text: &str,
+    pointer: Pointer<'_>,
+) -> Result<Option<Edited>, EditError<Infallible>>
+    ensures deleted { IfOk result (λ o. MatchOption o (LacksInText text.now (tokens pointer.entry))
+        (λ e. DeletesInText text.now (tokens pointer.entry) (text_of e))) }
+    ensures bytes { IfOk result (λ o. IfSome o
+        (KeepsBytes (DeletesBytes text.now (tokens pointer.entry)))) }
+    ensures refused { IfErr result (IsReadFault text.now) }
+{
+    if let Some(new) = delete_in_place(alloc, buffers, text, pointer)? {
         return Ok(Some(Edited::InPlace(new)));
     }
     match delete_and_print(alloc, text, pointer)? {
@@ -70,6 +104,7 @@ pub fn delete_in_text(
 /// [`AllocError`] if an allocation fails.
 pub fn delete_in_place(
     alloc: Global,
+    buffers: &mut Buffers,
     text: &str,
     pointer: Pointer<'_>,
 ) -> Result<Option<String>, AllocError>
@@ -79,21 +114,22 @@ pub fn delete_in_place(
         DeletesBytes text.now (tokens pointer.entry) (string_bytes s))) }
 {
     let selectors = selectors_of(alloc, pointer)?;
-    let Some(place) = place_of(alloc, text, &selectors)? else {
+    let Some(place) = place_of(alloc, buffers, text, &selectors)? else {
         return Ok(None);
     };
     if place.followed != selectors.len() {
         return Ok(None);
     }
     match pointer.split_back() {
-        None => delete_root(alloc, text, pointer, &place),
-        Some((front, last)) => cut_children(alloc, text, front, &last, &place),
+        None => delete_root(alloc, buffers, text, pointer, &place),
+        Some((front, last)) => cut_children(alloc, buffers, text, front, &last, &place),
     }
 }
 
 /// Replaces the root by `null`.
 fn delete_root(
     alloc: Global,
+    buffers: &mut Buffers,
     text: &str,
     pointer: Pointer<'_>,
     place: &Place,
@@ -106,5 +142,5 @@ fn delete_root(
     let Some(null) = value_text(alloc, &Value::Null)? else {
         return Ok(None);
     };
-    replace(alloc, text, pointer, place, &null)
+    replace(alloc, buffers, text, pointer, place, &null)
 }

@@ -9,7 +9,8 @@ ghost use Rattle.jsonptr_edit_in_text.specs.PrivateReaching.{ReachedInText};
 use jsonptr::Pointer;
 use jsonptr_in_text::selectors::selectors_of;
 use jsonptr_skim::selector::Selector;
-use jsonptr_splice::check::is_edited;
+use jsonptr_splice::buffers::Buffers;
+use jsonptr_splice::check::is_edited_with;
 use jsonptr_splice::cut::{Cut, splice};
 use jsonptr_splice::edit::Edit;
 use std::alloc::{AllocError, Global};
@@ -21,6 +22,7 @@ use std::alloc::{AllocError, Global};
 /// [`AllocError`] if an allocation fails.
 pub fn edit_by(
     alloc: Global,
+    buffers: &mut Buffers,
     cut: &Cut<'_>,
     selectors: &[Selector],
     positions: &[usize],
@@ -33,7 +35,7 @@ pub fn edit_by(
         Splices cut.now.text.now (string_bytes s) cut.now.was.now piece.now)) }
 {
     let new = splice(alloc, cut, piece)?;
-    if is_edited(alloc, cut.text, new.as_str(), selectors, positions, edit)? {
+    if is_edited_with(buffers, cut.text, new.as_str(), selectors, positions, edit)? {
         Ok(Some(new))
     } else {
         Ok(None)
@@ -47,6 +49,7 @@ pub fn edit_by(
 /// [`AllocError`] if an allocation fails.
 pub fn edit_at(
     alloc: Global,
+    buffers: &mut Buffers,
     cut: &Cut<'_>,
     pointer: Pointer<'_>,
     positions: &[usize],
@@ -59,5 +62,5 @@ pub fn edit_at(
         Splices cut.now.text.now (string_bytes s) cut.now.was.now piece.now)) }
 {
     let selectors = selectors_of(alloc, pointer)?;
-    edit_by(alloc, cut, &selectors, positions, piece, edit)
+    edit_by(alloc, buffers, cut, &selectors, positions, piece, edit)
 }

@@ -11,6 +11,7 @@ use crate::place::children_of;
 use jsonptr::index::Index;
 use jsonptr::{Pointer, Token};
 use jsonptr_skim::selector::Selector;
+use jsonptr_splice::buffers::Buffers;
 use jsonptr_splice::child::is_one_child;
 use jsonptr_splice::cut::cut_at;
 use jsonptr_splice::edit::{Child, Edit};
@@ -28,6 +29,7 @@ use std::alloc::{AllocError, Global};
 /// [`AllocError`] if an allocation fails.
 pub fn add_member(
     alloc: Global,
+    buffers: &mut Buffers,
     text: &str,
     pointer: Pointer<'_>,
     place: &Place,
@@ -39,7 +41,7 @@ pub fn add_member(
     ensures bytes { IfOk result (λ new. IfSome new (λ s.
         AddsBytes text.now (string_bytes s) token.now)) }
 {
-    let Some(members) = children_of(alloc, text, place.value)? else {
+    let Some(members) = children_of(alloc, buffers, text, place.value)? else {
         return Ok(None);
     };
     let position = members.len();
@@ -52,12 +54,13 @@ pub fn add_member(
         position,
         value: value.flat.clone()?,
     };
-    put_member(alloc, text, pointer, place, &piece, child)
+    put_member(alloc, buffers, text, pointer, place, &piece, child)
 }
 
 /// Puts the text of a member into the object that the pointer resolves to.
 fn put_member(
     alloc: Global,
+    buffers: &mut Buffers,
     text: &str,
     pointer: Pointer<'_>,
     place: &Place,
@@ -73,12 +76,15 @@ fn put_member(
         return Ok(None);
     };
     let key = Some(child.selector.key.as_str());
-    if !is_blank(cut.was) || !is_one_child(alloc, piece.text.as_str(), piece.child, key)? {
+    if !is_blank(cut.was)
+        || !is_one_child(&mut buffers.old, piece.text.as_str(), piece.child, key)?
+    {
         return Ok(None);
     }
     let edit = Edit::Add(child);
     edit_at(
         alloc,
+        buffers,
         &cut,
         pointer,
         &place.positions,
@@ -95,6 +101,7 @@ fn put_member(
 /// [`AllocError`] if an allocation fails.
 pub fn append(
     alloc: Global,
+    buffers: &mut Buffers,
     text: &str,
     pointer: Pointer<'_>,
     place: &Place,
@@ -106,7 +113,7 @@ pub fn append(
     ensures bytes { IfOk result (λ new. IfSome new (λ s.
         AddsBytes text.now (string_bytes s) token.now)) }
 {
-    let Some(elements) = children_of(alloc, text, place.value)? else {
+    let Some(elements) = children_of(alloc, buffers, text, place.value)? else {
         return Ok(None);
     };
     let position = elements.len();
@@ -115,12 +122,21 @@ pub fn append(
     };
     let piece = addition(alloc, text, place.value, &elements, position, None, value)?;
     let child = element(alloc, index, value)?;
-    put_element(alloc, text, pointer, place, &piece, &Edit::Append(child))
+    put_element(
+        alloc,
+        buffers,
+        text,
+        pointer,
+        place,
+        &piece,
+        &Edit::Append(child),
+    )
 }
 
 /// Puts the text of an element into the array that the pointer resolves to.
 pub fn put_element(
     alloc: Global,
+    buffers: &mut Buffers,
     text: &str,
     pointer: Pointer<'_>,
     place: &Place,
@@ -135,11 +151,14 @@ pub fn put_element(
     let Some(cut) = cut_at(text, piece.span.from, piece.span.to) else {
         return Ok(None);
     };
-    if !is_blank(cut.was) || !is_one_child(alloc, piece.text.as_str(), piece.child, None)? {
+    if !is_blank(cut.was)
+        || !is_one_child(&mut buffers.old, piece.text.as_str(), piece.child, None)?
+    {
         return Ok(None);
     }
     edit_at(
         alloc,
+        buffers,
         &cut,
         pointer,
         &place.positions,

@@ -16,6 +16,9 @@
 //! changes exactly its own bytes, a child that is added replaces none but white space, and a child
 //! that is removed takes at most one comma and the white space beside it along.
 //!
+//! To edit many texts keep one [`Buffers`], and pass it to the calls that end in `_with`: it keeps its
+//! memory from text to text.
+//!
 //! In the examples `rt` is the runtime that `main` and each test receive, and `alloc` is
 //! `rt.alloc()`, the allocator.
 #![tactic(auto)]
@@ -37,7 +40,8 @@ mod rewrite;
 mod value_at;
 mod value_text;
 
-pub use apply::apply_in_text;
-pub use assign::assign_in_text;
-pub use delete::delete_in_text;
+pub use apply::{apply_in_text, apply_in_text_with};
+pub use assign::{assign_in_text, assign_in_text_with};
+pub use delete::{delete_in_text, delete_in_text_with};
 pub use edited::{EditError, Edited};
+pub use jsonptr_splice::buffers::Buffers;

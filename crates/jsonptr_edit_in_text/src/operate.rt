@@ -17,8 +17,9 @@ use crate::value_at::value_at;
 use crate::value_text::value_text;
 use jsonptr::{Fault, Pointer, PointerBuf};
 use jsonptr_in_text::selectors::selectors_of;
-use jsonptr_in_text::{InTextError, resolve_in_text};
+use jsonptr_in_text::{InTextError, resolve_in_text_with};
 use jsonptr_patch::{Operation, apply};
+use jsonptr_splice::buffers::Buffers;
 use serde_json::Value;
 use std::alloc::{AllocError, Global};
 
@@ -30,6 +31,7 @@ use std::alloc::{AllocError, Global};
 /// [`AllocError`] if an allocation fails.
 pub fn operate(
     alloc: Global,
+    buffers: &mut Buffers,
     text: String,
     operation: &Operation,
 ) -> Result<Option<String>, AllocError>
@@ -40,13 +42,31 @@ pub fn operate(
 {
     let old = text.as_str();
     match operation {
-        Operation::Add { path, value } => add_value(alloc, old, path.as_ptr(), value),
-        Operation::Remove { path } => delete_in_place(alloc, old, path.as_ptr()),
-        Operation::Replace { path, value } => replace_value(alloc, old, path.as_ptr(), value),
-        Operation::Move { from, path } => move_value(alloc, old, from.as_ptr(), path.as_ptr()),
-        Operation::Copy { from, path } => copy_value(alloc, old, from.as_ptr(), path.as_ptr()),
+        Operation::Add { path, value } => add_value(alloc, buffers, old, path.as_ptr(), value),
+        Operation::Remove { path } => delete_in_place(alloc, buffers, old, path.as_ptr()),
+        Operation::Replace { path, value } => replace_value(
+            alloc,
+            buffers,
+            old,
+            path.as_ptr(),
+            value,
+        ),
+        Operation::Move { from, path } => move_value(
+            alloc,
+            buffers,
+            old,
+            from.as_ptr(),
+            path.as_ptr(),
+        ),
+        Operation::Copy { from, path } => copy_value(
+            alloc,
+            buffers,
+            old,
+            from.as_ptr(),
+            path.as_ptr(),
+        ),
         Operation::Test { path, value } => {
-            if passes(alloc, old, path.as_ptr(), value)? {
+            if passes(alloc, buffers, old, path.as_ptr(), value)? {
                 Ok(Some(text))
             } else {
                 Ok(None)
@@ -58,6 +78,7 @@ pub fn operate(
 /// Adds the value at the pointer.
 fn add_value(
     alloc: Global,
+    buffers: &mut Buffers,
     text: &str,
     pointer: Pointer<'_>,
     value: &Value,
@@ -70,12 +91,13 @@ fn add_value(
     let Some(value) = value_text(alloc, value)? else {
         return Ok(None);
     };
-    add_at(alloc, text, pointer, &value)
+    add_at(alloc, buffers, text, pointer, &value)
 }
 
 /// Replaces the value that the pointer resolves to.
 fn replace_value(
     alloc: Global,
+    buffers: &mut Buffers,
     text: &str,
     pointer: Pointer<'_>,
     value: &Value,
@@ -86,7 +108,7 @@ fn replace_value(
         ReplacesBytes text.now (string_bytes s) (tokens pointer.entry))) }
 {
     let selectors = selectors_of(alloc, pointer)?;
-    let Some(place) = place_of(alloc, text, &selectors)? else {
+    let Some(place) = place_of(alloc, buffers, text, &selectors)? else {
         return Ok(None);
     };
     if place.followed != selectors.len() {
@@ -95,12 +117,13 @@ fn replace_value(
     let Some(value) = value_text(alloc, value)? else {
         return Ok(None);
     };
-    replace(alloc, text, pointer, &place, &value)
+    replace(alloc, buffers, text, pointer, &place, &value)
 }
 
 /// Moves the value at one pointer to another one.
 fn move_value(
     alloc: Global,
+    buffers: &mut Buffers,
     text: &str,
     from: Pointer<'_>,
     path: Pointer<'_>,
@@ -114,13 +137,13 @@ fn move_value(
     if is_below(path, from) {
         return Ok(None);
     }
-    let Some(value) = value_at(alloc, text, from)? else {
+    let Some(value) = value_at(alloc, buffers, text, from)? else {
         return Ok(None);
     };
-    let Some(left) = delete_in_place(alloc, text, from)? else {
+    let Some(left) = delete_in_place(alloc, buffers, text, from)? else {
         return Ok(None);
     };
-    add_at(alloc, left.as_str(), path, &value)
+    add_at(alloc, buffers, left.as_str(), path, &value)
 }
 
 /// Returns whether `other` is a proper prefix of the pointer.
@@ -136,6 +159,7 @@ fn is_below(pointer: Pointer<'_>, other: Pointer<'_>) -> bool
 /// Adds a copy of the value at one pointer at another one.
 fn copy_value(
     alloc: Global,
+    buffers: &mut Buffers,
     text: &str,
     from: Pointer<'_>,
     path: Pointer<'_>,
@@ -145,16 +169,17 @@ fn copy_value(
     ensures bytes { IfOk result (λ new. IfSome new (λ s.
         AddsAtBytes text.now (tokens path.entry) (string_bytes s))) }
 {
-    let Some(value) = value_at(alloc, text, from)? else {
+    let Some(value) = value_at(alloc, buffers, text, from)? else {
         return Ok(None);
     };
-    add_at(alloc, text, path, &value)
+    add_at(alloc, buffers, text, path, &value)
 }
 
 /// Returns whether the value at the pointer equals the other one. `false` also if there is no such
 /// value, or if one of the two has a float.
 fn passes(
     alloc: Global,
+    buffers: &mut Buffers,
     text: &str,
     pointer: Pointer<'_>,
     value: &Value,
@@ -162,7 +187,7 @@ fn passes(
     ensures { IfOk result (λ b. IsTrue b
         → PassesInText text.now (tokens pointer.entry) (nodes (view value.now))) }
 {
-    let mut found = match resolve_in_text(alloc, text, pointer) {
+    let mut found = match resolve_in_text_with(alloc, &mut buffers.old, text, pointer) {
         Ok(found) => found,
         Err(InTextError::Memory(error)) => return Err(error),
         Err(InTextError::NotJson) => return Ok(false),

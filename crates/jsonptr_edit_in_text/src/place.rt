@@ -1,6 +1,7 @@
 //! Where pointers lead in a text.
 
 use jsonptr_skim::selector::Selector;
+use jsonptr_splice::buffers::Buffers;
 use jsonptr_splice::edit::CheckError;
 use jsonptr_splice::locate::{Extent, Place, Span, children, locate};
 use std::alloc::{AllocError, Global};
@@ -8,10 +9,11 @@ use std::alloc::{AllocError, Global};
 /// Returns where the selectors lead in the text, or `None` if the text is not JSON.
 pub fn place_of(
     alloc: Global,
+    buffers: &mut Buffers,
     text: &str,
     selectors: &[Selector],
 ) -> Result<Option<Place>, AllocError> {
-    match locate(alloc, text, selectors) {
+    match locate(alloc, &mut buffers.old, text, selectors) {
         Ok(place) => Ok(Some(place)),
         Err(CheckError::Mismatch) => Ok(None),
         Err(CheckError::Memory) => Err(AllocError),
@@ -21,10 +23,11 @@ pub fn place_of(
 /// Returns where the children of the array or object are, or `None` if it is neither.
 pub fn children_of(
     alloc: Global,
+    buffers: &mut Buffers,
     text: &str,
     container: Span,
 ) -> Result<Option<Vec<Extent>>, AllocError> {
-    match children(alloc, text, container) {
+    match children(alloc, &mut buffers.old, text, container) {
         Ok(extents) => Ok(Some(extents)),
         Err(CheckError::Mismatch) => Ok(None),
         Err(CheckError::Memory) => Err(AllocError),

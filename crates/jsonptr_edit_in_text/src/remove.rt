@@ -8,7 +8,8 @@ ghost use Rattle.jsonptr_edit_in_text.specs.EditInText.{DeletesInText};
 use crate::place::children_of;
 use jsonptr::{Pointer, Token};
 use jsonptr_in_text::selectors::{selector_of, selectors_of};
-use jsonptr_splice::check::is_edited;
+use jsonptr_splice::buffers::Buffers;
+use jsonptr_splice::check::is_edited_with;
 use jsonptr_splice::child::is_one_child;
 use jsonptr_splice::cut::{cut_at, splice};
 use jsonptr_splice::edit::{Child, Edit};
@@ -24,6 +25,7 @@ use std::alloc::{AllocError, Global};
 /// [`AllocError`] if an allocation fails.
 pub fn cut_children(
     alloc: Global,
+    buffers: &mut Buffers,
     text: &str,
     pointer: Pointer<'_>,
     token: &Token<'_>,
@@ -38,7 +40,7 @@ pub fn cut_children(
         return Ok(None);
     };
     let selector = selector_of(alloc, token)?;
-    let Some(new) = cut_in_turn(alloc, text, place, selector.key.as_str())? else {
+    let Some(new) = cut_in_turn(alloc, buffers, text, place, selector.key.as_str())? else {
         return Ok(None);
     };
     let selectors = selectors_of(alloc, pointer)?;
@@ -49,7 +51,7 @@ pub fn cut_children(
         position,
         value,
     });
-    if is_edited(alloc, new.as_str(), text, &selectors, above, &edit)? {
+    if is_edited_with(buffers, new.as_str(), text, &selectors, above, &edit)? {
         Ok(Some(new))
     } else {
         Ok(None)
@@ -59,6 +61,7 @@ pub fn cut_children(
 /// Cuts out each child that the last selector selects, the last one first.
 fn cut_in_turn(
     alloc: Global,
+    buffers: &mut Buffers,
     text: &str,
     place: &Place,
     key: &str,
@@ -70,12 +73,13 @@ fn cut_in_turn(
         return Ok(None);
     };
     let mut container = place.container;
-    let Some(mut current) = cut_child(alloc, text, container, *last, key)? else {
+    let Some(mut current) = cut_child(alloc, buffers, text, container, *last, key)? else {
         return Ok(None);
     };
     container.to = shorter(container.to, text, current.as_str());
     'cuts: for position in earlier.iter().rev() {
-        let Some(next) = cut_child(alloc, current.as_str(), container, *position, key)? else {
+        let Some(next) = cut_child(alloc, buffers, current.as_str(), container, *position, key)?
+        else {
             return Ok(None);
         };
         container.to = shorter(container.to, current.as_str(), next.as_str());
@@ -92,6 +96,7 @@ fn shorter(offset: usize, old: &str, new: &str) -> usize {
 /// Cuts out the child at the position of the array or object at the span.
 fn cut_child(
     alloc: Global,
+    buffers: &mut Buffers,
     text: &str,
     container: Span,
     position: usize,
@@ -100,7 +105,7 @@ fn cut_child(
     ensures { IfOk result (λ new. IfSome new (λ s.
         CutsBytes text.now (string_bytes s) key.now)) }
 {
-    let Some(children) = children_of(alloc, text, container)? else {
+    let Some(children) = children_of(alloc, buffers, text, container)? else {
         return Ok(None);
     };
     let Some(extent) = children.get(position) else {
@@ -112,7 +117,7 @@ fn cut_child(
     let Some(cut) = cut_at(text, span.from, span.to) else {
         return Ok(None);
     };
-    if !is_child(alloc, cut.was, within(*extent, span.from), key)? {
+    if !is_child(alloc, buffers, cut.was, within(*extent, span.from), key)? {
         return Ok(None);
     }
     Ok(Some(splice(alloc, &cut, "")?))
@@ -130,14 +135,20 @@ fn within(extent: Extent, from: usize) -> Extent {
 
 /// Returns whether the text is that of a member with the key, or of an element, with at most one
 /// comma and white space beside it.
-fn is_child(alloc: Global, text: &str, extent: Extent, key: &str) -> Result<bool, AllocError>
+fn is_child(
+    alloc: Global,
+    buffers: &mut Buffers,
+    text: &str,
+    extent: Extent,
+    key: &str,
+) -> Result<bool, AllocError>
     ensures { IfOk result (λ b. IsTrue b → (k : Option (List ℕ))
         × IsKeyOf key.now k × IsOneChild k text.now) }
 {
     // The value of a member begins after its name.
     if extent.value > extent.child.from {
-        is_one_child(alloc, text, extent, Some(key))
+        is_one_child(&mut buffers.old, text, extent, Some(key))
     } else {
-        is_one_child(alloc, text, extent, None)
+        is_one_child(&mut buffers.old, text, extent, None)
     }
 }

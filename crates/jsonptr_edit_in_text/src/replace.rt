@@ -9,6 +9,9 @@ ghost use Rattle.jsonptr_edit_in_text.specs.PrivateReaching.{ReachedInText, IsSc
 
 use crate::edit::edit_at;
 use jsonptr::Pointer;
+use jsonptr_skim::find::find_in_text_with;
+use jsonptr_skim::outcome::{Outcome, ReadError};
+use jsonptr_splice::buffers::Buffers;
 use jsonptr_splice::cut::{Cut, cut_at};
 use jsonptr_splice::edit::Edit;
 use jsonptr_splice::layout::{ValueText, replacement};
@@ -24,6 +27,7 @@ use std::alloc::{AllocError, Global};
 /// [`AllocError`] if an allocation fails.
 pub fn replace(
     alloc: Global,
+    buffers: &mut Buffers,
     text: &str,
     pointer: Pointer<'_>,
     place: &Place,
@@ -37,7 +41,7 @@ pub fn replace(
     let Some(cut) = cut_at(text, place.value.from, place.value.to) else {
         return Ok(None);
     };
-    trade(alloc, &cut, pointer, place, value)
+    trade(alloc, buffers, &cut, pointer, place, value)
 }
 
 /// Replaces the scalar that the pointer resolves to. Returns `None` if that is not possible.
@@ -47,6 +51,7 @@ pub fn replace(
 /// [`AllocError`] if an allocation fails.
 pub fn replace_scalar(
     alloc: Global,
+    buffers: &mut Buffers,
     text: &str,
     pointer: Pointer<'_>,
     place: &Place,
@@ -60,15 +65,16 @@ pub fn replace_scalar(
     let Some(cut) = cut_at(text, place.value.from, place.value.to) else {
         return Ok(None);
     };
-    if !is_scalar(alloc, cut.was)? {
+    if !is_scalar(alloc, buffers, cut.was)? {
         return Ok(None);
     }
-    trade(alloc, &cut, pointer, place, value)
+    trade(alloc, buffers, &cut, pointer, place, value)
 }
 
 /// Replaces the value that the pointer resolves to, and that was cut out.
 fn trade(
     alloc: Global,
+    buffers: &mut Buffers,
     cut: &Cut<'_>,
     pointer: Pointer<'_>,
     place: &Place,
@@ -88,20 +94,29 @@ fn trade(
         new: value.flat.clone()?,
     };
     let piece = replacement(alloc, cut.text, place, value)?;
-    edit_at(alloc, cut, pointer, &place.positions, piece.as_str(), &edit)
+    edit_at(
+        alloc,
+        buffers,
+        cut,
+        pointer,
+        &place.positions,
+        piece.as_str(),
+        &edit,
+    )
 }
 
 /// Returns whether the text is that of a scalar.
-fn is_scalar(alloc: Global, text: &str) -> Result<bool, AllocError>
+fn is_scalar(alloc: Global, buffers: &mut Buffers, text: &str) -> Result<bool, AllocError>
     ensures { IfOk result (λ b. IsTrue b → (d : Data) × (read text.now ≡ Some d) × IsScalar d) }
 {
     if text.starts_with('{') || text.starts_with('[') {
         return Ok(false);
     }
-    match Value::from_str(alloc, text) {
-        Ok(value) => Ok(is_leaf(&value)),
-        Err(error) if error.is_memory() => Err(AllocError),
-        Err(_) => Ok(false),
+    match find_in_text_with(alloc, &mut buffers.old, text, &[]) {
+        Ok(Outcome::Found(value)) => Ok(is_leaf(&value)),
+        Ok(Outcome::Stopped { left: _, kind: _ }) => Ok(false),
+        Err(ReadError::NotJson) => Ok(false),
+        Err(ReadError::Memory) => Err(AllocError),
     }
 }
 

@@ -6,7 +6,8 @@ ghost use Rattle.jsonptr_edit_in_text.specs.PrivateOperating.{FindsText};
 use crate::place::place_of;
 use jsonptr::Pointer;
 use jsonptr_in_text::selectors::selectors_of;
-use jsonptr_splice::check::is_edited;
+use jsonptr_splice::buffers::Buffers;
+use jsonptr_splice::check::is_edited_with;
 use jsonptr_splice::edit::Edit;
 use jsonptr_splice::layout::{ValueText, text_at};
 use std::alloc::{AllocError, Global};
@@ -19,6 +20,7 @@ use std::alloc::{AllocError, Global};
 /// [`AllocError`] if an allocation fails.
 pub fn value_at(
     alloc: Global,
+    buffers: &mut Buffers,
     text: &str,
     pointer: Pointer<'_>,
 ) -> Result<Option<ValueText>, AllocError>
@@ -26,7 +28,7 @@ pub fn value_at(
         (λ t. FindsText text.now (tokens pointer.entry) (string_bytes t.flat))) }
 {
     let selectors = selectors_of(alloc, pointer)?;
-    let Some(place) = place_of(alloc, text, &selectors)? else {
+    let Some(place) = place_of(alloc, buffers, text, &selectors)? else {
         return Ok(None);
     };
     if place.followed != selectors.len() {
@@ -38,7 +40,7 @@ pub fn value_at(
         new: value.flat.clone()?,
     };
     // Nothing is edited: the two readings show that the value there is that of the flat text.
-    if is_edited(alloc, text, text, &selectors, &place.positions, &edit)? {
+    if is_edited_with(buffers, text, text, &selectors, &place.positions, &edit)? {
         Ok(Some(value))
     } else {
         Ok(None)

@@ -10,7 +10,7 @@ ghost use Rattle.jsonptr_filter.specs.PrivateResults.{IsRestyleError};
 use crate::failure::Failure;
 use crate::layout::{Layout, show};
 use jsonptr::Pointer;
-use jsonptr_edit_in_text::{assign_in_text, delete_in_text};
+use jsonptr_edit_in_text::{Buffers, assign_in_text_with, delete_in_text_with};
 use serde_json::Value;
 use std::alloc::{AllocError, Global};
 
@@ -21,6 +21,7 @@ use std::alloc::{AllocError, Global};
 /// Those of [`Task::Set`](crate::task::Task::Set).
 pub fn set(
     alloc: Global,
+    buffers: &mut Buffers,
     text: &str,
     pointer: Pointer<'_>,
     value: &Value,
@@ -31,7 +32,7 @@ pub fn set(
     ensures failed { IfErr result (FailsToSet text.now (tokens pointer.entry)
         (nodes (view value.now))) }
 {
-    let edited = assign_in_text(alloc, text, pointer, value.clone()?)?;
+    let edited = assign_in_text_with(alloc, buffers, text, pointer, value.clone()?)?;
     restyle(alloc, edited.into_string(), layout)
 }
 
@@ -43,6 +44,7 @@ pub fn set(
 /// Those of [`Task::Delete`](crate::task::Task::Delete).
 pub fn delete(
     alloc: Global,
+    buffers: &mut Buffers,
     text: &str,
     pointer: Pointer<'_>,
     layout: Layout,
@@ -51,7 +53,7 @@ pub fn delete(
         (string_bytes s)) }
     ensures failed { IfErr result (FailsToDelete text.now (tokens pointer.entry)) }
 {
-    match delete_in_text(alloc, text, pointer)? {
+    match delete_in_text_with(alloc, buffers, text, pointer)? {
         Some(edited) => restyle(alloc, edited.into_string(), layout),
         None => Err(Failure::NotThere),
     }

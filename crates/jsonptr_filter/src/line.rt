@@ -8,8 +8,9 @@ ghost use Rattle.jsonptr_filter.specs.declared.failure.Failure.TheVariants.{Writ
 
 use crate::failure::Failure;
 use crate::layout::Layout;
-use crate::result::result_in_text;
+use crate::result::result_in_text_with;
 use crate::task::Task;
+use jsonptr_edit_in_text::Buffers;
 use jsonptr_lines::write::write_bytes;
 use simdutf8::basic::from_utf8;
 use std::alloc::{AllocError, Global};
@@ -39,6 +40,7 @@ pub struct LineTask<'a> {
 /// write fails.
 pub fn put_line<W: io::Write, E: io::Write>(
     alloc: Global,
+    buffers: &mut Buffers,
     run: &LineTask<'_>,
     number: u64,
     line: &[u8],
@@ -50,7 +52,7 @@ pub fn put_line<W: io::Write, E: io::Write>(
     ensures failed { IfErr result (StopsPut run.now number line.now (W.contents output.old)
         (W.contents output.new) (E.contents errors.old) (E.contents errors.new)) }
 {
-    match line_result(alloc, &run.task, run.layout, line) {
+    match line_result(alloc, buffers, &run.task, run.layout, line) {
         Ok(text) => {
             let text = with_break(text)?;
             put_text(output, text.as_str())?;
@@ -69,9 +71,10 @@ pub fn put_line<W: io::Write, E: io::Write>(
 ///
 /// # Errors
 ///
-/// Those of [`result_in_text`], and [`Failure::LineBreak`] if the result contains a line break.
+/// Those of [`result_in_text`](crate::result::result_in_text), and [`Failure::LineBreak`] if the result contains a line break.
 fn line_result(
     alloc: Global,
+    buffers: &mut Buffers,
     task: &Task<'_>,
     layout: Layout,
     line: &[u8],
@@ -82,7 +85,7 @@ fn line_result(
     let Ok(text) = from_utf8(line) else {
         return Err(Failure::NotJson);
     };
-    let new = result_in_text(alloc, task, layout, text)?;
+    let new = result_in_text_with(alloc, buffers, task, layout, text)?;
     if new.as_bytes().contains(&b'\n') {
         return Err(Failure::LineBreak);
     }

@@ -7,6 +7,7 @@ ghost use Rattle.jsonptr_filter.specs.declared.failure.Failure.TheVariants.{Writ
 
 use crate::failure::Failure;
 use crate::line::{LineTask, put_line};
+use jsonptr_edit_in_text::Buffers;
 use jsonptr_lines::read::{Ending, LineFault, next_line};
 use std::alloc::Global;
 use std::io;
@@ -101,10 +102,20 @@ fn read_lines<R: io::BufRead, W: io::Write, E: io::Write>(
     ensures stopped { IfErr result (StopsIn run.now (R.remaining input.old) (W.contents output.old)
         (W.contents output.new) (E.contents errors.old) (E.contents errors.new)) }
 {
+    let mut buffers = Buffers::new(alloc);
     let mut line = Vec::new(alloc);
     let mut is_fine = true;
     for number in 1..u64::MAX {
-        let is_next_fine = match take_turn(alloc, run, number, &mut line, input, output, errors)? {
+        let is_next_fine = match take_turn(
+            alloc,
+            &mut buffers,
+            run,
+            number,
+            &mut line,
+            input,
+            output,
+            errors,
+        )? {
             Turn::NoLine => return Ok(end_of(is_fine)),
             Turn::LastLine(is_last_fine) => return Ok(end_of(both(is_fine, is_last_fine))),
             Turn::Line(is_next_fine) => is_next_fine,
@@ -141,6 +152,7 @@ fn end_of(is_fine: bool) -> Ended
 /// Reads the next line, and writes what it gives.
 fn take_turn<R: io::BufRead, W: io::Write, E: io::Write>(
     alloc: Global,
+    buffers: &mut Buffers,
     run: &LineTask<'_>,
     number: u64,
     line: &mut Vec<u8>,
@@ -158,11 +170,11 @@ fn take_turn<R: io::BufRead, W: io::Write, E: io::Write>(
     match next_line(input, line) {
         Ok(Ending::Nothing) => Ok(Turn::NoLine),
         Ok(Ending::Break) => {
-            let is_fine = put_line(alloc, run, number, line, output, errors)?;
+            let is_fine = put_line(alloc, buffers, run, number, line, output, errors)?;
             Ok(Turn::Line(is_fine))
         }
         Ok(Ending::Input) => {
-            let is_fine = put_line(alloc, run, number, line, output, errors)?;
+            let is_fine = put_line(alloc, buffers, run, number, line, output, errors)?;
             Ok(Turn::LastLine(is_fine))
         }
         Err(LineFault::Memory(error)) => Err(Failure::Memory(error)),

@@ -10,7 +10,7 @@ use crate::edit::restyle;
 use crate::failure::Failure;
 use crate::layout::Layout;
 use jsonptr::Fault;
-use jsonptr_edit_in_text::{EditError, apply_in_text};
+use jsonptr_edit_in_text::{Buffers, EditError, apply_in_text_with};
 use jsonptr_patch::Operation;
 use jsonptr_patch_document::read_patch;
 use serde_json::Value;
@@ -21,13 +21,19 @@ use std::alloc::Global;
 /// # Errors
 ///
 /// Those of [`Task::Patch`](crate::task::Task::Patch).
-pub fn patch(alloc: Global, text: &str, document: &Value, layout: Layout) -> Result<String, Failure>
+pub fn patch(
+    alloc: Global,
+    buffers: &mut Buffers,
+    text: &str,
+    document: &Value,
+    layout: Layout,
+) -> Result<String, Failure>
     ensures done { IfOk result (λ s. PatchesBy text.now (view document.now) layout
         (string_bytes s)) }
     ensures failed { IfErr result (FailsToPatch text.now (view document.now)) }
 {
     let operations = operations_of(alloc, document)?;
-    let new = apply_text(alloc, text, operations)?;
+    let new = apply_text(alloc, buffers, text, operations)?;
     restyle(alloc, new, layout)
 }
 
@@ -48,12 +54,17 @@ pub fn operations_of(alloc: Global, document: &Value) -> Result<Vec<Operation>, 
 }
 
 /// Applies the operations in the text, all of them or none.
-fn apply_text(alloc: Global, text: &str, operations: Vec<Operation>) -> Result<String, Failure>
+fn apply_text(
+    alloc: Global,
+    buffers: &mut Buffers,
+    text: &str,
+    operations: Vec<Operation>,
+) -> Result<String, Failure>
     ensures done { IfOk result
         (λ s. PatchesInText text.now operations.items (string_bytes s)) }
     ensures failed { IfErr result (FailsToApply text.now operations.items) }
 {
-    match apply_in_text(alloc, text, operations) {
+    match apply_in_text_with(alloc, buffers, text, operations) {
         Ok(edited) => Ok(edited.into_string()),
         Err(EditError::NotJson) => Err(Failure::NotJson),
         Err(EditError::Refused(error)) => Err(Failure::BadPatch(error)),

@@ -9,7 +9,8 @@ use crate::layout::{Layout, show};
 use crate::patching::patch;
 use crate::task::Task;
 use jsonptr::Pointer;
-use jsonptr_in_text::{InTextError, resolve_in_text};
+use jsonptr_edit_in_text::Buffers;
+use jsonptr_in_text::{InTextError, Scratch, resolve_in_text_with};
 use serde_json::Value;
 use std::alloc::Global;
 
@@ -48,11 +49,52 @@ pub fn result_in_text(
     ensures done { IfOk result (λ s. Yields task.now layout text.now (string_bytes s)) }
     ensures failed { IfErr result (Fails task.now text.now) }
 {
+    let mut buffers = Buffers::new(alloc);
+    result_in_text_with(alloc, &mut buffers, task, layout, text)
+}
+
+/// Returns the text that the task makes of the text of a document, as [`result_in_text`] does, in
+/// buffers of the caller.
+///
+/// A caller with many texts keeps one [`Buffers`]. No call minds what an earlier one left in it, also
+/// after an error.
+///
+/// # Errors
+///
+/// Those of [`result_in_text`].
+///
+/// # Examples
+///
+/// ```rust
+/// let task = Task::Get(Pointer::parse("/b")?, Some(Value::Null));
+/// let mut buffers = Buffers::new(alloc);
+/// let text = "{\"a\": 1, \"b\": 2}";
+/// let two = result_in_text_with(alloc, &mut buffers, &task, Layout::Kept, text)?;
+/// let null = result_in_text_with(alloc, &mut buffers, &task, Layout::Kept, "[]")?;
+/// assert_eq!(rt; (two.as_str(), null.as_str()), ("2", "null"));
+/// ```
+pub fn result_in_text_with(
+    alloc: Global,
+    buffers: &mut Buffers,
+    task: &Task<'_>,
+    layout: Layout,
+    text: &str,
+) -> Result<String, Failure>
+    ensures done { IfOk result (λ s. Yields task.now layout text.now (string_bytes s)) }
+    ensures failed { IfErr result (Fails task.now text.now) }
+{
     match task {
-        Task::Get(pointer, fallback) => get(alloc, text, *pointer, fallback, layout),
-        Task::Set(pointer, value) => set(alloc, text, *pointer, value, layout),
-        Task::Delete(pointer) => delete(alloc, text, *pointer, layout),
-        Task::Patch(document) => patch(alloc, text, document, layout),
+        Task::Get(pointer, fallback) => get(
+            alloc,
+            &mut buffers.old,
+            text,
+            *pointer,
+            fallback,
+            layout,
+        ),
+        Task::Set(pointer, value) => set(alloc, buffers, text, *pointer, value, layout),
+        Task::Delete(pointer) => delete(alloc, buffers, text, *pointer, layout),
+        Task::Patch(document) => patch(alloc, buffers, text, document, layout),
     }
 }
 
@@ -64,6 +106,7 @@ pub fn result_in_text(
 /// Those of [`Task::Get`].
 fn get(
     alloc: Global,
+    scratch: &mut Scratch,
     text: &str,
     pointer: Pointer<'_>,
     fallback: &Option<Value>,
@@ -73,7 +116,7 @@ fn get(
         (string_bytes s)) }
     ensures failed { IfErr result (FailsToGet text.now (tokens pointer.entry) fallback.now) }
 {
-    match resolve_in_text(alloc, text, pointer) {
+    match resolve_in_text_with(alloc, scratch, text, pointer) {
         Ok(value) => Ok(show(alloc, &value, layout)?),
         Err(InTextError::Resolve(error)) => match fallback {
             Some(value) => Ok(show(alloc, value, layout)?),

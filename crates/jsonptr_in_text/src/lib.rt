@@ -23,6 +23,9 @@
 //! One pass over the text. Memory for the text's strings, unescaped, and for the value that is
 //! found. The stack is in proportion to the depth that is read, at most 127.
 //!
+//! To resolve in many short texts keep one [`Scratch`], and pass it to the calls that end in `_with`:
+//! it keeps its memory from text to text.
+//!
 //! In the examples `rt` is the runtime that `main` and each test receive, and `alloc` is
 //! `rt.alloc()`, the allocator.
 #![tactic(auto)]
@@ -33,4 +36,8 @@ pub mod laws;
 mod resolve;
 pub mod selectors;
 
-pub use resolve::{InTextError, exists_in_text, resolve_in_slice, resolve_in_text};
+pub use json::Scratch;
+pub use resolve::{
+    InTextError, exists_in_text, exists_in_text_with, resolve_in_slice, resolve_in_slice_with,
+    resolve_in_text, resolve_in_text_with,
+};

@@ -1,5 +1,6 @@
 -- Reading values from tokens, one value at a time.
-use Rattle.std.proofs.Common.{◌≡◌, ℕ, zero, suc, ◌-◌, ◌<◌, ◌≤◌, List, [], ◌∷◌, ◌++◌, length, true, false, Option, Some, None, option_map, option_and_then, MatchOption, Bor, refl, sym, ap, ◌∙◌, subst, arith, append-nil}
+use Rattle.std.proofs.Common.{◌≡◌, ℕ, zero, suc, ◌-◌, ◌<◌, ◌≤◌, List, [], ◌∷◌, ◌++◌, length, true, false, Option, Some, None, option_map, option_and_then, MatchOption, Bor, map, refl, sym, ap, ◌∙◌, subst, arith}
+use Rattle.std.proofs.lemmas.List.{map-append}
 use Rattle.std.specs.Prelude.{is_some}
 use Rattle.json.specs.Token.{Token}
 use Rattle.json.specs.Lex.{tokens}
@@ -7,10 +8,10 @@ use Rattle.json.specs.Reads.{token_of}
 use Rattle.json.specs.declared.token.Token as Read
 use Rattle.json.specs.Json as json
 use Rattle.json.specs.Json.{parse_map, after_end_array, read_key, items, members, value, if_last}
-use Rattle.json.specs.Tree.{json_tokens, depth as nesting}
 use Rattle.json.proofs.Grammar.{items_end, items_fail, items_more, members_end, members_no_key, members_fail, members_more, value_is, value-begin_array, value-begin_object}
-use Rattle.json.proofs.Printed.Trees.{value-json_tokens}
 use Rattle.serde_json.specs.Data.{Num, Data, null, boolean, number, string, array, object, Items, no_items, item, Members, no_members, put}
+use Rattle.serde_json.specs.View.{view, items_of}
+use Rattle.serde_json.specs.declared.value.Value.{Value}
 use Rattle.serde_json.specs.Read.{number_of, of_json, of_items, of_members, converted, max_depth, read}
 use Rattle.jsonptr_skim.specs.Reading.{Reads, Unreadable, ReadsItems, UnreadableItems, ReadsMembers, UnreadableMembers}
 use Rattle.jsonptr_skim.specs.PrivateReading.{scalar_of, with_items_before, ItemsSoFar, MembersSoFar}
@@ -326,7 +327,7 @@ unfolding value
 object_too_deep zero old mid z e = at_token zero old mid _ e
 object_too_deep (suc n) old mid z e = absurd (omega arith)
 
--- ---- a whole text, and the text that is printed for a value
+-- ---- a whole text
 
 whole_is : (text : List ℕ) (o : Option (json.Json × List Token)) → value max_depth (tokens text) ≡ o → read text ≡ option_and_then of_json (option_and_then (λ p. if_last p.0 p.1) o)
 whole_is text o e = ap (λ q. option_and_then of_json (option_and_then (λ p. if_last p.0 p.1) q)) e
@@ -356,20 +357,6 @@ whole_unreadable text ts same h = at (value max_depth ts) refl h
         none None k = refl
         none (Some d) k = absurd (cc)
 
-pub read_copied : (j : json.Json) (text : List ℕ) → tokens text ≡ json_tokens j → nesting j ≤ max_depth → read text ≡ of_json j
-read_copied j text ts shallow =
-    let back : value max_depth (json_tokens j ++ []) ≡ Some (j, []) = value-json_tokens j max_depth [] shallow in
-    whole_is text (Some (j, [])) (ap (value max_depth) (ts ∙ sym (append-nil (json_tokens j))) ∙ back)
-
-pub reads_tree : (depth : ℕ) (old new : List Token) (j : json.Json) (d : Data) → value depth old ≡ Some (j, new) → of_json j ≡ Some d → Reads depth old d new
-reads_tree depth old new j d e h = ap (converted of_json) e ∙ ap (option_map {T = Data} {U = Data × List Token} (λ b. (b, new))) h
-
-pub unreadable_tree : (depth : ℕ) (old new : List Token) (j : json.Json) → value depth old ≡ Some (j, new) → of_json j ≡ None → Unreadable depth old
-unreadable_tree depth old new j e h = ap (converted of_json) e ∙ ap (option_map {T = Data} {U = Data × List Token} (λ b. (b, new))) h
-
-pub unreadable_tokens : (depth : ℕ) (old : List Token) → value depth old ≡ None → Unreadable depth old
-unreadable_tokens depth old e = ap (converted of_json) e
-
 -- ---- what a reader's calls say
 
 pub no_token : (r : Option Read.Token) (old new : List Token) → MatchOption r ((old ≡ []) × (new ≡ [])) (λ t. old ≡ token_of t ∷ new) → ((t : Read.Token) → r ≡ Some t → ⊥) → old ≡ []
@@ -382,3 +369,12 @@ a_key k s old new h e = h ∙ ap (λ (q : Option (Bor (List ℕ))). Some (option
 pub no_key : (k : Option (Bor (List ℕ))) (old new : List Token) → read_key old ≡ Some (option_map (λ s. s.now) k, new) → ((s : Bor (List ℕ)) → k ≡ Some s → ⊥) → read_key old ≡ Some (None, new)
 no_key None old new h none = h
 no_key (Some s) old new h none = absurd (none s refl)
+
+-- ---- the values that were read
+
+pub with_items_before-no_items : (ds : List Data) → with_items_before ds no_items ≡ items_of ds
+with_items_before-no_items [] = refl
+with_items_before-no_items (d ∷ ds) = ap (item d) (with_items_before-no_items ds)
+
+pub map_view-append : (vs all : List Value) (v : Value) → all ≡ vs ++ v ∷ [] → map view all ≡ map view vs ++ view v ∷ []
+map_view-append vs all v e = ap (map view) e ∙ map-append view vs (v ∷ [])

@@ -8,7 +8,7 @@ ghost use Rattle.jsonptr_skim.specs.Search.{choices, items_len, element, IsOutco
 ghost use Rattle.jsonptr_skim.specs.declared.outcome.Outcome.TheVariants.{Stopped};
 
 use crate::outcome::{Kind, Outcome, ReadError};
-use crate::read::{read, read_text};
+use crate::read::read;
 use crate::scalar::is_scalar;
 use crate::selector::Selector;
 use crate::skip::skip;
@@ -32,22 +32,23 @@ pub fn find_in_text(alloc: Global, text: &str, selectors: &[Selector]) -> Result
         × IsOutcome d (choices selectors.now) o) }
     ensures err { result ≡ Err ReadError.NotJson → spec_read text.now ≡ None }
 {
-    if selectors.is_empty() {
-        return Ok(Outcome::Found(read_text(alloc, text)?));
-    }
     let mut scratch = Scratch::new(alloc);
-    find_with(alloc, text, &mut scratch, selectors)
+    find_in_text_with(alloc, &mut scratch, text, selectors)
 }
 
-/// Follows the selectors in the value that the text contains, with room for unescaped strings.
+/// Follows the selectors in the JSON value that the text contains, as [`find_in_text`] does, in a
+/// scratch of the caller.
+///
+/// The scratch is that of any earlier call, also of one that failed. It keeps its memory, so that a
+/// search in a text that is no longer allocates for the found value alone.
 ///
 /// # Errors
 ///
 /// As [`find_in_text`].
-fn find_with(
+pub fn find_in_text_with(
     alloc: Global,
-    text: &str,
     scratch: &mut Scratch,
+    text: &str,
     selectors: &[Selector],
 ) -> Result<Outcome, ReadError>
     ensures ok { IfOk result (λ o. (d : Data) × (spec_read text.now ≡ Some d)

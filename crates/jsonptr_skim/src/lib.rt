@@ -4,8 +4,8 @@
 //! `jsonptr_in_text` resolves pointers with it.
 #![tactic(auto)]
 
-mod copy;
 pub mod find;
+mod number;
 pub mod outcome;
 mod read;
 pub mod scalar;

@@ -2,7 +2,7 @@
 
 use json::Invalid;
 use serde_json::Value;
-use std::alloc::AllocError;
+use std::alloc::{AllocError, AllocFailed};
 
 /// The kind of a value.
 #[derive(Clone, Copy, Debug, Drop, PartialEq, Eq)]
@@ -56,6 +56,17 @@ impl From<AllocError> for ReadError {
     ghost from_gives = { λ _ error. error ≡ Memory };
 
     fn from(_error: AllocError) -> ReadError {
+        ReadError::Memory
+    }
+}
+
+impl<T: Drop> From<AllocFailed<T>> for ReadError {
+    ghost use Rattle.std.specs.Prelude.{◌≡◌};
+    ghost use Rattle.jsonptr_skim.specs.declared.outcome.ReadError.TheVariants.{Memory};
+
+    ghost from_gives = { λ _ error. error ≡ Memory };
+
+    fn from(_error: AllocFailed<T>) -> ReadError {
         ReadError::Memory
     }
 }

@@ -1,83 +1,125 @@
 //! Reading one value of a text.
-ghost use Rattle.std.specs.Prelude.{◌≡◌, ◌<◌, ◌≤◌, length, Some, None, Err, IfOk, OnOk};
-ghost use Rattle.serde_json.specs.Errors.{IsMemory};
-ghost use Rattle.std.specs.Str.{IsUtf8};
-ghost use Rattle.serde_json.specs.Read.{max_depth, read as spec_read};
-ghost use Rattle.serde_json.specs.View.{view};
-ghost use Rattle.jsonptr_skim.specs.Reading.{Reads, Unreadable};
-ghost use Rattle.jsonptr_skim.specs.PrivateReading.{IsTextOf};
+ghost use Rattle.std.specs.Prelude.{◌≡◌, ◌<◌, length, Some, None, Err, IfOk, OnOk};
+ghost use Rattle.json.specs.Reads.{token_of};
+ghost use Rattle.serde_json.specs.View.{view, items_view, members_view};
+ghost use Rattle.jsonptr_skim.specs.Reading.{Reads, Unreadable, ReadsItems, UnreadableItems, ReadsMembers, UnreadableMembers};
+ghost use Rattle.jsonptr_skim.specs.PrivateReading.{scalar_of};
 ghost use Rattle.jsonptr_skim.specs.declared.outcome.ReadError.TheVariants.{NotJson};
 
-use crate::copy::copy;
+use crate::number::parse;
 use crate::outcome::ReadError;
-use json::{Reader, Writer};
-use serde_json::Value;
+use json::{Reader, Token};
+use serde_json::{Map, Value};
 use std::alloc::Global;
 
 /// Reads the next value, which may nest `depth` deep.
-///
-/// Writes its tokens to a text of its own, and reads that with `serde_json`.
 ///
 /// # Errors
 ///
 /// [`ReadError::NotJson`] if `serde_json` does not read the value, and [`ReadError::Memory`] if an
 /// allocation fails.
-///
-/// # Conditions
-///
-/// `depth` is at most 127, the depth up to which `serde_json` reads.
+#[cycle(read)]
+#[inline(always)]
 pub fn read(alloc: Global, reader: &mut Reader<'_>, depth: usize) -> Result<Value, ReadError>
-    requires { depth ≤ max_depth }
     ensures ok { IfOk result (λ v. Reads depth reader.old (view v) reader.new) }
     ensures shorter { OnOk result (length reader.new < length reader.old) }
     ensures err { result ≡ Err NotJson → Unreadable depth reader.old }
 {
-    let bytes = written(alloc, reader, depth)?;
-    match Value::from_slice(alloc, &bytes) {
-        Ok(value) => Ok(value),
-        Err(error) => Err(read_error(&error)),
+    let Some(token) = reader.next() else {
+        return Err(ReadError::NotJson);
+    };
+    match token {
+        Token::BeginArray => {
+            if depth == 0 {
+                return Err(ReadError::NotJson);
+            }
+            let items = read_items(alloc, reader, depth - 1)?;
+            Ok(Value::Array(items))
+        }
+        Token::BeginObject => {
+            if depth == 0 {
+                return Err(ReadError::NotJson);
+            }
+            let members = read_members(alloc, reader, depth - 1)?;
+            Ok(Value::Object(members))
+        }
+        _ => {
+            let scalar = read_scalar(alloc, token)?;
+            Ok(scalar)
+        }
     }
 }
 
-/// Returns the text of the next value, which may nest `depth` deep.
-///
-/// # Errors
-///
-/// [`ReadError::NotJson`] if no such value is next, and [`ReadError::Memory`] if an allocation
-/// fails.
-fn written(alloc: Global, reader: &mut Reader<'_>, depth: usize) -> Result<Vec<u8>, ReadError>
-    ensures ok { IfOk result (λ bytes. IsTextOf depth reader.old reader.new bytes.items) }
-    ensures utf8 { IfOk result (λ bytes. IsUtf8 bytes.items) }
-    ensures shorter { OnOk result (length reader.new < length reader.old) }
-    ensures err { result ≡ Err NotJson → Unreadable depth reader.old }
-{
-    let mut writer = Writer::new(Vec::new(alloc));
-    copy(reader, &mut writer, depth)?;
-    Ok(writer.into_inner())
-}
-
-/// Reads the value that the text is.
+/// Returns the value that the token is on its own.
 ///
 /// # Errors
 ///
 /// As [`read`].
-pub fn read_text(alloc: Global, text: &str) -> Result<Value, ReadError>
-    ensures ok { IfOk result (λ v. spec_read text.now ≡ Some (view v)) }
-    ensures err { result ≡ Err ReadError.NotJson → spec_read text.now ≡ None }
+#[inline(always)]
+fn read_scalar(alloc: Global, token: Token<'_>) -> Result<Value, ReadError>
+    ensures ok { IfOk result (λ v. scalar_of (token_of token.entry) ≡ Some (view v)) }
+    ensures err { result ≡ Err NotJson → scalar_of (token_of token.entry) ≡ None }
 {
-    match Value::from_str(alloc, text) {
-        Ok(value) => Ok(value),
-        Err(error) => Err(read_error(&error)),
+    match token {
+        Token::String(text) => Ok(Value::String(String::from_str(alloc, text)?)),
+        Token::Number(text) => match parse(text) {
+            Some(number) => Ok(Value::Number(number)),
+            None => Err(ReadError::NotJson),
+        },
+        Token::Bool(boolean) => Ok(Value::Bool(boolean)),
+        Token::Null => Ok(Value::Null),
+        Token::BeginObject => Err(ReadError::NotJson),
+        Token::EndObject => Err(ReadError::NotJson),
+        Token::BeginArray => Err(ReadError::NotJson),
+        Token::EndArray => Err(ReadError::NotJson),
+        Token::Key(_) => Err(ReadError::NotJson),
+        Token::Bad => Err(ReadError::NotJson),
     }
 }
 
-/// Returns what `serde_json`'s error means here.
-fn read_error(error: &serde_json::Error) -> ReadError
-    ensures { result ≡ NotJson → ¬ IsMemory error.now }
+/// Reads the rest of an array, and its closing bracket.
+///
+/// # Errors
+///
+/// As [`read`].
+#[cycle(read)]
+#[inline(never)]
+fn read_items(alloc: Global, reader: &mut Reader<'_>, depth: usize) -> Result<Vec<Value>, ReadError>
+    ensures ok { IfOk result
+        (λ v. ReadsItems depth reader.old (items_view v.items) reader.new) }
+    ensures shorter { OnOk result (length reader.new < length reader.old) }
+    ensures err { result ≡ Err NotJson → UnreadableItems depth reader.old }
 {
-    if error.is_memory() {
-        ReadError::Memory
-    } else {
-        ReadError::NotJson
+    let mut found = Vec::new(alloc);
+    'items: while !reader.take_end_array() {
+        let item = read(alloc, reader, depth)?;
+        found.push(item)?;
     }
+    Ok(found)
+}
+
+/// Reads the rest of an object, and its closing brace. Of a repeated key the last member stays.
+///
+/// # Errors
+///
+/// As [`read`].
+#[cycle(read)]
+#[inline(never)]
+fn read_members(
+    alloc: Global,
+    reader: &mut Reader<'_>,
+    depth: usize,
+) -> Result<Map<String, Value>, ReadError>
+    ensures ok { IfOk result
+        (λ m. ReadsMembers depth reader.old (members_view m.entries) reader.new) }
+    ensures shorter { OnOk result (length reader.new < length reader.old) }
+    ensures err { result ≡ Err NotJson → UnreadableMembers depth reader.old }
+{
+    let mut found = Map::new(alloc);
+    'members: while let Some(name) = reader.next_key()? {
+        let key = String::from_str(alloc, name)?;
+        let member = read(alloc, reader, depth)?;
+        drop(found.insert(key, member)?);
+    }
+    Ok(found)
 }

@@ -10,9 +10,8 @@ ghost use Rattle.jsonptr_splice.specs.PrivateEditing.{AddsItemIf, AddsMemberIf};
 use crate::decide::{is_at, is_either, is_text, may_follow};
 use crate::edit::{CheckError, Child};
 use crate::same::{same, same_key, same_text, same_token};
-use json::{Reader, Token};
+use json::{Reader, Scratch, Token};
 use jsonptr_skim::skip::skip;
-use std::alloc::Global;
 
 /// Passes over the next value of both. The longer one has one child more.
 ///
@@ -21,7 +20,7 @@ use std::alloc::Global;
 /// [`CheckError::Mismatch`] if the values do not differ so, and [`CheckError::Memory`] if an
 /// allocation fails.
 pub fn add(
-    alloc: Global,
+    scratch: &mut Scratch,
     short: &mut Reader<'_>,
     long: &mut Reader<'_>,
     depth: usize,
@@ -41,12 +40,12 @@ pub fn add(
     match token {
         Token::BeginArray => {
             let index = child.selector.index.ok_or(CheckError::Mismatch)?;
-            add_item(alloc, short, long, depth - 1, index, value)?;
+            add_item(scratch, short, long, depth - 1, index, value)?;
             Ok(())
         }
         Token::BeginObject => {
             let key = child.selector.key.as_str();
-            add_member(alloc, short, long, depth - 1, key, child.position, value)?;
+            add_member(scratch, short, long, depth - 1, key, child.position, value)?;
             Ok(())
         }
         _ => Err(CheckError::Mismatch),
@@ -59,7 +58,7 @@ pub fn add(
 ///
 /// As [`add`].
 fn add_item(
-    alloc: Global,
+    scratch: &mut Scratch,
     short: &mut Reader<'_>,
     long: &mut Reader<'_>,
     depth: usize,
@@ -79,7 +78,7 @@ fn add_item(
             return Err(CheckError::Mismatch);
         }
         let wanted = is_at(count, index);
-        visit_item(alloc, short, long, depth, wanted, value)?;
+        visit_item(scratch, short, long, depth, wanted, value)?;
         is_done = is_either(is_done, wanted);
         count += 1;
     }
@@ -96,7 +95,7 @@ fn add_item(
 ///
 /// As [`add`].
 fn visit_item(
-    alloc: Global,
+    scratch: &mut Scratch,
     short: &mut Reader<'_>,
     long: &mut Reader<'_>,
     depth: usize,
@@ -109,7 +108,7 @@ fn visit_item(
     ensures short_shorter { OnOk result (length short.new ≤ length short.old) }
 {
     if wanted {
-        same_text(alloc, value, long, depth)
+        same_text(scratch, value, long, depth)
     } else {
         if short.take_end_array() {
             return Err(CheckError::Mismatch);
@@ -127,7 +126,7 @@ fn visit_item(
 ///
 /// As [`add`].
 fn add_member(
-    alloc: Global,
+    scratch: &mut Scratch,
     short: &mut Reader<'_>,
     long: &mut Reader<'_>,
     depth: usize,
@@ -149,7 +148,7 @@ fn add_member(
         if !may_follow(is_done, wanted, named) {
             return Err(CheckError::Mismatch);
         }
-        visit_member(alloc, short, long, depth, name, wanted, named, value)?;
+        visit_member(scratch, short, long, depth, name, wanted, named, value)?;
         is_done = is_either(is_done, wanted);
         count = count.saturating_add(1);
     }
@@ -166,7 +165,7 @@ fn add_member(
 ///
 /// As [`add`].
 fn visit_member(
-    alloc: Global,
+    scratch: &mut Scratch,
     short: &mut Reader<'_>,
     long: &mut Reader<'_>,
     depth: usize,
@@ -181,7 +180,7 @@ fn visit_member(
     ensures short_shorter { OnOk result (length short.new ≤ length short.old) }
 {
     if wanted {
-        same_text(alloc, value, long, depth)
+        same_text(scratch, value, long, depth)
     } else if named {
         skip(long, depth)?;
         Ok(())

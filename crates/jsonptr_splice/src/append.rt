@@ -9,8 +9,7 @@ ghost use Rattle.jsonptr_splice.specs.Editing.{Appends, InsertsItem};
 use crate::decide::is_at;
 use crate::edit::{CheckError, Child};
 use crate::same::{same, same_text, same_token};
-use json::{Reader, Token};
-use std::alloc::Global;
+use json::{Reader, Scratch, Token};
 
 /// Passes over the next value of both. The longer one is an array with one element more at its end.
 ///
@@ -19,7 +18,7 @@ use std::alloc::Global;
 /// [`CheckError::Mismatch`] if the values do not differ so, and [`CheckError::Memory`] if an
 /// allocation fails.
 pub fn append(
-    alloc: Global,
+    scratch: &mut Scratch,
     short: &mut Reader<'_>,
     long: &mut Reader<'_>,
     depth: usize,
@@ -38,7 +37,7 @@ pub fn append(
     match token {
         Token::BeginArray => {
             let index = child.selector.index.ok_or(CheckError::Mismatch)?;
-            append_item(alloc, short, long, depth - 1, index, child.value.as_str())?;
+            append_item(scratch, short, long, depth - 1, index, child.value.as_str())?;
             Ok(())
         }
         _ => Err(CheckError::Mismatch),
@@ -52,7 +51,7 @@ pub fn append(
 ///
 /// As [`append`].
 fn append_item(
-    alloc: Global,
+    scratch: &mut Scratch,
     short: &mut Reader<'_>,
     long: &mut Reader<'_>,
     depth: usize,
@@ -76,7 +75,7 @@ fn append_item(
     if long.take_end_array() || !is_at(count, index) {
         return Err(CheckError::Mismatch);
     }
-    same_text(alloc, value, long, depth)?;
+    same_text(scratch, value, long, depth)?;
     if !long.take_end_array() {
         return Err(CheckError::Mismatch);
     }

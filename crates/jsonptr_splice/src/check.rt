@@ -8,6 +8,7 @@ ghost use Rattle.jsonptr_splice.specs.PrivateEditing.{ChangesIf};
 
 use crate::add::add;
 use crate::append::append;
+use crate::buffers::Buffers;
 use crate::decide::{is_at, is_either, is_text, may_follow};
 use crate::edit::{CheckError, Edit};
 use crate::same::{MAX_DEPTH, same, same_key, same_text, same_token};
@@ -36,7 +37,28 @@ pub fn is_edited(
     ensures { IfOk result (λ b. IsTrue b
         → IsEdited old.now new.now (choices selectors.now) edit.now) }
 {
-    match check(alloc, old, new, selectors, positions, edit) {
+    let mut buffers = Buffers::new(alloc);
+    is_edited_with(&mut buffers, old, new, selectors, positions, edit)
+}
+
+/// Returns whether the new text reads as the old one with the edit, as [`is_edited`] does, in buffers
+/// of the caller.
+///
+/// # Errors
+///
+/// As [`is_edited`].
+pub fn is_edited_with(
+    buffers: &mut Buffers,
+    old: &str,
+    new: &str,
+    selectors: &[Selector],
+    positions: &[usize],
+    edit: &Edit,
+) -> Result<bool, AllocError>
+    ensures { IfOk result (λ b. IsTrue b
+        → IsEdited old.now new.now (choices selectors.now) edit.now) }
+{
+    match check(buffers, old, new, selectors, positions, edit) {
         Ok(()) => Ok(true),
         Err(CheckError::Mismatch) => Ok(false),
         Err(CheckError::Memory) => Err(AllocError),
@@ -49,7 +71,7 @@ pub fn is_edited(
 ///
 /// [`CheckError::Mismatch`] if they do not, and [`CheckError::Memory`] if an allocation fails.
 fn check(
-    alloc: Global,
+    buffers: &mut Buffers,
     old: &str,
     new: &str,
     selectors: &[Selector],
@@ -58,12 +80,10 @@ fn check(
 ) -> Result<(), CheckError>
     ensures { OnOk result (IsEdited old.now new.now (choices selectors.now) edit.now) }
 {
-    let mut old_scratch = Scratch::new(alloc);
-    let mut new_scratch = Scratch::new(alloc);
-    let mut old_reader = Reader::new(old, &mut old_scratch)?;
-    let mut new_reader = Reader::new(new, &mut new_scratch)?;
+    let mut old_reader = Reader::new(old, &mut buffers.old)?;
+    let mut new_reader = Reader::new(new, &mut buffers.new)?;
     change(
-        alloc,
+        &mut buffers.value,
         &mut old_reader,
         &mut new_reader,
         MAX_DEPTH,
@@ -84,7 +104,7 @@ fn check(
 /// As [`check`].
 #[cycle(change)]
 fn change(
-    alloc: Global,
+    scratch: &mut Scratch,
     old: &mut Reader<'_>,
     new: &mut Reader<'_>,
     depth: usize,
@@ -99,7 +119,7 @@ fn change(
     ensures new_shorter { OnOk result (length new.new < length new.old) }
 {
     let Some((selector, rest)) = selectors.split_first() else {
-        return make(alloc, old, new, depth, edit);
+        return make(scratch, old, new, depth, edit);
     };
     let Some((position, further)) = positions.split_first() else {
         return Err(CheckError::Mismatch);
@@ -111,13 +131,13 @@ fn change(
     match token {
         Token::BeginArray => {
             let index = selector.index.ok_or(CheckError::Mismatch)?;
-            change_item(alloc, old, new, depth - 1, index, rest, further, edit)?;
+            change_item(scratch, old, new, depth - 1, index, rest, further, edit)?;
             Ok(())
         }
         Token::BeginObject => {
             let key = selector.key.as_str();
             change_member(
-                alloc,
+                scratch,
                 old,
                 new,
                 depth - 1,
@@ -139,7 +159,7 @@ fn change(
 ///
 /// As [`check`].
 fn make(
-    alloc: Global,
+    scratch: &mut Scratch,
     old: &mut Reader<'_>,
     new: &mut Reader<'_>,
     depth: usize,
@@ -155,12 +175,12 @@ fn make(
             old: before,
             new: after,
         } => {
-            same_text(alloc, before.as_str(), old, depth)?;
-            same_text(alloc, after.as_str(), new, depth)?;
+            same_text(scratch, before.as_str(), old, depth)?;
+            same_text(scratch, after.as_str(), new, depth)?;
             Ok(())
         }
-        Edit::Add(child) => add(alloc, old, new, depth, child),
-        Edit::Append(child) => append(alloc, old, new, depth, child),
+        Edit::Add(child) => add(scratch, old, new, depth, child),
+        Edit::Append(child) => append(scratch, old, new, depth, child),
     }
 }
 
@@ -172,7 +192,7 @@ fn make(
 /// As [`check`].
 #[cycle(change)]
 fn change_item(
-    alloc: Global,
+    scratch: &mut Scratch,
     old: &mut Reader<'_>,
     new: &mut Reader<'_>,
     depth: usize,
@@ -195,7 +215,7 @@ fn change_item(
             return Err(CheckError::Mismatch);
         }
         let wanted = is_at(count, index);
-        visit(alloc, old, new, depth, wanted, selectors, positions, edit)?;
+        visit(scratch, old, new, depth, wanted, selectors, positions, edit)?;
         is_done = is_either(is_done, wanted);
         count += 1;
     }
@@ -213,7 +233,7 @@ fn change_item(
 /// As [`check`].
 #[cycle(change)]
 fn change_member(
-    alloc: Global,
+    scratch: &mut Scratch,
     old: &mut Reader<'_>,
     new: &mut Reader<'_>,
     depth: usize,
@@ -239,7 +259,7 @@ fn change_member(
         if !may_follow(is_done, wanted, named) {
             return Err(CheckError::Mismatch);
         }
-        visit(alloc, old, new, depth, wanted, selectors, positions, edit)?;
+        visit(scratch, old, new, depth, wanted, selectors, positions, edit)?;
         is_done = is_either(is_done, wanted);
         count = count.saturating_add(1);
     }
@@ -257,7 +277,7 @@ fn change_member(
 /// As [`check`].
 #[cycle(change)]
 fn visit(
-    alloc: Global,
+    scratch: &mut Scratch,
     old: &mut Reader<'_>,
     new: &mut Reader<'_>,
     depth: usize,
@@ -273,7 +293,7 @@ fn visit(
     ensures new_shorter { OnOk result (length new.new < length new.old) }
 {
     if wanted {
-        change(alloc, old, new, depth, selectors, positions, edit)
+        change(scratch, old, new, depth, selectors, positions, edit)
     } else {
         same(old, new, depth, depth)?;
         Ok(())

@@ -6,14 +6,14 @@ ghost use Rattle.jsonptr_splice.specs.Spacing.{IsTrimmed};
 ghost use Rattle.jsonptr_splice.specs.Child.{IsValueText, IsMemberText, HaveOneComma, IsOneChild};
 
 use crate::cut::cut_at;
+use crate::decide::is_text;
 use crate::edit::CheckError;
 use crate::locate::{Extent, trimmed_end};
 use crate::same::MAX_DEPTH;
 use crate::spacing::{is_blank, is_colon, is_comma, is_trimmed};
-use json::{Reader, Scratch};
+use json::{Reader, Scratch, Token};
 use jsonptr_skim::skip::skip;
-use serde_json::Value;
-use std::alloc::{AllocError, Global};
+use std::alloc::AllocError;
 
 /// Returns whether the text is that of one child, with at most one comma and white space beside it.
 /// A member has the key. `extent` says where the child is in the text.
@@ -22,7 +22,7 @@ use std::alloc::{AllocError, Global};
 ///
 /// [`AllocError`] if there is no memory for the unescaped strings of the text.
 pub fn is_one_child(
-    alloc: Global,
+    scratch: &mut Scratch,
     text: &str,
     extent: Extent,
     key: Option<&str>,
@@ -37,10 +37,10 @@ pub fn is_one_child(
         return Ok(false);
     }
     match key {
-        None => is_value(alloc, parts.was),
+        None => is_value(scratch, parts.was),
         Some(key) => {
             let value = extent.value.saturating_sub(extent.child.from);
-            is_member(alloc, parts.was, value, key)
+            is_member(scratch, parts.was, value, key)
         }
     }
 }
@@ -57,7 +57,7 @@ fn have_one_comma(lead: &str, trail: &str) -> bool
 }
 
 /// Returns whether the text is that of a member with the key. Its value begins at the offset.
-fn is_member(alloc: Global, text: &str, value: usize, key: &str) -> Result<bool, AllocError>
+fn is_member(scratch: &mut Scratch, text: &str, value: usize, key: &str) -> Result<bool, AllocError>
     ensures { IfOk result (λ b. IsTrue b → IsMemberText key.now text.now) }
 {
     let bytes = text.as_bytes();
@@ -65,26 +65,32 @@ fn is_member(alloc: Global, text: &str, value: usize, key: &str) -> Result<bool,
     let Some(parts) = cut_at(text, trimmed_end(bytes, colon), value) else {
         return Ok(false);
     };
-    if !is_colon(parts.was) || !is_name(alloc, parts.before, key)? {
+    if !is_colon(parts.was) || !is_name(scratch, parts.before, key)? {
         return Ok(false);
     }
-    is_value(alloc, parts.after)
+    is_value(scratch, parts.after)
 }
 
 /// Returns whether the text is a string with this content, without white space around it.
-fn is_name(alloc: Global, text: &str, key: &str) -> Result<bool, AllocError>
+fn is_name(scratch: &mut Scratch, text: &str, key: &str) -> Result<bool, AllocError>
     ensures { IfOk result (λ b. IsTrue b
         → (read text.now ≡ Some (string key.now)) × IsTrimmed text.now) }
 {
-    let value = match Value::from_str(alloc, text) {
-        Ok(value) => value,
-        Err(error) if error.is_memory() => return Err(AllocError),
-        Err(_) => return Ok(false),
-    };
-    let Value::String(name) = &value else {
+    Ok(is_string(scratch, text, key)? && is_trimmed(text))
+}
+
+/// Returns whether the text is a string with this content.
+fn is_string(scratch: &mut Scratch, text: &str, content: &str) -> Result<bool, AllocError>
+    ensures { IfOk result (λ b. IsTrue b → read text.now ≡ Some (string content.now)) }
+{
+    let mut reader = Reader::new(text, scratch)?;
+    let Some(Token::String(found)) = reader.next() else {
         return Ok(false);
     };
-    Ok(name.as_str() == key && is_trimmed(text))
+    if reader.next().is_some() {
+        return Ok(false);
+    }
+    Ok(is_text(found, content))
 }
 
 /// Returns whether the text is that of a value, without white space around it.
@@ -92,10 +98,10 @@ fn is_name(alloc: Global, text: &str, key: &str) -> Result<bool, AllocError>
 /// # Errors
 ///
 /// [`AllocError`] if there is no memory for the unescaped strings of the text.
-pub fn is_value(alloc: Global, text: &str) -> Result<bool, AllocError>
+pub fn is_value(scratch: &mut Scratch, text: &str) -> Result<bool, AllocError>
     ensures { IfOk result (λ b. IsTrue b → IsValueText text.now) }
 {
-    match pass(alloc, text) {
+    match pass(scratch, text) {
         Ok(()) => Ok(is_trimmed(text)),
         Err(CheckError::Mismatch) => Ok(false),
         Err(CheckError::Memory) => Err(AllocError),
@@ -108,11 +114,10 @@ pub fn is_value(alloc: Global, text: &str) -> Result<bool, AllocError>
 ///
 /// [`CheckError::Mismatch`] if `serde_json` does not read the text, and [`CheckError::Memory`] if
 /// an allocation fails.
-fn pass(alloc: Global, text: &str) -> Result<(), CheckError>
+fn pass(scratch: &mut Scratch, text: &str) -> Result<(), CheckError>
     ensures { OnOk result ((d : Data) × (read text.now ≡ Some d)) }
 {
-    let mut scratch = Scratch::new(alloc);
-    let mut reader = Reader::new(text, &mut scratch)?;
+    let mut reader = Reader::new(text, scratch)?;
     skip(&mut reader, MAX_DEPTH)?;
     if reader.next().is_some() {
         return Err(CheckError::Mismatch);

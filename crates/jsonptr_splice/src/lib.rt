@@ -6,6 +6,7 @@
 
 mod add;
 mod append;
+pub mod buffers;
 pub mod check;
 pub mod child;
 pub mod cut;

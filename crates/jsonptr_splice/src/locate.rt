@@ -49,9 +49,13 @@ pub struct Extent {
 ///
 /// [`CheckError::Mismatch`] if the text is not JSON, and [`CheckError::Memory`] if an allocation
 /// fails.
-pub fn locate(alloc: Global, text: &str, selectors: &[Selector]) -> Result<Place, CheckError> {
-    let mut scratch = Scratch::new(alloc);
-    let mut reader = Reader::new(text, &mut scratch)?;
+pub fn locate(
+    alloc: Global,
+    scratch: &mut Scratch,
+    text: &str,
+    selectors: &[Selector],
+) -> Result<Place, CheckError> {
+    let mut reader = Reader::new(text, scratch)?;
     let all = Span { from: 0, to: 0 };
     let mut place = Place {
         value: all,
@@ -213,10 +217,14 @@ fn find_member(
 ///
 /// [`CheckError::Mismatch`] if it is not an array or an object, and [`CheckError::Memory`] if an
 /// allocation fails.
-pub fn children(alloc: Global, text: &str, span: Span) -> Result<Vec<Extent>, CheckError> {
+pub fn children(
+    alloc: Global,
+    scratch: &mut Scratch,
+    text: &str,
+    span: Span,
+) -> Result<Vec<Extent>, CheckError> {
     let container = text.get(span.from..span.to).unwrap_or("");
-    let mut scratch = Scratch::new(alloc);
-    let mut reader = Reader::new(container, &mut scratch)?;
+    let mut reader = Reader::new(container, scratch)?;
     match reader.next() {
         Some(Token::BeginArray) => elements(alloc, text, span.from, &mut reader),
         Some(Token::BeginObject) => members(alloc, text, span.from, &mut reader),

@@ -9,7 +9,6 @@ ghost use Rattle.jsonptr_skim.specs.Reading.{Reads, ReadsItems, ReadsMembers};
 use crate::edit::CheckError;
 use json::{Invalid, Reader, Scratch, Token};
 use jsonptr_skim::scalar::is_scalar;
-use std::alloc::Global;
 
 /// How deep arrays and objects may nest, as in `serde_json`.
 pub const MAX_DEPTH: usize = 127;
@@ -121,7 +120,7 @@ fn same_members(
 /// [`CheckError::Mismatch`] if the text is not that value, and [`CheckError::Memory`] if an
 /// allocation fails.
 pub fn same_text(
-    alloc: Global,
+    scratch: &mut Scratch,
     text: &str,
     reader: &mut Reader<'_>,
     depth: usize,
@@ -130,8 +129,7 @@ pub fn same_text(
         × Reads depth reader.old d reader.new) }
     ensures shorter { OnOk result (length reader.new < length reader.old) }
 {
-    let mut scratch = Scratch::new(alloc);
-    let mut value = Reader::new(text, &mut scratch)?;
+    let mut value = Reader::new(text, scratch)?;
     same(&mut value, reader, MAX_DEPTH, depth)?;
     if value.next().is_some() {
         return Err(CheckError::Mismatch);

@@ -7,3 +7,5 @@ mod assigning;
 mod deleting;
 #[cfg(test)]
 mod doc_examples;
+#[cfg(test)]
+mod reused;

@@ -11,4 +11,6 @@ mod doc_examples;
 #[cfg(test)]
 mod errors;
 #[cfg(test)]
+mod reused;
+#[cfg(test)]
 mod said;

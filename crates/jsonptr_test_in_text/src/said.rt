@@ -1,6 +1,9 @@
 //! What the calls say of a text and a pointer: a printed value, a printed error, or "not JSON".
 use jsonptr::{Fault, Pointer};
-use jsonptr_in_text::{InTextError, resolve_in_slice, resolve_in_text};
+use jsonptr_in_text::{
+    InTextError, Scratch, resolve_in_slice, resolve_in_slice_with, resolve_in_text,
+    resolve_in_text_with,
+};
 use serde_json::Value;
 use std::alloc::Global;
 use std::test::Fail;
@@ -21,6 +24,23 @@ pub fn said_by_resolve_in_slice(
     pointer: Pointer<'_>,
 ) -> Result<String, Fail> {
     said(alloc, resolve_in_slice(alloc, bytes, pointer))
+}
+
+/// What `resolve_in_text_with` and `resolve_in_slice_with` say, or a text of its own if they differ.
+pub fn said_with(
+    alloc: Global,
+    scratch: &mut Scratch,
+    text: &str,
+    pointer: Pointer<'_>,
+) -> Result<String, Fail> {
+    let found = said(alloc, resolve_in_text_with(alloc, scratch, text, pointer))?;
+    let bytes = text.as_bytes();
+    let sliced = said(alloc, resolve_in_slice_with(alloc, scratch, bytes, pointer))?;
+    if sliced == found {
+        Ok(found)
+    } else {
+        Ok(format!(in alloc; "{found} and {sliced}")?)
+    }
 }
 
 /// What a result says.

@@ -1,7 +1,9 @@
-//! The edits in a text.
+//! The edits in a text, in buffers of the caller.
 use crate::outcome::Outcome;
 use crate::request::{NoRequest, Request};
-use jsonptr_edit_in_text::{EditError, Edited, apply_in_text, assign_in_text, delete_in_text};
+use jsonptr_edit_in_text::{
+    Buffers, EditError, Edited, apply_in_text_with, assign_in_text_with, delete_in_text_with,
+};
 use std::alloc::Global;
 use std::convert::Infallible;
 use std::fmt::{Debug, Display};
@@ -11,27 +13,33 @@ use std::fmt::{Debug, Display};
 /// # Errors
 ///
 /// An error if there is no such command, if the request is not valid, or if an allocation fails.
-pub fn edit(alloc: Global, request: &Request) -> anyhow::Result<Outcome> {
+pub fn edit(alloc: Global, buffers: &mut Buffers, request: &Request) -> anyhow::Result<Outcome> {
     match request.command.as_str() {
-        "assign" => assign(alloc, request),
-        "delete" => delete(alloc, request),
-        "apply" => apply(alloc, request),
+        "assign" => assign(alloc, buffers, request),
+        "delete" => delete(alloc, buffers, request),
+        "apply" => apply(alloc, buffers, request),
         _ => Err(NoRequest.into()),
     }
 }
 
 /// Assigns a value.
-fn assign(alloc: Global, request: &Request) -> anyhow::Result<Outcome> {
+fn assign(alloc: Global, buffers: &mut Buffers, request: &Request) -> anyhow::Result<Outcome> {
     let value = request.value(alloc)?;
-    match assign_in_text(alloc, request.text.as_str(), request.pointer()?, value) {
+    match assign_in_text_with(
+        alloc,
+        buffers,
+        request.text.as_str(),
+        request.pointer()?,
+        value,
+    ) {
         Ok(edited) => Ok(outcome_of(edited)),
         Err(error) => of_error(alloc, error),
     }
 }
 
 /// Deletes a value.
-fn delete(alloc: Global, request: &Request) -> anyhow::Result<Outcome> {
-    match delete_in_text(alloc, request.text.as_str(), request.pointer()?) {
+fn delete(alloc: Global, buffers: &mut Buffers, request: &Request) -> anyhow::Result<Outcome> {
+    match delete_in_text_with(alloc, buffers, request.text.as_str(), request.pointer()?) {
         Ok(Some(edited)) => Ok(outcome_of(edited)),
         Ok(None) => Ok(Outcome::plain(alloc, "none")),
         Err(error) => of_deletion_error(alloc, error),
@@ -39,9 +47,9 @@ fn delete(alloc: Global, request: &Request) -> anyhow::Result<Outcome> {
 }
 
 /// Applies a patch.
-fn apply(alloc: Global, request: &Request) -> anyhow::Result<Outcome> {
+fn apply(alloc: Global, buffers: &mut Buffers, request: &Request) -> anyhow::Result<Outcome> {
     let operations = request.operations(alloc)?;
-    match apply_in_text(alloc, request.text.as_str(), operations) {
+    match apply_in_text_with(alloc, buffers, request.text.as_str(), operations) {
         Ok(edited) => Ok(outcome_of(edited)),
         Err(error) => of_error(alloc, error),
     }

@@ -14,6 +14,7 @@ mod outcome;
 mod request;
 mod rounds;
 
+use jsonptr_edit_in_text::Buffers;
 use outcome::Outcome;
 use request::Request;
 use std::alloc::{AllocError, Global};
@@ -38,12 +39,14 @@ fn words(rt: &HostRuntime) -> io::Result<Vec<String>> {
     Ok(words)
 }
 
-/// Writes a line for each line of the input.
+/// Writes a line for each line of the input. The edits use one `Buffers` for all lines.
 fn compare_lines(rt: &HostRuntime) -> anyhow::Result<()> {
     let alloc = rt.alloc();
     let mut out = BufWriter::new(alloc, io::writer(rt))?;
+    let mut buffers = Buffers::new(alloc);
     for line in BufReader::new(alloc, rt.reader())?.lines(alloc) {
-        let said = said_of(alloc, &Request::parse(alloc, line?.as_str())?)?;
+        let request = Request::parse(alloc, line?.as_str())?;
+        let said = said_of(alloc, &mut buffers, &request)?;
         writeln!(out, "{said}")?;
     }
     Ok(out.flush()?)
@@ -51,8 +54,8 @@ fn compare_lines(rt: &HostRuntime) -> anyhow::Result<()> {
 
 /// Returns what the edit in the text returns, what the call on the document returns, and as what
 /// the new text reads.
-fn said_of(alloc: Global, request: &Request) -> anyhow::Result<String> {
-    let edited = in_text::edit(alloc, request)?;
+fn said_of(alloc: Global, buffers: &mut Buffers, request: &Request) -> anyhow::Result<String> {
+    let edited = in_text::edit(alloc, buffers, request)?;
     let changed = document::change(alloc, request)?;
     let read = read_again(alloc, &edited)?;
     let (edited, changed) = (field(alloc, &edited)?, field(alloc, &changed)?);

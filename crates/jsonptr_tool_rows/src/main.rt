@@ -52,6 +52,7 @@ fn main(rt: HostRuntime) -> anyhow::Result<()> {
         "document" => documents::run(&rt, row),
         "in text" => in_text::run(&rt, row),
         "assign in text" => text_edits::run_assign(&rt, row),
+        "assign in text with" => text_edits::run_assign_with(&rt, row),
         "delete in text" => text_edits::run_delete(&rt, row),
         "apply in text" => text_edits::run_apply(&rt, row),
         "deep" => deep::run(&rt, row),

@@ -3,8 +3,10 @@ use crate::answer::Answer;
 use crate::patches::operations;
 use crate::row::Row;
 use crate::stage;
-use jsonptr::Pointer;
-use jsonptr_edit_in_text::{EditError, Edited, apply_in_text, assign_in_text, delete_in_text};
+use jsonptr::{Pointer, assign};
+use jsonptr_edit_in_text::{
+    Buffers, EditError, Edited, apply_in_text, assign_in_text, assign_in_text_with, delete_in_text,
+};
 use serde_json::Value;
 
 /// Runs a case of an assignment, with these lines: the text, the pointer, and the value.
@@ -14,15 +16,35 @@ pub fn run_assign(rt: &HostRuntime, mut row: Row<'_>) -> anyhow::Result<()> {
     let value = Value::from_str(rt.alloc(), row.next())?;
     println!(rt; "{text}")?;
     stage::begin(rt)?;
-    let edited = assign_in_text(rt.alloc(), text, pointer, value);
-    let said = match edited {
+    let said = of_assigned(assign_in_text(rt.alloc(), text, pointer, value));
+    finish(rt, said, text)
+}
+
+/// Runs a case of two assignments with the same buffers, with these lines: the text, the pointer, and
+/// the value. The first result is dropped, also if an allocation failed.
+pub fn run_assign_with(rt: &HostRuntime, mut row: Row<'_>) -> anyhow::Result<()> {
+    let text = row.next();
+    let pointer = Pointer::parse(row.next())?;
+    let json = row.next();
+    let first = Value::from_str(rt.alloc(), json)?;
+    let value = Value::from_str(rt.alloc(), json)?;
+    println!(rt; "{text}")?;
+    stage::begin(rt)?;
+    let mut buffers = Buffers::new(rt.alloc());
+    drop(assign_in_text_with(rt.alloc(), &mut buffers, text, pointer, first));
+    let again = assign_in_text_with(rt.alloc(), &mut buffers, text, pointer, value);
+    finish(rt, of_assigned(again), text)
+}
+
+/// The result of an assignment.
+fn of_assigned(edited: Result<Edited, EditError<assign::Error>>) -> Answer<'static> {
+    match edited {
         Ok(edited) => of_edited(edited),
         Err(EditError::NotJson) => Answer::NotJson,
         Err(EditError::Refused(error)) => Answer::IndexError(error),
         Err(EditError::TooDeep) => Answer::TooDeep,
         Err(EditError::Memory(_)) => Answer::Memory,
-    };
-    finish(rt, said, text)
+    }
 }
 
 /// Runs a case of a deletion, with these lines: the text and the pointer.

@@ -1,6 +1,9 @@
 //! The examples in the doc comments of `jsonptr_in_text/src/resolve.rt`. `tools/doc_examples.py --write` makes this file.
 use jsonptr::Pointer;
-use jsonptr_in_text::{InTextError, exists_in_text, resolve_in_slice, resolve_in_text};
+use jsonptr_in_text::{
+    InTextError, Scratch, exists_in_text, exists_in_text_with, resolve_in_slice,
+    resolve_in_slice_with, resolve_in_text, resolve_in_text_with,
+};
 use std::test::Fail;
 
 #[test]
@@ -28,12 +31,39 @@ fn resolve_in_text_example(rt: HostRuntime) -> Result<(), Fail> {
 }
 
 #[test]
+fn resolve_in_text_with_example(rt: HostRuntime) -> Result<(), Fail> {
+    let alloc = rt.alloc();
+    let pointer = Pointer::parse("/size")?;
+    let mut scratch = Scratch::new(alloc);
+    let mut sum = 0;
+    for line in ["{\"size\": 3}", "{\"size\": ", "{\"size\": 5}"] {
+        if let Ok(size) = resolve_in_text_with(alloc, &mut scratch, line, pointer) {
+            sum += size.as_u64().unwrap_or(0).min(100);
+        }
+    }
+    assert_eq!(rt; sum, 8);
+    Ok(())
+}
+
+#[test]
 fn resolve_in_slice_example(rt: HostRuntime) -> Result<(), Fail> {
     let alloc = rt.alloc();
     let size = resolve_in_slice(alloc, br#"{"sizes": [3, 5]}"#, Pointer::parse("/sizes/1")?)?;
     assert_eq!(rt; size.as_u64(), Some(5));
     let latin = resolve_in_slice(alloc, b"{\"caf\xe9\": 1}", Pointer::parse("/a")?);
     assert!(rt; matches!(latin, Err(InTextError::NotJson)));
+    Ok(())
+}
+
+#[test]
+fn resolve_in_slice_with_example(rt: HostRuntime) -> Result<(), Fail> {
+    let alloc = rt.alloc();
+    let mut scratch = Scratch::new(alloc);
+    let size = Pointer::parse("/size")?;
+    let latin = resolve_in_slice_with(alloc, &mut scratch, b"{\"caf\xe9\": 1}", size);
+    assert!(rt; matches!(latin, Err(InTextError::NotJson)));
+    let three = resolve_in_slice_with(alloc, &mut scratch, b"{\"size\": 3}", size)?;
+    assert_eq!(rt; three.as_u64(), Some(3));
     Ok(())
 }
 
@@ -47,6 +77,20 @@ fn exists_in_text_example(rt: HostRuntime) -> Result<(), Fail> {
     );
     assert_eq!(rt;
         exists_in_text(alloc, text, Pointer::parse("/sizes/2")?)?,
+        false
+    );
+    Ok(())
+}
+
+#[test]
+fn exists_in_text_with_example(rt: HostRuntime) -> Result<(), Fail> {
+    let alloc = rt.alloc();
+    let mut scratch = Scratch::new(alloc);
+    let size = Pointer::parse("/size")?;
+    let text = "{\"size\": 3}";
+    assert_eq!(rt; exists_in_text_with(alloc, &mut scratch, text, size)?, true);
+    assert_eq!(rt;
+        exists_in_text_with(alloc, &mut scratch, "[]", size)?,
         false
     );
     Ok(())

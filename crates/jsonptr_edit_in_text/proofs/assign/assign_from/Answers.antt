@@ -1,4 +1,4 @@
-use Rattle.std.proofs.Common.{◌++◌, List, IfOk, IfSome, string_bytes, sym, subst}
+use Rattle.std.proofs.Common.{◌≡◌, ◌++◌, [], List, IfOk, IfSome, string_bytes, sym, ap, ◌∙◌, subst, append-nil, arith}
 use Rattle.serde_json.specs.View.{view}
 use Rattle.jsonptr_grammar.specs.Text.{Text}
 use Rattle.jsonptr.specs.Pointer.{tokens}
@@ -10,3 +10,10 @@ pub returns-clause-assigned : goal.returns-clause-assigned
 returns-clause-assigned c =
     subst (λ (ts : List Text). IfOk c.assign_scalar.result (λ o. IfSome o (λ s. AssignsInText c.args.text.now (tokens c.args.front ++ ts) (nodes (view c.args.value.now)) (string_bytes s)))) (sym c.in-Some.ensures)
     (c.assign_scalar.ensures.assigned c.in-Some.token (tokens c.in-Some.after) c.in-Some.ensures)
+
+pub returns-in_default-clause-assigned : goal.returns-in_default-clause-assigned
+returns-in_default-clause-assigned c =
+    let root : tokens c.args.rest ≡ [] = grind arith in
+    subst (λ (ts : List Text). IfOk c.assign_there.result (λ o. IfSome o (λ s. AssignsInText c.args.text.now ts (nodes (view c.args.value.now)) (string_bytes s))))
+    (sym (ap (λ (ts : List Text). tokens c.args.front ++ ts) root ∙ append-nil (tokens c.args.front)))
+    c.assign_there.ensures.assigned

@@ -16,7 +16,7 @@ pub returns-then-branch-clause-deleted : goal.returns-then-branch-clause-deleted
 returns-then-branch-clause-deleted c =
     let child : Child = record { selector = c.in_ok-selector.selector; position = c.in-Some.position.now; value = c.in_ok-value.value } in
     let edit = Add child in
-    let h = c.in_ok-is_edited.ensures c.if-branch.true in
+    let h = c.in_ok-is_edited_with.ensures c.if-branch.true in
     let way = reached (tokens c.args.pointer) (choices c.in_ok-selectors.selectors.items) (Makes edit) h.0 h.1 c.in_ok-selectors.ensures
     (subst (λ (ss : List Selector). ChangesAt (choices ss) (Makes edit) h.0 h.1) c.deref-2.ensures.value h.4) in
     deletes c.args.text.now (string_bytes c.in-Some-2.new) (string_bytes c.in_ok-value.value) (tokens c.args.pointer ++ c.args.token.now ∷ []) (tokens c.args.pointer) c.args.token.now (choice_of c.in_ok-selector.selector) refl c.in_ok-selector.ensures

@@ -13,4 +13,4 @@ returns-then-branch c =
     let before = c.in_ok-clone.field-0 in
     let after = c.in_ok-clone-2.field-0 in
     finds_text text (tokens c.args.pointer) (choices c.in_ok-selectors.selectors.items) before after (string_bytes c.in_ok-value.value.flat) c.in_ok-selectors.ensures c.in_ok-clone.ensures.cases
-    (subst (λ (ss : List Selector). IsEdited text text (choices ss) (Replace before after)) c.deref-2.ensures.value (c.in_ok-is_edited.ensures c.if-branch.true))
+    (subst (λ (ss : List Selector). IsEdited text text (choices ss) (Replace before after)) c.deref-2.ensures.value (c.in_ok-is_edited_with.ensures c.if-branch.true))

@@ -5,7 +5,7 @@ use Rattle.jsonptr_skim.specs.declared.selector.Selector.{Selector}
 use Rattle.jsonptr_skim.specs.declared.outcome.Outcome.{Outcome}
 use Rattle.jsonptr_skim.specs.Search.{choices, follow, Stops, IsOutcome}
 use Rattle.jsonptr_in_text.proofs.SearchLemmas.{found, stops}
-use Rattle.jsonptr_in_text.proofs.resolve.resolve_in_text.Goals as goal
+use Rattle.jsonptr_in_text.proofs.resolve.resolve_in_text_with.Goals as goal
 
 pub returns-in-Ok-Found-clause-found : goal.returns-in-Ok-Found-clause-found
 returns-in-Ok-Found-clause-found c =
@@ -19,4 +19,4 @@ returns-in-Ok-Stopped-clause-refused c =
     let f = c.in-Ok-Stopped.ensures.ok in
     let outcome = subst (λ (o : Outcome). IsOutcome f.0 (choices c.deref.result.now) o) c.in-Ok-Stopped.field-0-is f.2 in
     let same = subst (λ (ps : List Selector). Stops f.0 (choices ps) c.in-Ok-Stopped.left c.in-Ok-Stopped.kind) c.deref.ensures.value outcome in
-    (f.0, f.1, c.error_at-error.ensures f.0 (stops f.0 (tokens c.args.pointer) (choices c.in_ok-selectors.selectors.items) c.in-Ok-Stopped.left c.in-Ok-Stopped.kind c.in_ok-selectors.ensures (λ len e. grind (arith, c.find_in_text.type_inv, c.in-Ok-Stopped.is, e)) same))
+    (f.0, f.1, c.error_at-error.ensures f.0 (stops f.0 (tokens c.args.pointer) (choices c.in_ok-selectors.selectors.items) c.in-Ok-Stopped.left c.in-Ok-Stopped.kind c.in_ok-selectors.ensures (λ len e. grind (arith, c.find_in_text_with.type_inv, c.in-Ok-Stopped.is, e)) same))

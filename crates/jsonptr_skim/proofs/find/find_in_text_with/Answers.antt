@@ -1,7 +1,7 @@
 use Rattle.std.proofs.Common.{◌≡◌, length, ap, arith}
 use Rattle.json.specs.Lex.{tokens}
 use Rattle.jsonptr_skim.proofs.TokenCount.{tokens_few}
-use Rattle.jsonptr_skim.proofs.find.find_with.Goals as goal
+use Rattle.jsonptr_skim.proofs.find.find_in_text_with.Goals as goal
 
 pub find-requires-clause-few : goal.find-requires-clause-few
 find-requires-clause-few c =

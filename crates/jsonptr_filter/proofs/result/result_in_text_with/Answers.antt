@@ -1,4 +1,4 @@
-use Rattle.jsonptr_filter.proofs.result.result_in_text.Goals as goal
+use Rattle.jsonptr_filter.proofs.result.result_in_text_with.Goals as goal
 
 pub returns-in-Set-clause-done : goal.returns-in-Set-clause-done
 returns-in-Set-clause-done c = rw c.in-Set.is c.set.ensures.done

@@ -5,7 +5,7 @@ use Rattle.jsonptr_skim.specs.declared.selector.Selector.{Selector}
 use Rattle.jsonptr_skim.specs.declared.outcome.Outcome.{Outcome}
 use Rattle.jsonptr_skim.specs.Search.{choices, follow, IsOutcome}
 use Rattle.jsonptr_in_text.proofs.ChildLemmas.{found_above}
-use Rattle.jsonptr_in_text.proofs.resolve.exists_in_text.Goals as goal
+use Rattle.jsonptr_in_text.proofs.resolve.exists_in_text_with.Goals as goal
 
 pub returns-in-Ok-Found-clause-exists : goal.returns-in-Ok-Found-clause-exists
 returns-in-Ok-Found-clause-exists c =
