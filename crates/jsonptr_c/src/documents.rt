@@ -4,6 +4,7 @@ ghost use Rattle.serde_json.specs.Read.{read as read_text};
 ghost use Rattle.serde_json.specs.View.{view};
 ghost use Rattle.serde_json.specs.declared.value.Value.{Value};
 ghost use Rattle.jsonptr_handle.specs.Document.{IsEmpty, Keeps};
+ghost use Rattle.jsonptr_calls.specs.Depths.{IsBounded};
 ghost use Rattle.jsonptr_calls.specs.Editing.{AssignsAt, DeletesAt, IsNotAssigned, IsNotDeleted};
 ghost use Rattle.jsonptr_calls.specs.Failures.{FailsOn, IsNotParsed, IsNotPrinted, IsNotRead, IsNotWritten, Unfound};
 ghost use Rattle.jsonptr_calls.specs.InTexts.{FindsTextIn, IsNotPrintedFrom};
@@ -42,6 +43,7 @@ pub extern "C" fn jsonptrcore_document_parse(
     error: &mut ErrorRecord,
 ) -> u32
     ensures parsed { result ≡ 0 → ReadsInto text.now document.new }
+    ensures bounded { result ≡ 0 → HoldsWith document.new (λ v. IsBounded (view v)) }
     ensures refused { result ≢ 0 → (e : Failure) × Reports e [] result error.new
         × IsNotParsed text.now e }
     ensures unchanged { result ≢ 0 → document.new ≡ document.old }
@@ -150,6 +152,8 @@ pub extern "C" fn jsonptrcore_document_assign(
 ) -> u32
     ensures assigned { result ≡ 0 → (v : Value) × (read_text text.now ≡ Some (view v))
         × Changes document.old (λ d n. AssignsAt d pointer.now (view v) n) document.new }
+    ensures bounded { result ≡ 0
+        → Changes document.old (λ d n. IsBounded d → IsBounded n) document.new }
     ensures refused { result ≢ 0 → (e : Failure) × Reports e pointer.now result error.new
         × (IsNotParsed text.now e
         ⊎ FailsOn document.old (λ v. IsNotAssigned (view v) pointer.now e) e) }
@@ -172,6 +176,8 @@ pub extern "C" fn jsonptrcore_document_delete(
 ) -> u32
     ensures deleted { result ≡ 0 → Changes document.old
         (λ d n. DeletesAt d pointer.now found.new n) document.new }
+    ensures bounded { result ≡ 0
+        → Changes document.old (λ d n. IsBounded d → IsBounded n) document.new }
     ensures refused { result ≢ 0 → (e : Failure) × Reports e pointer.now result error.new
         × FailsOn document.old (λ v. IsNotDeleted pointer.now e) e }
     ensures kept { result ≢ 0 → Keeps document.old document.new }
@@ -195,6 +201,8 @@ pub extern "C" fn jsonptrcore_document_patch(
 ) -> u32
     ensures applied { result ≡ 0
         → Changes document.old (λ d n. AppliesText text.now d n) document.new }
+    ensures bounded { result ≡ 0
+        → Changes document.old (λ d n. IsBounded d → IsBounded n) document.new }
     ensures refused { result ≢ 0 → (e : Failure) × Reports e [] result error.new
         × (IsNotPatchText text.now e
         ⊎ FailsOn document.old (λ v. IsNotApplied text.now (view v) e) e) }

@@ -1,1 +1,3 @@
 pub mod PointerLemmas
+mod NestingLemmas
+mod BoundLemmas

@@ -8,21 +8,24 @@ use Rattle.jsonptr.specs.Delete.{NamesNothing}
 use Rattle.jsonptr.specs.Json.{nodes, FindsValue}
 use Rattle.jsonptr.specs.Removing.{Deletes}
 use Rattle.jsonptr.specs.Text.{Text}
+use Rattle.jsonptr_calls.specs.Depths.{IsShort, IsTooLong}
 use Rattle.jsonptr_calls.specs.Failures.{IsNoPointer}
 use Rattle.jsonptr_calls.specs.Pointers.{HasTokens}
 use Rattle.jsonptr_calls.specs.declared.failure.Failure.{Failure}
-use Rattle.jsonptr_calls.specs.declared.failure.Failure.TheVariants.{Memory, NotAssigned}
+use Rattle.jsonptr_calls.specs.declared.failure.Failure.TheVariants.{Memory, NotAssigned, TooDeep}
 
--- `AssignsAt d bytes v n`: assigning the value `v` at the pointer `bytes` turns the document `d` into `n`
+-- `AssignsAt d bytes v n`: assigning the value `v` at the pointer `bytes` turns the document `d` into `n`. The pointer has
+-- at most 10,000 tokens
 abbrev pub AssignsAt : Data → List ℕ → Data → Data → Type 0
-AssignsAt d bytes v n = (tokens : List Text) × (replaced : Option Value) × HasTokens bytes tokens
+AssignsAt d bytes v n = (tokens : List Text) × (replaced : Option Value) × HasTokens bytes tokens × IsShort tokens
     × AssignsValue (nodes d) tokens (nodes v) (nodes n) (λ r. nodes (view r)) (λ ts r. FindsValue d ts (view r)) replaced
 
--- `IsNotAssigned d bytes e`: nothing can be assigned at the pointer `bytes` in the document `d`, or an allocation failed,
--- and `e` reports why
+-- `IsNotAssigned d bytes e`: the pointer `bytes` has more than 10,000 tokens, or nothing can be assigned at it in the
+-- document `d`, or an allocation failed, and `e` reports why
 abbrev pub IsNotAssigned : Data → List ℕ → Failure → Type 0
 IsNotAssigned d bytes (NotAssigned error) =
-    (tokens : List Text) × HasTokens bytes tokens × RefusesAssign (nodes d) tokens error
+    (tokens : List Text) × HasTokens bytes tokens × IsShort tokens × RefusesAssign (nodes d) tokens error
+IsNotAssigned d bytes TooDeep = IsTooLong bytes
 IsNotAssigned d bytes (Memory e) = ⊤
 IsNotAssigned d bytes e = IsNoPointer bytes e
 

@@ -16,7 +16,7 @@ use Rattle.jsonptr_patch_document.specs.declared.member.Member.TheVariants as me
 use Rattle.jsonptr_patch_document.specs.declared.error.PatchDocumentError.{PatchDocumentError}
 use Rattle.jsonptr_patch_document.specs.declared.error.PatchDocumentError.TheVariants as document_error
 use Rattle.jsonptr_calls.specs.declared.failure.Failure.{Failure}
-use Rattle.jsonptr_calls.specs.declared.failure.Failure.TheVariants.{Memory, NoRoom, NoDocument, NotUtf8, NotJson, NotPointer, NoToken, NotFound, OtherKind, NotAssigned, NotPatch, PatchFailed}
+use Rattle.jsonptr_calls.specs.declared.failure.Failure.TheVariants.{Memory, NoRoom, NoDocument, NotUtf8, NotJson, NotPointer, NoToken, NotFound, OtherKind, NotAssigned, NotPatch, PatchFailed, TooDeep}
 
 -- `status_of e`: the status of a call that fails with `e`. The number 3 is of the layer in C, which looks for NULL
 abbrev pub status_of : Failure → ℕ
@@ -32,6 +32,7 @@ status_of OtherKind = 10
 status_of (NotAssigned e) = 11
 status_of (NotPatch e) = 12
 status_of (PatchFailed e) = 13
+status_of TooDeep = 14
 
 -- `parse_kind_of e`: why a text is not a pointer
 abbrev pub parse_kind_of : ParseError → ℕ

@@ -1,5 +1,6 @@
 -- What the calls for C return, and why they fail.
 pub mod Pointers
+pub mod Depths
 pub mod Failures
 pub mod Values
 pub mod Kinds

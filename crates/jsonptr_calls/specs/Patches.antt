@@ -7,10 +7,11 @@ use Rattle.jsonptr_patch.specs.Patching.{Patches, RefusesPatch}
 use Rattle.jsonptr_patch.specs.declared.operation.Operation.{Operation}
 use Rattle.jsonptr_patch_document.specs.Document.{IsPatch, IsNoPatch}
 use Rattle.jsonptr_patch_document.specs.Writing.{document_of}
+use Rattle.jsonptr_calls.specs.Depths.{StaysShallow}
 use Rattle.jsonptr_calls.specs.Failures.{IsNotParsed}
 use Rattle.jsonptr_calls.specs.Values.{IsTextOf}
 use Rattle.jsonptr_calls.specs.declared.failure.Failure.{Failure}
-use Rattle.jsonptr_calls.specs.declared.failure.Failure.TheVariants.{Memory, NotPatch, PatchFailed}
+use Rattle.jsonptr_calls.specs.declared.failure.Failure.TheVariants.{Memory, NotPatch, PatchFailed, TooDeep}
 
 -- `IsPatchText text os`: `text` is a patch document with the operations `os`
 abbrev pub IsPatchText : List ℕ → List Operation → Type 0
@@ -21,13 +22,16 @@ abbrev pub IsNotPatchText : List ℕ → Failure → Type 0
 IsNotPatchText text (NotPatch error) = (d : Data) × (read text ≡ Some d) × IsNoPatch d error
 IsNotPatchText text e = IsNotParsed text e
 
--- `AppliesText text d n`: the operations of the patch document `text` turn the document `d` into `n`
+-- `AppliesText text d n`: the operations of the patch document `text` turn the document `d` into `n`, and cannot nest it
+-- too deep
 abbrev pub AppliesText : List ℕ → Data → Data → Type 0
-AppliesText text d n = (os : List Operation) × IsPatchText text os × Patches (nodes d) os (nodes n)
+AppliesText text d n = (os : List Operation) × IsPatchText text os × StaysShallow d os × Patches (nodes d) os (nodes n)
 
--- `IsNotAppliedList d os e`: an operation of `os` fails on the document `d`, or an allocation failed, and `e` reports why
+-- `IsNotAppliedList d os e`: the operations `os` can nest the document `d` too deep, or one of them fails on it, or an
+-- allocation failed, and `e` reports why
 abbrev pub IsNotAppliedList : Data → List Operation → Failure → Type 0
-IsNotAppliedList d os (PatchFailed error) = RefusesPatch (nodes d) os error
+IsNotAppliedList d os (PatchFailed error) = StaysShallow d os × RefusesPatch (nodes d) os error
+IsNotAppliedList d os TooDeep = StaysShallow d os → ⊥
 IsNotAppliedList d os (Memory e) = ⊤
 IsNotAppliedList d os e = ⊥
 

@@ -4,6 +4,7 @@ ghost use Rattle.serde_json.specs.Read.{read as read_text};
 ghost use Rattle.serde_json.specs.View.{view};
 ghost use Rattle.serde_json.specs.declared.value.Value.{Value as JsonValue};
 ghost use Rattle.jsonptr_handle.specs.Document.{IsEmpty, Keeps};
+ghost use Rattle.jsonptr_calls.specs.Depths.{IsBounded};
 ghost use Rattle.jsonptr_calls.specs.Editing.{AssignsAt, DeletesAt, IsNotAssigned, IsNotDeleted};
 ghost use Rattle.jsonptr_calls.specs.Failures.{FailsOn, IsNotParsed, IsNotPrinted, IsNotRead, IsNotWritten, Unfound};
 ghost use Rattle.jsonptr_calls.specs.Nodes.{FindsNode};
@@ -29,6 +30,7 @@ use std::alloc::{AllocError, Global};
 /// The handle is unchanged.
 pub fn parse(alloc: Global, document: &mut Document, text: &[u8]) -> Result<(), Failure>
     ensures parsed { IfOk result (λ _. ReadsInto text.now document.new) }
+    ensures bounded { IfOk result (λ _. HoldsWith document.new (λ v. IsBounded (view v))) }
     ensures refused { IfErr result (IsNotParsed text.now) }
     ensures unchanged { OnErr result (document.new ≡ document.old) }
 {
@@ -138,6 +140,8 @@ pub fn assign(
 ) -> Result<(), Failure>
     ensures assigned { IfOk result (λ _. (v : JsonValue) × (read_text text.now ≡ Some (view v))
         × Changes document.old (λ d n. AssignsAt d pointer.now (view v) n) document.new) }
+    ensures bounded { IfOk result (λ _.
+        Changes document.old (λ d n. IsBounded d → IsBounded n) document.new) }
     ensures refused { IfErr result (λ e. IsNotParsed text.now e
         ⊎ FailsOn document.old (λ v. IsNotAssigned (view v) pointer.now e) e) }
     ensures kept { OnErr result (Keeps document.old document.new) }
@@ -160,6 +164,8 @@ pub fn assign(
 pub fn delete(alloc: Global, document: &mut Document, pointer: &[u8]) -> Result<bool, Failure>
     ensures deleted { IfOk result (λ found.
         Changes document.old (λ d n. DeletesAt d pointer.now found n) document.new) }
+    ensures bounded { IfOk result (λ _.
+        Changes document.old (λ d n. IsBounded d → IsBounded n) document.new) }
     ensures refused { IfErr result (λ e.
         FailsOn document.old (λ v. IsNotDeleted pointer.now e) e) }
     ensures kept { OnErr result (Keeps document.old document.new) }
@@ -172,19 +178,19 @@ pub fn delete(alloc: Global, document: &mut Document, pointer: &[u8]) -> Result<
     outcome
 }
 
-/// Applies the patch document that the text is, whole or not at all, by [`patches::apply_text`].
+/// Applies the patch document that the text is, whole or not at all, by [`patches::apply_all`].
 ///
 /// # Errors
 ///
 /// - Those of [`patches::read_text`], for the text, which is read first.
-/// - [`Failure::NoDocument`].
-/// - [`Failure::PatchFailed`] with the first operation that fails.
-/// - [`Failure::Memory`] if an allocation fails.
+/// - [`Failure::NoDocument`], and those of [`patches::apply_all`].
 ///
 /// The document is unchanged.
 pub fn patch(alloc: Global, document: &mut Document, text: &[u8]) -> Result<(), Failure>
     ensures applied { IfOk result (λ _.
         Changes document.old (λ d n. AppliesText text.now d n) document.new) }
+    ensures bounded { IfOk result (λ _.
+        Changes document.old (λ d n. IsBounded d → IsBounded n) document.new) }
     ensures refused { IfErr result (λ e. IsNotPatchText text.now e
         ⊎ FailsOn document.old (λ v. IsNotApplied text.now (view v) e) e) }
     ensures kept { OnErr result (Keeps document.old document.new) }

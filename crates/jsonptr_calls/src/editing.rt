@@ -4,6 +4,7 @@ ghost use Rattle.serde_json.specs.View.{view};
 ghost use Rattle.jsonptr.specs.Json.{HasSortedKeys};
 ghost use Rattle.jsonptr_calls.specs.Editing.{AssignsAt, DeletesAt, IsNotAssigned, IsNotDeleted};
 
+use crate::depths::is_short;
 use crate::failure::Failure;
 use crate::pointers::parse;
 use jsonptr::Fault;
@@ -16,6 +17,7 @@ use std::alloc::Global;
 /// # Errors
 ///
 /// - Those of [`parse`].
+/// - [`Failure::TooDeep`] if the pointer has more than 10,000 tokens.
 /// - [`Failure::NotAssigned`] if the pointer leads to an array that has no such index.
 /// - [`Failure::Memory`] if an allocation fails.
 ///
@@ -33,7 +35,11 @@ pub fn assign(
     ensures refused { IfErr result (IsNotAssigned (view document.old) pointer.now) }
     ensures unchanged { OnErr result (view document.new ≡ view document.old) }
 {
-    match parse(pointer)?.assign(alloc, document, value) {
+    let pointer = parse(pointer)?;
+    if !is_short(&pointer) {
+        return Err(Failure::TooDeep);
+    }
+    match pointer.assign(alloc, document, value) {
         Ok(_replaced) => Ok(()),
         Err(Fault::Refused(error)) => Err(Failure::NotAssigned(error)),
         Err(Fault::Memory(error)) => Err(Failure::Memory(error)),

@@ -47,6 +47,9 @@ pub enum Failure {
     /// A value is of another kind than the call reads.
     #[error("the value is of another kind")]
     OtherKind,
+    /// The document would nest deeper than 10,127.
+    #[error("the document would nest deeper than 10,127")]
+    TooDeep,
     /// A value cannot be assigned at a pointer.
     #[error(transparent)]
     NotAssigned(assign::Error),

@@ -25,6 +25,7 @@ pub fn status(failure: &Failure) -> u32
         Failure::NotAssigned(_) => 11,
         Failure::NotPatch(_) => 12,
         Failure::PatchFailed(_) => 13,
+        Failure::TooDeep => 14,
     }
 }
 

@@ -5,6 +5,7 @@
 #![tactic(auto)]
 
 pub mod buffer;
+pub mod depths;
 pub mod documents;
 pub mod editing;
 pub mod failure;

@@ -1,19 +1,22 @@
 //! JSON Patch documents (RFC 6902) as bytes.
-ghost use Rattle.std.specs.Prelude.{◌≡◌, IfErr, IfOk, OnErr, All, length, take};
+ghost use Rattle.std.specs.Prelude.{◌≡◌, IfErr, IfOk, OnErr, OnOk, All, length, take};
 ghost use Rattle.serde_json.specs.View.{view};
 ghost use Rattle.jsonptr.specs.Json.{nodes, HasSortedKeys};
 ghost use Rattle.jsonptr_patch.specs.Order.{OperationHasSortedKeys};
 ghost use Rattle.jsonptr_patch.specs.Patching.{Patches};
+ghost use Rattle.jsonptr_calls.specs.Depths.{AddsParsed, StaysShallow};
 ghost use Rattle.jsonptr_calls.specs.Failures.{IsNotWritten};
 ghost use Rattle.jsonptr_calls.specs.Patches.{IsPatchText, IsNotPatchText, IsNotAppliedList, IsDiffText};
 
 use crate::buffer::copy_to;
+use crate::depths::stays_shallow;
 use crate::failure::Failure;
 use crate::reading::read;
 use crate::values::{Layout, json_text};
 use jsonptr::Fault;
 use jsonptr_diff::diff;
 use jsonptr_patch::{Operation, apply};
+use jsonptr_patch_document::laws::patch_document_law;
 use jsonptr_patch_document::{read_patch, write_patch};
 use serde_json::Value;
 use std::alloc::Global;
@@ -27,8 +30,10 @@ use std::alloc::Global;
 /// - [`Failure::Memory`] if an allocation fails.
 pub fn read_text(alloc: Global, text: &[u8]) -> Result<Vec<Operation>, Failure>
     ensures read { IfOk result (λ patch. IsPatchText text.now patch.items) }
+    ensures parsed { IfOk result (λ patch. All AddsParsed patch.items) }
     ensures refused { IfErr result (IsNotPatchText text.now) }
 {
+    patch_document_law();
     match read_patch(alloc, &read(alloc, text)?) {
         Ok(patch) => Ok(patch),
         Err(Fault::Refused(error)) => Err(Failure::NotPatch(error)),
@@ -40,16 +45,24 @@ pub fn read_text(alloc: Global, text: &[u8]) -> Result<Vec<Operation>, Failure>
 ///
 /// # Errors
 ///
-/// [`Failure::PatchFailed`] with the first operation that fails, and [`Failure::Memory`] if an
-/// allocation fails. The document is unchanged.
+/// - [`Failure::TooDeep`] if the operations can nest the document deeper than 10,127. Each copy and
+///   each move counts with as many levels as its `path` has more tokens than its `from`.
+/// - [`Failure::PatchFailed`] with the first operation that fails.
+/// - [`Failure::Memory`] if an allocation fails.
+///
+/// The document is unchanged.
 pub fn apply_all(alloc: Global, document: &mut Value, patch: Vec<Operation>) -> Result<(), Failure>
     ensures applied { IfOk result (λ _.
         Patches (nodes (view document.old)) patch.items (nodes (view document.new))) }
+    ensures shallow { OnOk result (StaysShallow (view document.old) patch.items) }
     ensures sorted { IfOk result (λ _. All OperationHasSortedKeys patch.items
         → HasSortedKeys (view document.old) → HasSortedKeys (view document.new)) }
     ensures refused { IfErr result (IsNotAppliedList (view document.old) patch.items) }
     ensures unchanged { OnErr result (view document.new ≡ view document.old) }
 {
+    if !stays_shallow(document, &patch) {
+        return Err(Failure::TooDeep);
+    }
     match apply(alloc, document, patch) {
         Ok(()) => Ok(()),
         Err(Fault::Refused(error)) => Err(Failure::PatchFailed(error)),

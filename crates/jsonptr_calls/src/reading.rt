@@ -2,6 +2,7 @@
 ghost use Rattle.std.specs.Prelude.{◌≡◌, IfErr, IfOk, Some};
 ghost use Rattle.serde_json.specs.Read.{read as read_text};
 ghost use Rattle.serde_json.specs.View.{view};
+ghost use Rattle.jsonptr_calls.specs.Depths.{IsParsed};
 ghost use Rattle.jsonptr_calls.specs.Failures.{IsNotParsed};
 
 use crate::failure::Failure;
@@ -17,9 +18,11 @@ use std::alloc::{AllocError, Global};
 /// - [`Failure::Memory`] if an allocation fails.
 pub fn read(alloc: Global, bytes: &[u8]) -> Result<Value, Failure>
     ensures read { IfOk result (λ v. read_text bytes.now ≡ Some (view v)) }
+    ensures parsed { IfOk result (λ v. IsParsed (view v)) }
     ensures refused { IfErr result (IsNotParsed bytes.now) }
 {
-    match Value::from_str(alloc, text_of(bytes)?) {
+    let text = text_of(bytes)?;
+    match Value::from_str(alloc, text) {
         Ok(value) => Ok(value),
         Err(error) => {
             if error.is_memory() {

@@ -25,6 +25,7 @@ pub fn failure_of(record: &ErrorRecord) -> Option<Failure> {
         11 => Some(Failure::NotAssigned(assign_error_of(record))),
         12 => Some(Failure::NotPatch(document_error_of(record))),
         13 => Some(Failure::PatchFailed(patch_error_of(record))),
+        14 => Some(Failure::TooDeep),
         _ => None,
     }
 }

@@ -27,7 +27,6 @@ mod add;
 mod apply;
 mod assign;
 mod delete;
-mod depth;
 mod edit;
 mod edited;
 mod expand;

@@ -7,9 +7,9 @@ ghost use Rattle.jsonptr_tree.specs.Json.{nodes};
 ghost use Rattle.jsonptr_edit_in_text.specs.EditInText.{AssignsInText, DeletesInText, LacksInText, IsAssignError, IsReadFault};
 ghost use Rattle.jsonptr_edit_in_text.specs.PatchInText.{PatchesInText, IsPatchFault};
 
-use crate::depth::{MAX_DEPTH, nests_within};
 use crate::edited::EditError;
 use jsonptr::{Assign, Delete, Fault, Pointer, assign};
+use jsonptr_depth::{MAX_DEPTH, nests_within};
 use jsonptr_patch::{Operation, PatchError, apply};
 use serde_json::Value;
 use std::alloc::{AllocError, Global};

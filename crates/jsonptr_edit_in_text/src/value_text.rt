@@ -6,9 +6,9 @@ ghost use Rattle.jsonptr.specs.Pointer.{tokens};
 ghost use Rattle.jsonptr_tree.specs.Json.{nodes};
 ghost use Rattle.jsonptr_edit_in_text.specs.PrivateReaching.{IsExpanded};
 
-use crate::depth::{MAX_DEPTH, nests_within};
 use crate::expand::expand;
 use jsonptr::Pointer;
+use jsonptr_depth::{MAX_DEPTH, nests_within};
 use jsonptr_splice::layout::{ValueText, text_of_value};
 use serde_json::Value;
 use std::alloc::{AllocError, Global};

@@ -3,8 +3,8 @@ use Rattle.serde_json.specs.Data.{depth, items_depth, members_depth}
 use Rattle.serde_json.specs.View.{view, items_view, members_view}
 use Rattle.serde_json.specs.declared.value.Value.{Value}
 use Rattle.serde_json.proofs.Views.{Entry}
-use Rattle.jsonptr_edit_in_text.proofs.DepthLemmas.{all_within, one_deeper, member_within, member_deeper, below_or_above}
-use Rattle.jsonptr_edit_in_text.proofs.depth.+nests.Goals as goal
+use Rattle.jsonptr_depth.proofs.DepthLemmas.{all_within, one_deeper, member_within, member_deeper, below_or_above}
+use Rattle.jsonptr_depth.proofs.+nests.Goals as goal
 
 pub elements_within-returns-then-not-nests_within : goal.elements_within-returns-then-not-nests_within
 elements_within-returns-then-not-nests_within t c =

@@ -3,7 +3,7 @@ use Rattle.serde_json.specs.Data.{depth, members_depth}
 use Rattle.serde_json.specs.View.{view, members_view}
 use Rattle.serde_json.specs.declared.value.Value.{Value}
 use Rattle.serde_json.proofs.Views.{Entry}
-use Rattle.jsonptr_edit_in_text.proofs.depth.+nests.Given as goal
+use Rattle.jsonptr_depth.proofs.+nests.Given as goal
 
 abbrev pub invariant-elements_within-loop-element : goal.invariant-elements_within-loop-element
 invariant-elements_within-loop-element l = (i : ℕ) (x : Value) → i < l.element-index → depth (view (get_or l.element-items i x)) ≤ l.levels

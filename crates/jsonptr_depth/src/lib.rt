@@ -1,14 +1,22 @@
-//! How deep a value nests.
-ghost use Rattle.std.specs.Prelude.{◌≤◌, ◌↔◌, IsTrue};
-ghost use Rattle.serde_json.specs.Data.{depth, items_depth, members_depth};
+//! How deep the arrays and objects of a JSON value nest.
+//!
+//! A number, a string, a boolean and `null` nest 0 levels deep, and `[[1], {}]` nests 2.
+#![tactic(auto)]
+
+ghost use Rattle.std.specs.Prelude.{ℕ, ◌≤◌, ◌↔◌, IsTrue};
+ghost use Rattle.serde_json.specs.Data.{Data, depth, items_depth, members_depth};
 ghost use Rattle.serde_json.specs.View.{view, items_view, members_view};
+ghost use Rattle.jsonptr_tree.specs.Json.{nodes, HasSortedKeys};
+ghost use Rattle.jsonptr_depth.specs.Nesting.{NestsWithin};
 
 use serde_json::{Map, Value};
 
-/// How deep arrays and objects may nest, as in `serde_json`.
+/// How deep the arrays and objects of a text that `serde_json` reads may nest.
 pub const MAX_DEPTH: usize = 127;
 
 /// Returns whether the arrays and objects of the value nest at most so many levels deep.
+///
+/// Time is linear in the value. The stack is in proportion to the smaller of its depth and `levels`.
 #[cycle(nests)]
 pub fn nests_within(value: &Value, levels: usize) -> bool
     ensures { IsTrue result ↔ (depth (view value.now) ≤ levels) }
@@ -45,3 +53,10 @@ fn members_within(members: &Map<String, Value>, levels: usize) -> bool
     }
     true
 }
+
+/// States that `NestsWithin` speaks of the depth of a value: its map nests within its depth, and the
+/// depth is at most each number that its map nests within, if its keys are sorted.
+pub fn depth_law()
+    ensures within { (d : Data) → NestsWithin (depth d) (nodes d) }
+    ensures least { (d : Data) (k : ℕ) → HasSortedKeys d → NestsWithin k (nodes d) → depth d ≤ k }
+{}

@@ -1,0 +1,2 @@
+-- How deep a document nests.
+pub mod Nesting
