@@ -1,18 +1,19 @@
 -- The lines of a document are read back: each as the pointer and the value of its node, and all of them as the document.
-use Rattle.std.proofs.Common.{◌≡◌, ◌≢◌, inl, inr, ℕ, zero, suc, ◌<◌, ◌≤◌, max, Bool, true, false, bytes_eq, if◌then◌else◌, List, [], ◌∷◌, ◌++◌, length, Option, Some, None, IsSome, option_map, option_and_then, All, refl, sym, ap, ap₂, subst, ◌∙◌, arith, append_assoc, append-nil}
+use Rattle.std.proofs.Common.{◌≡◌, ◌≢◌, inl, inr, ℕ, ◌<◌, ◌≤◌, List, [], ◌∷◌, ◌++◌, length, Option, Some, None, IsSome, option_map, All, refl, sym, ap, ap₂, subst, ◌∙◌, arith, append_assoc, append-nil}
 use Rattle.std.specs.List.{AllByRecursion}
 use Rattle.std.proofs.lemmas.List.Elements.{All-append, All-cons, recursion_from_All}
-use Rattle.serde_json.specs.Data.{Data, null, boolean, number, string, array, object, Items, no_items, item, Members, no_members, member, depth, items_depth, members_depth}
+use Rattle.serde_json.specs.Data.{Data, null, boolean, number, string, array, object, no_items, no_members, depth}
 use Rattle.serde_json.specs.Read.{read}
 use Rattle.jsonptr.specs.Text.{Text, text}
 use Rattle.jsonptr.specs.Node.{Step, key, place, Path, NodeMap, Names, IsTree}
-use Rattle.jsonptr.specs.Content.{Content, label_of, content_at, get_item, get_member}
-use Rattle.jsonptr.specs.Json.{content, items, members, nodes, FindsValue, HasSortedKeys}
+use Rattle.jsonptr.specs.Content.{label_of}
+use Rattle.jsonptr.specs.Json.{content, nodes, FindsValue, HasSortedKeys}
 use Rattle.jsonptr.specs.Assign.{assign_position_of, assign_offset_of}
 use Rattle.jsonptr.specs.Landing.{Lands, LandsNowhere}
 use Rattle.jsonptr.specs.Assigning.{Assigns}
 use Rattle.jsonptr.proofs.Calling.{text_one, map_of-IsTree, nodes_one}
-use Rattle.jsonptr_tree.proofs.NodeLemmas.{Names-length}
+use Rattle.jsonptr_depth.proofs.LevelLemmas.{NestsWithin-depth}
+use Rattle.jsonptr_depth.proofs.NestingLemmas.{Names-within}
 use Rattle.jsonptr_tree.proofs.LandingLemmas.{Lands_named, Lands-LandsNowhere}
 use Rattle.jsonptr_lines.specs.Lines.{IsOneLine, AreLines}
 use Rattle.jsonptr_lines.proofs.LineLemmas.{one_lines}
@@ -225,36 +226,6 @@ rebuilt d out k lists builds = go lists.0 lists.1 lists.2
 pub rebuilt_value : (d e : Data) (out : Text) → HasSortedKeys d → HasSortedKeys e → Lists AllNodes d out → Builds out (nodes e) → e ≡ d
 rebuilt_value d e out a b lists builds = nodes_one e d b a (rebuilt d out (nodes e) lists builds)
 
--- how deep the nodes of a value are
-
-one_of : (b : Bool) (c : Content) (more : Option Content) (p : Path) (i j : ℕ)
-    → (IsSome (option_map label_of (content_at p c)) → length p ≤ i)
-    → (IsSome (option_map label_of (option_and_then (content_at p) more)) → length p ≤ j)
-    → IsSome (option_map label_of (option_and_then (content_at p) (if b then Some c else more))) → length p ≤ max i j
-one_of true c more p i j here later h = omega (arith, here h)
-one_of false c more p i j here later h = omega (arith, later h)
-
-mutual
-  node_depth : (d : Data) (p : Path) → IsSome (option_map label_of (content_at p (content d))) → length p ≤ depth d
-  node_depth d [] h = omega arith
-  node_depth null (s ∷ p) h = let wrong : ⊥ = cc in absurd wrong
-  node_depth (boolean b) (s ∷ p) h = let wrong : ⊥ = cc in absurd wrong
-  node_depth (number n) (s ∷ p) h = let wrong : ⊥ = cc in absurd wrong
-  node_depth (string t) (s ∷ p) h = let wrong : ⊥ = cc in absurd wrong
-  node_depth (array ds) (key k ∷ p) h = let wrong : ⊥ = cc in absurd wrong
-  node_depth (array ds) (place i ∷ p) h = omega (arith, item_depth ds i p h)
-  node_depth (object ms) (key k ∷ p) h = omega (arith, member_depth ms k p h)
-  node_depth (object ms) (place i ∷ p) h = let wrong : ⊥ = cc in absurd wrong
-
-  item_depth : (ds : Items) (i : ℕ) (p : Path) → IsSome (option_map label_of (option_and_then (content_at p) (get_item i (items ds)))) → length p ≤ items_depth ds
-  item_depth no_items i p h = let wrong : ⊥ = cc in absurd wrong
-  item_depth (item d ds) zero p h = omega (arith, node_depth d p h)
-  item_depth (item d ds) (suc i) p h = omega (arith, item_depth ds i p h)
-
-  member_depth : (ms : Members) (k : Text) (p : Path) → IsSome (option_map label_of (option_and_then (content_at p) (get_member k (members ms)))) → length p ≤ members_depth ms
-  member_depth no_members k p h = let wrong : ⊥ = cc in absurd wrong
-  member_depth (member l d ms) k p h = one_of (bytes_eq k l) (content d) (get_member k (members ms)) p (depth d) (members_depth ms) (node_depth d p) (member_depth ms k p) h
-
 -- where the value of a row lands
 row_lands : (d : Data) (above below : List (List Text)) (ts : List Text) (l : Text) (before : List Text) (m : NodeMap) → IsWalk (nodes d) (above ++ ts ∷ below) → AreRows d above before → IsRow d ts l → AssignsLines (nodes null) before m → (p : Path) × Lands m ts p []
 row_lands d [] below ts l [] m walk rows row a =
@@ -270,10 +241,7 @@ row_lands d (us ∷ above) below ts l before m walk rows row a =
     (f.path, part_lands n m (Named n (us ∷ above)) ts f.path tree part next (not_root n m (Named n (us ∷ above)) f.path part next) f.named)
 
 row_fits : (d : Data) (ts : List Text) (l : Text) (row : IsRow d ts l) → length ts ≤ depth d
-row_fits d ts l row =
-    let f = row.3 in
-    let there : IsSome (option_map label_of (content_at f.path (content d))) = subst (λ (o : Option Content). IsSome (option_map label_of o)) (sym f.there) refl in
-    omega (arith, Names-length (nodes d) ts f.path f.named, node_depth d f.path there)
+row_fits d ts l row = Names-within (depth d) (nodes d) ts row.3.path (NestsWithin-depth d) row.3.named
 
 tab_there : (a x : Text) → AllByRecursion (λ z. z ≢ 9) (a ++ 9 ∷ x) → ⊥
 tab_there [] x h = h.0 refl
