@@ -59,8 +59,10 @@
  *             allocation is JSONPTR_NO_MEMORY.
  * Depth       A text whose arrays and objects nest deeper than 127 is
  *             JSONPTR_NOT_JSON. jsonptr_document_assign and
- *             jsonptr_document_patch can make a document that nests deeper.
- *             It prints, but this library does not read that text again.
+ *             jsonptr_document_patch can nest a document deeper, up to 10,127.
+ *             A call that could nest it deeper than that is JSONPTR_TOO_DEEP.
+ *             A document deeper than 127 prints, but this library does not read
+ *             that text again.
  * Numbers     Integers from -2^63 to 2^64-1 are exact. Every other number is
  *             the nearest double, also 1.0, 1e2 (printed as 100.0) and -0
  *             (printed as -0.0). A number that is too large for a double, such
@@ -87,14 +89,14 @@
  *  - A handle was JSONPTR_DOCUMENT_INIT (or all zeros) before its first call. It
  *    is changed by these calls alone. It may be moved by memcpy, but a copy must
  *    not be used beside the original.
- *  - The stack has room. Calls recurse into a document, with at most 750 bytes a
- *    level in our measurements. 128 KiB are enough for a document that was read,
- *    8 MiB for 10,000 levels. Only assign and patch make a document deeper, by
- *    at most a level for each byte of their texts. So limit the length of
- *    pointers and patches from strangers before these two calls.
+ *  - The stack has room. Calls recurse into a document, with at most 660 bytes a
+ *    level in our measurements: 128 KiB are enough for a document that was read,
+ *    and 8 MiB, the usual size on Linux, for one of 10,127 levels. On a thread
+ *    with a smaller stack, limit the length of pointers and patches from
+ *    strangers. Each byte of them deepens a document by at most one level.
  *
- * The functions fit any program on x86-64 with the ABI of Linux. The numbers of
- * statuses, kinds and members never change.
+ * The functions fit any program for Linux on x86-64 processors with SSE4.2. The
+ * numbers of statuses, kinds and members never change.
  */
 #ifndef JSONPTR_H
 #define JSONPTR_H
@@ -125,6 +127,7 @@ typedef uint32_t jsonptr_status;
 #define JSONPTR_NOT_ASSIGNED 11u  /* the pointer leads to an array that has no such index */
 #define JSONPTR_NOT_PATCH    12u  /* the document is not a JSON Patch */
 #define JSONPTR_PATCH_FAILED 13u  /* an operation of the patch fails */
+#define JSONPTR_TOO_DEEP     14u  /* the document would nest deeper than 10,127 */
 
 /* ---- Errors ------------------------------------------------------------ */
 
@@ -410,6 +413,7 @@ jsonptr_status jsonptr_document_node(jsonptr_document *document,
  * Returns   JSONPTR_OK, JSONPTR_NOT_UTF8 with offset and JSONPTR_NOT_JSON with
  *           offset for the text, JSONPTR_NO_DOCUMENT,
  *           those of jsonptr_pointer_count for the pointer,
+ *           JSONPTR_TOO_DEEP if the pointer has more than 10,000 tokens,
  *           JSONPTR_NOT_ASSIGNED with kind, position, slash, offset and length,
  *           JSONPTR_NO_MEMORY. An error leaves the document.
  *           JSONPTR_NOT_UTF8 does not say which of the two texts it is of: it is
@@ -442,9 +446,18 @@ jsonptr_status jsonptr_document_delete(jsonptr_document *document,
  * 1.0 and -0 are such numbers. Where the RFC says nothing: "remove" of the path
  * "" leaves null.
  *
+ * JSONPTR_TOO_DEEP comes before any operation is applied. Let `down` be the sum,
+ * over each "move" and "copy", of the tokens that its path has more than its from.
+ * The error comes if the path of an "add" or "replace" has more than
+ * 10,000 - down tokens, if down is above 10,000, or if down is not 0 and the
+ * document nests deeper than 10,127 - down. So it can come of a patch with
+ * thousands of moves to longer paths, even if none of them deepens the document:
+ * apply such a patch in parts.
+ *
  * Returns   JSONPTR_OK, JSONPTR_NOT_UTF8 with offset, JSONPTR_NOT_JSON with
  *           offset, JSONPTR_NOT_PATCH with kind, operation and member, and of a
  *           bad escape with slash and offset, JSONPTR_NO_DOCUMENT,
+ *           JSONPTR_TOO_DEEP (see below),
  *           JSONPTR_PATCH_FAILED with kind and operation, and with position,
  *           slash and offset if a pointer is at fault, JSONPTR_NO_MEMORY.
  *           An error leaves the document as it was before the first operation.

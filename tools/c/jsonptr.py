@@ -24,12 +24,11 @@ import json
 import os
 import threading
 
-__all__ = ["Document", "JsonPointerError", "JsonPatchError", "NotFound", "Patch", "escape", "make_patch", "resolve",
-           "resolve_in_text", "tokens", "version"]
+__all__ = ["Document", "JsonPointerError", "JsonPatchError", "NotFound", "Patch", "TooDeep", "escape", "make_patch",
+           "resolve", "resolve_in_text", "tokens", "version"]
 
 OK, NO_MEMORY, NO_ROOM, BAD_ARGUMENT, NO_DOCUMENT, NOT_UTF8, NOT_JSON, NOT_POINTER, NO_TOKEN, NOT_FOUND, OTHER_KIND, \
-    NOT_ASSIGNED, NOT_PATCH, PATCH_FAILED = range(14)
-PRETTY = 1
+    NOT_ASSIGNED, NOT_PATCH, PATCH_FAILED, TOO_DEEP = range(15)
 MEMBERS = [None, "op", "path", "from", "value"]
 
 
@@ -54,29 +53,25 @@ class _Error(ctypes.Structure):
                 ("slash", ctypes.c_uint64), ("offset", ctypes.c_uint64), ("length", ctypes.c_uint64)]
 
 
+def _function(name, result=ctypes.c_uint32):
+    """Returns a function of the library.
+
+    It has no `argtypes`: to convert arguments to declared types takes longer than most calls. So each argument here is
+    `bytes`, or an instance of `ctypes` that has the type of the parameter, and never an `int`.
+    """
+    function = getattr(_lib, "jsonptr_" + name)
+    function.restype = result
+    return function
+
+
 _lib = _library()
-_TEXT = [ctypes.c_char_p, ctypes.c_size_t]
-_SIZE = ctypes.POINTER(ctypes.c_size_t)
-_OUT = [ctypes.c_void_p, ctypes.c_size_t, _SIZE]
-_HANDLE, _ERROR = ctypes.POINTER(_Handle), ctypes.POINTER(_Error)
-for _name, _arguments in {
-    "error_message": [_ERROR, *_OUT],
-    "pointer_count": [*_TEXT, _SIZE, _ERROR],
-    "pointer_token": [*_TEXT, ctypes.c_size_t, *_OUT, _ERROR],
-    "pointer_escape": [*_TEXT, *_OUT, _ERROR],
-    "document_parse": [_HANDLE, *_TEXT, _ERROR],
-    "document_get": [_HANDLE, *_TEXT, ctypes.c_uint32, *_OUT, _ERROR],
-    "document_assign": [_HANDLE, *_TEXT, *_TEXT, _ERROR],
-    "document_delete": [_HANDLE, *_TEXT, ctypes.POINTER(ctypes.c_bool), _ERROR],
-    "document_patch": [_HANDLE, *_TEXT, _ERROR],
-    "document_diff": [_HANDLE, _HANDLE, ctypes.c_uint32, *_OUT, _ERROR],
-    "resolve_in_text": [*_TEXT, *_TEXT, ctypes.c_uint32, *_OUT, _ERROR],
-}.items():
-    _function = getattr(_lib, "jsonptr_" + _name)
-    _function.argtypes, _function.restype = _arguments, ctypes.c_uint32
-_lib.jsonptr_document_free.argtypes, _lib.jsonptr_document_free.restype = [_HANDLE], None
-_lib.jsonptr_version.restype = ctypes.c_char_p
-_get, _in_text = _lib.jsonptr_document_get, _lib.jsonptr_resolve_in_text
+_get, _in_text, _parse = _function("document_get"), _function("resolve_in_text"), _function("document_parse")
+_assign, _delete, _patch = _function("document_assign"), _function("document_delete"), _function("document_patch")
+_diff, _free = _function("document_diff"), _function("document_free", None)
+_count, _token, _escape = _function("pointer_count"), _function("pointer_token"), _function("pointer_escape")
+_error_message, _version = _function("error_message"), _function("version", ctypes.c_char_p)
+_size, _at = ctypes.c_size_t, ctypes.byref
+_COMPACT, _PRETTY = ctypes.c_uint32(0), ctypes.c_uint32(1)
 _scan = json.JSONDecoder().scan_once  # reads a text that begins with its value, as those of the library do
 
 
@@ -107,7 +102,11 @@ class JsonPatchError(JsonPointerError):
     """A document is not a patch, or an operation of it fails."""
 
 
-_CLASSES = {NOT_FOUND: NotFound, NOT_PATCH: JsonPatchError, PATCH_FAILED: JsonPatchError}
+class TooDeep(JsonPointerError):
+    """The document would nest deeper than 10,127 levels."""
+
+
+_CLASSES = {NOT_FOUND: NotFound, NOT_PATCH: JsonPatchError, PATCH_FAILED: JsonPatchError, TOO_DEEP: TooDeep}
 
 
 def _check(status, error):
@@ -121,25 +120,25 @@ def _check(status, error):
 class _Buffer:
     """A buffer for results, which grows."""
 
+    __slots__ = "bytes", "at_bytes", "size", "length", "at_length", "error", "at_error"
+
     def __init__(self, size=512):
-        self.length = ctypes.c_size_t()
-        self.at_length = ctypes.byref(self.length)
-        self.error = _Error()
-        self.at_error = ctypes.byref(self.error)
+        self.length, self.error = _size(), _Error()
+        self.at_length, self.at_error = _at(self.length), _at(self.error)
         self.grow(size)
 
     def grow(self, size):
-        self.size = size
-        self.bytes = ctypes.create_string_buffer(size)
-        self.address = ctypes.addressof(self.bytes)
+        """Replaces the buffer by one of so many bytes."""
+        self.size, self.bytes = _size(size), ctypes.create_string_buffer(size)
+        self.at_bytes = _at(self.bytes)
 
     def fill(self, call, *arguments):
         """Calls a function that copies a result to the buffer, and returns the result."""
-        status = call(*arguments, self.address, self.size, self.at_length, self.at_error)
+        status = call(*arguments, self.at_bytes, self.size, self.at_length, self.at_error)
         if status:
             if status == NO_ROOM:
-                self.grow(max(self.length.value, 2 * self.size))
-                status = call(*arguments, self.address, self.size, self.at_length, self.at_error)
+                self.grow(max(self.length.value, 2 * self.size.value))
+                status = call(*arguments, self.at_bytes, self.size, self.at_length, self.at_error)
             if status:
                 _check(status, self.error)
         return self.bytes[:self.length.value]
@@ -147,14 +146,24 @@ class _Buffer:
 
 def _message(error):
     """Returns the message of an error."""
-    length, out = ctypes.c_size_t(), ctypes.create_string_buffer(1024)
-    _lib.jsonptr_error_message(ctypes.byref(error), out, 1024, ctypes.byref(length))
+    length, out = _size(), ctypes.create_string_buffer(1024)
+    _error_message(_at(error), out, _size(1024), _at(length))
     return out.raw[:length.value].decode()
 
 
 def _bytes(text):
     """Returns the UTF-8 of a string, and bytes as they are."""
-    return text.encode() if isinstance(text, str) else text
+    if isinstance(text, str):
+        return text.encode()
+    if isinstance(text, bytes):
+        return text
+    raise TypeError(f"a str or bytes is needed, not {type(text).__name__}")
+
+
+def _text(text):
+    """Returns the two arguments of a text: its bytes and their number."""
+    text = _bytes(text)
+    return text, _size(len(text))
 
 
 def _json(value):
@@ -164,21 +173,20 @@ def _json(value):
 
 def version():
     """Returns the version of the library."""
-    return _lib.jsonptr_version().decode()
+    return _version().decode()
 
 
 def tokens(pointer):
     """Returns the decoded tokens of a pointer."""
-    text, count, buffer = _bytes(pointer), ctypes.c_size_t(), _Buffer(64)
-    _check(_lib.jsonptr_pointer_count(text, len(text), ctypes.byref(count), buffer.at_error), buffer.error)
-    call = _lib.jsonptr_pointer_token
-    return [buffer.fill(call, text, len(text), position).decode() for position in range(count.value)]
+    text, count, buffer = _text(pointer), _size(), _Buffer(64)
+    _check(_count(*text, _at(count), buffer.at_error), buffer.error)
+    return [buffer.fill(_token, *text, _size(position)).decode() for position in range(count.value)]
 
 
 def escape(token):
     """Returns a token as it is written in a pointer."""
-    text = _bytes(token)
-    return _Buffer(len(text) + 16).fill(_lib.jsonptr_pointer_escape, text, len(text)).decode()
+    text = _text(token)
+    return _Buffer(len(text[0]) + 16).fill(_escape, *text).decode()
 
 
 def resolve(document, pointer):
@@ -196,8 +204,7 @@ def resolve_in_text(text, pointer):
 
     If both the text and the pointer are at fault, the error is the pointer's.
     """
-    text, pointer = _bytes(text), _bytes(pointer)
-    return _Buffer().fill(_in_text, text, len(text), pointer, len(pointer), 0)
+    return _Buffer().fill(_in_text, *_text(text), *_text(pointer), _COMPACT)
 
 
 class Document:
@@ -209,10 +216,10 @@ class Document:
     def __init__(self, text):
         self._lock = threading.Lock()
         self._handle = _Handle()
-        self._at = ctypes.byref(self._handle)
+        self._at = _at(self._handle)
         self._buffer = _Buffer()
-        text = _bytes(text)
-        self._call(_lib.jsonptr_document_parse, text, len(text))
+        self._size = _size()  # of the pointer that is passed
+        self._call(_parse, *_text(text))
 
     @classmethod
     def of(cls, value):
@@ -228,12 +235,11 @@ class Document:
 
     def get(self, pointer):
         """Returns the JSON text of the value that the pointer resolves to, as bytes."""
-        if pointer.__class__ is str:
-            pointer = pointer.encode()
-        buffer = self._buffer
+        pointer, size, buffer = _bytes(pointer), self._size, self._buffer
         with self._lock:
-            if _get(self._at, pointer, len(pointer), 0, buffer.address, buffer.size, buffer.at_length, buffer.at_error):
-                return buffer.fill(_get, self._at, pointer, len(pointer), 0)
+            size.value = len(pointer)
+            if _get(self._at, pointer, size, _COMPACT, buffer.at_bytes, buffer.size, buffer.at_length, buffer.at_error):
+                return buffer.fill(_get, self._at, pointer, size, _COMPACT)
             return buffer.bytes[:buffer.length.value]
 
     def resolve(self, pointer):
@@ -245,13 +251,12 @@ class Document:
 
         A string, number, boolean or null on the way is replaced by a new object or array.
         """
-        pointer, text = _bytes(pointer), _json(value)
-        self._call(_lib.jsonptr_document_assign, pointer, len(pointer), text, len(text))
+        self._call(_assign, *_text(pointer), *_text(_json(value)))
 
     def delete(self, pointer):
         """Deletes the value that the pointer resolves to, and returns whether there was one. "" leaves None."""
-        pointer, found = _bytes(pointer), ctypes.c_bool()
-        self._call(_lib.jsonptr_document_delete, pointer, len(pointer), ctypes.byref(found))
+        found = ctypes.c_bool()
+        self._call(_delete, *_text(pointer), _at(found))
         return found.value
 
     def apply(self, patch):
@@ -259,13 +264,12 @@ class Document:
 
         Unlike RFC 6902, a `test` fails if one of its values contains a float. `remove` of "" leaves None.
         """
-        text = patch.text if isinstance(patch, Patch) else Patch(patch).text
-        self._call(_lib.jsonptr_document_patch, text, len(text))
+        self._call(_patch, *_text(patch.text if isinstance(patch, Patch) else Patch(patch).text))
 
     def text(self, pretty=False):
         """Returns the JSON text of the document. A pretty text has no newline at its end."""
         with self._lock:
-            return self._buffer.fill(_get, self._at, b"", 0, PRETTY if pretty else 0).decode()
+            return self._buffer.fill(_get, self._at, b"", _size(0), _PRETTY if pretty else _COMPACT).decode()
 
     def value(self):
         """Returns the document as a Python value."""
@@ -279,7 +283,7 @@ class Document:
 
     __hash__ = None
 
-    def __del__(self, _free=_lib.jsonptr_document_free):
+    def __del__(self, _free=_free):
         if hasattr(self, "_at"):
             _free(self._at)
 
@@ -313,4 +317,4 @@ def make_patch(old, new):
         return Patch([])
     first, second = sorted((old, new), key=id)  # two threads take the two locks in one order
     with first._lock, second._lock:
-        return Patch(_Buffer().fill(_lib.jsonptr_document_diff, old._at, new._at, 0))
+        return Patch(_Buffer().fill(_diff, old._at, new._at, _COMPACT))

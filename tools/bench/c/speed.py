@@ -33,15 +33,20 @@ def shown(nanoseconds):
     return f"{nanoseconds:.3g} ns"
 
 
+def compile_c(built, text, work):
+    """Compiles times.c and writes the document into a folder, and returns the paths of both."""
+    program, file = os.path.join(work, "times"), os.path.join(work, "document.json")
+    with open(file, "w", encoding="utf-8") as written:
+        written.write(text)
+    subprocess.run([os.environ.get("CC", "cc"), "-std=c11", "-D_POSIX_C_SOURCE=200809L", "-O2", f"-I{built}/include",
+                    f"{HERE}/times.c", f"{built}/lib/libjsonptr.a", "-ljson-c", "-lcjson", "-o", program], check=True)
+    return program, file
+
+
 def time_c(built, text, rounds):
     """Compiles and runs times.c, and prints its table."""
     with tempfile.TemporaryDirectory() as work:
-        program, file = os.path.join(work, "times"), os.path.join(work, "document.json")
-        with open(file, "w", encoding="utf-8") as written:
-            written.write(text)
-        subprocess.run([os.environ.get("CC", "cc"), "-std=c11", "-D_POSIX_C_SOURCE=200809L", "-O2",
-                        f"-I{built}/include", f"{HERE}/times.c", f"{built}/lib/libjsonptr.a", "-ljson-c", "-lcjson",
-                        "-o", program], check=True)
+        program, file = compile_c(built, text, work)
         run = subprocess.run([program, file, str(rounds)], check=True, capture_output=True, encoding="utf-8")
     times = {}
     for line in run.stdout.splitlines():
@@ -112,4 +117,5 @@ def main():
     time_python(built, text, arguments.rounds)
 
 
-main()
+if __name__ == "__main__":
+    main()

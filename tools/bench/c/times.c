@@ -1,10 +1,11 @@
 /* Times calls of this library, of json-c and of cJSON on the same document, in one run. `speed.py` compiles and runs it.
  *
- *     times FILE ROUNDS
+ *     times FILE ROUNDS [CASE LIBRARY]
  *
  * FILE has a JSON document. Each line of the output is a case, the library, and the least time of all rounds in
- * nanoseconds. The libraries take turns in each round. Debian's cJSON comes without pointers and patches, so `walk` does what a
- * program with cJSON writes. json-c 0.16 has no patches: the same changes are made by its pointers. */
+ * nanoseconds. The libraries take turns in each round. With CASE and LIBRARY only that one is run, so that valgrind can
+ * count it. Debian's cJSON comes without pointers and patches, so `walk` does what a program with cJSON writes. json-c
+ * 0.16 has no patches: the same changes are made by its pointers. */
 #include "jsonptr.h"
 
 #include <cjson/cJSON.h>
@@ -223,7 +224,7 @@ static void read_file(const char *name) {
 
 int main(int argc, char **argv) {
     double least[CASES];
-    if (argc != 3) fail("usage: times FILE ROUNDS");
+    if (argc != 3 && argc != 5) fail("usage: times FILE ROUNDS [CASE LIBRARY]");
     // Memory that is freed stays with the process, so that no library waits for the system by chance.
     mallopt(M_TRIM_THRESHOLD, 1 << 30);
     mallopt(M_MMAP_THRESHOLD, 1 << 25);
@@ -239,6 +240,9 @@ int main(int argc, char **argv) {
     }
     for (int round = 0; round < atoi(argv[2]); round++) {
         for (size_t i = 0; i < CASES; i++) {
+            if (argc == 5 && (strcmp(cases[i].name, argv[3]) != 0 || strcmp(cases[i].library, argv[4]) != 0)) {
+                continue;
+            }
             pointer = cases[i].pointer;
             // A large request sorts the blocks that the case before has freed, which would be timed here.
             void *volatile block = malloc(1 << 20);
@@ -253,7 +257,9 @@ int main(int argc, char **argv) {
         }
     }
     for (size_t i = 0; i < CASES; i++) {
-        printf("%s\t%s\t%.1f\n", cases[i].name, cases[i].library, least[i]);
+        if (least[i] < 1e18) {
+            printf("%s\t%s\t%.1f\n", cases[i].name, cases[i].library, least[i]);
+        }
     }
     jsonptr_document_free(&ours);
     json_object_put(json_c);

@@ -195,6 +195,33 @@ def check_errors():
         report("no exception")
 
 
+def check_depth():
+    """Checks that a document that would nest too deep is an exception, and that it is left as it was."""
+    document = jsonptr.Document("[]")
+    for call in (lambda: document.assign("/0" * 100_000, 1),
+                 lambda: document.apply([{"op": "add", "path": "/0" * 10_001, "value": 1}])):
+        if outcome(call) != "TooDeep":
+            report("too deep", outcome(call))
+    if document.text() != "[]":
+        report("too deep", document.text()[:100])
+
+
+def check_arguments():
+    """Checks that an argument of another type is an exception, and never reaches the library."""
+
+    class Text(str):
+        pass
+
+    document = jsonptr.Document(Text('{"a": [7]}'))
+    if document.resolve(Text("/a/0")) != 7 or document.resolve(b"/a/0") != 7:
+        report("a text of a class of its own")
+    for wrong in (None, 5, ["/a"], bytearray(b"/a"), memoryview(b"/a")):
+        for call in (document.get, document.resolve, document.delete, jsonptr.tokens, jsonptr.escape, jsonptr.Document,
+                     lambda text: document.assign(text, 1), lambda text: jsonptr.resolve_in_text("{}", text)):
+            if outcome(lambda: call(wrong)) != "TypeError":
+                report("argument", wrong, outcome(lambda: call(wrong)))
+
+
 def check_threads():
     """Checks that threads may share a document: each reads its own member while others write theirs."""
     document = jsonptr.Document.of({str(number): "x" * (100 * number) for number in range(8)})
@@ -218,5 +245,7 @@ print(check_patches(), "patches and documents compared")
 print(check_differences_of_documents(), "pairs of documents compared")
 check_named()
 check_errors()
+check_depth()
+check_arguments()
 check_threads()
 sys.exit(failures > 0)
