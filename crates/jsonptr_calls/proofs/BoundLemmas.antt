@@ -1,14 +1,11 @@
 -- How deep a document nests after an assignment and a deletion.
-use Rattle.std.proofs.Common.{◌≡◌, ℕ, ◌+◌, ◌≤◌, List, length, Option, Bool, true, false, Some, option_map, Result, Ok, Err, IfOk, OnOk, sym, subst, arith}
+use Rattle.std.proofs.Common.{◌≡◌, ℕ, ◌+◌, ◌≤◌, List, length, Bool, true, false, Some, option_map, Result, Ok, Err, IfOk, OnOk, sym, subst, arith}
 use Rattle.serde_json.specs.Data.{Data, null, depth}
 use Rattle.serde_json.specs.Read.{max_depth, read}
 use Rattle.serde_json.specs.View.{view}
-use Rattle.serde_json.specs.declared.value.Value.{Value}
 use Rattle.serde_json.proofs.Nesting.{depth-read}
 use Rattle.jsonptr.specs.Json.{nodes, HasSortedKeys}
-use Rattle.jsonptr.specs.Text.{Text}
 use Rattle.jsonptr.proofs.Calling.{ascends_read}
-use Rattle.jsonptr_tree.specs.Content.{FindsContent}
 use Rattle.jsonptr_depth.specs.Nesting.{NestsWithin}
 use Rattle.jsonptr_depth.proofs.LevelLemmas.{NestsWithin-depth, depth-within}
 use Rattle.jsonptr_depth.proofs.NestingLemmas.{NestsWithin-more, Assigns-within, Deletes-within}

@@ -1,8 +1,7 @@
 -- How deep a document nests after the operations of a patch.
-use Rattle.std.proofs.Common.{◌≡◌, ℕ, zero, suc, ◌+◌, ◌-◌, ◌<◌, ◌≤◌, max, List, [], ◌∷◌, ◌++◌, length, slice_index_or, Option, Some, None, Ordering, Less, Equal, Greater, nat_cmp, All, ◌⊎◌, inl, inr, refl, sym, ap, ◌∙◌, subst, arith}
+use Rattle.std.proofs.Common.{◌≡◌, ℕ, zero, suc, ◌+◌, ◌-◌, ◌<◌, ◌≤◌, max, List, [], ◌∷◌, ◌++◌, length, slice_index_or, Option, Some, None, Ordering, Less, Equal, Greater, nat_cmp, All, inl, inr, sym, ap, ◌∙◌, subst, arith}
 use Rattle.std.specs.Ordering.{match_ordering}
 use Rattle.std.specs.Cmp.Lexicographic.{slice_cmp}
-use Rattle.std.specs.List.{sum_by}
 use Rattle.std.proofs.lemmas.List.{length-append}
 use Rattle.std.proofs.lemmas.List.Elements.{All-nil, All-cons, All-head, All-tail}
 use Rattle.std.proofs.lemmas.List.Sums.{sum_by-cons}
@@ -12,18 +11,16 @@ use Rattle.serde_json.specs.Read.{max_depth, read}
 use Rattle.serde_json.specs.View.{view}
 use Rattle.serde_json.proofs.Nesting.{depth-read}
 use Rattle.jsonptr.specs.Text.{Text}
-use Rattle.jsonptr.specs.Node.{key, place, Path, Label, an_object, an_array, a_leaf, NodeMap, sub, Names}
+use Rattle.jsonptr.specs.Node.{key, place, Path, Label, an_object, an_array, a_leaf, NodeMap, sub}
 use Rattle.jsonptr.specs.Following.{Finds}
-use Rattle.jsonptr.specs.Put.{put}
 use Rattle.jsonptr.specs.Json.{nodes, HasSortedKeys}
-use Rattle.jsonptr.specs.Resolve.{PutsAt}
 use Rattle.jsonptr_tree.proofs.NodeLemmas.{Names-length}
 use Rattle.jsonptr_depth.specs.Nesting.{IsContainer, NestsWithin}
 use Rattle.jsonptr_depth.proofs.LevelLemmas.{NestsWithin-depth, depth-within}
 use Rattle.jsonptr_depth.proofs.NestingLemmas.{NestsWithin-more, NestsWithin-sub, NestsWithin-put, Names-within, Finds-within, Deletes-within}
-use Rattle.jsonptr_patch.specs.Adding.{Adds, AddsUnder, AddsBelow, MeansPlace}
+use Rattle.jsonptr_patch.specs.Adding.{Adds, AddsUnder}
 use Rattle.jsonptr_patch.specs.Inserting.{one_more, place_of_old, below_element, with_place}
-use Rattle.jsonptr_patch.specs.Operating.{Applies, Copies, Moves, Takes}
+use Rattle.jsonptr_patch.specs.Operating.{Applies, Takes}
 use Rattle.jsonptr_patch.specs.Order.{OperationHasSortedKeys}
 use Rattle.jsonptr_patch.specs.Patching.{Patches}
 use Rattle.jsonptr_patch.specs.declared.operation.Operation.{Operation}
@@ -31,7 +28,7 @@ use Rattle.jsonptr_patch.specs.declared.operation.Operation.TheVariants.{Add, Re
 use Rattle.jsonptr_patch_document.specs.Object.{name_of, IsOperationObject}
 use Rattle.jsonptr_patch_document.specs.Document.{AreOperations, IsPatch}
 use Rattle.jsonptr_patch_document.specs.declared.member.Member.TheVariants.{Value}
-use Rattle.jsonptr_calls.specs.Depths.{max_levels, IsParsed, IsBounded, AddsParsed, level_of, descent_of, descent, StaysShallow}
+use Rattle.jsonptr_calls.specs.Depths.{max_levels, IsBounded, AddsParsed, level_of, descent_of, descent, StaysShallow}
 
 -- insertion into an array
 
@@ -59,9 +56,9 @@ AddsUnder-within k j n w (Some an_object) x v m made h below le =
     subst (NestsWithin k) (sym made) (NestsWithin-put k j n (w ++ key x ∷ []) v h below (omega (arith, len, le)))
 AddsUnder-within k j n w (Some (an_array len)) x v m made h below le =
     subst (NestsWithin k) (sym made.2)
-        (NestsWithin-put k (k - length w) n w (with_place made.0 v (sub n w)) h
-            (with_place-within (k - length w) j (sub n w) v made.0 (NestsWithin-sub k n w h) below (omega (arith, le)))
-            (omega (arith, le)))
+    (NestsWithin-put k (k - length w) n w (with_place made.0 v (sub n w)) h
+    (with_place-within (k - length w) j (sub n w) v made.0 (NestsWithin-sub k n w h) below (omega (arith, le)))
+    (omega (arith, le)))
 AddsUnder-within k j n w (Some (a_leaf a)) x v m made h below le = absurd made
 
 Adds-within : (k j : ℕ) (n : NodeMap) (tokens : List Text) (v m : NodeMap) → Adds n tokens v m → NestsWithin k n → NestsWithin j v → length tokens + j ≤ k → NestsWithin k m
@@ -83,9 +80,9 @@ lower-within : (k : ℕ) (n left : NodeMap) (from path : List Text) (v m : NodeM
 lower-within k n left from path v m found added h rest =
     let within : length from ≤ k = Names-within k n from found.path h found.named in
     Adds-within (k + (length path - length from)) (k - length from) left path v m added
-        (NestsWithin-more k (k + (length path - length from)) left (omega arith) rest)
-        (Finds-within k n from v h found)
-        (omega (arith, within))
+    (NestsWithin-more k (k + (length path - length from)) left (omega arith) rest)
+    (Finds-within k n from v h found)
+    (omega (arith, within))
 
 Takes-within : (k : ℕ) (n : NodeMap) (tokens : List Text) (v m : NodeMap) → Takes n tokens v m → NestsWithin k n → NestsWithin k m
 Takes-within k n tokens v m taken h = Deletes-within k n tokens (nodes null) m taken.found.path taken.left taken.found.named h (null-within k)
@@ -94,14 +91,14 @@ Applies-within : (k : ℕ) (n : NodeMap) (o : Operation) (m : NodeMap) → Appli
 Applies-within k n (Add path value) m applied h parsed le =
     let value_depth : depth (view value) ≤ max_depth = parsed.1 in
     NestsWithin-more k (k + 0) m (omega arith)
-        (Adds-within k (depth (view value)) n path (nodes (view value)) m applied h (NestsWithin-depth (view value)) (omega (arith, value_depth, le)))
+    (Adds-within k (depth (view value)) n path (nodes (view value)) m applied h (NestsWithin-depth (view value)) (omega (arith, value_depth, le)))
 Applies-within k n (Remove path) m applied h parsed le =
     NestsWithin-more k (k + 0) m (omega arith) (Takes-within k n path applied.0 m applied.1 h)
 Applies-within k n (Replace path value) m applied h parsed le =
     let value_depth : depth (view value) ≤ max_depth = parsed.1 in
     let len : length path ≡ length applied.path = Names-length n path applied.path applied.named in
     NestsWithin-more k (k + 0) m (omega arith)
-        (subst (NestsWithin k) (sym applied.made) (NestsWithin-put k (depth (view value)) n applied.path (nodes (view value)) h (NestsWithin-depth (view value)) (omega (arith, value_depth, le, len))))
+    (subst (NestsWithin k) (sym applied.made) (NestsWithin-put k (depth (view value)) n applied.path (nodes (view value)) h (NestsWithin-depth (view value)) (omega (arith, value_depth, le, len))))
 Applies-within k n (Move from path) m applied h parsed le =
     lower-within k n applied.left from path applied.node m applied.taken.found applied.added h (Takes-within k n from applied.node applied.left applied.taken h)
 Applies-within k n (Copy from path) m applied h parsed le =
@@ -182,8 +179,8 @@ operations_parsed no_items (o ∷ os) are low sorted = absurd are
 operations_parsed (item d ds) [] are low sorted = All-nil AddsParsed
 operations_parsed (item d ds) (o ∷ os) are low sorted =
     All-cons AddsParsed o os
-        (operation_parsed d o are.0 (omega (arith, low)) (All-head OperationHasSortedKeys o os sorted))
-        (operations_parsed ds os are.1 (omega (arith, low)) (All-tail OperationHasSortedKeys o os sorted))
+    (operation_parsed d o are.0 (omega (arith, low)) (All-head OperationHasSortedKeys o os sorted))
+    (operations_parsed ds os are.1 (omega (arith, low)) (All-tail OperationHasSortedKeys o os sorted))
 
 pub patch_parsed : (text : List ℕ) (d : Data) (os : List Operation) → read text ≡ Some d → IsPatch d os → All OperationHasSortedKeys os → All AddsParsed os
 patch_parsed text d os is patch sorted =

@@ -132,37 +132,48 @@ static void c_json_read(void) {
 
 /* ---- Patches: `count` names are replaced ---- */
 
-static void ours_patch(int count) {
-    char patch[2048] = "[";
-    size_t length = 1;
-    for (int i = 0; i < count; i++) {
-        length += (size_t)snprintf(patch + length, sizeof patch - length,
-                                   "%s{\"op\":\"replace\",\"path\":\"%s\",\"value\":\"name %u\"}", i ? "," : "", paths[i],
-                                   round_number % 10);
+#define VALUES 10
+
+static char values[VALUES][32];         /* JSON texts of strings */
+static char patches[2][VALUES][2048];   /* for each of them, a patch of one operation, and one of all paths */
+
+/* Writes the texts before anything is timed. */
+static void write_patches(void) {
+    for (unsigned value = 0; value < VALUES; value++) {
+        snprintf(values[value], sizeof values[value], "\"name %u\"", value);
+        for (int all = 0; all < 2; all++) {
+            char *patch = patches[all][value];
+            size_t length = (size_t)sprintf(patch, "[");
+            for (int i = 0; i < (all ? PATHS : 1); i++) {
+                length += (size_t)sprintf(patch + length, "%s{\"op\":\"replace\",\"path\":\"%s\",\"value\":%s}",
+                                          i ? "," : "", paths[i], values[value]);
+            }
+            strcpy(patch + length, "]");
+        }
     }
-    patch[length++] = ']';
-    if (jsonptr_document_patch(&ours, patch, length, NULL)) fail("jsonptr: patch");
+}
+
+static void ours_patch(int count) {
+    const char *patch = patches[count > 1][round_number % VALUES];
+    if (jsonptr_document_patch(&ours, patch, strlen(patch), NULL)) fail("jsonptr: patch");
 }
 
 static void json_c_patch(int count) {
     for (int i = 0; i < count; i++) {
-        char value[32];
         struct json_object *old;
-        snprintf(value, sizeof value, "\"name %u\"", round_number % 10);
         if (json_pointer_get(json_c, paths[i], &old)
-            || json_pointer_set(&json_c, paths[i], json_tokener_parse(value))) fail("json-c: patch");
+            || json_pointer_set(&json_c, paths[i], json_tokener_parse(values[round_number % VALUES]))) fail("json-c: patch");
     }
 }
 
 static void c_json_patch(int count) {
     for (int i = 0; i < count; i++) {
-        char value[32], parent[64];
+        char parent[64];
         strcpy(parent, paths[i]);
         char *key = strrchr(parent, '/');
         *key = '\0';
-        snprintf(value, sizeof value, "\"name %u\"", round_number % 10);
         cJSON *at = walk(c_json, parent);
-        if (!cJSON_ReplaceItemInObjectCaseSensitive(at, key + 1, cJSON_Parse(value))) fail("cJSON: patch");
+        if (!cJSON_ReplaceItemInObjectCaseSensitive(at, key + 1, cJSON_Parse(values[round_number % VALUES]))) fail("cJSON: patch");
     }
 }
 
@@ -235,6 +246,7 @@ int main(int argc, char **argv) {
     for (int i = 0; i < PATHS; i++) {
         snprintf(paths[i], sizeof paths[i], "/items/%d/name", 999 + i * 1000);
     }
+    write_patches();
     for (size_t i = 0; i < CASES; i++) {
         least[i] = 1e18;
     }

@@ -196,7 +196,7 @@ def check_errors():
 
 
 def check_depth():
-    """Checks that a document that would nest too deep is an exception, and that it is left as it was."""
+    """Checks that a document that would nest too deep is an exception, and that it is unchanged."""
     document = jsonptr.Document("[]")
     for call in (lambda: document.assign("/0" * 100_000, 1),
                  lambda: document.apply([{"op": "add", "path": "/0" * 10_001, "value": 1}])):

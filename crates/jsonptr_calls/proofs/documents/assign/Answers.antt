@@ -9,6 +9,11 @@ returns-clause-bounded c =
     let held : Holds c.args.document.now c.deref_mut.result.now = subst (Holds c.args.document.now) (sym c.deref_mut.ensures.value) c.in-Some.ensures.taken in
     let parsed = c.in_ok-assigned.ensures.parsed in
     if_ok c.assign-outcome.result _ _ _
-        (λ done made sorted. (c.deref_mut.result.now, _, held, c.put.ensures,
-            λ bounded. bounded-assign _ c.args.pointer.now (view c.in_ok-assigned.assigned) _ made parsed bounded (sorted parsed.0 bounded.0)))
-        c.assign-outcome.ensures.assigned c.assign-outcome.ensures.sorted
+    (λ done made sorted. (
+      c.deref_mut.result.now,
+      _,
+      held,
+      c.put.ensures,
+      λ bounded. bounded-assign _ c.args.pointer.now (view c.in_ok-assigned.assigned) _ made parsed bounded (sorted parsed.0 bounded.0),
+    ))
+    c.assign-outcome.ensures.assigned c.assign-outcome.ensures.sorted

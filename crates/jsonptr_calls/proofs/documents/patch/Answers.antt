@@ -1,5 +1,4 @@
 use Rattle.std.proofs.Common.{sym, subst}
-use Rattle.serde_json.specs.View.{view}
 use Rattle.jsonptr_handle.specs.Document.{Holds}
 use Rattle.jsonptr_calls.proofs.BoundLemmas.{if_ok_three}
 use Rattle.jsonptr_calls.proofs.NestingLemmas.{all_sorted, bounded-patch}
@@ -11,6 +10,11 @@ returns-clause-bounded c =
     let operations = c.in_ok-operations.operations.items in
     let parsed = c.in_ok-operations.ensures.parsed in
     if_ok_three c.apply_all-outcome.result _ _ _ _
-        (λ done applied sorted shallow. (c.deref_mut.result.now, _, held, c.put.ensures,
-            λ bounded. bounded-patch _ _ operations applied shallow parsed bounded (sorted (all_sorted operations parsed) bounded.0)))
-        c.apply_all-outcome.ensures.applied c.apply_all-outcome.ensures.sorted c.apply_all-outcome.ensures.shallow
+    (λ done applied sorted shallow. (
+      c.deref_mut.result.now,
+      _,
+      held,
+      c.put.ensures,
+      λ bounded. bounded-patch _ _ operations applied shallow parsed bounded (sorted (all_sorted operations parsed) bounded.0),
+    ))
+    c.apply_all-outcome.ensures.applied c.apply_all-outcome.ensures.sorted c.apply_all-outcome.ensures.shallow
