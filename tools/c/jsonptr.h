@@ -457,12 +457,13 @@ jsonptr_status jsonptr_document_delete(jsonptr_document *document,
  * Returns   JSONPTR_OK, JSONPTR_NOT_UTF8 with offset, JSONPTR_NOT_JSON with
  *           offset, JSONPTR_NOT_PATCH with kind, operation and member, and of a
  *           bad escape with slash and offset, JSONPTR_NO_DOCUMENT,
- *           JSONPTR_TOO_DEEP (see below),
+ *           JSONPTR_TOO_DEEP (see above),
  *           JSONPTR_PATCH_FAILED with kind and operation, and with position,
  *           slash and offset if a pointer is at fault, JSONPTR_NO_MEMORY.
  *           An error leaves the document as it was before the first operation.
  * error     may be NULL.
- * Cost      linear in the text and in what the operations change. */
+ * Cost      linear in the text and in what the operations change, and in the
+ *           document if `down` is not 0. */
 jsonptr_status jsonptr_document_patch(jsonptr_document *document,
                                       const char *text, size_t text_length,
                                       jsonptr_error *error);
