@@ -104,6 +104,13 @@ def on_paths():
     message = "assign failed: json pointer token at offset 0 is out of bounds"
     yield Case(("from-paths",), "\t[]\n/1\t1\n", "", f"jp: standard input: line 2: {message}\n", 1)
     yield Case(("paths",), "{", "", "jp: standard input: not JSON: EOF while parsing at line 1 column 1\n", 3)
+    table = "[a]\nat = 1979-05-27\nb = [1.0, 'x\"y']\n[c]\ns = \"1\\n2\"\n"
+    yield Case(("paths", "--toml"), table, "/a/at\t1979-05-27\n/a/b/0\t1.0\n/a/b/1\t'x\"y'\n/c/s\t\"1\\n2\"\n")
+    yield Case(("get", "--toml", "/a/b/1"), table, "'x\"y'\n")
+    nodes = "\t{}\n/a\t[]\n/a/0\t{}\n/a/0/b\t-inf\n"
+    yield Case(("paths", "--toml", "--all"), "[[a]]\nb = -inf\n", nodes)
+    yield Case(("paths", "--toml"), "", "\t{}\n")
+    yield Case(("paths", "--toml"), "a = ", "", "jp: standard input: not TOML\n", 3)
 
 
 def failing():

@@ -15,7 +15,7 @@ import tempfile
 from multiprocessing import Process
 from typing import NamedTuple
 
-from in_text import make, run
+from in_text import SHAPES, make, run
 
 
 class Row(NamedTuple):
@@ -46,7 +46,7 @@ def lines(path):
 
 def records(count):
     """Returns what writes an array of records."""
-    return lambda path: make("records", count, path)
+    return lambda path: make(SHAPES["records"].document, count, path)
 
 
 ROWS = [

@@ -14,7 +14,7 @@ _jp() {
     case $command in
         get) words="--toml --raw --pretty --compact --default --lines --strict --help" ;;
         set | delete) words="--toml --reformat --pretty --compact --in-place --lines --strict --help" ;;
-        paths) words="--all --help" ;;
+        paths) words="--toml --all --help" ;;
         from-paths) words="--pretty --compact --help" ;;
         patch) words="--check --pretty --compact --in-place --lines --strict --help" ;;
         diff) words="--pretty --compact --help" ;;

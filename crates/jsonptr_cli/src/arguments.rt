@@ -68,10 +68,13 @@ fn delete<'a>(alloc: Global) -> Result<Command<'a>, AllocError> {
 /// Returns the command `paths`.
 fn paths<'a>(alloc: Global) -> Result<Command<'a>, AllocError> {
     Command::new(alloc, "paths")
-        .about("Prints a line for each leaf: its pointer, a tab, and its value as JSON")
+        .about("Prints a line for each leaf: its pointer, a tab, and its value")
         .arg(file(alloc))?
         .arg(
             arg!(in alloc; --all "Prints a line for each node, from which from-paths makes the document"),
+        )?
+        .arg(
+            arg!(in alloc; --toml "Takes TOML, as for a file whose name ends in .toml, and prints TOML values"),
         )
 }
 

@@ -4,6 +4,7 @@ use crate::input::{name_of, open};
 use crate::output::Output;
 use crate::problem::Problem;
 use crate::task::layout_of;
+use crate::toml_file::{self, is_toml};
 use clap::ArgMatches;
 use jsonptr_filter::failure::Failure;
 use jsonptr_filter::paths::{run_build, run_list};
@@ -18,6 +19,9 @@ pub fn paths(rt: &HostRuntime, matches: &ArgMatches<'_>) -> Result<u8, Problem> 
     } else {
         Listed::Leaves
     };
+    if is_toml(matches) {
+        return toml_file::paths(rt, file, which);
+    }
     let mut input = open(rt, file)?;
     let mut output = Output::new(rt);
     let mut bytes = Vec::new(alloc);

@@ -7,7 +7,8 @@ use crate::problem::{FILE, NOT_APPLIED, NOT_JSON, Problem, USAGE};
 use clap::ArgMatches;
 use jsonptr::diagnostic::Diagnostic;
 use jsonptr::{Pointer, PointerBuf};
-use jsonptr_in_toml::{InTomlError, assign_in_toml, delete_in_toml, find_in_toml};
+use jsonptr_in_toml::{InTomlError, assign_in_toml, delete_in_toml, find_in_toml, list_in_toml};
+use jsonptr_paths::listing::Listed;
 use simdutf8::basic::from_utf8;
 use std::alloc::{AllocError, Global};
 use toml::Value;
@@ -75,6 +76,19 @@ pub fn delete(
     match delete_in_toml(alloc, text.as_str(), pointer) {
         Ok(new) => put(rt, matches, text.as_str(), new.as_str()),
         Err(error) => Err(problem(alloc, file, pointer, error)),
+    }
+}
+
+/// Prints a line for each leaf of a document, or for each node.
+pub fn paths(rt: &HostRuntime, file: Option<&str>, which: Listed) -> Result<u8, Problem> {
+    let alloc = rt.alloc();
+    let text = read_text(rt, file)?;
+    match list_in_toml(alloc, text.as_str(), which) {
+        Ok(lines) => {
+            print_text(rt, lines.as_str())?;
+            Ok(0)
+        }
+        Err(error) => Err(problem(alloc, file, Pointer::root(), error)),
     }
 }
 
