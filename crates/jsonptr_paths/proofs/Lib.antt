@@ -2,5 +2,6 @@
 pub mod WalkingLemmas
 mod VisitingLemmas
 mod ListingLemmas
+mod ElementsLemmas
 mod TomlListingLemmas
 mod ReadingLemmas

@@ -5,4 +5,5 @@ pub mod TomlListing
 pub mod Reading
 pub mod PrivateWalking
 pub mod PrivateListing
+pub mod PrivateElements
 pub mod PrivateReading

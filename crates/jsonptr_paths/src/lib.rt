@@ -23,6 +23,7 @@
 
 pub mod listing;
 pub mod reading;
+pub mod text_listing;
 pub mod toml_listing;
 mod toml_walk;
 pub mod walk;

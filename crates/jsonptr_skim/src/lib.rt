@@ -7,7 +7,7 @@
 mod copy;
 pub mod find;
 pub mod outcome;
-mod read;
+pub mod read;
 pub mod scalar;
 pub mod selector;
 pub mod skip;
