@@ -1,5 +1,8 @@
 //! A document as lines, one for each node, and a document from such lines.
-ghost use Rattle.std.specs.Prelude.{IfOk, IfErr, string_bytes};
+ghost use Rattle.std.specs.Prelude.{◌≡◌, Some, IfOk, IfErr, string_bytes};
+ghost use Rattle.std.specs.Str.{IsUtf8};
+ghost use Rattle.serde_json.specs.Read.{read};
+ghost use Rattle.serde_json.specs.View.{view};
 ghost use Rattle.jsonptr_filter.specs.Paths.{ListsText, FailsToList, BuildsText, FailsToBuild, PutsText, StopsText};
 
 use crate::document::{put_all, read_all};
@@ -8,6 +11,7 @@ use crate::failure::Failure;
 use crate::layout::{Layout, show};
 use jsonptr_paths::listing::{Listed, list};
 use jsonptr_paths::reading::build;
+use serde_json::Value;
 use simdutf8::basic::from_utf8;
 use std::alloc::Global;
 use std::io;
@@ -29,11 +33,19 @@ pub fn listed_text(alloc: Global, which: Listed, bytes: &[u8]) -> Result<String,
     ensures done { IfOk result (λ s. ListsText which bytes.now (string_bytes s)) }
     ensures failed { IfErr result (FailsToList bytes.now) }
 {
-    let Ok(text) = from_utf8(bytes) else {
-        return Err(Failure::NotJson);
-    };
-    let document = read_text(alloc, text)?;
+    let document = document_of(alloc, bytes)?;
     Ok(list(alloc, &document, which)?)
+}
+
+/// Reads the document that the bytes are.
+fn document_of(alloc: Global, bytes: &[u8]) -> Result<Value, Failure>
+    ensures done { IfOk result (λ v. IsUtf8 bytes.now × (read bytes.now ≡ Some (view v))) }
+    ensures failed { IfErr result (FailsToList bytes.now) }
+{
+    match from_utf8(bytes) {
+        Ok(text) => read_text(alloc, text),
+        Err(_) => Err(Failure::NotJson),
+    }
 }
 
 /// Returns the text of the document that the lines build, in this layout and with a line break at
@@ -66,8 +78,8 @@ pub fn built_text(alloc: Global, layout: Layout, bytes: &[u8]) -> Result<String,
 
 /// Reads the input to its end, and writes the lines for the nodes of its document.
 ///
-/// The bytes of the input are left in `bytes`, so that the caller can say more about an error. What
-/// `bytes` had before is removed.
+/// If the input is not JSON, its bytes are left in `bytes`, so that the caller can say more about the
+/// error. Otherwise they are dropped once the document is read. What `bytes` had before is removed.
 ///
 /// # Errors
 ///
@@ -96,7 +108,9 @@ pub fn run_list<R: io::Read, W: io::Write>(
         (W.contents output.old) (W.contents output.new)) }
 {
     read_all(input, bytes)?;
-    let lines = listed_text(alloc, which, bytes)?;
+    let document = document_of(alloc, bytes)?;
+    *bytes = Vec::new(alloc);
+    let lines = list(alloc, &document, which)?;
     put_all(output, lines.as_str())
 }
 
