@@ -78,9 +78,9 @@ elements_more {S} visits ds e at s m t leads a b = record {
     found : (rest : Items) → FindsContent (content (array (all rest))) at (inside e)
     found rest = subst (λ (ts : List Text). FindsContent (content (array (all rest))) ts (inside e)) (sym leads)
         (finds_child (content (array (all rest))) (content (array (all rest))) (inside e) [] (dec (length ds)) (place (length ds))
-            (record { path = []; named = refl; there = refl })
-            (inside_all ds (view e) rest, refl)
-            (there rest))
+        (record { path = []; named = refl; there = refl })
+        (inside_all ds (view e) rest, refl)
+        (there rest))
 
     visited : (rest : Items) → VisitsAll visits (λ ts u. FindsContent (content (array (all rest))) ts (inside u)) (a.lists ++ b.lists) s t
     visited rest = visits_both visits (λ ts u. FindsContent (content (array (all rest))) ts (inside u)) a.lists b.lists s m t (a.visited (item (view e) rest)) (b.visited (content (array (all rest))) (found rest))

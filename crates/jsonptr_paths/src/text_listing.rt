@@ -70,11 +70,7 @@ fn list_value(alloc: Global, text: &str, which: Listed) -> Result<String, ReadEr
 }
 
 /// Returns the lines of an array that is the document, and reads the rest of it.
-fn list_elements(
-    alloc: Global,
-    reader: &mut Reader<'_>,
-    which: Listed,
-) -> Result<String, ReadError>
+fn list_elements(alloc: Global, reader: &mut Reader<'_>, which: Listed) -> Result<String, ReadError>
     requires few { length reader.old < 2 ^ 64 }
     ensures ok { IfOk result (λ s. (ds : Items) × ReadsItems 126 reader.old ds reader.new
         × Lists which (array ds) (string_bytes s)) }
@@ -106,7 +102,12 @@ fn root_line(alloc: Global, which: Listed) -> Result<String, AllocError>
     let mut out = String::new(alloc);
     match which {
         Listed::AllNodes => {
-            push_value(alloc, &mut out, Pointer::root(), &Value::Array(Vec::new(alloc)))?;
+            push_value(
+                alloc,
+                &mut out,
+                Pointer::root(),
+                &Value::Array(Vec::new(alloc)),
+            )?;
         }
         Listed::Leaves => {}
     }
