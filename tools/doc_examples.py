@@ -71,6 +71,7 @@ IMPORTS = {
     "jsonptr_patch_document": "Member PatchDocumentError read_patch write_patch",
     "jsonptr_paths::listing": "Listed list",
     "jsonptr_paths::reading": "build",
+    "jsonptr_paths::text_listing": "list_text",
     "jsonptr_paths::toml_listing": "list_toml",
     "jsonptr_paths::walk": "pointers",
     "jsonptr_session": "Call Reply run_json run_json_with run_toml run_toml_with",

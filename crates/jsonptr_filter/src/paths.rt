@@ -1,23 +1,20 @@
 //! A document as lines, one for each node, and a document from such lines.
-ghost use Rattle.std.specs.Prelude.{◌≡◌, Some, IfOk, IfErr, string_bytes};
-ghost use Rattle.std.specs.Str.{IsUtf8};
-ghost use Rattle.serde_json.specs.Read.{read};
-ghost use Rattle.serde_json.specs.View.{view};
+ghost use Rattle.std.specs.Prelude.{IfOk, IfErr, string_bytes};
 ghost use Rattle.jsonptr_filter.specs.Paths.{ListsText, FailsToList, BuildsText, FailsToBuild, PutsText, StopsText};
 
 use crate::document::{put_all, read_all};
-use crate::edit::read_text;
 use crate::failure::Failure;
 use crate::layout::{Layout, show};
-use jsonptr_paths::listing::{Listed, list};
+use jsonptr_paths::listing::Listed;
 use jsonptr_paths::reading::build;
-use serde_json::Value;
+use jsonptr_paths::text_listing::list_text;
+use jsonptr_skim::outcome::ReadError;
 use simdutf8::basic::from_utf8;
-use std::alloc::Global;
+use std::alloc::{AllocError, Global};
 use std::io;
 
-/// Returns the lines for the nodes of the document that the bytes are, as `list` of `jsonptr_paths`
-/// does.
+/// Returns the lines for the nodes of the document that the bytes are, as `list_text` of
+/// `jsonptr_paths` does.
 ///
 /// # Errors
 ///
@@ -33,18 +30,13 @@ pub fn listed_text(alloc: Global, which: Listed, bytes: &[u8]) -> Result<String,
     ensures done { IfOk result (λ s. ListsText which bytes.now (string_bytes s)) }
     ensures failed { IfErr result (FailsToList bytes.now) }
 {
-    let document = document_of(alloc, bytes)?;
-    Ok(list(alloc, &document, which)?)
-}
-
-/// Reads the document that the bytes are.
-fn document_of(alloc: Global, bytes: &[u8]) -> Result<Value, Failure>
-    ensures done { IfOk result (λ v. IsUtf8 bytes.now × (read bytes.now ≡ Some (view v))) }
-    ensures failed { IfErr result (FailsToList bytes.now) }
-{
-    match from_utf8(bytes) {
-        Ok(text) => read_text(alloc, text),
-        Err(_) => Err(Failure::NotJson),
+    let Ok(text) = from_utf8(bytes) else {
+        return Err(Failure::NotJson);
+    };
+    match list_text(alloc, text, which) {
+        Ok(lines) => Ok(lines),
+        Err(ReadError::NotJson) => Err(Failure::NotJson),
+        Err(ReadError::Memory) => Err(Failure::Memory(AllocError)),
     }
 }
 
@@ -78,8 +70,8 @@ pub fn built_text(alloc: Global, layout: Layout, bytes: &[u8]) -> Result<String,
 
 /// Reads the input to its end, and writes the lines for the nodes of its document.
 ///
-/// If the input is not JSON, its bytes are left in `bytes`, so that the caller can say more about the
-/// error. Otherwise they are dropped once the document is read. What `bytes` had before is removed.
+/// The bytes of the input are left in `bytes`, so that the caller can say more about an error. What
+/// `bytes` had before is removed.
 ///
 /// # Errors
 ///
@@ -108,9 +100,7 @@ pub fn run_list<R: io::Read, W: io::Write>(
         (W.contents output.old) (W.contents output.new)) }
 {
     read_all(input, bytes)?;
-    let document = document_of(alloc, bytes)?;
-    *bytes = Vec::new(alloc);
-    let lines = list(alloc, &document, which)?;
+    let lines = listed_text(alloc, which, bytes)?;
     put_all(output, lines.as_str())
 }
 

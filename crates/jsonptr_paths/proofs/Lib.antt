@@ -2,6 +2,7 @@
 pub mod WalkingLemmas
 mod VisitingLemmas
 mod ListingLemmas
+mod ElementsLemmas
 mod TomlListingLemmas
 mod ReadingLemmas
 mod OrderLemmas

@@ -30,7 +30,7 @@ line_made p short o o1 o2 o3 o4 f tab value break = (f.0 ++ 9 ∷ (short ++ 10 �
         ∙ simp append_assoc
 
 -- the lines that are appended at the visited nodes
-shows : {S : Type 0} (which : S → Listed) (out : S → Text) (d : Data) (lists : List (List Text)) (s t : S)
+pub shows : {S : Type 0} (which : S → Listed) (out : S → Text) (d : Data) (lists : List (List Text)) (s t : S)
     → VisitsAll (λ a ts (v : Value) b. (which b ≡ which a) × ((one : Text) × IsShown (which a) (text ts) (view v) one × (out b ≡ out a ++ one))) (λ ts u. FindsContent (content d) ts (inside u)) lists s t
     → (lines : Text) × AreShown (which s) d lists lines × (out t ≡ out s ++ lines)
 shows which out d [] s t h = ([], refl, ap out h ∙ sym (append-nil (out s)))

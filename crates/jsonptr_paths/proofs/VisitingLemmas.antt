@@ -10,16 +10,16 @@ use Rattle.jsonptr.specs.Text.{Text, dec}
 use Rattle.jsonptr.specs.Node.{Step, key, place, Path, Label, an_object, an_array, a_leaf, NodeMap, NamesStep}
 use Rattle.jsonptr.proofs.Calling.{map_of-IsTree}
 use Rattle.jsonptr_paths.specs.Walking.{Before, IsWalk}
-use Rattle.jsonptr_paths.specs.PrivateWalking.{token_of, AddsPointers, Whole, Below, VisitsAll, Walks}
-use Rattle.jsonptr_paths.proofs.WalkingLemmas.{EntryOf, InFirst, Under, adds_part, adds_none, adds_same, adds_root, leaf_below, in_none, in_more, in_cases, in_before, in_below, below_in, key_last, under_none, under_more, under_cases, under_before, under_below, below_under, entry_there, walk_whole}
+use Rattle.jsonptr_paths.specs.PrivateWalking.{token_of, AddsPointers, Whole, Below, VisitsAll, Walks, InFirst}
+use Rattle.jsonptr_paths.proofs.WalkingLemmas.{EntryOf, Under, adds_part, adds_none, adds_same, adds_root, leaf_below, in_none, in_more, in_cases, in_before, in_below, below_in, key_last, under_none, under_more, under_cases, under_before, under_below, below_under, entry_there, walk_whole}
 
 -- some nodes, and then others
-visits_both : {S V : Type 0} (visits : S → List Text → V → S → Type 0) (finds : List Text → V → Type 0) (xs ys : List (List Text)) (s t u : S) → VisitsAll visits finds xs s t → VisitsAll visits finds ys t u → VisitsAll visits finds (xs ++ ys) s u
+pub visits_both : {S V : Type 0} (visits : S → List Text → V → S → Type 0) (finds : List Text → V → Type 0) (xs ys : List (List Text)) (s t u : S) → VisitsAll visits finds xs s t → VisitsAll visits finds ys t u → VisitsAll visits finds (xs ++ ys) s u
 visits_both visits finds [] ys s t u h k = subst (λ x. VisitsAll visits finds ys x u) h k
 visits_both visits finds (x ∷ xs) ys s t u h k = (h.0, h.1, h.2, h.3, visits_both visits finds xs ys h.1 t u h.4 k)
 
 -- the same pointers after others
-adds_later : (n : NodeMap) (P : Path → Type 0) (through : List Text) (old lists : List (List Text)) → AddsPointers n P through [] lists → AddsPointers n P through old (old ++ lists)
+pub adds_later : (n : NodeMap) (P : Path → Type 0) (through : List Text) (old lists : List (List Text)) → AddsPointers n P through [] lists → AddsPointers n P through old (old ++ lists)
 adds_later n P through old lists a = record {
   paths = a.paths;
   listed = ap (λ l. old ++ l) a.listed;
@@ -29,7 +29,7 @@ adds_later n P through old lists a = record {
 }
 
 -- one token more finds a child
-finds_child : (d c e : Content) (through : List Text) (x : Text) (s : Step) → FindsContent d through c → NamesStep (map_of c []) x s → content_at (s ∷ []) c ≡ Some e → FindsContent d (through ++ x ∷ []) e
+pub finds_child : (d c e : Content) (through : List Text) (x : Text) (s : Step) → FindsContent d through c → NamesStep (map_of c []) x s → content_at (s ∷ []) c ≡ Some e → FindsContent d (through ++ x ∷ []) e
 finds_child d c e through x s f names there = record {
   path = f.path ++ s ∷ [];
   named = Names-push_below (map_of d) (map_of c) through x f.path s (map_of-sub f.path d c f.there) f.named names (subst (λ (o : Option Content). IsSome (option_map label_of o)) (sym there) refl);

@@ -17,7 +17,7 @@ use Rattle.jsonptr.specs.Node.{Step, key, place, Path, Label, an_object, an_arra
 use Rattle.jsonptr.specs.Content.{Content, label_of, map_of}
 use Rattle.jsonptr.proofs.Calling.{map_of-IsTree, Names-here, Names_one_path, IsTree-above, IsTree-named}
 use Rattle.jsonptr_paths.specs.Walking.{ChildBefore, Before, IsWalk}
-use Rattle.jsonptr_paths.specs.PrivateWalking.{token_of, tokens_to, Among, Ascends, AddsPointers, Whole, Below}
+use Rattle.jsonptr_paths.specs.PrivateWalking.{token_of, tokens_to, Among, Ascends, AddsPointers, Whole, Below, InFirst}
 
 -- elements of lists
 
@@ -205,12 +205,6 @@ leaf_below n v tree leaf [] p some = p
 leaf_below n v tree leaf (s ∷ w) p some = subst (λ (o : Option Label). MayHave o s) leaf (tree.parent [] s (IsTree-above n tree (s ∷ []) w some))
 
 -- elements
-
--- the path leads through one of the first elements
-abbrev pub InFirst : ℕ → Path → Type 0
-InFirst len [] = ⊥
-InFirst len (key k ∷ w) = ⊥
-InFirst len (place i ∷ w) = i < len
 
 pub in_none : (w : Path) → InFirst 0 w → ⊥
 in_none [] p = p

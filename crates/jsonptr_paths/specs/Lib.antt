@@ -5,5 +5,6 @@ pub mod TomlListing
 pub mod Reading
 pub mod PrivateWalking
 pub mod PrivateListing
+pub mod PrivateElements
 pub mod PrivateReading
 pub mod PrivateRebuilding

@@ -1,6 +1,6 @@
 -- What a walk over a part of a document visits. Used only by private contracts; no public contract depends on this
 -- file.
-use Rattle.std.specs.Prelude.{◌≡◌, ◌⊎◌, ⊤, List, [], ◌∷◌, ◌++◌, map, IsSome}
+use Rattle.std.specs.Prelude.{◌≡◌, ◌<◌, ◌⊎◌, ⊤, ℕ, List, [], ◌∷◌, ◌++◌, map, IsSome}
 use Rattle.serde_json.specs.View.{view}
 use Rattle.serde_json.specs.declared.value.Value.{Value}
 use Rattle.toml.specs.View.{view as toml_view}
@@ -50,6 +50,12 @@ Whole w = ⊤
 abbrev pub Below : Path → Type 0
 Below [] = ⊥
 Below (s ∷ w) = ⊤
+
+-- `InFirst len w`: the path `w` leads through one of the first `len` elements of an array.
+abbrev pub InFirst : ℕ → Path → Type 0
+InFirst len [] = ⊥
+InFirst len (key k ∷ w) = ⊥
+InFirst len (place i ∷ w) = i < len
 
 -- `VisitsAll visits finds lists s t`: visiting the values that the lists of tokens find, in this order, turns the
 -- visitor `s` into `t`.

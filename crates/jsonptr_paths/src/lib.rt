@@ -2,6 +2,7 @@
 //!
 //! - [`walk`]: the pointers of all nodes of a document, in order.
 //! - [`listing`]: the lines of a document.
+//! - [`text_listing`]: the lines of the document of a JSON text.
 //! - [`toml_listing`]: the lines of a TOML document.
 //! - [`reading`]: the document that lines build.
 //!
@@ -24,6 +25,7 @@
 pub mod laws;
 pub mod listing;
 pub mod reading;
+pub mod text_listing;
 pub mod toml_listing;
 mod toml_walk;
 pub mod walk;

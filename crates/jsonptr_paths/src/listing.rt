@@ -74,10 +74,10 @@ pub fn list(alloc: Global, document: &Value, which: Listed) -> Result<String, Al
 
 /// A visitor that appends the line of each node that is listed.
 #[derive(Drop)]
-struct Lister {
-    alloc: Global,
-    which: Listed,
-    out: String,
+pub(crate) struct Lister {
+    pub alloc: Global,
+    pub which: Listed,
+    pub out: String,
 }
 
 impl Visitor<Value> for Lister {
@@ -126,7 +126,7 @@ fn is_leaf(value: &Value) -> bool
 }
 
 /// Appends the line of the value at the pointer.
-fn push_value(
+pub(crate) fn push_value(
     alloc: Global,
     out: &mut String,
     pointer: Pointer<'_>,

@@ -7,7 +7,7 @@
 pub mod find;
 mod number;
 pub mod outcome;
-mod read;
+pub mod read;
 pub mod scalar;
 pub mod selector;
 pub mod skip;

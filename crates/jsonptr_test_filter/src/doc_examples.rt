@@ -12,5 +12,6 @@ mod lines_read;
 mod lines_write;
 mod paths_listing;
 mod paths_reading;
+mod paths_text_listing;
 mod paths_toml_listing;
 mod paths_walk;

@@ -1,8 +1,8 @@
 use Rattle.std.proofs.Common.{◌≡◌, List, ◌++◌}
 use Rattle.toml.specs.declared.value.Value.{Value, Array, Table}
 use Rattle.jsonptr.specs.Pointer.{tokens}
-use Rattle.jsonptr_paths.specs.PrivateWalking.{Walks, inside_toml}
-use Rattle.jsonptr_paths.proofs.WalkingLemmas.{EntryOf, InFirst, Under}
+use Rattle.jsonptr_paths.specs.PrivateWalking.{Walks, inside_toml, InFirst}
+use Rattle.jsonptr_paths.proofs.WalkingLemmas.{EntryOf, Under}
 use Rattle.jsonptr_paths.proofs.toml_walk.+toml_walk.Given as goal
 
 abbrev pub invariant-visit_elements-loop-index : goal.invariant-visit_elements-loop-index

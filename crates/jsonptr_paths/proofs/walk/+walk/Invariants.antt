@@ -1,8 +1,8 @@
 use Rattle.std.proofs.Common.{◌≡◌, List, ◌++◌}
 use Rattle.serde_json.specs.declared.value.Value.{Value, Array, Object}
 use Rattle.jsonptr.specs.Pointer.{tokens}
-use Rattle.jsonptr_paths.specs.PrivateWalking.{Walks, inside}
-use Rattle.jsonptr_paths.proofs.WalkingLemmas.{EntryOf, InFirst, Under}
+use Rattle.jsonptr_paths.specs.PrivateWalking.{Walks, inside, InFirst}
+use Rattle.jsonptr_paths.proofs.WalkingLemmas.{EntryOf, Under}
 use Rattle.jsonptr_paths.proofs.walk.+walk.Given as goal
 
 abbrev pub invariant-visit_elements-loop-index : goal.invariant-visit_elements-loop-index

@@ -1,0 +1,158 @@
+//! The lines of the document of a JSON text.
+ghost use Rattle.std.specs.Prelude.{◌≡◌, ◌<◌, ◌^◌, List, [], ◌∷◌, length, Some, None, Err, IfOk, OnOk, string_bytes};
+ghost use Rattle.serde_json.specs.Data.{Data, Items, array, item, no_items};
+ghost use Rattle.serde_json.specs.Read.{read as spec_read};
+ghost use Rattle.serde_json.specs.View.{view};
+ghost use Rattle.serde_json.specs.declared.value.Value.{Value};
+ghost use Rattle.jsonptr.specs.Text.{dec};
+ghost use Rattle.jsonptr_skim.specs.Reading.{Reads, Unreadable, ReadsItems, UnreadableItems};
+ghost use Rattle.jsonptr_skim.specs.PrivateReading.{with_items_before};
+ghost use Rattle.jsonptr_skim.specs.declared.outcome.ReadError.TheVariants.{NotJson};
+ghost use Rattle.jsonptr_paths.specs.Listing.{IsShown, Lists};
+ghost use Rattle.jsonptr_paths.specs.PrivateElements.{VisitsElements};
+ghost use Rattle.jsonptr_paths.specs.PrivateWalking.{Walks, Whole, inside};
+
+use crate::listing::{Listed, Lister, list, push_value};
+use crate::walk::{Visitor, visit_nodes};
+use json::{Reader, Scratch, Token};
+use jsonptr::{Pointer, PointerBuf};
+use jsonptr_skim::outcome::ReadError;
+use jsonptr_skim::read::read;
+use serde_json::Value;
+use std::alloc::{AllocError, Global};
+
+// How deep an element of an array at the root may nest, as in `serde_json`.
+const MAX_DEPTH: usize = 126;
+
+/// Returns the lines of the document that the text contains, as [`list`] does.
+///
+/// The elements of an array at the root are read one by one, so the document is not held. Of any
+/// other document it is.
+///
+/// # Errors
+///
+/// [`ReadError::NotJson`] if `serde_json` does not read the text, and [`ReadError::Memory`] if an
+/// allocation fails.
+///
+/// # Examples
+///
+/// ```rust
+/// let lines = list_text(alloc, "[{\"a\": 1}, []]", Listed::Leaves)?;
+/// assert_eq!(rt; lines.as_str(), "/0/a\t1\n/1\t[]\n");
+/// ```
+pub fn list_text(alloc: Global, text: &str, which: Listed) -> Result<String, ReadError>
+    ensures done { IfOk result (λ s. (d : Data) × (spec_read text.now ≡ Some d)
+        × Lists which d (string_bytes s)) }
+    ensures failed { result ≡ Err NotJson → spec_read text.now ≡ None }
+{
+    let mut scratch = Scratch::new(alloc);
+    let mut reader = Reader::new(text, &mut scratch)?;
+    match reader.next() {
+        Some(Token::BeginArray) => {
+            let lines = list_elements(alloc, &mut reader, which)?;
+            match reader.next() {
+                None => Ok(lines),
+                Some(_) => Err(ReadError::NotJson),
+            }
+        }
+        _ => list_value(alloc, text, which),
+    }
+}
+
+/// Returns the lines of the document that the text contains, which is read as a whole.
+fn list_value(alloc: Global, text: &str, which: Listed) -> Result<String, ReadError>
+    ensures done { IfOk result (λ s. (d : Data) × (spec_read text.now ≡ Some d)
+        × Lists which d (string_bytes s)) }
+    ensures failed { result ≡ Err NotJson → spec_read text.now ≡ None }
+{
+    match Value::from_str(alloc, text) {
+        Ok(document) => Ok(list(alloc, &document, which)?),
+        Err(error) if error.is_memory() => Err(ReadError::Memory),
+        Err(_) => Err(ReadError::NotJson),
+    }
+}
+
+/// Returns the lines of an array that is the document, and reads the rest of it.
+fn list_elements(alloc: Global, reader: &mut Reader<'_>, which: Listed) -> Result<String, ReadError>
+    requires few { length reader.old < 2 ^ 64 }
+    ensures ok { IfOk result (λ s. (ds : Items) × ReadsItems 126 reader.old ds reader.new
+        × Lists which (array ds) (string_bytes s)) }
+    ensures err { result ≡ Err NotJson → UnreadableItems 126 reader.old }
+{
+    let mut lister = Lister {
+        alloc,
+        which,
+        out: root_line(alloc, which)?,
+    };
+    let len = visit_elements(alloc, reader, &mut lister)?;
+    if len == 0 {
+        let lines = list(alloc, &Value::Array(Vec::new(alloc)), which)?;
+        return Ok(lines);
+    }
+    let Lister {
+        alloc: _,
+        which: _,
+        out,
+    } = lister;
+    Ok(out)
+}
+
+/// Returns what is printed for an array at the root that is not empty.
+fn root_line(alloc: Global, which: Listed) -> Result<String, AllocError>
+    ensures { IfOk result (λ s. (d : Data) (ds : Items)
+        → IsShown which [] (array (item d ds)) (string_bytes s)) }
+{
+    let mut out = String::new(alloc);
+    match which {
+        Listed::AllNodes => {
+            push_value(
+                alloc,
+                &mut out,
+                Pointer::root(),
+                &Value::Array(Vec::new(alloc)),
+            )?;
+        }
+        Listed::Leaves => {}
+    }
+    Ok(out)
+}
+
+/// Reads the rest of an array that is the document, and visits the nodes of its elements. Returns its
+/// length.
+fn visit_elements<T: Visitor<Value>>(
+    alloc: Global,
+    reader: &mut Reader<'_>,
+    visitor: &mut T,
+) -> Result<usize, ReadError>
+    requires few { length reader.old < 2 ^ 64 }
+    ensures ok { IfOk result (λ len. (ds : List Data)
+        × ReadsItems 126 reader.old (with_items_before ds no_items) reader.new
+        × (len ≡ length ds)
+        × VisitsElements T.visits ds visitor.old visitor.new) }
+    ensures err { result ≡ Err NotJson → UnreadableItems 126 reader.old }
+{
+    let mut len = 0;
+    'elements: while !reader.take_end_array() {
+        visit_next(alloc, reader, len, visitor)?;
+        len += 1;
+    }
+    Ok(len)
+}
+
+/// Reads the element at the index `at`, and visits its nodes.
+fn visit_next<T: Visitor<Value>>(
+    alloc: Global,
+    reader: &mut Reader<'_>,
+    at: usize,
+    visitor: &mut T,
+) -> Result<(), ReadError>
+    ensures ok { IfOk result (λ _. (v : Value) × Reads 126 reader.old (view v) reader.new
+        × Walks inside T.visits v Whole (dec at ∷ []) visitor.old visitor.new) }
+    ensures shorter { OnOk result (length reader.new < length reader.old) }
+    ensures err { result ≡ Err NotJson → Unreadable 126 reader.old }
+{
+    let element = read(alloc, reader, MAX_DEPTH)?;
+    let place = PointerBuf::from_usize(alloc, at)?;
+    visit_nodes(alloc, &element, place.as_ptr(), visitor)?;
+    Ok(())
+}
