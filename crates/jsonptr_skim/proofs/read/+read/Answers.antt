@@ -1,4 +1,4 @@
-use Rattle.std.proofs.Common.{◌≡◌, ◌<◌, List, ◌∷◌, ◌++◌, [], Some, None, map, length, string_bytes, refl, sym, ap, ◌∙◌, subst, arith, rules}
+use Rattle.std.proofs.Common.{◌≡◌, ◌<◌, List, ◌∷◌, Some, map, length, string_bytes, sym, ap, ◌∙◌, subst, arith, rules}
 use Rattle.std.specs.Prelude.{is_some}
 use Rattle.json.specs.Token.{Token}
 use Rattle.json.specs.Reads.{token_of}
