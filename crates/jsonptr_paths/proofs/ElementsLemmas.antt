@@ -1,18 +1,18 @@
 -- Visiting the elements of an array that is the document, one by one.
-use Rattle.std.proofs.Common.{◌≡◌, ℕ, ◌+◌, ◌<◌, List, [], ◌∷◌, ◌++◌, length, Option, Some, suc, Vec, Global, refl, sym, ap, subst, ◌∙◌, arith, length-append}
+use Rattle.std.proofs.Common.{◌≡◌, ℕ, ◌+◌, ◌<◌, List, [], ◌∷◌, ◌++◌, length, Some, suc, Vec, Global, refl, sym, ap, subst, ◌∙◌, arith, length-append}
 use Rattle.serde_json.specs.Data.{Data, Items, array, item, no_items}
 use Rattle.serde_json.specs.View.{view, items_view}
 use Rattle.serde_json.specs.declared.value.Value.{Value, Array}
 use Rattle.serde_json.proofs.Views.{view-Array}
 use Rattle.jsonptr_skim.specs.PrivateReading.{with_items_before}
-use Rattle.jsonptr_tree.specs.Content.{Content, content_at, get_item, items_len, map_of, FindsContent}
+use Rattle.jsonptr_tree.specs.Content.{content_at, get_item, items_len, map_of, FindsContent}
 use Rattle.jsonptr_tree.specs.Json.{items}
 use Rattle.jsonptr_tree.proofs.ContentLemmas.{map_of-sub}
 use Rattle.jsonptr.specs.Json.{content, nodes}
-use Rattle.jsonptr.specs.Node.{place, an_array, NodeMap}
+use Rattle.jsonptr.specs.Node.{place, an_array}
 use Rattle.jsonptr.specs.Text.{Text, text, dec}
 use Rattle.jsonptr.proofs.Calling.{map_of-IsTree}
-use Rattle.jsonptr_paths.specs.Listing.{emptied, IsLeaf, IsCompact, IsLineOf, IsShown, AreShown, Lists}
+use Rattle.jsonptr_paths.specs.Listing.{emptied, IsLeaf, IsCompact, IsLineOf, IsShown, Lists}
 use Rattle.jsonptr_paths.specs.PrivateElements.{VisitsElements}
 use Rattle.jsonptr_paths.specs.PrivateWalking.{AddsPointers, Whole, Below, InFirst, VisitsAll, Walks, inside}
 use Rattle.jsonptr_paths.specs.declared.listing.Listed.{Listed}
