@@ -1,5 +1,6 @@
 """Checks `./vendor`: it puts the library into an empty folder where the example runs, and it changes nothing else."""
 import os
+import re
 import subprocess
 import sys
 import tempfile
@@ -9,10 +10,11 @@ EXTRAS = ["tabled", "session", "patch", "patch_document", "diff", "in_text", "ed
 
 
 def vendor(*arguments, status=0):
-    """Runs `./vendor`, and checks its exit status."""
+    """Runs `./vendor`, and checks its exit status. Returns what it printed."""
     run = subprocess.run([f"{TOP}/vendor", *arguments], capture_output=True, encoding="utf-8")
     if run.returncode != status:
         sys.exit(f"check_vendor: ./vendor {arguments} ended with status {run.returncode}:\n{run.stdout}{run.stderr}")
+    return run.stdout + run.stderr
 
 
 def contents(folder):
@@ -54,7 +56,25 @@ def check_extras(folder):
     check(ours <= set(crates), f"{ours - set(crates)} are not in crates.txt")
     for name in crates:
         check(os.path.isdir(f"{folder}/crates/{name}/src"), f"crates/{name} is missing")
-        check(not os.path.exists(f"{folder}/crates/{name}/must-fail"), f"crates/{name} has must-fail edits")
+        for left_out in ("must-fail", "mutants"):
+            check(not os.path.exists(f"{folder}/crates/{name}/{left_out}"), f"crates/{name} has {left_out}")
+
+
+def check_links(folder):
+    """Checks that each link of a copied page leads to a file."""
+    for path, content in contents(folder).items():
+        for target in re.findall(r"\]\(([^)#\s]+)", content.decode()) if path.endswith(".md") else []:
+            there = re.match(r"\w+:", target) or os.path.exists(os.path.join(os.path.dirname(path), target))
+            check(there, f"{path} has a link to {target}, which is not there")
+
+
+def check_lines(folder):
+    """Checks the line of `app`, and the line that `./vendor` prints for a crate that the user makes."""
+    with open(f"{folder}/crates.txt", encoding="utf-8") as file:
+        line = next(it for it in file.read().splitlines() if it.startswith("app:"))
+    check(line == "app: jsonptr jsonptr_diff serde_json anyhow", f"the line of app is {line}")
+    with tempfile.TemporaryDirectory() as other:
+        check(f"    {line}\n" in vendor(other, "diff"), "./vendor prints another line for a first crate")
 
 
 def check_refusals(folder):
@@ -68,17 +88,20 @@ def check_refusals(folder):
         vendor(inside, status=1)
         check(not os.path.exists(f"{TOP}/vendored"), "a folder in this repository was made")
     vendor(folder, "unknown", status=2)
+    check("FOLDER is missing" in vendor(status=2), "./vendor alone does not say what is missing")
 
 
 def main():
     with tempfile.TemporaryDirectory() as temporary:
         folder = os.path.realpath(temporary)
-        vendor(folder, "--example")
+        vendor(folder, "diff", "--example")
         check_example(folder)
+        check_lines(folder)
         made = contents(folder)
         vendor(folder, "--example")
         check(contents(folder) == made, "a second run changed something")
         check_extras(folder)
+        check_links(folder)
         check_refusals(folder)
     print("check_vendor: the example runs from an empty folder, and what is there stays unchanged")
 

@@ -503,7 +503,7 @@ jsonptr_status jsonptr_resolve_in_text(const char *text, size_t text_length,
                                        char *out, size_t capacity, size_t *length,
                                        jsonptr_error *error);
 
-/* The version of the library, such as "0.1.0", with a closing zero. */
+/* The version of the library, such as "0.2.0", with a closing zero. */
 const char *jsonptr_version(void);
 
 #ifdef __cplusplus

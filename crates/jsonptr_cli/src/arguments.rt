@@ -3,8 +3,8 @@
 use clap::{Arg, ArgAction, Command, arg};
 use std::alloc::{AllocError, Global};
 
-/// The version of the program, which is the last one of the changelog.
-const VERSION: &str = "0.1.0";
+/// The version of the project, as in `crates/jsonptr/VERSION`.
+const VERSION: &str = "0.2.0";
 
 /// Returns the command line of the program.
 pub fn command<'a>(alloc: Global) -> Result<Command<'a>, AllocError> {

@@ -1,4 +1,4 @@
-//! Edits a JSON document in its text: every byte outside the location of the edit stays.
+//! Edits a JSON document in its text, so that the order of members, the form of numbers and the layout stay.
 //!
 //! ```rust
 //! let text = "{\n  \"name\": \"app\",\n  \"sizes\": [1.0, 5]\n}\n";

@@ -1,0 +1,321 @@
+#!/usr/bin/env python3
+"""Checks that what the documents name is there, and that lists which say that they are whole are whole.
+
+- Each link leads to a file, and to a heading of it.
+- Each table has a head, and rows of as many cells.
+- Each crate, file, law, module and clause that a document names exists.
+- README, `docs/ARCHITECTURE.md` and `crates/jsonptr/CALLING.md` list each crate, and each module of `jsonptr_uses`.
+- Counts of tests, mutants, cases and stored answers are those of the tree, and the version is one everywhere.
+- Each word of a public contract is in `docs/SPECIFICATION.md`, with the file that defines it.
+"""
+import functools
+import glob
+import os
+import re
+import sys
+
+import api
+import call_cases
+import doc_examples
+
+TOP = api.TOP
+FENCE = re.compile(r"^```.*?^```$", re.MULTILINE | re.DOTALL)
+CODE = re.compile(r"`([^`\n]+)`")
+LINK = re.compile(r"\[[^\]]*\]\(([^)\s]+)\)")
+CLAUSE = re.compile(r"\bensures\*? (\w+) \{")
+FUNCTION = re.compile(r"^ *(?:pub(?:\(\w+\))? )?(?:const )?(?:unsafe )?(?:extern \"C\" )?fn (\w+)", re.MULTILINE)
+DEFINITION = re.compile(r"^(?:abbrev pub|pub record|pub data|pub type|postulate pub) (\w+)", re.MULTILINE)
+CITED = re.compile(r"`((?:\w+::)*\w+)`: (`\w+`(?:, `\w+`)*)")
+NUMBER = r"([\d,]+)"
+errors = []
+
+
+def read(name):
+    """Returns the text of a file of the repository."""
+    return api.read(f"{TOP}/{name}")
+
+
+def documents():
+    """Returns the documents that people write."""
+    found = ["README.md", "CONTRIBUTING.md", "CHANGELOG.md", "tools/README.md"]
+    for pattern in ("docs/*.md", "crates/*/*.md"):
+        found += sorted(os.path.relpath(path, TOP) for path in glob.glob(f"{TOP}/{pattern}"))
+    return [name for name in found if name != "docs/API.md"]
+
+
+def crates():
+    """Returns all crates, in the order of crates.txt."""
+    lines = (line.split("#")[0] for line in read("crates.txt").splitlines())
+    return [line.split(":")[0].split()[0] for line in lines if ":" in line]
+
+
+def expect(holds, name, what):
+    """Notes an error of a document if something does not hold."""
+    if not holds:
+        errors.append(f"{name}: {what}")
+
+
+@functools.cache
+def sources():
+    """Returns the text of each source file of each crate."""
+    return {path: api.read(path) for path in glob.glob(f"{TOP}/crates/*/src/**/*.rt", recursive=True)}
+
+
+@functools.cache
+def functions():
+    """Returns the names of the clauses of each function, by the function's name."""
+    found = {}
+    for text in sources().values():
+        heads = list(FUNCTION.finditer(text))
+        for head, following in zip(heads, [*heads[1:], None]):
+            contract = text[head.end() : following.start() if following else len(text)]
+            found.setdefault(head[1], set()).update(CLAUSE.findall(contract))
+    return found
+
+
+def heading_anchor(heading):
+    """Returns the anchor that a heading has on a rendered page."""
+    return re.sub(r"[^\w\- ]", "", heading.strip().lower()).replace(" ", "-")
+
+
+def anchors(path):
+    """Returns the anchors of a page."""
+    text = FENCE.sub("", api.read(path))
+    return {heading_anchor(line.lstrip("#")) for line in text.splitlines() if line.startswith("#")}
+
+
+def check_links(name, text):
+    """Checks the links of a document."""
+    for target in LINK.findall(FENCE.sub("", text)):
+        if re.match(r"\w+:", target):
+            continue
+        path, _, anchor = target.partition("#")
+        file = os.path.normpath(os.path.join(TOP, os.path.dirname(name), path)) if path else f"{TOP}/{name}"
+        expect(os.path.exists(file), name, f"the link {target} leads to no file")
+        if anchor and os.path.isfile(file) and file.endswith(".md"):
+            expect(anchor in anchors(file), name, f"the link {target} leads to no heading")
+
+
+def tables(text):
+    """Yields the rows of each table of a document."""
+    rows = []
+    for line in [*FENCE.sub("", text).splitlines(), ""]:
+        if line.startswith("|"):
+            rows.append(line)
+        elif rows:
+            yield rows
+            rows = []
+
+
+def cells(row):
+    """Returns the cells of a row. A bar in code or after a backslash does not end one."""
+    inner = re.sub(r"`[^`]*`", lambda code: code[0].replace("|", "\0"), row.replace("\\|", "\0"))
+    return [cell.strip().replace("\0", "|") for cell in inner.strip().strip("|").split("|")]
+
+
+def check_tables(name, text):
+    """Checks the form of a document's tables."""
+    for rows in tables(text):
+        is_headed = len(rows) > 1 and re.fullmatch(r"\|(?:\s*:?-+:?\s*\|)+", rows[1])
+        expect(is_headed, name, f"a table without a head: {rows[0][:60]}")
+        for row in rows:
+            expect(len(cells(row)) == len(cells(rows[0])), name, f"a row of {len(cells(row))} cells: {row[:60]}")
+
+
+def check_crates(name, text, known):
+    """Checks that the crates that a document names exist. A name of the C library is one of its header."""
+    c_names = set(re.findall(r"\bjsonptr\w*", read("tools/c/jsonptr.h")))
+    for code in CODE.findall(FENCE.sub("", text)):
+        for crate in re.findall(r"(?<![\w/.-])(jsonptr\w*)(?![\w./-])", code):
+            expect(crate in known or crate in c_names or crate.endswith("_"), name, f"there is no crate {crate}")
+
+
+def exists(name, path):
+    """Returns whether a path that a document names is a file: from the top, or the last part of one below `crates`."""
+    starts = ("", os.path.dirname(name), "tools", "tools/c", "crates", "docs")
+    if any(os.path.exists(f"{TOP}/{start}/{path}") for start in starts):
+        return True
+    parts = (f"{TOP}/crates/**/{path}", f"{TOP}/tools/**/{path}", f"{TOP}/tools/c/{os.path.basename(path)}")
+    return any(glob.glob(part, recursive=True) for part in parts)
+
+
+def check_files(name, text):
+    """Checks that the source files and tools that a document names exist."""
+    for code in CODE.findall(FENCE.sub("", text)):
+        if re.fullmatch(r"[\w./-]+\.(?:rt|antt|py|sh|h|md)", code) and "…" not in code:
+            expect(exists(name, code), name, f"there is no file {code}")
+
+
+def check_laws(name, text):
+    """Checks that each law that a document names exists, in the module that it says."""
+    for module, law in re.findall(r"\b(?:(\w+)::)?(\w+_law)\b", FENCE.sub("", text)):
+        files = [path for path, source in sources().items() if re.search(rf"\bfn {law}\b", source)]
+        expect(files, name, f"there is no law {law}")
+        if files and module and module not in api.crate_names():
+            places = {os.path.basename(path)[:-3] for path in files} | {os.path.basename(os.path.dirname(path)) for path in files}
+            expect(module in places, name, f"the law {law} is not in a module {module}")
+
+
+def check_clauses(name, text):
+    """Checks the clauses that a document names: after the function's name, and in tables of clauses."""
+    for path, clauses in CITED.findall(FENCE.sub("", text)) if name != "docs/SPECIFICATION.md" else []:
+        function = path.split("::")[-1]
+        if function in functions():
+            for clause in CODE.findall(clauses):
+                expect(clause in functions()[function], name, f"{path} has no clause {clause}")
+    for rows in tables(text):
+        head = cells(rows[0])[0]
+        if head.startswith("Clause"):
+            check_clause_table(name, head, rows[2:])
+
+
+def check_clause_table(name, head, rows):
+    """Checks the first cells of a table of clauses. Its head can name the function, and so can a cell."""
+    every = set().union(*functions().values())
+    for row in rows:
+        words = CODE.findall(cells(row)[0])
+        owners = [word for word in [*CODE.findall(head), *words] if word in functions() and word not in every]
+        for word in (it.split("::")[-1] for it in words if it not in owners):
+            known = set().union(*(functions()[owner] for owner in owners)) if owners else every | {*functions()}
+            expect(word in known, name, f"there is no clause {word} of {', '.join(owners) or 'any call'}")
+
+
+def check_lists(known):
+    """Checks that the documents that list all crates, or all callers, do."""
+    products = [crate for crate in known if not crate.startswith(("jsonptr_test_", "jsonptr_tool_"))]
+    for name, wanted in (("README.md", products), ("docs/ARCHITECTURE.md", known)):
+        text = read(name)
+        for crate in wanted:
+            expect(re.search(rf"(?<!\w){crate}(?!\w)", text), name, f"{crate} is not listed")
+    callers = re.findall(r"^(?:pub )?mod (\w+);", read("crates/jsonptr_uses/src/lib.rt"), re.MULTILINE)
+    for module in callers:
+        expect(f"`{module}.rt`" in read("crates/jsonptr/CALLING.md"), "crates/jsonptr/CALLING.md", f"the caller {module}.rt is not listed")
+    where = "CONTRIBUTING.md"
+    for crate in known:
+        if crate.startswith("jsonptr_test_"):
+            short = crate.removeprefix("jsonptr_test")
+            expect(f"`{crate}`" in read(where) or f"`{short}`" in read(where), where, f"the test crate {crate} is not listed")
+
+
+def tests():
+    """Returns how many tests `./test` runs: those of the test crates, and the examples."""
+    written = sum(text.count("#[test]") for path, text in sources().items() if "/crates/jsonptr_test_" in path)
+    return written + doc_examples.count()
+
+
+def check_counts():
+    """Checks the counts that documents give."""
+    mutants = len(glob.glob(f"{TOP}/crates/*/must-fail/*.edit"))
+    stored = read("tools/compare/sample/requests.txt").count("\n")
+    counted = (
+        ("README.md", rf"`{NUMBER} passed, 0 failed`", tests()),
+        ("README.md", rf"{NUMBER} stored answers", stored),
+        ("CONTRIBUTING.md", rf"{NUMBER} must-fail edits", mutants),
+        ("docs/PROVED.md", rf"{NUMBER} cases: every public call", len(call_cases.CASES)),
+        ("docs/PROVED.md", rf"compares {NUMBER} stored answers", stored),
+        ("docs/PROVED.md", rf"the {NUMBER} examples", doc_examples.count()),
+        ("docs/COMPARING.md", rf"has {NUMBER} requests", stored),
+    )
+    for name, pattern, count in counted:
+        found = re.search(pattern, read(name))
+        expect(found, name, f"the count {pattern} is missing")
+        if found:
+            expect(int(found[1].replace(",", "")) == count, name, f"'{found[0]}': there are {count:,}")
+
+
+def check_version():
+    """Checks that every place has the version and the date of `crates/jsonptr/VERSION`."""
+    version, date = read("crates/jsonptr/VERSION").split()
+    places = (
+        ("README.md", f"Version {version}, of {date}"),
+        ("CHANGELOG.md", f"## [{version}] - {date}"),
+        ("crates/jsonptr_cli/src/arguments.rt", f'VERSION: &str = "{version}";'),
+        ("tools/c/jsonptr.h", f'such as "{version}"'),
+    )
+    for name, text in places:
+        expect(os.path.exists(f"{TOP}/{name}") and text in read(name), name, f"'{text}' is missing")
+
+
+@functools.cache
+def definitions():
+    """Returns the files of `specs/` that define each word of public contracts."""
+    found = {}
+    for path in glob.glob(f"{TOP}/crates/*/specs/**/*.antt", recursive=True):
+        if not os.path.basename(path).startswith("Private"):
+            for word in DEFINITION.findall(api.read(path)):
+                found.setdefault(word, []).append(path)
+    return found
+
+
+def contract(item):
+    """Returns the contract of an item: its lines from the first clause to the body."""
+    lines, kept = api.read(item.path).splitlines()[item.line - 1 :], []
+    for line in lines:
+        if kept and re.fullmatch(r" *\{", line):
+            break
+        kept.append(line)
+        if line.endswith(";") or line.startswith("}"):
+            break
+    text = "\n".join(kept)
+    start = re.search(r"\b(?:ensures|requires)\b", text)
+    return text[start.start() :] if start else ""
+
+
+def short_path(path):
+    """Returns the name of a file of `specs/` as SPECIFICATION writes it: `tree/Node`."""
+    crate, _, file = os.path.relpath(path, f"{TOP}/crates").partition("/specs/")
+    return f"{crate.removeprefix('jsonptr_')}/{file[:-5]}"
+
+
+def specified():
+    """Returns the words of SPECIFICATION's tables, each with its file."""
+    return {(word.split()[0].rstrip(","), file) for rows in tables(read("docs/SPECIFICATION.md")) for row in rows[2:] if len(cells(row)) > 2 for word in CODE.findall(cells(row)[0]) for file in CODE.findall(cells(row)[1])}
+
+
+def check_specification():
+    """Checks that SPECIFICATION has each word of each public contract, with its file."""
+    known, name = specified(), "docs/SPECIFICATION.md"
+    for crate in api.libraries():
+        for module in api.Library(crate).modules.values():
+            for item in module:
+                for word in set(re.findall(r"(?<![\w.])[A-Za-z]\w*", contract(item))):
+                    files = defining(word, item.path)
+                    if files and not any((word, short_path(path)) in known for path in files):
+                        errors.append(f"{name}: {word} of {short_path(files[0])} is missing (in {item.name} of {crate})")
+
+
+@functools.cache
+def imported(path):
+    """Returns where a source file takes the words of its contracts from: pairs of a module of `specs/` and its words."""
+    uses = re.findall(r"ghost use Rattle\.(\w+)\.specs\.(\w+)\.\{([^;]+)\};", api.read(path))
+    return [(crate, file, set(re.findall(r"\w+", words))) for crate, file, words in uses]
+
+
+def defining(word, path):
+    """Returns the files of `specs/` that can define a word which a source file uses, none if it is not a word of ours."""
+    for crate, file, words in imported(path):
+        files = [it for it in definitions().get(word, []) if word in words and os.path.basename(it) == f"{file}.antt"]
+        own = [it for it in files if f"/crates/{crate}/" in it]
+        if files:
+            return own or files
+    return []
+
+
+def main():
+    known = crates()
+    for name in documents():
+        text = read(name)
+        for check in (check_links, check_tables, check_files, check_laws, check_clauses):
+            check(name, text)
+        check_crates(name, text, known)
+    check_lists(known)
+    check_counts()
+    check_version()
+    check_specification()
+    if errors:
+        sys.exit("\n".join(f"doc_names: {error}" for error in dict.fromkeys(errors)))
+    print(f"doc_names: {len(documents())} documents, {len(known)} crates, {len(definitions())} definitions, {tests()} tests")
+
+
+if __name__ == "__main__":
+    main()
