@@ -1,6 +1,6 @@
 """JSON Pointers (RFC 6901) and JSON Patches (RFC 6902) by the proved library `libjsonptr.so`.
 
-One file without dependencies. Documents cross to the library as JSON text:
+A module without dependencies. Documents cross to the library as JSON text:
 
     >>> import jsonptr
     >>> jsonptr.resolve({"sizes": [3, 5]}, "/sizes/1")
@@ -14,33 +14,44 @@ One file without dependencies. Documents cross to the library as JSON text:
     >>> jsonptr.make_patch({"a": 1}, {"a": 2}).operations
     [{'op': 'replace', 'path': '/a', 'value': 2}]
 
-The library is searched for beside this file, in `../lib`, and where the system has its libraries. The environment
-variable JSONPTR_LIBRARY names another file. Threads may share a `Document`, which has a lock; the lock of Python is free
-while the library works.
+Each error that a call raises is a `JsonPointerError`, or a `TypeError` or `MemoryError`. Errors, documents and patches
+can be copied and pickled.
+
+The library is searched for beside this file, in `../lib` and `../../lib`, and where the system has its libraries. The
+environment variable JSONPTR_LIBRARY names another file. Without a library, the import fails with `ImportError`. Threads
+may share a `Document`, which has a lock; the lock of Python is free while the library works.
 """
 import ctypes
 import ctypes.util
 import json
 import os
 import threading
+from typing import Any, Dict, Iterator, List, NoReturn, Optional, Tuple, Type, Union
 
 __all__ = ["Document", "JsonPointerError", "JsonPatchError", "NotFound", "Patch", "TooDeep", "escape", "make_patch",
            "resolve", "resolve_in_text", "tokens", "version"]
+
+Text = Union[str, bytes]
 
 OK, NO_MEMORY, NO_ROOM, BAD_ARGUMENT, NO_DOCUMENT, NOT_UTF8, NOT_JSON, NOT_POINTER, NO_TOKEN, NOT_FOUND, OTHER_KIND, \
     NOT_ASSIGNED, NOT_PATCH, PATCH_FAILED, TOO_DEEP = range(15)
 MEMBERS = [None, "op", "path", "from", "value"]
 
 
-def _library():
+def _library() -> ctypes.CDLL:
     """Loads the library."""
     here = os.path.dirname(os.path.abspath(__file__))
-    names = [os.environ.get("JSONPTR_LIBRARY"), os.path.join(here, "libjsonptr.so.0"),
-             os.path.join(here, "..", "lib", "libjsonptr.so.0")]
-    for name in names:
-        if name and os.path.exists(name):
-            return ctypes.CDLL(name)
-    return ctypes.CDLL(ctypes.util.find_library("jsonptr") or "libjsonptr.so.0")
+    named = os.environ.get("JSONPTR_LIBRARY")
+    beside = [os.path.join(here, *up, "libjsonptr.so.0") for up in ((), ("..", "lib"), ("..", "..", "lib"))]
+    found = [name for name in beside if os.path.exists(name)]
+    name = named or (found[0] if found else ctypes.util.find_library("jsonptr") or "libjsonptr.so.0")
+    try:
+        library = ctypes.CDLL(name)
+        library.jsonptr_version
+    except (OSError, AttributeError) as error:
+        where = "JSONPTR_LIBRARY names no library of jsonptr" if named else "there is no library of jsonptr"
+        raise ImportError(f"{where}: {error}", name="jsonptr", path=name) from None
+    return library
 
 
 class _Handle(ctypes.Structure):
@@ -53,7 +64,7 @@ class _Error(ctypes.Structure):
                 ("slash", ctypes.c_uint64), ("offset", ctypes.c_uint64), ("length", ctypes.c_uint64)]
 
 
-def _function(name, result=ctypes.c_uint32):
+def _function(name: str, result: Any = ctypes.c_uint32) -> Any:
     """Returns a function of the library.
 
     It has no `argtypes`: to convert arguments to declared types takes longer than most calls. So each argument here is
@@ -68,11 +79,11 @@ _lib = _library()
 _get, _in_text, _parse = _function("document_get"), _function("resolve_in_text"), _function("document_parse")
 _assign, _delete, _patch = _function("document_assign"), _function("document_delete"), _function("document_patch")
 _diff, _free = _function("document_diff"), _function("document_free", None)
-_count, _token, _escape = _function("pointer_count"), _function("pointer_token"), _function("pointer_escape")
+_count, _escape = _function("pointer_count"), _function("pointer_escape")
 _error_message, _version = _function("error_message"), _function("version", ctypes.c_char_p)
 _size, _at = ctypes.c_size_t, ctypes.byref
 _COMPACT, _PRETTY = ctypes.c_uint32(0), ctypes.c_uint32(1)
-_scan = json.JSONDecoder().scan_once  # reads a text that begins with its value, as those of the library do
+_scan: Any = getattr(json.JSONDecoder(), "scan_once")  # reads a text that begins with its value, as those of the library do
 
 
 class JsonPointerError(ValueError):
@@ -85,13 +96,21 @@ class JsonPointerError(ValueError):
     patch, or None.
     """
 
-    def __init__(self, error):
-        super().__init__(_message(error))
-        self.status, self.kind = error.status, error.kind
-        self.position, self.slash, self.offset, self.length = error.position, error.slash, error.offset, error.length
-        of_patch = error.status in (NOT_PATCH, PATCH_FAILED)
-        self.operation = error.operation if of_patch else None
-        self.member = MEMBERS[error.member]
+    status: int = 0
+    kind: int = 0
+    position: int = 0
+    slash: int = 0
+    offset: int = 0
+    length: int = 0
+    operation: Optional[int] = None
+    member: Optional[str] = None
+
+    def __init__(self, message: str = "", **fields: Any) -> None:
+        super().__init__(message)
+        self.__dict__.update(fields)
+
+    def __reduce__(self) -> Tuple[Any, ...]:
+        return type(self), self.args, dict(self.__dict__)
 
 
 class NotFound(JsonPointerError, LookupError):
@@ -106,15 +125,18 @@ class TooDeep(JsonPointerError):
     """The document would nest deeper than 10,127 levels."""
 
 
-_CLASSES = {NOT_FOUND: NotFound, NOT_PATCH: JsonPatchError, PATCH_FAILED: JsonPatchError, TOO_DEEP: TooDeep}
+_CLASSES: Dict[int, Type[JsonPointerError]] = {
+    NOT_FOUND: NotFound, NOT_PATCH: JsonPatchError, PATCH_FAILED: JsonPatchError, TOO_DEEP: TooDeep}
 
 
-def _check(status, error):
+def _fail(status: int, error: _Error) -> NoReturn:
     """Raises the exception of a status that is not OK."""
     if status == NO_MEMORY:
         raise MemoryError
-    if status:
-        raise _CLASSES.get(status, JsonPointerError)(error)
+    fields = {name: getattr(error, name) for name in ("status", "kind", "position", "slash", "offset", "length")}
+    operation = error.operation if error.status in (NOT_PATCH, PATCH_FAILED) else None
+    raise _CLASSES.get(status, JsonPointerError)(
+        _message(error), operation=operation, member=MEMBERS[error.member], **fields)
 
 
 class _Buffer:
@@ -122,17 +144,18 @@ class _Buffer:
 
     __slots__ = "bytes", "at_bytes", "size", "length", "at_length", "error", "at_error"
 
-    def __init__(self, size=512):
+    def __init__(self, size: int = 512) -> None:
         self.length, self.error = _size(), _Error()
         self.at_length, self.at_error = _at(self.length), _at(self.error)
         self.grow(size)
 
-    def grow(self, size):
+    def grow(self, size: int) -> None:
         """Replaces the buffer by one of so many bytes."""
-        self.size, self.bytes = _size(size), ctypes.create_string_buffer(size)
+        self.size = _size(size)
+        self.bytes: Any = ctypes.create_string_buffer(size)
         self.at_bytes = _at(self.bytes)
 
-    def fill(self, call, *arguments):
+    def fill(self, call: Any, *arguments: Any) -> bytes:
         """Calls a function that copies a result to the buffer, and returns the result."""
         status = call(*arguments, self.at_bytes, self.size, self.at_length, self.at_error)
         if status:
@@ -140,66 +163,93 @@ class _Buffer:
                 self.grow(max(self.length.value, 2 * self.size.value))
                 status = call(*arguments, self.at_bytes, self.size, self.at_length, self.at_error)
             if status:
-                _check(status, self.error)
-        return self.bytes[:self.length.value]
+                _fail(status, self.error)
+        return bytes(self.bytes[:self.length.value])
 
 
-def _message(error):
+def _message(error: _Error) -> str:
     """Returns the message of an error."""
     length, out = _size(), ctypes.create_string_buffer(1024)
     _error_message(_at(error), out, _size(1024), _at(length))
     return out.raw[:length.value].decode()
 
 
-def _bytes(text):
-    """Returns the UTF-8 of a string, and bytes as they are."""
-    if isinstance(text, str):
-        return text.encode()
-    if isinstance(text, bytes):
+def _bytes(text: Text) -> bytes:
+    """Returns the UTF-8 of a string, and bytes as they are, of these very types."""
+    if type(text) is bytes:
         return text
+    if isinstance(text, str):
+        try:
+            return str.encode(text)
+        except UnicodeEncodeError as error:
+            before = len(str.encode(str.__getitem__(text, slice(error.start))))
+            raise JsonPointerError(f"text is not UTF-8: {error}", status=NOT_UTF8, offset=before) from None
+    if isinstance(text, bytes):
+        return memoryview(text).tobytes()
     raise TypeError(f"a str or bytes is needed, not {type(text).__name__}")
 
 
-def _text(text):
+def _text(text: Text) -> Tuple[bytes, ctypes.c_size_t]:
     """Returns the two arguments of a text: its bytes and their number."""
     text = _bytes(text)
     return text, _size(len(text))
 
 
-def _json(value):
+def _json(value: Any) -> bytes:
     """Returns the JSON text of a value."""
-    return json.dumps(value, separators=(",", ":"), ensure_ascii=False).encode()
+    try:
+        return _bytes(json.dumps(value, separators=(",", ":"), ensure_ascii=False, allow_nan=False))
+    except JsonPointerError:
+        raise
+    except RecursionError:
+        raise TooDeep("the value nests too deep for Python's json", status=TOO_DEEP) from None
+    except ValueError as error:
+        raise JsonPointerError(f"the value is not JSON: {error}", status=NOT_JSON) from None
 
 
-def version():
+def _value(text: bytes) -> Any:
+    """Returns the Python value of a text of the library."""
+    try:
+        return _scan(text.decode(), 0)[0]
+    except RecursionError:
+        raise TooDeep("the value nests too deep for Python's json", status=TOO_DEEP) from None
+
+
+def version() -> str:
     """Returns the version of the library."""
-    return _version().decode()
+    return str(_version().decode())
 
 
-def tokens(pointer):
-    """Returns the decoded tokens of a pointer."""
-    text, count, buffer = _text(pointer), _size(), _Buffer(64)
-    _check(_count(*text, _at(count), buffer.at_error), buffer.error)
-    return [buffer.fill(_token, *text, _size(position)).decode() for position in range(count.value)]
+def tokens(pointer: Text) -> List[str]:
+    """Returns the decoded tokens of a pointer, in time linear in its length.
+
+        >>> tokens("/a~1b/0")
+        ['a/b', '0']
+    """
+    text, count, error = _bytes(pointer), _size(), _Error()
+    status = _count(text, _size(len(text)), _at(count), _at(error))
+    if status:
+        _fail(status, error)
+    return [token.replace("~1", "/").replace("~0", "~") for token in text.decode().split("/")[1:]]
 
 
-def escape(token):
+def escape(token: Text) -> str:
     """Returns a token as it is written in a pointer."""
     text = _text(token)
     return _Buffer(len(text[0]) + 16).fill(_escape, *text).decode()
 
 
-def resolve(document, pointer):
+def resolve(document: Any, pointer: Text) -> Any:
     """Returns the value that the pointer resolves to in a `Document` or in a Python value.
 
     A Python value crosses to the library as JSON text, whole. To resolve more than once, make a `Document`.
     """
     if isinstance(document, Document):
         return document.resolve(pointer)
-    return json.loads(resolve_in_text(_json(document), pointer))
+    return _value(resolve_in_text(_json(document), pointer))
 
 
-def resolve_in_text(text, pointer):
+def resolve_in_text(text: Text, pointer: Text) -> bytes:
     """Returns the JSON text of the value that the pointer resolves to in a JSON text, as bytes.
 
     If both the text and the pointer are at fault, the error is the pointer's.
@@ -210,10 +260,11 @@ def resolve_in_text(text, pointer):
 class Document:
     """A JSON document in the memory of the library.
 
-    It is made of JSON text, as `str` or `bytes`, and `Document.of` makes it of a Python value.
+    It is made of JSON text, as `str` or `bytes`, and `Document.of` makes it of a Python value. A copy, and a document
+    that was pickled, is made of the text again, so a document that nests deeper than 127 levels has none.
     """
 
-    def __init__(self, text):
+    def __init__(self, text: Text) -> None:
         self._lock = threading.Lock()
         self._handle = _Handle()
         self._at = _at(self._handle)
@@ -222,94 +273,134 @@ class Document:
         self._call(_parse, *_text(text))
 
     @classmethod
-    def of(cls, value):
+    def of(cls, value: Any) -> "Document":
         """Returns the document of a Python value."""
         return cls(_json(value))
 
-    def _call(self, call, *arguments):
+    def _call(self, call: Any, *arguments: Any) -> None:
         """Calls a function on the document that returns no text."""
         with self._lock:
             status = call(self._at, *arguments, self._buffer.at_error)
             if status:
-                _check(status, self._buffer.error)
+                _fail(status, self._buffer.error)
 
-    def get(self, pointer):
+    def get(self, pointer: Text) -> bytes:
         """Returns the JSON text of the value that the pointer resolves to, as bytes."""
         pointer, size, buffer = _bytes(pointer), self._size, self._buffer
         with self._lock:
             size.value = len(pointer)
             if _get(self._at, pointer, size, _COMPACT, buffer.at_bytes, buffer.size, buffer.at_length, buffer.at_error):
                 return buffer.fill(_get, self._at, pointer, size, _COMPACT)
-            return buffer.bytes[:buffer.length.value]
+            return bytes(buffer.bytes[:buffer.length.value])
 
-    def resolve(self, pointer):
+    def resolve(self, pointer: Text) -> Any:
         """Returns the value that the pointer resolves to, as a Python value."""
-        return _scan(self.get(pointer).decode(), 0)[0]
+        return _value(self.get(pointer))
 
-    def assign(self, pointer, value):
+    def assign(self, pointer: Text, value: Any) -> None:
         """Assigns a Python value at the pointer, and creates what is missing on the way.
 
         A string, number, boolean or null on the way is replaced by a new object or array.
         """
         self._call(_assign, *_text(pointer), *_text(_json(value)))
 
-    def delete(self, pointer):
+    def delete(self, pointer: Text) -> bool:
         """Deletes the value that the pointer resolves to, and returns whether there was one. "" leaves None."""
         found = ctypes.c_bool()
         self._call(_delete, *_text(pointer), _at(found))
-        return found.value
+        return bool(found.value)
 
-    def apply(self, patch):
+    def apply(self, patch: Any) -> None:
         """Applies a patch, all of it or nothing: a `Patch`, JSON text, or a list of operations.
 
         Unlike RFC 6902, a `test` fails if one of its values contains a float. `remove` of "" leaves None.
         """
         self._call(_patch, *_text(patch.text if isinstance(patch, Patch) else Patch(patch).text))
 
-    def text(self, pretty=False):
+    def text(self, pretty: bool = False) -> str:
         """Returns the JSON text of the document. A pretty text has no newline at its end."""
         with self._lock:
             return self._buffer.fill(_get, self._at, b"", _size(0), _PRETTY if pretty else _COMPACT).decode()
 
-    def value(self):
+    def value(self) -> Any:
         """Returns the document as a Python value."""
         return self.resolve("")
 
-    def __repr__(self):
+    def __repr__(self) -> str:
         return f"Document({self.text()!r})"
 
-    def __eq__(self, other):
-        return self.text() == other.text() if isinstance(other, Document) else NotImplemented
+    def __eq__(self, other: object) -> bool:
+        if not isinstance(other, Document):
+            return NotImplemented
+        return self.text() == other.text()
 
-    __hash__ = None
+    __hash__ = None  # type: ignore[assignment]
 
-    def __del__(self, _free=_free):
+    def __copy__(self) -> "Document":
+        return type(self)(self.text())
+
+    def __deepcopy__(self, memo: Any) -> "Document":
+        return type(self)(self.text())
+
+    def __reduce__(self) -> Tuple[Any, ...]:
+        return type(self), (self.text(),)
+
+    def __del__(self, _free: Any = _free) -> None:
         if hasattr(self, "_at"):
             _free(self._at)
 
 
 class Patch:
-    """A JSON Patch: a list of operations, or the JSON text of one."""
+    """A JSON Patch: a list of operations, or the JSON text of one.
 
-    def __init__(self, operations):
+    It is false if it has no operations, and two patches are equal if their operations are the same JSON.
+    """
+
+    def __init__(self, operations: Any) -> None:
         self.text = _bytes(operations) if isinstance(operations, (str, bytes)) else _json(operations)
 
     @property
-    def operations(self):
-        """The operations, as Python values."""
-        return json.loads(self.text)
+    def operations(self) -> List[Any]:
+        """The operations, as Python values. The text is read anew each time."""
+        try:
+            found = json.loads(self.text)
+        except RecursionError:
+            raise TooDeep("the patch nests too deep for Python's json", status=TOO_DEEP) from None
+        except ValueError as error:
+            raise JsonPatchError(f"the patch is not JSON: {error}", status=NOT_JSON) from None
+        if not isinstance(found, list):
+            raise JsonPatchError("patch is not an array", status=NOT_PATCH)
+        return found
 
-    def apply(self, value):
+    def apply(self, value: Any) -> Any:
         """Returns a Python value after the operations. The value itself is unchanged."""
         document = Document.of(value)
         document.apply(self)
         return document.value()
 
-    def __repr__(self):
-        return f"Patch({self.text.decode()!r})"
+    def _normal(self) -> str:
+        """Returns one text for all patches with the same operations."""
+        return json.dumps(self.operations, sort_keys=True)
+
+    def __len__(self) -> int:
+        return len(self.operations)
+
+    def __iter__(self) -> Iterator[Any]:
+        return iter(self.operations)
+
+    def __eq__(self, other: object) -> bool:
+        if not isinstance(other, Patch):
+            return NotImplemented
+        return self._normal() == other._normal()
+
+    def __hash__(self) -> int:
+        return hash(self._normal())
+
+    def __repr__(self) -> str:
+        return f"Patch({self.text.decode(errors='replace')!r})"
 
 
-def make_patch(old, new):
+def make_patch(old: Any, new: Any) -> Patch:
     """Returns a patch that turns one value into another. Each is a `Document` or a Python value."""
     old = old if isinstance(old, Document) else Document.of(old)
     new = new if isinstance(new, Document) else Document.of(new)

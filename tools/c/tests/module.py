@@ -1,0 +1,140 @@
+"""Tests of the Python module alone: what pickles, copies, subclasses, processes and wrong arguments do."""
+import concurrent.futures
+import copy
+import multiprocessing
+import os
+import pickle
+import subprocess
+import sys
+import time
+
+import jsonptr
+
+FIELDS = ("status", "kind", "position", "slash", "offset", "length", "operation", "member")
+
+
+def caught(call, *arguments):
+    """Returns the exception that a call raises."""
+    try:
+        value = call(*arguments)
+    except Exception as error:
+        return error
+    raise AssertionError(f"{call} returned {value!r}")
+
+
+def failing(pointer):
+    """Raises `NotFound`, in a process of a pool."""
+    return jsonptr.resolve({"a": 1}, pointer)
+
+
+def errors():
+    """Returns an exception of each class and shape."""
+    deep = jsonptr.Document("[]")
+    return [
+        caught(failing, "/b"),
+        caught(jsonptr.tokens, "a"),
+        caught(jsonptr.tokens, "/\ud800"),
+        caught(jsonptr.tokens, b"/\xff"),
+        caught(jsonptr.Document, "[1"),
+        caught(jsonptr.Patch([{"op": "remove", "path": "/x"}]).apply, {}),
+        caught(jsonptr.Patch([{"op": "add", "path": "/x"}]).apply, {}),
+        caught(deep.assign, "/-" * 10_001, 1),
+        caught(jsonptr.resolve, [float("nan")], ""),
+        caught(jsonptr.resolve, {"a": "\ud800"}, ""),
+    ]
+
+
+def check_errors():
+    """Checks that each error survives a copy and a pickle, with all its fields."""
+    for error in errors():
+        assert isinstance(error, jsonptr.JsonPointerError), repr(error)
+        for again in (copy.copy(error), copy.deepcopy(error), pickle.loads(pickle.dumps(error))):
+            assert type(again) is type(error) and str(again) == str(error)
+            assert all(getattr(again, name) == getattr(error, name) for name in FIELDS)
+    assert errors()[0].length == 1 and errors()[5].operation == 0 and errors()[6].member == "value"
+
+
+def check_processes():
+    """Checks that an error of a worker reaches the parent, and that the pool goes on."""
+    context = multiprocessing.get_context("spawn")
+    with concurrent.futures.ProcessPoolExecutor(2, mp_context=context) as pool:
+        error = caught(pool.submit(failing, "/b").result, 30)
+        assert isinstance(error, jsonptr.NotFound) and error.offset == 1
+        assert pool.submit(failing, "/a").result(30) == 1
+    with context.Pool(1) as pool:
+        assert isinstance(caught(pool.apply_async(failing, ("/b",)).get, 30), jsonptr.NotFound)
+
+
+def check_documents():
+    """Checks copies and pickles of documents and patches."""
+    document = jsonptr.Document('{"a": [1.5, -0.0, 18446744073709551615]}')
+    for again in (copy.copy(document), copy.deepcopy(document), pickle.loads(pickle.dumps(document))):
+        again.assign("/b", 1)
+        assert document.text() == '{"a":[1.5,-0.0,18446744073709551615]}' and again.resolve("/b") == 1
+    patch = jsonptr.make_patch({"a": 1}, {"a": 2})
+    assert patch and len(patch) == 1 and [it["op"] for it in patch] == ["replace"]
+    assert patch == jsonptr.Patch(b' [ {"path": "/a", "value": 2, "op": "replace"} ]') == copy.copy(patch)
+    assert patch != jsonptr.Patch([]) and not jsonptr.Patch([]) and not jsonptr.make_patch({}, {})
+    assert jsonptr.Patch('[{"op":"test","path":"","value":1}]') != jsonptr.Patch('[{"op":"test","path":"","value":true}]')
+    assert len({patch, pickle.loads(pickle.dumps(patch)), jsonptr.Patch([])}) == 2
+    for text in ("garbage", "{}"):
+        assert isinstance(caught(len, jsonptr.Patch(text)), jsonptr.JsonPatchError)
+
+
+class Long(bytes):
+    """Bytes that claim to be many."""
+
+    def __len__(self):
+        return 10**9
+
+    def __bytes__(self):
+        return Long(self)
+
+
+class Text(str):
+    """A text that encodes itself otherwise."""
+
+    def encode(self, *_):
+        return b"\xff"
+
+    def __len__(self):
+        return 10**9
+
+
+def check_arguments():
+    """Checks subclasses of `str` and `bytes`, and arguments of other types."""
+    assert jsonptr.resolve_in_text(Long(b"[1]"), Text("/0")) == b"1"
+    assert jsonptr.tokens(Long(b"/a")) == ["a"] and jsonptr.escape(Text("a/b")) == "a~1b"
+    assert jsonptr.Document(Long(b"[1]")).resolve(Text("/0")) == 1
+    for call in (jsonptr.tokens, jsonptr.escape, jsonptr.Document):
+        assert isinstance(caught(call, 5), TypeError)
+    assert isinstance(caught(jsonptr.resolve, {1, 2}, ""), TypeError)
+    circle = []
+    circle.append(circle)
+    assert isinstance(caught(jsonptr.Document.of, circle), jsonptr.JsonPointerError)
+
+
+def check_tokens():
+    """Checks the tokens of pointers, and that those of a long one take linear time."""
+    assert jsonptr.tokens("") == [] and jsonptr.tokens("//~01/\u00e9~1") == ["", "~1", "\u00e9/"]
+    start = time.process_time()
+    assert jsonptr.tokens("/~0" * 400_000) == ["~"] * 400_000
+    assert time.process_time() - start < 2
+
+
+def check_library():
+    """Checks the errors of an import that finds no library."""
+    code = "try:\n    import jsonptr\nexcept ImportError as error:\n    print(error.path, error)"
+    for name in ("/no/such/file", __file__):
+        run = subprocess.run([sys.executable, "-c", code], env={**os.environ, "JSONPTR_LIBRARY": name}, stdout=subprocess.PIPE)
+        assert run.stdout.decode().startswith(f"{name} JSONPTR_LIBRARY names no library"), run.stdout
+
+
+def main():
+    for check in (check_errors, check_processes, check_documents, check_arguments, check_tokens, check_library):
+        check()
+    print("the module jsonptr: errors, processes, documents, arguments, tokens, library")
+
+
+if __name__ == "__main__":
+    main()
