@@ -46,7 +46,7 @@ def main():
     readmes = [f"{repository.TOP}/README.md", *sorted(glob.glob(f"{repository.CRATES}/*/README.md"))]
     guide = check(BLOCK.findall(repository.read(GUIDE)) + items, callers)
     shown = check([block for f in readmes for block in CODE.findall(repository.read(f))], callers + tests)
-    print(f"code_blocks: {guide + shown} code blocks of the guide, of doc comments and of the READMEs are in a caller or a test")
+    print(f"code_blocks: {guide + shown} code blocks of the guide and the READMEs are in a caller or a test")
 
 
 if __name__ == "__main__":

@@ -110,7 +110,8 @@ def rows_of(example):
 
 def documented():
     """Returns the files of the libraries."""
-    return sorted(it for name in repository.libraries() for it in glob.glob(f"{repository.CRATES}/{name}/src/**/*.rt", recursive=True))
+    folders = [f"{repository.CRATES}/{name}/src" for name in repository.libraries()]
+    return sorted(it for folder in folders for it in glob.glob(f"{folder}/**/*.rt", recursive=True))
 
 
 def module(words=()):

@@ -78,5 +78,5 @@ def run(modules):
     failed = {name: located(said, origins) for name, result, said in found if result != "ok"}
     said = located(RESULT.sub("", ran.stdout), origins)
     if not failed and (ran.returncode or not passed):
-        failed = {f"status {ran.returncode}, {len(passed)} tests passed": said}
+        failed = {f"run of the tests: status {ran.returncode}, {len(passed)} passed": said}
     return Results(passed, failed, said)

@@ -1,16 +1,10 @@
-//! Patches that fail: the operation, every field of the cause, and the displayed text.
+//! Patches that fail: the operation and every field of the cause.
 use crate::patch::patches::refusal;
 use jsonptr::index::{OutOfBoundsError, ParseIndexError};
-use jsonptr::{Fault, assign, resolve};
+use jsonptr::{assign, resolve};
 use jsonptr_patch::PatchError;
 use std::alloc::Global;
-use std::error::Error;
 use std::test::Fail;
-
-/// The displayed text of any error.
-fn shown<E: Error>(alloc: Global, error: &E) -> Result<String, Fail> {
-    Ok(format!(in alloc; "{error}")?)
-}
 
 /// Whether a patch of a document fails with this error.
 fn is_refused(alloc: Global, document: &str, lines: &str, want: PatchError) -> Result<bool, Fail> {
@@ -181,36 +175,6 @@ fn tests_and_moves(rt: HostRuntime) -> Result<(), Fail> {
     ] {
         assert!(rt;
             is_refused(rt.alloc(), document, lines, want)?,
-            "by {lines}"
-        );
-    }
-    Ok(())
-}
-
-/// Whether the error of a patch displays this text, also inside a `Fault`.
-fn displays_as(alloc: Global, document: &str, lines: &str, want: &str) -> Result<bool, Fail> {
-    let error = refusal(alloc, document, lines)?;
-    let alone = shown(alloc, &error)?;
-    let fault = shown(alloc, &Fault::Refused(error))?;
-    Ok(alone.as_str() == want && fault.as_str() == want)
-}
-
-#[test]
-fn texts(rt: HostRuntime) -> Result<(), Fail> {
-    for (document, lines, want) in [
-        (
-            "{}",
-            "add /a 1\nremove /b",
-            "patch failed at operation 1: resolve failed: json pointer token at 0 was not found in value",
-        ),
-        (
-            "{}",
-            "add /b 1\ntest /b 2",
-            "patch failed at operation 1: test failed",
-        ),
-    ] {
-        assert!(rt;
-            displays_as(rt.alloc(), document, lines, want)?,
             "by {lines}"
         );
     }

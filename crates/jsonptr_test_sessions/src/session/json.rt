@@ -1,5 +1,5 @@
 //! Sessions on JSON documents: every field of every error.
-use crate::session::refusals::{assign_error, is_no_pointer, no_position, no_value, text};
+use crate::session::refusals::{assign_error, is_no_pointer, no_value, text};
 use jsonptr::index::{IntegerCause, OutOfBoundsError, ParseIndexError};
 use jsonptr::{EncodingError, InvalidEncoding, ParseError, Pointer, ReplaceError, assign, resolve};
 use jsonptr_session::session::{Call, Reply, run_json_with};
@@ -25,16 +25,6 @@ fn texts_with_a_tilde(rt: HostRuntime) -> Result<(), Fail> {
             is_no_pointer::<Value>(&rt, "/x", "[]", wrong, error)?,
             "at {wrong}"
         );
-    }
-    Ok(())
-}
-
-#[test]
-fn positions_that_no_token_has(rt: HostRuntime) -> Result<(), Fail> {
-    for (ptr, index, count) in [("", 0, 0), ("/a/b", 2, 2), ("//", usize::MAX, 2)] {
-        let call = Call::Replace(index, text(&rt, "x")?);
-        let error = no_position::<Value>(&rt, ptr, "[]", call)?;
-        assert!(rt; error == ReplaceError { index, count }, "at {ptr}");
     }
     Ok(())
 }

@@ -1,6 +1,6 @@
 //! Sessions on TOML documents: every field of every error.
-use crate::session::refusals::{no_position, no_value, text};
-use jsonptr::{ReplaceError, resolve};
+use crate::session::refusals::no_value;
+use jsonptr::resolve;
 use jsonptr_session::Call;
 use std::test::Fail;
 use toml::Value;
@@ -17,13 +17,5 @@ fn pointers_that_name_no_value(rt: HostRuntime) -> Result<(), Fail> {
     let read = no_value::<Value>(&rt, "/d/x", DATE, Call::Resolve)?;
     let written = no_value(&rt, "/d/x", DATE, Call::Write(Value::Integer(1)))?;
     assert!(rt; read == below && written == below);
-    Ok(())
-}
-
-#[test]
-fn a_position_that_no_token_has(rt: HostRuntime) -> Result<(), Fail> {
-    let call = Call::Replace(2, text(&rt, "x")?);
-    let error = no_position::<Value>(&rt, "/d/x", DATE, call)?;
-    assert_eq!(rt; error, ReplaceError { index: 2, count: 2 });
     Ok(())
 }

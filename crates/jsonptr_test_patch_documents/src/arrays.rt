@@ -1,58 +1,7 @@
-//! Differences of arrays.
-use crate::diffs::{has_count, is_diff};
+//! Differences of long arrays.
+use crate::diffs::has_count;
 use std::alloc::{AllocError, Global};
 use std::test::Fail;
-
-#[test]
-fn elements(rt: HostRuntime) -> Result<(), Fail> {
-    for (old, new, want) in [
-        ("[]", "[1,2]", "add /0 1\nadd /1 2\n"),
-        ("[1,2]", "[]", "remove /0\nremove /0\n"),
-        ("[1,2,3]", "[1,4,3]", "replace /1 4\n"),
-        ("[1,2,3]", "[1,3]", "remove /1\n"),
-        ("[1,3]", "[1,2,3]", "add /1 2\n"),
-        ("[1,2,3]", "[0,1,2,3]", "add /0 0\n"),
-        ("[1,2,3]", "[1,2,3,4]", "add /3 4\n"),
-        ("[1,2,3]", "[0,1,2,3,4]", "add /0 0\nadd /4 4\n"),
-        ("[0,1,2,3,4]", "[1,2,3]", "remove /0\nremove /3\n"),
-        ("[1,2,3,4,5]", "[1,9,3,8,5]", "replace /1 9\nreplace /3 8\n"),
-        (
-            "[1,2,3,4,5]",
-            "[2,3,7,4,6,5]",
-            "remove /0\nadd /2 7\nadd /4 6\n",
-        ),
-    ] {
-        assert!(rt; is_diff(rt.alloc(), old, new, want)?, "of {old} and {new}");
-    }
-    Ok(())
-}
-
-#[test]
-fn nested(rt: HostRuntime) -> Result<(), Fail> {
-    for (old, new, want) in [
-        ("[[1,2],[3,4]]", "[[1,2],[3,5]]", "replace /1/1 5\n"),
-        ("[[1,2],[3,4]]", "[[0],[1,2],[3,4]]", "add /0 [0]\n"),
-        ("[[[1]]]", "[[[1,2]]]", "add /0/0/1 2\n"),
-        (
-            r#"[{"a":1},{"a":2},{"a":3}]"#,
-            r#"[{"a":1},{"a":9},{"a":3}]"#,
-            "replace /1/a 9\n",
-        ),
-        (
-            r#"[{"a":[1,2]},{"a":[3]},5]"#,
-            r#"[{"a":[2]},{"a":[3]},6,7]"#,
-            "remove /0/a/0\nreplace /2 6\nadd /3 7\n",
-        ),
-        (
-            r#"{"a":[{"b":1},{"c":2}]}"#,
-            r#"{"a":[{"c":2},{"b":1}]}"#,
-            "add /a/0 {\"c\":2}\nremove /a/2\n",
-        ),
-    ] {
-        assert!(rt; is_diff(rt.alloc(), old, new, want)?, "of {old} and {new}");
-    }
-    Ok(())
-}
 
 /// The text of an array of the numbers from `from` up to `to`, without `left_out`.
 fn numbers(alloc: Global, from: usize, to: usize, left_out: usize) -> Result<String, AllocError> {

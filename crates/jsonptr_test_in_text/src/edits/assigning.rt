@@ -217,25 +217,3 @@ fn the_errors_are_those_of_assign(rt: HostRuntime) -> Result<(), Fail> {
     }
     Ok(())
 }
-
-#[test]
-fn a_document_nests_at_most_127_deep(rt: HostRuntime) -> Result<(), Fail> {
-    let alloc = rt.alloc();
-    for (depth, want) in [(126, "assigned"), (127, "too deep")] {
-        let tokens = "/0".repeat(alloc, depth)?;
-        let pointer = format!(in alloc; "/a{}", tokens.as_str())?;
-        let said = said_by_assign_in_text(alloc, "{}", Pointer::parse(pointer.as_str())?)?;
-        assert_eq!(rt; said.as_str(), want);
-    }
-    Ok(())
-}
-
-#[test]
-fn a_damaged_text_is_not_json(rt: HostRuntime) -> Result<(), Fail> {
-    let alloc = rt.alloc();
-    for text in ["", "{", "[1 2]", "1 2", "[1e999]", "\u{feff}1"] {
-        let edited = assign_in_text(alloc, text, Pointer::root(), Value::Null);
-        assert!(rt; matches!(edited, Err(EditError::NotJson)), "{text}");
-    }
-    Ok(())
-}

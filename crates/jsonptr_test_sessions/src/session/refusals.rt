@@ -1,5 +1,5 @@
 //! Helpers: runs one call on a JSON or TOML document, and checks its error.
-use jsonptr::{ParseError, Pointer, PointerBuf, ReplaceError, assign, resolve};
+use jsonptr::{ParseError, Pointer, PointerBuf, assign, resolve};
 use jsonptr_session::session::{Call, Reply, run_json, run_toml};
 use std::alloc::{AllocError, Global};
 use std::fmt::Display;
@@ -116,19 +116,6 @@ pub fn assign_error<D: SessionRun>(
     match refusal(rt, ptr, doc, call)? {
         Reply::BadPlace(error) => Ok(error),
         _other => Err("no place".into()),
-    }
-}
-
-/// The replace error of a call on this pointer and document, which changes nothing.
-pub fn no_position<D: SessionRun>(
-    rt: &HostRuntime,
-    ptr: &str,
-    doc: &str,
-    call: Call<D>,
-) -> Result<ReplaceError, Fail> {
-    match refusal(rt, ptr, doc, call)? {
-        Reply::BadPosition(error) => Ok(error),
-        _ => Err("no position".into()),
     }
 }
 
