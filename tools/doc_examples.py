@@ -48,8 +48,8 @@ def examples(path):
             code = None
         elif code and comment:
             code.rows.append(text)
-        else:
-            code = None
+        elif code:
+            sys.exit(f"{os.path.relpath(path, repository.TOP)}:{code.line}: an example without an end")
     return found
 
 
@@ -62,7 +62,7 @@ def is_meant(item, mark):
     """Returns whether a name in code, with what follows it, can be this item's."""
     if item.kind in ("mod", "fn"):
         return mark == {"mod": "::", "fn": "("}[item.kind]
-    return mark != "("
+    return True
 
 
 def import_of(name, mark, crate, path):

@@ -37,140 +37,109 @@ fn agrees(alloc: Global, text: &str, pointer: &str, value: &str) -> Result<bool,
     }
 }
 
-/// Returns the position of the first case that fails: by its bytes, or by its document.
-fn first_failing(alloc: Global, cases: &[(&str, &str, &str, &str)]) -> Result<Option<usize>, Fail> {
-    for (position, (text, pointer, value, want)) in cases.iter().enumerate() {
-        if !becomes(alloc, text, pointer, value, want)? || !agrees(alloc, text, pointer, value)? {
-            return Ok(Some(position));
-        }
+/// A text, a pointer, a value, and the text after the assignment.
+const ASSIGNED: [(&str, &str, &str, &str); 28] = [
+    // A value is replaced, and every other byte stays.
+    (r#"{"a":1,"b":2}"#, "/a", "3", r#"{"a":3,"b":2}"#),
+    (
+        r#"{ "b" : 1e5 , "a" : 1.0 }"#,
+        "/a",
+        "2",
+        r#"{ "b" : 1e5 , "a" : 2 }"#,
+    ),
+    (
+        "[1.50, [2 , 3]\t]\r\n",
+        "/1/0",
+        "[]",
+        "[1.50, [[] , 3]\t]\r\n",
+    ),
+    (r#"{"a":1,"a":2}"#, "/a", "3", r#"{"a":1,"a":3}"#),
+    (
+        r#"{"a":{"x":1},"a":{"x":2}}"#,
+        "/a/x",
+        "3",
+        r#"{"a":{"x":1},"a":{"x":3}}"#,
+    ),
+    (
+        r#"{"\u0061":"\u00e9", "c": "\u00e9"}"#,
+        "/a",
+        "0",
+        r#"{"\u0061":0, "c": "\u00e9"}"#,
+    ),
+    (" 1 ", "", "2", " 2 "),
+    // A member is added with the white space of its siblings.
+    (r#"{"a":1}"#, "/b", "2", r#"{"a":1,"b":2}"#),
+    (r#"{"a": 1}"#, "/b", "2", r#"{"a": 1, "b": 2}"#),
+    (
+        r#"{"a": 1, "c": 3}"#,
+        "/b",
+        "2",
+        r#"{"a": 1, "c": 3, "b": 2}"#,
+    ),
+    (
+        "{\n  \"a\": 1\n}\n",
+        "/b",
+        "2",
+        "{\n  \"a\": 1,\n  \"b\": 2\n}\n",
+    ),
+    (
+        "{\r\n\t\"a\": 1\r\n}",
+        "/b",
+        "2",
+        "{\r\n\t\"a\": 1,\r\n\t\"b\": 2\r\n}",
+    ),
+    (
+        "{\n  \"a\": {\n  }\n}",
+        "/a/b",
+        "2",
+        "{\n  \"a\": {\n    \"b\": 2\n  }\n}",
+    ),
+    ("{}", "/b", "2", r#"{"b":2}"#),
+    (r#"{"a": {}}"#, "/a/b", "2", r#"{"a": {"b": 2}}"#),
+    (r#"{"a":1}"#, "/~1~0", "2", r#"{"a":1,"/~":2}"#),
+    (r#"{"a":1}"#, "/b/c/0", "2", r#"{"a":1,"b":{"c":[2]}}"#),
+    (
+        "{\n  \"a\": 1\n}",
+        "/b/c",
+        "2",
+        "{\n  \"a\": 1,\n  \"b\": {\n    \"c\": 2\n  }\n}",
+    ),
+    (r#"{"a":1,"a":2}"#, "/b", "3", r#"{"a":1,"a":2,"b":3}"#),
+    // An element is added at the end.
+    ("[1]", "/1", "2", "[1,2]"),
+    ("[1, 2]", "/-", "3", "[1, 2, 3]"),
+    ("[ ]", "/-", "3", "[ 3 ]"),
+    ("[\n  1,\n  2\n]", "/-", "3", "[\n  1,\n  2,\n  3\n]"),
+    ("[\n  1\n]", "/-", "[2]", "[\n  1,\n  [\n    2\n  ]\n]"),
+    (
+        r#"{"a": [1.0, 2]}"#,
+        "/a/2/b",
+        "3",
+        r#"{"a": [1.0, 2, {"b":3}]}"#,
+    ),
+    // A scalar is expanded.
+    (
+        r#"{"a":1.0,"b":1.0}"#,
+        "/a/b",
+        "2",
+        r#"{"a":{"b":2},"b":1.0}"#,
+    ),
+    ("[null]", "/0/0", "2", "[[2]]"),
+    (r#""text""#, "/a", "2", r#"{"a":2}"#),
+];
+
+#[test]
+fn texts_after_assignments(rt: HostRuntime) -> Result<(), Fail> {
+    for (text, pointer, value, want) in ASSIGNED {
+        assert!(rt;
+            becomes(rt.alloc(), text, pointer, value, want)?,
+            "{text} {pointer}"
+        );
+        assert!(rt;
+            agrees(rt.alloc(), text, pointer, value)?,
+            "{text} {pointer}"
+        );
     }
-    Ok(None)
-}
-
-#[test]
-fn a_value_is_replaced_and_every_other_byte_stays(rt: HostRuntime) -> Result<(), Fail> {
-    let failing = first_failing(
-        rt.alloc(),
-        &[
-            (r#"{"a":1,"b":2}"#, "/a", "3", r#"{"a":3,"b":2}"#),
-            (
-                r#"{ "b" : 1e5 , "a" : 1.0 }"#,
-                "/a",
-                "2",
-                r#"{ "b" : 1e5 , "a" : 2 }"#,
-            ),
-            (
-                "[1.50, [2 , 3]\t]\r\n",
-                "/1/0",
-                "[]",
-                "[1.50, [[] , 3]\t]\r\n",
-            ),
-            (r#"{"a":1,"a":2}"#, "/a", "3", r#"{"a":1,"a":3}"#),
-            (
-                r#"{"a":{"x":1},"a":{"x":2}}"#,
-                "/a/x",
-                "3",
-                r#"{"a":{"x":1},"a":{"x":3}}"#,
-            ),
-            (
-                r#"{"\u0061":"\u00e9", "c": "\u00e9"}"#,
-                "/a",
-                "0",
-                r#"{"\u0061":0, "c": "\u00e9"}"#,
-            ),
-            (" 1 ", "", "2", " 2 "),
-        ],
-    )?;
-    assert_eq!(rt; failing, None);
-    Ok(())
-}
-
-#[test]
-fn a_member_is_added_as_its_siblings_are(rt: HostRuntime) -> Result<(), Fail> {
-    let failing = first_failing(
-        rt.alloc(),
-        &[
-            (r#"{"a":1}"#, "/b", "2", r#"{"a":1,"b":2}"#),
-            (r#"{"a": 1}"#, "/b", "2", r#"{"a": 1, "b": 2}"#),
-            (
-                r#"{"a": 1, "c": 3}"#,
-                "/b",
-                "2",
-                r#"{"a": 1, "c": 3, "b": 2}"#,
-            ),
-            (
-                "{\n  \"a\": 1\n}\n",
-                "/b",
-                "2",
-                "{\n  \"a\": 1,\n  \"b\": 2\n}\n",
-            ),
-            (
-                "{\r\n\t\"a\": 1\r\n}",
-                "/b",
-                "2",
-                "{\r\n\t\"a\": 1,\r\n\t\"b\": 2\r\n}",
-            ),
-            (
-                "{\n  \"a\": {\n  }\n}",
-                "/a/b",
-                "2",
-                "{\n  \"a\": {\n    \"b\": 2\n  }\n}",
-            ),
-            ("{}", "/b", "2", r#"{"b":2}"#),
-            (r#"{"a": {}}"#, "/a/b", "2", r#"{"a": {"b": 2}}"#),
-            (r#"{"a":1}"#, "/~1~0", "2", r#"{"a":1,"/~":2}"#),
-            (r#"{"a":1}"#, "/b/c/0", "2", r#"{"a":1,"b":{"c":[2]}}"#),
-            (
-                "{\n  \"a\": 1\n}",
-                "/b/c",
-                "2",
-                "{\n  \"a\": 1,\n  \"b\": {\n    \"c\": 2\n  }\n}",
-            ),
-            (r#"{"a":1,"a":2}"#, "/b", "3", r#"{"a":1,"a":2,"b":3}"#),
-        ],
-    )?;
-    assert_eq!(rt; failing, None);
-    Ok(())
-}
-
-#[test]
-fn an_element_is_added_at_the_end(rt: HostRuntime) -> Result<(), Fail> {
-    let failing = first_failing(
-        rt.alloc(),
-        &[
-            ("[1]", "/1", "2", "[1,2]"),
-            ("[1, 2]", "/-", "3", "[1, 2, 3]"),
-            ("[ ]", "/-", "3", "[ 3 ]"),
-            ("[\n  1,\n  2\n]", "/-", "3", "[\n  1,\n  2,\n  3\n]"),
-            ("[\n  1\n]", "/-", "[2]", "[\n  1,\n  [\n    2\n  ]\n]"),
-            (
-                r#"{"a": [1.0, 2]}"#,
-                "/a/2/b",
-                "3",
-                r#"{"a": [1.0, 2, {"b":3}]}"#,
-            ),
-        ],
-    )?;
-    assert_eq!(rt; failing, None);
-    Ok(())
-}
-
-#[test]
-fn a_scalar_is_expanded(rt: HostRuntime) -> Result<(), Fail> {
-    let failing = first_failing(
-        rt.alloc(),
-        &[
-            (
-                r#"{"a":1.0,"b":1.0}"#,
-                "/a/b",
-                "2",
-                r#"{"a":{"b":2},"b":1.0}"#,
-            ),
-            ("[null]", "/0/0", "2", "[[2]]"),
-            (r#""text""#, "/a", "2", r#"{"a":2}"#),
-        ],
-    )?;
-    assert_eq!(rt; failing, None);
     Ok(())
 }
 

@@ -3,35 +3,28 @@ use jsonptr_in_toml::{InTomlError, list_in_toml};
 use jsonptr_paths::listing::Listed;
 use std::test::Fail;
 
-#[test]
-fn lines_of_scalars(rt: HostRuntime) -> Result<(), Fail> {
-    let alloc = rt.alloc();
-    for (text, want) in [
-        ("a = 0x10\n", "/a\t16\n"),
-        ("a = -7\n", "/a\t-7\n"),
-        ("a = 1.0\n", "/a\t1.0\n"),
-        ("a = -inf\n", "/a\t-inf\n"),
-        ("a = false\n", "/a\tfalse\n"),
-        ("a = 1979-05-27T07:32:00Z\n", "/a\t1979-05-27T07:32:00Z\n"),
-        ("a = 07:32:00\n", "/a\t07:32:00\n"),
-        ("a = 'x'\n", "/a\t\"x\"\n"),
-        ("a = 'x\"y'\n", "/a\t'x\"y'\n"),
-        ("a = \"x\\ty\"\n", "/a\t\"x\\ty\"\n"),
-    ] {
-        let lines = list_in_toml(alloc, text, Listed::Leaves)?;
-        assert_eq!(rt; lines.as_str(), want);
-    }
-    Ok(())
-}
+/// A TOML document, and the line of its leaf.
+const SCALARS: [(&str, &str); 12] = [
+    // Scalars on one line.
+    ("a = 0x10\n", "/a\t16\n"),
+    ("a = -7\n", "/a\t-7\n"),
+    ("a = 1.0\n", "/a\t1.0\n"),
+    ("a = -inf\n", "/a\t-inf\n"),
+    ("a = false\n", "/a\tfalse\n"),
+    ("a = 1979-05-27T07:32:00Z\n", "/a\t1979-05-27T07:32:00Z\n"),
+    ("a = 07:32:00\n", "/a\t07:32:00\n"),
+    ("a = 'x'\n", "/a\t\"x\"\n"),
+    ("a = 'x\"y'\n", "/a\t'x\"y'\n"),
+    ("a = \"x\\ty\"\n", "/a\t\"x\\ty\"\n"),
+    // Strings over lines.
+    ("a = \"x\\ny\"\n", "/a\t\"x\\ny\"\n"),
+    ("a = '''\nx\n\"y\"'''\n", "/a\t\"x\\n\\\"y\\\"\"\n"),
+];
 
 #[test]
-fn strings_over_lines(rt: HostRuntime) -> Result<(), Fail> {
-    let alloc = rt.alloc();
-    for (text, want) in [
-        ("a = \"x\\ny\"\n", "/a\t\"x\\ny\"\n"),
-        ("a = '''\nx\n\"y\"'''\n", "/a\t\"x\\n\\\"y\\\"\"\n"),
-    ] {
-        let lines = list_in_toml(alloc, text, Listed::Leaves)?;
+fn lines_of_scalars(rt: HostRuntime) -> Result<(), Fail> {
+    for (text, want) in SCALARS {
+        let lines = list_in_toml(rt.alloc(), text, Listed::Leaves)?;
         assert_eq!(rt; lines.as_str(), want);
     }
     Ok(())
