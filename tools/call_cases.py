@@ -3,6 +3,7 @@
 memory.py runs each of them. Add a case to the table of its call: with `no_alloc` if the call must not allocate, else
 with `allocates`, or with the helper of its table (`edit`, `on`, `undoing`, `patched`, `session`).
 """
+import json
 from typing import NamedTuple
 
 
@@ -536,6 +537,9 @@ def edits_in_text():
     yield edited("assign in text", pretty, "/a/3", "0", answer=ASSIGN_OUT_OF_BOUNDS.format(2))
     yield edited("assign in text", pretty, "/a/x", "0", answer=ASSIGN_BAD_INDEX.format(2))
     yield edited("assign in text", "{}", "/0" * 128, "0", answer="too deep")
+    deepest = "in place " + '{"a":' + "[" * 126 + "null" + "]" * 126 + "}"
+    yield edited("assign in text", "{}", "/a" + "/0" * 126, "null", answer=deepest)
+    yield edited("assign in text", "{}", "/a" + "/0" * 127, "null", answer="too deep")
     yield edited("assign in text", f'{{"a":"{LONG}","b":[1]}}', "/b/-", "2", answer=f'in place {{"a":"{LONG}","b":[1,2]}}')
     deleted = [
         ("/b", '{ "a" : [ 2 ,\t{"c":"\\u0041"} ] }'), ("/a/0", '{ "b" : 1.50, "a" : [ {"c":"\\u0041"} ] }'),
@@ -545,6 +549,7 @@ def edits_in_text():
         yield edited("delete in text", pretty, pointer, answer=f"in place {text}")
     for pointer in ("/c", "/a/-", "/b/b"):
         yield edited("delete in text", pretty, pointer, answer="none")
+    yield edited("delete in text", '{"a":1}', "/b", answer="none")
     for text in ("", "{", '{"a":1}}', '{"b":1e309,"a":1}', "\ufeff1", "[" * 128 + "]" * 128):
         for call in ("assign in text", "assign in text with"):
             yield edited(call, text, "/a", "1", answer="not JSON")
@@ -898,6 +903,7 @@ def patches():
     yield patched('{"a":1}', ("test", "/a", "1.5"), answer=failed(0, "a float cannot be tested"))
     yield patched("{}", ("add", "/x", "1"), ("test", "/x", "2"), answer=failed(1, "test failed"))
     yield patched("[1]", ("remove", "/-"), answer=failed(0, RESOLVE_OUT_OF_BOUNDS.format(0)))
+    yield patched("{}", ("add", "/a", "1"), ("remove", "/b"), answer=failed(1, RESOLVE_NOT_FOUND.format(0)))
     long = f"/{LONG}"
     for token, key in [("a", "a"), ("a~1b", "a/b"), (LONG, LONG), (ENCODED, DECODED)]:
         kept, patch = f'{{"{key}":[1]}}', [("add", f"/{token}/0", "0"), ("replace", f"/{token}/1", "[2]")]
@@ -1040,6 +1046,58 @@ def changed(old, new, *operations):
     answer = "".join(f"{it}\n" for it in (*operations, "done"))
     yield Case(("diff", old, new), answer, f"{old}\n", no_alloc=not operations)
     yield Case(("change", old, new), "done\n", f"{new}\n", no_alloc=not operations)
+
+
+def differences_of_objects():
+    """Differences of objects and of scalars, of equal documents, and of floats, which always differ."""
+    minus, greatest = str(-(2**63)), str(USIZE_MAX)
+    for document in ["true", "0", minus, greatest, '"text"', '{"a":[1,{"b":[null,"c"]},[]],"d":{}}', "[[1,2],[3,[4,5]],[[[]]]]"]:
+        yield from changed(document, document)
+    yield Case(("diff", '{"a":1,"b":2}', '{"b":2,"a":1}'), "done\n", '{"a":1,"b":2}\n', no_alloc=True)
+    for old, new, *operations in [
+        ("{}", '{"a":1}', "add /a 1"), ('{"a":1}', "{}", "remove /a"), ('{"a":1}', '{"a":2}', "replace /a 2"),
+        ('{"a":1}', '{"b":1}', "remove /a", "add /b 1"),
+        ('{"a":{"b":{"c":1,"d":2}}}', '{"a":{"b":{"c":1,"d":3}}}', "replace /a/b/d 3"),
+        ('{"a":{}}', '{"a":[]}', "replace /a []"), ('{"a":[]}', '{"a":{}}', "replace /a {}"),
+        ('{"a":1,"b":2,"c":3}', '{"b":2,"c":{"d":4},"e":5}', "remove /a", 'replace /c {"d":4}', "add /e 5"),
+        ('{"a/b":1}', '{"a/b":2}', "replace /a~1b 2"), ('{"a~b":1}', "{}", "remove /a~0b"), ("{}", '{"~1":1}', "add /~01 1"),
+        ('{"":{"":1}}', '{"":{"":2}}', "replace // 2"), ('{"/":[1]}', '{"/":[1,2]}', "add /~1/1 2"),
+        ('{"é":1}', '{"é":null}', "replace /é null"), ('{"0":1}', '{"-":2,"0":1}', "add /- 2"),
+        ("null", "{}", "replace  {}"), ("[]", "{}", "replace  {}"), ('"a"', '"b"', 'replace  "b"'),
+        ("true", "false", "replace  false"), ("1", "true", "replace  true"), ("0", "false", "replace  false"),
+        ("-1", "1", "replace  1"), ('"1"', "1", "replace  1"), (greatest, str(USIZE_MAX - 1), f"replace  {USIZE_MAX - 1}"),
+        ("1.5", "1.5", "replace  1.5"), ("1.5", "1", "replace  1"), ("1", "1.5", "replace  1.5"),
+        ('{"a":1.5,"b":1}', '{"a":1.5,"b":1}', "replace /a 1.5"), ("[1,2.5,3]", "[1,2.5,3]", "replace /1 2.5"),
+        ('[{"a":1,"x":0.5},{"a":2}]', '[{"a":1,"x":0.5},{"a":3}]', "replace /0/x 0.5", "replace /1/a 3"),
+    ]:
+        yield from changed(old, new, *operations)
+
+
+def differences_of_arrays():
+    """Differences of arrays, and the examples of RFC 6902, appendix A, reversed: of the documents before and after."""
+    for old, new, *operations in [
+        ("[]", "[1,2]", "add /0 1", "add /1 2"), ("[1,2]", "[]", "remove /0", "remove /0"),
+        ("[1,2,3]", "[1,4,3]", "replace /1 4"), ("[1,2,3]", "[1,3]", "remove /1"), ("[1,3]", "[1,2,3]", "add /1 2"),
+        ("[1,2,3]", "[0,1,2,3]", "add /0 0"), ("[1,2,3]", "[1,2,3,4]", "add /3 4"),
+        ("[0,1,2,3,4]", "[1,2,3]", "remove /0", "remove /3"),
+        ("[1,2,3,4,5]", "[1,9,3,8,5]", "replace /1 9", "replace /3 8"),
+        ("[1,2,3,4,5]", "[2,3,7,4,6,5]", "remove /0", "add /2 7", "add /4 6"),
+        ("[[1,2],[3,4]]", "[[1,2],[3,5]]", "replace /1/1 5"), ("[[1,2],[3,4]]", "[[0],[1,2],[3,4]]", "add /0 [0]"),
+        ("[[[1]]]", "[[[1,2]]]", "add /0/0/1 2"), ('[{"a":1},{"a":2},{"a":3}]', '[{"a":1},{"a":9},{"a":3}]', "replace /1/a 9"),
+        ('[{"a":[1,2]},{"a":[3]},5]', '[{"a":[2]},{"a":[3]},6,7]', "remove /0/a/0", "replace /2 6", "add /3 7"),
+        ('{"a":[{"b":1},{"c":2}]}', '{"a":[{"c":2},{"b":1}]}', 'add /a/0 {"c":2}', "remove /a/2"),
+        ('{"foo":"bar"}', '{"baz":"qux","foo":"bar"}', 'add /baz "qux"'),
+        ('{"foo":["bar","baz"]}', '{"foo":["bar","qux","baz"]}', 'add /foo/1 "qux"'),
+        ('{"baz":"qux","foo":"bar"}', '{"foo":"bar"}', "remove /baz"),
+        ('{"foo":["bar","qux","baz"]}', '{"foo":["bar","baz"]}', "remove /foo/1"),
+        ('{"baz":"qux","foo":"bar"}', '{"baz":"boo","foo":"bar"}', 'replace /baz "boo"'),
+        ('{"foo":{"bar":"baz","waldo":"fred"},"qux":{"corge":"grault"}}',
+         '{"foo":{"bar":"baz"},"qux":{"corge":"grault","thud":"fred"}}', "remove /foo/waldo", 'add /qux/thud "fred"'),
+        ('{"foo":["all","grass","cows","eat"]}', '{"foo":["all","cows","eat","grass"]}', "remove /foo/1", 'add /foo/3 "grass"'),
+        ('{"foo":"bar"}', '{"child":{"grandchild":{}},"foo":"bar"}', 'add /child {"grandchild":{}}'),
+        ('{"foo":["bar"]}', '{"foo":["bar",["abc","def"]]}', 'add /foo/1 ["abc","def"]'),
+    ]:
+        yield from changed(old, new, *operations)
 
 
 def differences():
@@ -1531,6 +1589,10 @@ def patch_documents():
         ("[7]", "operation 0 is not an object"),
         (f'[{add},"{LONG}"]', "operation 1 is not an object"),
         ("[{}]", "operation 0 has no member `op`"),
+        ('[{"op":"add","path":"/a"}]', "operation 0 has no member `value`"),
+        ('[{"op":"remove","path":null}]', "member `path` of operation 0 is not a string"),
+        ('[{"op":"remove","path":""},{"op":"spam"}]', "member `op` of operation 1 is not an operation"),
+        ('[{"from":"a","op":"copy","path":""}]', f"member `from` of operation 0: {PARSE_NO_SLASH}"),
         (f'[{add},{move},{{"op":"test","path":"{MANY}"}}]', "operation 2 has no member `value`"),
         ('[{"op":["add"]}]', "member `op` of operation 0 is not a string"),
         (f'[{{"op":"{LONG}"}}]', "member `op` of operation 0 is not an operation"),
@@ -1538,6 +1600,24 @@ def patch_documents():
         ('[{"from":"/a/~","op":"copy","path":""}]', f"member `from` of operation 0: {PARSE_MALFORMED.format(2)}"),
     ]:
         yield unread(document, cause)
+    for document, *operations in [
+        ('[{"path":"/a","op":"remove"}]', "remove /a"), ('[{"op":"remove","path":"/a","value":1}]', "remove /a"),
+        ('[{"from":5,"op":"remove","path":"/a"}]', "remove /a"),
+        ('[{"from":"a~","value":[],"op":"remove","path":"/a"}]', "remove /a"),
+        ('[{"op":"add","path":"/a","value":1,"from":"b"}]', "add 1 at /a"),
+        ('[{"op":"add","path":"/a","value":1,"from":null}]', "add 1 at /a"),
+        ('[{"op":"copy","path":"/a","from":"/b","value":1}]', "copy /b to /a"),
+        # `serde_json` keeps the last of a repeated member when it reads a text.
+        ('[{"op":"add","op":"remove","path":"/a"}]', "remove /a"), ('[{"op":7,"path":"/a","op":"remove"}]', "remove /a"),
+        ('[{"path":"b","op":"remove","path":"/a"}]', "remove /a"),
+        ('[{"value":1,"op":"add","path":"/a","value":2}]', "add 2 at /a"),
+        ('[{"from":null,"from":"/c","op":"move","path":"/a"}]', "move /c to /a"),
+        ('[{"op":"test","path":"","value":null},{"op":"remove","path":"/a"}]', "test  for null", "remove /a"),
+        ('[{"op":"add","path":"/a","value":1.5}]', "add 1.5 at /a"),
+        ('[{"op":"add","path":"","value":{"a":{"":[{"op":"add"}]},"b":false}}]', 'add {"a":{"":[{"op":"add"}]},"b":false} at '),
+    ]:
+        kept = json.dumps(json.loads(document), sort_keys=True, separators=(",", ":"))
+        yield read_as(document, *operations)._replace(after=f"{kept}\n")
     yield written_as("[]")
     yield written_as(f"[{add}]", (("add", "/a~1b", '{"x":[1,null]}'), 'add {"x":[1,null]} at /a~1b'))
     yield written_as(
@@ -1587,7 +1667,7 @@ def values_of_errors():
 TABLES = [
     texts, pointers_of_texts, cut, indices, tokens, numbers, measures, pairs, ranges, copies, edits, owned,
     found, assigned, in_tables, labelled, undos, undos_told, patches, applied, refused, journaled, patch_documents,
-    differences, in_text, edits_in_text,
+    differences_of_objects, differences_of_arrays, differences, in_text, edits_in_text,
     sessions, single_calls, refused_calls, reports, bounds, shown,
     large_documents, large_undos_and_patches, few_requests, values_of_errors,
 ]

@@ -17,8 +17,9 @@ import sys
 import api
 import call_cases
 import doc_examples
+import repository
 
-TOP = api.TOP
+TOP = repository.TOP
 FENCE = re.compile(r"^```.*?^```$", re.MULTILINE | re.DOTALL)
 CODE = re.compile(r"`([^`\n]+)`")
 LINK = re.compile(r"\[[^\]]*\]\(([^)\s]+)\)")
@@ -32,7 +33,7 @@ errors = []
 
 def read(name):
     """Returns the text of a file of the repository."""
-    return api.read(f"{TOP}/{name}")
+    return repository.read(f"{TOP}/{name}")
 
 
 def documents():
@@ -41,12 +42,6 @@ def documents():
     for pattern in ("docs/*.md", "crates/*/*.md"):
         found += sorted(os.path.relpath(path, TOP) for path in glob.glob(f"{TOP}/{pattern}"))
     return [name for name in found if name != "docs/API.md"]
-
-
-def crates():
-    """Returns all crates, in the order of crates.txt."""
-    lines = (line.split("#")[0] for line in read("crates.txt").splitlines())
-    return [line.split(":")[0].split()[0] for line in lines if ":" in line]
 
 
 def expect(holds, name, what):
@@ -58,7 +53,7 @@ def expect(holds, name, what):
 @functools.cache
 def sources():
     """Returns the text of each source file of each crate."""
-    return {path: api.read(path) for path in glob.glob(f"{TOP}/crates/*/src/**/*.rt", recursive=True)}
+    return {path: repository.read(path) for path in glob.glob(f"{TOP}/crates/*/src/**/*.rt", recursive=True)}
 
 
 @functools.cache
@@ -80,7 +75,7 @@ def heading_anchor(heading):
 
 def anchors(path):
     """Returns the anchors of a page."""
-    text = FENCE.sub("", api.read(path))
+    text = FENCE.sub("", repository.read(path))
     return {heading_anchor(line.lstrip("#")) for line in text.splitlines() if line.startswith("#")}
 
 
@@ -151,7 +146,7 @@ def check_laws(name, text):
     for module, law in re.findall(r"\b(?:(\w+)::)?(\w+_law)\b", FENCE.sub("", text)):
         files = [path for path, source in sources().items() if re.search(rf"\bfn {law}\b", source)]
         expect(files, name, f"there is no law {law}")
-        if files and module and module not in api.crate_names():
+        if files and module and module not in repository.listed():
             places = {os.path.basename(path)[:-3] for path in files} | {os.path.basename(os.path.dirname(path)) for path in files}
             expect(module in places, name, f"the law {law} is not in a module {module}")
 
@@ -199,21 +194,28 @@ def check_lists(known):
 
 def tests():
     """Returns how many tests `./test` runs: those of the test crates, and the examples."""
-    written = sum(text.count("#[test]") for path, text in sources().items() if "/crates/jsonptr_test_" in path)
-    return written + doc_examples.count()
+    return sum(text.count("#[test]") for path, text in sources().items() if "/crates/jsonptr_test_" in path) + examples()
+
+
+@functools.cache
+def examples():
+    """Returns how many examples doc comments have, without those that are items."""
+    found = [example for path in doc_examples.documented() for example in doc_examples.examples(path)]
+    return sum(not doc_examples.is_item(example) for example in found)
 
 
 def check_counts():
     """Checks the counts that documents give."""
-    mutants = len(glob.glob(f"{TOP}/crates/*/must-fail/*.edit"))
+    in_gate, others = (len(glob.glob(f"{TOP}/crates/*/{folder}/*.edit")) for folder in ("must-fail", "mutants"))
     stored = read("tools/compare/sample/requests.txt").count("\n")
     counted = (
         ("README.md", rf"`{NUMBER} passed, 0 failed`", tests()),
         ("README.md", rf"{NUMBER} stored answers", stored),
-        ("CONTRIBUTING.md", rf"{NUMBER} must-fail edits", mutants),
+        ("CONTRIBUTING.md", rf"There are {NUMBER} mutants", in_gate + others),
+        ("CONTRIBUTING.md", rf"`must-fail/` \| {NUMBER} mutants", in_gate),
         ("docs/PROVED.md", rf"{NUMBER} cases: every public call", len(call_cases.CASES)),
         ("docs/PROVED.md", rf"compares {NUMBER} stored answers", stored),
-        ("docs/PROVED.md", rf"the {NUMBER} examples", doc_examples.count()),
+        ("docs/PROVED.md", rf"each of the {NUMBER} and runs it", examples()),
         ("docs/COMPARING.md", rf"has {NUMBER} requests", stored),
     )
     for name, pattern, count in counted:
@@ -242,14 +244,14 @@ def definitions():
     found = {}
     for path in glob.glob(f"{TOP}/crates/*/specs/**/*.antt", recursive=True):
         if not os.path.basename(path).startswith("Private"):
-            for word in DEFINITION.findall(api.read(path)):
+            for word in DEFINITION.findall(repository.read(path)):
                 found.setdefault(word, []).append(path)
     return found
 
 
 def contract(item):
     """Returns the contract of an item: its lines from the first clause to the body."""
-    lines, kept = api.read(item.path).splitlines()[item.line - 1 :], []
+    lines, kept = repository.read(item.path).splitlines()[item.line - 1 :], []
     for line in lines:
         if kept and re.fullmatch(r" *\{", line):
             break
@@ -276,8 +278,8 @@ def check_specification():
     """Checks that SPECIFICATION has each word of each public contract, with its file."""
     known, name = specified(), "docs/SPECIFICATION.md"
     for crate in api.libraries():
-        for module in api.Library(crate).modules.values():
-            for item in module:
+        for module in api.modules(crate).values():
+            for item in api.own_rows(crate, module):
                 for word in set(re.findall(r"(?<![\w.])[A-Za-z]\w*", contract(item))):
                     files = defining(word, item.path)
                     if files and not any((word, short_path(path)) in known for path in files):
@@ -287,7 +289,7 @@ def check_specification():
 @functools.cache
 def imported(path):
     """Returns where a source file takes the words of its contracts from: pairs of a module of `specs/` and its words."""
-    uses = re.findall(r"ghost use Rattle\.(\w+)\.specs\.(\w+)\.\{([^;]+)\};", api.read(path))
+    uses = re.findall(r"ghost use Rattle\.(\w+)\.specs\.(\w+)\.\{([^;]+)\};", repository.read(path))
     return [(crate, file, set(re.findall(r"\w+", words))) for crate, file, words in uses]
 
 
@@ -302,7 +304,7 @@ def defining(word, path):
 
 
 def main():
-    known = crates()
+    known = list(repository.listed())
     for name in documents():
         text = read(name)
         for check in (check_links, check_tables, check_files, check_laws, check_clauses):

@@ -135,10 +135,12 @@ def writing():
     yield succeeds("delete", "/0", input="[1,2,3]", line="[2,3]")
     yield succeeds("delete", "/foo/0", input='{"foo":["bar","baz"],"a/b":1}', line='{"a/b":1,"foo":["baz"]}')
     yield succeeds("delete", "/foo/0", input='{"foo":["bar"]}', line='{"foo":[]}')
+    yield succeeds("delete", "/a/0", input='{"a":[1]}', line='{"a":[]}')
     yield succeeds("delete", "/a~1b", input='{"a/b":1, "c" : 2}', line='{"c":2}')
     yield succeeds("delete", "/", input='{"":{}}', line="{}")
     yield succeeds("delete", "", input="[1]", line="null")
     yield fails_with(DELETE_NOT_FOUND, "delete", "/x", input="{}")
+    yield fails_with(DELETE_NOT_FOUND, "delete", "/b", input='{"a":[1]}')
     yield fails_with(DELETE_NOT_FOUND, "delete", "/-", input="[1]")
 
 

@@ -1,12 +1,12 @@
 #!/usr/bin/env python3
 """Compares `diff` with `jsonpatch.make_patch` of Python, in one run, and prints a table in Markdown.
 
-    tools/bench/diff.py [--rounds N] OURS
+    tools/bench/diff.py [--rounds N] [--ours PROGRAM]
 
-OURS is the built program of crates/jsonptr_tool_bench. Python's library is Debian's package python3-jsonpatch, so run this
-with /usr/bin/python3. Each row has the number of operations, the bytes of the patch as JSON text without spaces, and the
-time of one call on documents that are parsed already: the minimum over all rounds. The patch of the other side is checked
-too: it has to make the new document of the old one.
+It times the program that program.py builds, or another build of it. Python's library is Debian's package
+python3-jsonpatch, so run this with /usr/bin/python3. Each row has the number of operations, the bytes of the patch as
+JSON text without spaces, and the time of one call on documents that are parsed already: the minimum over all rounds.
+The patch of the other side is checked too: it has to make the new document of the old one.
 """
 import argparse
 import copy
@@ -16,6 +16,7 @@ import time
 
 import jsonpatch
 
+from program import add_ours, built
 from speed import shown
 
 WORDS = "alpha beta gamma delta epsilon zeta eta theta iota kappa lambda mu".split()
@@ -145,12 +146,13 @@ def theirs_of(old, new):
 def main():
     parser = argparse.ArgumentParser(description=__doc__, formatter_class=argparse.RawDescriptionHelpFormatter)
     parser.add_argument("--rounds", type=int, default=3)
-    parser.add_argument("ours")
+    add_ours(parser)
     words = parser.parse_args()
+    timed = words.ours or built()
     print("| Documents | operations here | `make_patch` | bytes here | `make_patch` | time here | `make_patch` | ratio |")
     print("|---|---|---|---|---|---|---|---|")
     for title, old, new in rows():
-        ours = min((ours_of(words.ours, old, new) for _ in range(words.rounds)), key=lambda it: it[2])
+        ours = min((ours_of(timed, old, new) for _ in range(words.rounds)), key=lambda it: it[2])
         theirs = min((theirs_of(old, new) for _ in range(words.rounds)), key=lambda it: it[2])
         sizes = " | ".join(f"{mine:,} | {other:,}" for mine, other in zip(ours[:2], theirs[:2]))
         times = f"{shown(1e12 * ours[2])} | {shown(1e12 * theirs[2])} | {ours[2] / theirs[2]:.4f}"

@@ -1,11 +1,11 @@
 #!/usr/bin/env python3
 """Times each call at growing sizes, and fails where its time grows faster than its documentation says.
 
-    tools/bench/grows.py [--rounds N] OURS
+    tools/bench/grows.py [--rounds N] [--ours PROGRAM]
 
-OURS is the built program of crates/jsonptr_tool_bench. A call is timed at 1, 10, 100, 1000 and 10,000 tokens or members.
-The exponent is the slope of the logarithm of the time from the third size on: 0 for constant time, 1 for linear time.
-Logarithmic time counts as constant. The result of a size is its minimum over all rounds.
+It times the program that program.py builds, or another build of it. A call is timed at 1, 10, 100, 1000 and 10,000
+tokens or members. The exponent is the slope of the logarithm of the time from the third size on: 0 for constant time,
+1 for linear time. Logarithmic time counts as constant. The result of a size is its minimum over all rounds.
 """
 import argparse
 import json
@@ -15,6 +15,7 @@ import re
 import sys
 
 from cases import plain
+from program import add_ours, built
 from speed import least_of, shown, times_of
 
 SOURCES = os.path.join(os.path.dirname(os.path.abspath(__file__)), "../../crates/jsonptr/src")
@@ -113,15 +114,16 @@ def exponent_of(times):
 def main():
     parser = argparse.ArgumentParser(description=__doc__, formatter_class=argparse.RawDescriptionHelpFormatter)
     parser.add_argument("--rounds", type=int, default=3)
-    parser.add_argument("ours")
+    add_ours(parser)
     words = parser.parse_args()
+    timed = words.ours or built()
     undocumented = [call for call, _, file, function, cost, _ in calls() if cost not in documentation(file, function)]
     lines = "".join(
         "\t".join([f"{call}, {size}", *words_at(size)]) + "\n" for call, *_, words_at in calls() for size in SIZES
     )
     least = {}
     for _ in range(words.rounds):
-        least = least_of(least, times_of([words.ours, "0"], lines))
+        least = least_of(least, times_of([timed, "0"], lines))
     steep = []
     for call, exponent, *_ in calls():
         times = [max(1, least[f"{call}, {size}"]) for size in SIZES]

@@ -1,10 +1,10 @@
 #!/usr/bin/env python3
 """Times reading and writing patch documents beside Python's `jsonpatch`, in one run, and prints a table in Markdown.
 
-    tools/bench/patch_documents.py [--rounds N] OURS
+    tools/bench/patch_documents.py [--rounds N] [--ours PROGRAM]
 
-OURS is the built program of crates/jsonptr_tool_bench. `jsonpatch` is the module of Debian's `python3-jsonpatch`. The
-result of a case is its minimum over all rounds, for one document.
+It times the program that program.py builds, or another build of it. `jsonpatch` is the module of Debian's
+`python3-jsonpatch`. The result of a case is its minimum over all rounds, for one document.
 """
 import argparse
 import json
@@ -12,6 +12,7 @@ import time
 
 import jsonpatch
 
+from program import add_ours, built
 from speed import least_of, shown, times_of
 
 SIZES = (10, 1000)
@@ -73,11 +74,12 @@ def times_in_python():
 def main():
     parser = argparse.ArgumentParser(description=__doc__, formatter_class=argparse.RawDescriptionHelpFormatter)
     parser.add_argument("--rounds", type=int, default=3)
-    parser.add_argument("ours")
+    add_ours(parser)
     words = parser.parse_args()
+    timed = words.ours or built()
     lines, ours, theirs = "\n".join(lines_of()) + "\n", {}, {}
     for _ in range(words.rounds):
-        ours = least_of(ours, times_of([words.ours, "0"], lines))
+        ours = least_of(ours, times_of([timed, "0"], lines))
         theirs = least_of(theirs, times_in_python())
     print("| Patch document | calls | time | Python's calls | time | ratio |")
     print("|---|---|---|---|---|---|")

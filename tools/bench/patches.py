@@ -1,11 +1,11 @@
 #!/usr/bin/env python3
 """Times patches beside the same changes by one call each, in one run, and prints a table in Markdown.
 
-    tools/bench/patches.py [--rounds N] OURS [PROGRAM]
+    tools/bench/patches.py [--rounds N] [--ours PROGRAM] [PROGRAM]
 
-OURS is the built program of crates/jsonptr_tool_bench. The result of a case is its minimum over all rounds, for one
-operation. With PROGRAM, that of crates/jsonptr_run, it also prints the time and the peak memory of a patch of three
-operations and of a deletion on a document of 10 MB.
+It times the program that program.py builds, or another build of it. The result of a case is its minimum over all
+rounds, for one operation. With PROGRAM, that of crates/jsonptr_run, it also prints the time and the peak memory of a
+patch of three operations and of a deletion on a document of 10 MB.
 """
 import argparse
 import json
@@ -14,6 +14,7 @@ import subprocess
 import tempfile
 import time
 
+from program import add_ours, built
 from speed import least_of, shown, times_of
 
 SIZES = (10, 1000, 100_000)
@@ -67,12 +68,13 @@ def time_program(program, rounds):
 def main():
     parser = argparse.ArgumentParser(description=__doc__, formatter_class=argparse.RawDescriptionHelpFormatter)
     parser.add_argument("--rounds", type=int, default=3)
-    parser.add_argument("ours")
+    add_ours(parser)
     parser.add_argument("program", nargs="?")
     words = parser.parse_args()
+    timed = words.ours or built()
     lines, least = "\n".join(lines_of()) + "\n", {}
     for _ in range(words.rounds):
-        least = least_of(least, times_of([words.ours, "0"], lines))
+        least = least_of(least, times_of([timed, "0"], lines))
     print("| Operation | in a patch | by itself | ratio |")
     print("|---|---|---|---|")
     for title, _ in rows():

@@ -1,11 +1,12 @@
 #!/usr/bin/env python3
 """Times this library and the Rust crate in one run, and prints the times and their ratio.
 
-    tools/bench/speed.py [--rounds N] [--only WORD] [--save] OURS THEIRS [PROGRAM]
+    tools/bench/speed.py [--rounds N] [--only WORD] [--save] [--ours PROGRAM] THEIRS [PROGRAM]
 
-OURS is the built program of crates/jsonptr_tool_bench, THEIRS that of tools/bench/original, PROGRAM that of
-crates/jsonptr_run. Each program runs in turn. The result of a case is its minimum over all rounds. With --save the times
-are written to tools/bench/results.tsv, in picoseconds, from which chart.py makes what docs/SPEED.md shows.
+It times the program that program.py builds, or another build of it. THEIRS is the built program of
+tools/bench/original, PROGRAM that of crates/jsonptr_run. Each program runs in turn. The result of a case is its
+minimum over all rounds. With --save the times are written to tools/bench/results.tsv, in picoseconds, from which
+chart.py makes what docs/SPEED.md shows.
 """
 import argparse
 import json
@@ -15,6 +16,7 @@ import tempfile
 import time
 
 from cases import cases
+from program import add_ours, built
 
 RESULTS = os.path.join(os.path.dirname(os.path.abspath(__file__)), "results.tsv")
 
@@ -82,14 +84,15 @@ def main():
     words.add_argument("--rounds", type=int, default=3)
     words.add_argument("--only", default="")
     words.add_argument("--save", action="store_true")
-    words.add_argument("ours")
+    add_ours(words)
     words.add_argument("theirs")
     words.add_argument("program", nargs="?")
     words = words.parse_args()
+    timed = words.ours or built()
     lines = "".join("\t".join(it) + "\n" for it in cases() if words.only in it[0])
     ours, theirs = {}, {}
     for _ in range(words.rounds):
-        ours = least_of(ours, times_of([words.ours, "0"], lines))
+        ours = least_of(ours, times_of([timed, "0"], lines))
         theirs = least_of(theirs, times_of([words.theirs], lines))
     if words.program:
         for side, programs in zip((ours, theirs), whole_programs(words)):

@@ -66,41 +66,6 @@ fn taken<D: Delete<Value = Value>>(
     Ok(document.delete(alloc, Pointer::parse(pointer)?)?)
 }
 
-/// Deletes the first of two elements. Whether it is returned and the other one moves up.
-fn closes_up(alloc: Global, root: &mut Value) -> Result<bool, Fail> {
-    let first = taken(root, alloc, "/a/0")?.ok_or("the first")?;
-    Ok(first.as_integer() == Some(1) && is_value(alloc, root, "{ a = [2] }")?)
-}
-
-/// Assigns the first element of a missing array. Whether the document is expanded.
-fn grows(alloc: Global, root: &mut Value) -> Result<bool, Fail> {
-    let three = assigned(root, alloc, "/b/-", Value::Integer(3))?.ok();
-    let fresh = three.ok_or("assigned")?.is_none();
-    Ok(fresh && is_value(alloc, root, "{ a = [2], b = [3] }")?)
-}
-
-#[test]
-fn an_array_closes_up_and_another_grows(rt: HostRuntime) -> Result<(), Fail> {
-    let mut root = value(rt.alloc(), "{ a = [1, 2] }")?;
-    let steps = (
-        closes_up(rt.alloc(), &mut root)?,
-        grows(rt.alloc(), &mut root)?,
-    );
-    assert_eq!(rt; steps, (true, true));
-    Ok(())
-}
-
-#[test]
-fn finds_through_the_bound(rt: HostRuntime) -> Result<(), Fail> {
-    let whole = "{ 'a/b' = [1, { 'm~n' = 'x' }], '' = 07:32, t = { f = 1.5 } }";
-    let root = value(rt.alloc(), whole)?;
-    for (pointer, want) in [("/a~1b/1/m~0n", "'x'"), ("/", "07:32")] {
-        let there = found(&root, rt.alloc(), pointer)?.ok().ok_or("found")?;
-        assert!(rt; is_value(rt.alloc(), &there, want)?, "at {pointer}");
-    }
-    Ok(())
-}
-
 /// Whether `resolve_mut` fails with this error at a pointer in a document, `delete` finds nothing,
 /// and both leave the document's text unchanged.
 fn stays(
@@ -174,21 +139,6 @@ fn names_nothing(rt: HostRuntime) -> Result<(), Fail> {
             "at {pointer}"
         );
     }
-    Ok(())
-}
-
-/// Replaces an element through a mutable borrow. Whether the old one is returned and the new one is
-/// there.
-fn swaps_an_element(alloc: Global, root: &mut Value) -> Result<bool, Fail> {
-    let old = swapped(root, alloc, "/a~1b/1", Value::Boolean(true))?.ok();
-    let two = old.ok_or("lent")?.as_integer();
-    Ok(two == Some(2) && is_value(alloc, root, "{ 'a/b' = [1, true], c = 3 }")?)
-}
-
-#[test]
-fn writes_through_the_bound(rt: HostRuntime) -> Result<(), Fail> {
-    let mut root = value(rt.alloc(), "{ 'a/b' = [1, 2], c = 3 }")?;
-    assert!(rt; swaps_an_element(rt.alloc(), &mut root)?);
     Ok(())
 }
 

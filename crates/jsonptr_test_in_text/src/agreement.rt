@@ -47,75 +47,102 @@ fn nested(alloc: Global, depth: usize, inner: &str) -> Result<String, Fail> {
     Ok(text)
 }
 
-#[test]
-fn the_document_of_rfc_6901(rt: HostRuntime) -> Result<(), Fail> {
-    let text =
-        r#"{"foo":["bar","baz"],"":0,"a/b":1,"c%d":2,"e^f":3,"g|h":4,"i\\j":5,"k\"l":6," ":7,"m~n":8}"#;
-    for (pointer, want) in [
-        ("/foo", r#"["bar","baz"]"#),
-        ("/foo/0", r#""bar""#),
-        ("/", "0"),
-        ("/a~1b", "1"),
-        ("/c%d", "2"),
-        ("/e^f", "3"),
-        ("/g|h", "4"),
-        ("/i\\j", "5"),
-        ("/k\"l", "6"),
-        ("/ ", "7"),
-        ("/m~0n", "8"),
-    ] {
-        assert!(rt; is_said(rt.alloc(), text, pointer, want)?, "at {pointer}");
-    }
-    Ok(())
-}
+/// A text, a pointer, and what all ways say of them.
+const SAID: [(&str, &str, &str); 29] = [
+    // The last of a repeated key counts.
+    (r#"{"a":1,"a":2}"#, "/a", "2"),
+    (r#"{"a":{"b":1},"a":{"c":2}}"#, "/a/c", "2"),
+    (r#"{"a":{"b":1},"\u0061":{"b":3}}"#, "/a/b", "3"),
+    (
+        r#"{"a":{"b":1},"a":{"c":2}}"#,
+        "/a/b",
+        "NotFound { position: 1, offset: 2 }",
+    ),
+    (
+        r#"{"a":{"b":1},"a":4}"#,
+        "/a/b",
+        "Unreachable { position: 1, offset: 2 }",
+    ),
+    // Keys repeat at each level.
+    (r#"{"a":{"b":{"c":1}},"a":{"b":{"c":2}}}"#, "/a/b/c", "2"),
+    (r#"{"a":{"b":{"c":1},"b":{"c":2}}}"#, "/a/b/c", "2"),
+    (r#"{"a":{"b":{"c":1,"c":2}}}"#, "/a/b/c", "2"),
+    (
+        r#"{"a":{"b":{"c":1,"c":2},"b":{"c":3,"c":4}}}"#,
+        "/a/b/c",
+        "4",
+    ),
+    (
+        r#"{"a":[{"b":1,"b":2}],"a":[{"b":3,"b":4}]}"#,
+        "/a/0/b",
+        "4",
+    ),
+    (
+        r#"{"a":{"b":{"c":1}},"a":{"b":[]}}"#,
+        "/a/b/c",
+        "FailedToParseIndex { position: 2, offset: 4, source: InvalidCharacter(InvalidCharacterError { offset: 0 }) }",
+    ),
+    // The worked examples of `resolve`.
+    (
+        r#"{"foo":["bar"]}"#,
+        "/foo/-",
+        "OutOfBounds { position: 1, offset: 4, source: OutOfBoundsError { length: 1, index: 1 } }",
+    ),
+    (
+        r#"{"foo":["bar"]}"#,
+        "/foo/1",
+        "OutOfBounds { position: 1, offset: 4, source: OutOfBoundsError { length: 1, index: 1 } }",
+    ),
+    (
+        r#"{"foo":["bar"]}"#,
+        "/foo/01",
+        "FailedToParseIndex { position: 1, offset: 4, source: LeadingZeros }",
+    ),
+    (
+        r#"{"foo":["bar"]}"#,
+        "/foo/00",
+        "FailedToParseIndex { position: 1, offset: 4, source: LeadingZeros }",
+    ),
+    (r#"{"a":{}}"#, "/a/", "NotFound { position: 1, offset: 2 }"),
+    (
+        r#"{"a":1}"#,
+        "/a/b",
+        "Unreachable { position: 1, offset: 2 }",
+    ),
+    (
+        "[[],{},1]",
+        "/10/0",
+        "OutOfBounds { position: 0, offset: 0, source: OutOfBoundsError { length: 3, index: 10 } }",
+    ),
+    ("[[],{},1]", "/1/a", "NotFound { position: 1, offset: 2 }"),
+    (
+        "[[],{},1]",
+        "/2/a",
+        "Unreachable { position: 1, offset: 2 }",
+    ),
+    (
+        "[1]",
+        "/18446744073709551615",
+        "OutOfBounds { position: 0, offset: 0, source: OutOfBoundsError { length: 1, index: 18446744073709551615 } }",
+    ),
+    (
+        r#"{"a~1b":1}"#,
+        "/a~1b",
+        "NotFound { position: 0, offset: 0 }",
+    ),
+    (r#"{"a":{"":[{"b":null}]}}"#, "/a//0/b", "null"),
+    ("[2,3]", "/1", "3"),
+    // Strings are unescaped.
+    (r#"{"\u00e9\n":"\ud83d\ude00"}"#, "/é\n", "\"😀\""),
+    (r#"{"a":1,"b":"\ud83d"}"#, "/a", "not JSON"),
+    (r#"{"\udc00":1,"a":2}"#, "/a", "not JSON"),
+    (r#"["\ud83d"]"#, "/0", "not JSON"),
+    (r#"["\x"]"#, "", "not JSON"),
+];
 
 #[test]
-fn the_last_of_a_repeated_key_counts(rt: HostRuntime) -> Result<(), Fail> {
-    for (text, pointer, want) in [
-        (r#"{"a":1,"a":2}"#, "/a", "2"),
-        (r#"{"a":{"b":1},"a":{"c":2}}"#, "/a/c", "2"),
-        (r#"{"a":{"b":1},"\u0061":{"b":3}}"#, "/a/b", "3"),
-        (
-            r#"{"a":{"b":1},"a":{"c":2}}"#,
-            "/a/b",
-            "NotFound { position: 1, offset: 2 }",
-        ),
-        (
-            r#"{"a":{"b":1},"a":4}"#,
-            "/a/b",
-            "Unreachable { position: 1, offset: 2 }",
-        ),
-    ] {
-        assert!(rt;
-            is_said(rt.alloc(), text, pointer, want)?,
-            "{text} at {pointer}"
-        );
-    }
-    Ok(())
-}
-
-#[test]
-fn keys_repeat_at_each_level(rt: HostRuntime) -> Result<(), Fail> {
-    for (text, pointer, want) in [
-        (r#"{"a":{"b":{"c":1}},"a":{"b":{"c":2}}}"#, "/a/b/c", "2"),
-        (r#"{"a":{"b":{"c":1},"b":{"c":2}}}"#, "/a/b/c", "2"),
-        (r#"{"a":{"b":{"c":1,"c":2}}}"#, "/a/b/c", "2"),
-        (
-            r#"{"a":{"b":{"c":1,"c":2},"b":{"c":3,"c":4}}}"#,
-            "/a/b/c",
-            "4",
-        ),
-        (
-            r#"{"a":[{"b":1,"b":2}],"a":[{"b":3,"b":4}]}"#,
-            "/a/0/b",
-            "4",
-        ),
-        (
-            r#"{"a":{"b":{"c":1}},"a":{"b":[]}}"#,
-            "/a/b/c",
-            "FailedToParseIndex { position: 2, offset: 4, source: InvalidCharacter(InvalidCharacterError { offset: 0 }) }",
-        ),
-    ] {
+fn values_and_errors(rt: HostRuntime) -> Result<(), Fail> {
+    for (text, pointer, want) in SAID {
         assert!(rt;
             is_said(rt.alloc(), text, pointer, want)?,
             "{text} at {pointer}"
@@ -140,68 +167,6 @@ fn objects_nest_at_most_127_deep(rt: HostRuntime) -> Result<(), Fail> {
         assert!(rt;
             is_said(alloc, text.as_str(), pointer.as_str(), want)?,
             "depth {depth}"
-        );
-    }
-    Ok(())
-}
-
-/// The worked examples of `resolve`, through text.
-#[test]
-fn worked_examples_of_resolve(rt: HostRuntime) -> Result<(), Fail> {
-    for (text, pointer, want) in [
-        (
-            r#"{"foo":["bar"]}"#,
-            "/foo/-",
-            "OutOfBounds { position: 1, offset: 4, source: OutOfBoundsError { length: 1, index: 1 } }",
-        ),
-        (
-            r#"{"foo":["bar"]}"#,
-            "/foo/1",
-            "OutOfBounds { position: 1, offset: 4, source: OutOfBoundsError { length: 1, index: 1 } }",
-        ),
-        (
-            r#"{"foo":["bar"]}"#,
-            "/foo/01",
-            "FailedToParseIndex { position: 1, offset: 4, source: LeadingZeros }",
-        ),
-        (
-            r#"{"foo":["bar"]}"#,
-            "/foo/00",
-            "FailedToParseIndex { position: 1, offset: 4, source: LeadingZeros }",
-        ),
-        (r#"{"a":{}}"#, "/a/", "NotFound { position: 1, offset: 2 }"),
-        (
-            r#"{"a":1}"#,
-            "/a/b",
-            "Unreachable { position: 1, offset: 2 }",
-        ),
-        (
-            "[[],{},1]",
-            "/10/0",
-            "OutOfBounds { position: 0, offset: 0, source: OutOfBoundsError { length: 3, index: 10 } }",
-        ),
-        ("[[],{},1]", "/1/a", "NotFound { position: 1, offset: 2 }"),
-        (
-            "[[],{},1]",
-            "/2/a",
-            "Unreachable { position: 1, offset: 2 }",
-        ),
-        (
-            "[1]",
-            "/18446744073709551615",
-            "OutOfBounds { position: 0, offset: 0, source: OutOfBoundsError { length: 1, index: 18446744073709551615 } }",
-        ),
-        (
-            r#"{"a~1b":1}"#,
-            "/a~1b",
-            "NotFound { position: 0, offset: 0 }",
-        ),
-        (r#"{"a":{"":[{"b":null}]}}"#, "/a//0/b", "null"),
-        ("[2,3]", "/1", "3"),
-    ] {
-        assert!(rt;
-            is_said(rt.alloc(), text, pointer, want)?,
-            "{text} at {pointer}"
         );
     }
     Ok(())
@@ -263,23 +228,6 @@ fn numbers_are_in_range_everywhere(rt: HostRuntime) -> Result<(), Fail> {
         assert!(rt;
             is_said(alloc, text.as_str(), "/0", want.as_str())?,
             "{text}"
-        );
-    }
-    Ok(())
-}
-
-#[test]
-fn strings_are_unescaped(rt: HostRuntime) -> Result<(), Fail> {
-    for (text, pointer, want) in [
-        (r#"{"\u00e9\n":"\ud83d\ude00"}"#, "/é\n", "\"😀\""),
-        (r#"{"a":1,"b":"\ud83d"}"#, "/a", "not JSON"),
-        (r#"{"\udc00":1,"a":2}"#, "/a", "not JSON"),
-        (r#"["\ud83d"]"#, "/0", "not JSON"),
-        (r#"["\x"]"#, "", "not JSON"),
-    ] {
-        assert!(rt;
-            is_said(rt.alloc(), text, pointer, want)?,
-            "{text} at {pointer}"
         );
     }
     Ok(())

@@ -82,28 +82,15 @@ fn a_byte_is_missing(rt: HostRuntime) -> Result<(), Fail> {
 }
 
 #[test]
-fn a_byte_is_wrong(rt: HostRuntime) -> Result<(), Fail> {
+fn a_byte_is_wrong_or_inserted(rt: HostRuntime) -> Result<(), Fail> {
     for at in 0..TEXT.len() {
         for wrong in WRONG {
-            let damage = Damage::Replaced(*wrong);
-            assert!(rt;
-                is_same_damaged(rt.alloc(), at, damage)?,
-                "{damage:?} at {at}"
-            );
-        }
-    }
-    Ok(())
-}
-
-#[test]
-fn a_byte_is_inserted(rt: HostRuntime) -> Result<(), Fail> {
-    for at in 0..TEXT.len() {
-        for wrong in WRONG {
-            let damage = Damage::Inserted(*wrong);
-            assert!(rt;
-                is_same_damaged(rt.alloc(), at, damage)?,
-                "{damage:?} at {at}"
-            );
+            for damage in [Damage::Replaced(*wrong), Damage::Inserted(*wrong)] {
+                assert!(rt;
+                    is_same_damaged(rt.alloc(), at, damage)?,
+                    "{damage:?} at {at}"
+                );
+            }
         }
     }
     Ok(())

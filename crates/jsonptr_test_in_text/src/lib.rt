@@ -1,5 +1,5 @@
-//! Tests of resolving pointers in JSON text, over public items alone: each call beside
-//! `Value::from_str` and `Pointer::resolve`.
+//! Tests of resolving pointers and of edits in JSON text, over public items alone: each call beside
+//! the one on a document.
 #![tactic(auto)]
 
 #[cfg(test)]
@@ -7,7 +7,7 @@ mod agreement;
 #[cfg(test)]
 mod damage;
 #[cfg(test)]
-mod doc_examples;
+mod edits;
 #[cfg(test)]
 mod errors;
 #[cfg(test)]

@@ -235,34 +235,6 @@ const NOT_PATH: PatchDocumentError = PatchDocumentError::NotString {
     member: Member::Path,
 };
 
-#[test]
-fn messages(rt: HostRuntime) -> Result<(), Fail> {
-    for (text, want) in [
-        ("{}", "not an array"),
-        ("[7]", "operation 0 is not an object"),
-        (
-            r#"[{"op":"add","path":"/a"}]"#,
-            "operation 0 has no member `value`",
-        ),
-        (
-            r#"[{"op":"remove","path":null}]"#,
-            "member `path` of operation 0 is not a string",
-        ),
-        (
-            r#"[{"op":"remove","path":""},{"op":"spam"}]"#,
-            "member `op` of operation 1 is not an operation",
-        ),
-        (
-            r#"[{"op":"copy","path":"","from":"a"}]"#,
-            "member `from` of operation 0: json pointer failed to parse; does not start with a slash ('/') and is not empty",
-        ),
-    ] {
-        let message = format!(in rt.alloc(); "not a JSON Patch document: {want}")?;
-        assert_eq!(rt; error_of(rt.alloc(), text)?.to_string(rt.alloc())?, message);
-    }
-    Ok(())
-}
-
 /// The report of the error of a document, drawn, or an empty text if it is not about a pointer.
 fn drawn(alloc: Global, document: &str) -> Result<String, Fail> {
     let error = error_of(alloc, document)?;

@@ -1,12 +1,17 @@
-//! Tests of reading and writing patch documents (RFC 6902), over public items alone.
+//! Tests of reading and writing patch documents (RFC 6902), and of differences, over public items
+//! alone. Test cases of single calls are in `tools/call_cases.py`.
 #![tactic(auto)]
 
 #[cfg(test)]
 mod appendix;
 #[cfg(test)]
+mod arrays;
+#[cfg(test)]
+mod changes;
+#[cfg(test)]
 mod damaged;
 #[cfg(test)]
-mod doc_examples;
+mod diffs;
 #[cfg(test)]
 mod members;
 #[cfg(test)]

@@ -1,10 +1,7 @@
 //! Owned pointers: calls through their bounds, and every field of their errors.
 use crate::bounds::{comes_before, gives, hash_of, same, shown};
-use jsonptr::diagnostic::{Diagnostic, Label};
-use jsonptr::{
-    EncodingError, Fault, InvalidEncoding, ParseError, Pointer, PointerBuf, RichParseError,
-};
-use std::alloc::{AllocError, Global};
+use jsonptr::{Fault, Pointer, PointerBuf, RichParseError};
+use std::alloc::AllocError;
 use std::test::Fail;
 
 /// Parses an owned pointer.
@@ -154,55 +151,5 @@ fn refusals(rt: HostRuntime) -> Result<(), Fail> {
         assert!(rt; is_refused(&rt, text)?, "at {text}");
         assert!(rt; is_returned(&rt, text)?, "at {text}");
     }
-    Ok(())
-}
-
-/// The URL of an error and its labels on a subject, through the bound.
-fn described<E: Diagnostic>(
-    alloc: Global,
-    error: &E,
-    subject: &E::Subject,
-) -> Result<(&'static str, Option<Vec<Label>>), AllocError> {
-    Ok((E::url(), error.labels(alloc, subject)?))
-}
-
-/// Whether the error has exactly one label on the subject, with this text.
-fn is_labelled(
-    rt: &HostRuntime,
-    error: &ParseError,
-    subject: &str,
-    want: (&str, usize, usize),
-) -> Result<bool, Fail> {
-    let subject = String::from_str(rt.alloc(), subject)?;
-    let (url, labels) = described(rt.alloc(), error, &subject)?;
-    let page = url == "https://docs.rs/jsonptr/0.8.2/jsonptr/enum.ParseError.html";
-    match labels {
-        Some(labels) if page && labels.len() == 1 => {
-            let label = &labels[0];
-            Ok((label.text(), label.offset(), label.len()) == want)
-        }
-        _ => Ok(false),
-    }
-}
-
-const SLASH: &str = "must start with a slash ('/')";
-
-const TILDE: &str = "'~' must be followed by '0' or '1'";
-
-/// The error of a tilde: the offset of its token, and its offset in that token.
-fn tilde_at(offset: usize, within: usize) -> ParseError {
-    ParseError::InvalidEncoding {
-        offset,
-        source: EncodingError {
-            offset: within,
-            source: InvalidEncoding::Tilde,
-        },
-    }
-}
-
-#[test]
-fn labels_of_near_faults(rt: HostRuntime) -> Result<(), Fail> {
-    assert!(rt; is_labelled(&rt, &ParseError::NoLeadingSlash, "/a", (SLASH, 0, 0))?);
-    assert!(rt; is_labelled(&rt, &tilde_at(0, 0), "/~", (TILDE, 0, 2))?);
     Ok(())
 }

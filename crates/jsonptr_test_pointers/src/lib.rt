@@ -8,8 +8,6 @@ mod bounds;
 #[cfg(test)]
 mod debug;
 #[cfg(test)]
-mod doc_examples;
-#[cfg(test)]
 mod edits;
 #[cfg(test)]
 mod faults;

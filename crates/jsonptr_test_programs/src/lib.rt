@@ -1,7 +1,9 @@
-//! Tests of the command line and of the callers, over public items alone.
+//! Tests of the programs' commands and of the callers, over public items alone.
 #![tactic(auto)]
 
 #[cfg(test)]
 mod callers;
 #[cfg(test)]
 mod command;
+#[cfg(test)]
+mod filter;

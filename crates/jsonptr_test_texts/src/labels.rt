@@ -1,10 +1,9 @@
 //! Texts, URLs and labels of token and index errors on any subject, and reports of results.
-use crate::reports::{address_of, are_equal, debug_of, is_label, labels_of, reported, text_of};
+use crate::reports::{address_of, are_equal, debug_of, is_label, labels_of, text_of};
 use jsonptr::diagnostic::Diagnostic;
-use jsonptr::index::{Index, OutOfBoundsError, ParseIndexError, StringOrToken};
-use jsonptr::{Diagnose, EncodingError, InvalidEncoding, Pointer, Report, Token};
+use jsonptr::index::{Index, ParseIndexError, StringOrToken};
+use jsonptr::{Diagnose, EncodingError, InvalidEncoding, Pointer, Report};
 use std::alloc::{AllocError, Global};
-use std::borrow::CowStr;
 use std::error::Error;
 use std::fmt;
 use std::test::Fail;
@@ -28,17 +27,6 @@ fn shown<E: Error + fmt::Display>(alloc: Global, error: &E) -> Result<String, Al
 }
 
 #[test]
-fn labels_on_a_token(rt: HostRuntime) -> Result<(), Fail> {
-    let token = Token::new(rt.alloc(), CowStr::Borrowed("a/b"))?.into_owned(rt.alloc())?;
-    let error = token.to_index().err().ok_or("a fault")?;
-    let subject = StringOrToken::from(token);
-    assert_eq!(rt; subject.as_str(), "a~1b");
-    let report = reported(error, subject);
-    assert!(rt; is_labelled(rt.alloc(), report, "invalid character(s)", 0, 2)?);
-    Ok(())
-}
-
-#[test]
 fn texts_of_encodings(rt: HostRuntime) -> Result<(), Fail> {
     for (source, want) in [
         (InvalidEncoding::Tilde, "tilde (~) not followed by 0 or 1"),
@@ -46,31 +34,6 @@ fn texts_of_encodings(rt: HostRuntime) -> Result<(), Fail> {
     ] {
         assert_eq!(rt; shown(rt.alloc(), &source)?.as_str(), want);
     }
-    Ok(())
-}
-
-#[test]
-fn text_of_an_index_out_of_bounds(rt: HostRuntime) -> Result<(), Fail> {
-    let bounds = OutOfBoundsError {
-        length: usize::MAX,
-        index: 3,
-    };
-    assert_eq!(rt;
-        shown(rt.alloc(), &bounds)?.as_str(),
-        "index 3 out of bounds (len: 18446744073709551615)"
-    );
-    Ok(())
-}
-
-#[test]
-fn text_of_a_character(rt: HostRuntime) -> Result<(), Fail> {
-    let Err(ParseIndexError::InvalidCharacter(error)) = "x".parse::<Index>() else {
-        return Err("a character that is no digit".into());
-    };
-    assert_eq!(rt;
-        shown(rt.alloc(), &error)?.as_str(),
-        "token contains a non-digit character, which is disallowed by RFC 6901"
-    );
     Ok(())
 }
 
@@ -145,12 +108,5 @@ fn texts_of_a_report(rt: HostRuntime) -> Result<(), Fail> {
     let display = "token contained leading zeros, which are disallowed by RFC 6901";
     let debug = r#"Report { source: LeadingZeros, subject: String("00") }"#;
     assert!(rt; report_displays(rt.alloc(), "00", display, debug)?);
-    Ok(())
-}
-
-#[test]
-fn an_index_without_report(rt: HostRuntime) -> Result<(), Fail> {
-    let parsed = diagnosed_index(rt.alloc(), "1", "")?;
-    assert_eq!(rt; parsed.ok().ok_or("an index")?, Index::Num(1));
     Ok(())
 }

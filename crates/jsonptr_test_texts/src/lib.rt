@@ -4,8 +4,6 @@
 #![tactic(auto)]
 
 #[cfg(test)]
-mod doc_examples;
-#[cfg(test)]
 mod errors;
 #[cfg(test)]
 mod indices;

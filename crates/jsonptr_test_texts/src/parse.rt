@@ -53,14 +53,3 @@ fn gives_the_tokens_in_order(rt: HostRuntime) -> Result<(), Fail> {
     assert!(rt; tokens.next().is_none() && tokens.next().is_none());
     Ok(())
 }
-
-#[test]
-fn is_gone_over_token_by_token(rt: HostRuntime) -> Result<(), Fail> {
-    let mut count = 0u8;
-    for token in Pointer::parse("/a~1b//~0")? {
-        assert!(rt; token.encoded().len() < 5);
-        count = count.saturating_add(1);
-    }
-    assert_eq!(rt; count, 3);
-    Ok(())
-}

@@ -117,35 +117,28 @@ fn a_fault_of_a_token_as_an_index(rt: HostRuntime) -> Result<(), Fail> {
     Ok(())
 }
 
-#[test]
-fn spans_of_any_offset_and_length(rt: HostRuntime) -> Result<(), Fail> {
-    for (subject, offset, len, want) in [
-        ("abc", 1, 0, "abc\n ^ here"),
-        ("abc", 1, 1, "abc\n ^ here"),
-        ("abc", 0, 3, "abc\n^^^ here"),
-        ("abc", 3, 0, "abc\n   ^ here"),
-        ("abc", 1, usize::MAX, "abc\n ^^ here"),
-        ("abc", usize::MAX, usize::MAX, "abc\n   ^ here"),
-        ("", 0, 1, "\n^ here"),
-    ] {
-        assert!(rt;
-            draws_label(rt.alloc(), subject, "here", offset, len, want)?,
-            "at {subject} {offset} {len}"
-        );
-    }
-    Ok(())
-}
+/// A text, the offset and the length of a label `here`, and the drawing.
+const SPANS: [(&str, usize, usize, &str); 13] = [
+    // Any offset and length.
+    ("abc", 1, 0, "abc\n ^ here"),
+    ("abc", 1, 1, "abc\n ^ here"),
+    ("abc", 0, 3, "abc\n^^^ here"),
+    ("abc", 3, 0, "abc\n   ^ here"),
+    ("abc", 1, usize::MAX, "abc\n ^^ here"),
+    ("abc", usize::MAX, usize::MAX, "abc\n   ^ here"),
+    ("", 0, 1, "\n^ here"),
+    // Characters of two bytes.
+    ("aéb", 1, 2, "aéb\n ^ here"),
+    ("aéb", 2, 1, "aéb\n ^ here"),
+    ("aéb", 2, 2, "aéb\n ^^ here"),
+    ("aéb", 2, 0, "aéb\n ^ here"),
+    ("a\u{85}b", 2, 1, "a\\u{85}b\n ^^^^^^ here"),
+    ("a\u{85}b", 2, 0, "a\\u{85}b\n ^ here"),
+];
 
 #[test]
-fn spans_about_characters_of_two_bytes(rt: HostRuntime) -> Result<(), Fail> {
-    for (subject, offset, len, want) in [
-        ("aéb", 1, 2, "aéb\n ^ here"),
-        ("aéb", 2, 1, "aéb\n ^ here"),
-        ("aéb", 2, 2, "aéb\n ^^ here"),
-        ("aéb", 2, 0, "aéb\n ^ here"),
-        ("a\u{85}b", 2, 1, "a\\u{85}b\n ^^^^^^ here"),
-        ("a\u{85}b", 2, 0, "a\\u{85}b\n ^ here"),
-    ] {
+fn spans(rt: HostRuntime) -> Result<(), Fail> {
+    for (subject, offset, len, want) in SPANS {
         assert!(rt;
             draws_label(rt.alloc(), subject, "here", offset, len, want)?,
             "at {subject} {offset} {len}"

@@ -4,7 +4,6 @@ use jsonptr_command::fault::RunFault;
 use jsonptr_command::input::{InputFault, read_all};
 use jsonptr_command::json_text::{json_line, read_json, read_json_input};
 use jsonptr_command::output::{WriteFailed, write_line};
-use jsonptr_patch::PatchError;
 use std::alloc::{AllocError, Global};
 
 const TEXT: &[u8] = b"{\"a\":1}";
@@ -162,33 +161,6 @@ fn reads_json(rt: HostRuntime) -> Result<(), AllocError> {
     Ok(())
 }
 
-/// The text of a number in this many nested arrays.
-fn nested(alloc: Global, depth: usize) -> Result<Vec<u8>, AllocError> {
-    let mut text = Vec::new(alloc);
-    for _ in 0..depth {
-        text.push(b'[')?;
-    }
-    text.push(b'1')?;
-    for _ in 0..depth {
-        text.push(b']')?;
-    }
-    Ok(text)
-}
-
-/// Whether a number in this many nested arrays is parsed.
-fn is_read_at(alloc: Global, depth: usize) -> Result<bool, AllocError> {
-    let text = nested(alloc, depth)?;
-    Ok(read_json(alloc, text.as_slice())?.is_some())
-}
-
-#[test]
-fn reads_json_to_a_depth(rt: HostRuntime) -> Result<(), AllocError> {
-    for (depth, is_json) in [(127, true), (128, false)] {
-        assert_eq!(rt; is_read_at(rt.alloc(), depth)?, is_json, "{depth}");
-    }
-    Ok(())
-}
-
 /// Reads slowly, and is interrupted.
 const SLOWLY: &[Step] = &[Step::Move(2), Step::Interrupt, Step::Move(1)];
 
@@ -229,43 +201,4 @@ fn reads_a_document(rt: HostRuntime) {
     }
     assert!(rt; is_document(rt.alloc(), TEXT));
     assert!(rt; is_document_unread(rt.alloc()));
-}
-
-/// Whether an error displays as this text.
-fn displays_as(alloc: Global, fault: &RunFault, text: &str) -> Result<bool, AllocError> {
-    let told = format!(in alloc; "{fault}")?;
-    Ok(told.as_str() == text)
-}
-
-#[test]
-fn texts_of_faults(rt: HostRuntime) -> Result<(), AllocError> {
-    let usage =
-        "usage: jsonptr_run resolve POINTER, delete POINTER, tokens POINTER, assign POINTER VALUE, split POINTER POSITION, patch OPERATIONS";
-    for (fault, text) in [
-        (RunFault::Usage, usage),
-        (RunFault::ValueNotJson, "VALUE is not JSON"),
-        (
-            RunFault::NotThere,
-            "delete failed: json pointer does not resolve",
-        ),
-        (
-            RunFault::BadSplit {
-                position: 3,
-                count: 2,
-            },
-            "split failed: position 3 is above the token count 2",
-        ),
-        (
-            RunFault::BadPatch(PatchError::TestFailed { operation: 1 }),
-            "patch failed at operation 1: test failed",
-        ),
-        (RunFault::InputNotJson, "input is not JSON"),
-        (RunFault::Memory(AllocError), "out of memory"),
-        (RunFault::Read, "reading failed"),
-        (RunFault::Write, "writing failed"),
-    ] {
-        let is_so = displays_as(rt.alloc(), &fault, text)?;
-        assert!(rt; is_so, "{text}");
-    }
-    Ok(())
 }

@@ -1,0 +1,4 @@
+//! Edits in JSON text.
+mod assigning;
+mod deleting;
+mod reused;

@@ -1,0 +1,3 @@
+//! The commands of `jp`.
+mod streams;
+mod toml_lines;

@@ -1,0 +1,53 @@
+#!/usr/bin/env python3
+"""Checks that the code that readers copy from the guide and the READMEs was proved or run.
+
+Each code block of the guide (`crates/jsonptr/CALLING.md`), and each example of a doc comment that is an item, must be in a
+caller, line by line. Each Rust block of a README must be in a caller, in a test or in an example of a doc comment.
+"""
+import glob
+import re
+import sys
+
+import doc_examples
+import repository
+
+GUIDE = f"{repository.CRATES}/jsonptr/CALLING.md"
+CALLERS = "jsonptr_uses", "jsonptr_example"
+BLOCK = re.compile(r"^```(?:rust|text)\n(.*?)^```$", re.MULTILINE | re.DOTALL)
+CODE = re.compile(r"^```rust\n(.*?)^```$", re.MULTILINE | re.DOTALL)
+
+
+def files(crates, *endings):
+    """Returns the source files of these crates that have one of these endings."""
+    found = [f for end in endings for f in glob.glob(f"{repository.CRATES}/{crates}/**/*.{end}", recursive=True)]
+    return sorted(f for f in found if "/out/" not in f)
+
+
+def lines(text):
+    """Returns the lines of a text without indentation, empty lines and comments."""
+    found = [line.strip() for line in text.splitlines()]
+    return [line for line in found if line and not line.startswith(("//", "--"))]
+
+
+def check(blocks, sources):
+    """Checks that one of the sources has the lines of each block, one after the other. Returns the number of blocks."""
+    for block in blocks:
+        wanted = lines(block)
+        if not any(wanted == found[at : at + len(wanted)] for found in sources for at in range(len(found))):
+            sys.exit(f"code_blocks: no caller and no test has this code:\n{block}")
+    return len(blocks)
+
+
+def main():
+    codes = ["\n".join(example.rows) for path in doc_examples.documented() for example in doc_examples.examples(path)]
+    items = [code for code in codes if doc_examples.STARTS_ITEM.match(code)]
+    callers = [lines(repository.read(f)) for name in CALLERS for f in files(name, "rt", "antt")]
+    tests = [lines(repository.read(f)) for f in files("jsonptr_test_*", "rt")] + [lines(code) for code in codes]
+    readmes = [f"{repository.TOP}/README.md", *sorted(glob.glob(f"{repository.CRATES}/*/README.md"))]
+    guide = check(BLOCK.findall(repository.read(GUIDE)) + items, callers)
+    shown = check([block for f in readmes for block in CODE.findall(repository.read(f))], callers + tests)
+    print(f"code_blocks: {guide + shown} code blocks of the guide and the READMEs are in a caller or a test")
+
+
+if __name__ == "__main__":
+    main()
