@@ -54,7 +54,8 @@ def check_extras(folder):
     check(ours <= set(crates), f"{ours - set(crates)} are not in crates.txt")
     for name in crates:
         check(os.path.isdir(f"{folder}/crates/{name}/src"), f"crates/{name} is missing")
-        check(not os.path.exists(f"{folder}/crates/{name}/must-fail"), f"crates/{name} has must-fail edits")
+        for part in ("must-fail", "mutants"):
+            check(not os.path.exists(f"{folder}/crates/{name}/{part}"), f"crates/{name} has mutants")
 
 
 def check_refusals(folder):
