@@ -18,7 +18,7 @@ import public_items
 import repository
 
 PAGE = f"{repository.TOP}/docs/API.md"
-CALLERS = ("jsonptr_uses",)
+CALLERS = ("jsonptr_conditions", "jsonptr_uses")
 ITEM = re.compile(r"(?:pub )?(?:unsafe )?(?:const )?(?:fn|struct|enum|trait|type|const) (\w+)")
 METHOD = re.compile(r"    (pub )?(?:const )?(?:unsafe )?fn (\w+)")
 OWNER = re.compile(r"impl(?:<[^{]*?>)? ?(?!.* for )(\w+)")
