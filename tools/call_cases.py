@@ -1,4 +1,4 @@
-"""Test cases of single calls: the lines that `jsonptr_tool_rows` reads, and what it must write.
+"""Test cases of single calls: the words that `jsonptr_tool_calls` reads, and what it must write.
 
 memory.py runs each of them. Add a case to the table of its call: with `no_alloc` if the call must not allocate, else
 with `allocates`, or with the helper of its table (`edit`, `on`, `undoing`, `patched`, `session`).
@@ -8,7 +8,7 @@ from typing import NamedTuple
 
 
 class Case(NamedTuple):
-    """The input lines, the result of the call, the state of the borrowed arguments after it, and a session's calls.
+    """The input words, the result of the call, the state of the borrowed arguments after it, and a session's calls.
 
     A case with `no_alloc` makes no memory request, and one with `most` makes at most so many.
     """
@@ -46,6 +46,7 @@ ENCODED = "~1" * 50_000
 DECODED = "/" * 50_000
 MANY = "/a" * 50_000
 KINDS = ("plain", "tabled")
+ORDERS = {"<": "Less", "=": "Equal", ">": "Greater"}
 
 
 def allocates(*lines, answer):
@@ -123,9 +124,9 @@ def cut():
     """Splitting off the first token, and counting tokens."""
     rows = [
         ("is_root", "//", "false"), ("is_root", "/a~1b/~0/é", "false"),
-        ("split_front", "//", " and /"), ("split_front", "/a~1b/~0/é", "a/b and /~0/é"),
-        ("split_front", "/~0/é", "~ and /é"), ("split_front", "/é", "é and "),
-        ("front", "/a~1b/c", "a~1b"), ("split_front", "/a~1b/c", "a/b and /c"),
+        ("split_front", "//", " and /"), ("split_front", "/a~1b/~0/é", "a~1b and /~0/é"),
+        ("split_front", "/~0/é", "~0 and /é"), ("split_front", "/é", "é and "),
+        ("front", "/a~1b/c", "a~1b"), ("split_front", "/a~1b/c", "a~1b and /c"),
         ("count", "/a~1b//~0", 3),
     ]
     for call, text, answer in rows:
@@ -176,7 +177,7 @@ def tokens():
             yield no_alloc("token owned", call, token, answer=token)
         yield allocates("token kept", "PointerBuf::from_token", token, answer="/" + token)
         yield no_alloc("token", "==", token, token, answer="true")
-        yield no_alloc("token", "cmp", token, token + "0", answer="<")
+        yield no_alloc("token", "cmp", token, token + "0", answer="Less")
         yield no_alloc("token", "is_next", token, "", answer="false")
     yield no_alloc("token", "is_next", "-", "", answer="true")
     for token in ["--", "0"]:
@@ -186,11 +187,12 @@ def tokens():
 def numbers():
     """Tokens of numbers: the maximum of each unsigned type, and the minimum of each signed one."""
     for bits in [8, 16, 32, 64, 128]:
-        yield allocates("number", f"u{bits}", answer=2**bits - 1)
-        yield allocates("number", f"i{bits}", answer=-(2 ** (bits - 1)))
-    yield allocates("number", "usize", answer=USIZE_MAX)
-    yield allocates("number", "isize", answer=-(2**63))
-    yield allocates("number", "PointerBuf::from_usize", answer=f"/{USIZE_MAX}")
+        greatest, least = 2**bits - 1, -(2 ** (bits - 1))
+        yield allocates("number", f"u{bits}:{greatest}", answer=greatest)
+        yield allocates("number", f"i{bits}:{least}", answer=least)
+    yield allocates("number", f"usize:{USIZE_MAX}", answer=USIZE_MAX)
+    yield allocates("number", f"isize:{-(2**63)}", answer=-(2**63))
+    yield allocates("number", f"PointerBuf from:{USIZE_MAX}", answer=f"/{USIZE_MAX}")
 
 
 def measures():
@@ -201,15 +203,14 @@ def measures():
         front, last = text.rpartition("/")[::2]
         first, rest = parts[0] if parts else "none", text[len(parts[0]) + 1 :] if parts else ""
         back = last if parts else "none"
-        decoded = [it.replace("~1", "/").replace("~0", "~") for it in (first, back)]
         rows = [
             ("as_str", text), ("len", len(text)), ("count", len(parts)),
             ("is_empty", str(not text).lower()), ("is_root", str(not text).lower()),
             ("tokens", back), ("components", back if parts else "root"),
             ("front", first), ("first", first), ("back", back), ("last", back),
             ("parent", front if parts else "none"),
-            ("split_front", f"{decoded[0]} and {rest}" if parts else "none"),
-            ("split_back", f"{front} and {decoded[1]}" if parts else "none"),
+            ("split_front", f"{first} and {rest}" if parts else "none"),
+            ("split_back", f"{front} and {back}" if parts else "none"),
         ]
         for call, answer in rows:
             yield no_alloc("pointer", call, text, answer=answer)
@@ -284,7 +285,7 @@ def pairs():
         equal = str(order == "=").lower()
         for group in ["pointers", "tabled two"]:
             yield no_alloc(group, "==", one, other, answer=equal)
-            yield no_alloc(group, "cmp", one, other, answer=order)
+            yield no_alloc(group, "cmp", one, other, answer=ORDERS[order])
         for kind in ["pointer", *KINDS]:
             yield no_alloc("hash", kind, one, other, answer=equal)
     yield no_alloc("hash", "token", LONG, LONG, answer="true")
@@ -310,53 +311,53 @@ def ranges():
     """`get` with each kind of range, and both splits, on plain and on tabled pointers."""
     three = "/foo/bar/qux"
     rows = [
-        ("get i", three, 0, 0, "foo"),
-        ("get i", three, 3, 0, "none"),
-        ("get i", three, 2, 0, "qux"),
-        ("get i", three, USIZE_MAX, 0, "none"),
-        ("get i", "/a~1b", 0, 0, "a~1b"),
-        ("get i", "/foo/b~1r/", 0, 0, "foo"),
-        ("get i", "/foo/b~1r/", 1, 0, "b~1r"),
-        ("get i", "/foo/b~1r/", 2, 0, ""),
-        ("get i", "/foo/b~1r/", 3, 0, "none"),
-        ("get i", "/foo/b~1r/", USIZE_MAX, 0, "none"),
-        ("get ..i", three, 1, 0, "/foo"),
-        ("get i..j", three, 1, 3, "/bar/qux"),
-        ("get i..=j", three, 1, 2, "/bar/qux"),
-        ("get i..", three, 2, 0, "/qux"),
-        ("get ..=i", three, 1, 0, "/foo/bar"),
-        ("get ..", three, 0, 0, three),
-        ("get ..i", three, 4, 0, "none"),
-        ("get i..j", three, 1, 1, ""),
-        ("get i..j", three, 1, 4, "none"),
-        ("get i..j", three, 2, 1, "none"),
-        ("get i..j", three, 3, 3, "none"),
-        ("get i..", three, 1, 0, "/bar/qux"),
-        ("get i..", three, 3, 0, "none"),
-        ("get i..=j", three, 2, 1, "none"),
-        ("get i..=j", three, 0, USIZE_MAX, "none"),
-        ("get ..=i", three, 3, 0, "none"),
-        ("get i..j", "/foo", 0, 0, ""),
-        ("get i..j", "/foo", 1, 1, "none"),
-        ("get i..j", "/foo", USIZE_MAX, USIZE_MAX, "none"),
-        ("get ..i", "/foo", USIZE_MAX, 0, "none"),
-        ("get ..=i", "/foo", USIZE_MAX, 0, "none"),
-        ("get i..=j", "/foo", 0, USIZE_MAX, "none"),
-        ("get i..", "", 0, 0, "none"),
-        ("get ..i", "", 0, 0, ""),
-        ("get ..", "", 0, 0, ""),
-        ("get i..j", "/a", USIZE_MAX, USIZE_MAX, "none"),
-        ("get ..i", "/a", USIZE_MAX, 0, "none"),
-        ("get ..=i", "/a", USIZE_MAX, 0, "none"),
-        ("get i..=j", "/a", 0, USIZE_MAX, "none"),
-        ("get i", "/a", USIZE_MAX, 0, "none"),
-        ("get i..", "/a", USIZE_MAX, 0, "none"),
-        ("get i..=j", "/a", USIZE_MAX, USIZE_MAX, "none"),
-        ("get bounds", "/a/b", 0, 1, ""),
-        ("get bounds", "/a", 0, 1, "none"),
-        ("get bounds", "/a", USIZE_MAX, USIZE_MAX, "none"),
-        ("get bounds", "/a", USIZE_MAX, 0, "none"),
-        ("get bounds", "/a/b/c", 0, 2, "/b"),
+        ("at", three, 0, 0, "foo"),
+        ("at", three, 3, 0, "none"),
+        ("at", three, 2, 0, "qux"),
+        ("at", three, USIZE_MAX, 0, "none"),
+        ("at", "/a~1b", 0, 0, "a~1b"),
+        ("at", "/foo/b~1r/", 0, 0, "foo"),
+        ("at", "/foo/b~1r/", 1, 0, "b~1r"),
+        ("at", "/foo/b~1r/", 2, 0, ""),
+        ("at", "/foo/b~1r/", 3, 0, "none"),
+        ("at", "/foo/b~1r/", USIZE_MAX, 0, "none"),
+        ("to", three, 1, 0, "/foo"),
+        ("range", three, 1, 3, "/bar/qux"),
+        ("inclusive", three, 1, 2, "/bar/qux"),
+        ("from", three, 2, 0, "/qux"),
+        ("to inclusive", three, 1, 0, "/foo/bar"),
+        ("all", three, 0, 0, three),
+        ("to", three, 4, 0, "none"),
+        ("range", three, 1, 1, ""),
+        ("range", three, 1, 4, "none"),
+        ("range", three, 2, 1, "none"),
+        ("range", three, 3, 3, "none"),
+        ("from", three, 1, 0, "/bar/qux"),
+        ("from", three, 3, 0, "none"),
+        ("inclusive", three, 2, 1, "none"),
+        ("inclusive", three, 0, USIZE_MAX, "none"),
+        ("to inclusive", three, 3, 0, "none"),
+        ("range", "/foo", 0, 0, ""),
+        ("range", "/foo", 1, 1, "none"),
+        ("range", "/foo", USIZE_MAX, USIZE_MAX, "none"),
+        ("to", "/foo", USIZE_MAX, 0, "none"),
+        ("to inclusive", "/foo", USIZE_MAX, 0, "none"),
+        ("inclusive", "/foo", 0, USIZE_MAX, "none"),
+        ("from", "", 0, 0, "none"),
+        ("to", "", 0, 0, ""),
+        ("all", "", 0, 0, ""),
+        ("range", "/a", USIZE_MAX, USIZE_MAX, "none"),
+        ("to", "/a", USIZE_MAX, 0, "none"),
+        ("to inclusive", "/a", USIZE_MAX, 0, "none"),
+        ("inclusive", "/a", 0, USIZE_MAX, "none"),
+        ("at", "/a", USIZE_MAX, 0, "none"),
+        ("from", "/a", USIZE_MAX, 0, "none"),
+        ("inclusive", "/a", USIZE_MAX, USIZE_MAX, "none"),
+        ("excluded", "/a/b", 0, 1, ""),
+        ("excluded", "/a", 0, 1, "none"),
+        ("excluded", "/a", USIZE_MAX, USIZE_MAX, "none"),
+        ("excluded", "/a", USIZE_MAX, 0, "none"),
+        ("excluded", "/a/b/c", 0, 2, "/b"),
         ("split_at_offset", "/foo/bar/baz", 0, 0, " and /foo/bar/baz"),
         ("split_at_offset", "/foo/bar/baz", 4, 0, "/foo and /bar/baz"),
         ("split_at_offset", "/foo/bar/baz", 8, 0, "/foo/bar and /baz"),
@@ -373,11 +374,11 @@ def ranges():
         ("split_at", "", 1, 0, "none"),
         ("split_at", "/a", USIZE_MAX, 0, "none"),
         ("split_at", "//~1/", 2, 0, "//~1 and /"),
-        ("get i", MANY, 49_999, 0, "a"),
-        ("get i", MANY, 50_000, 0, "none"),
-        ("get i..j", MANY, 1, 49_999, "/a" * 49_998),
-        ("get i..", MANY, 49_999, 0, "/a"),
-        ("get ..=i", MANY, 49_999, 0, MANY),
+        ("at", MANY, 49_999, 0, "a"),
+        ("at", MANY, 50_000, 0, "none"),
+        ("range", MANY, 1, 49_999, "/a" * 49_998),
+        ("from", MANY, 49_999, 0, "/a"),
+        ("to inclusive", MANY, 49_999, 0, MANY),
         ("split_at_offset", MANY, 99_998, 0, MANY[2:] + " and /a"),
         ("split_at", MANY, 49_999, 0, MANY[2:] + " and /a"),
     ]
@@ -390,16 +391,17 @@ def copies():
     """Clones of owned pointers, and conversions between plain and tabled ones."""
     texts = ["", "/", "/a", "//", "/a/b", "/a~1b", "/foo/bar/baz", "/é~0/~1/日本/", MANY, "/" + ENCODED]
     for text in texts:
-        for call in ["PointerBuf::clone", "TabledPointer::clone", "from_plain"]:
+        for call in ["PointerBuf::clone", "from_plain"]:
             yield allocates("kept", call, text, answer=text)
-        yield no_alloc("kept", "into_plain", text, answer=text)
+        yield allocates("tabled kept", "TabledPointer::clone", text, answer=text)
+        yield no_alloc("tabled kept", "into_plain", text, answer=text)
     for call in ["PointerBuf::new", "PointerBuf::root", "TabledPointer::new"]:
         yield no_alloc("kept", call, "/a", answer="")
 
 
 def edit(kind, call, pointer, text="", place=0, *, answer="done", after):
     """A call that changes a pointer."""
-    lines = ("edit", kind, call, pointer, text, str(place))
+    lines = ("edit", call, pointer, kind, text, str(place))
     return Case(lines, f"{answer}\n", f"{after}\n")
 
 
@@ -466,11 +468,11 @@ def owned():
     yield no_alloc("show", "pointer", "/a~1b/~0", answer="/a~1b/~0")
     tilde = "'~' must be followed by '0' or '1'"
     for text, offset, length in [("/foo~", 4, 1), ("/é~", 3, 1), ("/a~2", 2, 2)]:
-        yield allocates("report", "labels", "pointer", text, answer=f"{tilde} at {offset}, length {length}")
+        yield allocates("report", "labels", "pointer", text, answer=f"{offset}+{length} {tilde}")
     for subject, length in [("", 1), ("abc", 1), ("/foo", 2)]:
-        yield allocates("fields", "labels", "pointer", 0, 2, subject, answer=f"{tilde} at 2, length {length}")
-    yield no_alloc("fields", "labels", "pointer", USIZE_MAX, 1, "/a~2", answer="none")
-    yield allocates("fields", "render", "pointer", USIZE_MAX, 1, "/a~2", answer="/a~2")
+        yield allocates("fields", "labels", *of_pointer(0, 2), subject, answer=f"2+{length} {tilde}")
+    yield no_alloc("fields", "labels", *of_pointer(USIZE_MAX, 1), "/a~2", answer="none")
+    yield allocates("fields", "render", *of_pointer(USIZE_MAX, 1), "/a~2", answer="/a~2")
 
 
 def on(kind, document, call, pointer, value="1", *, answer, after, no_alloc=False):
@@ -504,7 +506,7 @@ def in_text():
         yield allocates("in text", "exists_in_text", text, pointer, answer="false")
     for text in ["", "{", '{"a":1', '{"a":1}}', '{"b":1e309,"a":1}', '{"a":1,"b":"\\ud800"}', "[" * 128 + "]" * 128]:
         for call in (*calls, "exists_in_text"):
-            yield allocates("in text", call, text, "/a", answer="not JSON")
+            yield allocates("in text", call, text, "/a", answer="text is not JSON")
     found = [
         ('{"a":1,"a":[{"b":2,"b":3}],"c":[]}', "/a/0/b", "3"), ('{"a":[1, "x\\n", {"b" : null}], "c":2}', "/a", '[1,"x\\n",{"b":null}]'),
         (f'{{"a":"{LONG}","b":[1]}}', "/b/0", "1"), (f'{{"a":"{LONG}","b":[1]}}', "/a", f'"{LONG}"'), ("[1,2]", "", "[1,2]"),
@@ -515,8 +517,25 @@ def in_text():
         yield allocates("in text", "exists_in_text", text, pointer, answer="true")
 
 
+def patch_of(words):
+    """Returns the patch document of operations, each of which is its name and its two arguments, or one."""
+    words, operations = iter(words), []
+    for name in words:
+        pointer = json.dumps(next(words), ensure_ascii=False)
+        if name == "remove":
+            rest = f'"path":{pointer}'
+        elif name in ("move", "copy"):
+            rest = f'"from":{pointer},"path":{json.dumps(next(words), ensure_ascii=False)}'
+        else:
+            rest = f'"path":{pointer},"value":{next(words)}'
+        operations.append(f'{{"op":"{name}",{rest}}}')
+    return f"[{','.join(operations)}]"
+
+
 def edited(*lines, answer):
     """An edit in a text, which is borrowed: the command and its arguments. The text is the second line."""
+    if lines[0] == "apply in text":
+        lines = (*lines[:2], patch_of(lines[2:]))
     return Case(lines, f"{answer}\n", f"{lines[1]}\n")
 
 
@@ -536,10 +555,10 @@ def edits_in_text():
             yield edited(call, pretty, pointer, value, answer=f"in place {text}")
     yield edited("assign in text", pretty, "/a/3", "0", answer=ASSIGN_OUT_OF_BOUNDS.format(2))
     yield edited("assign in text", pretty, "/a/x", "0", answer=ASSIGN_BAD_INDEX.format(2))
-    yield edited("assign in text", "{}", "/0" * 128, "0", answer="too deep")
+    yield edited("assign in text", "{}", "/0" * 128, "0", answer="document would nest deeper than 127")
     deepest = "in place " + '{"a":' + "[" * 126 + "null" + "]" * 126 + "}"
     yield edited("assign in text", "{}", "/a" + "/0" * 126, "null", answer=deepest)
-    yield edited("assign in text", "{}", "/a" + "/0" * 127, "null", answer="too deep")
+    yield edited("assign in text", "{}", "/a" + "/0" * 127, "null", answer="document would nest deeper than 127")
     yield edited("assign in text", f'{{"a":"{LONG}","b":[1]}}', "/b/-", "2", answer=f'in place {{"a":"{LONG}","b":[1,2]}}')
     deleted = [
         ("/b", '{ "a" : [ 2 ,\t{"c":"\\u0041"} ] }'), ("/a/0", '{ "b" : 1.50, "a" : [ {"c":"\\u0041"} ] }'),
@@ -552,10 +571,10 @@ def edits_in_text():
     yield edited("delete in text", '{"a":1}', "/b", answer="none")
     for text in ("", "{", '{"a":1}}', '{"b":1e309,"a":1}', "\ufeff1", "[" * 128 + "]" * 128):
         for call in ("assign in text", "assign in text with"):
-            yield edited(call, text, "/a", "1", answer="not JSON")
-        yield edited("delete in text", text, "/a", answer="not JSON")
-        yield edited("apply in text", text, "remove", "/a", answer="not JSON")
-        yield edited("apply in text", text, answer="not JSON")
+            yield edited(call, text, "/a", "1", answer="text is not JSON")
+        yield edited("delete in text", text, "/a", answer="text is not JSON")
+        yield edited("apply in text", text, "remove", "/a", answer="text is not JSON")
+        yield edited("apply in text", text, answer="text is not JSON")
     yield from patches_in_text(pretty)
 
 
@@ -578,8 +597,8 @@ def patches_in_text(pretty):
     yield edited("apply in text", pretty, "add", "/a/9", "1", answer=failed.format(0, ASSIGN_OUT_OF_BOUNDS.format(2)))
     below = failed.format(0, "from is a proper prefix of path")
     yield edited("apply in text", pretty, "move", "/a", "/a/0", answer=below)
-    deep = ["add", "", "[" * 127 + "]" * 127, "copy", "", "/" + "0/" * 125 + "0"]
-    yield edited("apply in text", "1", *deep, answer="too deep")
+    deep = ["add", "", "[" * 125 + "]" * 125, "copy", "", "/" + "0/" * 123 + "0"]
+    yield edited("apply in text", "1", *deep, answer="document would nest deeper than 127")
 
 
 def found():
@@ -783,9 +802,9 @@ def in_tables():
 def labelled():
     """The labels of document errors, on the pointer that caused them and on others."""
     rows = [
-        ("resolve", "[]", "/é~1", "not an array index at 1, length 4"),
-        ("resolve", "7", "/é~1/x", "unreachable at 1, length 4"),
-        ("assign", '{"a":[1]}', "/a/b", "expected array index or '-' at 3, length 1"),
+        ("resolve", "[]", "/é~1", "1+4 not an array index"),
+        ("resolve", "7", "/é~1/x", "1+4 unreachable"),
+        ("assign", '{"a":[1]}', "/a/b", "3+1 expected array index or '-'"),
     ]
     for kind, document, pointer, label in rows:
         yield allocates("report", "labels", kind, document, pointer, answer=label)
@@ -797,8 +816,8 @@ def labelled():
         ("//", 1, 7, 7, 0),
     ]
     for pointer, position, offset, place, length in others:
-        label = f"not found in value at {place}, length {length}"
-        yield allocates("fields", "labels", "resolve", position, offset, pointer, answer=label)
+        label = f"{place}+{length} not found in value"
+        yield allocates("fields", "labels", *of_document(position, offset), pointer, answer=label)
 
 
 def undoing(kind, document, call, pointer, value, *, answer, after):
@@ -875,8 +894,8 @@ def undos_told():
 
 def patched(document, *operations, answer="done", after=None):
     """A patch. If it fails, the document is unchanged."""
-    lines = ("patch", document, *(line for operation in operations for line in operation))
-    return Case(lines, f"{answer}\n", f"{document if after is None else after}\n")
+    patch = patch_of(word for operation in operations for word in operation)
+    return Case(("patch", document, patch), f"{answer}\n", f"{document if after is None else after}\n")
 
 
 def failed(operation, cause):
@@ -912,8 +931,8 @@ def patches():
         copied = [("copy", f"/{token}", "/c"), ("move", f"/{token}", "/c/0")]
         yield patched(kept, *patch, *copied, after='{"c":[[0,[2]],0,[2]]}')
     yield patched("{}", ("add", long, "1"), ("remove", long), after="{}")
-    yield Case(("patch back", "[1,2,3]", "/1"), "add 2 at /1\n", "[1,3]\n")
-    yield Case(("patch back", '{"a/b":[1]}', "/a~1b"), "add [1] at /a~1b\n", "{}\n")
+    yield Case(("patch back", "[1,2,3]", "/1"), "add /1 2\n", "[1,3]\n")
+    yield Case(("patch back", '{"a/b":[1]}', "/a~1b"), "add /a~1b [1]\n", "{}\n")
     yield Case(("patch back", "{}", "/a"), "nothing\n", "{}\n")
     for document, pointer in [("{}", "/x"), ("[1]", "/-"), ("[1]", "/1"), ("1", "/0")]:
         yield Case(("patch back", document, pointer), "nothing\n", f"{document}\n")
@@ -925,7 +944,7 @@ def patches():
         ("[1]", "", "[1]", "null"),
         ("null", "", "null", "null"),
     ]:
-        yield Case(("patch back", document, pointer), f"add {value} at {pointer}\n", f"{left}\n")
+        yield Case(("patch back", document, pointer), f"add {pointer} {value}\n", f"{left}\n")
         yield patched(left, ("add", pointer, value), after=document)
 
 
@@ -1291,90 +1310,90 @@ def reports():
         (
             ("pointer", "foo"),
             PARSE_NO_SLASH,
-            "must start with a slash ('/') at 0, length 0",
+            "0+0 must start with a slash ('/')",
             "foo\n^ must start with a slash ('/')",
         ),
         (
             ("pointer", "/foo/invalid~tilde/invalid"),
             PARSE_MALFORMED.format(4),
-            f"{tilde} at 12, length 2",
+            f"12+2 {tilde}",
             f"/foo/invalid~tilde/invalid\n            ^^ {tilde}",
         ),
         (
             ("token", "~"),
             TOKEN_BAD_ENCODING.format(1),
-            "incomplete escape sequence at 0, length 1",
+            "0+1 incomplete escape sequence",
             "~\n^ incomplete escape sequence",
         ),
-        (("token", "~~0"), TOKEN_BAD_ENCODING.format(1), "must be 0 or 1 at 1, length 1", "~~0\n ^ must be 0 or 1"),
+        (("token", "~~0"), TOKEN_BAD_ENCODING.format(1), "1+1 must be 0 or 1", "~~0\n ^ must be 0 or 1"),
         (
             ("token", "foo/oops~bar"),
             TOKEN_BAD_ENCODING.format(3),
-            "invalid character at 3, length 1",
+            "3+1 invalid character",
             "foo/oops~bar\n   ^ invalid character",
         ),
-        (("index", "00"), INDEX_LEADING_ZEROS, "leading zeros at 0, length 2", "00\n^^ leading zeros"),
-        (("index", "0a"), INDEX_LEADING_ZEROS, "leading zeros at 0, length 1", "0a\n^ leading zeros"),
-        (("index", "1a"), INDEX_BAD_CHARACTER, "invalid character(s) at 1, length 1", "1a\n ^ invalid character(s)"),
-        (("index on", "00", "12"), INDEX_LEADING_ZEROS, "leading zeros at 0, length 0", "12\n^ leading zeros"),
+        (("index", "00"), INDEX_LEADING_ZEROS, "0+2 leading zeros", "00\n^^ leading zeros"),
+        (("index", "0a"), INDEX_LEADING_ZEROS, "0+1 leading zeros", "0a\n^ leading zeros"),
+        (("index", "1a"), INDEX_BAD_CHARACTER, "1+1 invalid character(s)", "1a\n ^ invalid character(s)"),
+        (("index", "00", "12"), INDEX_LEADING_ZEROS, "0+0 leading zeros", "12\n^ leading zeros"),
         (
-            ("index on", "123x", "abcdé1"),
+            ("index", "123x", "abcdé1"),
             INDEX_BAD_CHARACTER,
-            "invalid character(s) at 3, length 3",
+            "3+3 invalid character(s)",
             "abcdé1\n   ^^ invalid character(s)",
         ),
         (
-            ("index on", "123x", "1"),
+            ("index", "123x", "1"),
             INDEX_BAD_CHARACTER,
-            "invalid character(s) at 3, length 0",
+            "3+0 invalid character(s)",
             "1\n ^ invalid character(s)",
         ),
         (
             ("resolve", '{"foo":["bar"]}', "/foo/-"),
             RESOLVE_OUT_OF_BOUNDS.format(4),
-            "index 1 out of bounds (len: 1) at 5, length 1",
+            "5+1 index 1 out of bounds (len: 1)",
             "/foo/-\n     ^ index 1 out of bounds (len: 1)",
         ),
         (
             ("resolve", '{"a":{}}', "/a/"),
             RESOLVE_NOT_FOUND.format(2),
-            "not found in value at 2, length 0",
+            "2+0 not found in value",
             "/a/\n  ^ not found in value",
         ),
         (
             ("resolve", "1", "/a~1b"),
             RESOLVE_UNREACHABLE.format(0),
-            "unreachable at 1, length 4",
+            "1+4 unreachable",
             "/a~1b\n ^^^^ unreachable",
         ),
         (
             ("resolve", "[]", "/x"),
             RESOLVE_BAD_INDEX.format(0),
-            "not an array index at 1, length 1",
+            "1+1 not an array index",
             "/x\n ^ not an array index",
         ),
         (
             ("assign", "[]", "/1"),
             ASSIGN_OUT_OF_BOUNDS.format(0),
-            "1 is out of bounds (len: 0) at 1, length 1",
+            "1+1 1 is out of bounds (len: 0)",
             "/1\n ^ 1 is out of bounds (len: 0)",
         ),
         (
             ("assign", "[]", "/x"),
             ASSIGN_BAD_INDEX.format(0),
-            "expected array index or '-' at 1, length 1",
+            "1+1 expected array index or '-'",
             "/x\n ^ expected array index or '-'",
         ),
         (
             ("index", "1" + LONG),
             INDEX_BAD_CHARACTER,
-            "invalid character(s) at 1, length 100000",
+            "1+100000 invalid character(s)",
             f"1{LONG}\n {'^' * 100_000} invalid character(s)",
         ),
         (
             ("pointer", MANY + "~"),
             PARSE_MALFORMED.format(99_998),
-            f"{tilde} at 100000, length 1",
+            f"100000+1 {tilde}",
             f"{MANY}~\n{' ' * 100_000}^ {tilde}",
         ),
     ]
@@ -1388,14 +1407,14 @@ def reports():
         for call in ["diagnose", "diagnose_with"]:
             yield no_alloc("report joined", call, text, answer=f"{fault}: {text}")
             yield no_alloc("report joined", call, f"/{text.replace('~', 'x')}", answer=f"/{text.replace('~', 'x')}")
-        yield no_alloc("report joined", "decompose", text, answer=text)
-        yield no_alloc("report joined", "into_original", text, answer=fault)
+        yield no_alloc("text kept", "decompose", text, answer=text)
+        yield no_alloc("text kept", "into_original", text, answer=fault)
     yield no_alloc("report", "labels", "index", "", answer="none")
     yield no_alloc("report", "labels", "index", "9" * 100_000, answer="none")
-    yield no_alloc("report", "labels", "index on", USIZE_MAX + 1, "00", answer="none")
-    yield allocates("report", "labels", "index", "+1", answer="invalid character(s) at 0, length 1")
-    yield allocates("report", "labels", "token", "a~/b", answer="invalid character at 2, length 1")
-    yield allocates("report", "labels", "token", "é~x", answer="must be 0 or 1 at 3, length 1")
+    yield no_alloc("report", "labels", "index", USIZE_MAX + 1, "00", answer="none")
+    yield allocates("report", "labels", "index", "+1", answer="0+1 invalid character(s)")
+    yield allocates("report", "labels", "token", "a~/b", answer="2+1 invalid character")
+    yield allocates("report", "labels", "token", "é~x", answer="3+1 must be 0 or 1")
     rows = [
         (("pointer", "/é~"), f"/é~\n  ^ {tilde}"),
         (("token", "é~x"), "é~x\n  ^ must be 0 or 1"),
@@ -1406,6 +1425,21 @@ def reports():
     ]
     for about, drawn in rows:
         yield allocates("report", "render", *about, answer=drawn)
+
+
+def of_pointer(offset, source):
+    """Returns the kind and the fields of the error of a pointer whose token at an offset is malformed."""
+    return "parse error", offset, source, "Tilde"
+
+
+def of_token(offset, source):
+    """Returns the kind and the fields of the error of a token."""
+    return "encoding error", offset, source
+
+
+def of_document(position, offset):
+    """Returns the kind and the fields of the error of a token that is not found in a document."""
+    return "resolve error", "NotFound", position, offset, ""
 
 
 def bounds():
@@ -1438,41 +1472,42 @@ def bounds():
         (1, 1, "/a~0", 2),
     ]
     for offset, source, subject, length in lengths:
-        yield no_alloc("invalid_encoding_len", offset, source, subject, answer=length)
+        _, *fields = of_pointer(offset, source)
+        yield no_alloc("fields", "len", "invalid_encoding_len", *fields, subject, answer=length)
     none = [
-        ("pointer", USIZE_MAX, 1, ""),
-        ("pointer", USIZE_MAX, USIZE_MAX, "/~"),
-        ("tilde", 0, 0, ""),
-        ("resolve", 0, USIZE_MAX, "/a"),
-        ("resolve", USIZE_MAX, 0, "/a"),
+        (of_pointer(USIZE_MAX, 1), ""),
+        (of_pointer(USIZE_MAX, USIZE_MAX), "/~"),
+        (of_token(0, "Tilde"), ""),
+        (of_document(0, USIZE_MAX), "/a"),
+        (of_document(USIZE_MAX, 0), "/a"),
     ]
-    for kind, first, second, subject in none:
-        yield no_alloc("fields", "labels", kind, first, second, subject, answer="none")
+    for fields, subject in none:
+        yield no_alloc("fields", "labels", *fields, subject, answer="none")
     labels = [
-        ("pointer", 0, 0, "/~", "'~' must be followed by '0' or '1' at 0, length 2"),
-        ("slash", 0, 0, "", "invalid character at 0, length 1"),
-        ("slash", USIZE_MAX, 0, "", f"invalid character at {USIZE_MAX}, length 1"),
-        ("tilde", 0, 0, "a", "must be 0 or 1 at 0, length 1"),
-        ("tilde", 3, 0, "é~", "incomplete escape sequence at 2, length 1"),
-        ("tilde", USIZE_MAX, 0, "", f"must be 0 or 1 at {USIZE_MAX}, length 1"),
-        ("pointer", USIZE_MAX, 0, "", f"'~' must be followed by '0' or '1' at {USIZE_MAX}, length 1"),
-        ("resolve", 0, USIZE_MAX - 1, "/a", f"not found in value at {USIZE_MAX - 1}, length 1"),
+        (of_pointer(0, 0), "/~", "0+2 '~' must be followed by '0' or '1'"),
+        (of_token(0, "Slash"), "", "0+1 invalid character"),
+        (of_token(USIZE_MAX, "Slash"), "", f"{USIZE_MAX}+1 invalid character"),
+        (of_token(0, "Tilde"), "a", "0+1 must be 0 or 1"),
+        (of_token(3, "Tilde"), "é~", "2+1 incomplete escape sequence"),
+        (of_token(USIZE_MAX, "Tilde"), "", f"{USIZE_MAX}+1 must be 0 or 1"),
+        (of_pointer(USIZE_MAX, 0), "", f"{USIZE_MAX}+1 '~' must be followed by '0' or '1'"),
+        (of_document(0, USIZE_MAX - 1), "/a", f"{USIZE_MAX - 1}+1 not found in value"),
     ]
-    for kind, first, second, subject, label in labels:
-        yield allocates("fields", "labels", kind, first, second, subject, answer=label)
+    for fields, subject, label in labels:
+        yield allocates("fields", "labels", *fields, subject, answer=label)
     drawings = [
-        ("slash", 9, 0, "ab", "ab\n  ^ invalid character"),
-        ("slash", USIZE_MAX, 0, "ab", "ab\n  ^ invalid character"),
-        ("tilde", 0, 0, "", ""),
-        ("resolve", 1, 4, "/foo/bär/x", "/foo/bär/x\n     ^^^ not found in value"),
+        (of_token(9, "Slash"), "ab", "ab\n  ^ invalid character"),
+        (of_token(USIZE_MAX, "Slash"), "ab", "ab\n  ^ invalid character"),
+        (of_token(0, "Tilde"), "", ""),
+        (of_document(1, 4), "/foo/bär/x", "/foo/bär/x\n     ^^^ not found in value"),
     ]
-    for kind, first, second, subject, drawn in drawings:
-        yield allocates("fields", "render", kind, first, second, subject, answer=drawn)
-    yield no_alloc("fields", "display", "slash", USIZE_MAX, 0, "", answer=TOKEN_BAD_ENCODING.format(USIZE_MAX))
+    for fields, subject, drawn in drawings:
+        yield allocates("fields", "render", *fields, subject, answer=drawn)
+    yield no_alloc("fields", "display", *of_token(USIZE_MAX, "Slash"), "", answer=TOKEN_BAD_ENCODING.format(USIZE_MAX))
     orders = [("index", "/1", "/2", "<"), ("index", "/-", f"/{USIZE_MAX}", ">"), ("index", "/-", "/-", "=")]
     orders += [("component", "", "/", "<"), ("component", "/a~1b", "/a~0", ">"), ("component", MANY, MANY, "=")]
     for kind, one, other, order in orders:
-        yield no_alloc("order", kind, one, other, answer=order)
+        yield no_alloc("order", kind, one, other, answer=ORDERS[order])
     yield no_alloc("known", "from_static", answer=8)
     yield no_alloc("known", "new_unchecked", answer=5)
     yield no_alloc("known", "complete_offset", answer=12)
@@ -1532,8 +1567,8 @@ def large_documents():
     yield on("json", wall, "resolve", "/a" * 5 + "/0", answer=error, after=wall, no_alloc=True)
     yield allocates("pointer with", "with_leading_token", MANY, "x", answer=f"/x{MANY}")
     yield allocates("pointer with", "with_trailing_token", MANY, "x", answer=f"{MANY}/x")
-    label = "not found in value at 13, length 1"
-    yield allocates("fields", "labels", "resolve", 6, 12, "/a" * 8, answer=label)
+    label = "13+1 not found in value"
+    yield allocates("fields", "labels", *of_document(6, 12), "/a" * 8, answer=label)
 
 
 def large_undos_and_patches():
@@ -1548,7 +1583,7 @@ def large_undos_and_patches():
     copied = '{"a":' + nested(11, "1") + ',"b":1}'
     yield patched(nested(12, "1"), ("copy", "/a" * 12, "/b"), after=copied)
     yield patched(nested(12, "1"), ("replace", "/a" * 12, "2"), after=nested(12, "2"))
-    yield Case(("patch back", nested(12, "1"), "/a" * 12), f"add 1 at {'/a' * 12}\n", f"{nested(11, '{}')}\n")
+    yield Case(("patch back", nested(12, "1"), "/a" * 12), f"add {'/a' * 12} 1\n", f"{nested(11, '{}')}\n")
     yield patched("[1]", *[("test", "/0", "1")] * 5, after="[1]")
     zeros = ",".join("0" * 100_001)
     yield patched(f"[{zeros}]", ("add", "/0", "1"), after=f"[1,{zeros}]")
@@ -1569,7 +1604,8 @@ def unread(document, cause):
 def written_as(document, *operations):
     """Operations, each with the line that shows it, and their document."""
     shown = "".join(f"{line}\n" for line in (*(line for _, line in operations), "done"))
-    return Case(("patch written", *(word for words, _ in operations for word in words)), f"{document}\n", shown)
+    patch = patch_of(word for words, _ in operations for word in words)
+    return Case(("patch written", patch), f"{document}\n", shown)
 
 
 def patch_documents():
@@ -1577,13 +1613,13 @@ def patch_documents():
     add = '{"op":"add","path":"/a~1b","value":{"x":[1,null]}}'
     move = '{"from":"/a","op":"move","path":""}'
     yield read_as("[]", most=0)
-    yield read_as(f"[{add}]", 'add {"x":[1,null]} at /a~1b')
+    yield read_as(f"[{add}]", 'add /a~1b {"x":[1,null]}')
     yield read_as('[{"op":"remove","path":"/a"}]', "remove /a", most=2)
-    yield read_as('[{"op":"replace","path":"/a","value":"text"}]', 'replace /a by "text"', most=3)
-    yield read_as(f"[{move}]", "move /a to ")
-    yield read_as('[{"from":"","op":"copy","path":"/~0/-"}]', "copy  to /~0/-")
-    yield read_as('[{"op":"test","path":"","value":-7,"x":1}]', "test  for -7")
-    yield read_as(f"[{','.join([add, move] * 20)}]", *['add {"x":[1,null]} at /a~1b', "move /a to "] * 20)
+    yield read_as('[{"op":"replace","path":"/a","value":"text"}]', 'replace /a "text"', most=3)
+    yield read_as(f"[{move}]", "move /a ")
+    yield read_as('[{"from":"","op":"copy","path":"/~0/-"}]', "copy  /~0/-")
+    yield read_as('[{"op":"test","path":"","value":-7,"x":1}]', "test  -7")
+    yield read_as(f"[{','.join([add, move] * 20)}]", *['add /a~1b {"x":[1,null]}', "move /a "] * 20)
     for document, cause in [
         ("{}", "not an array"),
         ("[7]", "operation 0 is not an object"),
@@ -1604,31 +1640,31 @@ def patch_documents():
         ('[{"path":"/a","op":"remove"}]', "remove /a"), ('[{"op":"remove","path":"/a","value":1}]', "remove /a"),
         ('[{"from":5,"op":"remove","path":"/a"}]', "remove /a"),
         ('[{"from":"a~","value":[],"op":"remove","path":"/a"}]', "remove /a"),
-        ('[{"op":"add","path":"/a","value":1,"from":"b"}]', "add 1 at /a"),
-        ('[{"op":"add","path":"/a","value":1,"from":null}]', "add 1 at /a"),
-        ('[{"op":"copy","path":"/a","from":"/b","value":1}]', "copy /b to /a"),
+        ('[{"op":"add","path":"/a","value":1,"from":"b"}]', "add /a 1"),
+        ('[{"op":"add","path":"/a","value":1,"from":null}]', "add /a 1"),
+        ('[{"op":"copy","path":"/a","from":"/b","value":1}]', "copy /b /a"),
         # `serde_json` keeps the last of a repeated member when it reads a text.
         ('[{"op":"add","op":"remove","path":"/a"}]', "remove /a"), ('[{"op":7,"path":"/a","op":"remove"}]', "remove /a"),
         ('[{"path":"b","op":"remove","path":"/a"}]', "remove /a"),
-        ('[{"value":1,"op":"add","path":"/a","value":2}]', "add 2 at /a"),
-        ('[{"from":null,"from":"/c","op":"move","path":"/a"}]', "move /c to /a"),
-        ('[{"op":"test","path":"","value":null},{"op":"remove","path":"/a"}]', "test  for null", "remove /a"),
-        ('[{"op":"add","path":"/a","value":1.5}]', "add 1.5 at /a"),
-        ('[{"op":"add","path":"","value":{"a":{"":[{"op":"add"}]},"b":false}}]', 'add {"a":{"":[{"op":"add"}]},"b":false} at '),
+        ('[{"value":1,"op":"add","path":"/a","value":2}]', "add /a 2"),
+        ('[{"from":null,"from":"/c","op":"move","path":"/a"}]', "move /c /a"),
+        ('[{"op":"test","path":"","value":null},{"op":"remove","path":"/a"}]', "test  null", "remove /a"),
+        ('[{"op":"add","path":"/a","value":1.5}]', "add /a 1.5"),
+        ('[{"op":"add","path":"","value":{"a":{"":[{"op":"add"}]},"b":false}}]', 'add  {"a":{"":[{"op":"add"}]},"b":false}'),
     ]:
         kept = json.dumps(json.loads(document), sort_keys=True, separators=(",", ":"))
         yield read_as(document, *operations)._replace(after=f"{kept}\n")
     yield written_as("[]")
-    yield written_as(f"[{add}]", (("add", "/a~1b", '{"x":[1,null]}'), 'add {"x":[1,null]} at /a~1b'))
+    yield written_as(f"[{add}]", (("add", "/a~1b", '{"x":[1,null]}'), 'add /a~1b {"x":[1,null]}'))
     yield written_as(
         f'[{move},{{"op":"remove","path":"/~0"}},{{"op":"test","path":"/b","value":"text"}}]',
-        (("move", "/a", ""), "move /a to "),
+        (("move", "/a", ""), "move /a "),
         (("remove", "/~0"), "remove /~0"),
-        (("test", "/b", '"text"'), 'test /b for "text"'),
+        (("test", "/b", '"text"'), 'test /b "text"'),
     )
     no_slash, no_escape = "must start with a slash ('/')", "'~' must be followed by '0' or '1'"
-    yield allocates("patch labels", '[{"op":"remove","path":"a"}]', answer=f"{no_slash} at 0, length 0")
-    yield allocates("patch labels", '[{"op":"copy","path":"","from":"/b~"}]', answer=f"{no_escape} at 2, length 1")
+    yield allocates("patch labels", '[{"op":"remove","path":"a"}]', answer=f"0+0 {no_slash}")
+    yield allocates("patch labels", '[{"op":"copy","path":"","from":"/b~"}]', answer=f"2+1 {no_escape}")
     yield no_alloc("patch labels", '[{"op":"remove"}]', answer="none")
     yield no_alloc("patch labels", "{}", answer="none")
 
@@ -1642,7 +1678,7 @@ def few_requests():
     yield patched(beside, ("replace", "/a/0", "1"), after=replaced)._replace(most=2)
     yield patched(beside, ("test", "/a/0", "0"), after=beside)._replace(most=0)
     yield patched(beside, ("test", "/b/0", text), ("test", "/b/1", text), after=beside)._replace(most=0)
-    yield Case(("patch back", beside, "/a/0"), "add 0 at /a/0\n", f"{beside.replace('[0]', '[]', 1)}\n", most=1)
+    yield Case(("patch back", beside, "/a/0"), "add /a/0 0\n", f"{beside.replace('[0]', '[]', 1)}\n", most=1)
     yield on("json", "1", "assign", "/a~1b", "2", answer="1", after='{"a/b":2}')._replace(most=2)
     for case in session("json", beside, "/a/0", [("write 1", "value 0")], f"/a/0 {replaced}"):
         yield case._replace(most=1)

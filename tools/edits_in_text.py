@@ -3,7 +3,7 @@
 
     tools/edits_in_text.py [--count N] [--seed N] [PROGRAM]
 
-PROGRAM is the built program of crates/jsonptr_tool_edits. The worked examples (edits/rows.py) and the files (edits/files.py)
+PROGRAM is the built program of crates/jsonptr_tool_calls. The worked examples (edits/rows.py) and the files (edits/files.py)
 have their new texts and the lines that `diff` shows. Of N random edits each new text must read as the document that
 `assign`, `delete` or `apply` makes, and each error must be theirs. A reader in Python finds where an edit lands in the old
 text: no character outside changes, and what comes has the white space of its siblings. No document may be printed anew.
@@ -85,7 +85,7 @@ def main():
     parser.add_argument("--seed", type=int, default=1)
     parser.add_argument("program", nargs="?")
     words = parser.parse_args()
-    path = words.program or program("jsonptr_tool_edits")
+    path = words.program or program("jsonptr_tool_calls")
     starts = range(0, words.count, BATCH)
     batches = [(path, f"{words.seed} {it}", min(BATCH, words.count - it)) for it in starts]
     kinds, errors = collections.Counter(), [(0, it) for it in faults_of_examples(path)]

@@ -3,6 +3,7 @@
 The shim is failing_malloc.c, which needs the C library of Linux (glibc) and a C compiler, `cc`.
 """
 import os
+import re
 import subprocess
 import sys
 
@@ -21,6 +22,19 @@ def program(name):
     if not os.path.exists(path):
         sys.exit(f"{name} is not built: (cd crates/{name} && rt run < stdin)")
     return path
+
+
+def line_of(*words):
+    """Returns the line of words that `jsonptr_tool_calls` reads."""
+    escapes = str.maketrans({"\\": "\\\\", "\t": "\\t", "\n": "\\n", "\r": "\\r"})
+    return "\t".join(word.translate(escapes) for word in words) + "\n"
+
+
+def fields_of(line):
+    """Returns the fields of a line that `jsonptr_tool_calls` writes, without escapes."""
+    named = (field.partition("=") for field in line.split("\t"))
+    letters = {"t": "\t", "n": "\n", "r": "\r"}
+    return {name: re.sub(r"\\(.)", lambda it: letters.get(it[1], it[1]), text) for name, _, text in named}
 
 
 def build_shim(folder):
@@ -55,7 +69,7 @@ def run_with_shim(words, text, shim, fail, count="", may_keep=False):
 
 
 def parts_of(completed):
-    """Returns what `jsonptr_tool_rows` wrote before its call, as the result, and as the state after it."""
+    """Returns what `jsonptr_tool_calls` wrote before its call, as the result, and as the state after it."""
     if completed.returncode or completed.stderr:
         raise CheckFailed(f"status {completed.returncode}: {completed.stderr.decode()[-300:]}")
     before, *calls = completed.stdout.decode().split("-- call\n")

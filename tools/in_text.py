@@ -3,7 +3,7 @@
 
     tools/in_text.py [--count N] [--seed N] [PROGRAM]
 
-PROGRAM is the built program of crates/jsonptr_tool_in_text. For each case `resolve_in_text` and `resolve_in_slice` must
+PROGRAM is the built program of crates/jsonptr_tool_calls. For each case `resolve_in_text` and `resolve_in_slice` must
 say what `Value::from_slice` and then `resolve` say, and `exists_in_text` must fit that. What is found in a text that
 Python reads too must be the value that Python finds there.
 """
@@ -16,7 +16,7 @@ import subprocess
 import sys
 from concurrent.futures import ThreadPoolExecutor
 
-from harness import program
+from harness import fields_of, line_of, program
 
 KEYS = ["a", "b", "", "0", "1", "01", "-", "a/b", "m~n", "é", "k\n", "😀"]
 NUMBERS = [
@@ -29,6 +29,7 @@ STRINGS = [
     '"\\x"', '"\t"', '"\\u12"', '"',
 ]
 GOOD_NUMBERS, GOOD_STRINGS = 11, 6
+FIELDS = ["text", "slice", "exists", "read"]
 SPACES = ["", "", "", " ", "\n\t", "\r"]
 WRONG = ["", "{", "}", "[", "]", ",", ":", '"', "\\", "0", "-", "e", "t", "null", " ", "\x00", "\x1f", "1e999", "é"]
 
@@ -151,7 +152,7 @@ def kind_of(said):
 
 def fault_of(pointer, data, fields):
     """Returns what is wrong with the fields that were printed for a case, or None."""
-    text, in_slice, exists, read = fields
+    text, in_slice, exists, read = (fields[it] for it in FIELDS)
     if in_slice != read:
         return "resolve_in_slice differs"
     is_utf8 = text != "not UTF-8"
@@ -171,16 +172,16 @@ def run(path, seed, count):
     """Runs cases. Returns how many were of each kind, and the errors."""
     texts = Texts(seed)
     cases = [texts.case() for _ in range(count)]
-    lines = "".join(f"{pointer.encode().hex()}\t{data.hex()}\n" for pointer, data in cases)
+    lines = "".join(line_of("find", pointer, data.hex()) for pointer, data in cases)
     completed = subprocess.run([path], input=lines.encode(), stdout=subprocess.PIPE, check=True)
     said = completed.stdout.decode().split("\n")[:-1]
     kinds, errors = collections.Counter(), []
     if len(said) != len(cases):
         errors.append(f"{len(said)} lines for {len(cases)} cases")
     for (pointer, data), line in zip(cases, said):
-        fields = line.split("\t")
-        fault = fault_of(pointer, data, fields) if len(fields) == 4 else "not four fields"
-        kinds[kind_of(fields[-1])] += 1
+        fields = fields_of(line)
+        fault = fault_of(pointer, data, fields) if sorted(fields) == sorted(FIELDS) else "not four fields"
+        kinds[kind_of(fields.get("read", ""))] += 1
         if fault:
             errors.append(f"{fault}: {pointer!r} in {data!r}: {line!r}")
     return kinds, errors
@@ -192,7 +193,7 @@ def main():
     parser.add_argument("--seed", type=int, default=1)
     parser.add_argument("program", nargs="?")
     words = parser.parse_args()
-    path, workers = words.program or program("jsonptr_tool_in_text"), os.cpu_count() or 1
+    path, workers = words.program or program("jsonptr_tool_calls"), os.cpu_count() or 1
     parts = [words.count // workers + (it < words.count % workers) for it in range(workers)]
     kinds, errors = collections.Counter(), []
     with ThreadPoolExecutor(workers) as pool:

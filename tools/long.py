@@ -6,9 +6,9 @@ from concurrent.futures import ThreadPoolExecutor
 
 from call_cases import KINDS, PARSE_MALFORMED, RESOLVE_BAD_INDEX, RESOLVE_NOT_FOUND, RESOLVE_OUT_OF_BOUNDS
 from call_cases import Case, allocates, edit, no_alloc, session
-from harness import CheckFailed, parts_of, program
+from harness import CheckFailed, line_of, parts_of, program
 
-PROGRAM = program("jsonptr_tool_rows")
+PROGRAM = program("jsonptr_tool_calls")
 STACK_KIBIBYTES = 256
 SECONDS = 20
 COUNT = 1_000_000
@@ -21,7 +21,6 @@ ESCAPED = "~1" * (8 << 20)
 def read(text, first, last, count):
     """Cases that parse a pointer, count its tokens, and split it."""
     back, rest = text[: -len(last) - 1], text[len(first) + 1 :]
-    decoded = first.replace("~1", "/"), last.replace("~1", "/")
     yield no_alloc("text", "Pointer::parse", text, answer=text)
     yield no_alloc("text kept", "PointerBuf::parse", text, answer=text)
     yield allocates("text kept", "TabledPointer::parse", text, answer=text)
@@ -29,15 +28,15 @@ def read(text, first, last, count):
     yield no_alloc("pointer", "count", text, answer=count)
     yield no_alloc("pointer", "tokens", text, answer=last)
     yield no_alloc("pointer", "components", text, answer=last)
-    yield no_alloc("pointer", "split_front", text, answer=f"{decoded[0]} and {rest}")
-    yield no_alloc("pointer", "split_back", text, answer=f"{back} and {decoded[1]}")
+    yield no_alloc("pointer", "split_front", text, answer=f"{first} and {rest}")
+    yield no_alloc("pointer", "split_back", text, answer=f"{back} and {last}")
     yield allocates("pointer", "PointerBuf::from_tokens", text, answer=text)
     for group in ["range", "tabled"]:
-        yield no_alloc(group, "get i", text, count - 1, 0, answer=last)
-        yield no_alloc(group, "get i..j", text, 0, count, answer=text)
-        yield no_alloc(group, "get ..=i", text, count, 0, answer="none")
+        yield no_alloc(group, "at", text, count - 1, 0, answer=last)
+        yield no_alloc(group, "range", text, 0, count, answer=text)
+        yield no_alloc(group, "to inclusive", text, count, 0, answer="none")
     yield no_alloc("pointers", "intersection", text, text + "/b", answer=text)
-    yield no_alloc("show", "token", first, answer=decoded[0])
+    yield no_alloc("show", "token", first, answer=first.replace("~1", "/"))
 
 
 def edited(text, first, last):
@@ -96,7 +95,7 @@ def check(case):
     """Runs a case, and returns an error message or None."""
     script = ["sh", "-c", f'ulimit -s {STACK_KIBIBYTES}; exec "$0"', PROGRAM]
     try:
-        completed = subprocess.run(script, input="\n".join(case.lines).encode(), capture_output=True, timeout=SECONDS)
+        completed = subprocess.run(script, input=line_of("case", *case.lines).encode(), capture_output=True, timeout=SECONDS)
         _, answer, after = parts_of(completed)
     except (CheckFailed, subprocess.TimeoutExpired) as error:
         return f"long: {[line[:60] for line in case.lines]}: {error}"

@@ -1,6 +1,6 @@
 """Runs each case of call_cases.py once with enough memory, and once for each memory request with that request failing.
 
-With a failing request the run returns the usual result, or "out of memory" with its arguments unchanged. The same holds
+With a failing request the run returns the usual result, or the error of a failed allocation with its arguments unchanged. The same holds
 with all requests failing. A case with `no_alloc` makes no request. No request is greater than in proportion to the case. Every run frees
 what it allocated.
 """
@@ -12,10 +12,10 @@ from concurrent.futures import ThreadPoolExecutor
 from typing import NamedTuple
 
 from call_cases import CASES
-from harness import CheckFailed, build_shim, parts_of, program, run_with_shim
+from harness import CheckFailed, build_shim, line_of, parts_of, program, run_with_shim
 
-PROGRAM = program("jsonptr_tool_rows")
-OUT_OF_MEMORY = "out of memory\n"
+PROGRAM = program("jsonptr_tool_calls")
+OUT_OF_MEMORY = ("out of memory\n", "memory allocation failed\n")
 
 
 class Run(NamedTuple):
@@ -30,7 +30,7 @@ class Run(NamedTuple):
 
 def run(lines, shim, fail):
     """Runs a case with the numbered request failing, or all of them, or none."""
-    completed, requests, greatest = run_with_shim([PROGRAM], "\n".join(lines), shim, fail)
+    completed, requests, greatest = run_with_shim([PROGRAM], line_of("case", *lines), shim, fail)
     return Run(*parts_of(completed), requests, greatest)
 
 
@@ -68,10 +68,10 @@ def with_call_left_out(case, result, shim):
 
 
 def check_failing(case, usual, shim, fail):
-    """Runs a case with a failing request, and checks that nothing but "out of memory" came of it."""
+    """Runs a case with a failing request, and checks that nothing but the error of a failed allocation came of it."""
     result = run(case.lines, shim, fail)
     found = (result.answer, result.after)
-    allowed = [(OUT_OF_MEMORY, usual.before)]
+    allowed = [(text, usual.before) for text in OUT_OF_MEMORY]
     # A session first allocates the list of its replies. Without that list it makes no call.
     if not case.calls or fail != 1:
         allowed.append((usual.answer, usual.after))

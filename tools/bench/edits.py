@@ -3,7 +3,7 @@
 
     tools/bench/edits.py [--rounds N] [--only WORD] OURS [--jq PROGRAM]
 
-OURS is the built program of crates/jsonptr_tool_edits. The ways run in turn on each file. A time is the processor time of
+OURS is the built program of crates/jsonptr_tool_calls. The ways run in turn on each file. A time is the processor time of
 one edit: the least of all rounds, without starting the program and reading the file. That of `jq` is of a whole run. Memory
 is the greatest of a run that makes one edit. The edits in a text share one `Buffers`; the column "with its own buffers"
 has the time of the first edit where each makes its own.

@@ -3,7 +3,7 @@
 
     tools/compare/compare.py [--cases N] [--seed N] [--without DEPARTURE] OURS THEIRS
 
-OURS is the built program of crates/jsonptr_tool_answers, THEIRS that of tools/compare/original. Both answer the same
+OURS is the built program of crates/jsonptr_tool_calls, THEIRS that of tools/compare/original. Both answer the same
 requests. Each field in which they differ must be a departure (departures.py). Prints how often each departure occurred,
 and the first other differences. The exit status is 1 if there is one.
 """

@@ -1,6 +1,8 @@
-"""Asks the built program of crates/jsonptr_tool_edits for edits."""
+"""Asks the built program of crates/jsonptr_tool_calls for edits."""
 import subprocess
 from typing import NamedTuple
+
+from harness import fields_of, line_of
 
 
 class Request(NamedTuple):
@@ -27,21 +29,15 @@ class Outcome(NamedTuple):
     read: str
 
 
-def line_of(request):
-    """Returns the line of a request."""
-    return "\t".join([request.command, *(it.encode().hex() for it in request[1:])]) + "\n"
-
-
 def outcome_of(line):
-    """Returns the outcome of a line."""
-    kind, detail, call, printed, read = line.split("\t")
-    detail, printed, read = (bytes.fromhex(it).decode() for it in (detail, printed, read))
-    return Outcome(kind, detail, call, printed, read)
+    """Returns the outcome of a line, which has no field for a text that is not there."""
+    fields = {"detail": "", "printed": "", "read": "", **fields_of(line)}
+    return Outcome(*(fields[it] for it in Outcome._fields))
 
 
 def ask(path, requests):
     """Returns the outcome of each request."""
-    given = "".join(map(line_of, requests)).encode()
+    given = "".join(line_of("change", *it) for it in requests).encode()
     completed = subprocess.run([path], input=given, stdout=subprocess.PIPE, check=True)
     lines = completed.stdout.decode().split("\n")[:-1]
     if len(lines) != len(requests):
