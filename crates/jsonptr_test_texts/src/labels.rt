@@ -1,7 +1,7 @@
 //! Texts, URLs and labels of token and index errors on any subject, and reports of results.
 use crate::reports::{address_of, are_equal, debug_of, is_label, labels_of, text_of};
 use jsonptr::diagnostic::Diagnostic;
-use jsonptr::index::{Index, ParseIndexError, StringOrToken};
+use jsonptr::index::{Index, OutOfBoundsError, ParseIndexError, StringOrToken};
 use jsonptr::{Diagnose, EncodingError, InvalidEncoding, Pointer, Report};
 use std::alloc::{AllocError, Global};
 use std::error::Error;
@@ -34,6 +34,19 @@ fn texts_of_encodings(rt: HostRuntime) -> Result<(), Fail> {
     ] {
         assert_eq!(rt; shown(rt.alloc(), &source)?.as_str(), want);
     }
+    Ok(())
+}
+
+#[test]
+fn text_of_an_index_out_of_bounds(rt: HostRuntime) -> Result<(), Fail> {
+    let bounds = OutOfBoundsError {
+        length: usize::MAX,
+        index: 3,
+    };
+    assert_eq!(rt;
+        shown(rt.alloc(), &bounds)?.as_str(),
+        "index 3 out of bounds (len: 18446744073709551615)"
+    );
     Ok(())
 }
 
@@ -108,5 +121,12 @@ fn texts_of_a_report(rt: HostRuntime) -> Result<(), Fail> {
     let display = "token contained leading zeros, which are disallowed by RFC 6901";
     let debug = r#"Report { source: LeadingZeros, subject: String("00") }"#;
     assert!(rt; report_displays(rt.alloc(), "00", display, debug)?);
+    Ok(())
+}
+
+#[test]
+fn an_index_without_report(rt: HostRuntime) -> Result<(), Fail> {
+    let parsed = diagnosed_index(rt.alloc(), "1", "")?;
+    assert_eq!(rt; parsed.ok().ok_or("an index")?, Index::Num(1));
     Ok(())
 }
