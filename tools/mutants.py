@@ -14,9 +14,10 @@ The tool copies the crate and the libraries below it, with what earlier checks k
 It applies the mutants there, at most one a function, and runs `rt check --only F1 --only F2 ..`. Mutants whose functions
 call one another in a cycle, mutants of clauses, of specs/ and of text outside functions have a check of their own.
 
-A mutant is refused only if its function fails at a goal of its own: because a goal is not proved, or because an answer of
-its proof does not have the type of its goal. It is not enough that the function calls one that is not proved, or that a
-proof file names what the mutant removed. Mutants that cannot be applied or read are not refused.
+A mutant passes only if its function fails at a goal of its own: because a goal is not proved, or because an answer of its
+proof does not have the type of its goal. It is not enough that the function calls one that is not proved, or that a proof
+file names what the mutant removed. A mutant that cannot be applied or read does not pass. The exit status is 1 if one of
+the mutants does not pass.
 """
 import argparse
 import os
@@ -114,7 +115,8 @@ class Function:
         """Returns the paths to try with --only, the whole name first. The last one stands for a module and more."""
         owner = [it for it in (self.module, self.type) if it]
         whole = "::".join([*owner, self.name])
-        return list(dict.fromkeys([whole, "::".join(it for it in (self.type, self.name) if it), self.name, self.module]))
+        paths = [whole, "::".join(it for it in (self.type, self.name) if it), self.name, self.module]
+        return [it for it in dict.fromkeys(paths) if it]
 
 
 class Mutant:
@@ -216,7 +218,7 @@ class Check:
         run = subprocess.run(words, cwd=folder, stdin=subprocess.DEVNULL, stdout=subprocess.PIPE, stderr=subprocess.STDOUT, errors="replace")
         self.seconds, self.clock = processor_seconds() - before, time.monotonic() - start
         self.status, self.output = run.returncode, run.stdout
-        self.errors = [(at[1], at[2]) for at in map(AT.match, self.output.splitlines()) if at]
+        self.errors = errors_in(self.output.splitlines())
         self.functions = dict(re.findall(r"(?m)^fn (\S+): (.*)", self.output))
         self.is_whole = not only
         if "the kept work of" in self.output and "cannot be used" in self.output:
@@ -224,10 +226,9 @@ class Check:
         self.last = re.search(r"(?m)^(?:only=\d+ proved=\d+|logic=(?:not-)?proved.*)$", self.output)
 
     def unknown(self):
-        """Returns the path that names no function, or several, if that is why nothing was checked."""
-        found = re.search(r"rattle: error: `\w+` has (?:no|several|\d+) functions? `([^`]*)`", self.output)
-        found = found or re.search(r"rattle: error: .*`([^`]*)` (?:fits|names|is the end of)", self.output)
-        return found[1] if found and not self.last else None
+        """Returns the names in the error of a path that fits no function, or several, if that is why nothing was checked."""
+        lines = [] if self.last else re.findall(r"(?m)^rattle: error: .*", self.output)
+        return {name for line in lines for name in re.findall(r"`([^`]*)`", line)}
 
     def first_lines(self):
         """Returns the lines that say why nothing was checked."""
@@ -242,6 +243,16 @@ class Check:
             start, end = f"{name}::{function.module}::" if function.module else f"{name}::", f"::{function.name}"
             found = {it: line for it, line in self.functions.items() if it.startswith(start) and it.endswith(end)}
         return found
+
+
+def errors_in(lines):
+    """Returns the file and the message of each error. A message may go on in the next line, which is then indented."""
+    found = []
+    for line, following in zip(lines, [*lines[1:], ""]):
+        at = AT.match(line)
+        if at:
+            found.append((at[1], f"{at[2]} {following.strip()}" if following.startswith("  ") else at[2]))
+    return found
 
 
 def processor_seconds():
@@ -284,8 +295,8 @@ def judge(check, mutant, name):
         return False, f"nothing was checked: {check.first_lines()}"
     if not mutant.functions or mutant.asks is None:
         goals = [message for _path, message in check.errors if not NAMES_ALONE.search(message)]
-        goals += [line for line in check.functions.values() if "did not prove" in line]
         names = len(check.errors) - len(goals)
+        goals += [line for line in check.functions.values() if not check.errors and "did not prove" in line]
     else:
         found = [goals_of(check, it, name) for it in mutant.functions]
         goals, names = [it for own, _ in found for it in own], [it for _, own in found for it in own]
@@ -387,11 +398,10 @@ def try_all(name, mutants, jobs, are_twins):
         while pending:
             check, tried = room.check(next_round(pending))
             seconds, clock = seconds + check.seconds, clock + check.clock
-            unknown = check.unknown()
-            if unknown is not None:
-                for it in tried:
-                    if unknown in it.only():
-                        it.ask_wider()
+            unknown = [it for it in tried if check.unknown() & set(it.only())]
+            for it in unknown:
+                it.ask_wider()
+            if unknown:
                 continue
             for it in tried:
                 well, said = (judge_twin if are_twins else judge)(check, it, name)

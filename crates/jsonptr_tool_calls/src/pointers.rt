@@ -2,6 +2,7 @@
 use crate::out::Out;
 use jsonptr::index::Index;
 use jsonptr::{Component, Pointer, PointerBuf, Token};
+use std::cmp::Ordering;
 use std::ops::Bound;
 
 /// Makes a call that reads a pointer.
@@ -15,16 +16,8 @@ pub fn read(out: &mut Out<'_>, call: &str, pointer: Pointer<'_>) {
         "is_root" => out.said(pointer.is_root()),
         "count" => out.said(pointer.count()),
         "tokens" => out.token(pointer.tokens().last()),
-        "components" => match pointer.components().last() {
-            Some(Component::Token(token)) => out.said(token.encoded()),
-            Some(Component::Root) => out.said("root"),
-            None => out.nothing(),
-        },
-        "each token" => {
-            for token in pointer.tokens() {
-                out.item(token.encoded());
-            }
-        }
+        "components" => component(out, pointer.components().last()),
+        "each token" => each_token(out, pointer),
         "each component" => each_component(out, pointer),
         _ => read_end(out, call, pointer),
     }
@@ -38,15 +31,25 @@ fn read_end(out: &mut Out<'_>, call: &str, pointer: Pointer<'_>) {
         "back" => out.token(pointer.back()),
         "last" => out.token(pointer.last()),
         "parent" => out.part(pointer.parent()),
-        "split_front" => match pointer.split_front() {
-            Some((token, rest)) => out.split(Some((token.encoded(), rest.as_str()))),
-            None => out.nothing(),
-        },
-        "split_back" => match pointer.split_back() {
-            Some((front, token)) => out.split(Some((front.as_str(), token.encoded()))),
-            None => out.nothing(),
-        },
+        "split_front" => split_front(out, pointer.split_front()),
+        "split_back" => split_back(out, pointer.split_back()),
         _ => copy(out, call, pointer),
+    }
+}
+
+/// Writes the first token and the rest.
+fn split_front(out: &mut Out<'_>, parts: Option<(Token<'_>, Pointer<'_>)>) {
+    match parts {
+        Some((token, rest)) => out.split(Some((token.encoded(), rest.as_str()))),
+        None => out.nothing(),
+    }
+}
+
+/// Writes the tokens before the last, and the last.
+fn split_back(out: &mut Out<'_>, parts: Option<(Pointer<'_>, Token<'_>)>) {
+    match parts {
+        Some((front, token)) => out.split(Some((front.as_str(), token.encoded()))),
+        None => out.nothing(),
     }
 }
 
@@ -58,6 +61,22 @@ fn copy(out: &mut Out<'_>, call: &str, pointer: Pointer<'_>) {
         "to_json_value" => out.result(pointer.to_json_value(alloc)),
         "PointerBuf::from_tokens" => out.result(PointerBuf::from_tokens(alloc, pointer.tokens())),
         _ => out.unknown(),
+    }
+}
+
+/// Writes the last component of a pointer, if it has one.
+fn component(out: &mut Out<'_>, component: Option<Component<'_>>) {
+    match component {
+        Some(Component::Token(token)) => out.said(token.encoded()),
+        Some(Component::Root) => out.said("root"),
+        None => out.nothing(),
+    }
+}
+
+/// Writes each token of a pointer.
+fn each_token(out: &mut Out<'_>, pointer: Pointer<'_>) {
+    for token in pointer.tokens() {
+        out.item(token.encoded());
     }
 }
 
@@ -155,12 +174,24 @@ pub fn bounded(out: &mut Out<'_>, pointer: Pointer<'_>, start: &str, end: &str) 
 pub fn order(out: &mut Out<'_>, kind: &str, pointer: Pointer<'_>, other: Pointer<'_>) {
     out.begin();
     match kind {
-        "index" => match (last_index(pointer), last_index(other)) {
-            (Some(index), Some(other)) => out.order(index.cmp(&other)),
-            _ => out.unknown(),
+        "component" => out.order(last_components(pointer, other)),
+        _ => match last_index(pointer) {
+            Some(index) => order_index(out, index, last_index(other)),
+            None => out.unknown(),
         },
-        "component" => out.order(pointer.components().last().cmp(&other.components().last())),
-        _ => out.unknown(),
+    }
+}
+
+/// Compares the last components of two pointers.
+fn last_components(pointer: Pointer<'_>, other: Pointer<'_>) -> Ordering {
+    pointer.components().last().cmp(&other.components().last())
+}
+
+/// Compares two indices.
+fn order_index(out: &mut Out<'_>, index: Index, other: Option<Index>) {
+    match other {
+        Some(other) => out.order(index.cmp(&other)),
+        None => out.unknown(),
     }
 }
 

@@ -79,28 +79,31 @@ fn on_pointer(out: &mut Out<'_>, request: &str, mut words: Words<'_>) {
         return out.unknown();
     };
     match request {
-        "reads" => {
-            for (field, call) in READS {
-                out.name(field);
-                pointers::read(out, call, pointer);
-            }
-        }
-        "two pointers" => match Pointer::parse(words.next()) {
-            Ok(other) => two_pointers(out, pointer, other),
-            Err(_) => out.unknown(),
-        },
+        "reads" => reads(out, pointer),
+        "two pointers" => two_pointers(out, pointer, words.next()),
         "edit" => edits::request(out, pointer, words),
         "split at offset" => {
             out.name("split");
             range(out, "split_at_offset", pointer, words)
         }
-        _ => {
-            out.name("got");
-            match words.next() {
-                "bounds" => pointers::bounded(out, pointer, words.next(), words.next()),
-                kind => range(out, kind, pointer, words),
-            }
-        }
+        _ => get(out, pointer, words),
+    }
+}
+
+/// Makes the calls that read a pointer.
+fn reads(out: &mut Out<'_>, pointer: Pointer<'_>) {
+    for (field, call) in READS {
+        out.name(field);
+        pointers::read(out, call, pointer);
+    }
+}
+
+/// Calls `get` with a kind of range, or with a pair of bounds.
+fn get(out: &mut Out<'_>, pointer: Pointer<'_>, mut words: Words<'_>) {
+    out.name("got");
+    match words.next() {
+        "bounds" => pointers::bounded(out, pointer, words.next(), words.next()),
+        kind => range(out, kind, pointer, words),
     }
 }
 
@@ -123,7 +126,10 @@ fn range(out: &mut Out<'_>, kind: &str, pointer: Pointer<'_>, mut words: Words<'
 }
 
 /// Makes the calls on two pointers, borrowed and owned.
-fn two_pointers(out: &mut Out<'_>, pointer: Pointer<'_>, other: Pointer<'_>) {
+fn two_pointers(out: &mut Out<'_>, pointer: Pointer<'_>, other: &str) {
+    let Ok(other) = Pointer::parse(other) else {
+        return out.unknown();
+    };
     for (field, call) in COMPARISONS {
         out.name(field);
         pointers::compare(out, call, pointer, other);

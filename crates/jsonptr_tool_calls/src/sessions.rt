@@ -3,7 +3,7 @@ use crate::document::Document;
 use crate::out::Out;
 use crate::tabled::tabled;
 use crate::words::Words;
-use jsonptr::Pointer;
+use jsonptr::{Pointer, RichParseError, Token};
 use jsonptr_session::{Call, Reply};
 use std::alloc::{AllocError, Global};
 use std::fmt::Display;
@@ -131,22 +131,38 @@ fn show<D: Document>(out: &mut Out<'_>, replies: Result<Vec<Reply<D>>, AllocErro
 fn show_one<D: Document>(out: &mut Out<'_>, reply: &Reply<D>) {
     match reply {
         Reply::Done => out.line("done"),
-        Reply::BadPointer(report) => {
-            out.show(report);
-            out.show(": ");
-            out.line(report.subject());
-        }
-        Reply::Token(None) => out.line("no token"),
-        Reply::Token(Some(token)) => line_of(out, "token ", &token.encoded()),
+        Reply::BadPointer(report) => show_report(out, report),
+        Reply::Token(token) => show_token(out, token),
         Reply::BadPosition(error) => out.line(error),
         Reply::Value(value) => line_of(out, "value ", value),
         Reply::NoValue(error) => out.line(error),
-        Reply::Assigned(None) => out.line("assigned"),
-        Reply::Assigned(Some(value)) => line_of(out, "assigned for ", value),
+        Reply::Assigned(old) => show_old(out, "assigned", "assigned for ", old),
         Reply::BadPlace(error) => out.line(error),
-        Reply::Deleted(None) => out.line("not deleted"),
-        Reply::Deleted(Some(value)) => line_of(out, "deleted ", value),
+        Reply::Deleted(old) => show_old(out, "not deleted", "deleted ", old),
         Reply::Memory(_) => out.line("memory"),
+    }
+}
+
+/// Writes the error of a text that is not a pointer, and the text.
+fn show_report(out: &mut Out<'_>, report: &RichParseError) {
+    out.show(report);
+    out.show(": ");
+    out.line(report.subject())
+}
+
+/// Writes the token that a call removed or replaced.
+fn show_token(out: &mut Out<'_>, token: &Option<Token<'_>>) {
+    match token {
+        Some(token) => line_of(out, "token ", &token.encoded()),
+        None => out.line("no token"),
+    }
+}
+
+/// Writes the value that a call replaced or removed, after the second text, or else the first text.
+fn show_old<D: Document>(out: &mut Out<'_>, none: &str, some: &str, old: &Option<D>) {
+    match old {
+        Some(value) => line_of(out, some, value),
+        None => out.line(none),
     }
 }
 

@@ -75,13 +75,14 @@ pub fn take(out: &mut Out<'_>, call: &str, pointer: Pointer<'_>) {
 
 /// Makes a call that takes or copies a tabled pointer.
 pub fn take_tabled(out: &mut Out<'_>, call: &str, pointer: Pointer<'_>) {
-    let Ok(tabled) = tabled(out.alloc(), pointer) else {
-        return out.memory();
-    };
-    out.begin();
-    match call {
-        "TabledPointer::clone" => out.result(tabled.clone()),
-        "into_plain" => out.said(tabled.into_plain()),
-        _ => out.unknown(),
+    match tabled(out.alloc(), pointer) {
+        Ok(tabled) => {
+            out.begin();
+            match call {
+                "into_plain" => out.said(tabled.into_plain()),
+                _ => out.result(tabled.clone()),
+            }
+        }
+        Err(_) => out.memory(),
     }
 }

@@ -31,10 +31,12 @@ impl<'v> Parts<'v> {
     /// Adds the members of a table.
     fn add_members(&mut self, members: &'v Table) {
         self.add(Part::Mark("}"));
-        let mut mark = "";
+        let mut is_last = true;
         for (key, member) in members.iter().rev() {
-            self.add(Part::Mark(mark));
-            mark = ", ";
+            if !is_last {
+                self.add(Part::Mark(", "));
+            }
+            is_last = false;
             self.add(Part::Value(member));
             self.add(Part::Key(key.as_str()));
         }
@@ -43,10 +45,12 @@ impl<'v> Parts<'v> {
     /// Adds the elements of an array.
     fn add_elements(&mut self, elements: &'v [Value]) {
         self.add(Part::Mark("]"));
-        let mut mark = "";
+        let mut is_last = true;
         for element in elements.iter().rev() {
-            self.add(Part::Mark(mark));
-            mark = ", ";
+            if !is_last {
+                self.add(Part::Mark(", "));
+            }
+            is_last = false;
             self.add(Part::Value(element));
         }
     }
