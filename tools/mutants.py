@@ -11,7 +11,7 @@ TEXT', in which each old text is in that file exactly once. A twin is a mutant o
 the code it replaces. The mutant X has the twin X, or several: X.1, X.2.
 
 The tool copies the crate and the libraries below it, with what earlier checks kept in out/, to a temporary repository.
-It applies the mutants there, at most one a function, and runs `rt check --only F1 --only F2 ..`. Mutants whose functions
+It applies the mutants there, at most one a function, and runs `rt check --only FN --only FN ..`. Mutants whose functions
 call one another in a cycle, mutants of clauses, of specs/ and of text outside functions have a check of their own.
 
 A mutant passes only if its function fails at a goal of its own: because a goal is not proved, or because an answer of its
@@ -29,7 +29,9 @@ import sys
 import tempfile
 import time
 
-TOP = os.path.dirname(os.path.dirname(os.path.abspath(__file__)))
+import repository
+
+TOP = repository.TOP
 PARTS = ("src", "specs", "proofs")
 NAMES_ALONE = re.compile(r"has no field|is not in scope|has no `|is no name|was not admitted|can be named from here")
 UNREADABLE = re.compile(r"is not in scope|has no field|is no name|operand is missing|expected the end|cannot continue")
@@ -44,24 +46,6 @@ def read(path):
     """Returns the text of a file."""
     with open(path, encoding="utf-8") as file:
         return file.read()
-
-
-def crates():
-    """Returns the crates of crates.txt and what each uses, lowest first in each group."""
-    lines = (line.split("#")[0] for line in read(f"{TOP}/crates.txt").splitlines())
-    pairs = (line.split(":", 1) for line in lines if ":" in line)
-    return {words.split()[0]: dependencies.split() for words, dependencies in pairs}
-
-
-def below(name, uses):
-    """Returns the crates of this repository that a crate uses, directly or not."""
-    found, rest = [], [name]
-    while rest:
-        for used in uses[rest.pop()]:
-            if used in uses and used not in found:
-                found.append(used)
-                rest.append(used)
-    return found
 
 
 def blanked(text):
@@ -324,8 +308,7 @@ class Room:
     def __init__(self, name, jobs):
         self.name, self.jobs = name, jobs
         self.folder = tempfile.mkdtemp(prefix="mutants-")
-        uses = crates()
-        names = [name, *below(name, uses)]
+        names = repository.below([name])
         with open(f"{self.folder}/crates.txt", "w", encoding="utf-8") as file:
             file.writelines(line + "\n" for line in read(f"{TOP}/crates.txt").splitlines() if re.split(r"[ :]", line)[0] in names)
         shutil.copyfile(f"{TOP}/HANDLES", f"{self.folder}/HANDLES")
@@ -449,7 +432,7 @@ def main():
     parser.add_argument("--jobs", type=int, default=1, help="jobs of each check (1)")
     parser.add_argument("--list", action="store_true", help="print the mutants, and try none")
     words = parser.parse_args()
-    known = crates()
+    known = repository.listed()
     for name in [words.name] if words.name else []:
         if name not in known:
             parser.error(f"crates.txt lists no crate {name}")
