@@ -1,7 +1,7 @@
 //! The types of documents.
 use crate::out::Out;
 use crate::toml_text;
-use jsonptr::{Assign, Delete, Fault, Pointer, PointerBuf, Resolve, ResolveMut, assign, resolve};
+use jsonptr::{Fault, Pointer, PointerBuf, assign};
 use jsonptr_session::undo::{Undo, UndoRefused, json, toml_value};
 use jsonptr_session::{Call, Reply, run_json, run_json_with, run_toml, run_toml_with};
 use jsonptr_tabled::TabledPointer;
@@ -157,14 +157,3 @@ impl Document for toml::Value {
         run_toml_with(alloc, pointer, self, calls)
     }
 }
-
-/// A type of documents in which a pointer can be resolved, assigned and deleted.
-pub trait Pointed: Document
-    + Resolve<Value = Self, Error = resolve::Error>
-    + ResolveMut<Value = Self, Error = resolve::Error>
-    + Assign<Value = Self, Error = assign::Error>
-    + Delete<Value = Self> {}
-
-impl Pointed for serde_json::Value {}
-
-impl Pointed for toml::Value {}

@@ -1,15 +1,22 @@
 //! Calls on a document at a pointer.
-use crate::document::{Document, Pointed};
+use crate::document::Document;
 use crate::out::Out;
 use crate::requests;
 use crate::words::Words;
-use jsonptr::{Fault, Pointer, assign, resolve};
+use jsonptr::{Assign, Delete, Fault, Pointer, Resolve, ResolveMut, assign, resolve};
 use std::alloc::Global;
 use std::mem;
 
 /// Makes a call: the document, the call, the pointer, and a value. A case has the document before
 /// and after the call, and a request after a call that may change it.
-pub fn run<D: Pointed>(out: &mut Out<'_>, document: &str, call: &str, mut words: Words<'_>) {
+pub fn run<D>(out: &mut Out<'_>, document: &str, call: &str, mut words: Words<'_>)
+where
+    D: Document
+        + Resolve<Value = D, Error = resolve::Error>
+        + ResolveMut<Value = D, Error = resolve::Error>
+        + Assign<Value = D, Error = assign::Error>
+        + Delete<Value = D>,
+{
     let Some(mut document) = D::read(out.alloc(), document) else {
         return out.unknown();
     };
@@ -31,13 +38,14 @@ pub fn run<D: Pointed>(out: &mut Out<'_>, document: &str, call: &str, mut words:
 }
 
 /// Makes a call on a document.
-pub fn make<D: Pointed>(
-    out: &mut Out<'_>,
-    call: &str,
-    document: &mut D,
-    pointer: Pointer<'_>,
-    value: &str,
-) {
+pub fn make<D>(out: &mut Out<'_>, call: &str, document: &mut D, pointer: Pointer<'_>, value: &str)
+where
+    D: Document
+        + Resolve<Value = D, Error = resolve::Error>
+        + ResolveMut<Value = D, Error = resolve::Error>
+        + Assign<Value = D, Error = assign::Error>
+        + Delete<Value = D>,
+{
     match call {
         "resolve" => find(out, document, pointer),
         "delete" => {
@@ -55,7 +63,10 @@ pub fn make<D: Pointed>(
 }
 
 /// Resolves a pointer.
-fn find<D: Pointed>(out: &mut Out<'_>, document: &D, pointer: Pointer<'_>) {
+fn find<D>(out: &mut Out<'_>, document: &D, pointer: Pointer<'_>)
+where
+    D: Document + Resolve<Value = D, Error = resolve::Error>,
+{
     out.begin();
     match pointer.resolve(out.alloc(), document) {
         Ok(value) => said(out, "value", "", value),
@@ -64,13 +75,12 @@ fn find<D: Pointed>(out: &mut Out<'_>, document: &D, pointer: Pointer<'_>) {
 }
 
 /// Makes a call that writes a value to a document.
-fn write<D: Pointed>(
-    out: &mut Out<'_>,
-    call: &str,
-    document: &mut D,
-    pointer: Pointer<'_>,
-    value: D,
-) {
+fn write<D>(out: &mut Out<'_>, call: &str, document: &mut D, pointer: Pointer<'_>, value: D)
+where
+    D: Document
+        + ResolveMut<Value = D, Error = resolve::Error>
+        + Assign<Value = D, Error = assign::Error>,
+{
     out.begin();
     match call {
         "write" => match replace(document, out.alloc(), pointer, value) {
@@ -86,12 +96,15 @@ fn write<D: Pointed>(
 }
 
 /// Replaces the value that a pointer resolves to, and returns the old one.
-fn replace<D: Pointed>(
+fn replace<D>(
     document: &mut D,
     alloc: Global,
     pointer: Pointer<'_>,
     value: D,
-) -> Result<D, Fault<resolve::Error>> {
+) -> Result<D, Fault<resolve::Error>>
+where
+    D: Drop + ResolveMut<Value = D, Error = resolve::Error>,
+{
     Ok(mem::replace(pointer.resolve_mut(alloc, document)?, value))
 }
 
@@ -142,7 +155,14 @@ fn misplaced(out: &mut Out<'_>, fault: Fault<assign::Error>, pointer: Pointer<'_
 
 /// Makes calls in turn on a scalar: the pointer, and the calls. The last one may drop the document
 /// without recursion.
-pub fn deep<D: Pointed>(out: &mut Out<'_>, pointer: &str, mut words: Words<'_>) {
+pub fn deep<D>(out: &mut Out<'_>, pointer: &str, mut words: Words<'_>)
+where
+    D: Document
+        + Resolve<Value = D, Error = resolve::Error>
+        + ResolveMut<Value = D, Error = resolve::Error>
+        + Assign<Value = D, Error = assign::Error>
+        + Delete<Value = D>,
+{
     let Ok(pointer) = Pointer::parse(pointer) else {
         return out.unknown();
     };
