@@ -177,11 +177,14 @@ def check_clause_table(name, head, rows):
 
 def check_lists(known):
     """Checks that the documents that list all crates, or all callers, do."""
-    products = [crate for crate in known if not crate.startswith(("jsonptr_test_", "jsonptr_tool_"))]
-    for name, wanted in (("README.md", products), ("docs/ARCHITECTURE.md", known)):
-        text = read(name)
-        for crate in wanted:
-            expect(re.search(rf"(?<!\w){crate}(?!\w)", text), name, f"{crate} is not listed")
+    products = {crate for crate in known if not crate.startswith(("jsonptr_test_", "jsonptr_tool_"))}
+    drawing = FENCE.search(read("docs/ARCHITECTURE.md"))[0]
+    for name, text, wanted in (("README.md", read("README.md"), products), ("docs/ARCHITECTURE.md", drawing, {*known})):
+        named = set(re.findall(r"\bjsonptr\w*", text))
+        for crate in sorted(wanted - named):
+            expect(False, name, f"{crate} is not listed")
+        for crate in sorted(named - {*known}) if text == drawing else []:
+            expect(False, name, f"there is no crate {crate}")
     callers = re.findall(r"^(?:pub )?mod (\w+);", read("crates/jsonptr_uses/src/lib.rt"), re.MULTILINE)
     for module in callers:
         expect(f"`{module}.rt`" in read("crates/jsonptr/CALLING.md"), "crates/jsonptr/CALLING.md", f"the caller {module}.rt is not listed")
