@@ -1,7 +1,7 @@
 //! Calls that change an owned pointer.
 use crate::out::Out;
 use crate::words::Words;
-use jsonptr::{Fault, Pointer, PointerBuf, ReplaceError, RichParseError, Token};
+use jsonptr::{Fault, Pointer, PointerBuf, ReplaceError, Token};
 use jsonptr_tabled::EditPointer;
 use std::borrow::CowStr;
 

@@ -4,7 +4,6 @@ use crate::words::Words;
 use jsonptr::index::{Index, IntegerCause, OutOfBoundsError, ParseIndexError};
 use jsonptr::token::Number;
 use jsonptr::{PointerBuf, Token};
-use std::borrow::CowStr;
 use std::str::FromStr;
 
 /// Makes a call that borrows a token.
