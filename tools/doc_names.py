@@ -125,13 +125,22 @@ def check_crates(name, text, known):
             expect(crate in known or crate in c_names or crate.endswith("_"), name, f"there is no crate {crate}")
 
 
+@functools.cache
+def tree():
+    """Returns the paths of all files of crates and tools, without what `rt` makes."""
+    found = []
+    for folder, folders, files in (it for top in ("crates", "tools") for it in os.walk(f"{TOP}/{top}")):
+        folders[:] = [it for it in folders if it != "out"]
+        found += [f"{folder}/{file}" for file in files]
+    return found
+
+
 def exists(name, path):
-    """Returns whether a path that a document names is a file: from the top, or the last part of one below `crates`."""
+    """Returns whether a path that a document names is a file: from the top, or the last part of one of the tree."""
     starts = ("", os.path.dirname(name), "tools", "tools/c", "crates", "docs")
     if any(os.path.exists(f"{TOP}/{start}/{path}") for start in starts):
         return True
-    parts = (f"{TOP}/crates/**/{path}", f"{TOP}/tools/**/{path}", f"{TOP}/tools/c/{os.path.basename(path)}")
-    return any(glob.glob(part, recursive=True) for part in parts)
+    return any(file.endswith((f"/{path}", f"/tools/c/{os.path.basename(path)}")) for file in tree())
 
 
 def check_files(name, text):
