@@ -12,7 +12,7 @@ import doc_examples
 import repository
 
 GUIDE = f"{repository.CRATES}/jsonptr/CALLING.md"
-CALLERS = "jsonptr_uses", "jsonptr_example"
+CALLERS = "jsonptr_conditions", "jsonptr_uses", "jsonptr_example"
 BLOCK = re.compile(r"^```(?:rust|text)\n(.*?)^```$", re.MULTILINE | re.DOTALL)
 CODE = re.compile(r"^```rust\n(.*?)^```$", re.MULTILINE | re.DOTALL)
 

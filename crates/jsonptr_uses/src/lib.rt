@@ -16,12 +16,11 @@
 //! - [`commands`]: a command on the text of a document.
 //! - [`tabled`]: a look-up by a pointer with a table.
 //! - [`overlay`]: a document type of one's own.
-//! - [`conditions`] and [`edits`]: conditions of calls, and edits that undo each other.
+//! - [`edits`]: edits that undo each other.
 #![tactic(auto)]
 
 pub mod checker;
 pub mod commands;
-pub mod conditions;
 pub mod cursor_editor;
 pub mod differences;
 pub mod editor;

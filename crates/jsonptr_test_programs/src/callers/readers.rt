@@ -1,8 +1,8 @@
 //! Layered settings, references, an overlay, a checker and a walk.
 use jsonptr::Pointer;
+use jsonptr_conditions::{len_of_constant, len_of_known, offset_of_fault};
 use jsonptr_paths::walk::pointers;
 use jsonptr_uses::checker::{Kind, Required, violations};
-use jsonptr_uses::conditions::{len_of_constant, len_of_known, place_of_fault};
 use jsonptr_uses::in_text::range_in_text;
 use jsonptr_uses::nodes::{count_nodes, rebuilt};
 use jsonptr_uses::overlay::{Overlay, found_in};
@@ -275,9 +275,9 @@ fn a_walk_comes_to_many_nodes(rt: HostRuntime) -> Result<(), Fail> {
 
 #[test]
 fn conditions_hold(rt: HostRuntime) {
-    assert_eq!(rt; len_of_constant(), 11);
+    assert_eq!(rt; len_of_constant(), 4);
     assert_eq!(rt; len_of_known(), 5);
-    assert_eq!(rt; place_of_fault(), 12);
+    assert_eq!(rt; offset_of_fault(), 12);
 }
 
 /// Whether the text has this range, or is not JSON.

@@ -1,6 +1,0 @@
-use Rattle.std.proofs.Common.{refl}
-use Rattle.jsonptr.proofs.Calling.{IsPointer-from_tokens}
-use Rattle.jsonptr_uses.proofs.conditions.len_of_constant.Goals as goal
-
-pub from_static-pointer-requires : goal.from_static-pointer-requires
-from_static-pointer-requires c = IsPointer-from_tokens _ refl
