@@ -11,6 +11,7 @@ ghost use Rattle.jsonptr_command.specs.Run.{IsPastInput};
 
 use crate::fault::RunFault;
 use crate::input::read_all;
+use jsonptr_value::to_string;
 use serde_json::Value;
 use std::alloc::{AllocError, Global};
 use std::io::Read;
@@ -72,7 +73,7 @@ pub fn read_json_input<R: Read>(alloc: Global, input: &mut R) -> Result<Value, R
 pub fn json_line(alloc: Global, value: &Value) -> Result<String, AllocError>
     ensures { IfOk result (λ line. IsJsonLine (view value.now) (string_bytes line)) }
 {
-    let mut line = value.to_string(alloc)?;
+    let mut line = to_string(value, alloc)?;
     line.push('\n')?;
     Ok(line)
 }

@@ -3,13 +3,11 @@
 //! - [`run`]: one run of the program. It calls the modules below in this order.
 //! - [`input`] and [`json_text`]: reading the input and JSON texts.
 //! - [`output`]: writing the line.
-//! - `depth`: how deep a document may nest.
 //! - [`fault`]: the errors and the exit status.
 //! - [`laws`]: the output is unique.
 #![tactic(auto)]
 
 pub mod arguments;
-mod depth;
 pub mod fault;
 pub mod input;
 pub mod json_text;

@@ -14,7 +14,6 @@ ghost use Rattle.jsonptr_command.specs.Private.{request_of, task_of, Does, IsFau
 ghost use Rattle.jsonptr_command.specs.Operations.{meant};
 ghost use Rattle.jsonptr_command.specs.Run.{AskFor, Asks, AssignsAt, DeletesAt, ForLine, ForRequest, HasValueOf, IsKept, IsOperationFault, Outcome, IsPastInput, IsRefusedSo, IsRequestFault, IsWordsMemory, NeedInput, NeedNoInput, NeedsInput, PatchesBy, Resolves, SplitsInTwo, resolving, texts_value};
 
-use crate::depth::nests_too_deep;
 use crate::fault::RunFault;
 use crate::input::read_all;
 use crate::json_text::{json_line, read_json_input, read_value};
@@ -24,6 +23,7 @@ use jsonptr::Pointer;
 use jsonptr::index::Index;
 use jsonptr_in_text::resolve_in_slice;
 use jsonptr_patch::{Operation, apply};
+use jsonptr_value::discard;
 use serde_json::Value;
 use std::alloc::{AllocError, Global};
 use std::io::{Read, Write};
@@ -73,8 +73,9 @@ pub enum Task<'w> {
 /// `resolve` finds the value in the text of the input, and reads no document.
 ///
 /// At the end the value that was printed is dropped, so that a process can run the program many
-/// times. That takes time, and it recurses as deep as the value nests. [`run_program_into`] hands the
-/// value to its caller instead.
+/// times. That takes time. [`run_program_into`] hands the value to its caller instead.
+///
+/// The stack that a run needs does not grow with the depth of the document.
 ///
 /// # Errors
 ///
@@ -100,7 +101,11 @@ pub fn run_program<R: Read, W: Write>(
         → IsAtEnd (R.remaining input.new) }
 {
     let mut value = None;
-    run_program_into(alloc, words, input, output, &mut value)
+    let outcome = run_program_into(alloc, words, input, output, &mut value);
+    if let Some(value) = value {
+        discard(value);
+    }
+    outcome
 }
 
 /// Runs the program as [`run_program`] does, and leaves the value that it printed in `value`.
@@ -413,9 +418,6 @@ fn document_line<R: Read>(
     ensures restored { IfErr result (λ e. IsOperationFault e → ForBytes (R.remaining input.old)
         (λ bytes. option_map view document.new ≡ json_of bytes)) }
 {
-    if nests_too_deep(&task) {
-        return Err(RunFault::Memory(AllocError));
-    }
     let mut value = read_json_input(alloc, input)?;
     let line = task_line(alloc, &mut value, task);
     *document = Some(value);

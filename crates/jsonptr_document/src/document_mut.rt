@@ -21,6 +21,9 @@ pub trait DocumentMut: Document {
         ensures map { Self.nodes result ≡ blank_map }
         ensures sorted { Self.has_sorted_keys result };
 
+    /// Drops a document, however deep it nests.
+    fn discard(document: Self);
+
     /// Returns an array of one element.
     ///
     /// # Errors

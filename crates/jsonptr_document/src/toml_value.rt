@@ -53,32 +53,64 @@ impl DocumentMut for Value {
         Value::Table(Table::new(alloc))
     }
 
+    fn discard(document: Value) {
+        jsonptr_value::discard(document);
+    }
+
     fn array_of(alloc: Global, element: Value) -> Result<Value, AllocError> {
-        let mut array = Vec::with_capacity(alloc, 1)?;
-        array.push(element)?;
-        Ok(Value::Array(array))
+        let mut array = match Vec::with_capacity(alloc, 1) {
+            Ok(array) => array,
+            Err(error) => {
+                Value::discard(element);
+                return Err(error);
+            }
+        };
+        match array.push(element) {
+            Ok(()) => Ok(Value::Array(array)),
+            Err(failed) => {
+                Value::discard(failed.value);
+                Err(AllocError)
+            }
+        }
     }
 
     fn object_of(alloc: Global, name: String, value: Value) -> Result<Value, AllocError> {
         let mut table = Table::new(alloc);
-        table.insert(name, value)?;
-        Ok(Value::Table(table))
+        match table.insert(name, value) {
+            Ok(_) => Ok(Value::Table(table)),
+            Err(failed) => {
+                let (_name, value) = failed.value;
+                Value::discard(value);
+                Err(AllocError)
+            }
+        }
     }
 
     fn push(&mut self, element: Value) -> Result<(), AllocError> {
         let Value::Array(elements) = self else {
             unreachable!();
         };
-        elements.push(element)?;
-        Ok(())
+        match elements.push(element) {
+            Ok(()) => Ok(()),
+            Err(failed) => {
+                Value::discard(failed.value);
+                Err(AllocError)
+            }
+        }
     }
 
     fn insert(&mut self, name: String, value: Value) -> Result<(), AllocError> {
         let Value::Table(members) = self else {
             unreachable!();
         };
-        members.insert(name, value)?;
-        Ok(())
+        match members.insert(name, value) {
+            Ok(_) => Ok(()),
+            Err(failed) => {
+                let (_name, value) = failed.value;
+                Value::discard(value);
+                Err(AllocError)
+            }
+        }
     }
 
     fn remove(&mut self, way: &ChildRef<'_>) -> Option<Value> {

@@ -384,8 +384,13 @@ fn expand_one<N: DocumentMut>(alloc: Global, token: &Token<'_>, value: N) -> Res
     if creates_array(token) {
         return N::array_of(alloc, value);
     }
-    let key = key_of(alloc, token)?;
-    N::object_of(alloc, key, value)
+    match key_of(alloc, token) {
+        Ok(key) => N::object_of(alloc, key, value),
+        Err(error) => {
+            N::discard(value);
+            Err(error)
+        }
+    }
 }
 
 /// Returns the key that the token names: its decoded text.

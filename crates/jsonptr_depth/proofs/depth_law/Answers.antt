@@ -1,8 +1,0 @@
-use Rattle.jsonptr_depth.proofs.LevelLemmas.{NestsWithin-depth, depth-within}
-use Rattle.jsonptr_depth.proofs.depth_law.Goals as goal
-
-pub returns-clause-within : goal.returns-clause-within
-returns-clause-within c = NestsWithin-depth
-
-pub returns-clause-least : goal.returns-clause-least
-returns-clause-least c = depth-within

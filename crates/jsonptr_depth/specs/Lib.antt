@@ -1,2 +1,0 @@
--- How deep a document nests.
-pub mod Nesting

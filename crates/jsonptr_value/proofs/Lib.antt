@@ -1,0 +1,8 @@
+-- Lemmas on depth and on lengths, also for the proofs of the crates above.
+mod DepthLemmas
+pub mod NestingLemmas
+pub mod LevelLemmas
+pub mod LengthLemmas
+mod StackLemmas
+pub mod WritingLemmas
+mod PartialLemmas

@@ -1,0 +1,24 @@
+//! What is true of a JSON value without pointers: how deep it nests, and how to print, copy and drop
+//! one that nests deep.
+//!
+//! `serde_json` prints, clones and drops a value by recursion, so a value that nests deep overflows
+//! the stack. Here only the first [`MAX_DEPTH`] levels are taken by recursion, as deep as
+//! `serde_json` reads a text, and a loop takes those below.
+#![tactic(auto)]
+
+mod clone;
+mod depth;
+mod drop;
+mod extend;
+mod frame;
+mod json_nested;
+mod number;
+mod partial;
+mod print;
+mod toml_nested;
+mod tree;
+
+pub use clone::copy;
+pub use depth::{MAX_DEPTH, depth_law, nests_within};
+pub use drop::{Nested, discard};
+pub use print::to_string;

@@ -1,0 +1,101 @@
+//! The text of a value.
+ghost use Rattle.std.specs.Prelude.{◌≡◌, ◌≤◌, Some, false, IfOk, string_bytes, OnOk};
+ghost use Rattle.json.specs.Print.{print};
+ghost use Rattle.json.specs.Lex.{tokens};
+ghost use Rattle.serde_json.specs.Data.{depth};
+ghost use Rattle.serde_json.specs.Read.{read, max_depth};
+ghost use Rattle.serde_json.specs.View.{view};
+ghost use Rattle.serde_json.specs.Written.{has_float, compact_text, IsInOrder, WritesValue};
+ghost use Rattle.jsonptr_value.specs.PrivateFrames.{WritesElements, WritesMembersLeft};
+
+use crate::depth::MAX_DEPTH;
+use crate::frame::write_deep;
+use crate::number::write_number;
+use json::Writer;
+use serde_json::Value;
+use std::alloc::{AllocError, Global};
+use std::collections::btree_map::Iter;
+
+/// Returns the JSON text of the value, without spaces: the one that `Value::to_string` returns.
+///
+/// Time is linear in the value. At most [`MAX_DEPTH`] levels take the stack, by recursion.
+///
+/// # Errors
+///
+/// [`AllocError`] if there is no memory for the text, or for a place in each open array and object.
+pub fn to_string(value: &Value, alloc: Global) -> Result<String, AllocError>
+    ensures text { IfOk result (λ s. has_float (view value.now) ≡ false
+        → string_bytes s ≡ compact_text (view value.now)) }
+    ensures compact { IfOk result (λ s. string_bytes s ≡ print (tokens (string_bytes s))) }
+    ensures order { IfOk result (λ s. IsInOrder (string_bytes s) (view value.now)) }
+    ensures reads_back { IfOk result (λ s. depth (view value.now) ≤ max_depth
+        → read (string_bytes s) ≡ Some (view value.now)) }
+{
+    let mut out = Writer::new(Vec::with_capacity(alloc, 128)?);
+    write(alloc, value, MAX_DEPTH, &mut out)?;
+    Ok(unsafe { String::from_utf8_unchecked(out.into_inner()) })
+}
+
+/// Writes the value, by recursion down to so many levels and by a loop below them.
+#[cycle(write)]
+fn write(alloc: Global, value: &Value, levels: usize, out: &mut Writer) -> Result<(), AllocError>
+    ensures ok { OnOk result (WritesValue (view value.now) out.old.tokens out.new.tokens) }
+    ensures before { out.new.before ≡ out.old.before }
+{
+    if levels == 0 {
+        return write_deep(alloc, value, out);
+    }
+    match value {
+        Value::Null => out.null(),
+        Value::Bool(b) => out.boolean(*b),
+        Value::Number(number) => write_number(number, out),
+        Value::String(text) => out.string(text.as_str()),
+        Value::Array(elements) => {
+            out.begin_array()?;
+            write_elements(alloc, elements.as_slice(), levels - 1, out)
+        }
+        Value::Object(members) => {
+            out.begin_object()?;
+            write_members(alloc, members.iter(), levels - 1, out)
+        }
+    }
+}
+
+/// Writes the elements and the closing bracket.
+#[cycle(write)]
+fn write_elements(
+    alloc: Global,
+    elements: &[Value],
+    levels: usize,
+    out: &mut Writer,
+) -> Result<(), AllocError>
+    ensures ok { OnOk result (WritesElements elements.now out.old.tokens out.new.tokens) }
+    ensures before { out.new.before ≡ out.old.before }
+{
+    for element in elements {
+        // Writing a number here saves a call of `write`.
+        match element {
+            Value::Number(number) => write_number(number, out)?,
+            _ => write(alloc, element, levels, out)?,
+        }
+    }
+    out.end_array()
+}
+
+/// Writes the members and the closing bracket.
+#[cycle(write)]
+fn write_members(
+    alloc: Global,
+    members: Iter<'_, String, Value>,
+    levels: usize,
+    out: &mut Writer,
+) -> Result<(), AllocError>
+    ensures ok { OnOk result (WritesMembersLeft members.entry out.old.tokens out.new.tokens) }
+    ensures before { out.new.before ≡ out.old.before }
+{
+    for (key, member) in members {
+        out.key(key.as_str())?;
+        write(alloc, member, levels, out)?;
+    }
+    out.end_object()
+}
