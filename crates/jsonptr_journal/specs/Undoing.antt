@@ -1,5 +1,6 @@
 -- What undoes an addition and a removal.
 use Rattle.std.specs.Prelude.{◌≡◌, ⊤, option_map, string_bytes}
+use Rattle.serde_json.specs.declared.value.Value.{Null}
 use Rattle.jsonptr_tree.specs.Content.{Content}
 use Rattle.jsonptr_journal.specs.Location.{path_of, contents_of}
 use Rattle.jsonptr_journal.specs.Children.{members_of}
@@ -34,5 +35,6 @@ IsAddition (addition.Element l i) v c d = At (path_of l) (PutsElement i v) c d
 -- `IsRemoval r v c d`: removing `v` turned `c` into `d`, and `r` undoes it
 abbrev pub IsRemoval : Removal → Content → Content → Content → Type 0
 IsRemoval removal.Root v c d = c ≡ v
+IsRemoval (removal.Blank l) v c d = At (path_of l) (Replaces v (contents_of Null)) c d
 IsRemoval (removal.Member l k room) v c d = At (path_of l) (LeavesRoom (string_bytes k) (members_of room) v) c d
 IsRemoval (removal.Element l i room) v c d = At (path_of l) (LeavesElementRoom i room v) c d

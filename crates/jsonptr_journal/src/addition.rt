@@ -10,6 +10,7 @@ use crate::array::{insert_element, remove_element};
 use crate::location::Location;
 use crate::node_mut::NodeMut;
 use crate::object::{insert_member, remove_member, set_member};
+use jsonptr_value::discard;
 use serde_json::Value;
 use std::alloc::Global;
 use std::mem;
@@ -61,6 +62,25 @@ pub enum Addition {
         /// The index of the element.
         index: usize,
     },
+}
+
+impl Addition {
+    /// Drops the value that was replaced, if any, without recursion.
+    pub fn discard(self) {
+        match self {
+            Addition::Replaced { location: _, old } => discard(old),
+            Addition::Member {
+                object: _,
+                key: _,
+                old,
+            } => {
+                if let Some(old) = old {
+                    discard(old);
+                }
+            }
+            Addition::Element { .. } => {}
+        }
+    }
 }
 
 /// Replaces the node at the location, and returns the old one.
@@ -182,11 +202,13 @@ pub fn insert<D: NodeMut>(
 {
     match target {
         Target::Root => {
-            drop(overwrite(doc, &Location::root(alloc), value));
+            discard(overwrite(doc, &Location::root(alloc), value));
             Ok(())
         }
         Target::Member { object, key } => {
-            drop(insert_member_at(doc, &object, key, value)?);
+            if let Some(old) = insert_member_at(doc, &object, key, value)? {
+                discard(old);
+            }
             Ok(())
         }
         Target::Element { array, index } => insert_element_at(doc, &array, index, value),

@@ -15,6 +15,7 @@ use crate::location::{Location, Part};
 use crate::node_mut::NodeMut;
 use crate::object::{restore_members, room_of, set_aside};
 use crate::removal::{Removal, Taken, take_element_at, undo_removal};
+use jsonptr_value::discard;
 use serde_json::{Map, Value};
 use std::alloc::{AllocError, Global};
 
@@ -88,13 +89,19 @@ impl Journal {
         ensures undone { (c : Content) → Undone self.old c (D.contents doc.old)
             → Undone self.new c (D.contents doc.new) }
     {
-        self.reserve()?;
+        if let Err(error) = self.reserve() {
+            discard(value);
+            return Err(error);
+        }
         match add(alloc, doc, target, value) {
             Ok(addition) => {
                 self.push(Entry::Added(addition));
                 Ok(())
             }
-            Err(_) => Err(AllocError),
+            Err(value) => {
+                discard(value);
+                Err(AllocError)
+            }
         }
     }
 
@@ -115,7 +122,10 @@ impl Journal {
         ensures undone { (c : Content) → Undone self.old c (D.contents doc.old)
             → Undone self.new c (D.contents doc.new) }
     {
-        self.reserve()?;
+        if let Err(error) = self.reserve() {
+            discard(value);
+            return Err(error);
+        }
         let addition = replace(doc, location, value);
         self.push(Entry::Added(addition));
         Ok(())
@@ -272,6 +282,13 @@ impl Journal {
         }
     }
 
+    /// Drops the journal, and the values in it without recursion.
+    pub fn discard(self) {
+        for entry in self.entries {
+            entry.discard();
+        }
+    }
+
     /// Undoes the changes, the last one first.
     ///
     /// Needs no allocation.
@@ -286,13 +303,25 @@ impl Journal {
     }
 }
 
+impl Entry {
+    /// Drops the values that the entry has, without recursion.
+    pub fn discard(self) {
+        match self {
+            Entry::Added(addition) => addition.discard(),
+            Entry::Removed(_removal, value) => discard(value),
+            Entry::Moved(_removal, addition) => addition.discard(),
+            Entry::RemovedMembers(_object, room) => discard(Value::Object(room)),
+        }
+    }
+}
+
 /// Undoes one change.
 fn undo_entry<D: NodeMut>(alloc: Global, doc: &mut D, entry: Entry)
     requires { (c : Content) × Undoes entry c (D.contents doc.old) }
     ensures { (c : Content) → Undoes entry c (D.contents doc.old) → D.contents doc.new ≡ c }
 {
     match entry {
-        Entry::Added(addition) => drop(undo_addition(doc, addition)),
+        Entry::Added(addition) => discard(undo_addition(doc, addition)),
         Entry::Removed(removal, value) => undo_removal(alloc, doc, removal, value),
         Entry::Moved(removal, addition) => undo_move(alloc, doc, removal, addition),
         Entry::RemovedMembers(object, room) => restore_members_at(doc, &object, room),

@@ -1,14 +1,15 @@
 //! Removals at a location of a document, and undoing them.
 ghost use Rattle.std.specs.Prelude.{◌≡◌, IfOk, OnErr, string_bytes};
+ghost use Rattle.serde_json.specs.declared.value.Value.{Null};
 ghost use Rattle.jsonptr_tree.specs.Content.{Content};
 ghost use Rattle.jsonptr_journal.specs.Location.{path_of, contents_of};
 ghost use Rattle.jsonptr_journal.specs.Children.{members_of};
 ghost use Rattle.jsonptr_journal.specs.Writing.{At};
-ghost use Rattle.jsonptr_journal.specs.Changes.{IsThere, HasAt, HasMember, HasElement, TakesMember, TakesElement, TakesAt};
+ghost use Rattle.jsonptr_journal.specs.Changes.{IsThere, HasAt, HasMember, HasElement, TakesMember, TakesElement, TakesAt, Replaces};
 ghost use Rattle.jsonptr_journal.specs.Rooms.{LeavesRoom, LeavesElementRoom};
 ghost use Rattle.jsonptr_journal.specs.Undoing.{IsRemoval};
 
-use crate::addition::{overwrite, remove_element_at, remove_member_at};
+use crate::addition::{Addition, overwrite, remove_element_at, remove_member_at, undo_addition};
 use crate::array::{TakenElement, put_element_back, take_element};
 use crate::location::{Location, Part};
 use crate::node_mut::NodeMut;
@@ -21,6 +22,11 @@ use std::alloc::{AllocError, Global};
 pub enum Removal {
     /// The root was removed, and `null` was left.
     Root,
+    /// The node was replaced by `null`, and is removed later.
+    Blank {
+        /// The location of the node.
+        location: Location,
+    },
     /// A member was removed from an object.
     Member {
         /// The location of the object.
@@ -199,6 +205,24 @@ pub fn remove<D: NodeMut>(alloc: Global, doc: &mut D, location: Location) -> Val
     }
 }
 
+/// Takes the value of the node at the location, and leaves `null` there. The node is to be removed
+/// later, when nothing can fail any more.
+///
+/// Needs no allocation.
+pub fn blank<D: NodeMut>(doc: &mut D, location: Location) -> Taken
+    requires { IsThere (path_of location) (D.contents doc.old) }
+    ensures blanked { At (path_of location) (Replaces (contents_of result.value) (contents_of Null))
+        (D.contents doc.old) (D.contents doc.new) }
+    ensures undone { IsRemoval result.removal (contents_of result.value)
+        (D.contents doc.old) (D.contents doc.new) }
+{
+    let value = overwrite(doc, &location, Value::Null);
+    Taken {
+        value,
+        removal: Removal::Blank { location },
+    }
+}
+
 /// Undoes a removal.
 ///
 /// Needs no allocation. For a member it moves all members of the object, for an element all
@@ -210,9 +234,25 @@ pub fn undo_removal<D: NodeMut>(alloc: Global, doc: &mut D, removal: Removal, va
 {
     match removal {
         Removal::Root => drop(overwrite(doc, &Location::root(alloc), value)),
+        Removal::Blank { location } => undo_blank(doc, location, value),
         Removal::Member { object, key, room } => undo_member(doc, &object, key, value, room),
         Removal::Element { array, index, room } => undo_element(doc, &array, index, value, room),
     }
+}
+
+/// Puts back the node that was replaced by `null`.
+fn undo_blank<D: NodeMut>(doc: &mut D, location: Location, value: Value)
+    requires { (c : Content) × At (path_of location)
+        (Replaces (contents_of value) (contents_of Null)) c (D.contents doc.old) }
+    ensures { (c : Content) → At (path_of location)
+        (Replaces (contents_of value) (contents_of Null)) c (D.contents doc.old)
+        → D.contents doc.new ≡ c }
+{
+    let replaced = Addition::Replaced {
+        location,
+        old: value,
+    };
+    drop(undo_addition(doc, replaced));
 }
 
 /// Puts back the member that was removed from the object at the location.

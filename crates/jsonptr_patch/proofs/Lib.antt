@@ -12,3 +12,12 @@ pub mod EqualityLemmas
 pub mod ChangeMapLemmas
 pub mod ChangeOrderLemmas
 pub mod PlaceLemmas
+mod SearchingLemmas
+pub mod InverseLemmas
+pub mod MemberLemmas
+pub mod LevelLemmas
+pub mod RefusalLemmas
+pub mod ApartLemmas
+pub mod LaterLemmas
+pub mod WaitingLemmas
+pub mod BackLemmas

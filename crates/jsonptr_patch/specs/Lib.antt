@@ -5,9 +5,14 @@ pub mod Adding
 pub mod Testing
 pub mod Operating
 pub mod Patching
+pub mod Inverse
+pub mod Apart
 pub mod Operations
 pub mod Order
 pub mod Memory
 pub mod PrivateAdding
 pub mod PrivateTesting
 pub mod PrivateRecording
+pub mod PrivateSearching
+pub mod PrivateInverse
+pub mod PrivateLater

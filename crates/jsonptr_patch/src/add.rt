@@ -18,6 +18,7 @@ use jsonptr_document::document::{Document, Node};
 use jsonptr_journal::addition::{Target, insert};
 use jsonptr_journal::journal::Journal;
 use jsonptr_journal::locate::locate;
+use jsonptr_value::discard;
 use serde_json::Value;
 use std::alloc::{AllocError, Global};
 
@@ -43,7 +44,13 @@ pub fn add(
         (RefusesAdd (nodes (view doc.old)) number (tokens path.entry)) }
     ensures undone { Records journal.old doc.old journal.new doc.new }
 {
-    let place = place(alloc, doc, number, path)?;
+    let place = match place(alloc, doc, number, path) {
+        Ok(place) => place,
+        Err(fault) => {
+            discard(value);
+            return Err(fault);
+        }
+    };
     journal.add(alloc, doc, place, value)?;
     Ok(())
 }
@@ -68,10 +75,19 @@ pub fn add_last(
         (RefusesAdd (nodes (view doc.old)) number (tokens path.entry)) }
     ensures unchanged { OnErr result (view doc.new ≡ view doc.old) }
 {
-    let place = place(alloc, doc, number, path)?;
+    let place = match place(alloc, doc, number, path) {
+        Ok(place) => place,
+        Err(fault) => {
+            discard(value);
+            return Err(fault);
+        }
+    };
     match insert(alloc, doc, place, value) {
         Ok(()) => Ok(()),
-        Err(_) => Err(Fault::Memory(AllocError)),
+        Err(value) => {
+            discard(value);
+            Err(Fault::Memory(AllocError))
+        }
     }
 }
 

@@ -72,7 +72,7 @@ pub fn copy_last(
 ///
 /// [`Fault::Refused`] if the pointer does not resolve to a value, and [`Fault::Memory`] if an
 /// allocation fails.
-fn copy_of(
+pub fn copy_of(
     alloc: Global,
     doc: &Value,
     number: usize,
@@ -85,7 +85,7 @@ fn copy_of(
         (RefusesTarget (nodes (view doc.now)) number (tokens from.entry)) }
 {
     match from.resolve(alloc, doc) {
-        Ok(value) => Ok(value.clone()?),
+        Ok(value) => Ok(jsonptr_value::copy(alloc, value)?),
         Err(fault) => Err(no_target(number, fault)),
     }
 }

@@ -7,6 +7,9 @@ ghost use Rattle.jsonptr_patch.specs.PrivateTesting.{SameValue, FloatIn, FloatAm
 use serde_json::{Map, Number, Value};
 
 /// Returns whether the value is a float or contains one at any depth.
+///
+/// The stack is in proportion to the depth of the value. So it is called only where memory for the
+/// list of `float_search` is refused.
 #[cycle(floats)]
 pub fn has_float(value: &Value) -> bool
     ensures { IsTrue result ↔ FloatIn value.now }
@@ -48,6 +51,8 @@ fn members_have_float(members: &Map<String, Value>) -> bool
 }
 
 /// Returns whether two values are equal. A float equals nothing.
+///
+/// The stack is in proportion to the depth of the shallower value, since it goes no deeper than both.
 #[cycle(equal)]
 pub fn is_equal(left: &Value, right: &Value) -> bool
     ensures { IsTrue result ↔ SameValue left.now right.now }

@@ -28,6 +28,7 @@
 //!
 //! - [`Operation`] is one operation of a patch, and [`apply`] applies a list of them.
 //! - [`PatchError`] identifies the operation that failed, and why.
+//! - [`apply_with_inverse`] applies a patch and returns the patch that takes it back.
 //! - [`delete_with_undo`] deletes a value and returns the operation that restores it.
 //! - [`laws`] states what holds of operations and patches, such as that each has exactly one
 //!   outcome.
@@ -39,6 +40,9 @@
 mod add;
 mod copy;
 mod equality;
+mod float_search;
+mod inverse;
+mod later;
 pub mod laws;
 mod move_value;
 mod operation;
@@ -49,6 +53,7 @@ mod target;
 mod test;
 mod undo;
 
+pub use inverse::apply_with_inverse;
 pub use operation::{Operation, PatchError};
 pub use patch::apply;
 pub use undo::delete_with_undo;

@@ -69,7 +69,7 @@ pub fn move_last(
         (tokens from.entry) (tokens path.entry)) }
     ensures unchanged { OnErr result (view doc.new ≡ view doc.old) }
 {
-    drop(moved(alloc, doc, number, from, path)?);
+    moved(alloc, doc, number, from, path)?.discard();
     Ok(())
 }
 
@@ -111,11 +111,11 @@ fn moved(
 
 /// A value that could not be added, and why.
 #[derive(Drop)]
-struct NotAdded {
+pub struct NotAdded {
     /// The value.
-    value: Value,
+    pub value: Value,
     /// Why it could not be added.
-    fault: Fault<PatchError>,
+    pub fault: Fault<PatchError>,
 }
 
 /// Adds a value that was removed, and returns what undoes that.
@@ -124,7 +124,7 @@ struct NotAdded {
 ///
 /// The value, if nothing can be added at the pointer or an allocation fails. The document is
 /// unchanged.
-fn add_taken(
+pub fn add_taken(
     alloc: Global,
     doc: &mut Value,
     number: usize,
@@ -155,7 +155,7 @@ fn add_taken(
 }
 
 /// Returns whether `front` is a proper prefix of `path`: a prefix with fewer tokens.
-fn is_proper_front(front: Pointer<'_>, path: Pointer<'_>) -> bool
+pub fn is_proper_front(front: Pointer<'_>, path: Pointer<'_>) -> bool
     ensures { IsTrue result ↔ IsProperFront (tokens front.entry) (tokens path.entry) }
 {
     match path.strip_prefix(front) {

@@ -1,6 +1,7 @@
 //! The operations of a patch (RFC 6902, section 4), and their errors.
 
 use jsonptr::{PointerBuf, assign, resolve};
+use jsonptr_value::discard;
 use serde_json::Value;
 use thiserror::Error;
 
@@ -61,6 +62,18 @@ pub enum Operation {
         /// The value to compare with.
         value: Value,
     },
+}
+
+impl Operation {
+    /// Drops the operation, and its value without recursion.
+    pub(crate) fn discard(self) {
+        match self {
+            Operation::Add { value, .. } => discard(value),
+            Operation::Replace { value, .. } => discard(value),
+            Operation::Test { value, .. } => discard(value),
+            _ => {}
+        }
+    }
 }
 
 // The text of a failed test is a constant, since an attribute that contains the word "test" counts

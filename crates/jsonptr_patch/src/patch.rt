@@ -1,16 +1,20 @@
 //! Applying a patch: a list of operations, whole or not at all (RFC 6902, section 5).
-ghost use Rattle.std.specs.Prelude.{◌≡◌, [], ◌∷◌, ◌++◌, ℕ, length, All, IfOk, IsOk, OnErr};
+ghost use Rattle.std.specs.Prelude.{◌≡◌, [], ◌∷◌, ◌++◌, ℕ, length, All, IfOk, IsOk, IsTrue, OnErr};
 ghost use Rattle.serde_json.specs.View.{view};
 ghost use Rattle.jsonptr.specs.Fault.{IfRefused, HasMemory};
 ghost use Rattle.jsonptr.specs.Json.{nodes, HasSortedKeys};
+ghost use Rattle.jsonptr.specs.Node.{NodeMap};
+ghost use Rattle.jsonptr_patch.specs.Apart.{AllDiverge, pointers};
 ghost use Rattle.jsonptr_patch.specs.Memory.{TestNeedsNoMemory, LastNeedsNoMemory, NeedsNoMemory};
 ghost use Rattle.jsonptr_patch.specs.Operating.{Applies, RefusesOperation};
 ghost use Rattle.jsonptr_patch.specs.Order.{OperationHasSortedKeys};
 ghost use Rattle.jsonptr_patch.specs.Patching.{Patches, RefusesPatch};
+ghost use Rattle.jsonptr_patch.specs.PrivateLater.{paths_of, IsPending};
 ghost use Rattle.jsonptr_patch.specs.PrivateRecording.{CanUndo, Records};
 
 use crate::add::{add, add_last};
 use crate::copy::{copy, copy_last};
+use crate::later::{Later, can_wait, record_or_wait, settle, unlink, wait};
 use crate::move_value::{move_last, move_value};
 use crate::operation::{Operation, PatchError};
 use crate::remove::{remove, remove_last};
@@ -28,9 +32,16 @@ use std::alloc::Global;
 /// The document is changed in place. A journal keeps what undoes each operation except the last
 /// one. If an operation fails, those before it are undone, which needs no allocation.
 ///
-/// An operation costs what it changes. A removal from an object that is not the last operation also
-/// clones the keys of that object, and so does a move. Removals from one object one after another
-/// clone them once. To undo a removal takes time in proportion to its object or its array.
+/// An operation costs what it changes. A member that is removed from an object, also by a move, is
+/// replaced by `null` until the last operation has been applied, and then removed. An operation is
+/// apart from it if each of its pointers diverges from that of the member at an object of the
+/// document. If a later operation is not, or if 512 members wait, all that wait are removed before it.
+/// That clones the keys of their objects, once for members of one object that follow one another. To
+/// undo it takes time in proportion to the objects. An addition to a member that waits takes its
+/// place instead.
+///
+/// Each pointer is compared with those of the members that wait. A removal from an array, and its
+/// undoing, take time in proportion to the array.
 ///
 /// A patch needs no allocation if its pointers contain no `~`, all operations except the last one
 /// are tests, and the last one is a test, a removal or a replacement.
@@ -69,7 +80,10 @@ pub fn apply(alloc: Global, doc: &mut Value, patch: Vec<Operation>) -> Result<()
     };
     let mut journal = Journal::new(alloc);
     match apply_all(alloc, doc, &mut journal, operations, last) {
-        Ok(()) => Ok(()),
+        Ok(()) => {
+            journal.discard();
+            Ok(())
+        }
         Err(fault) => {
             journal.undo(alloc, doc);
             Err(fault)
@@ -102,11 +116,13 @@ fn apply_all(
         → HasMemory result }
 {
     let number = operations.len();
-    record_all(alloc, doc, journal, operations)?;
-    apply_last(alloc, doc, number, last)
+    let mut later = Vec::new(alloc);
+    record_all(alloc, doc, journal, &mut later, operations)?;
+    finish(alloc, doc, journal, later, number, last)
 }
 
-/// Applies the operations, and records in the journal what undoes them.
+/// Applies the operations, and records in the journal what undoes them. Some nodes are left to be
+/// removed after all operations.
 ///
 /// # Errors
 ///
@@ -115,23 +131,108 @@ fn record_all(
     alloc: Global,
     doc: &mut Value,
     journal: &mut Journal,
+    later: &mut Vec<Later>,
     operations: Vec<Operation>,
 ) -> Result<(), Fault<PatchError>>
-    requires { CanUndo journal.old doc.old }
-    ensures applied { IfOk result (λ _.
-        Patches (nodes (view doc.old)) operations.items (nodes (view doc.new))) }
+    requires undone { CanUndo journal.old doc.old }
+    requires none { later.old.items ≡ [] }
+    ensures applied { IfOk result (λ _. (n : NodeMap)
+        × Patches (nodes (view doc.old)) operations.items n
+        × IsPending (nodes (view doc.new)) later.new.items n) }
     ensures sorted { IfOk result (λ _. All OperationHasSortedKeys operations.items
         → HasSortedKeys (view doc.old) → HasSortedKeys (view doc.new)) }
     ensures refused { IfRefused result (RefusesPatch (nodes (view doc.old)) operations.items) }
     ensures undone { Records journal.old doc.old journal.new doc.new }
     ensures no_memory { All TestNeedsNoMemory operations.items → HasMemory result }
+    ensures none { IfOk result (λ _.
+        All TestNeedsNoMemory operations.items → later.new.items ≡ []) }
 {
     let mut number = 0;
     for operation in operations {
-        record(alloc, doc, journal, number, operation)?;
+        record_or_wait(alloc, doc, journal, later, number, operation)?;
         number += 1;
     }
     Ok(())
+}
+
+/// Applies the last operation, which has this number, and then removes the nodes that are left to be
+/// removed.
+///
+/// # Errors
+///
+/// [`Fault::Refused`] if the operation fails, and [`Fault::Memory`] if an allocation fails. To undo
+/// the journal restores the document.
+fn finish(
+    alloc: Global,
+    doc: &mut Value,
+    journal: &mut Journal,
+    later: Vec<Later>,
+    number: usize,
+    last: Operation,
+) -> Result<(), Fault<PatchError>>
+    requires undone { CanUndo journal.old doc.old }
+    requires pending { (n : NodeMap) × IsPending (nodes (view doc.old)) later.items n }
+    ensures applied { IfOk result (λ _. (n : NodeMap)
+        → IsPending (nodes (view doc.old)) later.items n
+        → Applies n last (nodes (view doc.new))) }
+    ensures sorted { IfOk result (λ _. OperationHasSortedKeys last
+        → HasSortedKeys (view doc.old) → HasSortedKeys (view doc.new)) }
+    ensures refused { IfRefused result (λ e. (n : NodeMap)
+        → IsPending (nodes (view doc.old)) later.items n
+        → RefusesOperation n number last e) }
+    ensures undone { OnErr result (Records journal.old doc.old journal.new doc.new) }
+    ensures no_memory { LastNeedsNoMemory last → later.items ≡ [] → HasMemory result }
+{
+    let mut later = later;
+    settle(alloc, doc, journal, &mut later, &last)?;
+    apply_last_apart(alloc, doc, journal, &mut later, number, last)?;
+    unlink(alloc, doc, later);
+    Ok(())
+}
+
+/// Applies the last operation, which is apart from the nodes that are removed later.
+///
+/// # Errors
+///
+/// [`Fault::Refused`] if the operation fails, and [`Fault::Memory`] if an allocation fails. To undo
+/// the journal restores the document.
+fn apply_last_apart(
+    alloc: Global,
+    doc: &mut Value,
+    journal: &mut Journal,
+    later: &mut Vec<Later>,
+    number: usize,
+    operation: Operation,
+) -> Result<(), Fault<PatchError>>
+    requires { AllDiverge (nodes (view doc.old)) (pointers operation)
+        (paths_of later.old.items) }
+    ensures applied { IfOk result (λ _. (n : NodeMap)
+        → IsPending (nodes (view doc.old)) later.old.items n
+        → (m : NodeMap) × Applies n operation m × IsPending (nodes (view doc.new)) later.new.items m) }
+    ensures sorted { IfOk result (λ _. OperationHasSortedKeys operation
+        → HasSortedKeys (view doc.old) → HasSortedKeys (view doc.new)) }
+    ensures refused { IfRefused result (λ e. (n : NodeMap)
+        → IsPending (nodes (view doc.old)) later.old.items n
+        → RefusesOperation n number operation e) }
+    ensures undone { OnErr result (Records journal.old doc.old journal.new doc.new) }
+    ensures no_memory { LastNeedsNoMemory operation → HasMemory result }
+{
+    if is_move(&operation) && can_wait(alloc, doc, &operation) {
+        wait(alloc, doc, journal, later, number, operation)
+    } else {
+        apply_last(alloc, doc, number, operation)
+    }
+}
+
+/// Returns whether the operation is a move. As the last one it waits, since its removal may have to
+/// be undone; any other is only applied.
+fn is_move(operation: &Operation) -> bool
+    ensures { IsTrue result → LastNeedsNoMemory operation.now → ⊥ }
+{
+    match operation {
+        Operation::Move { .. } => true,
+        _ => false,
+    }
 }
 
 /// Applies the operation with this number, and records in the journal what undoes it.
@@ -140,7 +241,7 @@ fn record_all(
 ///
 /// [`Fault::Refused`] if the operation fails, and [`Fault::Memory`] if an allocation fails. To undo
 /// the journal restores the document.
-fn record(
+pub fn record(
     alloc: Global,
     doc: &mut Value,
     journal: &mut Journal,

@@ -15,6 +15,7 @@ use crate::operation::PatchError;
 use crate::target::{no_target, target};
 use jsonptr::{Fault, Pointer, resolve};
 use jsonptr_journal::journal::Journal;
+use jsonptr_value::discard;
 use serde_json::Value;
 use std::alloc::Global;
 
@@ -69,7 +70,7 @@ pub fn remove_last(
 {
     match path.delete(alloc, doc)? {
         Some(value) => {
-            drop(value);
+            discard(value);
             Ok(())
         }
         None => Err(no_target(number, refusal(alloc, doc, path))),

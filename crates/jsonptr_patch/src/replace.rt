@@ -13,6 +13,7 @@ use crate::operation::PatchError;
 use crate::target::{no_target, target};
 use jsonptr::{Fault, Pointer, ResolveMut};
 use jsonptr_journal::journal::Journal;
+use jsonptr_value::discard;
 use serde_json::Value;
 use std::alloc::Global;
 use std::mem;
@@ -39,7 +40,13 @@ pub fn replace(
         (RefusesTarget (nodes (view doc.old)) number (tokens path.entry)) }
     ensures undone { Records journal.old doc.old journal.new doc.new }
 {
-    let location = target(alloc, doc, number, path)?;
+    let location = match target(alloc, doc, number, path) {
+        Ok(location) => location,
+        Err(fault) => {
+            discard(value);
+            return Err(fault);
+        }
+    };
     journal.replace(doc, location, value)?;
     Ok(())
 }
@@ -67,12 +74,15 @@ pub fn replace_last(
     ensures no_memory { HasNoTilde (text (tokens path.entry)) → HasMemory result }
 {
     match put(alloc, doc, path, value) {
-        Ok(()) => Ok(()),
+        Ok(old) => {
+            discard(old);
+            Ok(())
+        }
         Err(fault) => Err(no_target(number, fault)),
     }
 }
 
-/// Replaces the value that the pointer resolves to, in a document of any type. Drops the old value.
+/// Replaces the value that the pointer resolves to, in a document of any type, and returns the old value.
 ///
 /// # Errors
 ///
@@ -82,7 +92,7 @@ fn put<D: ResolveMut>(
     document: &mut D,
     ptr: Pointer<'_>,
     value: D::Value,
-) -> Result<(), Fault<D::Error>>
+) -> Result<D::Value, Fault<D::Error>>
     ensures written { IfOk result (λ _.
         D.writes document.old (tokens ptr.entry) value document.new) }
     ensures refused { IfRefused result (D.refuses document.old (tokens ptr.entry)) }
@@ -90,6 +100,5 @@ fn put<D: ResolveMut>(
     ensures no_memory { D.needs_no_memory document.old (tokens ptr.entry) → HasMemory result }
 {
     let place = document.resolve_mut(alloc, ptr)?;
-    drop(mem::replace(place, value));
-    Ok(())
+    Ok(mem::replace(place, value))
 }

@@ -8,7 +8,8 @@ ghost use Rattle.jsonptr.specs.Text.{HasNoTilde, text};
 ghost use Rattle.jsonptr_patch.specs.Operating.{Passes, RefusesTest};
 ghost use Rattle.jsonptr_patch.specs.PrivateTesting.{IsPlain, RefusesCompare, SameValue};
 
-use crate::equality::{has_float, is_equal};
+use crate::equality::is_equal;
+use crate::float_search::contains_float;
 use crate::operation::PatchError;
 use crate::target::no_target;
 use jsonptr::{Fault, Pointer};
@@ -36,7 +37,7 @@ pub fn test(
     ensures no_memory { HasNoTilde (text (tokens path.entry)) → HasMemory result }
 {
     match path.resolve(alloc, doc) {
-        Ok(target) => compare(number, target, value),
+        Ok(target) => compare(alloc, number, target, value),
         Err(fault) => Err(no_target(number, fault)),
     }
 }
@@ -47,13 +48,18 @@ pub fn test(
 ///
 /// [`PatchError::TestFloat`] if one of the two contains a float, and [`PatchError::TestFailed`] if
 /// they differ.
-fn compare(number: usize, target: &Value, value: &Value) -> Result<(), Fault<PatchError>>
+fn compare(
+    alloc: Global,
+    number: usize,
+    target: &Value,
+    value: &Value,
+) -> Result<(), Fault<PatchError>>
     ensures passes { IfOk result (λ _.
         IsPlain target.now × IsPlain value.now × SameValue target.now value.now) }
     ensures refused { IfRefused result (RefusesCompare number target.now value.now) }
     ensures no_memory { HasMemory result }
 {
-    if has_float(target) || has_float(value) {
+    if contains_float(alloc, target) || contains_float(alloc, value) {
         return Err(Fault::Refused(PatchError::TestFloat { operation: number }));
     }
     if !is_equal(target, value) {

@@ -1,10 +1,13 @@
-use Rattle.std.proofs.Common.{◌≡◌, ◌++◌, length}
+use Rattle.std.proofs.Common.{◌≡◌, ◌++◌, [], length}
 use Rattle.std.specs.Prelude.{All}
 use Rattle.std.specs.Vec.Iter.{into_iter_items}
 use Rattle.serde_json.specs.View.{view}
 use Rattle.jsonptr.specs.Json.{nodes, HasSortedKeys}
+use Rattle.jsonptr.specs.Node.{NodeMap}
+use Rattle.jsonptr_patch.specs.Memory.{TestNeedsNoMemory}
 use Rattle.jsonptr_patch.specs.Order.{OperationHasSortedKeys}
 use Rattle.jsonptr_patch.specs.Patching.{Patches}
+use Rattle.jsonptr_patch.specs.PrivateLater.{IsPending}
 use Rattle.jsonptr_patch.specs.PrivateRecording.{Records}
 use Rattle.jsonptr_patch.proofs.patch.record_all.Given as goal
 
@@ -12,7 +15,8 @@ abbrev pub invariant-loop-operation : goal.invariant-loop-operation
 invariant-loop-operation l = record {
   rest : l.yielded ++ into_iter_items l.operation-iterator ≡ l.fn.operations.items;
   counted : l.number ≡ length l.yielded;
-  done : Patches (nodes (view l.initial.doc)) l.yielded (nodes (view l.doc));
+  done : (n : NodeMap) × Patches (nodes (view l.initial.doc)) l.yielded n × IsPending (nodes (view l.doc)) l.later.items n;
   ordered : All OperationHasSortedKeys l.fn.operations.items → HasSortedKeys (view l.initial.doc) → HasSortedKeys (view l.doc);
   recorded : Records l.initial.journal l.initial.doc l.journal l.doc;
+  none : All TestNeedsNoMemory l.fn.operations.items → l.later.items ≡ [];
 }

@@ -1,0 +1,84 @@
+-- What takes an operation back: the operations that turn the document after it into the one before it.
+use Rattle.std.specs.Prelude.{◌≡◌, ℕ, ◌⊎◌, List, [], ◌∷◌, ◌++◌, Some}
+use Rattle.serde_json.specs.View.{view}
+use Rattle.serde_json.specs.declared.value.Value.{Value}
+use Rattle.jsonptr.specs.Text.{Text, dec}
+use Rattle.jsonptr.specs.Node.{Path, an_object, an_array, NodeMap, Names}
+use Rattle.jsonptr.specs.Following.{Finds}
+use Rattle.jsonptr.specs.Delete.{NamesNothing}
+use Rattle.jsonptr.specs.Json.{nodes}
+use Rattle.jsonptr_patch.specs.Adding.{MeansPlace}
+use Rattle.jsonptr_patch.specs.Apart.{Diverges}
+use Rattle.jsonptr_patch.specs.Operating.{IsProperFront, Takes, Applies, RestoresAt}
+use Rattle.jsonptr_patch.specs.declared.operation.Operation.{Operation}
+use Rattle.jsonptr_patch.specs.declared.operation.Operation.TheVariants.{Add, Remove, Replace, Move, Copy, Test}
+
+-- `HasObject n tokens`: the tokens before the last one evaluate to an object.
+pub record HasObject (n : NodeMap) (tokens : List Text) : Type 0 where
+  pub front : List Text
+  pub last : Text
+  pub path : Path
+  pub split : tokens ≡ front ++ last ∷ []
+  pub named : Names n front path
+  pub object : n path ≡ Some an_object
+
+-- `IsElementAt n tokens element`: the tokens before the last one evaluate to an array, and `element` are these tokens
+-- and the index to which the last one refers.
+pub record IsElementAt (n : NodeMap) (tokens element : List Text) : Type 0 where
+  pub front : List Text
+  pub last : Text
+  pub path : Path
+  pub len : ℕ
+  pub index : ℕ
+  pub split : tokens ≡ front ++ last ∷ []
+  pub named : Names n front path
+  pub array : n path ≡ Some (an_array len)
+  pub means : MeansPlace len last index
+  pub element_is : element ≡ front ++ dec index ∷ []
+
+-- `TakesAddBack n tokens o`: operation `o` takes back an addition to `n` at `tokens`. A new member, or an element, is
+-- removed. A member that was replaced, or the whole document, is replaced by the old value.
+abbrev pub TakesAddBack : NodeMap → List Text → Operation → Type 0
+TakesAddBack n tokens (Add path value) = ⊥
+TakesAddBack n tokens (Remove path) =
+    ((path ≡ tokens) × HasObject n tokens × NamesNothing n tokens) ⊎ IsElementAt n tokens path
+TakesAddBack n tokens (Replace path value) =
+    (path ≡ tokens) × Finds n tokens (nodes (view value)) × ((tokens ≡ []) ⊎ HasObject n tokens)
+TakesAddBack n tokens (Move from path) = ⊥
+TakesAddBack n tokens (Copy from path) = ⊥
+TakesAddBack n tokens (Test path value) = ⊥
+
+-- `IsReverse n from path o back`: `back` moves the value back to `from`, where `o` takes back its addition at `path`. A
+-- member that was replaced is added again; then the two pointers diverge at an object of `n`.
+abbrev pub IsReverse : NodeMap → List Text → List Text → Operation → List Operation → Type 0
+IsReverse n from path (Add p value) back = ⊥
+IsReverse n from path (Remove p) back = (back ≡ Move p from ∷ []) × (IsProperFront p from → ⊥)
+IsReverse n from path (Replace p value) back = (back ≡ Move p from ∷ Add p value ∷ []) × Diverges n from path
+IsReverse n from path (Move f p) back = ⊥
+IsReverse n from path (Copy f p) back = ⊥
+IsReverse n from path (Test p value) back = ⊥
+
+-- `TakesMoveBack n from path o back`: the operations `back` take back a move from `from` to `path` on `n`, where `o` takes
+-- back the addition at `path`. They are the move back, or `o` and then the addition at `from`.
+abbrev pub TakesMoveBack : NodeMap → List Text → List Text → Operation → List Operation → Type 0
+TakesMoveBack n from path o back =
+    IsReverse n from path o back ⊎ ((p : Operation) × (back ≡ o ∷ p ∷ []) × RestoresAt n from p)
+
+-- `TakesBack n o back`: the operations `back` take back operation `o` on `n`.
+abbrev pub TakesBack : NodeMap → Operation → List Operation → Type 0
+TakesBack n (Add path value) back = (o : Operation) × (back ≡ o ∷ []) × TakesAddBack n path o
+TakesBack n (Remove path) back = (o : Operation) × (back ≡ o ∷ []) × RestoresAt n path o
+TakesBack n (Replace path value) back =
+    (old : Value) × (back ≡ Replace path old ∷ []) × Finds n path (nodes (view old))
+TakesBack n (Move from path) back =
+    (o : Operation) × (node left : NodeMap) × Takes n from node left × TakesAddBack left path o
+    × TakesMoveBack n from path o back
+TakesBack n (Copy from path) back = (o : Operation) × (back ≡ o ∷ []) × TakesAddBack n path o
+TakesBack n (Test path value) back = back ≡ []
+
+-- `TakesAllBack n os back`: the operations `back` take back the operations `os` on `n`, the last one first.
+abbrev pub TakesAllBack : NodeMap → List Operation → List Operation → Type 0
+TakesAllBack n [] back = back ≡ []
+TakesAllBack n (o ∷ os) back =
+    (next : NodeMap) × (first rest : List Operation) × Applies n o next × TakesBack n o first
+    × TakesAllBack next os rest × (back ≡ rest ++ first)

@@ -1,0 +1,15 @@
+-- Operations that take back the changes of a document. Used only by private contracts; no public contract depends on
+-- this file.
+use Rattle.std.specs.Prelude.{◌≡◌, List, ◌++◌, reverse}
+use Rattle.jsonptr.specs.Node.{NodeMap}
+use Rattle.jsonptr_patch.specs.Patching.{Patches}
+use Rattle.jsonptr_patch.specs.declared.operation.Operation.{Operation}
+
+-- `AppendsBack os back ps`: `ps` are `os` and then the operations `back`, the last one first.
+abbrev pub AppendsBack : List Operation → List Operation → List Operation → Type 0
+AppendsBack os back ps = ps ≡ os ++ reverse back
+
+-- `TakesAllBackFrom m ps n os`: what the operations `os`, the last one first, make of `n`, the operations `ps`, the last
+-- one first, make of `m`.
+abbrev pub TakesAllBackFrom : NodeMap → List Operation → NodeMap → List Operation → Type 0
+TakesAllBackFrom m ps n os = (k : NodeMap) → Patches n (reverse os) k → Patches m (reverse ps) k

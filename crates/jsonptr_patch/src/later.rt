@@ -1,0 +1,583 @@
+//! Removals that are made after all operations, when nothing can fail any more.
+//!
+//! To undo the removal of a member needs room for all members of its object. So where the later
+//! operations allow it, the value is taken, `null` is left in its place, and the member is removed
+//! at the end.
+ghost use Rattle.std.specs.Prelude.{◌≡◌, ◌∷◌, ◌++◌, List, [], Contains, IfOk, IfSome, IsOk, IsTrue, IsFalse};
+ghost use Rattle.serde_json.specs.View.{view};
+ghost use Rattle.jsonptr.specs.Fault.{IfRefused, HasMemory};
+ghost use Rattle.jsonptr.specs.Json.{nodes, HasSortedKeys};
+ghost use Rattle.jsonptr.specs.Node.{NodeMap};
+ghost use Rattle.jsonptr.specs.Pointer.{tokens};
+ghost use Rattle.jsonptr.specs.Text.{Text};
+ghost use Rattle.jsonptr_patch.specs.Apart.{Diverges, AllDiverge, pointers};
+ghost use Rattle.jsonptr_patch.specs.Memory.{TestNeedsNoMemory};
+ghost use Rattle.jsonptr_patch.specs.Operating.{Takes, Moves, Applies, RefusesTarget, RefusesMove, RefusesOperation};
+ghost use Rattle.jsonptr_patch.specs.Order.{OperationHasSortedKeys};
+ghost use Rattle.jsonptr_patch.specs.Inverse.{HasObject};
+ghost use Rattle.jsonptr_patch.specs.PrivateLater.{paths_of, IsPending, IsObjectAt, Forks, IsWaitingAt, TakesPlace, CanWait, StandsFor};
+ghost use Rattle.jsonptr_patch.specs.PrivateRecording.{CanUndo, Records};
+
+use crate::move_value::{NotAdded, add_taken};
+use crate::operation::{Operation, PatchError};
+use crate::patch::record;
+use crate::target::target;
+use jsonptr::{Fault, Pointer, PointerBuf};
+use jsonptr_document::document::{Document, Node};
+use jsonptr_journal::journal::{Entry, Journal};
+use jsonptr_journal::location::Location;
+use jsonptr_journal::removal::{Taken, blank, remove, undo_removal};
+use serde_json::Value;
+use std::alloc::{AllocError, Global};
+use std::mem;
+
+/// A node that was replaced by `null`, and is to be removed after all operations.
+#[derive(Debug, Drop)]
+pub struct Later {
+    /// The pointer of the node.
+    pub path: PointerBuf,
+    /// Its location.
+    pub location: Location,
+}
+
+/// Returns whether the pointer resolves to an object. May return false if an allocation fails.
+fn is_object(alloc: Global, doc: &Value, ptr: Pointer<'_>) -> bool
+    ensures { IsTrue result → IsObjectAt (nodes (view doc.now)) (tokens ptr.entry) }
+{
+    match ptr.resolve(alloc, doc) {
+        Ok(value) => match value.node() {
+            Node::Object(_) => true,
+            _ => false,
+        },
+        Err(_) => false,
+    }
+}
+
+/// Returns whether the two pointers have the same tokens.
+fn is_same(left: Pointer<'_>, right: Pointer<'_>) -> bool
+    ensures { IsTrue result → tokens left.entry ≡ tokens right.entry }
+{
+    match left.strip_prefix(right) {
+        Some(rest) => rest.is_root(),
+        None => false,
+    }
+}
+
+/// Returns the prefix at whose end two pointers diverge, or `None` if one is a prefix of the other.
+fn fork<'a>(left: Pointer<'a>, right: Pointer<'_>) -> Option<Pointer<'a>>
+    ensures { IfSome result (λ common.
+        Forks (tokens left.entry) (tokens right.entry) (tokens common)) }
+{
+    let common = left.intersection(right);
+    let (x, _) = left.strip_prefix(common)?.split_front()?;
+    let (y, _) = right.strip_prefix(common)?.split_front()?;
+    if x == y {
+        return None;
+    }
+    Some(common)
+}
+
+/// Returns whether the two pointers diverge at an object of the document. May return false if an
+/// allocation fails.
+pub fn diverges(alloc: Global, doc: &Value, left: Pointer<'_>, right: Pointer<'_>) -> bool
+    ensures { IsTrue result
+        → Diverges (nodes (view doc.now)) (tokens left.entry) (tokens right.entry) }
+{
+    match fork(left, right) {
+        Some(common) => is_object(alloc, doc, common),
+        None => false,
+    }
+}
+
+/// Returns whether the pointer resolves to an object, as `known` does.
+fn is_object_too(alloc: Global, doc: &Value, known: Option<Pointer<'_>>, ptr: Pointer<'_>) -> bool
+    requires { IfSome known (λ other. IsObjectAt (nodes (view doc.now)) (tokens other)) }
+    ensures { IsTrue result → IsObjectAt (nodes (view doc.now)) (tokens ptr.entry) }
+{
+    match known {
+        Some(other) => is_same(other, ptr) || is_object(alloc, doc, ptr),
+        None => is_object(alloc, doc, ptr),
+    }
+}
+
+/// Returns whether the pointer diverges from those of all nodes that are removed later, at objects
+/// of the document. May return false if an allocation fails.
+///
+/// Nodes of one object that follow one another cost one search for it.
+fn diverges_from_all(alloc: Global, doc: &Value, later: &[Later], ptr: Pointer<'_>) -> bool
+    ensures apart { IsTrue result → AllDiverge (nodes (view doc.now)) (tokens ptr.entry ∷ [])
+        (paths_of later.now) }
+    ensures empty { later.now ≡ [] → IsTrue result }
+{
+    let mut known = None;
+    for one in later {
+        let Some(common) = fork(ptr, one.path.as_ptr()) else {
+            return false;
+        };
+        if !is_object_too(alloc, doc, known, common) {
+            return false;
+        }
+        known = Some(common);
+    }
+    true
+}
+
+/// Returns whether both pointers diverge from those of all nodes that are removed later, at objects
+/// of the document. May return false if an allocation fails.
+fn both_diverge(
+    alloc: Global,
+    doc: &Value,
+    later: &[Later],
+    from: Pointer<'_>,
+    path: Pointer<'_>,
+) -> bool
+    ensures apart { IsTrue result → AllDiverge (nodes (view doc.now))
+        (tokens from.entry ∷ tokens path.entry ∷ []) (paths_of later.now) }
+    ensures empty { later.now ≡ [] → IsTrue result }
+{
+    diverges_from_all(alloc, doc, later, from) && diverges_from_all(alloc, doc, later, path)
+}
+
+/// Returns whether each pointer of the operation diverges from those of all nodes that are removed
+/// later. May return false if an allocation fails.
+fn is_apart(alloc: Global, doc: &Value, later: &[Later], operation: &Operation) -> bool
+    ensures apart { IsTrue result → AllDiverge (nodes (view doc.now)) (pointers operation.now)
+        (paths_of later.now) }
+    ensures empty { later.now ≡ [] → IsTrue result }
+{
+    match operation {
+        Operation::Add { path, .. } => diverges_from_all(alloc, doc, later, path.as_ptr()),
+        Operation::Remove { path } => diverges_from_all(alloc, doc, later, path.as_ptr()),
+        Operation::Replace { path, .. } => diverges_from_all(alloc, doc, later, path.as_ptr()),
+        Operation::Move { from, path } => {
+            both_diverge(alloc, doc, later, from.as_ptr(), path.as_ptr())
+        }
+        Operation::Copy { from, path } => {
+            both_diverge(alloc, doc, later, from.as_ptr(), path.as_ptr())
+        }
+        Operation::Test { path, .. } => diverges_from_all(alloc, doc, later, path.as_ptr()),
+    }
+}
+
+/// Returns whether the pointer is that of a member of an object. May return false if an allocation
+/// fails.
+fn is_member(alloc: Global, doc: &Value, path: Pointer<'_>) -> bool
+    ensures { IsTrue result → HasObject (nodes (view doc.now)) (tokens path.entry) }
+{
+    match path.split_back() {
+        Some((front, _)) => is_object(alloc, doc, front),
+        None => false,
+    }
+}
+
+/// Returns the index of the node whose pointer this is, or `None` if there is none.
+fn index_of(later: &[Later], path: &PointerBuf) -> Option<usize>
+    ensures { IfSome result (λ i. IsWaitingAt later.now i path.now) }
+{
+    for (index, one) in later.iter().enumerate() {
+        if one.path == *path {
+            return Some(index);
+        }
+    }
+    None
+}
+
+/// Returns the index of the node in whose place the operation adds a value, or `None` if there is
+/// none. May return `None` if an allocation fails.
+fn replaced(alloc: Global, doc: &Value, later: &[Later], operation: &Operation) -> Option<usize>
+    ensures { IfSome result (λ i. (path : List Text) × IsWaitingAt later.now i path
+        × HasObject (nodes (view doc.now)) path
+        × TakesPlace (nodes (view doc.now)) operation.now path) }
+{
+    match operation {
+        Operation::Add { path, .. } => member_at(alloc, doc, later, path),
+        Operation::Move { from, path } | Operation::Copy { from, path } => {
+            let index = member_at(alloc, doc, later, path)?;
+            if !diverges(alloc, doc, from.as_ptr(), path.as_ptr()) {
+                return None;
+            }
+            Some(index)
+        }
+        _ => None,
+    }
+}
+
+/// Returns the index of the node whose pointer this is, if it is a member of an object. May return
+/// `None` if an allocation fails.
+fn member_at(alloc: Global, doc: &Value, later: &[Later], path: &PointerBuf) -> Option<usize>
+    ensures { IfSome result (λ i. IsWaitingAt later.now i path.now
+        × HasObject (nodes (view doc.now)) path.now) }
+{
+    let index = index_of(later, path)?;
+    if !is_member(alloc, doc, path.as_ptr()) {
+        return None;
+    }
+    Some(index)
+}
+
+/// Returns whether the operation adds a value in the place of a node that is removed later, and is
+/// apart from the others. Then that node waits no more: the value replaces its `null`.
+///
+/// May return false if an allocation fails.
+fn take_place(alloc: Global, doc: &Value, later: &mut Vec<Later>, operation: &Operation) -> bool
+    ensures apart { IsTrue result → AllDiverge (nodes (view doc.now)) (pointers operation.now)
+        (paths_of later.new.items) }
+    ensures stands { IsTrue result → (n : NodeMap)
+        → IsPending (nodes (view doc.now)) later.old.items n
+        → (k : NodeMap) × IsPending (nodes (view doc.now)) later.new.items k
+        × StandsFor k n operation.now }
+    ensures same { IsFalse result → later.new.items ≡ later.old.items }
+    ensures empty { later.old.items ≡ [] → later.new.items ≡ [] }
+{
+    let Some(index) = replaced(alloc, doc, later.as_slice(), operation) else {
+        return false;
+    };
+    let waiting = later.as_slice();
+    let (before, _) = waiting.split_at(index);
+    let (_, after) = waiting.split_at(index + 1);
+    if !is_apart(alloc, doc, before, operation) {
+        return false;
+    }
+    if !is_apart(alloc, doc, after, operation) {
+        return false;
+    }
+    later.remove(index);
+    true
+}
+
+/// Removes the nodes that were to be removed later, and records in the journal what undoes that.
+///
+/// # Errors
+///
+/// [`AllocError`] if an allocation fails. To undo the journal restores the document.
+fn flush(
+    alloc: Global,
+    doc: &mut Value,
+    journal: &mut Journal,
+    later: &mut Vec<Later>,
+) -> Result<(), AllocError>
+    requires undone { CanUndo journal.old doc.old }
+    requires pending { (n : NodeMap) × IsPending (nodes (view doc.old)) later.old.items n }
+    ensures emptied { IfOk result (λ _. later.new.items ≡ []) }
+    ensures same { IfOk result (λ _. (n : NodeMap)
+        → IsPending (nodes (view doc.old)) later.old.items n → n ≡ nodes (view doc.new)) }
+    ensures sorted { IfOk result (λ _.
+        HasSortedKeys (view doc.old) → HasSortedKeys (view doc.new)) }
+    ensures undone { Records journal.old doc.old journal.new doc.new }
+{
+    let waiting = mem::replace(later, Vec::new(alloc));
+    for one in waiting {
+        journal.remove(alloc, doc, one.location)?;
+    }
+    Ok(())
+}
+
+/// Removes the nodes that were to be removed later.
+///
+/// Needs no allocation, and nothing undoes it.
+pub fn unlink(alloc: Global, doc: &mut Value, later: Vec<Later>)
+    requires { (n : NodeMap) × IsPending (nodes (view doc.old)) later.items n }
+    ensures same { (n : NodeMap)
+        → IsPending (nodes (view doc.old)) later.items n → n ≡ nodes (view doc.new) }
+    ensures sorted { HasSortedKeys (view doc.old) → HasSortedKeys (view doc.new) }
+{
+    for one in later {
+        drop(remove(alloc, doc, one.location));
+    }
+}
+
+/// The number of nodes that wait to be removed. The pointers of an operation are compared with
+/// theirs, so more would make it slower, and fewer would clone the keys of an object more often.
+const MOST_LATER: usize = 512;
+
+/// Makes the operation apart from the nodes that are removed later, as [`make_apart`] does. If it adds
+/// a value in the place of one of them, that one waits no more.
+///
+/// # Errors
+///
+/// [`AllocError`] if an allocation fails. To undo the journal restores the document.
+pub fn settle(
+    alloc: Global,
+    doc: &mut Value,
+    journal: &mut Journal,
+    later: &mut Vec<Later>,
+    operation: &Operation,
+) -> Result<(), AllocError>
+    requires undone { CanUndo journal.old doc.old }
+    requires pending { (n : NodeMap) × IsPending (nodes (view doc.old)) later.old.items n }
+    ensures apart { IfOk result (λ _. AllDiverge (nodes (view doc.new)) (pointers operation.now)
+        (paths_of later.new.items)) }
+    ensures stands { IfOk result (λ _. (n : NodeMap)
+        → IsPending (nodes (view doc.old)) later.old.items n
+        → (k : NodeMap) × IsPending (nodes (view doc.new)) later.new.items k
+        × StandsFor k n operation.now) }
+    ensures sorted { IfOk result (λ _.
+        HasSortedKeys (view doc.old) → HasSortedKeys (view doc.new)) }
+    ensures undone { Records journal.old doc.old journal.new doc.new }
+    ensures no_memory { later.old.items ≡ [] → IsOk result }
+    ensures none { later.old.items ≡ [] → later.new.items ≡ [] }
+{
+    if take_place(alloc, doc, later, operation) {
+        return Ok(());
+    }
+    make_apart(alloc, doc, journal, later, operation)
+}
+
+/// Makes the operation apart from the nodes that are removed later: if it is not, or if too many are
+/// waiting, they are removed now.
+///
+/// # Errors
+///
+/// [`AllocError`] if an allocation fails. To undo the journal restores the document.
+pub fn make_apart(
+    alloc: Global,
+    doc: &mut Value,
+    journal: &mut Journal,
+    later: &mut Vec<Later>,
+    operation: &Operation,
+) -> Result<(), AllocError>
+    requires undone { CanUndo journal.old doc.old }
+    requires pending { (n : NodeMap) × IsPending (nodes (view doc.old)) later.old.items n }
+    ensures apart { IfOk result (λ _. AllDiverge (nodes (view doc.new)) (pointers operation.now)
+        (paths_of later.new.items)) }
+    ensures same { IfOk result (λ _. (n : NodeMap)
+        → IsPending (nodes (view doc.old)) later.old.items n
+        → IsPending (nodes (view doc.new)) later.new.items n) }
+    ensures sorted { IfOk result (λ _.
+        HasSortedKeys (view doc.old) → HasSortedKeys (view doc.new)) }
+    ensures undone { Records journal.old doc.old journal.new doc.new }
+    ensures no_memory { later.old.items ≡ [] → IsOk result }
+    ensures none { later.old.items ≡ [] → later.new.items ≡ [] }
+{
+    if later.len() < MOST_LATER && is_apart(alloc, doc, later.as_slice(), operation) {
+        return Ok(());
+    }
+    flush(alloc, doc, journal, later)
+}
+
+/// Removes the value that the pointer resolves to after all operations, for the operation with this
+/// number. It is `null` until then.
+///
+/// # Errors
+///
+/// [`Fault::Refused`] if the pointer does not resolve to a value, and [`Fault::Memory`] if an
+/// allocation fails. To undo the journal restores the document.
+pub fn remove_later(
+    alloc: Global,
+    doc: &mut Value,
+    journal: &mut Journal,
+    later: &mut Vec<Later>,
+    number: usize,
+    path: Pointer<'_>,
+) -> Result<(), Fault<PatchError>>
+    requires apart { AllDiverge (nodes (view doc.old)) (tokens path ∷ [])
+        (paths_of later.old.items) }
+    requires member { HasObject (nodes (view doc.old)) (tokens path) }
+    ensures removed { IfOk result (λ _. (n : NodeMap)
+        → IsPending (nodes (view doc.old)) later.old.items n
+        → (m v : NodeMap) × Takes n (tokens path.entry) v m
+        × IsPending (nodes (view doc.new)) later.new.items m) }
+    ensures sorted { IfOk result (λ _.
+        HasSortedKeys (view doc.old) → HasSortedKeys (view doc.new)) }
+    ensures refused { IfRefused result
+        (RefusesTarget (nodes (view doc.old)) number (tokens path.entry)) }
+    ensures undone { Records journal.old doc.old journal.new doc.new }
+{
+    let location = target(alloc, doc, number, path)?;
+    let one = Later {
+        path: path.to_buf(alloc)?,
+        location: target(alloc, doc, number, path)?,
+    };
+    later.reserve(1)?;
+    journal.replace(doc, location, Value::Null)?;
+    later.push_reserved(one);
+    Ok(())
+}
+
+/// Moves the value at `from` to `path`, for the operation with this number, and removes its member
+/// after all operations. It is `null` until then.
+///
+/// # Errors
+///
+/// [`Fault::Refused`] if `from` does not resolve to a value, or if the value cannot be added.
+/// [`Fault::Memory`] if an allocation fails. To undo the journal restores the document.
+pub fn move_later(
+    alloc: Global,
+    doc: &mut Value,
+    journal: &mut Journal,
+    later: &mut Vec<Later>,
+    number: usize,
+    from: Pointer<'_>,
+    path: Pointer<'_>,
+) -> Result<(), Fault<PatchError>>
+    requires apart { AllDiverge (nodes (view doc.old)) (tokens from ∷ tokens path ∷ [])
+        (paths_of later.old.items) }
+    requires ways { Diverges (nodes (view doc.old)) (tokens from) (tokens path) }
+    requires member { HasObject (nodes (view doc.old)) (tokens from) }
+    ensures moved { IfOk result (λ _. (n : NodeMap)
+        → IsPending (nodes (view doc.old)) later.old.items n
+        → (m : NodeMap) × Moves n (tokens from.entry) (tokens path.entry) m
+        × IsPending (nodes (view doc.new)) later.new.items m) }
+    ensures sorted { IfOk result (λ _.
+        HasSortedKeys (view doc.old) → HasSortedKeys (view doc.new)) }
+    ensures refused { IfRefused result (λ e. (n : NodeMap)
+        → IsPending (nodes (view doc.old)) later.old.items n
+        → RefusesMove n number (tokens from.entry) (tokens path.entry) e) }
+    ensures undone { Records journal.old doc.old journal.new doc.new }
+{
+    let location = target(alloc, doc, number, from)?;
+    let one = Later {
+        path: from.to_buf(alloc)?,
+        location: target(alloc, doc, number, from)?,
+    };
+    later.reserve(1)?;
+    journal.reserve()?;
+    let Taken { value, removal } = blank(doc, location);
+    match add_taken(alloc, doc, number, path, value) {
+        Ok(addition) => {
+            journal.push(Entry::Moved(removal, addition));
+            later.push_reserved(one);
+            Ok(())
+        }
+        Err(NotAdded { value, fault }) => {
+            undo_removal(alloc, doc, removal, value);
+            Err(fault)
+        }
+    }
+}
+
+/// Returns whether the removal that the operation makes can wait until all operations are applied. It
+/// removes or moves a member of an object, and the pointers of a move diverge at an object. May
+/// return false if an allocation fails.
+pub fn can_wait(alloc: Global, doc: &Value, operation: &Operation) -> bool
+    ensures { IsTrue result → CanWait (nodes (view doc.now)) operation.now }
+{
+    match operation {
+        Operation::Remove { path } => is_member(alloc, doc, path.as_ptr()),
+        Operation::Move { from, path } => {
+            is_member(alloc, doc, from.as_ptr())
+                && diverges(alloc, doc, from.as_ptr(), path.as_ptr())
+        }
+        _ => false,
+    }
+}
+
+/// Applies an operation whose removal waits, and which is apart from the nodes that are removed
+/// later.
+///
+/// # Errors
+///
+/// [`Fault::Refused`] if the operation fails, and [`Fault::Memory`] if an allocation fails. To undo
+/// the journal restores the document.
+pub fn wait(
+    alloc: Global,
+    doc: &mut Value,
+    journal: &mut Journal,
+    later: &mut Vec<Later>,
+    number: usize,
+    operation: Operation,
+) -> Result<(), Fault<PatchError>>
+    requires apart { AllDiverge (nodes (view doc.old)) (pointers operation)
+        (paths_of later.old.items) }
+    requires waits { CanWait (nodes (view doc.old)) operation }
+    ensures applied { IfOk result (λ _. (n : NodeMap)
+        → IsPending (nodes (view doc.old)) later.old.items n
+        → (m : NodeMap) × Applies n operation m × IsPending (nodes (view doc.new)) later.new.items m) }
+    ensures sorted { IfOk result (λ _.
+        HasSortedKeys (view doc.old) → HasSortedKeys (view doc.new)) }
+    ensures refused { IfRefused result (λ e. (n : NodeMap)
+        → IsPending (nodes (view doc.old)) later.old.items n
+        → RefusesOperation n number operation e) }
+    ensures undone { Records journal.old doc.old journal.new doc.new }
+{
+    match operation {
+        Operation::Remove { path } => {
+            remove_later(alloc, doc, journal, later, number, path.as_ptr())
+        }
+        Operation::Move { from, path } => {
+            move_later(
+                alloc,
+                doc,
+                journal,
+                later,
+                number,
+                from.as_ptr(),
+                path.as_ptr(),
+            )
+        }
+        Operation::Add { .. } => unreachable!(),
+        Operation::Replace { .. } => unreachable!(),
+        Operation::Copy { .. } => unreachable!(),
+        Operation::Test { .. } => unreachable!(),
+    }
+}
+
+/// Applies an operation that is apart from the nodes that are removed later, and records in the
+/// journal what undoes it.
+///
+/// # Errors
+///
+/// [`Fault::Refused`] if the operation fails, and [`Fault::Memory`] if an allocation fails. To undo
+/// the journal restores the document.
+pub fn record_apart(
+    alloc: Global,
+    doc: &mut Value,
+    journal: &mut Journal,
+    later: &mut Vec<Later>,
+    number: usize,
+    operation: Operation,
+) -> Result<(), Fault<PatchError>>
+    requires undone { CanUndo journal.old doc.old }
+    requires apart { AllDiverge (nodes (view doc.old)) (pointers operation)
+        (paths_of later.old.items) }
+    ensures applied { IfOk result (λ _. (n : NodeMap)
+        → IsPending (nodes (view doc.old)) later.old.items n
+        → (m : NodeMap) × Applies n operation m × IsPending (nodes (view doc.new)) later.new.items m) }
+    ensures sorted { IfOk result (λ _. OperationHasSortedKeys operation
+        → HasSortedKeys (view doc.old) → HasSortedKeys (view doc.new)) }
+    ensures refused { IfRefused result (λ e. (n : NodeMap)
+        → IsPending (nodes (view doc.old)) later.old.items n
+        → RefusesOperation n number operation e) }
+    ensures undone { Records journal.old doc.old journal.new doc.new }
+    ensures no_memory { TestNeedsNoMemory operation → HasMemory result }
+    ensures none { TestNeedsNoMemory operation → later.new.items ≡ later.old.items }
+{
+    if can_wait(alloc, doc, &operation) {
+        wait(alloc, doc, journal, later, number, operation)
+    } else {
+        record(alloc, doc, journal, number, operation)
+    }
+}
+
+/// Applies the operation with this number, and records in the journal what undoes it. A removal may
+/// be made after all operations.
+///
+/// # Errors
+///
+/// [`Fault::Refused`] if the operation fails, and [`Fault::Memory`] if an allocation fails. To undo
+/// the journal restores the document.
+pub fn record_or_wait(
+    alloc: Global,
+    doc: &mut Value,
+    journal: &mut Journal,
+    later: &mut Vec<Later>,
+    number: usize,
+    operation: Operation,
+) -> Result<(), Fault<PatchError>>
+    requires undone { CanUndo journal.old doc.old }
+    requires pending { (n : NodeMap) × IsPending (nodes (view doc.old)) later.old.items n }
+    ensures applied { IfOk result (λ _. (n : NodeMap)
+        → IsPending (nodes (view doc.old)) later.old.items n
+        → (m : NodeMap) × Applies n operation m × IsPending (nodes (view doc.new)) later.new.items m) }
+    ensures sorted { IfOk result (λ _. OperationHasSortedKeys operation
+        → HasSortedKeys (view doc.old) → HasSortedKeys (view doc.new)) }
+    ensures refused { IfRefused result (λ e. (n : NodeMap)
+        → IsPending (nodes (view doc.old)) later.old.items n
+        → RefusesOperation n number operation e) }
+    ensures undone { Records journal.old doc.old journal.new doc.new }
+    ensures no_memory { TestNeedsNoMemory operation → later.old.items ≡ [] → HasMemory result }
+    ensures none { TestNeedsNoMemory operation → later.old.items ≡ [] → later.new.items ≡ [] }
+{
+    settle(alloc, doc, journal, later, &operation)?;
+    record_apart(alloc, doc, journal, later, number, operation)
+}
