@@ -1,5 +1,5 @@
 -- What edits of a text are in the words of assignments.
-use Rattle.std.proofs.Common.{◌≡◌, ℕ, zero, suc, ◌<◌, ◌≤◌, max, List, [], ◌∷◌, ◌++◌, Option, Some, None, option_map, Result, Ok, Err, IfOk, IfSome, String, string_bytes, ◌⊎◌, inl, inr, ⊎_elim, codes, true, false, refl, sym, ap, ◌∙◌, subst, arith}
+use Rattle.std.proofs.Common.{◌≡◌, ℕ, zero, suc, ◌<◌, ◌≤◌, max, List, [], ◌∷◌, ◌++◌, Option, Some, None, option_map, Result, Ok, Err, IfOk, IfSome, String, string_bytes, ◌⊎◌, inl, inr, ⊎_elim, codes, Bool, IsTrue, true, false, refl, sym, ap, ◌∙◌, subst, arith}
 use Rattle.std.specs.declared.alloc.Global.{Global}
 use Rattle.std.specs.declared.alloc.AllocError.{AllocError}
 use Rattle.serde_json.specs.Data as json
@@ -23,11 +23,9 @@ use Rattle.jsonptr_skim.specs.Search as skim
 use Rattle.jsonptr_in_text.proofs.SearchLemmas.{len_same, member_content}
 use Rattle.jsonptr_splice.specs.declared.edit.Child.{Child}
 use Rattle.jsonptr_splice.specs.declared.edit.Edit.TheVariants as edit
-use Rattle.jsonptr_splice.specs.Editing.{InsertsItem, InsertsMember, AddsMember, AddsChild, Makes}
-use Rattle.jsonptr_splice.specs.Spacing.{IsTrimmed, Splices}
-use Rattle.jsonptr_edit_in_text.specs.Bytes.{ReplacesBytes}
+use Rattle.jsonptr_splice.specs.Editing.{InsertsItem, InsertsMember, Makes}
 use Rattle.jsonptr_edit_in_text.specs.EditInText.{AssignsInText}
-use Rattle.jsonptr_edit_in_text.specs.PrivateReaching.{ReachedInText, ReplacesScalar, AddsMemberAt, AppendsAt, Trades, Becomes, ScalarBecomes, MemberAdded, ElementAppended}
+use Rattle.jsonptr_edit_in_text.specs.PrivateReaching.{ReachedInText, ReplacesScalar, AddsMemberAt, AppendsAt, Becomes, ScalarBecomes, MemberAdded, ElementAppended}
 use Rattle.jsonptr_edit_in_text.proofs.ReachingLemmas.{reached_so, item_content, below, same_below, other_place, other_key}
 
 pub label_there : (d at : Data) (w : Path) → content_at w (content d) ≡ Some (content at) → nodes d w ≡ Some (label_of (content at))
@@ -192,6 +190,10 @@ if_both (Err e) P Q h k = h
 if_both (Ok None) P Q h k = h
 if_both (Ok (Some s)) P Q h k = (h, k)
 
+pub if_true : (r : Result Bool AllocError) (P Q : Type 0) → (P → Q) → IfOk r (λ b. IsTrue b → P) → IfOk r (λ b. IsTrue b → Q)
+if_true (Err e) P Q f h = h
+if_true (Ok b) P Q f h = λ is. f (h is)
+
 pub same_data : (d e : Data) → Some d ≡ Some e → d ≡ e
 same_data d e h = cc
 
@@ -212,27 +214,9 @@ of_member old new front x flat e is h = reached_so old new front (MemberAdded x 
 pub of_element : (old new : Text) (front : List Text) (x flat : Text) (e : Data) → read flat ≡ Some e → ReachedInText old new front (ElementAppended x flat) → ReachedInText old new front (AppendsAt x e)
 of_element old new front x flat e is h = reached_so old new front (ElementAppended x flat) (AppendsAt x e) (λ d d2 m. (m.ds, m.ds2, m.old, m.new, subst (λ (y : Data). InsertsItem (skim.items_len m.ds) y m.ds m.ds2) (same_data m.e e (sym m.reads ∙ is)) m.inserts, m.refers)) h
 
--- ---- which bytes it changes
-
-pub replaces_bytes : (old new was piece flat : Text) (tokens : List Text) → Splices old new was piece → ReachedInText old new tokens (Trades was flat) → IsTrimmed was → ReplacesBytes old new tokens
-replaces_bytes old new was piece flat tokens splices h trimmed =
-    let r = h.4 in
-    record {
-      was = was;
-      piece = piece;
-      value = r.at;
-      splices = splices;
-      found = (h.0, h.2, record { path = r.path; named = r.named; there = r.there });
-      reads = r.changes.0;
-      trimmed = trimmed;
-    }
-
 pub member_made : (child : Child) (x flat : Text) (d d2 : Data) → string_bytes child.selector.key ≡ x → child.selector.index ≡ None → string_bytes child.value ≡ flat → Makes (edit.Add child) d d2 → MemberAdded x flat d d2
-member_made child x flat d d2 named index value m = (m.0, ap read (sym value) ∙ m.1, member m.2)
-  where
-    member : AddsChild (skim.choice_of child.selector) m.0 d d2 → AddsMember (x, None) m.0 d d2
-    member (inl a) = absurd (none child.selector.index a.i index a.selects)
-      where
-        none : (o : Option ℕ) (i : ℕ) → o ≡ None → o ≡ Some i → ⊥
-        none o i e f = cc
-    member (inr b) = record { ms = b.ms; ms2 = b.ms2; old = b.old; new = b.new; inserts = subst (λ (k : Text). InsertsMember k m.0 b.ms b.ms2) named b.inserts }
+member_made child x flat d d2 named index value m = (
+  m.0,
+  ap read (sym value) ∙ m.1,
+  record { ms = m.2.ms; ms2 = m.2.ms2; old = m.2.old; new = m.2.new; inserts = subst (λ (k : Text). InsertsMember k m.0 m.2.ms m.2.ms2) named m.2.inserts },
+)

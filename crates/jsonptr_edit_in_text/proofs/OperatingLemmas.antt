@@ -1,5 +1,5 @@
 -- One operation of a patch in a text, in the words of patches.
-use Rattle.std.proofs.Common.{◌≡◌, ℕ, suc, ◌<◌, ◌≤◌, List, [], ◌∷◌, ◌++◌, Option, Some, None, option_map, option_and_then, IsSome, ◌⊎◌, inl, inr, String, string_bytes, codes, refl, sym, ap, ◌∙◌, subst, arith}
+use Rattle.std.proofs.Common.{◌≡◌, ℕ, suc, ◌<◌, ◌≤◌, List, [], ◌∷◌, ◌++◌, Option, Some, None, option_map, option_and_then, ◌⊎◌, inl, inr, String, string_bytes, codes, refl, sym, ap, ◌∙◌, subst, arith}
 use mathlib.Core.Path.{fun_ext}
 use Rattle.std.specs.declared.alloc.Global.{Global}
 use Rattle.serde_json.specs.Data as json
@@ -8,20 +8,18 @@ use Rattle.serde_json.specs.Read.{read}
 use Rattle.serde_json.specs.View.{view}
 use Rattle.serde_json.specs.declared.value.Value.{Value}
 use Rattle.jsonptr_grammar.specs.Text.{Text, dec}
-use Rattle.jsonptr_tree.specs.Node.{Step, key, place, Path, Label, an_array, an_object, NodeMap, NamesStep, Names, sub}
+use Rattle.jsonptr_tree.specs.Node.{Step, key, place, Path, Label, an_array, an_object, NodeMap, Names, sub}
 use Rattle.jsonptr_tree.specs.Content as tree
 use Rattle.jsonptr_tree.specs.Content.{Content, items_len, label_of, content_at, map_of}
 use Rattle.jsonptr_tree.specs.Following.{Finds}
 use Rattle.jsonptr_tree.specs.Json.{content, items, nodes, FindsValue}
 use Rattle.jsonptr_tree.specs.Put.{put}
 use Rattle.jsonptr_tree.specs.Removing.{Deletes}
-use Rattle.jsonptr_tree.proofs.ContentLemmas.{content_at-push}
 use Rattle.jsonptr_tree.proofs.JsonLemmas.{FindsValue-Finds}
-use Rattle.jsonptr_tree.proofs.NodeLemmas.{Names-push}
 use Rattle.jsonptr_tree.proofs.PutLemmas.{same_by_step, put_below}
 use Rattle.jsonptr_skim.specs.Search as skim
 use Rattle.jsonptr_skim.specs.Search.{Choice}
-use Rattle.jsonptr_in_text.specs.Selecting.{IsChoiceOf, AreChoicesOf}
+use Rattle.jsonptr_in_text.specs.Selecting.{AreChoicesOf}
 use Rattle.jsonptr_in_text.proofs.SearchLemmas.{len_same}
 use Rattle.jsonptr_patch.specs.Adding.{MeansPlace, AddsUnder, AddsBelow, Adds}
 use Rattle.jsonptr_patch.specs.Inserting.{with_place}
@@ -32,14 +30,12 @@ use Rattle.jsonptr_patch.specs.declared.operation.Operation.TheVariants.{Test}
 use Rattle.jsonptr_patch.proofs.AddingLemmas.{taken}
 use Rattle.jsonptr_patch.proofs.InsertingLemmas.{cases_place, with_place-same, with_place-below, with_place-above, with_place-root}
 use Rattle.jsonptr_patch.proofs.OperatingLemmas.{patches_push}
-use Rattle.jsonptr_splice.specs.Editing.{InsertsItem, AddsChild, ChangesChild, ChangesAt, IsEdited}
+use Rattle.jsonptr_splice.specs.Editing.{InsertsItem, ChangesChild, ChangesAt, IsEdited}
 use Rattle.jsonptr_splice.specs.declared.edit.Edit.TheVariants.{Replace}
-use Rattle.jsonptr_splice.specs.Spacing.{IsTrimmed, Splices}
-use Rattle.jsonptr_edit_in_text.specs.Bytes.{ReplacesBytes}
 use Rattle.jsonptr_edit_in_text.specs.EditInText.{DeletesInText}
 use Rattle.jsonptr_edit_in_text.specs.PatchInText.{OperationBytes, PatchBytes, PatchesInText}
 use Rattle.jsonptr_edit_in_text.specs.PrivateReaching.{ReachedInText, Becomes, Trades, MemberAdded, ElementAppended}
-use Rattle.jsonptr_edit_in_text.specs.PrivateOperating.{OperatesInText, PutsInText, AddsValueInText, AddsInText, FindsText, MovesInText, CopiesInText, PassesInText, ChildAdded, AreMemberChoices}
+use Rattle.jsonptr_edit_in_text.specs.PrivateOperating.{OperatesInText, PutsInText, AddsValueInText, AddsInText, FindsText, MovesInText, CopiesInText, PassesInText, ElementInserted, AreMemberChoices}
 use Rattle.jsonptr_edit_in_text.proofs.EditLemmas.{same_data, label_there, map_there, member_map}
 use Rattle.jsonptr_edit_in_text.proofs.ReachingLemmas.{item_content, below, same_below, put_level, in_object, reached, reached_in_text}
 
@@ -146,18 +142,12 @@ adds_last old new front x flat h =
     means n len same (inl dash) = (omega (arith, same), inr (dash, sym same))
     means n len same (inr number) = (omega (arith, same), inl number)
 
-pub adds_child : (old new : Text) (front : List Text) (x flat : Text) → ReachedInText old new front (ChildAdded x flat) → AddsInText old (front ++ x ∷ []) flat new
-adds_child old new front x flat h =
+pub adds_element : (old new : Text) (front : List Text) (x flat : Text) → ReachedInText old new front (ElementInserted x flat) → AddsInText old (front ++ x ∷ []) flat new
+adds_element old new front x flat h =
     let r = h.4 in
     let a = r.changes in
-    (h.0, h.1, a.0, h.2, h.3, a.2, inr (adding r.at r.at2 r.path r.named r.there r.made a.0 a.1 a.3 a.4))
-  where
-    adding : (at at2 : Data) (w : Path) → Names (nodes h.0) front w → content_at w (content h.0) ≡ Some (content at) → nodes h.1 ≡ put (nodes h.0) w (nodes at2) → (e : Data) (c : Choice) → IsChoiceOf x c → AddsChild c e at at2 → AddsBelow (nodes h.0) (front ++ x ∷ []) (nodes e) (nodes h.1)
-    adding at at2 w named there made e c is (inl m) =
-        below_array h.0 h.1 at at2 e front x w m.ds m.i named there made m.old (ap nodes m.new ∙ element_map m.ds m.ds2 m.i e m.inserts) (omega (arith, len_same m.ds, m.inserts.within), inl (is.index_is m.i m.selects))
-    adding at at2 w named there made e c is (inr m) =
-        below_object h.0 h.1 at at2 e front x w m.ms named there made m.old
-        (ap nodes m.new ∙ subst (λ (k : Text). nodes (json.object m.ms2) ≡ put (nodes (json.object m.ms)) (key k ∷ []) (nodes e)) is.key_is (member_map m.ms m.ms2 c.0 e m.inserts))
+    let m = a.4 in
+    (h.0, h.1, a.0, h.2, h.3, a.2, inr (below_array h.0 h.1 r.at r.at2 a.0 front x r.path m.ds m.i r.named r.there r.made m.old (ap nodes m.new ∙ element_map m.ds m.ds2 m.i a.0 m.inserts) (omega (arith, len_same m.ds, m.inserts.within), inl (a.3.index_is m.i m.selects))))
 
 pub adds_value : (old new : Text) (tokens : List Text) (flat : Text) (v : Data) → read flat ≡ Some v → AddsInText old tokens flat new → AddsValueInText old tokens (nodes v) new
 adds_value old new tokens flat v is h = (h.0, h.1, h.3, h.4, subst (λ (e : Data). Adds (nodes h.0) tokens (nodes e) (nodes h.1)) (same_data h.2 v (sym h.5 ∙ is)) h.6)
@@ -196,33 +186,6 @@ adds_in_place_of old new front x was flat h = at h.4.changes
       inr (below_object h.0 h.1 h.4.at h.4.at2 m.at2 front x h.4.path m.ms h.4.named h.4.there h.4.made m.old
           (ap nodes m.new ∙ put_level (content (json.object m.ms)) (content (json.object m.ms2)) (content m.at) (content m.at2) (key x) [] (nodes m.at2) (in_object m.ms m.ms2 x m.at m.at2 m.differs) refl)),
     )
-
-pub replaces_member_bytes : (old new : Text) (front : List Text) (x was piece flat : Text) → Splices old new was piece → ReachedInText old new front (ChangesChild (x, None) (Trades was flat)) → IsTrimmed was → ReplacesBytes old new (front ++ x ∷ [])
-replaces_member_bytes old new front x was piece flat splices h trimmed = at h.4.changes
-  where
-    at : ChangesChild (x, None) (Trades was flat) h.4.at h.4.at2 → ReplacesBytes old new (front ++ x ∷ [])
-    at (inl m) = absurd (cc)
-    at (inr m) =
-        let object_there : content_at h.4.path (content h.0) ≡ Some (content (json.object m.ms)) = h.4.there ∙ ap (λ (y : Data). Some (content y)) m.old in
-        let label : nodes h.0 h.4.path ≡ Some an_object = label_there h.0 (json.object m.ms) h.4.path object_there in
-        let child : content_at (h.4.path ++ key x ∷ []) (content h.0) ≡ Some (content m.at) = content_at-push h.4.path (key x) (content h.0) (content (json.object m.ms)) object_there ∙ (in_object m.ms m.ms2 x m.at m.at2 m.differs).was in
-        record {
-          was = was;
-          piece = piece;
-          value = m.at;
-          splices = splices;
-          found = (
-            h.0,
-            h.2,
-            record {
-              path = h.4.path ++ key x ∷ [];
-              named = Names-push (nodes h.0) front x h.4.path (key x) h.4.named (subst (λ (l : Option Label). NamesStep l x (key x)) (sym label) refl) (subst (λ (o : Option Content). IsSome (option_map label_of o)) (sym child) refl);
-              there = child;
-            },
-          );
-          reads = m.changes.0;
-          trimmed = trimmed;
-        }
 
 -- ---- a value moved or copied
 

@@ -94,11 +94,13 @@ deeper R x xs s d d2 c c2 named change h = record {
   named = (named, subst (λ (n : NodeMap). Names n xs h.path) (below (content d) (content c) s change.was) h.named);
   there = ap (option_and_then (content_at h.path)) change.was ∙ h.there;
   made = put_level (content d) (content d2) (content c) (content c2) s h.path (nodes h.at2) change h.made;
+  named2 = (subst (λ (l : Label). NamesStep (Some l) x s) (sym change.same_label) named, subst (λ (n : NodeMap). Names n xs h.path) (below (content d2) (content c2) s change.is) h.named2);
+  there2 = ap (option_and_then (content_at h.path)) change.is ∙ h.there2;
   changes = h.changes;
 }
 
 pub reached : (tokens : List Text) (cs : List Choice) (R : Data → Data → Type 0) (d d2 : Data) → AreChoicesOf tokens cs → ChangesAt cs R d d2 → Reached R d d2 tokens
-reached [] [] R d d2 are h = record { path = []; at = d; at2 = d2; named = refl; there = refl; made = refl; changes = h }
+reached [] [] R d d2 are h = record { path = []; at = d; at2 = d2; named = refl; there = refl; made = refl; named2 = refl; there2 = refl; changes = h }
 reached [] (c ∷ cs) R d d2 are h = absurd are
 reached (x ∷ xs) [] R d d2 are h = absurd are
 reached (x ∷ xs) (c ∷ cs) R d d2 are (inl h) =
@@ -117,4 +119,4 @@ reached_in_text old new tokens cs R are h = (h.0, h.1, h.2, h.3, reached tokens 
 pub reached_so : (old new : Text) (tokens : List Text) (R S : Data → Data → Type 0) → ((d d2 : Data) → R d d2 → S d d2) → ReachedInText old new tokens R → ReachedInText old new tokens S
 reached_so old new tokens R S f h =
     let r = h.4 in
-    (h.0, h.1, h.2, h.3, record { path = r.path; at = r.at; at2 = r.at2; named = r.named; there = r.there; made = r.made; changes = f r.at r.at2 r.changes })
+    (h.0, h.1, h.2, h.3, record { path = r.path; at = r.at; at2 = r.at2; named = r.named; there = r.there; made = r.made; named2 = r.named2; there2 = r.there2; changes = f r.at r.at2 r.changes })

@@ -20,10 +20,10 @@ use Rattle.jsonptr_skim.specs.Search as skim
 use Rattle.jsonptr_skim.specs.Search.{Choice}
 use Rattle.jsonptr_in_text.specs.Selecting.{IsChoiceOf}
 use Rattle.jsonptr_in_text.proofs.SearchLemmas.{len_same, member_content}
-use Rattle.jsonptr_splice.specs.Editing.{InsertsItem, InsertsMember, AddsChild}
+use Rattle.jsonptr_splice.specs.Editing.{InsertsItem, InsertsMember, AddsMember, AddsElement}
 use Rattle.jsonptr_edit_in_text.specs.EditInText.{AssignsInText, DeletesInText}
 use Rattle.jsonptr_edit_in_text.specs.PrivateReaching.{ReachedInText}
-use Rattle.jsonptr_edit_in_text.proofs.ReachingLemmas.{item_content, other_key}
+use Rattle.jsonptr_edit_in_text.proofs.ReachingLemmas.{item_content, other_key, reached_so}
 use Rattle.jsonptr_edit_in_text.proofs.EditLemmas.{map_there}
 
 -- ---- a member
@@ -85,8 +85,8 @@ record Loses (x : Text) (d d2 : Data) : Type 0 where
 some_there : (o : Option Content) (c : Content) → o ≡ Some c → IsSome (option_map label_of (option_and_then (content_at []) o))
 some_there o c h = subst (λ (x : Option Content). IsSome (option_map label_of (option_and_then (content_at []) x))) (sym h) refl
 
-loses : (x : Text) (c : Choice) (e d d2 : Data) → IsChoiceOf x c → AddsChild c e d d2 → Loses x d d2
-loses x c e d d2 is (inl h) = subst (λ (y : Data). Loses x d y) (sym h.new) (subst (λ (y : Data). Loses x y (json.array h.ds2)) (sym h.old) (record {
+loses_element : (x : Text) (c : Choice) (e d d2 : Data) → IsChoiceOf x c → AddsElement c e d d2 → Loses x d d2
+loses_element x c e d d2 is h = subst (λ (y : Data). Loses x d y) (sym h.new) (subst (λ (y : Data). Loses x y (json.array h.ds2)) (sym h.old) (record {
   step = place h.i;
   named = (within, is.index_is h.i h.selects);
   there = some_there (tree.child (place h.i) (content (json.array h.ds2))) (content e) (item_content h.ds2 h.i ∙ ap (option_map content) h.inserts.is);
@@ -95,7 +95,9 @@ loses x c e d d2 is (inl h) = subst (λ (y : Data). Loses x d y) (sym h.new) (su
   where
     within : h.i < items_len (items h.ds2)
     within = omega (arith, len_same h.ds2, h.inserts.one_more, h.inserts.within)
-loses x c e d d2 is (inr h) = subst (λ (y : Data). Loses x d y) (sym h.new) (subst (λ (y : Data). Loses x y (json.object h.ms2)) (sym h.old) (record {
+
+loses_member : (x : Text) (c : Choice) (e d d2 : Data) → IsChoiceOf x c → AddsMember c e d d2 → Loses x d d2
+loses_member x c e d d2 is h = subst (λ (y : Data). Loses x d y) (sym h.new) (subst (λ (y : Data). Loses x y (json.object h.ms2)) (sym h.old) (record {
   step = key c.0;
   named = is.key_is;
   there = some_there (tree.child (key c.0) (content (json.object h.ms2))) (content e) (member_content c.0 h.ms2 ∙ ap (option_map content) h.inserts.is);
@@ -103,12 +105,12 @@ loses x c e d d2 is (inr h) = subst (λ (y : Data). Loses x d y) (sym h.new) (su
 }))
 
 -- the old text is the new one with one child more, which the last token refers to
-pub deletes : (old new value : Text) (tokens front : List Text) (x : Text) (c : Choice) → tokens ≡ front ++ x ∷ [] → IsChoiceOf x c → ReachedInText new old front (λ at at2. (e : Data) × (read value ≡ Some e) × AddsChild c e at at2) → DeletesInText old tokens new
-deletes old new value tokens front x c split is h =
+deletes : (old new : Text) (tokens front : List Text) (x : Text) → tokens ≡ front ++ x ∷ [] → ReachedInText new old front (Loses x) → DeletesInText old tokens new
+deletes old new tokens front x split h =
     let d2 = h.0 in
     let d = h.1 in
     let r = h.4 in
-    let l = loses x c r.changes.0 r.at r.at2 is r.changes.2 in
+    let l = r.changes in
     let root : IsSome (nodes r.at2 []) = refl in
     let named : Names (nodes d) front r.path = subst (λ (n : NodeMap). Names n front r.path) (sym r.made) (Names-put (nodes d2) front r.path (nodes r.at2) r.named root) in
     let there : sub (nodes d) r.path ≡ nodes r.at2 = ap (λ (n : NodeMap). sub n r.path) r.made ∙ sub-put (nodes d2) r.path (nodes r.at2) in
@@ -130,6 +132,14 @@ deletes old new value tokens front x c split is h =
       (r.path ++ l.step ∷ [], all),
       subst (λ (m : NodeMap). Deletes (nodes d) tokens (nodes json.null) m) less (Deletes_child (nodes d) (nodes json.null) tokens r.path l.step all),
     )
+
+pub deletes_member : (old new value : Text) (front : List Text) (x : Text) (c : Choice) → IsChoiceOf x c → ReachedInText new old front (λ at at2. (e : Data) × (read value ≡ Some e) × AddsMember c e at at2) → DeletesInText old (front ++ x ∷ []) new
+deletes_member old new value front x c is h = deletes old new (front ++ x ∷ []) front x refl
+    (reached_so new old front (λ at at2. (e : Data) × (read value ≡ Some e) × AddsMember c e at at2) (Loses x) (λ d d2 m. loses_member x c m.0 d d2 is m.2) h)
+
+pub deletes_element : (old new value : Text) (front : List Text) (x : Text) (c : Choice) → IsChoiceOf x c → ReachedInText new old front (λ at at2. (e : Data) × (read value ≡ Some e) × AddsElement c e at at2) → DeletesInText old (front ++ x ∷ []) new
+deletes_element old new value front x c is h = deletes old new (front ++ x ∷ []) front x refl
+    (reached_so new old front (λ at at2. (e : Data) × (read value ≡ Some e) × AddsElement c e at at2) (Loses x) (λ d d2 m. loses_element x c m.0 d d2 is m.2) h)
 
 -- the whole document was replaced by null
 pub deletes_root : (old new : Text) (tokens : List Text) (blank : NodeMap) → tokens ≡ [] → blank ≡ nodes json.null → AssignsInText old tokens blank new → DeletesInText old tokens new

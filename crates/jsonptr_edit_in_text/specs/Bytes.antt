@@ -1,66 +1,123 @@
 -- Which bytes of a text an edit changes.
-use Rattle.std.specs.Prelude.{◌≡◌, ◌⊎◌, List, [], ◌∷◌, ◌++◌, Option, Some, None, ⊤, string_bytes}
-use Rattle.serde_json.specs.Data.{Data}
-use Rattle.serde_json.specs.Read.{read}
-use Rattle.jsonptr_grammar.specs.Text.{Text}
+use Rattle.std.specs.Prelude.{◌≡◌, ◌⊎◌, ℕ, List, [], ◌∷◌, ◌++◌, Option, Some, None, ⊤, string_bytes}
+use Rattle.serde_json.specs.Data.{Data, null, array, object, Items, Members}
+use Rattle.serde_json.specs.Find.{get_member, get_item}
+use Rattle.jsonptr_grammar.specs.Text.{Text, dec}
+use Rattle.jsonptr_tree.specs.Node.{Scalar, a_leaf}
+use Rattle.jsonptr_tree.specs.Content.{label_of}
+use Rattle.jsonptr_tree.specs.Growing.{grown}
+use Rattle.jsonptr_tree.specs.Json.{content, nodes}
+use Rattle.jsonptr_skim.specs.Search.{items_len}
 use Rattle.jsonptr_in_text.specs.InText.{FindsInText}
-use Rattle.jsonptr_splice.specs.Spacing.{IsBlank, IsTrimmed, Splices}
-use Rattle.jsonptr_splice.specs.Child.{IsOneChild}
+use Rattle.jsonptr_patch.specs.Adding.{MeansPlace}
+use Rattle.jsonptr_splice.specs.Spacing.{IsBlank, Splices}
+use Rattle.jsonptr_splice.specs.Child.{IsValueText, IsOneChild}
 use Rattle.jsonptr_edit_in_text.specs.declared.edited.Edited.{Edited}
 use Rattle.jsonptr_edit_in_text.specs.declared.edited.Edited.TheVariants.{InPlace, Rewritten}
 
--- `ReplacesBytes old new tokens`: `new` is the text `old` with exactly the bytes of the value that `tokens` identify
--- replaced
-pub record ReplacesBytes (old new : Text) (tokens : List Text) : Type 0 where
+-- `IsScalar d`: d is neither an array nor an object
+abbrev pub IsScalar : Data → Type 0
+IsScalar d = (a : Scalar) × (label_of (content d) ≡ a_leaf a)
+
+-- `ReplacesBytes old new tokens e`: `new` is the text `old` with exactly the text of the value that all of `tokens`
+-- identify replaced by exactly a text of the value e. Neither has white space around it
+pub record ReplacesBytes (old new : Text) (tokens : List Text) (e : Data) : Type 0 where
   pub was : Text
   pub piece : Text
   pub value : Data
   pub splices : Splices old new was piece
   pub found : FindsInText old tokens value
-  pub reads : read was ≡ Some value
-  pub trimmed : IsTrimmed was
+  pub whole : IsValueText value was
+  pub made : IsValueText e piece
 
--- `IsKeyOf x k`: k is the key x of a member, or no key, for an element
-abbrev pub IsKeyOf : Text → Option Text → Type 0
-IsKeyOf x k = (k ≡ None) ⊎ (k ≡ Some x)
+-- `ExpandsBytes old new front more v`: `tokens` lead no further than `front`, to a scalar, and exactly its text is replaced
+-- by a text of v expanded by `more`
+pub record ExpandsBytes (old new : Text) (front more : List Text) (v : Data) : Type 0 where
+  pub grows : Data
+  pub grown_is : nodes grows ≡ grown more (nodes v)
+  pub replaces : ReplacesBytes old new front grows
+  pub scalar : IsScalar replaces.value
 
--- `AddsBytes old new x`: `new` is the text `old` with the text of one child more, a member with the key x or an element.
--- Except for white space, no byte of `old` is replaced
-pub record AddsBytes (old new x : Text) : Type 0 where
+-- `AddsPiece old new key e`: `new` is the text `old` with the text of one child more, a member with the key or an element if
+-- there is none, with the value e, at most one comma, and white space. Except for white space, no byte of `old` is replaced
+pub record AddsPiece (old new : Text) (key : Option Text) (e : Data) : Type 0 where
   pub was : Text
   pub piece : Text
-  pub key : Option Text
   pub splices : Splices old new was piece
   pub blank : IsBlank was
-  pub child : IsOneChild key piece
-  pub keyed : IsKeyOf x key
+  pub child : IsOneChild key e piece
 
--- `CutsBytes old new x`: `new` is the text `old` without the text of one child, a member with the key x or an element
-pub record CutsBytes (old new x : Text) : Type 0 where
+-- `LacksMember old front x`: `front` leads to an object that has no member with the key x
+abbrev pub LacksMember : Text → List Text → Text → Type 0
+LacksMember old front x = (ms : Members) × FindsInText old front (object ms) × (get_member x ms ≡ None)
+
+-- `HasPlace old front x`: `front` leads to an array, and x refers to an index of it, or to the one after its last element
+abbrev pub HasPlace : Text → List Text → Text → Type 0
+HasPlace old front x = (ds : Items) × FindsInText old front (array ds) × ((i : ℕ) × MeansPlace (items_len ds) x i)
+
+-- `AddsBytes old new front x e`: the text of one child is added to the value that `front` leads to: of a member with the key
+-- x, which was missing, or of an element
+abbrev pub AddsBytes : Text → Text → List Text → Text → Data → Type 0
+AddsBytes old new front x e =
+    (LacksMember old front x × AddsPiece old new (Some x) e) ⊎ (HasPlace old front x × AddsPiece old new None e)
+
+-- `GrowsBytes old new front x rest v`: the same with v expanded by the tokens after x
+abbrev pub GrowsBytes : Text → Text → List Text → Text → List Text → Data → Type 0
+GrowsBytes old new front x rest v = (e : Data) × (nodes e ≡ grown rest (nodes v)) × AddsBytes old new front x e
+
+-- `CutsBytes old new key v`: `new` is the text `old` without the text of one child, a member with the key or an element if
+-- there is none, with the value v, at most one comma, and white space
+pub record CutsBytes (old new : Text) (key : Option Text) (v : Data) : Type 0 where
   pub was : Text
-  pub key : Option Text
   pub splices : Splices old new was []
-  pub child : IsOneChild key was
-  pub keyed : IsKeyOf x key
+  pub child : IsOneChild key v was
 
--- `CutsInTurn x old mids new`: `new` comes from `old` by cutting out a child for each of the texts `mids`, which are the
--- texts before each cut, the last one first
+-- `CutsInTurn x old mids new`: `new` comes from `old` by cutting out a member with the key x for each of the texts `mids`,
+-- which are the texts before each cut, the last one first
 abbrev pub CutsInTurn : Text → Text → List Text → Text → Type 0
 CutsInTurn x old [] new = new ≡ old
-CutsInTurn x old (mid ∷ mids) new = CutsInTurn x old mids mid × CutsBytes mid new x
+CutsInTurn x old (mid ∷ mids) new = CutsInTurn x old mids mid × ((v : Data) × CutsBytes mid new (Some x) v)
 
--- `AssignsBytes old tokens new`: the bytes of one value on the way of `tokens` are replaced, or one child is added
-abbrev pub AssignsBytes : Text → List Text → Text → Type 0
-AssignsBytes old tokens new =
-    ((front rest : List Text) × (tokens ≡ front ++ rest) × ReplacesBytes old new front)
-    ⊎ ((front rest : List Text) × (x : Text) × (tokens ≡ front ++ x ∷ rest) × AddsBytes old new x)
+-- `CutsMembers old new front x`: `front` leads to an object, and its member with the key x is cut out, and then each one
+-- before it with the same key
+pub record CutsMembers (old new : Text) (front : List Text) (x : Text) : Type 0 where
+  pub ms : Members
+  pub v : Data
+  pub first : Text
+  pub mids : List Text
+  pub found : FindsInText old front (object ms)
+  pub was : get_member x ms ≡ Some v
+  pub cuts : CutsBytes old first (Some x) v
+  pub again : CutsInTurn x first mids new
 
--- `DeletesBytes old tokens new`: the bytes of the root are replaced, or the text of each child that the last token selects
--- is cut out: of several members with the same key, all
+-- `CutsElement old new front x`: `front` leads to an array, and its element at the index x is cut out
+pub record CutsElement (old new : Text) (front : List Text) (x : Text) : Type 0 where
+  pub ds : Items
+  pub i : ℕ
+  pub v : Data
+  pub found : FindsInText old front (array ds)
+  pub refers : x ≡ dec i
+  pub was : get_item i ds ≡ Some v
+  pub cuts : CutsBytes old new None v
+
+-- `CutsChild old new front x`: one of the two
+abbrev pub CutsChild : Text → Text → List Text → Text → Type 0
+CutsChild old new front x = CutsMembers old new front x ⊎ CutsElement old new front x
+
+-- `AssignsBytes old tokens v new`: the text of one value, to which all tokens lead, is replaced by a text of v; or `tokens`
+-- stop at a scalar, which is replaced by v expanded; or they stop at an object or an array, to which one child is added
+abbrev pub AssignsBytes : Text → List Text → Data → Text → Type 0
+AssignsBytes old tokens v new =
+    ReplacesBytes old new tokens v
+    ⊎ ((front : List Text) × (x : Text) × (rest : List Text) × (tokens ≡ front ++ x ∷ rest)
+    × (ExpandsBytes old new front (x ∷ rest) v ⊎ GrowsBytes old new front x rest v))
+
+-- `DeletesBytes old tokens new`: the text of the root is replaced by one of null, or the text of each child that the last
+-- token selects is cut out: of several members with the same key, all
 abbrev pub DeletesBytes : Text → List Text → Text → Type 0
 DeletesBytes old tokens new =
-    ((tokens ≡ []) × ReplacesBytes old new [])
-    ⊎ ((front : List Text) × (x : Text) × (tokens ≡ front ++ x ∷ []) × (mids : List Text) × CutsInTurn x old mids new)
+    ((tokens ≡ []) × ReplacesBytes old new [] null)
+    ⊎ ((front : List Text) × (x : Text) × (tokens ≡ front ++ x ∷ []) × CutsChild old new front x)
 
 -- `KeepsBytes P e`: if e was edited in place, its text meets P
 abbrev pub KeepsBytes : (Text → Type 0) → Edited → Type 0

@@ -1,12 +1,13 @@
 -- Edits of a document in its text.
-use Rattle.std.specs.Prelude.{◌≡◌, ◌<◌, List, Option, Some, None, ⊤, string_bytes}
-use Rattle.serde_json.specs.Data.{Data, null, depth}
+use Rattle.std.specs.Prelude.{◌≡◌, List, Option, Some, None, ⊤, string_bytes}
+use Rattle.serde_json.specs.Data.{Data, null}
 use Rattle.serde_json.specs.Read.{read, max_depth}
 use Rattle.jsonptr_grammar.specs.Text.{Text}
 use Rattle.jsonptr_tree.specs.Node.{Path, NodeMap, Names}
-use Rattle.jsonptr_tree.specs.Json.{nodes}
+use Rattle.jsonptr_tree.specs.Json.{nodes, HasSortedKeys}
 use Rattle.jsonptr_tree.specs.Assigning.{Assigns}
 use Rattle.jsonptr_tree.specs.Removing.{Deletes}
+use Rattle.jsonptr_value.specs.Nesting.{NestsWithin}
 use Rattle.jsonptr.specs.Assign.{RefusesAssign}
 use Rattle.jsonptr.specs.declared.assign.Error.{Error as AssignError}
 use Rattle.jsonptr_edit_in_text.specs.declared.edited.Edited.{Edited}
@@ -26,13 +27,18 @@ AssignsInText old tokens v new =
     (d d2 : Data) × (read old ≡ Some d) × (read new ≡ Some d2)
     × (replaced : Option NodeMap) × Assigns (nodes d) tokens v (nodes d2) replaced
 
--- `IsAssignError old tokens v e`: e is why assigning v at the tokens in the text `old` fails, if it is not for memory
-abbrev pub IsAssignError : Text → List Text → NodeMap → EditError AssignError → Type 0
+-- `IsTooDeep m`: the arrays and objects of the map m nest deeper than those of a text that is read
+abbrev pub IsTooDeep : NodeMap → Type 0
+IsTooDeep m = NestsWithin max_depth m → ⊥
+
+-- `IsAssignError old tokens v e`: e is why assigning v at the tokens in the text `old` fails, if it is not for memory. Of
+-- a value v whose keys are sorted, as those of each value that is read, `TooDeep` says that the new document is too deep
+abbrev pub IsAssignError : Text → List Text → Data → EditError AssignError → Type 0
 IsAssignError old tokens v NotJson = read old ≡ None
 IsAssignError old tokens v (Refused e) = (d : Data) × (read old ≡ Some d) × RefusesAssign (nodes d) tokens e
 IsAssignError old tokens v TooDeep =
-    (d d2 : Data) × (read old ≡ Some d) × (max_depth < depth d2)
-    × (replaced : Option NodeMap) × Assigns (nodes d) tokens v (nodes d2) replaced
+    (d : Data) × (m : NodeMap) × (replaced : Option NodeMap)
+    × (read old ≡ Some d) × Assigns (nodes d) tokens (nodes v) m replaced × (HasSortedKeys v → IsTooDeep m)
 IsAssignError old tokens v (Memory e) = ⊤
 
 -- `DeletesInText old tokens new`: the texts read as documents, the tokens name a path of the first one, and deleting there

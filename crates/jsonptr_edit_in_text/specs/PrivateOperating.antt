@@ -9,10 +9,11 @@ use Rattle.jsonptr_walk.specs.Follow.{PutsAt}
 use Rattle.jsonptr_skim.specs.Search.{Choice}
 use Rattle.jsonptr_in_text.specs.InText.{FindsInText}
 use Rattle.jsonptr_in_text.specs.Selecting.{IsChoiceOf, AreChoicesOf}
-use Rattle.jsonptr_splice.specs.Editing.{AddsChild}
+use Rattle.jsonptr_splice.specs.Editing.{AddsElement}
 use Rattle.jsonptr_patch.specs.Adding.{Adds}
 use Rattle.jsonptr_patch.specs.Operating.{Applies, Moves, Copies, Passes}
 use Rattle.jsonptr_patch.specs.declared.operation.Operation.{Operation}
+use Rattle.jsonptr_edit_in_text.specs.PatchInText.{AddsAtBytes}
 
 -- `OperatesInText old o new`: the texts read as documents, and the operation o turns the first into the second
 abbrev pub OperatesInText : Text → Operation → Text → Type 0
@@ -52,10 +53,14 @@ CopiesInText old from path new =
 abbrev pub PassesInText : Text → List Text → NodeMap → Type 0
 PassesInText text tokens v = (d : Data) × (read text ≡ Some d) × Passes (nodes d) tokens v
 
--- `ChildAdded x piece d d2`: d2 is d with the value of the text `piece` as a child more, which the token x refers to
-abbrev pub ChildAdded : Text → Text → Data → Data → Type 0
-ChildAdded x piece d d2 =
-    (e : Data) × (c : Choice) × (read piece ≡ Some e) × IsChoiceOf x c × AddsChild c e d d2
+-- `ElementInserted x piece d d2`: d2 is the array d with the value of the text `piece` as an element more, at the index x
+abbrev pub ElementInserted : Text → Text → Data → Data → Type 0
+ElementInserted x piece d d2 =
+    (e : Data) × (c : Choice) × (read piece ≡ Some e) × IsChoiceOf x c × AddsElement c e d d2
+
+-- `AddsAtByText old tokens flat new`: which bytes change where the value of the text `flat` is added
+abbrev pub AddsAtByText : Text → List Text → Text → Text → Type 0
+AddsAtByText old tokens flat new = (e : Data) × (read flat ≡ Some e) × AddsAtBytes old tokens e new
 
 -- `AreMemberChoices tokens x cs`: cs are the selectors of `tokens`, and one of the member with the key x
 abbrev pub AreMemberChoices : List Text → Text → List Choice → Type 0

@@ -1,16 +1,17 @@
 -- Words of private clauses: two values that differ at the location of some tokens.
-use Rattle.std.specs.Prelude.{◌≡◌, ◌⊎◌, List, Some, None, codes, string_bytes}
+use Rattle.std.specs.Prelude.{◌≡◌, ◌⊎◌, List, Option, Some, None, codes, string_bytes}
 use Rattle.serde_json.specs.Data.{Data, array, Items}
 use Rattle.serde_json.specs.Read.{read}
 use Rattle.jsonptr_skim.specs.Search.{items_len}
 use Rattle.jsonptr_splice.specs.Editing.{AddsMember, InsertsItem}
 use Rattle.jsonptr_grammar.specs.Text.{Text, dec}
-use Rattle.jsonptr_tree.specs.Node.{Path, NodeMap, Names, Scalar, a_leaf}
-use Rattle.jsonptr_tree.specs.Content.{content_at, label_of}
+use Rattle.jsonptr_tree.specs.Node.{Path, NodeMap, Names}
+use Rattle.jsonptr_tree.specs.Content.{content_at}
 use Rattle.jsonptr_tree.specs.Json.{content, nodes}
 use Rattle.jsonptr_tree.specs.Put.{put}
 use Rattle.jsonptr_tree.specs.Growing.{grown}
 use Rattle.jsonptr_splice.specs.declared.layout.ValueText.{ValueText}
+use Rattle.jsonptr_edit_in_text.specs.Bytes.{IsScalar, ReplacesBytes, AddsPiece, AddsBytes}
 
 -- `Reached R d d2 tokens`: the tokens name a path of d, and d2 is d with another value there, which R relates to the old
 -- one
@@ -21,15 +22,13 @@ pub record Reached (R : Data → Data → Type 0) (d d2 : Data) (tokens : List T
   pub named : Names (nodes d) tokens path
   pub there : content_at path (content d) ≡ Some (content at)
   pub made : nodes d2 ≡ put (nodes d) path (nodes at2)
+  pub named2 : Names (nodes d2) tokens path
+  pub there2 : content_at path (content d2) ≡ Some (content at2)
   pub changes : R at at2
 
 -- `ReachedInText old new tokens R`: the same of the documents that two texts read as
 abbrev pub ReachedInText : Text → Text → List Text → (Data → Data → Type 0) → Type 0
 ReachedInText old new tokens R = (d d2 : Data) × (read old ≡ Some d) × (read new ≡ Some d2) × Reached R d d2 tokens
-
--- `IsScalar d`: d is neither an array nor an object
-abbrev pub IsScalar : Data → Type 0
-IsScalar d = (a : Scalar) × (label_of (content d) ≡ a_leaf a)
 
 -- `ReplacesScalar e d d2`: d is a scalar, and d2 is e
 abbrev pub ReplacesScalar : Data → Data → Data → Type 0
@@ -75,3 +74,22 @@ pub record ElementAppended (x piece : Text) (d d2 : Data) : Type 0 where
 -- `IsExpanded tokens v t`: the text t is that of v, expanded by `tokens`
 abbrev pub IsExpanded : List Text → NodeMap → ValueText → Type 0
 IsExpanded tokens v t = (e : Data) × (read (string_bytes t.flat) ≡ Some e) × (nodes e ≡ grown tokens v)
+
+-- ---- which bytes change, by the text of the value that an edit brings
+
+-- `ReplacesByText old new tokens flat`: the value that `tokens` identify is replaced by that of the text `flat`
+abbrev pub ReplacesByText : Text → Text → List Text → Text → Type 0
+ReplacesByText old new tokens flat = (e : Data) × (read flat ≡ Some e) × ReplacesBytes old new tokens e
+
+-- `ReplacesScalarByText old new tokens flat`: the same of a scalar
+abbrev pub ReplacesScalarByText : Text → Text → List Text → Text → Type 0
+ReplacesScalarByText old new tokens flat =
+    (e : Data) × (read flat ≡ Some e) × ((h : ReplacesBytes old new tokens e) × IsScalar h.value)
+
+-- `AddsPieceByText old new key flat`: one child is added, with the value of the text `flat`
+abbrev pub AddsPieceByText : Text → Text → Option Text → Text → Type 0
+AddsPieceByText old new key flat = (e : Data) × (read flat ≡ Some e) × AddsPiece old new key e
+
+-- `AddsByText old new front x flat`: the same of a child that x refers to
+abbrev pub AddsByText : Text → Text → List Text → Text → Text → Type 0
+AddsByText old new front x flat = (e : Data) × (read flat ≡ Some e) × AddsBytes old new front x e

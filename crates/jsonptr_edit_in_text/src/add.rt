@@ -2,10 +2,8 @@
 ghost use Rattle.std.specs.Prelude.{[], ◌∷◌, ◌++◌, IfOk, IfSome, string_bytes};
 ghost use Rattle.jsonptr.specs.Pointer.{tokens};
 ghost use Rattle.jsonptr_skim.specs.Search.{choices};
-ghost use Rattle.jsonptr_edit_in_text.specs.Bytes.{AddsBytes, ReplacesBytes};
-ghost use Rattle.jsonptr_edit_in_text.specs.PatchInText.{AddsAtBytes};
-ghost use Rattle.jsonptr_edit_in_text.specs.PrivateOperating.{AddsInText, AreMemberChoices, ChildAdded};
-ghost use Rattle.jsonptr_edit_in_text.specs.PrivateReaching.{ReachedInText};
+ghost use Rattle.jsonptr_edit_in_text.specs.PrivateOperating.{AddsInText, AddsAtByText, AreMemberChoices, ElementInserted};
+ghost use Rattle.jsonptr_edit_in_text.specs.PrivateReaching.{ReachedInText, ReplacesByText, AddsByText};
 
 use crate::edit::edit_by;
 use crate::insert::{add_member, append, put_element};
@@ -16,6 +14,7 @@ use jsonptr::{Pointer, Token};
 use jsonptr_in_text::selectors::{selector_of, selectors_of};
 use jsonptr_skim::selector::Selector;
 use jsonptr_splice::buffers::Buffers;
+use jsonptr_splice::child::is_value_of;
 use jsonptr_splice::cut::cut_at;
 use jsonptr_splice::edit::{Child, Edit};
 use jsonptr_splice::layout::{ValueText, addition, replacement, slice};
@@ -37,8 +36,8 @@ pub fn add_at(
 ) -> Result<Option<String>, AllocError>
     ensures added { IfOk result (λ new. IfSome new (λ s. AddsInText text.now
         (tokens pointer.entry) (string_bytes value.now.flat) (string_bytes s))) }
-    ensures bytes { IfOk result (λ new. IfSome new (λ s.
-        AddsAtBytes text.now (tokens pointer.entry) (string_bytes s))) }
+    ensures bytes { IfOk result (λ new. IfSome new (λ s. AddsAtByText text.now
+        (tokens pointer.entry) (string_bytes value.now.flat) (string_bytes s))) }
 {
     match pointer.split_back() {
         None => add_root(alloc, buffers, text, value),
@@ -56,7 +55,7 @@ fn add_root(
     ensures added { IfOk result (λ new. IfSome new (λ s. AddsInText text.now []
         (string_bytes value.now.flat) (string_bytes s))) }
     ensures bytes { IfOk result (λ new. IfSome new (λ s.
-        ReplacesBytes text.now (string_bytes s) [])) }
+        ReplacesByText text.now (string_bytes s) [] (string_bytes value.now.flat))) }
 {
     let Some(place) = place_of(alloc, buffers, text, &[])? else {
         return Ok(None);
@@ -76,8 +75,9 @@ fn add_child(
     ensures added { IfOk result (λ new. IfSome new (λ s. AddsInText text.now
         (tokens pointer.entry ++ token.now ∷ []) (string_bytes value.now.flat)
         (string_bytes s))) }
-    ensures bytes { IfOk result (λ new. IfSome new (λ s.
-        AddsAtBytes text.now (tokens pointer.entry ++ token.now ∷ []) (string_bytes s))) }
+    ensures bytes { IfOk result (λ new. IfSome new (λ s. AddsAtByText text.now
+        (tokens pointer.entry ++ token.now ∷ []) (string_bytes value.now.flat)
+        (string_bytes s))) }
 {
     let selectors = member_selectors(alloc, pointer, token)?;
     let Some(place) = place_of(alloc, buffers, text, &selectors)? else {
@@ -124,8 +124,9 @@ fn replace_member(
     ensures added { IfOk result (λ new. IfSome new (λ s. AddsInText text.now
         (tokens pointer.entry ++ token.now ∷ []) (string_bytes value.now.flat)
         (string_bytes s))) }
-    ensures bytes { IfOk result (λ new. IfSome new (λ s. ReplacesBytes text.now
-        (string_bytes s) (tokens pointer.entry ++ token.now ∷ []))) }
+    ensures bytes { IfOk result (λ new. IfSome new (λ s. ReplacesByText text.now
+        (string_bytes s) (tokens pointer.entry ++ token.now ∷ [])
+        (string_bytes value.now.flat))) }
 {
     let Some(cut) = cut_at(text, place.value.from, place.value.to) else {
         return Ok(None);
@@ -137,14 +138,18 @@ fn replace_member(
         old: String::from_str(alloc, cut.was)?,
         new: value.flat.clone()?,
     };
-    let piece = replacement(alloc, text, place, value)?;
+    let made = replacement(alloc, text, place, value)?;
+    let piece = made.as_str();
+    if !is_value_of(buffers, piece, value.flat.as_str())? {
+        return Ok(None);
+    }
     edit_by(
         alloc,
         buffers,
         &cut,
         selectors,
         &place.positions,
-        piece.as_str(),
+        piece,
         &edit,
     )
 }
@@ -162,8 +167,8 @@ fn add_new(
     ensures added { IfOk result (λ new. IfSome new (λ s. AddsInText text.now
         (tokens pointer.entry ++ token.now ∷ []) (string_bytes value.now.flat)
         (string_bytes s))) }
-    ensures bytes { IfOk result (λ new. IfSome new (λ s.
-        AddsBytes text.now (string_bytes s) token.now)) }
+    ensures bytes { IfOk result (λ new. IfSome new (λ s. AddsByText text.now (string_bytes s)
+        (tokens pointer.entry) token.now (string_bytes value.now.flat))) }
 {
     let there = slice(text, place.value.from, place.value.to);
     if there.starts_with('{') {
@@ -189,9 +194,9 @@ fn insert(
     value: &ValueText,
 ) -> Result<Option<String>, AllocError>
     ensures reached { IfOk result (λ new. IfSome new (λ s. ReachedInText text.now (string_bytes s)
-        (tokens pointer.entry) (ChildAdded token.now (string_bytes value.now.flat)))) }
-    ensures bytes { IfOk result (λ new. IfSome new (λ s.
-        AddsBytes text.now (string_bytes s) token.now)) }
+        (tokens pointer.entry) (ElementInserted token.now (string_bytes value.now.flat)))) }
+    ensures bytes { IfOk result (λ new. IfSome new (λ s. AddsByText text.now (string_bytes s)
+        (tokens pointer.entry) token.now (string_bytes value.now.flat))) }
 {
     let Some(elements) = children_of(alloc, buffers, text, place.value)? else {
         return Ok(None);
@@ -209,6 +214,7 @@ fn insert(
         pointer,
         place,
         &piece,
-        &Edit::Add(child),
+        value.flat.as_str(),
+        &Edit::Insert(child),
     )
 }

@@ -3,7 +3,7 @@ ghost use Rattle.std.specs.Prelude.{◌≡◌, ◌∷◌, ◌++◌, List, ℕ, I
 ghost use Rattle.serde_json.specs.View.{view};
 ghost use Rattle.jsonptr.specs.Pointer.{tokens};
 ghost use Rattle.jsonptr_tree.specs.Json.{nodes};
-ghost use Rattle.jsonptr_edit_in_text.specs.Bytes.{KeepsBytes, AssignsBytes, AddsBytes, ReplacesBytes};
+ghost use Rattle.jsonptr_edit_in_text.specs.Bytes.{KeepsBytes, AssignsBytes, ReplacesBytes, ExpandsBytes, GrowsBytes};
 ghost use Rattle.jsonptr_edit_in_text.specs.EditInText.{text_of, AssignsInText, IsAssignError};
 
 use crate::edited::{EditError, Edited};
@@ -55,9 +55,10 @@ pub fn assign_in_text(
 ) -> Result<Edited, EditError<assign::Error>>
     ensures assigned { IfOk result (λ e. AssignsInText text.now (tokens pointer.entry)
         (nodes (view value)) (text_of e)) }
-    ensures bytes { IfOk result (KeepsBytes (AssignsBytes text.now (tokens pointer.entry))) }
+    ensures bytes { IfOk result
+        (KeepsBytes (AssignsBytes text.now (tokens pointer.entry) (view value))) }
     ensures refused { IfErr result (IsAssignError text.now (tokens pointer.entry)
-        (nodes (view value))) }
+        (view value)) }
 {
     let mut buffers = Buffers::new(alloc);
     assign_in_text_with(alloc, &mut buffers, text, pointer, value)
@@ -93,9 +94,10 @@ pub fn assign_in_text_with(
 ) -> Result<Edited, EditError<assign::Error>>
     ensures assigned { IfOk result (λ e. AssignsInText text.now (tokens pointer.entry)
         (nodes (view value)) (text_of e)) }
-    ensures bytes { IfOk result (KeepsBytes (AssignsBytes text.now (tokens pointer.entry))) }
+    ensures bytes { IfOk result
+        (KeepsBytes (AssignsBytes text.now (tokens pointer.entry) (view value))) }
     ensures refused { IfErr result (IsAssignError text.now (tokens pointer.entry)
-        (nodes (view value))) }
+        (view value)) }
 {
     if let Some(new) = assign_in_place(alloc, buffers, text, pointer, &value)? {
         return Ok(Edited::InPlace(new));
@@ -119,8 +121,8 @@ fn assign_in_place(
 ) -> Result<Option<String>, AllocError>
     ensures assigned { IfOk result (λ new. IfSome new (λ s.
         AssignsInText text.now (tokens pointer.entry) (nodes (view value.now)) (string_bytes s))) }
-    ensures bytes { IfOk result (λ new. IfSome new
-        (λ s. AssignsBytes text.now (tokens pointer.entry) (string_bytes s))) }
+    ensures bytes { IfOk result (λ new. IfSome new (λ s.
+        AssignsBytes text.now (tokens pointer.entry) (view value.now) (string_bytes s))) }
 {
     let selectors = selectors_of(alloc, pointer)?;
     let Some(place) = place_of(alloc, buffers, text, &selectors)? else {
@@ -146,7 +148,7 @@ fn assign_from(
     ensures assigned { IfOk result (λ new. IfSome new (λ s. AssignsInText text.now
         (tokens front.entry ++ tokens rest.entry) (nodes (view value.now)) (string_bytes s))) }
     ensures bytes { IfOk result (λ new. IfSome new (λ s. AssignsBytes text.now
-        (tokens front.entry ++ tokens rest.entry) (string_bytes s))) }
+        (tokens front.entry ++ tokens rest.entry) (view value.now) (string_bytes s))) }
 {
     let Some((token, after)) = rest.split_front() else {
         return assign_there(alloc, buffers, text, front, place, value);
@@ -172,8 +174,8 @@ fn assign_there(
 ) -> Result<Option<String>, AllocError>
     ensures assigned { IfOk result (λ new. IfSome new (λ s.
         AssignsInText text.now (tokens pointer.entry) (nodes (view value.now)) (string_bytes s))) }
-    ensures bytes { IfOk result (λ new. IfSome new
-        (λ s. ReplacesBytes text.now (string_bytes s) (tokens pointer.entry))) }
+    ensures bytes { IfOk result (λ new. IfSome new (λ s.
+        ReplacesBytes text.now (string_bytes s) (tokens pointer.entry) (view value.now))) }
 {
     let Some(value) = value_text(alloc, value)? else {
         return Ok(None);
@@ -196,8 +198,8 @@ fn assign_member(
     ensures assigned { IfOk result (λ new. IfSome new (λ s. AssignsInText text.now
         (tokens pointer.entry ++ token.now ∷ tokens after.entry) (nodes (view value.now))
         (string_bytes s))) }
-    ensures bytes { IfOk result (λ new. IfSome new
-        (λ s. AddsBytes text.now (string_bytes s) token.now)) }
+    ensures bytes { IfOk result (λ new. IfSome new (λ s. GrowsBytes text.now (string_bytes s)
+        (tokens pointer.entry) token.now (tokens after.entry) (view value.now))) }
 {
     let Some(value) = expanded_text(alloc, after, value)? else {
         return Ok(None);
@@ -220,8 +222,8 @@ fn assign_element(
     ensures assigned { IfOk result (λ new. IfSome new (λ s. AssignsInText text.now
         (tokens pointer.entry ++ token.now ∷ tokens after.entry) (nodes (view value.now))
         (string_bytes s))) }
-    ensures bytes { IfOk result (λ new. IfSome new
-        (λ s. AddsBytes text.now (string_bytes s) token.now)) }
+    ensures bytes { IfOk result (λ new. IfSome new (λ s. GrowsBytes text.now (string_bytes s)
+        (tokens pointer.entry) token.now (tokens after.entry) (view value.now))) }
 {
     let Some(value) = expanded_text(alloc, after, value)? else {
         return Ok(None);
@@ -242,8 +244,8 @@ fn assign_scalar(
     ensures assigned { (x : List ℕ) (after : List (List ℕ)) → tokens rest.entry ≡ x ∷ after
         → IfOk result (λ new. IfSome new (λ s. AssignsInText text.now
         (tokens pointer.entry ++ x ∷ after) (nodes (view value.now)) (string_bytes s))) }
-    ensures bytes { IfOk result (λ new. IfSome new
-        (λ s. ReplacesBytes text.now (string_bytes s) (tokens pointer.entry))) }
+    ensures bytes { IfOk result (λ new. IfSome new (λ s. ExpandsBytes text.now (string_bytes s)
+        (tokens pointer.entry) (tokens rest.entry) (view value.now))) }
 {
     let Some(value) = expanded_text(alloc, rest, value)? else {
         return Ok(None);

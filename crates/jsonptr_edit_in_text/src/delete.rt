@@ -1,5 +1,6 @@
 //! Deleting in a text.
 ghost use Rattle.std.specs.Prelude.{◌≡◌, [], IfOk, IfErr, IfSome, MatchOption, string_bytes};
+ghost use Rattle.serde_json.specs.Data.{null};
 ghost use Rattle.jsonptr.specs.Pointer.{tokens};
 ghost use Rattle.jsonptr_edit_in_text.specs.Bytes.{KeepsBytes, DeletesBytes, ReplacesBytes};
 ghost use Rattle.jsonptr_edit_in_text.specs.EditInText.{text_of, DeletesInText, LacksInText, IsReadFault};
@@ -137,7 +138,7 @@ fn delete_root(
     ensures deleted { tokens pointer.entry ≡ [] → IfOk result (λ new. IfSome new (λ s.
         DeletesInText text.now (tokens pointer.entry) (string_bytes s))) }
     ensures bytes { IfOk result (λ new. IfSome new
-        (λ s. ReplacesBytes text.now (string_bytes s) (tokens pointer.entry))) }
+        (λ s. ReplacesBytes text.now (string_bytes s) (tokens pointer.entry) null)) }
 {
     let Some(null) = value_text(alloc, &Value::Null)? else {
         return Ok(None);

@@ -1,5 +1,5 @@
 //! One edit of a text, with the check that it is that edit.
-ghost use Rattle.std.specs.Prelude.{IfOk, IfSome, string_bytes};
+ghost use Rattle.std.specs.Prelude.{IfOk, IfSome, IsTrue, string_bytes};
 ghost use Rattle.jsonptr.specs.Pointer.{tokens};
 ghost use Rattle.jsonptr_skim.specs.Search.{choices};
 ghost use Rattle.jsonptr_splice.specs.Editing.{IsEdited, Makes};
@@ -40,6 +40,28 @@ pub fn edit_by(
     } else {
         Ok(None)
     }
+}
+
+/// Returns whether the new text reads as the old one with the edit of the value that the pointer
+/// resolves to.
+///
+/// # Errors
+///
+/// [`AllocError`] if an allocation fails.
+pub fn is_edited_at(
+    alloc: Global,
+    buffers: &mut Buffers,
+    old: &str,
+    new: &str,
+    pointer: Pointer<'_>,
+    positions: &[usize],
+    edit: &Edit,
+) -> Result<bool, AllocError>
+    ensures { IfOk result (λ b. IsTrue b
+        → ReachedInText old.now new.now (tokens pointer.entry) (Makes edit.now)) }
+{
+    let selectors = selectors_of(alloc, pointer)?;
+    is_edited_with(buffers, old, new, &selectors, positions, edit)
 }
 
 /// Puts the piece into the text, if that makes the edit of the value that the pointer resolves to.

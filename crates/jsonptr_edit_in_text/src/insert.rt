@@ -1,10 +1,9 @@
 //! Adding a child to an array or an object in a text.
-ghost use Rattle.std.specs.Prelude.{◌≡◌, ◌⊎◌, List, ℕ, Some, IfOk, IfSome, codes, string_bytes};
+ghost use Rattle.std.specs.Prelude.{◌≡◌, ◌⊎◌, Some, None, IfOk, IfSome, codes, string_bytes};
 ghost use Rattle.jsonptr.specs.Pointer.{tokens};
 ghost use Rattle.jsonptr_grammar.specs.Text.{dec};
 ghost use Rattle.jsonptr_splice.specs.Editing.{Makes};
-ghost use Rattle.jsonptr_edit_in_text.specs.Bytes.{AddsBytes};
-ghost use Rattle.jsonptr_edit_in_text.specs.PrivateReaching.{ReachedInText, MemberAdded, ElementAppended};
+ghost use Rattle.jsonptr_edit_in_text.specs.PrivateReaching.{ReachedInText, MemberAdded, ElementAppended, AddsPieceByText, AddsByText};
 
 use crate::edit::edit_at;
 use crate::place::children_of;
@@ -38,8 +37,8 @@ pub fn add_member(
 ) -> Result<Option<String>, AllocError>
     ensures reached { IfOk result (λ new. IfSome new (λ s. ReachedInText text.now (string_bytes s)
         (tokens pointer.entry) (MemberAdded token.now (string_bytes value.now.flat)))) }
-    ensures bytes { IfOk result (λ new. IfSome new (λ s.
-        AddsBytes text.now (string_bytes s) token.now)) }
+    ensures bytes { IfOk result (λ new. IfSome new (λ s. AddsByText text.now (string_bytes s)
+        (tokens pointer.entry) token.now (string_bytes value.now.flat))) }
 {
     let Some(members) = children_of(alloc, buffers, text, place.value)? else {
         return Ok(None);
@@ -69,16 +68,16 @@ fn put_member(
 ) -> Result<Option<String>, AllocError>
     ensures reached { IfOk result (λ new. IfSome new (λ s. ReachedInText text.now (string_bytes s)
         (tokens pointer.entry) (Makes (Edit.Add child)))) }
-    ensures bytes { IfOk result (λ new. IfSome new (λ s.
-        AddsBytes text.now (string_bytes s) (string_bytes child.selector.key))) }
+    ensures bytes { IfOk result (λ new. IfSome new (λ s. AddsPieceByText text.now
+        (string_bytes s) (Some (string_bytes child.selector.key)) (string_bytes child.value))) }
 {
     let Some(cut) = cut_at(text, piece.span.from, piece.span.to) else {
         return Ok(None);
     };
+    let added = piece.text.as_str();
     let key = Some(child.selector.key.as_str());
-    if !is_blank(cut.was)
-        || !is_one_child(&mut buffers.old, piece.text.as_str(), piece.child, key)?
-    {
+    let value = Some(child.value.as_str());
+    if !is_blank(cut.was) || !is_one_child(buffers, added, piece.child, key, value)? {
         return Ok(None);
     }
     let edit = Edit::Add(child);
@@ -88,7 +87,7 @@ fn put_member(
         &cut,
         pointer,
         &place.positions,
-        piece.text.as_str(),
+        added,
         &edit,
     )
 }
@@ -110,8 +109,8 @@ pub fn append(
 ) -> Result<Option<String>, AllocError>
     ensures reached { IfOk result (λ new. IfSome new (λ s. ReachedInText text.now (string_bytes s)
         (tokens pointer.entry) (ElementAppended token.now (string_bytes value.now.flat)))) }
-    ensures bytes { IfOk result (λ new. IfSome new (λ s.
-        AddsBytes text.now (string_bytes s) token.now)) }
+    ensures bytes { IfOk result (λ new. IfSome new (λ s. AddsByText text.now (string_bytes s)
+        (tokens pointer.entry) token.now (string_bytes value.now.flat))) }
 {
     let Some(elements) = children_of(alloc, buffers, text, place.value)? else {
         return Ok(None);
@@ -129,11 +128,13 @@ pub fn append(
         pointer,
         place,
         &piece,
+        value.flat.as_str(),
         &Edit::Append(child),
     )
 }
 
-/// Puts the text of an element into the array that the pointer resolves to.
+/// Puts the text of an element into the array that the pointer resolves to. The element has the value,
+/// which is JSON text.
 pub fn put_element(
     alloc: Global,
     buffers: &mut Buffers,
@@ -141,30 +142,22 @@ pub fn put_element(
     pointer: Pointer<'_>,
     place: &Place,
     piece: &Piece,
+    value: &str,
     edit: &Edit,
 ) -> Result<Option<String>, AllocError>
     ensures reached { IfOk result (λ new. IfSome new (λ s. ReachedInText text.now (string_bytes s)
         (tokens pointer.entry) (Makes edit.now))) }
-    ensures bytes { (x : List ℕ) → IfOk result (λ new. IfSome new (λ s.
-        AddsBytes text.now (string_bytes s) x)) }
+    ensures bytes { IfOk result (λ new. IfSome new (λ s.
+        AddsPieceByText text.now (string_bytes s) None value.now)) }
 {
     let Some(cut) = cut_at(text, piece.span.from, piece.span.to) else {
         return Ok(None);
     };
-    if !is_blank(cut.was)
-        || !is_one_child(&mut buffers.old, piece.text.as_str(), piece.child, None)?
-    {
+    let added = piece.text.as_str();
+    if !is_blank(cut.was) || !is_one_child(buffers, added, piece.child, None, Some(value))? {
         return Ok(None);
     }
-    edit_at(
-        alloc,
-        buffers,
-        &cut,
-        pointer,
-        &place.positions,
-        piece.text.as_str(),
-        edit,
-    )
+    edit_at(alloc, buffers, &cut, pointer, &place.positions, added, edit)
 }
 
 /// Returns the element with the index and the value.

@@ -3,10 +3,9 @@ ghost use Rattle.std.specs.Prelude.{◌≡◌, IfOk, IfSome, IsTrue, ◌↔◌, 
 ghost use Rattle.serde_json.specs.View.{view};
 ghost use Rattle.jsonptr.specs.Pointer.{tokens};
 ghost use Rattle.jsonptr_tree.specs.Json.{nodes};
-ghost use Rattle.jsonptr_grammar.specs.Text.{Text};
 ghost use Rattle.jsonptr_patch.specs.Operating.{IsProperFront};
-ghost use Rattle.jsonptr_edit_in_text.specs.Bytes.{ReplacesBytes, DeletesBytes};
-ghost use Rattle.jsonptr_edit_in_text.specs.PatchInText.{AddsAtBytes, OperationBytes};
+ghost use Rattle.jsonptr_edit_in_text.specs.Bytes.{ReplacesBytes};
+ghost use Rattle.jsonptr_edit_in_text.specs.PatchInText.{AddsAtBytes, MovesBytes, CopiesBytes, OperationBytes};
 ghost use Rattle.jsonptr_edit_in_text.specs.PrivateOperating.{OperatesInText, PutsInText, AddsValueInText, MovesInText, CopiesInText, PassesInText};
 
 use crate::add::add_at;
@@ -86,7 +85,7 @@ fn add_value(
     ensures added { IfOk result (λ new. IfSome new (λ s. AddsValueInText text.now
         (tokens pointer.entry) (nodes (view value.now)) (string_bytes s))) }
     ensures bytes { IfOk result (λ new. IfSome new (λ s.
-        AddsAtBytes text.now (tokens pointer.entry) (string_bytes s))) }
+        AddsAtBytes text.now (tokens pointer.entry) (view value.now) (string_bytes s))) }
 {
     let Some(value) = value_text(alloc, value)? else {
         return Ok(None);
@@ -105,7 +104,7 @@ fn replace_value(
     ensures put { IfOk result (λ new. IfSome new (λ s. PutsInText text.now
         (tokens pointer.entry) (nodes (view value.now)) (string_bytes s))) }
     ensures bytes { IfOk result (λ new. IfSome new (λ s.
-        ReplacesBytes text.now (string_bytes s) (tokens pointer.entry))) }
+        ReplacesBytes text.now (string_bytes s) (tokens pointer.entry) (view value.now))) }
 {
     let selectors = selectors_of(alloc, pointer)?;
     let Some(place) = place_of(alloc, buffers, text, &selectors)? else {
@@ -130,9 +129,8 @@ fn move_value(
 ) -> Result<Option<String>, AllocError>
     ensures moved { IfOk result (λ new. IfSome new (λ s. MovesInText text.now
         (tokens from.entry) (tokens path.entry) (string_bytes s))) }
-    ensures bytes { IfOk result (λ new. IfSome new (λ s. (mid : Text)
-        × DeletesBytes text.now (tokens from.entry) mid
-        × AddsAtBytes mid (tokens path.entry) (string_bytes s))) }
+    ensures bytes { IfOk result (λ new. IfSome new (λ s.
+        MovesBytes text.now (tokens from.entry) (tokens path.entry) (string_bytes s))) }
 {
     if is_below(path, from) {
         return Ok(None);
@@ -167,7 +165,7 @@ fn copy_value(
     ensures copied { IfOk result (λ new. IfSome new (λ s. CopiesInText text.now
         (tokens from.entry) (tokens path.entry) (string_bytes s))) }
     ensures bytes { IfOk result (λ new. IfSome new (λ s.
-        AddsAtBytes text.now (tokens path.entry) (string_bytes s))) }
+        CopiesBytes text.now (tokens from.entry) (tokens path.entry) (string_bytes s))) }
 {
     let Some(value) = value_at(alloc, buffers, text, from)? else {
         return Ok(None);

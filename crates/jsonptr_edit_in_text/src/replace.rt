@@ -4,14 +4,15 @@ ghost use Rattle.serde_json.specs.Data.{Data};
 ghost use Rattle.serde_json.specs.Read.{read};
 ghost use Rattle.serde_json.specs.View.{view};
 ghost use Rattle.jsonptr.specs.Pointer.{tokens};
-ghost use Rattle.jsonptr_edit_in_text.specs.Bytes.{ReplacesBytes};
-ghost use Rattle.jsonptr_edit_in_text.specs.PrivateReaching.{ReachedInText, IsScalar, Trades, Becomes, ScalarBecomes};
+ghost use Rattle.jsonptr_edit_in_text.specs.Bytes.{IsScalar};
+ghost use Rattle.jsonptr_edit_in_text.specs.PrivateReaching.{ReachedInText, Trades, Becomes, ScalarBecomes, ReplacesByText, ReplacesScalarByText};
 
 use crate::edit::edit_at;
 use jsonptr::Pointer;
 use jsonptr_skim::find::find_in_text_with;
 use jsonptr_skim::outcome::{Outcome, ReadError};
 use jsonptr_splice::buffers::Buffers;
+use jsonptr_splice::child::is_value_of;
 use jsonptr_splice::cut::{Cut, cut_at};
 use jsonptr_splice::edit::Edit;
 use jsonptr_splice::layout::{ValueText, replacement};
@@ -35,8 +36,8 @@ pub fn replace(
 ) -> Result<Option<String>, AllocError>
     ensures reached { IfOk result (λ new. IfSome new (λ s. ReachedInText text.now (string_bytes s)
         (tokens pointer.entry) (Becomes (string_bytes value.now.flat)))) }
-    ensures bytes { IfOk result (λ new. IfSome new (λ s.
-        ReplacesBytes text.now (string_bytes s) (tokens pointer.entry))) }
+    ensures bytes { IfOk result (λ new. IfSome new (λ s. ReplacesByText text.now
+        (string_bytes s) (tokens pointer.entry) (string_bytes value.now.flat))) }
 {
     let Some(cut) = cut_at(text, place.value.from, place.value.to) else {
         return Ok(None);
@@ -59,8 +60,8 @@ pub fn replace_scalar(
 ) -> Result<Option<String>, AllocError>
     ensures reached { IfOk result (λ new. IfSome new (λ s. ReachedInText text.now (string_bytes s)
         (tokens pointer.entry) (ScalarBecomes (string_bytes value.now.flat)))) }
-    ensures bytes { IfOk result (λ new. IfSome new (λ s.
-        ReplacesBytes text.now (string_bytes s) (tokens pointer.entry))) }
+    ensures bytes { IfOk result (λ new. IfSome new (λ s. ReplacesScalarByText text.now
+        (string_bytes s) (tokens pointer.entry) (string_bytes value.now.flat))) }
 {
     let Some(cut) = cut_at(text, place.value.from, place.value.to) else {
         return Ok(None);
@@ -83,8 +84,11 @@ fn trade(
     ensures reached { IfOk result (λ new. IfSome new (λ s. ReachedInText cut.now.text.now
         (string_bytes s) (tokens pointer.entry)
         (Trades cut.now.was.now (string_bytes value.now.flat)))) }
-    ensures bytes { IfOk result (λ new. IfSome new (λ s.
-        ReplacesBytes cut.now.text.now (string_bytes s) (tokens pointer.entry))) }
+    ensures bytes { IfOk result (λ new. IfSome new (λ s. ReplacesByText cut.now.text.now
+        (string_bytes s) (tokens pointer.entry) (string_bytes value.now.flat))) }
+    ensures scalar { (d : Data) → read cut.now.was.now ≡ Some d → IsScalar d → IfOk result
+        (λ new. IfSome new (λ s. ReplacesScalarByText cut.now.text.now
+        (string_bytes s) (tokens pointer.entry) (string_bytes value.now.flat))) }
 {
     if !is_trimmed(cut.was) {
         return Ok(None);
@@ -93,16 +97,12 @@ fn trade(
         old: String::from_str(alloc, cut.was)?,
         new: value.flat.clone()?,
     };
-    let piece = replacement(alloc, cut.text, place, value)?;
-    edit_at(
-        alloc,
-        buffers,
-        cut,
-        pointer,
-        &place.positions,
-        piece.as_str(),
-        &edit,
-    )
+    let made = replacement(alloc, cut.text, place, value)?;
+    let piece = made.as_str();
+    if !is_value_of(buffers, piece, value.flat.as_str())? {
+        return Ok(None);
+    }
+    edit_at(alloc, buffers, cut, pointer, &place.positions, piece, &edit)
 }
 
 /// Returns whether the text is that of a scalar.

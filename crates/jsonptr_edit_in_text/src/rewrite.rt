@@ -5,12 +5,13 @@ ghost use Rattle.serde_json.specs.View.{view};
 ghost use Rattle.jsonptr.specs.Pointer.{tokens};
 ghost use Rattle.jsonptr_tree.specs.Json.{nodes};
 ghost use Rattle.jsonptr_edit_in_text.specs.EditInText.{AssignsInText, DeletesInText, LacksInText, IsAssignError, IsReadFault};
+ghost use Rattle.jsonptr_edit_in_text.specs.PrivateRewriting.{IsShortened, IsPrintFault};
 ghost use Rattle.jsonptr_edit_in_text.specs.PatchInText.{PatchesInText, IsPatchFault};
 
 use crate::edited::EditError;
 use jsonptr::{Assign, Delete, Fault, Pointer, assign};
-use jsonptr_depth::{MAX_DEPTH, nests_within};
 use jsonptr_patch::{Operation, PatchError, apply};
+use jsonptr_value::{MAX_DEPTH, discard, nests_within};
 use serde_json::Value;
 use std::alloc::{AllocError, Global};
 use std::convert::Infallible;
@@ -29,18 +30,14 @@ pub fn assign_and_print(
     ensures assigned { IfOk result (λ s. AssignsInText text.now (tokens pointer.entry)
         (nodes (view value)) (string_bytes s)) }
     ensures refused { IfErr result (IsAssignError text.now (tokens pointer.entry)
-        (nodes (view value))) }
+        (view value)) }
 {
     let mut document = read_document(alloc, text)?;
-    match document.assign(alloc, pointer, value) {
-        Ok(_) => {}
-        Err(Fault::Refused(error)) => return Err(EditError::Refused(error)),
-        Err(Fault::Memory(error)) => return Err(EditError::Memory(error)),
+    match document.assign(alloc, shortened(pointer), value) {
+        Ok(_) => print_document(alloc, document),
+        Err(Fault::Refused(error)) => Err(EditError::Refused(error)),
+        Err(Fault::Memory(error)) => Err(EditError::Memory(error)),
     }
-    if !nests_within(&document, MAX_DEPTH) {
-        return Err(EditError::TooDeep);
-    }
-    Ok(document.to_string(alloc)?)
 }
 
 /// Reads the text, applies the operations, and prints the document.
@@ -59,14 +56,10 @@ pub fn apply_and_print(
 {
     let mut document = read_document(alloc, text)?;
     match apply(alloc, &mut document, operations) {
-        Ok(()) => {}
-        Err(Fault::Refused(error)) => return Err(EditError::Refused(error)),
-        Err(Fault::Memory(error)) => return Err(EditError::Memory(error)),
+        Ok(()) => print_document(alloc, document),
+        Err(Fault::Refused(error)) => Err(EditError::Refused(error)),
+        Err(Fault::Memory(error)) => Err(EditError::Memory(error)),
     }
-    if !nests_within(&document, MAX_DEPTH) {
-        return Err(EditError::TooDeep);
-    }
-    Ok(document.to_string(alloc)?)
 }
 
 /// Reads the text, deletes the value that the pointer resolves to, and prints the document. Returns
@@ -95,6 +88,36 @@ pub fn delete_and_print(
             Ok(Some(document.to_string(alloc)?))
         }
     }
+}
+
+/// Returns the first 128 tokens of the pointer, or all of them if it has fewer.
+///
+/// A document that is read nests at most 127 deep. So an assignment at the pointer fails for the same
+/// token as one at these, and if it does not fail, both documents nest deeper than 127.
+fn shortened<'a>(pointer: Pointer<'a>) -> Pointer<'a>
+    ensures { IsShortened (tokens pointer.entry) (tokens result) }
+{
+    match pointer.split_at(MAX_DEPTH + 1) {
+        Some((front, _rest)) => front,
+        None => pointer,
+    }
+}
+
+/// Prints the document, and drops it.
+///
+/// # Errors
+///
+/// [`EditError::TooDeep`] if it nests deeper than 127, and [`EditError::Memory`] if an allocation
+/// fails.
+fn print_document<E>(alloc: Global, document: Value) -> Result<String, EditError<E>>
+    ensures printed { IfOk result (λ s. read (string_bytes s) ≡ Some (view document)) }
+    ensures refused { IfErr result (IsPrintFault (view document)) }
+{
+    if nests_within(&document, MAX_DEPTH) {
+        return Ok(document.to_string(alloc)?);
+    }
+    discard(document);
+    Err(EditError::TooDeep)
 }
 
 /// Reads the document that the text is.

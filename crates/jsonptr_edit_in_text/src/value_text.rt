@@ -8,8 +8,8 @@ ghost use Rattle.jsonptr_edit_in_text.specs.PrivateReaching.{IsExpanded};
 
 use crate::expand::expand;
 use jsonptr::Pointer;
-use jsonptr_depth::{MAX_DEPTH, nests_within};
 use jsonptr_splice::layout::{ValueText, text_of_value};
+use jsonptr_value::{MAX_DEPTH, nests_within};
 use serde_json::Value;
 use std::alloc::{AllocError, Global};
 
@@ -42,6 +42,9 @@ pub fn expanded_text(
     ensures { IfOk result (λ text. IfSome text
         (IsExpanded (tokens pointer.entry) (nodes (view value.now)))) }
 {
+    if pointer.count() > MAX_DEPTH {
+        return Ok(None);
+    }
     let expanded = expand(alloc, pointer, value)?;
     value_text(alloc, &expanded)
 }

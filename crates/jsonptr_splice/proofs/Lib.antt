@@ -1,3 +1,5 @@
 pub mod AddingLemmas
 pub mod ChildLemmas
+pub mod LexLemmas
+pub mod LexSplit
 pub mod SideLemmas

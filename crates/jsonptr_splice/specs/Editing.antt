@@ -5,7 +5,7 @@ use Rattle.serde_json.specs.Find.{get_member, get_item}
 use Rattle.serde_json.specs.Read.{read}
 use Rattle.jsonptr_skim.specs.Search.{Choice, choice_of, items_len}
 use Rattle.jsonptr_splice.specs.declared.edit.Edit.{Edit}
-use Rattle.jsonptr_splice.specs.declared.edit.Edit.TheVariants.{Replace, Add, Append}
+use Rattle.jsonptr_splice.specs.declared.edit.Edit.TheVariants.{Replace, Add, Insert, Append}
 
 -- `OnlyItemDiffers i at at2 ds ds2`: the items ds and ds2 differ only at the index i, where they have `at` and `at2`
 pub record OnlyItemDiffers (i : ℕ) (at at2 : Data) (ds ds2 : Items) : Type 0 where
@@ -34,7 +34,7 @@ pub record InsertsMember (k : List ℕ) (e : Data) (ms ms2 : Members) : Type 0 w
   pub is : get_member k ms2 ≡ Some e
   pub others : (l : List ℕ) → (l ≡ k → ⊥) → get_member l ms2 ≡ get_member l ms
 
--- `AddsChild c e d d2`: d2 is the array or object d with one child more, e, which c selects
+-- `AddsElement c e d d2`, `AddsMember c e d d2`: d2 is the array or the object d with one child more, e, which c selects
 pub record AddsElement (c : Choice) (e d d2 : Data) : Type 0 where
   pub ds : Items
   pub ds2 : Items
@@ -50,9 +50,6 @@ pub record AddsMember (c : Choice) (e d d2 : Data) : Type 0 where
   pub old : d ≡ object ms
   pub new : d2 ≡ object ms2
   pub inserts : InsertsMember c.0 e ms ms2
-
-abbrev pub AddsChild : Choice → Data → Data → Data → Type 0
-AddsChild c e d d2 = AddsElement c e d d2 ⊎ AddsMember c e d d2
 
 -- `ChangesChild c R d d2`: d and d2 differ only in the child that c selects, and R relates the two children
 pub record ChangesElement (c : Choice) (R : Data → Data → Type 0) (d d2 : Data) : Type 0 where
@@ -99,7 +96,8 @@ pub record Appends (c : Choice) (e d d2 : Data) : Type 0 where
 -- `Makes edit d d2`: the edit makes d2 of d
 abbrev pub Makes : Edit → Data → Data → Type 0
 Makes (Replace old new) d d2 = (read (string_bytes old) ≡ Some d) × (read (string_bytes new) ≡ Some d2)
-Makes (Add child) d d2 = (e : Data) × (read (string_bytes child.value) ≡ Some e) × AddsChild (choice_of child.selector) e d d2
+Makes (Add child) d d2 = (e : Data) × (read (string_bytes child.value) ≡ Some e) × AddsMember (choice_of child.selector) e d d2
+Makes (Insert child) d d2 = (e : Data) × (read (string_bytes child.value) ≡ Some e) × AddsElement (choice_of child.selector) e d d2
 Makes (Append child) d d2 = (e : Data) × (read (string_bytes child.value) ≡ Some e) × Appends (choice_of child.selector) e d d2
 
 -- `IsEdited old new cs edit`: the texts read as documents that differ only in the value that the selectors cs lead to, of

@@ -4,7 +4,7 @@ ghost use Rattle.serde_json.specs.Data.{Data, Items, Members};
 ghost use Rattle.serde_json.specs.Read.{read};
 ghost use Rattle.jsonptr_skim.specs.Reading.{Reads, ReadsItems, ReadsMembers};
 ghost use Rattle.jsonptr_skim.specs.Search.{choice_of};
-ghost use Rattle.jsonptr_splice.specs.Editing.{AddsChild, InsertsItem, InsertsMember};
+ghost use Rattle.jsonptr_splice.specs.Editing.{AddsElement, AddsMember, InsertsItem, InsertsMember};
 ghost use Rattle.jsonptr_splice.specs.PrivateEditing.{AddsItemIf, AddsMemberIf};
 
 use crate::decide::{is_at, is_either, is_text, may_follow};
@@ -13,7 +13,7 @@ use crate::same::{same, same_key, same_text, same_token};
 use json::{Reader, Scratch, Token};
 use jsonptr_skim::skip::skip;
 
-/// Passes over the next value of both. The longer one has one child more.
+/// Passes over the next value of both. The longer one is an object with one member more.
 ///
 /// # Errors
 ///
@@ -28,7 +28,7 @@ pub fn add(
 ) -> Result<(), CheckError>
     ensures ok { OnOk result ((d d2 e : Data) × Reads depth short.old d short.new
         × Reads depth long.old d2 long.new × (read (string_bytes child.now.value) ≡ Some e)
-        × AddsChild (choice_of child.now.selector) e d d2) }
+        × AddsMember (choice_of child.now.selector) e d d2) }
     ensures short_shorter { OnOk result (length short.new < length short.old) }
     ensures long_shorter { OnOk result (length long.new < length long.old) }
 {
@@ -36,16 +36,43 @@ pub fn add(
     if depth == 0 {
         return Err(CheckError::Mismatch);
     }
-    let value = child.value.as_str();
+    match token {
+        Token::BeginObject => {
+            let key = child.selector.key.as_str();
+            let value = child.value.as_str();
+            add_member(scratch, short, long, depth - 1, key, child.position, value)?;
+            Ok(())
+        }
+        _ => Err(CheckError::Mismatch),
+    }
+}
+
+/// Passes over the next value of both. The longer one is an array with one element more.
+///
+/// # Errors
+///
+/// As [`add`].
+pub fn insert(
+    scratch: &mut Scratch,
+    short: &mut Reader<'_>,
+    long: &mut Reader<'_>,
+    depth: usize,
+    child: &Child,
+) -> Result<(), CheckError>
+    ensures ok { OnOk result ((d d2 e : Data) × Reads depth short.old d short.new
+        × Reads depth long.old d2 long.new × (read (string_bytes child.now.value) ≡ Some e)
+        × AddsElement (choice_of child.now.selector) e d d2) }
+    ensures short_shorter { OnOk result (length short.new < length short.old) }
+    ensures long_shorter { OnOk result (length long.new < length long.old) }
+{
+    let token = same_token(short, long)?;
+    if depth == 0 {
+        return Err(CheckError::Mismatch);
+    }
     match token {
         Token::BeginArray => {
             let index = child.selector.index.ok_or(CheckError::Mismatch)?;
-            add_item(scratch, short, long, depth - 1, index, value)?;
-            Ok(())
-        }
-        Token::BeginObject => {
-            let key = child.selector.key.as_str();
-            add_member(scratch, short, long, depth - 1, key, child.position, value)?;
+            add_item(scratch, short, long, depth - 1, index, child.value.as_str())?;
             Ok(())
         }
         _ => Err(CheckError::Mismatch),

@@ -6,7 +6,7 @@ ghost use Rattle.jsonptr_skim.specs.Search.{choices};
 ghost use Rattle.jsonptr_splice.specs.Editing.{OnlyItemDiffers, OnlyMemberDiffers, ChangesAt, Makes, IsEdited};
 ghost use Rattle.jsonptr_splice.specs.PrivateEditing.{ChangesIf};
 
-use crate::add::add;
+use crate::add::{add, insert};
 use crate::append::append;
 use crate::buffers::Buffers;
 use crate::decide::{is_at, is_either, is_text, may_follow};
@@ -180,6 +180,7 @@ fn make(
             Ok(())
         }
         Edit::Add(child) => add(scratch, old, new, depth, child),
+        Edit::Insert(child) => insert(scratch, old, new, depth, child),
         Edit::Append(child) => append(scratch, old, new, depth, child),
     }
 }

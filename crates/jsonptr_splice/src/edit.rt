@@ -14,8 +14,10 @@ pub enum Edit {
         /// The text of the value after.
         new: String,
     },
-    /// Adds a member to an object, or an element to an array.
+    /// Adds a member to an object.
     Add(Child),
+    /// Inserts an element into an array, before the one at its index or after the last one.
+    Insert(Child),
     /// Adds an element after the last one of an array. Its selector has the index of the new element.
     Append(Child),
 }

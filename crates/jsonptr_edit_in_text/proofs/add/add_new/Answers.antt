@@ -1,9 +1,9 @@
 use Rattle.std.proofs.Common.{[], ◌∷◌, ◌++◌, string_bytes}
 use Rattle.jsonptr.specs.Pointer.{tokens}
 use Rattle.jsonptr_edit_in_text.specs.PrivateReaching.{ReachedInText, MemberAdded, ElementAppended}
-use Rattle.jsonptr_edit_in_text.specs.PrivateOperating.{AddsInText, ChildAdded}
+use Rattle.jsonptr_edit_in_text.specs.PrivateOperating.{AddsInText, ElementInserted}
 use Rattle.jsonptr_edit_in_text.proofs.EditLemmas.{if_new}
-use Rattle.jsonptr_edit_in_text.proofs.OperatingLemmas.{adds_member, adds_last, adds_child}
+use Rattle.jsonptr_edit_in_text.proofs.OperatingLemmas.{adds_member, adds_last, adds_element}
 use Rattle.jsonptr_edit_in_text.proofs.add.add_new.Goals as goal
 
 pub returns-then-starts_with-clause-added : goal.returns-then-starts_with-clause-added
@@ -37,7 +37,7 @@ returns-in-Ok-Num-clause-added c =
     let x = c.args.token.now in
     let flat = string_bytes c.args.value.now.flat in
     if_new c.insert.result
-    (λ s. ReachedInText old (string_bytes s) front (ChildAdded x flat))
+    (λ s. ReachedInText old (string_bytes s) front (ElementInserted x flat))
     (λ s. AddsInText old (front ++ x ∷ []) flat (string_bytes s))
-    (λ s h. adds_child old (string_bytes s) front x flat h)
+    (λ s h. adds_element old (string_bytes s) front x flat h)
     c.insert.ensures.reached

@@ -1,14 +1,18 @@
-use Rattle.std.proofs.Common.{[], ◌∷◌, ◌++◌, string_bytes, subst}
+use Rattle.std.proofs.Common.{◌≡◌, [], ◌∷◌, ◌++◌, Some, string_bytes, subst}
+use Rattle.serde_json.specs.Data.{Data}
+use Rattle.serde_json.specs.Read.{read}
 use Rattle.jsonptr_grammar.specs.Text.{Text}
 use Rattle.jsonptr.specs.Pointer.{tokens}
 use Rattle.jsonptr_skim.specs.Search.{choices}
 use Rattle.jsonptr_splice.specs.Editing.{IsEdited}
 use Rattle.jsonptr_splice.specs.Spacing.{Splices}
 use Rattle.jsonptr_splice.specs.declared.edit.Edit.TheVariants.{Replace}
-use Rattle.jsonptr_edit_in_text.specs.Bytes.{ReplacesBytes}
+use Rattle.jsonptr_splice.specs.Child.{IsValueText}
+use Rattle.jsonptr_edit_in_text.specs.PrivateReaching.{ReplacesByText}
 use Rattle.jsonptr_edit_in_text.specs.PrivateOperating.{AddsInText}
 use Rattle.jsonptr_edit_in_text.proofs.EditLemmas.{if_new, if_both}
-use Rattle.jsonptr_edit_in_text.proofs.OperatingLemmas.{traded, adds_in_place_of, replaces_member_bytes}
+use Rattle.jsonptr_edit_in_text.proofs.OperatingLemmas.{traded, adds_in_place_of}
+use Rattle.jsonptr_edit_in_text.proofs.BytesLemmas.{replaced_member}
 use Rattle.jsonptr_edit_in_text.proofs.add.replace_member.Goals as goal
 
 pub returns-clause-added : goal.returns-clause-added
@@ -37,12 +41,13 @@ returns-clause-bytes c =
     let before = c.in_ok-from_str.field-0 in
     let after = c.in_ok-clone.field-0 in
     let flat = string_bytes c.args.value.now.flat in
-    let piece = c.as_str.result.now in
+    let piece = c.as_str-piece.result.now in
+    let made = subst (λ (f : Text). (e : Data) × (read f ≡ Some e) × IsValueText e piece) c.as_str.ensures.value (c.in_ok-is_value_of.ensures c.if-not-branch.false) in
     if_new c.edit_by.result
     (λ s. IsEdited cut.text.now (string_bytes s) cs (Replace before after) × Splices cut.text.now (string_bytes s) cut.was.now piece)
-    (λ s. ReplacesBytes old (string_bytes s) (front ++ x ∷ []))
-    (λ s h. replaces_member_bytes old (string_bytes s) front x cut.was.now piece flat (subst (λ (t : Text). Splices t (string_bytes s) cut.was.now piece) c.in-Some.ensures h.1)
-    (traded old cut.text.now (string_bytes s) front x cs before after cut.was.now flat c.in-Some.ensures c.requires c.in_ok-from_str.ensures.ok c.in_ok-clone.ensures.cases h.0) (c.is_trimmed.ensures c.if-not-is_trimmed.false))
+    (λ s. ReplacesByText old (string_bytes s) (front ++ x ∷ []) flat)
+    (λ s h. replaced_member old (string_bytes s) front x cut.was.now piece flat (subst (λ (t : Text). Splices t (string_bytes s) cut.was.now piece) c.in-Some.ensures h.1)
+    (traded old cut.text.now (string_bytes s) front x cs before after cut.was.now flat c.in-Some.ensures c.requires c.in_ok-from_str.ensures.ok c.in_ok-clone.ensures.cases h.0) (c.is_trimmed.ensures c.if-not-is_trimmed.false) made)
     (if_both c.edit_by.result
     (λ s. IsEdited cut.text.now (string_bytes s) cs (Replace before after))
     (λ s. Splices cut.text.now (string_bytes s) cut.was.now piece)

@@ -6,6 +6,9 @@ use Rattle.jsonptr_splice.specs.declared.layout.ValueText.{ValueText}
 use Rattle.jsonptr_edit_in_text.specs.EditInText.{AssignsInText}
 use Rattle.jsonptr_edit_in_text.specs.PrivateReaching.{IsExpanded, ReachedInText, ElementAppended}
 use Rattle.jsonptr_edit_in_text.proofs.EditLemmas.{if_new, of_element, assigns_end}
+use Rattle.jsonptr_edit_in_text.specs.Bytes.{GrowsBytes}
+use Rattle.jsonptr_edit_in_text.specs.PrivateReaching.{AddsByText}
+use Rattle.jsonptr_edit_in_text.proofs.BytesLemmas.{grows_bytes}
 use Rattle.jsonptr_edit_in_text.proofs.assign.assign_element.Goals as goal
 
 pub returns-clause-assigned : goal.returns-clause-assigned
@@ -20,3 +23,18 @@ returns-clause-assigned c =
     (λ s. AssignsInText c.args.text.now (front ++ x ∷ after) (nodes (view c.args.value.now)) (string_bytes s))
     (λ s h. assigns_end c.args.text.now (string_bytes s) (front ++ x ∷ after) front x after e.0 (nodes (view c.args.value.now)) refl e.2 (of_element c.args.text.now (string_bytes s) front x flat e.0 e.1 h))
     c.append.ensures.reached
+
+pub returns-clause-bytes : goal.returns-clause-bytes
+returns-clause-bytes c =
+    let old = c.args.text.now in
+    let flat = string_bytes c.in-Some.value.flat in
+    let v = view c.args.value.now in
+    let e = subst (λ (o : Option ValueText). IfSome o (IsExpanded (tokens c.args.after) (nodes v))) c.in-Some.is c.in_ok-value.ensures in
+    let front = tokens c.args.pointer in
+    let x = c.args.token.now in
+    let after = tokens c.args.after in
+    if_new c.append.result
+    (λ s. AddsByText old (string_bytes s) front x flat)
+    (λ s. GrowsBytes old (string_bytes s) front x after v)
+    (λ s h. grows_bytes old (string_bytes s) front x after flat v e.0 e.1 e.2 h)
+    c.append.ensures.bytes

@@ -8,6 +8,9 @@ use Rattle.jsonptr_splice.specs.declared.layout.ValueText.{ValueText}
 use Rattle.jsonptr_edit_in_text.specs.EditInText.{AssignsInText}
 use Rattle.jsonptr_edit_in_text.specs.PrivateReaching.{IsExpanded, ReachedInText, ScalarBecomes}
 use Rattle.jsonptr_edit_in_text.proofs.EditLemmas.{if_new, of_scalar, assigns_scalar}
+use Rattle.jsonptr_edit_in_text.specs.Bytes.{ExpandsBytes}
+use Rattle.jsonptr_edit_in_text.specs.PrivateReaching.{ReplacesScalarByText}
+use Rattle.jsonptr_edit_in_text.proofs.BytesLemmas.{expands}
 use Rattle.jsonptr_edit_in_text.proofs.assign.assign_scalar.Goals as goal
 
 pub returns-clause-assigned : goal.returns-clause-assigned
@@ -20,3 +23,17 @@ returns-clause-assigned c = λ x after rest.
     (λ s. AssignsInText c.args.text.now (front ++ x ∷ after) (nodes (view c.args.value.now)) (string_bytes s))
     (λ s h. assigns_scalar c.args.text.now (string_bytes s) (front ++ x ∷ after) front x after e.0 (nodes (view c.args.value.now)) refl (e.2 ∙ ap (λ (ts : List Text). grown ts (nodes (view c.args.value.now))) rest) (of_scalar c.args.text.now (string_bytes s) front flat e.0 e.1 h))
     c.replace_scalar.ensures.reached
+
+pub returns-clause-bytes : goal.returns-clause-bytes
+returns-clause-bytes c =
+    let old = c.args.text.now in
+    let flat = string_bytes c.in-Some.value.flat in
+    let v = view c.args.value.now in
+    let more = tokens c.args.rest in
+    let e = subst (λ (o : Option ValueText). IfSome o (IsExpanded more (nodes v))) c.in-Some.is c.in_ok-value.ensures in
+    let front = tokens c.args.pointer in
+    if_new c.replace_scalar.result
+    (λ s. ReplacesScalarByText old (string_bytes s) front flat)
+    (λ s. ExpandsBytes old (string_bytes s) front more v)
+    (λ s h. expands old (string_bytes s) front more flat v e.0 e.1 e.2 h)
+    c.replace_scalar.ensures.bytes

@@ -4,6 +4,9 @@ use Rattle.jsonptr_splice.specs.declared.layout.ValueText.{ValueText}
 use Rattle.jsonptr_edit_in_text.specs.PrivateOperating.{FindsText, AddsInText, CopiesInText}
 use Rattle.jsonptr_edit_in_text.proofs.EditLemmas.{if_new}
 use Rattle.jsonptr_edit_in_text.proofs.OperatingLemmas.{copies}
+use Rattle.jsonptr_edit_in_text.specs.PatchInText.{CopiesBytes}
+use Rattle.jsonptr_edit_in_text.specs.PrivateOperating.{AddsAtByText}
+use Rattle.jsonptr_edit_in_text.proofs.BytesLemmas.{adds_value_at}
 use Rattle.jsonptr_edit_in_text.proofs.operate.copy_value.Goals as goal
 
 pub returns-clause-copied : goal.returns-clause-copied
@@ -18,3 +21,16 @@ returns-clause-copied c =
     (λ s. CopiesInText old from path (string_bytes s))
     (λ s h. copies old (string_bytes s) from path flat found h)
     c.add_at.ensures.added
+
+pub returns-clause-bytes : goal.returns-clause-bytes
+returns-clause-bytes c =
+    let old = c.args.text.now in
+    let from = tokens c.args.from in
+    let path = tokens c.args.path in
+    let flat = string_bytes c.in-Some.value.flat in
+    let found = subst (λ (o : Option ValueText). IfSome o (λ t. FindsText old from (string_bytes t.flat))) c.in-Some.is c.in_ok-value.ensures in
+    if_new c.add_at.result
+    (λ s. AddsAtByText old path flat (string_bytes s))
+    (λ s. CopiesBytes old from path (string_bytes s))
+    (λ s h. (found.0, found.2, adds_value_at old (string_bytes s) path flat found.0 found.1 h))
+    c.add_at.ensures.bytes

@@ -6,10 +6,11 @@ use Rattle.jsonptr_patch.specs.Operating.{IsProperFront}
 use Rattle.jsonptr_splice.specs.declared.layout.ValueText.{ValueText}
 use Rattle.jsonptr_edit_in_text.specs.Bytes.{DeletesBytes}
 use Rattle.jsonptr_edit_in_text.specs.EditInText.{DeletesInText}
-use Rattle.jsonptr_edit_in_text.specs.PatchInText.{AddsAtBytes}
-use Rattle.jsonptr_edit_in_text.specs.PrivateOperating.{FindsText, AddsInText, MovesInText}
+use Rattle.jsonptr_edit_in_text.specs.PatchInText.{MovesBytes}
+use Rattle.jsonptr_edit_in_text.specs.PrivateOperating.{FindsText, AddsInText, AddsAtByText, MovesInText}
 use Rattle.jsonptr_edit_in_text.proofs.EditLemmas.{if_new}
 use Rattle.jsonptr_edit_in_text.proofs.OperatingLemmas.{moves}
+use Rattle.jsonptr_edit_in_text.proofs.BytesLemmas.{adds_value_at}
 use Rattle.jsonptr_edit_in_text.proofs.operate.move_value.Goals as goal
 
 pub returns-clause-moved : goal.returns-clause-moved
@@ -37,8 +38,10 @@ returns-clause-bytes c =
     let left = c.as_str.result.now in
     let deleted = subst (λ (o : Option (String Global)). IfSome o (λ s. DeletesBytes old from (string_bytes s))) c.in-Some-2.is c.in_ok-left.ensures.bytes in
     let to_left = subst (λ (t : Text). DeletesBytes old from t) (sym c.as_str.ensures.value) deleted in
+    let flat = string_bytes c.in-Some.value.flat in
+    let found = subst (λ (o : Option ValueText). IfSome o (λ t. FindsText old from (string_bytes t.flat))) c.in-Some.is c.in_ok-value.ensures in
     if_new c.add_at.result
-    (λ s. AddsAtBytes left path (string_bytes s))
-    (λ s. (mid : Text) × DeletesBytes old from mid × AddsAtBytes mid path (string_bytes s))
-    (λ s h. (left, to_left, h))
+    (λ s. AddsAtByText left path flat (string_bytes s))
+    (λ s. MovesBytes old from path (string_bytes s))
+    (λ s h. (found.0, found.2, (left, to_left, adds_value_at left (string_bytes s) path flat found.0 found.1 h)))
     c.add_at.ensures.bytes

@@ -5,9 +5,8 @@ use Rattle.jsonptr.specs.Pointer.{tokens}
 use Rattle.jsonptr_tree.specs.Json.{nodes}
 use Rattle.jsonptr_patch.specs.declared.operation.Operation.{Operation}
 use Rattle.jsonptr_patch.specs.declared.operation.Operation.TheVariants.{Remove}
-use Rattle.jsonptr_edit_in_text.specs.Bytes.{DeletesBytes}
 use Rattle.jsonptr_edit_in_text.specs.EditInText.{DeletesInText}
-use Rattle.jsonptr_edit_in_text.specs.PatchInText.{AddsAtBytes, OperationBytes}
+use Rattle.jsonptr_edit_in_text.specs.PatchInText.{MovesBytes, CopiesBytes, OperationBytes}
 use Rattle.jsonptr_edit_in_text.specs.PrivateOperating.{OperatesInText, AddsValueInText}
 use Rattle.jsonptr_edit_in_text.proofs.EditLemmas.{if_new}
 use Rattle.jsonptr_edit_in_text.proofs.OperatingLemmas.{removes, tests}
@@ -40,9 +39,19 @@ returns-in-Move-clause-bytes c =
     let old = c.as_str-old.result.now in
     let from = tokens c.as_ptr-in-Move.result in
     subst (λ (o : Operation). IfOk r (λ n. IfSome n (λ s. OperationBytes (string_bytes c.args.text) o (string_bytes s)))) (sym c.in-Move.is)
-    (subst (λ (t : Text). IfOk r (λ n. IfSome n (λ s. (mid : Text) × DeletesBytes t c.in-Move.from mid × AddsAtBytes mid c.in-Move.path (string_bytes s)))) c.as_str-old.ensures.value
-    (subst (λ (ts : List Text). IfOk r (λ n. IfSome n (λ s. (mid : Text) × DeletesBytes old ts mid × AddsAtBytes mid c.in-Move.path (string_bytes s)))) c.as_ptr-in-Move.ensures.tokens
-    (subst (λ (ts : List Text). IfOk r (λ n. IfSome n (λ s. (mid : Text) × DeletesBytes old from mid × AddsAtBytes mid ts (string_bytes s)))) c.as_ptr-in-Move-2.ensures.tokens c.move_value.ensures.bytes)))
+    (subst (λ (t : Text). IfOk r (λ n. IfSome n (λ s. MovesBytes t c.in-Move.from c.in-Move.path (string_bytes s)))) c.as_str-old.ensures.value
+    (subst (λ (ts : List Text). IfOk r (λ n. IfSome n (λ s. MovesBytes old ts c.in-Move.path (string_bytes s)))) c.as_ptr-in-Move.ensures.tokens
+    (subst (λ (ts : List Text). IfOk r (λ n. IfSome n (λ s. MovesBytes old from ts (string_bytes s)))) c.as_ptr-in-Move-2.ensures.tokens c.move_value.ensures.bytes)))
+
+pub returns-in-Copy-clause-bytes : goal.returns-in-Copy-clause-bytes
+returns-in-Copy-clause-bytes c =
+    let r = c.copy_value.result in
+    let old = c.as_str-old.result.now in
+    let from = tokens c.as_ptr-in-Copy.result in
+    subst (λ (o : Operation). IfOk r (λ n. IfSome n (λ s. OperationBytes (string_bytes c.args.text) o (string_bytes s)))) (sym c.in-Copy.is)
+    (subst (λ (t : Text). IfOk r (λ n. IfSome n (λ s. CopiesBytes t c.in-Copy.from c.in-Copy.path (string_bytes s)))) c.as_str-old.ensures.value
+    (subst (λ (ts : List Text). IfOk r (λ n. IfSome n (λ s. CopiesBytes old ts c.in-Copy.path (string_bytes s)))) c.as_ptr-in-Copy.ensures.tokens
+    (subst (λ (ts : List Text). IfOk r (λ n. IfSome n (λ s. CopiesBytes old from ts (string_bytes s)))) c.as_ptr-in-Copy-2.ensures.tokens c.copy_value.ensures.bytes)))
 
 pub returns-then-branch-clause-applied : goal.returns-then-branch-clause-applied
 returns-then-branch-clause-applied c =

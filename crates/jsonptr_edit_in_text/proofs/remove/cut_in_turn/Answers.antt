@@ -1,22 +1,16 @@
-use Rattle.std.proofs.Common.{◌∷◌, [], List, ℕ, Option, String, IfSome, string_bytes, refl, subst}
+use Rattle.std.proofs.Common.{[], ◌∷◌, List, ℕ, Option, Some, None, String, IfSome, string_bytes, refl, subst}
 use Rattle.std.specs.declared.alloc.Global.{Global}
+use Rattle.serde_json.specs.Data.{Data}
+use Rattle.jsonptr_splice.specs.Child.{IsReadAs}
 use Rattle.jsonptr_edit_in_text.specs.Bytes.{CutsBytes}
 use Rattle.jsonptr_edit_in_text.proofs.remove.cut_in_turn.Goals as goal
 
 pub cuts-init : goal.cuts-init
-cuts-init c = (
-  c.args.text.now ∷ [],
-  (refl, subst (λ (o : Option (String Global)). IfSome o (λ s. CutsBytes c.args.text.now (string_bytes s) c.args.key.now)) c.in-Some-2.is c.in_ok-current.ensures),
-)
+cuts-init c = ([], refl)
 
 pub cuts-preserved : goal.cuts-preserved
 cuts-preserved c =
     let i = c.cuts.invariant in
-    let next = string_bytes c.in-Some-3.next in (
-      string_bytes c.cuts.current ∷ i.0,
-      (
-        i.1,
-        subst (λ (t : List ℕ). CutsBytes t next c.args.key.now) c.as_str-in-cuts.ensures.value
-            (subst (λ (o : Option (String Global)). IfSome o (λ s. CutsBytes c.as_str-in-cuts.result.now (string_bytes s) c.args.key.now)) c.in-Some-3.is c.in_ok-next.ensures),
-      ),
-    )
+    let next = string_bytes c.in-Some-2.next in
+    let cut = subst (λ (o : Option (String Global)). IfSome o (λ s. (v : Data) × IsReadAs None v × CutsBytes c.as_str-old.result.now (string_bytes s) (Some c.args.key.now) v)) c.in-Some-2.is c.in_ok-next.ensures in
+    (string_bytes c.cuts.current ∷ i.0, (i.1, (cut.0, subst (λ (t : List ℕ). CutsBytes t next (Some c.args.key.now) cut.0) c.as_str-old.ensures.value cut.2)))

@@ -3,4 +3,4 @@ use Rattle.jsonptr_edit_in_text.specs.Bytes.{CutsInTurn}
 use Rattle.jsonptr_edit_in_text.proofs.remove.cut_in_turn.Given as goal
 
 abbrev pub invariant-cuts : goal.invariant-cuts
-invariant-cuts l = (mids : List (List ℕ)) × CutsInTurn l.key l.text mids (string_bytes l.current)
+invariant-cuts l = (mids : List (List ℕ)) × CutsInTurn l.key (string_bytes l.fn.text) mids (string_bytes l.current)

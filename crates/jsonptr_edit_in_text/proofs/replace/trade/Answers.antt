@@ -1,26 +1,49 @@
-use Rattle.std.proofs.Common.{IfOk, IfSome, string_bytes, subst}
+use Rattle.std.proofs.Common.{◌≡◌, Some, IfOk, IfSome, string_bytes, subst}
+use Rattle.serde_json.specs.Data.{Data}
+use Rattle.serde_json.specs.Read.{read}
 use Rattle.jsonptr_grammar.specs.Text.{Text}
 use Rattle.jsonptr.specs.Pointer.{tokens}
 use Rattle.jsonptr_splice.specs.Spacing.{Splices}
-use Rattle.jsonptr_edit_in_text.specs.Bytes.{ReplacesBytes}
-use Rattle.jsonptr_edit_in_text.specs.PrivateReaching.{ReachedInText, Trades}
-use Rattle.jsonptr_edit_in_text.proofs.EditLemmas.{if_new, if_both, replaces_bytes}
+use Rattle.jsonptr_splice.specs.Child.{IsValueText}
+use Rattle.jsonptr_edit_in_text.specs.PrivateReaching.{ReachedInText, Trades, ReplacesByText, ReplacesScalarByText}
+use Rattle.jsonptr_edit_in_text.proofs.EditLemmas.{if_new, if_both}
+use Rattle.jsonptr_edit_in_text.proofs.BytesLemmas.{replaced, replaced_scalar}
 use Rattle.jsonptr_edit_in_text.proofs.replace.trade.Goals as goal
 
 pub returns-clause-bytes : goal.returns-clause-bytes
 returns-clause-bytes c =
     let old = c.args.cut.now.text.now in
     let was = c.args.cut.now.was.now in
-    let piece = string_bytes c.in_ok-piece.piece in
+    let piece = c.as_str-piece.result.now in
     let flat = string_bytes c.args.value.now.flat in
     let ts = tokens c.args.pointer in
+    let made = subst (λ (f : Text). (e : Data) × (read f ≡ Some e) × IsValueText e piece) c.as_str.ensures.value (c.in_ok-is_value_of.ensures c.if-not-branch.false) in
     if_new c.edit_at.result
     (λ s. Splices old (string_bytes s) was piece × ReachedInText old (string_bytes s) ts (Trades was flat))
-    (λ s. ReplacesBytes old (string_bytes s) ts)
-    (λ s h. replaces_bytes old (string_bytes s) was piece flat ts h.0 h.1 (c.is_trimmed.ensures c.if-not-is_trimmed.false))
+    (λ s. ReplacesByText old (string_bytes s) ts flat)
+    (λ s h. replaced old (string_bytes s) was piece flat ts h.0 h.1 (c.is_trimmed.ensures c.if-not-is_trimmed.false) made)
     (if_both c.edit_at.result
     (λ s. Splices old (string_bytes s) was piece)
     (λ s. ReachedInText old (string_bytes s) ts (Trades was flat))
-    (subst (λ (p : Text). IfOk c.edit_at.result (λ o. IfSome o (λ s. Splices old (string_bytes s) was p))) c.as_str.ensures.value c.edit_at.ensures.spliced)
+    c.edit_at.ensures.spliced
+    (subst (λ (w : Text). IfOk c.edit_at.result (λ o. IfSome o (λ s. ReachedInText old (string_bytes s) ts (Trades w flat)))) c.in_ok-from_str.ensures.ok
+    (subst (λ (f : Text). IfOk c.edit_at.result (λ o. IfSome o (λ s. ReachedInText old (string_bytes s) ts (Trades (string_bytes c.in_ok-from_str.field-0) f)))) c.in_ok-clone.ensures.cases c.edit_at.ensures.reached)))
+
+pub returns-clause-scalar : goal.returns-clause-scalar
+returns-clause-scalar c = λ d reads scalar.
+    let old = c.args.cut.now.text.now in
+    let was = c.args.cut.now.was.now in
+    let piece = c.as_str-piece.result.now in
+    let flat = string_bytes c.args.value.now.flat in
+    let ts = tokens c.args.pointer in
+    let made = subst (λ (f : Text). (e : Data) × (read f ≡ Some e) × IsValueText e piece) c.as_str.ensures.value (c.in_ok-is_value_of.ensures c.if-not-branch.false) in
+    if_new c.edit_at.result
+    (λ s. Splices old (string_bytes s) was piece × ReachedInText old (string_bytes s) ts (Trades was flat))
+    (λ s. ReplacesScalarByText old (string_bytes s) ts flat)
+    (λ s h. replaced_scalar old (string_bytes s) was piece flat ts d h.0 h.1 (c.is_trimmed.ensures c.if-not-is_trimmed.false) made reads scalar)
+    (if_both c.edit_at.result
+    (λ s. Splices old (string_bytes s) was piece)
+    (λ s. ReachedInText old (string_bytes s) ts (Trades was flat))
+    c.edit_at.ensures.spliced
     (subst (λ (w : Text). IfOk c.edit_at.result (λ o. IfSome o (λ s. ReachedInText old (string_bytes s) ts (Trades w flat)))) c.in_ok-from_str.ensures.ok
     (subst (λ (f : Text). IfOk c.edit_at.result (λ o. IfSome o (λ s. ReachedInText old (string_bytes s) ts (Trades (string_bytes c.in_ok-from_str.field-0) f)))) c.in_ok-clone.ensures.cases c.edit_at.ensures.reached)))

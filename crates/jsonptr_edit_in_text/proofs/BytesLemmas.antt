@@ -1,0 +1,187 @@
+-- What edits of a text do to its bytes.
+use Rattle.std.proofs.Common.{◌≡◌, ℕ, ◌≤◌, List, [], ◌∷◌, ◌++◌, Option, Some, None, option_map, IsSome, ◌⊎◌, inl, inr, string_bytes, codes, rules, refl, sym, ap, ◌∙◌, subst, arith}
+use Rattle.serde_json.specs.Data as json
+use Rattle.serde_json.specs.Data.{Data}
+use Rattle.serde_json.specs.Find.{get_member}
+use Rattle.serde_json.specs.Read.{read}
+use Rattle.serde_json.specs.View.{view}
+use Rattle.serde_json.specs.declared.value.Value.{Null}
+use Rattle.serde_json.specs.declared.value.Value.{Null, the_lemmas}
+use Rattle.jsonptr_grammar.specs.Text.{Text, dec}
+use Rattle.jsonptr_tree.specs.Node.{key, Label, an_object, NamesStep}
+use Rattle.jsonptr_tree.specs.Content.{Content, label_of, content_at}
+use Rattle.jsonptr_tree.specs.Growing.{grown}
+use Rattle.jsonptr_tree.specs.Json.{content, nodes}
+use Rattle.jsonptr_tree.proofs.ContentLemmas.{content_at-push}
+use Rattle.jsonptr_tree.proofs.NodeLemmas.{Names-push}
+use Rattle.jsonptr_skim.specs.Search as skim
+use Rattle.jsonptr_skim.specs.Search.{Choice}
+use Rattle.jsonptr_in_text.specs.InText.{FindsInText}
+use Rattle.jsonptr_in_text.specs.Selecting.{IsChoiceOf}
+use Rattle.jsonptr_splice.specs.Editing.{InsertsItem, AddsMember, AddsElement, ChangesChild, Makes}
+use Rattle.jsonptr_splice.specs.declared.edit.Child.{Child}
+use Rattle.jsonptr_splice.specs.declared.edit.Edit.TheVariants as edit
+use Rattle.jsonptr_splice.specs.Spacing.{IsBlank, IsTrimmed, Splices}
+use Rattle.jsonptr_splice.specs.Child.{IsValueText, IsOneChild}
+use Rattle.jsonptr_edit_in_text.specs.Bytes.{IsScalar, ReplacesBytes, ExpandsBytes, GrowsBytes, CutsBytes, CutsInTurn, CutsMembers, CutsElement}
+use Rattle.jsonptr_edit_in_text.specs.PatchInText.{AddsAtBytes}
+use Rattle.jsonptr_edit_in_text.specs.PrivateReaching.{ReachedInText, Trades, MemberAdded, ElementAppended, ReplacesByText, ReplacesScalarByText, AddsPieceByText, AddsByText}
+use Rattle.jsonptr_edit_in_text.specs.PrivateOperating.{ElementInserted, AddsAtByText}
+use Rattle.jsonptr_edit_in_text.proofs.EditLemmas.{same_data, label_there}
+use Rattle.jsonptr_edit_in_text.proofs.ReachingLemmas.{in_object}
+
+-- the value of a text that is read twice
+pub one_value : (t : Text) (d e : Data) → read t ≡ Some d → read t ≡ Some e → d ≡ e
+one_value t d e a b = same_data d e (sym a ∙ b)
+
+pub null_seen : view Null ≡ json.null
+null_seen = search (rules, the_lemmas)
+
+-- where an edit was made, in the old text and in the new one
+pub found_old : (old new : Text) (tokens : List Text) (R : Data → Data → Type 0) (h : ReachedInText old new tokens R) → FindsInText old tokens h.4.at
+found_old old new tokens R h = (h.0, h.2, record { path = h.4.path; named = h.4.named; there = h.4.there })
+
+pub found_new : (old new : Text) (tokens : List Text) (R : Data → Data → Type 0) (h : ReachedInText old new tokens R) → FindsInText new tokens h.4.at2
+found_new old new tokens R h = (h.1, h.3, record { path = h.4.path; named = h.4.named2; there = h.4.there2 })
+
+found_is : (t : Text) (tokens : List Text) (d e : Data) → d ≡ e → FindsInText t tokens d → FindsInText t tokens e
+found_is t tokens d e same h = subst (FindsInText t tokens) same h
+
+-- ---- a value replaced
+
+pub replaced : (old new was piece flat : Text) (tokens : List Text) → Splices old new was piece → ReachedInText old new tokens (Trades was flat) → IsTrimmed was → ((e : Data) × (read flat ≡ Some e) × IsValueText e piece) → ReplacesByText old new tokens flat
+replaced old new was piece flat tokens splices h trimmed p = (
+  p.0,
+  p.1,
+  record { was = was; piece = piece; value = h.4.at; splices = splices; found = found_old old new tokens (Trades was flat) h; whole = record { reads = h.4.changes.0; trimmed = trimmed }; made = p.2 },
+)
+
+pub replaced_scalar : (old new was piece flat : Text) (tokens : List Text) (d : Data) → Splices old new was piece → ReachedInText old new tokens (Trades was flat) → IsTrimmed was → ((e : Data) × (read flat ≡ Some e) × IsValueText e piece) → read was ≡ Some d → IsScalar d
+    → ReplacesScalarByText old new tokens flat
+replaced_scalar old new was piece flat tokens d splices h trimmed p reads scalar = (
+  p.0,
+  p.1,
+  (
+    record { was = was; piece = piece; value = h.4.at; splices = splices; found = found_old old new tokens (Trades was flat) h; whole = record { reads = h.4.changes.0; trimmed = trimmed }; made = p.2 },
+    subst IsScalar (one_value was d h.4.at reads h.4.changes.0) scalar,
+  ),
+)
+
+pub replaced_member : (old new : Text) (front : List Text) (x was piece flat : Text) → Splices old new was piece → ReachedInText old new front (ChangesChild (x, None) (Trades was flat)) → IsTrimmed was → ((e : Data) × (read flat ≡ Some e) × IsValueText e piece)
+    → ReplacesByText old new (front ++ x ∷ []) flat
+replaced_member old new front x was piece flat splices h trimmed p = at h.4.changes
+  where
+    at : ChangesChild (x, None) (Trades was flat) h.4.at h.4.at2 → ReplacesByText old new (front ++ x ∷ []) flat
+    at (inl m) = absurd (cc)
+    at (inr m) =
+        let object_there : content_at h.4.path (content h.0) ≡ Some (content (json.object m.ms)) = h.4.there ∙ ap (λ (y : Data). Some (content y)) m.old in
+        let label : nodes h.0 h.4.path ≡ Some an_object = label_there h.0 (json.object m.ms) h.4.path object_there in
+        let child : content_at (h.4.path ++ key x ∷ []) (content h.0) ≡ Some (content m.at) = content_at-push h.4.path (key x) (content h.0) (content (json.object m.ms)) object_there ∙ (in_object m.ms m.ms2 x m.at m.at2 m.differs).was in (
+          p.0,
+          p.1,
+          record {
+            was = was;
+            piece = piece;
+            value = m.at;
+            splices = splices;
+            found = (
+              h.0,
+              h.2,
+              record {
+                path = h.4.path ++ key x ∷ [];
+                named = Names-push (nodes h.0) front x h.4.path (key x) h.4.named (subst (λ (l : Option Label). NamesStep l x (key x)) (sym label) refl) (subst (λ (o : Option Content). IsSome (option_map label_of o)) (sym child) refl);
+                there = child;
+              },
+            );
+            whole = record { reads = m.changes.0; trimmed = trimmed };
+            made = p.2;
+          },
+        )
+
+pub replaces_value : (old new : Text) (tokens : List Text) (flat : Text) (v : Data) → read flat ≡ Some v → ReplacesByText old new tokens flat → ReplacesBytes old new tokens v
+replaces_value old new tokens flat v reads h = subst (ReplacesBytes old new tokens) (one_value flat h.0 v h.1 reads) h.2
+
+pub expands : (old new : Text) (front more : List Text) (flat : Text) (v e : Data) → read flat ≡ Some e → nodes e ≡ grown more (nodes v) → ReplacesScalarByText old new front flat → ExpandsBytes old new front more v
+expands old new front more flat v e reads is h =
+    record { grows = h.0; grown_is = ap nodes (one_value flat h.0 e h.1 reads) ∙ is; replaces = h.2.0; scalar = h.2.1 }
+
+-- ---- a child added
+
+pub piece_added : (old new was piece flat : Text) (k : Option Text) → Splices old new was piece → IsBlank was → ((e : Data) × (read flat ≡ Some e) × IsOneChild k e piece) → AddsPieceByText old new k flat
+piece_added old new was piece flat k splices blank p = (p.0, p.1, record { was = was; piece = piece; splices = splices; blank = blank; child = p.2 })
+
+pub adds_new_member : (old new : Text) (front : List Text) (x flat : Text) → ReachedInText old new front (MemberAdded x flat) → AddsPieceByText old new (Some x) flat → AddsByText old new front x flat
+adds_new_member old new front x flat h p =
+    let m = h.4.changes.2 in
+    (p.0, p.1, inl ((m.ms, found_is old front h.4.at (json.object m.ms) m.old (found_old old new front (MemberAdded x flat) h), m.inserts.none), p.2))
+
+pub adds_last_element : (old new : Text) (front : List Text) (x flat : Text) → ReachedInText old new front (ElementAppended x flat) → AddsPieceByText old new None flat → AddsByText old new front x flat
+adds_last_element old new front x flat h p =
+    let m = h.4.changes in
+    (p.0, p.1, inr ((m.ds, found_is old front h.4.at (json.array m.ds) m.old (found_old old new front (ElementAppended x flat) h), place m.ds m.refers), p.2))
+  where
+    place : (ds : json.Items) → (x ≡ codes "-") ⊎ (x ≡ dec (skim.items_len ds)) → (i : ℕ) × ((i ≤ skim.items_len ds) × ((x ≡ dec i) ⊎ ((x ≡ codes "-") × (i ≡ skim.items_len ds))))
+    place ds (inl dash) = (skim.items_len ds, (omega arith, inr (dash, refl)))
+    place ds (inr number) = (skim.items_len ds, (omega arith, inl number))
+
+pub adds_new_element : (old new : Text) (front : List Text) (x flat : Text) → ReachedInText old new front (ElementInserted x flat) → AddsPieceByText old new None flat → AddsByText old new front x flat
+adds_new_element old new front x flat h p =
+    let m = h.4.changes.4 in
+    (p.0, p.1, inr ((m.ds, found_is old front h.4.at (json.array m.ds) m.old (found_old old new front (ElementInserted x flat) h), (m.i, (m.inserts.within, inl (h.4.changes.3.index_is m.i m.selects)))), p.2))
+
+pub element_appended : (child : Child) (x flat : Text) (i : ℕ) (d d2 : Data) → child.selector.index ≡ Some i → (x ≡ codes "-") ⊎ (x ≡ dec i) → string_bytes child.value ≡ flat → Makes (edit.Append child) d d2 → ElementAppended x flat d d2
+element_appended child x flat i d d2 index refers value m =
+    let a = m.2 in
+    let same : i ≡ skim.items_len a.ds = one_index i a.i (sym index ∙ a.selects) ∙ a.last in record {
+      ds = a.ds;
+      ds2 = a.ds2;
+      e = m.0;
+      reads = ap read (sym value) ∙ m.1;
+      old = a.old;
+      new = a.new;
+      inserts = subst (λ (n : ℕ). InsertsItem n m.0 a.ds a.ds2) a.last a.inserts;
+      refers = subst (λ (n : ℕ). (x ≡ codes "-") ⊎ (x ≡ dec n)) same refers;
+    }
+  where
+    one_index : (i j : ℕ) → Some i ≡ Some j → i ≡ j
+    one_index i j h = cc
+
+pub element_inserted : (child : Child) (x flat : Text) (d d2 : Data) → IsChoiceOf x (skim.choice_of child.selector) → string_bytes child.value ≡ flat → Makes (edit.Insert child) d d2 → ElementInserted x flat d d2
+element_inserted child x flat d d2 is value m = (m.0, skim.choice_of child.selector, ap read (sym value) ∙ m.1, is, m.2)
+
+pub grows_bytes : (old new : Text) (front : List Text) (x : Text) (rest : List Text) (flat : Text) (v e : Data) → read flat ≡ Some e → nodes e ≡ grown rest (nodes v) → AddsByText old new front x flat → GrowsBytes old new front x rest v
+grows_bytes old new front x rest flat v e reads is h = (h.0, ap nodes (one_value flat h.0 e h.1 reads) ∙ is, h.2)
+
+pub adds_child_at : (old new : Text) (front : List Text) (x flat : Text) → AddsByText old new front x flat → AddsAtByText old (front ++ x ∷ []) flat new
+adds_child_at old new front x flat h = (h.0, h.1, inr (front, x, refl, h.2))
+
+pub adds_value_at : (old new : Text) (path : List Text) (flat : Text) (v : Data) → read flat ≡ Some v → AddsAtByText old path flat new → AddsAtBytes old path v new
+adds_value_at old new path flat v reads h = subst (λ (e : Data). AddsAtBytes old path e new) (one_value flat h.0 v h.1 reads) h.2
+
+-- ---- a child cut out
+
+pub cuts_members : (old first new value : Text) (front : List Text) (x : Text) (c : Choice) → IsChoiceOf x c → ReachedInText new old front (λ at at2. (e : Data) × (read value ≡ Some e) × AddsMember c e at at2) → ((v : Data) × (read value ≡ Some v) × CutsBytes old first (Some x) v) → ((mids : List Text) × CutsInTurn x first mids new)
+    → CutsMembers old new front x
+cuts_members old first new value front x c is h cut again =
+    let m = h.4.changes.2 in record {
+      ms = m.ms2;
+      v = h.4.changes.0;
+      first = first;
+      mids = again.0;
+      found = found_is old front h.4.at2 (json.object m.ms2) m.new (found_new new old front (λ at at2. (e : Data) × (read value ≡ Some e) × AddsMember c e at at2) h);
+      was = subst (λ (k : Text). get_member k m.ms2 ≡ Some h.4.changes.0) is.key_is m.inserts.is;
+      cuts = subst (CutsBytes old first (Some x)) (one_value value cut.0 h.4.changes.0 cut.1 h.4.changes.1) cut.2;
+      again = again.1;
+    }
+
+pub cuts_element : (old new value : Text) (front : List Text) (x : Text) (c : Choice) → IsChoiceOf x c → ReachedInText new old front (λ at at2. (e : Data) × (read value ≡ Some e) × AddsElement c e at at2) → ((v : Data) × (read value ≡ Some v) × CutsBytes old new None v) → CutsElement old new front x
+cuts_element old new value front x c is h cut =
+    let m = h.4.changes.2 in record {
+      ds = m.ds2;
+      i = m.i;
+      v = h.4.changes.0;
+      found = found_is old front h.4.at2 (json.array m.ds2) m.new (found_new new old front (λ at at2. (e : Data) × (read value ≡ Some e) × AddsElement c e at at2) h);
+      refers = is.index_is m.i m.selects;
+      was = m.inserts.is;
+      cuts = subst (CutsBytes old new None) (one_value value cut.0 h.4.changes.0 cut.1 h.4.changes.1) cut.2;
+    }

@@ -1,0 +1,20 @@
+-- Words of private clauses: a document that is printed anew.
+use Rattle.std.specs.Prelude.{◌≡◌, ◌⊎◌, ◌<◌, List, ◌++◌, length, ⊤}
+use Rattle.serde_json.specs.Data.{Data, depth}
+use Rattle.serde_json.specs.Read.{max_depth}
+use Rattle.jsonptr_grammar.specs.Text.{Text}
+use Rattle.jsonptr_edit_in_text.specs.declared.edited.EditError.{EditError}
+use Rattle.jsonptr_edit_in_text.specs.declared.edited.EditError.TheVariants.{NotJson, Refused, TooDeep, Memory}
+
+-- `IsShortened tokens front`: `front` are the tokens, or the first 128 of more
+abbrev pub IsShortened : List Text → List Text → Type 0
+IsShortened tokens front =
+    (front ≡ tokens)
+    ⊎ ((rest : List Text) × (tokens ≡ front ++ rest) × (max_depth < length front))
+
+-- `IsPrintFault d e`: e is why the document d is not printed, if it is not for memory
+abbrev pub IsPrintFault : {E : Type 0} → Data → EditError E → Type 0
+IsPrintFault d NotJson = ⊥
+IsPrintFault d (Refused e) = ⊥
+IsPrintFault d TooDeep = max_depth < depth d
+IsPrintFault d (Memory e) = ⊤

@@ -1,0 +1,115 @@
+//! Edits of a text that are made in place or not at all.
+ghost use Rattle.std.specs.Prelude.{IfOk, IfErr, IfSome, MatchOption, string_bytes};
+ghost use Rattle.serde_json.specs.View.{view};
+ghost use Rattle.jsonptr.specs.Pointer.{tokens};
+ghost use Rattle.jsonptr_tree.specs.Json.{nodes};
+ghost use Rattle.jsonptr_edit_in_text.specs.Bytes.{AssignsBytes, DeletesBytes};
+ghost use Rattle.jsonptr_edit_in_text.specs.EditInText.{AssignsInText, DeletesInText, LacksInText, IsAssignError, IsReadFault};
+ghost use Rattle.jsonptr_edit_in_text.specs.PatchInText.{PatchesInText, PatchBytes, IsPatchFault};
+ghost use Rattle.jsonptr_edit_in_text.specs.InPlace.{IsInPlaceError};
+
+use crate::apply::apply_in_text_with;
+use crate::assign::assign_in_text_with;
+use crate::delete::delete_in_text_with;
+use crate::edited::{EditError, Edited};
+use jsonptr::{Pointer, assign};
+use jsonptr_patch::{Operation, PatchError};
+use jsonptr_splice::buffers::Buffers;
+use serde_json::Value;
+use std::alloc::Global;
+use std::convert::Infallible;
+use std::fmt::Display;
+use thiserror::Error;
+
+/// Why an edit that is to be made in place fails. `E` is the error of the call on the document.
+#[derive(Debug, Drop, Error)]
+#[error_bound(E: Display)]
+pub enum InPlaceError<E> {
+    /// The edit is possible, but the document would have to be printed anew.
+    #[error("document cannot be edited in place")]
+    NotInPlace,
+    /// The edit is not possible.
+    #[error("{0}")]
+    Failed(EditError<E>),
+}
+
+/// Assigns as [`assign_in_text_with`] does, and never prints the document anew.
+///
+/// # Errors
+///
+/// [`InPlaceError::NotInPlace`] where [`assign_in_text_with`] prints the document anew, and
+/// [`InPlaceError::Failed`] with its error.
+pub fn assign_in_place(
+    alloc: Global,
+    buffers: &mut Buffers,
+    text: &str,
+    pointer: Pointer<'_>,
+    value: Value,
+) -> Result<String, InPlaceError<assign::Error>>
+    ensures assigned { IfOk result (λ s. AssignsInText text.now (tokens pointer.entry)
+        (nodes (view value)) (string_bytes s)) }
+    ensures bytes { IfOk result (λ s.
+        AssignsBytes text.now (tokens pointer.entry) (view value) (string_bytes s)) }
+    ensures refused { IfErr result (IsInPlaceError
+        (AssignsInText text.now (tokens pointer.entry) (nodes (view value)))
+        (IsAssignError text.now (tokens pointer.entry)
+        (view value))) }
+{
+    match assign_in_text_with(alloc, buffers, text, pointer, value) {
+        Ok(Edited::InPlace(new)) => Ok(new),
+        Ok(Edited::Rewritten(_new)) => Err(InPlaceError::NotInPlace),
+        Err(error) => Err(InPlaceError::Failed(error)),
+    }
+}
+
+/// Deletes as [`delete_in_text_with`] does, and never prints the document anew.
+///
+/// # Errors
+///
+/// [`InPlaceError::NotInPlace`] where [`delete_in_text_with`] prints the document anew, and
+/// [`InPlaceError::Failed`] with its error.
+pub fn delete_in_place(
+    alloc: Global,
+    buffers: &mut Buffers,
+    text: &str,
+    pointer: Pointer<'_>,
+) -> Result<Option<String>, InPlaceError<Infallible>>
+    ensures deleted { IfOk result (λ o. MatchOption o (LacksInText text.now (tokens pointer.entry))
+        (λ s. DeletesInText text.now (tokens pointer.entry) (string_bytes s))) }
+    ensures bytes { IfOk result (λ o. IfSome o (λ s.
+        DeletesBytes text.now (tokens pointer.entry) (string_bytes s))) }
+    ensures refused { IfErr result (IsInPlaceError
+        (DeletesInText text.now (tokens pointer.entry)) (IsReadFault text.now)) }
+{
+    match delete_in_text_with(alloc, buffers, text, pointer) {
+        Ok(None) => Ok(None),
+        Ok(Some(Edited::InPlace(new))) => Ok(Some(new)),
+        Ok(Some(Edited::Rewritten(_new))) => Err(InPlaceError::NotInPlace),
+        Err(error) => Err(InPlaceError::Failed(error)),
+    }
+}
+
+/// Applies the operations as [`apply_in_text_with`] does, and never prints the document anew.
+///
+/// # Errors
+///
+/// [`InPlaceError::NotInPlace`] where [`apply_in_text_with`] prints the document anew, and
+/// [`InPlaceError::Failed`] with its error.
+pub fn apply_in_place(
+    alloc: Global,
+    buffers: &mut Buffers,
+    text: &str,
+    operations: Vec<Operation>,
+) -> Result<String, InPlaceError<PatchError>>
+    ensures applied { IfOk result
+        (λ s. PatchesInText text.now operations.items (string_bytes s)) }
+    ensures bytes { IfOk result (λ s. PatchBytes text.now operations.items (string_bytes s)) }
+    ensures refused { IfErr result (IsInPlaceError
+        (PatchesInText text.now operations.items) (IsPatchFault text.now operations.items)) }
+{
+    match apply_in_text_with(alloc, buffers, text, operations) {
+        Ok(Edited::InPlace(new)) => Ok(new),
+        Ok(Edited::Rewritten(_new)) => Err(InPlaceError::NotInPlace),
+        Err(error) => Err(InPlaceError::Failed(error)),
+    }
+}
