@@ -1,1 +1,2 @@
-pub mod ChangeLemmas
+mod ChangeLemmas
+mod DepthLemmas

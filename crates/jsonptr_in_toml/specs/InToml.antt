@@ -1,8 +1,9 @@
 -- Finding, changing and listing values in the text of a TOML document.
-use Rattle.std.specs.Prelude.{◌≡◌, ◌<◌, List, Option, Some, None, length, false, ⊤}
-use Rattle.toml.specs.Data.{Data, table, no_members, Members}
+use Rattle.std.specs.Prelude.{◌≡◌, ◌<◌, ◌≤◌, ◌⊎◌, suc, List, Option, Some, None, length, false, ⊤}
+use Rattle.toml.specs.Data.{Data, table, no_members, Members, members_depth, members_have_valid_dates}
 use Rattle.toml.specs.Parse.{parse_document}
 use Rattle.toml.specs.Text.{IsDocumentText}
+use Rattle.toml_parser.specs.Strings.{recursion_limit as max_depth}
 use Rattle.jsonptr_grammar.specs.Text.{Text}
 use Rattle.jsonptr_tree.specs.Node.{Path, NodeMap, Names}
 use Rattle.jsonptr_tree.specs.TomlValue.{nodes, FindsValue}
@@ -13,15 +14,40 @@ use Rattle.jsonptr.specs.Assign.{RefusesAssign}
 use Rattle.jsonptr_paths.specs.TomlListing.{Lists}
 use Rattle.jsonptr_paths.specs.declared.listing.Listed.{Listed}
 use Rattle.jsonptr_in_toml.specs.declared.error.InTomlError.{InTomlError}
-use Rattle.jsonptr_in_toml.specs.declared.error.InTomlError.TheVariants.{NotToml, NoValue, BadPlace, NotThere, TooDeep, NoText, Memory}
+use Rattle.jsonptr_in_toml.specs.declared.error.InTomlError.TheVariants.{NotToml, DocumentTooDeep, NoValue, BadPlace, NotThere, TooDeep, NoText, Memory}
 
--- `ReadsAs text d`: the document that `text` contains is the table d
+-- `ReadsAs text d`: the document that `text` contains is the table d, whose values nest at most 80 deep
 abbrev pub ReadsAs : Text → Data → Type 0
-ReadsAs text d = (ms : Members) × (parse_document text ≡ Some ms) × (d ≡ table ms)
+ReadsAs text d = (ms : Members) × (parse_document text ≡ Some ms) × (d ≡ table ms) × (members_depth ms ≤ max_depth)
 
--- `PrintsAs d text`: d is a table, and `text` a document of it
+-- `IsDeep text`: the values of the document that `text` contains nest deeper
+abbrev pub IsDeep : Text → Type 0
+IsDeep text = (ms : Members) × (parse_document text ≡ Some ms) × (max_depth < members_depth ms)
+
+-- `PrintsAs d text`: d is a table, and `text` a document of it, which is read as d
 abbrev pub PrintsAs : Data → Text → Type 0
-PrintsAs d text = (ms : Members) × (d ≡ table ms) × IsDocumentText false ms text
+PrintsAs d text = (ms : Members) × (d ≡ table ms) × IsDocumentText false ms text × ReadsAs text d
+
+-- `HasDeepValues d`: d is a table whose values nest deeper than 80
+abbrev pub HasDeepValues : Data → Type 0
+HasDeepValues d = (ms : Members) × (d ≡ table ms) × (max_depth < members_depth ms)
+
+-- `HasNoText d`: d is not a table, or has a date-time that TOML has no text for
+abbrev pub HasNoText : Data → Type 0
+HasNoText d = (ms : Members) → d ≡ table ms → members_have_valid_dates ms ≡ false
+
+-- `AssignsTo text ts v d2`: assigning v at the tokens turns the document of `text` into d2
+abbrev pub AssignsTo : Text → List Text → Data → Data → Type 0
+AssignsTo text ts v d2 =
+    (d : Data) × ReadsAs text d
+    × ((replaced : Option NodeMap) × Assigns (nodes d) ts (nodes v) (nodes d2) replaced)
+
+-- `DeletesTo text ts d2`: the tokens identify a value in the document of `text`, and deleting it turns the document into
+-- d2. Deleting the root leaves an empty table
+abbrev pub DeletesTo : Text → List Text → Data → Type 0
+DeletesTo text ts d2 =
+    (d : Data) × ReadsAs text d
+    × ((v : Data) × FindsValue d ts v) × Deletes (nodes d) ts (nodes (table no_members)) (nodes d2)
 
 -- `FindsInToml text ts v`: the tokens identify the value v in the document of `text`
 abbrev pub FindsInToml : Text → List Text → Data → Type 0
@@ -29,16 +55,12 @@ FindsInToml text ts v = (d : Data) × ReadsAs text d × FindsValue d ts v
 
 -- `AssignsInToml text ts v new`: assigning v at the tokens turns the document of `text` into that of `new`
 abbrev pub AssignsInToml : Text → List Text → Data → Text → Type 0
-AssignsInToml text ts v new =
-    (d d2 : Data) × ReadsAs text d × PrintsAs d2 new
-    × ((replaced : Option NodeMap) × Assigns (nodes d) ts (nodes v) (nodes d2) replaced)
+AssignsInToml text ts v new = (d2 : Data) × AssignsTo text ts v d2 × PrintsAs d2 new
 
--- `DeletesInToml text ts new`: the tokens identify a value in the document of `text`, and deleting it turns the document
--- into that of `new`. Deleting the root leaves an empty table
+-- `DeletesInToml text ts new`: deleting the value that the tokens identify turns the document of `text` into that of
+-- `new`
 abbrev pub DeletesInToml : Text → List Text → Text → Type 0
-DeletesInToml text ts new =
-    (d d2 : Data) × ReadsAs text d × PrintsAs d2 new
-    × ((v : Data) × FindsValue d ts v) × Deletes (nodes d) ts (nodes (table no_members)) (nodes d2)
+DeletesInToml text ts new = (d2 : Data) × DeletesTo text ts d2 × PrintsAs d2 new
 
 -- `ListsInToml which text out`: `out` lists the nodes, or the leaves, of the document of `text`
 abbrev pub ListsInToml : Listed → Text → Text → Type 0
@@ -47,6 +69,7 @@ ListsInToml which text out = (d : Data) × ReadsAs text d × Lists which d out
 -- `FailsToFind text ts e`: e is why no value is found, if it is not for memory
 abbrev pub FailsToFind : Text → List Text → InTomlError → Type 0
 FailsToFind text ts NotToml = parse_document text ≡ None
+FailsToFind text ts DocumentTooDeep = IsDeep text
 FailsToFind text ts (NoValue f) = (d : Data) × ReadsAs text d × Refuses (nodes d) ts f
 FailsToFind text ts (Memory f) = ⊤
 FailsToFind text ts e = ⊥
@@ -54,22 +77,29 @@ FailsToFind text ts e = ⊥
 -- `FailsToAssign text ts v e`: e is why v is not assigned at the tokens, if it is not for memory
 abbrev pub FailsToAssign : Text → List Text → Data → InTomlError → Type 0
 FailsToAssign text ts v NotToml = parse_document text ≡ None
-FailsToAssign text ts v (BadPlace f) = (d : Data) × ReadsAs text d × RefusesAssign (nodes d) ts f
-FailsToAssign text ts v TooDeep = 80 < length ts
-FailsToAssign text ts v NoText = ⊤
+FailsToAssign text ts v DocumentTooDeep = IsDeep text
+FailsToAssign text ts v (BadPlace f) =
+    (d : Data) × ReadsAs text d × (length ts ≤ suc max_depth) × RefusesAssign (nodes d) ts f
+FailsToAssign text ts v TooDeep =
+    (((d : Data) × ReadsAs text d) × (suc max_depth < length ts))
+    ⊎ ((d2 : Data) × AssignsTo text ts v d2 × HasDeepValues d2)
+FailsToAssign text ts v NoText = (d2 : Data) × AssignsTo text ts v d2 × HasNoText d2
 FailsToAssign text ts v (Memory f) = ⊤
 FailsToAssign text ts v e = ⊥
 
 -- `FailsToDelete text ts e`: e is why nothing is deleted, if it is not for memory
 abbrev pub FailsToDelete : Text → List Text → InTomlError → Type 0
 FailsToDelete text ts NotToml = parse_document text ≡ None
+FailsToDelete text ts DocumentTooDeep = IsDeep text
 FailsToDelete text ts NotThere = (d : Data) × ReadsAs text d × ((w : Path) → Names (nodes d) ts w → ⊥)
-FailsToDelete text ts NoText = ⊤
+FailsToDelete text ts TooDeep = (d2 : Data) × DeletesTo text ts d2 × HasDeepValues d2
+FailsToDelete text ts NoText = (d2 : Data) × DeletesTo text ts d2 × HasNoText d2
 FailsToDelete text ts (Memory f) = ⊤
 FailsToDelete text ts e = ⊥
 
 -- `FailsToList text e`: e is why nothing is listed, if it is not for memory
 abbrev pub FailsToList : Text → InTomlError → Type 0
 FailsToList text NotToml = parse_document text ≡ None
+FailsToList text DocumentTooDeep = IsDeep text
 FailsToList text (Memory f) = ⊤
 FailsToList text e = ⊥

@@ -1,23 +1,23 @@
 //! Finding, assigning and deleting in a TOML text.
-ghost use Rattle.std.specs.Prelude.{IfOk, IfErr, string_bytes};
+ghost use Rattle.std.specs.Prelude.{◌<◌, ◌↔◌, suc, length, IsTrue, IfOk, IfErr, string_bytes};
 ghost use Rattle.toml.specs.View.{view};
+ghost use Rattle.toml_parser.specs.Strings.{recursion_limit as max_depth};
 ghost use Rattle.jsonptr.specs.Pointer.{tokens};
 ghost use Rattle.jsonptr_in_toml.specs.InToml.{FindsInToml, AssignsInToml, DeletesInToml, FailsToFind, FailsToAssign, FailsToDelete};
 
+use crate::depth::MAX_DEPTH;
 use crate::document::{print_toml, read_toml};
 use crate::error::InTomlError;
 use jsonptr::{Assign, Delete, Fault, Pointer, Resolve};
 use std::alloc::Global;
 use toml::Value;
 
-// The most tokens of a pointer to assign at, which is the depth that the kit's reader allows.
-const MAX_TOKENS: usize = 80;
-
 /// Returns the value that the pointer resolves to in the document that the text contains.
 ///
 /// # Errors
 ///
 /// - [`InTomlError::NotToml`] if the text is not TOML.
+/// - [`InTomlError::DocumentTooDeep`] if the values of the document nest deeper than 80.
 /// - [`InTomlError::NoValue`] if the pointer does not resolve to a value.
 /// - [`InTomlError::Memory`] if an allocation fails.
 ///
@@ -44,10 +44,13 @@ pub fn find_in_toml(alloc: Global, text: &str, pointer: Pointer<'_>) -> Result<V
 ///
 /// # Errors
 ///
-/// - [`InTomlError::TooDeep`] if the pointer has more than 80 tokens.
 /// - [`InTomlError::NotToml`] if the text is not TOML.
+/// - [`InTomlError::DocumentTooDeep`] if the values of the document nest deeper than 80.
+/// - [`InTomlError::TooDeep`] if the pointer has more than 81 tokens.
 /// - [`InTomlError::BadPlace`] if no value can be assigned at the pointer.
-/// - [`InTomlError::NoText`] if the new document is not a table.
+/// - [`InTomlError::TooDeep`] if the values of the new document nest deeper than 80.
+/// - [`InTomlError::NoText`] if the new document is not a table, or has a date-time that TOML has no
+///   text for.
 /// - [`InTomlError::Memory`] if an allocation fails.
 ///
 /// # Examples
@@ -67,16 +70,23 @@ pub fn assign_in_toml(
         (string_bytes s)) }
     ensures failed { IfErr result (FailsToAssign text.now (tokens pointer.entry) (view value)) }
 {
-    if pointer.count() > MAX_TOKENS {
+    let mut document = read_toml(alloc, text)?;
+    if is_long(pointer) {
         return Err(InTomlError::TooDeep);
     }
-    let mut document = read_toml(alloc, text)?;
     match document.assign(alloc, pointer, value) {
-        Ok(_) => {}
-        Err(Fault::Refused(error)) => return Err(InTomlError::BadPlace(error)),
-        Err(Fault::Memory(error)) => return Err(InTomlError::Memory(error)),
+        Ok(_) => print_toml(alloc, document),
+        Err(Fault::Refused(error)) => Err(InTomlError::BadPlace(error)),
+        Err(Fault::Memory(error)) => Err(InTomlError::Memory(error)),
     }
-    print_toml(alloc, &document)
+}
+
+/// Returns whether the pointer has more than 81 tokens: no value at it is in a table whose values nest
+/// at most 80 deep.
+fn is_long(pointer: Pointer<'_>) -> bool
+    ensures { IsTrue result ↔ (suc max_depth < length (tokens pointer.entry)) }
+{
+    pointer.count() > MAX_DEPTH + 1
 }
 
 /// Deletes the value that the pointer resolves to, and returns the text of the new document. Deleting
@@ -85,7 +95,9 @@ pub fn assign_in_toml(
 /// # Errors
 ///
 /// - [`InTomlError::NotToml`] if the text is not TOML.
+/// - [`InTomlError::DocumentTooDeep`] if the values of the document nest deeper than 80.
 /// - [`InTomlError::NotThere`] if the pointer does not resolve to a value.
+/// - [`InTomlError::TooDeep`] if the values of the new document nest deeper than 80.
 /// - [`InTomlError::Memory`] if an allocation fails.
 ///
 /// # Examples
@@ -106,7 +118,7 @@ pub fn delete_in_toml(
 {
     let mut document = read_toml(alloc, text)?;
     match document.delete(alloc, pointer)? {
-        Some(_) => print_toml(alloc, &document),
+        Some(_) => print_toml(alloc, document),
         None => Err(InTomlError::NotThere),
     }
 }

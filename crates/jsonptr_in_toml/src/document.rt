@@ -1,13 +1,18 @@
 //! Reading and printing a TOML document.
-ghost use Rattle.std.specs.Prelude.{◌≡◌, Some, IfOk, IfErr, string_bytes};
-ghost use Rattle.toml.specs.View.{view};
+ghost use Rattle.std.specs.Prelude.{◌≡◌, ◌<◌, ◌≤◌, IfOk, IfErr, string_bytes};
+ghost use Rattle.toml.specs.Data.{members_depth, table as a_table};
+ghost use Rattle.toml.specs.View.{view, table_view};
+ghost use Rattle.toml_parser.specs.Strings.{recursion_limit as max_depth};
+ghost use Rattle.jsonptr_in_toml.specs.declared.error.InTomlError.TheVariants.{DocumentTooDeep};
 ghost use Rattle.jsonptr_in_toml.specs.InToml.{ReadsAs, PrintsAs};
 ghost use Rattle.jsonptr_in_toml.specs.PrivateInToml.{IsReadFault, IsPrintFault};
 
+use crate::depth::{MAX_DEPTH, table_within};
 use crate::error::InTomlError;
+use jsonptr_value::discard;
 use std::alloc::{AllocError, Global};
 use toml::ser::Error;
-use toml::{Value, table_from_str, table_to_string};
+use toml::{Table, Value, table_from_str, table_to_string};
 
 /// Reads the text as a table.
 pub fn read_toml(alloc: Global, text: &str) -> Result<Value, InTomlError>
@@ -15,23 +20,55 @@ pub fn read_toml(alloc: Global, text: &str) -> Result<Value, InTomlError>
     ensures failed { IfErr result (IsReadFault text.now) }
 {
     match table_from_str(alloc, text) {
-        Ok(table) => Ok(Value::Table(table)),
+        Ok(table) => shallow(table),
         Err(error) if error.is_memory() => Err(InTomlError::Memory(AllocError)),
         Err(_) => Err(InTomlError::NotToml),
     }
 }
 
-/// Prints the value as a document.
-pub fn print_toml(alloc: Global, value: &Value) -> Result<String, InTomlError>
-    ensures done { IfOk result (λ s. PrintsAs (view value.now) (string_bytes s)) }
-    ensures failed { IfErr result IsPrintFault }
+/// Returns the table as a value.
+///
+/// # Errors
+///
+/// [`InTomlError::DocumentTooDeep`] if its values nest deeper than 80.
+fn shallow(table: Table) -> Result<Value, InTomlError>
+    ensures done { IfOk result (λ v. (view v ≡ a_table (table_view table))
+        × (members_depth (table_view table) ≤ max_depth)) }
+    ensures failed { IfErr result
+        (λ e. (e ≡ DocumentTooDeep) × (max_depth < members_depth (table_view table))) }
+{
+    let is_shallow = table_within(&table, MAX_DEPTH);
+    let value = Value::Table(table);
+    if is_shallow {
+        return Ok(value);
+    }
+    discard(value);
+    Err(InTomlError::DocumentTooDeep)
+}
+
+/// Prints the value as a document, and drops it.
+pub fn print_toml(alloc: Global, value: Value) -> Result<String, InTomlError>
+    ensures done { IfOk result (λ s. PrintsAs (view value) (string_bytes s)) }
+    ensures failed { IfErr result (IsPrintFault (view value)) }
 {
     match value {
-        Value::Table(table) => match table_to_string(alloc, table) {
-            Ok(text) => Ok(text),
-            Err(Error::OutOfMemory) => Err(InTomlError::Memory(AllocError)),
-            Err(Error::DateInvalid) => Err(InTomlError::NoText),
-        },
+        Value::Table(table) => print_table(alloc, table),
         _ => Err(InTomlError::NoText),
+    }
+}
+
+/// Prints the table as a document, and drops it.
+fn print_table(alloc: Global, table: Table) -> Result<String, InTomlError>
+    ensures done { IfOk result (λ s. PrintsAs (a_table (table_view table)) (string_bytes s)) }
+    ensures failed { IfErr result (IsPrintFault (a_table (table_view table))) }
+{
+    if !table_within(&table, MAX_DEPTH) {
+        discard(Value::Table(table));
+        return Err(InTomlError::TooDeep);
+    }
+    match table_to_string(alloc, &table) {
+        Ok(text) => Ok(text),
+        Err(Error::OutOfMemory) => Err(InTomlError::Memory(AllocError)),
+        Err(Error::DateInvalid) => Err(InTomlError::NoText),
     }
 }

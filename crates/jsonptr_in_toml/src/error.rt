@@ -12,6 +12,9 @@ pub enum InTomlError {
     /// The text is not a TOML document.
     #[error("not TOML")]
     NotToml,
+    /// The values of the document nest deeper than 80.
+    #[error("the values of the document nest deeper than 80")]
+    DocumentTooDeep,
     /// The pointer does not resolve to a value.
     #[error(transparent)]
     NoValue(resolve::Error),
@@ -21,8 +24,8 @@ pub enum InTomlError {
     /// The pointer of the value to delete does not resolve.
     #[error("delete failed: json pointer does not resolve")]
     NotThere,
-    /// The pointer has more than 80 tokens. A document that nests deeper could not be read.
-    #[error("the pointer has more than 80 tokens")]
+    /// The values of the new document nest deeper than 80, so that its text could not be read.
+    #[error("the values of the new document nest deeper than 80")]
     TooDeep,
     /// The new document is not a table, or has a date-time that TOML has no text for.
     #[error("the new document has no TOML text")]

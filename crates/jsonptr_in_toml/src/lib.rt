@@ -16,6 +16,7 @@
 #![tactic(auto)]
 
 mod change;
+mod depth;
 mod document;
 mod error;
 mod listing;

@@ -14,6 +14,7 @@ use std::alloc::Global;
 /// # Errors
 ///
 /// - [`InTomlError::NotToml`] if the text is not TOML.
+/// - [`InTomlError::DocumentTooDeep`] if the values of the document nest deeper than 80.
 /// - [`InTomlError::Memory`] if an allocation fails.
 ///
 /// # Examples

@@ -6,18 +6,22 @@ use Rattle.std.proofs.lemmas.Bool.{eqb-true, eqb-false}
 use Rattle.std.proofs.lemmas.List.{get_or-take, length-take-le}
 use Rattle.std.proofs.lemmas.List.Elements.{All-from_get_or}
 use Rattle.std.proofs.lemmas.List.Sums.{fails_before_first, passes_at_first, split_at_first}
-use Rattle.serde_json.specs.Data.{null, string}
-use Rattle.serde_json.specs.Read.{read}
+use Rattle.serde_json.specs.Data.{Data, null, string, depth}
+use Rattle.serde_json.specs.Read.{read, max_depth}
 use Rattle.jsonptr.specs.Text.{Text, text}
 use Rattle.jsonptr.specs.Json.{nodes}
 use Rattle.jsonptr.specs.Node.{NodeMap}
+use Rattle.jsonptr.specs.Assigning.{Assigns}
+use Rattle.jsonptr_value.specs.Nesting.{NestsWithin}
+use Rattle.jsonptr_value.proofs.LevelLemmas.{NestsWithin-depth}
+use Rattle.jsonptr_value.proofs.NestingLemmas.{Assigns-within}
 use Rattle.jsonptr_grammar.specs.Grammar.{IsPointer}
 use Rattle.jsonptr.proofs.Calling.{IsPointer-text}
 use Rattle.jsonptr_base.specs.Fault.{IfRefused}
 use Rattle.jsonptr_base.specs.declared.fault.Fault.{Fault}
 use Rattle.jsonptr_base.specs.declared.fault.Fault.TheVariants as fault
 use Rattle.jsonptr_lines.specs.Lines.{IsOneLine, AreLines}
-use Rattle.jsonptr_paths.specs.Reading.{CutsAt, ReadsField, AssignsLine, AssignsLines, Builds, IsLineError, StopsBuilding}
+use Rattle.jsonptr_paths.specs.Reading.{CutsAt, ReadsField, Fits, AssignsLine, AssignsLines, Builds, IsLineError, StopsBuilding}
 use Rattle.jsonptr_paths.specs.PrivateReading.{IsFirstLine, Progress, of_line}
 use Rattle.jsonptr_paths.specs.declared.reading.LineError.{LineError}
 use Rattle.jsonptr_paths.specs.declared.reading.BuildError.{BuildError}
@@ -62,6 +66,10 @@ no_field field plain quoted ts h = elim h [
   | inl e ↦ plain (subst IsPointer (sym e) (IsPointer-text ts))
   | inr e ↦ quoted (text ts) e (IsPointer-text ts)
 ]
+
+-- a value that fits keeps the document as shallow as a text that is read
+pub readable_more : (n m : NodeMap) (ts : List Text) (v : Data) (old : Option NodeMap) → Assigns n ts (nodes v) m old → Fits ts v → NestsWithin max_depth n → NestsWithin max_depth m
+readable_more n m ts v old made fits h = Assigns-within max_depth (depth v) n ts (nodes v) m old made h (NestsWithin-depth v) fits
 
 -- lines in a row
 

@@ -1,5 +1,5 @@
 -- The lines of a document are read back: each as the pointer and the value of its node, and all of them as the document.
-use Rattle.std.proofs.Common.{◌≡◌, ◌≢◌, inl, inr, ℕ, ◌<◌, ◌≤◌, List, [], ◌∷◌, ◌++◌, length, Option, Some, None, IsSome, option_map, All, refl, sym, ap, ap₂, subst, ◌∙◌, arith, append_assoc, append-nil}
+use Rattle.std.proofs.Common.{◌≡◌, ◌≢◌, inl, inr, ℕ, ◌+◌, ◌<◌, ◌≤◌, List, [], ◌∷◌, ◌++◌, length, Option, Some, None, IsSome, option_map, All, refl, sym, ap, ap₂, subst, ◌∙◌, arith, append_assoc, append-nil}
 use Rattle.std.specs.List.{AllByRecursion}
 use Rattle.std.proofs.lemmas.List.Elements.{All-append, All-cons, recursion_from_All}
 use Rattle.serde_json.specs.Data.{Data, null, boolean, number, string, array, object, no_items, no_members, depth}
@@ -12,14 +12,16 @@ use Rattle.jsonptr.specs.Assign.{assign_position_of, assign_offset_of}
 use Rattle.jsonptr.specs.Landing.{Lands, LandsNowhere}
 use Rattle.jsonptr.specs.Assigning.{Assigns}
 use Rattle.jsonptr.proofs.Calling.{text_one, map_of-IsTree, nodes_one}
-use Rattle.jsonptr_depth.proofs.LevelLemmas.{NestsWithin-depth}
-use Rattle.jsonptr_depth.proofs.NestingLemmas.{Names-within}
+use Rattle.jsonptr_value.specs.Nesting.{IsContainer}
+use Rattle.jsonptr_value.proofs.LevelLemmas.{NestsWithin-depth}
+use Rattle.jsonptr_value.proofs.NestingLemmas.{Names-within}
+use Rattle.jsonptr_tree.proofs.NodeLemmas.{Names-length}
 use Rattle.jsonptr_tree.proofs.LandingLemmas.{Lands_named, Lands-LandsNowhere}
 use Rattle.jsonptr_lines.specs.Lines.{IsOneLine, AreLines}
 use Rattle.jsonptr_lines.proofs.LineLemmas.{one_lines}
 use Rattle.jsonptr_paths.specs.Walking.{Before, IsWalk}
 use Rattle.jsonptr_paths.specs.Listing.{emptied, IsField, IsCompact, IsLineOf, AreShown, Lists}
-use Rattle.jsonptr_paths.specs.Reading.{CutsAt, ReadsField, ReadsLine, AssignsLine, AssignsLines, Builds, IsLineError, StopsBuilding}
+use Rattle.jsonptr_paths.specs.Reading.{CutsAt, ReadsField, ReadsLine, Fits, AssignsLine, AssignsLines, Builds, IsLineError, StopsBuilding}
 use Rattle.jsonptr_paths.specs.PrivateRebuilding.{IsPart, IsNext, IsEmptied, Named, IsRow, AreRows}
 use Rattle.jsonptr_paths.specs.declared.listing.Listed.TheVariants.{AllNodes}
 use Rattle.jsonptr_paths.specs.declared.reading.LineError.{LineError}
@@ -148,7 +150,7 @@ row_emptied d v ts f = subst (IsEmptied (nodes (emptied v))) (sym (ap (option_ma
 row_assigns : (d : Data) (ts : List Text) (l : Text) (m k : NodeMap) (row : IsRow d ts l) → AssignsLine m l k → (old : Option NodeMap) × Assigns m ts (nodes (emptied row.0)) k old
 row_assigns d ts l m k row a =
     let one = row_value d ts a.0 l a.1 row a.3 in
-    (a.2, subst (λ (us : List Text). Assigns m us (nodes (emptied row.0)) k a.2) one.0 (subst (λ (v : Data). Assigns m a.0 (nodes v) k a.2) one.1 a.4))
+    (a.2, subst (λ (us : List Text). Assigns m us (nodes (emptied row.0)) k a.2) one.0 (subst (λ (v : Data). Assigns m a.0 (nodes v) k a.2) one.1 a.5))
 
 not_root : (n m : NodeMap) (Seen : Path → Type 0) (p : Path) → IsPart n Seen m → IsNext n Seen p → p ≢ []
 not_root n m Seen p part next e = subst (Before []) e (next.after [] (part.seen [] part.tree.root))
@@ -240,8 +242,23 @@ row_lands d (us ∷ above) below ts l before m walk rows row a =
     let next = next_of n (us ∷ above) below ts f.path tree walk f.named in
     (f.path, part_lands n m (Named n (us ∷ above)) ts f.path tree part next (not_root n m (Named n (us ∷ above)) f.path part next) f.named)
 
-row_fits : (d : Data) (ts : List Text) (l : Text) (row : IsRow d ts l) → length ts ≤ depth d
-row_fits d ts l row = Names-within (depth d) (nodes d) ts row.3.path (NestsWithin-depth d) row.3.named
+-- an array or object is above the depth of the document, and an empty one adds one level
+emptied_fits : (d v : Data) (ts : List Text) (f : FindsValue d ts v) → length f.path ≤ depth d → (IsContainer (nodes d f.path) → length f.path < depth d) → length f.path + depth (emptied v) ≤ depth d
+emptied_fits d null ts f le below = omega (arith, le)
+emptied_fits d (boolean b) ts f le below = omega (arith, le)
+emptied_fits d (number n) ts f le below = omega (arith, le)
+emptied_fits d (string t) ts f le below = omega (arith, le)
+emptied_fits d (array ds) ts f le below = let low : length f.path < depth d = below (subst IsContainer (sym (ap (option_map label_of) f.there)) tt) in omega (arith, low)
+emptied_fits d (object ms) ts f le below = let low : length f.path < depth d = below (subst IsContainer (sym (ap (option_map label_of) f.there)) tt) in omega (arith, low)
+
+row_fits : (d : Data) (ts : List Text) (l : Text) (row : IsRow d ts l) → length ts + depth (emptied row.0) ≤ depth d
+row_fits d ts l row =
+    let f = row.3 in
+    let same : length ts ≡ length f.path = Names-length (nodes d) ts f.path f.named in
+    let few : length ts ≤ depth d = Names-within (depth d) (nodes d) ts f.path (NestsWithin-depth d) f.named in
+    let le : length f.path ≤ depth d = omega (arith, same, few) in
+    let fits : length f.path + depth (emptied row.0) ≤ depth d = emptied_fits d row.0 ts f le (λ c. NestsWithin-depth d f.path c) in
+    omega (arith, same, fits)
 
 tab_there : (a x : Text) → AllByRecursion (λ z. z ≢ 9) (a ++ 9 ∷ x) → ⊥
 tab_there [] x h = h.0 refl
@@ -250,19 +267,19 @@ tab_there (z ∷ a) x h = tab_there a x h.1
 row_error : (d : Data) (ts : List Text) (l : Text) (m : NodeMap) (p : Path) (e : LineError) → depth d ≤ 127 → IsRow d ts l → Lands m ts p [] → IsLineError m l e → ⊥
 row_error d ts l m p NoTab shallow row lands h = tab_there row.1 row.2 (recursion_from_All (λ b. b ≢ 9) (row.1 ++ 9 ∷ row.2) (subst (All (λ b. b ≢ 9)) row.6 h))
 row_error d ts l m p NotPointer shallow row lands h = h.3 ts (field_reads ts h.0 (row_one d ts ts l row h.0 h.1 h.2).0)
-row_error d ts l m p TooDeep shallow row lands h =
-    let same : h.2 ≡ ts = field_one ts h.2 h.0 (row_one d ts ts l row h.0 h.1 h.3).0 h.4 in
-    let few : length ts ≤ depth d = row_fits d ts l row in
-    let long : 127 < length ts = subst (λ (us : List Text). 127 < length us) same h.5 in
-    omega arith
 row_error d ts l m p NotJson shallow row lands h =
-    let none : Some (emptied row.0) ≡ None = sym row.5.reads_back ∙ ap read (sym (row_one d ts ts l row h.0 h.1 h.2).1) ∙ h.3 in
+    let none : Some (emptied row.0) ≡ None = sym row.5.reads_back ∙ ap read (sym (row_one d ts ts l row h.0 h.1 h.3).1) ∙ h.5 in
     let wrong : ⊥ = cc in
     wrong
+row_error d ts l m p TooDeep shallow row lands h =
+    let one = row_value d ts h.0 l h.1 row h.2 in
+    let fits : length ts + depth (emptied row.0) ≤ depth d = row_fits d ts l row in
+    let all : Fits ts (emptied row.0) = omega (arith, fits, shallow) in
+    h.3 (subst (λ (us : List Text). Fits us h.1) (sym one.0) (subst (Fits ts) (sym one.1) all))
 row_error d ts l m p (BadPlace e) shallow row lands h =
     let same = (row_value d ts h.0 l h.1 row h.2).0 in
-    let nowhere : LandsNowhere m ts (assign_position_of e) (assign_offset_of e) h.3.len h.3.token = subst (λ (us : List Text). LandsNowhere m us (assign_position_of e) (assign_offset_of e) h.3.len h.3.token) same h.3.nowhere in
-    Lands-LandsNowhere m ts (assign_position_of e) (assign_offset_of e) h.3.len h.3.token p [] lands nowhere
+    let nowhere : LandsNowhere m ts (assign_position_of e) (assign_offset_of e) h.4.len h.4.token = subst (λ (us : List Text). LandsNowhere m us (assign_position_of e) (assign_offset_of e) h.4.len h.4.token) same h.4.nowhere in
+    Lands-LandsNowhere m ts (assign_position_of e) (assign_offset_of e) h.4.len h.4.token p [] lands nowhere
 
 pub never_stops : (d : Data) (out : Text) (i : ℕ) (e : LineError) → depth d ≤ 127 → Lists AllNodes d out → StopsBuilding out (Line i e) → ⊥
 never_stops d out i e shallow lists stops =

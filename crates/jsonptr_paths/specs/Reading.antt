@@ -1,7 +1,7 @@
 -- The document that lines build, and why a line adds no value.
-use Rattle.std.specs.Prelude.{◌≡◌, ◌≢◌, ◌⊎◌, ℕ, ◌+◌, ◌<◌, List, [], ◌∷◌, ◌++◌, length, All, Option, Some, None, ⊤}
-use Rattle.serde_json.specs.Data.{Data, null, string}
-use Rattle.serde_json.specs.Read.{read}
+use Rattle.std.specs.Prelude.{◌≡◌, ◌≢◌, ◌⊎◌, ℕ, ◌+◌, ◌≤◌, List, [], ◌∷◌, ◌++◌, length, All, Option, Some, None, ⊤}
+use Rattle.serde_json.specs.Data.{Data, null, string, depth}
+use Rattle.serde_json.specs.Read.{read, max_depth}
 use Rattle.jsonptr_grammar.specs.Text.{Text, text}
 use Rattle.jsonptr_tree.specs.Node.{NodeMap}
 use Rattle.jsonptr_tree.specs.Json.{nodes}
@@ -26,11 +26,16 @@ abbrev pub ReadsLine : Text → List Text → Data → Type 0
 ReadsLine line ts v =
     (field json : Text) × CutsAt 9 line field json × ReadsField field ts × (read json ≡ Some v)
 
--- `AssignsLine n line m`: assigning the value of `line` at its pointer turns the map n into m
+-- `Fits ts v`: the value v, at a pointer with the tokens ts, nests no deeper in its document than a text that is read
+abbrev pub Fits : List Text → Data → Type 0
+Fits ts v = length ts + depth v ≤ max_depth
+
+-- `AssignsLine n line m`: assigning the value of `line` at its pointer, where it fits, turns the map n into m
 abbrev pub AssignsLine : NodeMap → Text → NodeMap → Type 0
 AssignsLine n line m =
     (ts : List Text) × (v : Data) × (old : Option NodeMap)
     × ReadsLine line ts v
+    × Fits ts v
     × Assigns n ts (nodes v) m old
 
 -- `AssignsLines n lines m`: assigning the values of `lines`, in order, turns the map n into m
@@ -42,16 +47,16 @@ AssignsLines n (l ∷ ls) m = (k : NodeMap) × AssignsLine n l k × AssignsLines
 abbrev pub Builds : Text → NodeMap → Type 0
 Builds text m = (ls : List Text) × AreLines text ls × AssignsLines (nodes null) ls m
 
--- `IsLineError n line e`: e is why `line` adds no value to the map n
+-- `IsLineError n line e`: e is the first reason why `line` adds no value to the map n
 abbrev pub IsLineError : NodeMap → Text → LineError → Type 0
 IsLineError n line NoTab = All (λ b. b ≢ 9) line
 IsLineError n line NotPointer =
     (field json : Text) × CutsAt 9 line field json × ((ts : List Text) → ReadsField field ts → ⊥)
-IsLineError n line TooDeep =
-    (field json : Text) × (ts : List Text) × CutsAt 9 line field json × ReadsField field ts × (127 < length ts)
-IsLineError n line NotJson = (field json : Text) × CutsAt 9 line field json × (read json ≡ None)
+IsLineError n line NotJson =
+    (field json : Text) × (ts : List Text) × CutsAt 9 line field json × ReadsField field ts × (read json ≡ None)
+IsLineError n line TooDeep = (ts : List Text) × (v : Data) × ReadsLine line ts v × (Fits ts v → ⊥)
 IsLineError n line (BadPlace e) =
-    (ts : List Text) × (v : Data) × ReadsLine line ts v × RefusesAssign n ts e
+    (ts : List Text) × (v : Data) × ReadsLine line ts v × Fits ts v × RefusesAssign n ts e
 
 -- `StopsBuilding text e`: e is why the lines of `text` build no document, if it is not for memory. The line with this
 -- number, from 1, adds no value after those before it

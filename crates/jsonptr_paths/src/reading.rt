@@ -1,18 +1,21 @@
 //! The JSON document that lines build.
-ghost use Rattle.std.specs.Prelude.{◌≡◌, ◌≢◌, ◌<◌, [], All, MatchOption, Some, None, IfOk, IfErr, string_bytes};
-ghost use Rattle.serde_json.specs.Data.{string};
-ghost use Rattle.serde_json.specs.Read.{read};
+ghost use Rattle.std.specs.Prelude.{◌≡◌, ◌≢◌, ◌<◌, ◌≤◌, ◌↔◌, [], All, IsTrue, MatchOption, Some, None, IfOk, IfErr, string_bytes};
+ghost use Rattle.serde_json.specs.Data.{string, depth};
+ghost use Rattle.serde_json.specs.Read.{read, max_depth};
 ghost use Rattle.serde_json.specs.View.{view};
 ghost use Rattle.jsonptr.specs.Fault.{IfRefused};
 ghost use Rattle.jsonptr.specs.Json.{nodes, HasSortedKeys};
+ghost use Rattle.jsonptr.specs.Pointer.{tokens};
 ghost use Rattle.jsonptr.specs.Text.{Text, text};
 ghost use Rattle.jsonptr.specs.Grammar.{IsPointer};
-ghost use Rattle.jsonptr_paths.specs.Reading.{CutsAt, ReadsField, AssignsLine, Builds, IsLineError, StopsBuilding};
+ghost use Rattle.jsonptr_paths.specs.Reading.{CutsAt, ReadsField, Fits, AssignsLine, Builds, IsLineError, StopsBuilding};
+ghost use Rattle.jsonptr_value.specs.Nesting.{NestsWithin};
 ghost use Rattle.jsonptr_paths.specs.PrivateReading.{IsFirstLine, of_line};
 ghost use Rattle.jsonptr_paths.specs.declared.reading.LineError.TheVariants.{NotPointer, NotJson};
 
 use jsonptr::{Fault, Pointer, PointerBuf, assign};
 use jsonptr_lines::laws::lines_law;
+use jsonptr_value::{MAX_DEPTH, depth_law, nests_within};
 use serde_json::Value;
 use std::alloc::{AllocError, Global};
 use thiserror::Error;
@@ -26,12 +29,13 @@ pub enum LineError {
     /// What is before the tab is neither a pointer nor a JSON string of one.
     #[error("not a pointer")]
     NotPointer,
-    /// The pointer has more than 127 tokens.
-    #[error("the pointer has more than 127 tokens")]
-    TooDeep,
     /// What is after the tab is not a JSON text.
     #[error("not JSON after the tab")]
     NotJson,
+    /// The tokens of the pointer and the levels of the value are more than 127 together. The document
+    /// would nest deeper than that.
+    #[error("the document would nest deeper than 127")]
+    TooDeep,
     /// No value can be assigned at the pointer.
     #[error(transparent)]
     BadPlace(assign::Error),
@@ -48,9 +52,6 @@ pub enum BuildError {
     Memory(AllocError),
 }
 
-// The most tokens of a pointer, which is the depth that a document has at most when it is read.
-const MAX_TOKENS: usize = 127;
-
 /// Returns the document that the lines build: the value of each line is assigned at its pointer, in
 /// order, and the document is `null` at first.
 ///
@@ -64,7 +65,9 @@ const MAX_TOKENS: usize = 127;
 ///
 /// # Errors
 ///
-/// - [`BuildError::Line`] with the number of the first line that adds no value.
+/// - [`BuildError::Line`] with the number of the first line that adds no value, and the first of its
+///   faults in the order of [`LineError`]. No line makes the document nest deeper than 127, so its
+///   text can be read.
 /// - [`BuildError::Memory`] if an allocation fails.
 ///
 /// # Examples
@@ -80,8 +83,10 @@ const MAX_TOKENS: usize = 127;
 pub fn build(alloc: Global, text: &str) -> Result<Value, BuildError>
     ensures done { IfOk result (λ v. Builds text.now (nodes (view v))) }
     ensures sorted { IfOk result (λ v. HasSortedKeys (view v)) }
+    ensures readable { IfOk result (λ v. depth (view v) ≤ max_depth) }
     ensures failed { IfErr result (StopsBuilding text.now) }
 {
+    depth_law();
     lines_law();
     let mut document = Value::Null;
     let mut rest = text;
@@ -132,21 +137,31 @@ fn assign_line(alloc: Global, document: &mut Value, line: &str) -> Result<(), Fa
         (nodes (view document.new))) }
     ensures sorted { IfOk result (λ _. HasSortedKeys (view document.old)
         → HasSortedKeys (view document.new)) }
+    ensures readable { IfOk result (λ _. NestsWithin max_depth (nodes (view document.old))
+        → NestsWithin max_depth (nodes (view document.new))) }
     ensures refused { IfRefused result (IsLineError (nodes (view document.old)) line.now) }
 {
     let Some((field, json)) = cut(line, '\t') else {
         return Err(Fault::Refused(LineError::NoTab));
     };
     let pointer = pointer_of(alloc, field)?;
-    if pointer.as_ptr().count() > MAX_TOKENS {
+    let value = value_of(alloc, json)?;
+    if !fits(pointer.as_ptr(), &value) {
         return Err(Fault::Refused(LineError::TooDeep));
     }
-    let value = value_of(alloc, json)?;
     match pointer.as_ptr().assign(alloc, document, value) {
         Ok(_) => Ok(()),
         Err(Fault::Refused(error)) => Err(Fault::Refused(LineError::BadPlace(error))),
         Err(Fault::Memory(error)) => Err(Fault::Memory(error)),
     }
+}
+
+/// Returns whether the tokens of the pointer and the levels of the value are at most 127 together.
+fn fits(pointer: Pointer<'_>, value: &Value) -> bool
+    ensures { IsTrue result ↔ Fits (tokens pointer.entry) (view value.now) }
+{
+    let count = pointer.count();
+    count <= MAX_DEPTH && nests_within(value, MAX_DEPTH - count)
 }
 
 /// Reads a pointer, or a JSON string of one.

@@ -16,6 +16,7 @@ loop-rest-preserved c =
           c.in-Ok.ensures.done,
       omega (arith, less, c.loop-rest.invariant.2),
       c.in-Ok.ensures.sorted c.loop-rest.invariant.3,
+      c.in-Ok.ensures.readable c.loop-rest.invariant.4,
     )
 
 pub returns-clause-done : goal.returns-clause-done
