@@ -128,11 +128,16 @@ fn patch(rt: &HostRuntime, matches: &ArgMatches<'_>) -> Result<u8, Problem> {
 /// Prints the patch document that turns one document into another.
 fn diff(rt: &HostRuntime, matches: &ArgMatches<'_>) -> Result<u8, Problem> {
     let alloc = rt.alloc();
+    let name = argument(matches, "NEW");
     let old = document_of(rt, argument(matches, "OLD"))?;
-    let new = document_of(rt, argument(matches, "NEW"))?;
-    let difference = difference_of(alloc, &old, &new, layout_of(matches))?;
-    print_line(rt, difference.text.as_str())?;
-    Ok(if difference.is_empty { 0 } else { NOT_APPLIED })
+    let new = document_of(rt, name)?;
+    match difference_of(alloc, &old, &new, layout_of(matches)) {
+        Ok(difference) => {
+            print_line(rt, difference.text.as_str())?;
+            Ok(if difference.is_empty { 0 } else { NOT_APPLIED })
+        }
+        Err(failure) => Err(Problem::of_failure(alloc, name_of(Some(name)), "", failure)),
+    }
 }
 
 /// Reads a document from a file or from standard input.

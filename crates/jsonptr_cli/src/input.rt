@@ -6,9 +6,16 @@ use std::fs::File;
 use std::io;
 use std::io::Read;
 
-/// The input of a command.
+/// The input of a command, which notes why a read failed.
 #[derive(Drop)]
-pub enum Input {
+pub struct Input {
+    stream: Stream,
+    failure: Option<i32>,
+}
+
+/// Where the input is from.
+#[derive(Drop)]
+enum Stream {
     /// Standard input.
     Standard(io::Stdin),
     /// A file.
@@ -34,9 +41,9 @@ pub fn name_of<'a>(file: Option<&'a str>) -> &'a str {
 /// Opens the input.
 pub fn open(rt: &HostRuntime, file: Option<&str>) -> Result<Input, Problem> {
     match file {
-        None | Some("-") => Ok(Input::Standard(rt.stdin())),
+        None | Some("-") => Ok(Input::of(Stream::Standard(rt.stdin()))),
         Some(path) => match File::open(rt, path) {
-            Ok(file) => Ok(Input::File(file)),
+            Ok(file) => Ok(Input::of(Stream::File(file))),
             Err(error) => Err(problem(rt.alloc(), path, &error)),
         },
     }
@@ -63,18 +70,42 @@ pub fn problem(alloc: Global, name: &str, error: &io::Error) -> Problem {
     }
 }
 
+/// Returns the problem of a stream, with the reason of the system if there is one.
+pub fn stream_problem(alloc: Global, name: &str, message: &str, reason: Option<i32>) -> Problem {
+    let Some(code) = reason else {
+        return Problem::new(alloc, FILE, name, message);
+    };
+    let error = io::Error::from_raw_os_error(code);
+    match format!(in alloc; "{message}: {error}") {
+        Ok(message) => Problem::new(alloc, FILE, name, message.as_str()),
+        Err(_) => Problem::Memory,
+    }
+}
+
 impl Input {
+    /// Returns the input from a stream.
+    fn of(stream: Stream) -> Input {
+        Input {
+            stream,
+            failure: None,
+        }
+    }
+
     /// Returns the problem of a failed read.
     pub fn read_problem(&self, alloc: Global, name: &str) -> Problem {
-        Problem::new(alloc, FILE, name, "reading failed")
+        stream_problem(alloc, name, "reading failed", self.failure)
     }
 }
 
 impl Read for Input {
     fn read(&mut self, buf: &mut [u8]) -> io::Result<usize> {
-        match self {
-            Input::Standard(stream) => stream.read(buf),
-            Input::File(file) => file.read(buf),
+        let read = match &mut self.stream {
+            Stream::Standard(stream) => stream.read(buf),
+            Stream::File(file) => file.read(buf),
+        };
+        if let Err(error) = &read {
+            self.failure = error.raw_os_error();
         }
+        read
     }
 }

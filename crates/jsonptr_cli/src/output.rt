@@ -1,15 +1,17 @@
 //! Standard output.
 
-use crate::problem::{FILE, Problem};
+use crate::input::stream_problem;
+use crate::problem::Problem;
 use std::alloc::Global;
 use std::io;
 use std::io::{BufWriter, ErrorKind, Write};
 
-/// Standard output, which notes that nobody reads it any more.
+/// Standard output, which notes that nobody reads it any more, and why a write failed.
 #[derive(Drop)]
 pub struct Output {
     stream: io::Stdout,
     is_closed: bool,
+    failure: Option<i32>,
 }
 
 impl Output {
@@ -18,6 +20,7 @@ impl Output {
         Output {
             stream: rt.stdout(),
             is_closed: false,
+            failure: None,
         }
     }
 
@@ -26,7 +29,7 @@ impl Output {
         if self.is_closed {
             Problem::OutputClosed
         } else {
-            Problem::new(alloc, FILE, "standard output", "writing failed")
+            stream_problem(alloc, "standard output", "writing failed", self.failure)
         }
     }
 }
@@ -36,6 +39,7 @@ impl Write for Output {
         let written = self.stream.write(buf);
         if let Err(error) = &written {
             self.is_closed = self.is_closed || error.kind() == ErrorKind::BrokenPipe;
+            self.failure = error.raw_os_error();
         }
         written
     }

@@ -50,7 +50,7 @@ impl Problem {
     /// Returns the problem with one line of text: the program, the name of the file or argument, and
     /// the message.
     pub fn new(alloc: Global, status: u8, name: &str, message: &str) -> Problem {
-        match format!(in alloc; "jp: {name}: {message}\n") {
+        match line(alloc, name, message) {
             Ok(text) => Problem::Other(status, text),
             Err(_) => Problem::Memory,
         }
@@ -99,6 +99,27 @@ impl Problem {
     }
 }
 
+/// Returns the line of an error.
+fn line(alloc: Global, name: &str, message: &str) -> Result<String, AllocError> {
+    let name = shown(alloc, name)?;
+    Ok(format!(in alloc; "jp: {name}: {message}\n")?)
+}
+
+/// Returns the name of a file as it is shown: a control character in it is escaped.
+pub fn shown(alloc: Global, name: &str) -> Result<String, AllocError> {
+    let mut text = String::new(alloc);
+    for c in name.chars() {
+        if c.is_control() {
+            for escaped in c.escape_default() {
+                text.push(escaped)?;
+            }
+        } else {
+            text.push(c)?;
+        }
+    }
+    Ok(text)
+}
+
 impl From<AllocError> for Problem {
     fn from(_error: AllocError) -> Problem {
         Problem::Memory
@@ -121,6 +142,7 @@ fn text_of(
     if matches!(failure, Failure::Memory(_)) {
         return Ok(None);
     }
+    let name = shown(alloc, name)?;
     let mut text = format!(in alloc; "jp: {name}: {failure}\n")?;
     if let Some(drawn) = drawing(alloc, pointer, failure)? {
         text.push_str(drawn.as_str())?;
@@ -152,6 +174,7 @@ fn patch_text(
     let Failure::NotPatch(error) = failure else {
         return Ok(None);
     };
+    let name = shown(alloc, name)?;
     let mut text = format!(in alloc; "jp: {name}: {error}\n")?;
     if let Some(pointer) = error.pointer_text(document) {
         let report = error.into_report(String::from_str(alloc, pointer)?);
@@ -182,6 +205,7 @@ fn token_text(alloc: Global, token: &str, error: EncodingError) -> Result<String
 /// Returns the text of the error of bytes that are not JSON, with its line and column. Returns `None`
 /// if reading them fails for memory.
 fn json_text(alloc: Global, name: &str, bytes: &[u8]) -> Result<Option<String>, AllocError> {
+    let name = shown(alloc, name)?;
     match Value::from_slice(alloc, bytes) {
         Ok(_) => Ok(Some(format!(in alloc; "jp: {name}: not JSON\n")?)),
         Err(error) if error.is_memory() => Ok(None),

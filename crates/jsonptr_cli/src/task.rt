@@ -1,6 +1,6 @@
 //! Running a task: on one document, on each line, or on a file in place.
 
-use crate::in_place::replace_file;
+use crate::in_place::{open_file, replace_text};
 use crate::input::{is_standard, name_of, open, problem, read_all};
 use crate::output::Output;
 use crate::problem::{NOT_APPLIED, Problem, USAGE};
@@ -96,11 +96,11 @@ fn in_place(
     if is_standard(file) {
         return Err(Problem::new(alloc, USAGE, "--in-place", "needs a file"));
     }
-    let bytes = read_all(rt, file)?;
+    let (target, bytes) = open_file(rt, path)?;
     match document_result(alloc, task, layout, &bytes) {
         Ok(new) => {
             if new.as_bytes() != bytes.as_slice() {
-                replace_file(rt, path, new.as_str())?;
+                replace_text(rt, path, &target, new.as_str())?;
             }
             Ok(0)
         }

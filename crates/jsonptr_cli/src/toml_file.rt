@@ -1,6 +1,6 @@
 //! Commands on TOML documents. A changed document is printed anew.
 
-use crate::in_place::replace_file;
+use crate::in_place::{Target, open_file, replace_text};
 use crate::input::{is_standard, name_of, read_all};
 use crate::output::{print_line, print_text};
 use crate::problem::{FILE, NOT_APPLIED, NOT_JSON, Problem, USAGE};
@@ -56,9 +56,9 @@ pub fn set(
     let file = matches.get_str("FILE");
     no_lines(alloc, matches)?;
     let value = value_of(alloc, "JSON", value)?;
-    let text = read_text(rt, file)?;
-    match assign_in_toml(alloc, text.as_str(), pointer, value) {
-        Ok(new) => put(rt, matches, text.as_str(), new.as_str()),
+    let source = source_of(rt, matches)?;
+    match assign_in_toml(alloc, source.text.as_str(), pointer, value) {
+        Ok(new) => put(rt, name_of(file), &source, new.as_str()),
         Err(error) => Err(problem(alloc, file, pointer, error)),
     }
 }
@@ -72,9 +72,9 @@ pub fn delete(
     let alloc = rt.alloc();
     let file = matches.get_str("FILE");
     no_lines(alloc, matches)?;
-    let text = read_text(rt, file)?;
-    match delete_in_toml(alloc, text.as_str(), pointer) {
-        Ok(new) => put(rt, matches, text.as_str(), new.as_str()),
+    let source = source_of(rt, matches)?;
+    match delete_in_toml(alloc, source.text.as_str(), pointer) {
+        Ok(new) => put(rt, name_of(file), &source, new.as_str()),
         Err(error) => Err(problem(alloc, file, pointer, error)),
     }
 }
@@ -92,19 +92,42 @@ pub fn paths(rt: &HostRuntime, file: Option<&str>, which: Listed) -> Result<u8, 
     }
 }
 
-/// Prints the new document, or replaces the content of the file by it.
-fn put(rt: &HostRuntime, matches: &ArgMatches<'_>, old: &str, new: &str) -> Result<u8, Problem> {
-    if !matches.get_flag("in-place") {
-        print_text(rt, new)?;
-        return Ok(0);
-    }
+/// The text of a document that is changed, and its file if that is edited in place.
+#[derive(Drop)]
+struct Source {
+    text: String,
+    target: Option<Target>,
+}
+
+/// Reads the document that is changed.
+fn source_of(rt: &HostRuntime, matches: &ArgMatches<'_>) -> Result<Source, Problem> {
     let file = matches.get_str("FILE");
+    if !matches.get_flag("in-place") {
+        return Ok(Source {
+            text: read_text(rt, file)?,
+            target: None,
+        });
+    }
     if is_standard(file) || !matches.get_flag("reformat") {
         let message = "on TOML it needs a file, and --reformat, since comments and layout go";
         return Err(Problem::new(rt.alloc(), USAGE, "--in-place", message));
     }
-    if new != old {
-        replace_file(rt, name_of(file), new)?;
+    let (target, bytes) = open_file(rt, name_of(file))?;
+    Ok(Source {
+        text: utf8_of(rt.alloc(), name_of(file), &bytes)?,
+        target: Some(target),
+    })
+}
+
+/// Prints the new document, or replaces the text of the file by it.
+fn put(rt: &HostRuntime, name: &str, source: &Source, new: &str) -> Result<u8, Problem> {
+    match &source.target {
+        None => print_text(rt, new)?,
+        Some(target) => {
+            if new != source.text.as_str() {
+                replace_text(rt, name, target, new)?;
+            }
+        }
     }
     Ok(0)
 }
@@ -119,10 +142,14 @@ fn no_lines(alloc: Global, matches: &ArgMatches<'_>) -> Result<(), Problem> {
 
 /// Reads the text of a file.
 fn read_text(rt: &HostRuntime, file: Option<&str>) -> Result<String, Problem> {
-    let bytes = read_all(rt, file)?;
-    match from_utf8(&bytes) {
-        Ok(text) => Ok(String::from_str(rt.alloc(), text)?),
-        Err(_) => Err(Problem::new(rt.alloc(), NOT_JSON, name_of(file), "not UTF-8")),
+    utf8_of(rt.alloc(), name_of(file), &read_all(rt, file)?)
+}
+
+/// Returns the text that the bytes of a file are.
+fn utf8_of(alloc: Global, name: &str, bytes: &[u8]) -> Result<String, Problem> {
+    match from_utf8(bytes) {
+        Ok(text) => Ok(String::from_str(alloc, text)?),
+        Err(_) => Err(Problem::new(alloc, NOT_JSON, name, "not UTF-8")),
     }
 }
 
@@ -138,7 +165,7 @@ fn value_of(alloc: Global, name: &str, text: &str) -> Result<Value, Problem> {
 /// Returns the problem of an error.
 fn problem(alloc: Global, file: Option<&str>, pointer: Pointer<'_>, error: InTomlError) -> Problem {
     let status = match error {
-        InTomlError::NotToml => NOT_JSON,
+        InTomlError::NotToml | InTomlError::DocumentTooDeep => NOT_JSON,
         InTomlError::Memory(_) => return Problem::Memory,
         _ => NOT_APPLIED,
     };

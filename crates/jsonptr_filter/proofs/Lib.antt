@@ -1,2 +1,4 @@
 pub mod ResultLemmas
 pub mod RunLemmas
+mod ReplacementLemmas
+mod DifferenceLemmas

@@ -1,5 +1,7 @@
 -- The difference of two documents.
-use Rattle.std.specs.Prelude.{◌≡◌, ◌↔◌, List, [], true, string_bytes}
+use Rattle.std.specs.Prelude.{◌≡◌, ◌↔◌, ◌<◌, List, [], true, Some, ⊤, string_bytes}
+use Rattle.serde_json.specs.Data.{depth}
+use Rattle.serde_json.specs.Read.{read, max_depth}
 use Rattle.jsonptr_tree.specs.Node.{NodeMap}
 use Rattle.jsonptr_patch.specs.Patching.{Patches}
 use Rattle.jsonptr_patch.specs.declared.operation.Operation.{Operation}
@@ -7,16 +9,25 @@ use Rattle.jsonptr_patch_document.specs.Writing.{document_of}
 use Rattle.jsonptr_diff.specs.Differing.{HaveNoDifference}
 use Rattle.jsonptr_filter.specs.Layouts.{Shows}
 use Rattle.jsonptr_filter.specs.declared.difference.Difference.{Difference}
+use Rattle.jsonptr_filter.specs.declared.failure.Failure.{Failure}
+use Rattle.jsonptr_filter.specs.declared.failure.Failure.TheVariants.{PatchTooDeep, Memory}
 use Rattle.jsonptr_filter.specs.declared.layout.Layout.{Layout}
 
--- `IsDifference n m layout d`: the text of d is the patch document of operations that turn n into m, and `is_empty` says
--- whether there are none
+-- `IsDifference n m layout d`: the text of d is the patch document of operations that turn n into m, and is read as it.
+-- `is_empty` says whether there are none
 abbrev pub IsDifference : NodeMap → NodeMap → Layout → Difference → Type 0
 IsDifference n m layout d =
     (os : List Operation)
     × Patches n os m
     × Shows layout (document_of os) (string_bytes d.text)
+    × (read (string_bytes d.text) ≡ Some (document_of os))
     × ((d.is_empty ≡ true) ↔ (os ≡ []))
+
+-- `FailsToDiffer n m e`: e is why no patch document of operations that turn n into m is printed, if it is not for memory
+abbrev pub FailsToDiffer : NodeMap → NodeMap → Failure → Type 0
+FailsToDiffer n m PatchTooDeep = (os : List Operation) × Patches n os m × (max_depth < depth (document_of os))
+FailsToDiffer n m (Memory f) = ⊤
+FailsToDiffer n m e = ⊥
 
 -- `IsNoneIfSame n m d`: if n and m have no difference, d has no operation
 abbrev pub IsNoneIfSame : NodeMap → NodeMap → Difference → Type 0

@@ -31,3 +31,10 @@ Shows Kept value text = IsCompact value text
 Shows Compact value text = IsCompact value text
 Shows Pretty value text = IsPretty value text
 Shows Raw value text = MatchOption (as_str value) (IsCompact value text) (λ s. text ≡ s)
+
+-- `ReadsBack layout value text`: `text` is read as `value`, unless it is that of a string without quotes
+abbrev pub ReadsBack : Layout → Data → Text → Type 0
+ReadsBack Kept value text = read text ≡ Some value
+ReadsBack Compact value text = read text ≡ Some value
+ReadsBack Pretty value text = read text ≡ Some value
+ReadsBack Raw value text = MatchOption (as_str value) (read text ≡ Some value) (λ s. text ≡ s)

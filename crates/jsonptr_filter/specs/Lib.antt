@@ -7,6 +7,9 @@ pub mod Documents
 pub mod Paths
 pub mod LineResults
 pub mod Runs
+-- Replacing the text of a file.
+pub mod Replacement
+pub mod PrivateReplacement
 pub mod PrivateResults
 pub mod PrivateLineResults
 pub mod PrivateRuns

@@ -11,7 +11,7 @@ use Rattle.jsonptr_paths.specs.Listing.{Lists}
 use Rattle.jsonptr_paths.specs.Reading.{Builds, StopsBuilding}
 use Rattle.jsonptr_paths.specs.declared.listing.Listed.{Listed}
 use Rattle.jsonptr_paths.specs.declared.reading.BuildError.TheVariants.{Line}
-use Rattle.jsonptr_filter.specs.Layouts.{Shows}
+use Rattle.jsonptr_filter.specs.Layouts.{Shows, ReadsBack}
 use Rattle.jsonptr_filter.specs.declared.failure.Failure.{Failure}
 use Rattle.jsonptr_filter.specs.declared.failure.Failure.TheVariants.{NotJson, NotUtf8, BadLine, Memory, Read, Write}
 use Rattle.jsonptr_filter.specs.declared.layout.Layout.{Layout}
@@ -27,11 +27,11 @@ FailsToList bytes (Memory f) = ⊤
 FailsToList bytes e = ⊥
 
 -- `BuildsText layout bytes out`: `out` is a line with the document that the lines `bytes` build, in this layout and with
--- its keys sorted
+-- its keys sorted. It is read as that document
 abbrev pub BuildsText : Layout → List ℕ → Text → Type 0
 BuildsText layout bytes out =
     (d : Data) × (shown : Text)
-    × IsUtf8 bytes × Builds bytes (nodes d) × HasSortedKeys d × Shows layout d shown
+    × IsUtf8 bytes × Builds bytes (nodes d) × HasSortedKeys d × Shows layout d shown × ReadsBack layout d shown
     × (out ≡ shown ++ 10 ∷ [])
 
 -- `FailsToBuild bytes e`: e is why the lines `bytes` build no document, if it is not for memory

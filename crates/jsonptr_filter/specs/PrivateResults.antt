@@ -4,11 +4,14 @@ use Rattle.serde_json.specs.Data.{Data, depth}
 use Rattle.serde_json.specs.Read.{read, max_depth}
 use Rattle.jsonptr_grammar.specs.Text.{Text}
 use Rattle.jsonptr_tree.specs.Json.{nodes}
-use Rattle.jsonptr_patch.specs.Patching.{Patches, RefusesPatch}
+use Rattle.jsonptr_patch.specs.Patching.{RefusesPatch}
 use Rattle.jsonptr_patch.specs.declared.operation.Operation.{Operation}
 use Rattle.jsonptr_patch_document.specs.Document.{IsNoPatch}
+use Rattle.jsonptr_patch_document.specs.Writing.{document_of}
+use Rattle.jsonptr_edit_in_text.specs.PatchInText.{IsPatchFault}
+use Rattle.jsonptr_edit_in_text.specs.declared.edited.EditError.TheVariants as edit
 use Rattle.jsonptr_filter.specs.declared.failure.Failure.{Failure}
-use Rattle.jsonptr_filter.specs.declared.failure.Failure.TheVariants.{NotPatch, BadPatch, TooDeep, NotJson, Memory}
+use Rattle.jsonptr_filter.specs.declared.failure.Failure.TheVariants.{NotPatch, BadPatch, TooDeep, PatchTooDeep, NotJson, Memory}
 
 -- `IsRestyleError text e`: e is why the document of `text` is not printed, if it is not for memory
 abbrev pub IsRestyleError : Text → Failure → Type 0
@@ -26,7 +29,12 @@ IsNotPatch patch e = ⊥
 abbrev pub FailsToApply : Text → List Operation → Failure → Type 0
 FailsToApply text os NotJson = read text ≡ None
 FailsToApply text os (BadPatch f) = (d : Data) × (read text ≡ Some d) × RefusesPatch (nodes d) os f
-FailsToApply text os TooDeep =
-    (d d2 : Data) × (read text ≡ Some d) × (max_depth < depth d2) × Patches (nodes d) os (nodes d2)
+FailsToApply text os TooDeep = IsPatchFault text os edit.TooDeep
 FailsToApply text os (Memory f) = ⊤
 FailsToApply text os e = ⊥
+
+-- `IsPatchTextFault os e`: e is why the patch document of the operations os is not printed, if it is not for memory
+abbrev pub IsPatchTextFault : List Operation → Failure → Type 0
+IsPatchTextFault os PatchTooDeep = max_depth < depth (document_of os)
+IsPatchTextFault os (Memory f) = ⊤
+IsPatchTextFault os e = ⊥

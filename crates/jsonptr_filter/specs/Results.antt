@@ -1,7 +1,7 @@
 -- The text that a task makes of the text of a document, and why it makes none.
-use Rattle.std.specs.Prelude.{◌≡◌, ◌<◌, ◌⊎◌, List, Option, Some, None, ⊤}
-use Rattle.serde_json.specs.Data.{Data, depth}
-use Rattle.serde_json.specs.Read.{read, max_depth}
+use Rattle.std.specs.Prelude.{◌≡◌, ◌⊎◌, List, Option, Some, None, ⊤}
+use Rattle.serde_json.specs.Data.{Data}
+use Rattle.serde_json.specs.Read.{read}
 use Rattle.serde_json.specs.View.{view}
 use Rattle.serde_json.specs.declared.value.Value.{Value}
 use Rattle.jsonptr_grammar.specs.Text.{Text}
@@ -9,12 +9,12 @@ use Rattle.jsonptr_tree.specs.Node.{NodeMap}
 use Rattle.jsonptr_tree.specs.Json.{nodes}
 use Rattle.jsonptr.specs.Pointer.{tokens}
 use Rattle.jsonptr.specs.declared.resolve.Error.{Error}
-use Rattle.jsonptr_patch.specs.Patching.{Patches, RefusesPatch}
+use Rattle.jsonptr_patch.specs.Patching.{RefusesPatch}
 use Rattle.jsonptr_patch.specs.declared.operation.Operation.{Operation}
 use Rattle.jsonptr_patch_document.specs.Document.{IsPatch, IsNoPatch}
 use Rattle.jsonptr_in_text.specs.InText.{FindsInText, RefusesInText}
 use Rattle.jsonptr_edit_in_text.specs.EditInText.{AssignsInText, IsAssignError, DeletesInText, LacksInText}
-use Rattle.jsonptr_edit_in_text.specs.PatchInText.{PatchesInText}
+use Rattle.jsonptr_edit_in_text.specs.PatchInText.{PatchesInText, IsPatchFault}
 use Rattle.jsonptr_edit_in_text.specs.declared.edited.EditError.TheVariants as edit
 use Rattle.jsonptr_filter.specs.Layouts.{Shows}
 use Rattle.jsonptr_filter.specs.declared.failure.Failure.{Failure}
@@ -72,7 +72,7 @@ FailsToGet text ts fallback (Memory f) = ⊤
 FailsToGet text ts fallback e = ⊥
 
 -- `FailsToSet text ts v e`: e is why v is not assigned at the tokens, if it is not for memory
-abbrev pub FailsToSet : Text → List Text → NodeMap → Failure → Type 0
+abbrev pub FailsToSet : Text → List Text → Data → Failure → Type 0
 FailsToSet text ts v NotJson = read text ≡ None
 FailsToSet text ts v (BadPlace f) = IsAssignError text ts v (edit.Refused f)
 FailsToSet text ts v TooDeep = IsAssignError text ts v edit.TooDeep
@@ -94,14 +94,13 @@ FailsToPatch text patch (BadPatch f) =
     (os : List Operation) × (d : Data)
     × IsPatch patch os × (read text ≡ Some d) × RefusesPatch (nodes d) os f
 FailsToPatch text patch TooDeep =
-    (os : List Operation) × (d d2 : Data)
-    × IsPatch patch os × (read text ≡ Some d) × (max_depth < depth d2) × Patches (nodes d) os (nodes d2)
+    (os : List Operation) × IsPatch patch os × IsPatchFault text os edit.TooDeep
 FailsToPatch text patch (Memory f) = ⊤
 FailsToPatch text patch e = ⊥
 
 -- `Fails task text e`: e is why the task has no result on `text`, if it is not for memory
 abbrev pub Fails : Task → Text → Failure → Type 0
 Fails (Get p fallback) text e = FailsToGet text (tokens p) fallback e
-Fails (Set p v) text e = FailsToSet text (tokens p) (nodes (view v)) e
+Fails (Set p v) text e = FailsToSet text (tokens p) (view v) e
 Fails (Delete p) text e = FailsToDelete text (tokens p) e
 Fails (Patch d) text e = FailsToPatch text (view d) e

@@ -1,14 +1,21 @@
 //! The difference of two documents, as a patch document.
-ghost use Rattle.std.specs.Prelude.{IfOk};
+ghost use Rattle.std.specs.Prelude.{◌≡◌, Some, IfOk, IfErr, string_bytes};
+ghost use Rattle.serde_json.specs.Read.{read};
 ghost use Rattle.serde_json.specs.View.{view};
 ghost use Rattle.jsonptr_tree.specs.Json.{nodes};
-ghost use Rattle.jsonptr_filter.specs.Differences.{IsDifference, IsNoneIfSame};
+ghost use Rattle.jsonptr_patch_document.specs.Writing.{document_of};
+ghost use Rattle.jsonptr_filter.specs.Layouts.{Shows};
+ghost use Rattle.jsonptr_filter.specs.PrivateResults.{IsPatchTextFault};
+ghost use Rattle.jsonptr_filter.specs.Differences.{IsDifference, IsNoneIfSame, FailsToDiffer};
 
+use crate::failure::Failure;
 use crate::layout::{Layout, show};
 use jsonptr_diff::diff;
+use jsonptr_patch::Operation;
 use jsonptr_patch_document::write_patch;
+use jsonptr_value::{MAX_DEPTH, nests_within};
 use serde_json::Value;
-use std::alloc::{AllocError, Global};
+use std::alloc::Global;
 
 /// The difference of two documents.
 #[derive(Debug, Drop)]
@@ -24,9 +31,14 @@ pub struct Difference {
 /// It has no operation if both are the same and contain no float. A float equals nothing, and is
 /// replaced.
 ///
+/// Its text reads as the patch document, so [`Task::Patch`](crate::task::Task::Patch) applies it to
+/// `old`, and the result is `new` ([`difference_law`](crate::laws::difference_law)).
+///
 /// # Errors
 ///
-/// [`AllocError`] if an allocation fails.
+/// - [`Failure::PatchTooDeep`] if the patch document nests deeper than 127. A value is two levels
+///   deeper in it than in `new`, less the levels of its pointer.
+/// - [`Failure::Memory`] if an allocation fails.
 ///
 /// # Examples
 ///
@@ -43,15 +55,36 @@ pub fn difference_of(
     old: &Value,
     new: &Value,
     layout: Layout,
-) -> Result<Difference, AllocError>
+) -> Result<Difference, Failure>
     ensures patch { IfOk result
         (IsDifference (nodes (view old.now)) (nodes (view new.now)) layout) }
     ensures same { IfOk result
         (IsNoneIfSame (nodes (view old.now)) (nodes (view new.now))) }
+    ensures failed { IfErr result (FailsToDiffer (nodes (view old.now)) (nodes (view new.now))) }
 {
     let patch = diff(alloc, old, new)?;
-    let document = write_patch(alloc, &patch)?;
-    let text = show(alloc, &document, layout)?;
+    let text = patch_text(alloc, &patch, layout)?;
     let is_empty = patch.is_empty();
     Ok(Difference { text, is_empty })
+}
+
+/// Returns the text of the patch document of the operations.
+///
+/// # Errors
+///
+/// [`Failure::PatchTooDeep`] if it nests deeper than 127, and [`Failure::Memory`] if an allocation
+/// fails.
+fn patch_text(alloc: Global, patch: &Vec<Operation>, layout: Layout) -> Result<String, Failure>
+    ensures shown { IfOk result
+        (λ s. Shows layout (document_of patch.now.items) (string_bytes s)) }
+    ensures read_back { IfOk result
+        (λ s. read (string_bytes s) ≡ Some (document_of patch.now.items)) }
+    ensures failed { IfErr result (IsPatchTextFault patch.now.items) }
+{
+    let document = write_patch(alloc, patch)?;
+    if !nests_within(&document, MAX_DEPTH) {
+        return Err(Failure::PatchTooDeep);
+    }
+    let text = show(alloc, &document, layout)?;
+    Ok(text)
 }

@@ -30,7 +30,7 @@ pub fn set(
     ensures done { IfOk result (λ s. Sets text.now (tokens pointer.entry)
         (nodes (view value.now)) layout (string_bytes s)) }
     ensures failed { IfErr result (FailsToSet text.now (tokens pointer.entry)
-        (nodes (view value.now))) }
+        (view value.now)) }
 {
     let edited = assign_in_text_with(alloc, buffers, text, pointer, value.clone()?)?;
     restyle(alloc, edited.into_string(), layout)

@@ -37,6 +37,9 @@ pub enum Failure {
     /// The new document nests deeper than 127.
     #[error("the new document nests deeper than 127")]
     TooDeep,
+    /// The patch that turns one document into another nests deeper than 127.
+    #[error("the patch would nest deeper than 127")]
+    PatchTooDeep,
     /// The result of a line contains a line break.
     #[error("the result contains a line break")]
     LineBreak,
@@ -65,7 +68,8 @@ pub enum Failure {
 
 impl Failure {
     /// Returns the exit status of the program: 1 if the pointer or the patch does not apply, 3 if a
-    /// text or a line is not what it must be, 4 if an allocation failed, and 5 if a read or a write failed.
+    /// text or a line is not what it must be, or if two documents have no patch that can be read, 4 if
+    /// an allocation failed, and 5 if a read or a write failed.
     pub fn status(&self) -> u8
         ensures { result ≡ status_of self.now }
     {
@@ -79,7 +83,10 @@ impl Failure {
             | Failure::TooDeep
             | Failure::LineBreak => 1,
             Failure::BadLine(_, error) => line_status(error),
-            Failure::NotUtf8 | Failure::NotJson | Failure::ArgumentNotJson => 3,
+            Failure::PatchTooDeep
+            | Failure::NotUtf8
+            | Failure::NotJson
+            | Failure::ArgumentNotJson => 3,
             Failure::Memory(_) => 4,
             Failure::Read | Failure::Write => 5,
         }

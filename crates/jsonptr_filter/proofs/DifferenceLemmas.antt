@@ -1,0 +1,92 @@
+-- What is printed can be read again, and a patch that is printed applies.
+use Rattle.std.proofs.Common.{◌≡◌, ◌≤◌, List, Option, Some, None, MatchOption, refl, sym, ◌∙◌, subst}
+use Rattle.std.specs.declared.alloc.AllocError.{AllocError}
+use Rattle.serde_json.specs.Data.{Data, depth}
+use Rattle.serde_json.specs.Find.{as_str}
+use Rattle.serde_json.specs.Read.{read, max_depth}
+use Rattle.serde_json.proofs.Nesting.{depth-read}
+use Rattle.jsonptr_grammar.specs.Text.{Text}
+use Rattle.jsonptr_tree.specs.Node.{NodeMap}
+use Rattle.jsonptr_tree.specs.Json.{nodes}
+use Rattle.jsonptr_patch.specs.Patching.{Patches, RefusesPatch}
+use Rattle.jsonptr_patch.specs.declared.operation.Operation.{Operation}
+use Rattle.jsonptr_patch.specs.declared.operation.PatchError.{PatchError}
+use Rattle.jsonptr_patch_document.specs.Document.{IsPatch, IsNoPatch}
+use Rattle.jsonptr_patch_document.specs.Writing.{document_of}
+use Rattle.jsonptr_patch_document.specs.declared.error.PatchDocumentError.{PatchDocumentError}
+use Rattle.jsonptr_edit_in_text.specs.PatchInText.{IsPatchFault}
+use Rattle.jsonptr_edit_in_text.specs.declared.edited.EditError.TheVariants as edit
+use Rattle.jsonptr_filter.specs.Differences.{FailsToDiffer}
+use Rattle.jsonptr_filter.specs.PrivateResults.{IsPatchTextFault}
+use Rattle.jsonptr_filter.specs.Layouts.{IsCompact, Shows, ReadsBack}
+use Rattle.jsonptr_filter.specs.Results.{Restyles, FailsToPatch}
+use Rattle.jsonptr_filter.specs.declared.failure.Failure.{Failure}
+use Rattle.jsonptr_filter.specs.declared.failure.Failure.TheVariants.{BadPointer, NotPatch, NoValue, BadPlace, NotThere, BadPatch, TooDeep, PatchTooDeep, LineBreak, BadLine, NotUtf8, NotJson, ArgumentNotJson, Memory, Read, Write}
+use Rattle.jsonptr_filter.specs.declared.layout.Layout.{Layout}
+use Rattle.jsonptr_filter.specs.declared.layout.Layout.TheVariants.{Kept, Compact, Pretty, Raw}
+
+raw_reads : (value : Data) (text : Text) (o : Option Text) → depth value ≤ max_depth → MatchOption o (IsCompact value text) (λ s. text ≡ s) → MatchOption o (read text ≡ Some value) (λ s. text ≡ s)
+raw_reads value text None le h = h.reads_back le
+raw_reads value text (Some s) le h = h
+
+pub reads_back : (layout : Layout) (value : Data) (text : Text) → depth value ≤ max_depth → Shows layout value text → ReadsBack layout value text
+reads_back Kept value text le h = h.reads_back le
+reads_back Compact value text le h = h.reads_back le
+reads_back Pretty value text le h = h.reads_back le
+reads_back Raw value text le h = raw_reads value text (as_str value) le h
+
+pub patch_reads : (layout : Layout) (os : List Operation) (text : Text) → depth (document_of os) ≤ max_depth → Shows layout (document_of os) text → read text ≡ Some (document_of os)
+patch_reads Kept os text le h = h.reads_back le
+patch_reads Compact os text le h = h.reads_back le
+patch_reads Pretty os text le h = h.reads_back le
+patch_reads Raw os text le h = h.reads_back le
+
+pub patch_fault : (n m : NodeMap) (os : List Operation) (e : Failure) → Patches n os m → IsPatchTextFault os e → FailsToDiffer n m e
+patch_fault n m os (BadPointer f) turns h = absurd h
+patch_fault n m os (NotPatch f) turns h = absurd h
+patch_fault n m os (NoValue f) turns h = absurd h
+patch_fault n m os (BadPlace f) turns h = absurd h
+patch_fault n m os NotThere turns h = absurd h
+patch_fault n m os (BadPatch f) turns h = absurd h
+patch_fault n m os TooDeep turns h = absurd h
+patch_fault n m os PatchTooDeep turns h = (os, turns, h)
+patch_fault n m os LineBreak turns h = absurd h
+patch_fault n m os (BadLine number f) turns h = absurd h
+patch_fault n m os NotUtf8 turns h = absurd h
+patch_fault n m os NotJson turns h = absurd h
+patch_fault n m os ArgumentNotJson turns h = absurd h
+patch_fault n m os (Memory f) turns h = tt
+patch_fault n m os Read turns h = absurd h
+patch_fault n m os Write turns h = absurd h
+
+shown_reads : (layout : Layout) (text out : Text) (d e : Data) → read text ≡ Some d → read text ≡ Some e → Shows layout e out → ReadsBack layout d out
+shown_reads layout text out d e reads again h =
+    let whole : Some e ≡ Some d = sym again ∙ reads in
+    let same : e ≡ d = cc in
+    subst (λ (v : Data). ReadsBack layout v out) same (reads_back layout e out (depth-read text e again) h)
+
+-- the text of a document that is printed in another layout is read as that document
+pub restyled : (layout : Layout) (text out : Text) (d : Data) → read text ≡ Some d → Restyles layout text out → ReadsBack layout d out
+restyled Kept text out d reads h = subst (λ (t : Text). read t ≡ Some d) (sym h) reads
+restyled Compact text out d reads h = shown_reads Compact text out d h.0 reads h.1 h.2
+restyled Pretty text out d reads h = shown_reads Pretty text out d h.0 reads h.1 h.2
+restyled Raw text out d reads h = shown_reads Raw text out d h.0 reads h.1 h.2
+
+-- without these four reasons, only a failed allocation is left
+pub no_fault : (a : Text) (p : Data) (e : Failure) → ((f : PatchDocumentError) → IsNoPatch p f → ⊥) → (read a ≡ None → ⊥) → ((os : List Operation) (d : Data) (f : PatchError) → IsPatch p os → read a ≡ Some d → RefusesPatch (nodes d) os f → ⊥) → ((os : List Operation) → IsPatch p os → IsPatchFault a os edit.TooDeep → ⊥) → FailsToPatch a p e → (f : AllocError) × (e ≡ Memory f)
+no_fault a p (BadPointer f) patch json refused deep h = absurd h
+no_fault a p (NotPatch f) patch json refused deep h = absurd (patch f h)
+no_fault a p (NoValue f) patch json refused deep h = absurd h
+no_fault a p (BadPlace f) patch json refused deep h = absurd h
+no_fault a p NotThere patch json refused deep h = absurd h
+no_fault a p (BadPatch f) patch json refused deep h = absurd (refused h.0 h.1 f h.2 h.3 h.4)
+no_fault a p TooDeep patch json refused deep h = absurd (deep h.0 h.1 h.2)
+no_fault a p PatchTooDeep patch json refused deep h = absurd h
+no_fault a p LineBreak patch json refused deep h = absurd h
+no_fault a p (BadLine number f) patch json refused deep h = absurd h
+no_fault a p NotUtf8 patch json refused deep h = absurd h
+no_fault a p NotJson patch json refused deep h = absurd (json h)
+no_fault a p ArgumentNotJson patch json refused deep h = absurd h
+no_fault a p (Memory f) patch json refused deep h = (f, refl)
+no_fault a p Read patch json refused deep h = absurd h
+no_fault a p Write patch json refused deep h = absurd h

@@ -1,0 +1,63 @@
+use Rattle.std.proofs.Common.{◌≡◌, ◌≤◌, List, Some, None, sym, ◌∙◌, subst, string_bytes}
+use Rattle.serde_json.specs.Data.{Data, depth}
+use Rattle.serde_json.specs.Read.{read, max_depth}
+use Rattle.serde_json.proofs.Nesting.{depth-read}
+use Rattle.jsonptr.specs.Documents.{IsDocument}
+use Rattle.jsonptr.proofs.Calling.{ascends_read, map_of-IsTree, map_of-finite}
+use Rattle.jsonptr_tree.specs.Json.{nodes, content}
+use Rattle.jsonptr_tree.specs.Node.{NodeMap}
+use Rattle.jsonptr_value.specs.Nesting.{NestsWithin}
+use Rattle.jsonptr_value.proofs.LevelLemmas.{NestsWithin-depth}
+use Rattle.jsonptr_value.proofs.NestingLemmas.{NestsWithin-more}
+use Rattle.jsonptr_patch.specs.Patching.{Patches, RefusesPatch}
+use Rattle.jsonptr_patch.specs.declared.operation.Operation.{Operation}
+use Rattle.jsonptr_patch_document.specs.Document.{IsPatch}
+use Rattle.jsonptr_patch_document.specs.Writing.{document_of}
+use Rattle.jsonptr_filter.proofs.DifferenceLemmas.{restyled, no_fault}
+use Rattle.jsonptr_filter.proofs.laws.difference_law.Goals as goal
+
+-- a text is read as one document
+one_read : (text : _) (d e : Data) → read text ≡ Some d → read text ≡ Some e → d ≡ e
+one_read text d e h k =
+    let whole : Some d ≡ Some e = sym h ∙ k in
+    let same : d ≡ e = cc in
+    same
+
+no_read : (text : _) (d : Data) → read text ≡ Some d → read text ≡ None → ⊥
+no_read text d h k =
+    let whole : Some d ≡ None = sym h ∙ k in
+    let wrong : ⊥ = cc in
+    wrong
+
+is_document : (d : Data) → IsDocument (nodes d)
+is_document d = (map_of-IsTree (content d), map_of-finite (content d))
+
+pub returns-clause-patched : goal.returns-clause-patched
+returns-clause-patched c a b out n m p style layout d reads_a reads_b diff reads_p y =
+    let os = diff.0 in
+    let z = y.3 in
+    let is : p ≡ document_of os = one_read (string_bytes d.text) p (document_of os) reads_p diff.3 in
+    let patch : IsPatch p os = subst (λ (q : Data). IsPatch q os) (sym is) (c.writing_law.ensures.read os) in
+    let first : z.0 ≡ n = one_read a z.0 n z.2 reads_a in
+    let made : Patches (nodes n) y.0 (nodes z.1) = subst (λ (q : Data). Patches (nodes q) y.0 (nodes z.1)) first z.4 in
+    let done : Patches (nodes n) os (nodes z.1) = c.patch_document_law.ensures.same_effect (nodes n) (nodes z.1) y.0 os (c.patch_document_law.ensures.one_patch p y.0 os y.2 patch) made in
+    let one : z.1 ≡ m = c.difference_law.ensures.same n m z.1 os diff.1 done (ascends_read b m reads_b) (ascends_read y.1 z.1 z.3) in
+    restyled layout y.1 out m (subst (λ (q : Data). read y.1 ≡ Some q) one z.3) y.4
+
+pub returns-clause-never_fails : goal.returns-clause-never_fails
+returns-clause-never_fails c a b n m p style d e reads_a reads_b diff reads_p h =
+    let os = diff.0 in
+    let is : p ≡ document_of os = one_read (string_bytes d.text) p (document_of os) reads_p diff.3 in
+    let patch : IsPatch p os = subst (λ (q : Data). IsPatch q os) (sym is) (c.writing_law.ensures.read os) in
+    let turns : (us : List Operation) → IsPatch p us → Patches (nodes n) us (nodes m) = λ us same. c.patch_document_law.ensures.same_effect (nodes n) (nodes m) os us (c.patch_document_law.ensures.one_patch p os us patch same) diff.1 in
+    let within : NestsWithin max_depth (nodes m) = NestsWithin-more (depth m) max_depth (nodes m) (depth-read b m reads_b) (NestsWithin-depth m) in
+    no_fault a p e
+    (λ f none. c.patch_document_law.ensures.not_both p os f patch none)
+    (λ none. no_read a n reads_a none)
+    (λ us d1 f same reads refused. c.difference_law.ensures.never_refused n m us f (turns us same) (subst (λ (q : Data). RefusesPatch (nodes q) us f) (one_read a d1 n reads reads_a) refused))
+    (λ us same fault.
+    let first : fault.0 ≡ n = one_read a fault.0 n fault.2 reads_a in
+    let made : Patches (nodes n) us fault.1 = subst (λ (q : Data). Patches (nodes q) us fault.1) first fault.3 in
+    let one : fault.1 ≡ nodes m = c.patch_law.ensures.one_map (nodes n) fault.1 (nodes m) us (is_document n) made (turns us same) in
+    fault.4 (c.patch_document_law.ensures.sorted p us (ascends_read (string_bytes d.text) p reads_p) same) (subst (NestsWithin max_depth) (sym one) within))
+    h
