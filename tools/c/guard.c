@@ -1,5 +1,5 @@
-/* The functions of jsonptr.h. Each looks for NULL, for a length that no object has, and for one document that is passed
- * twice, and then calls the proved function. Nothing else is decided here. */
+/* The functions of jsonptr.h. Each looks for NULL, for a length that no object has, for a flag that is not defined, and
+ * for one document that is passed twice, and then calls the proved function. Nothing else is decided here. */
 #include "jsonptr.h"
 
 /* The proved functions, from crates/jsonptr_c. No pointer may be NULL. */
@@ -50,6 +50,11 @@ typedef struct unwanted {
     bool found;
     char buffer;
 } unwanted;
+
+/* Whether no other flag is set than those that are defined. */
+static bool is_known(uint32_t flags) {
+    return (flags & ~(JSONPTR_COMPACT | JSONPTR_PRETTY)) == 0;
+}
 
 /* Reports a bad argument. */
 static jsonptr_status refuse(jsonptr_error *error) {
@@ -139,7 +144,7 @@ jsonptr_status jsonptr_document_print(jsonptr_document *document, uint32_t flags
 jsonptr_status jsonptr_document_get(jsonptr_document *document, const char *pointer, size_t pointer_length,
                                     uint32_t flags, char *out, size_t capacity, size_t *length, jsonptr_error *error) {
     unwanted none;
-    if (document == NULL || !is_slice(pointer, pointer_length) || !is_slice(out, capacity)) {
+    if (document == NULL || !is_slice(pointer, pointer_length) || !is_known(flags) || !is_slice(out, capacity)) {
         return refuse(error);
     }
     return jsonptrcore_document_print(document, start_of(pointer), pointer_length, flags & JSONPTR_PRETTY,
@@ -197,7 +202,7 @@ jsonptr_status jsonptr_document_patch(jsonptr_document *document, const char *te
 jsonptr_status jsonptr_document_diff(jsonptr_document *from, jsonptr_document *to, uint32_t flags, char *out,
                                      size_t capacity, size_t *length, jsonptr_error *error) {
     unwanted none;
-    if (from == NULL || to == NULL || from == to || !is_slice(out, capacity)) {
+    if (from == NULL || to == NULL || from == to || !is_known(flags) || !is_slice(out, capacity)) {
         return refuse(error);
     }
     return jsonptrcore_document_diff(from, to, flags & JSONPTR_PRETTY, OR(out, none.buffer), capacity,
@@ -208,7 +213,8 @@ jsonptr_status jsonptr_resolve_in_text(const char *text, size_t text_length, con
                                        uint32_t flags, char *out, size_t capacity, size_t *length,
                                        jsonptr_error *error) {
     unwanted none;
-    if (!is_slice(text, text_length) || !is_slice(pointer, pointer_length) || !is_slice(out, capacity)) {
+    if (!is_slice(text, text_length) || !is_slice(pointer, pointer_length) || !is_known(flags) ||
+        !is_slice(out, capacity)) {
         return refuse(error);
     }
     return jsonptrcore_text_print(start_of(text), text_length, start_of(pointer), pointer_length,

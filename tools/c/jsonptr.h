@@ -105,6 +105,28 @@
 #include <stddef.h>
 #include <stdint.h>
 
+/* The version of this header. jsonptr_version says that of the library. */
+#define JSONPTR_VERSION_MAJOR 0
+#define JSONPTR_VERSION_MINOR 2
+#define JSONPTR_VERSION_PATCH 0
+
+/* What the shared library exports. */
+#if defined(__GNUC__)
+#define JSONPTR_API __attribute__((visibility("default")))
+#else
+#define JSONPTR_API
+#endif
+
+/* A status that must be looked at. Define it as nothing before the header to
+ * have no warnings. */
+#ifndef JSONPTR_NODISCARD
+#if defined(__GNUC__)
+#define JSONPTR_NODISCARD __attribute__((warn_unused_result))
+#else
+#define JSONPTR_NODISCARD
+#endif
+#endif
+
 #ifdef __cplusplus
 extern "C" {
 #endif
@@ -116,7 +138,7 @@ typedef uint32_t jsonptr_status;
 #define JSONPTR_OK            0u  /* the call succeeded */
 #define JSONPTR_NO_MEMORY     1u  /* malloc or realloc returned NULL */
 #define JSONPTR_NO_ROOM       2u  /* the buffer is shorter than the result */
-#define JSONPTR_BAD_ARGUMENT  3u  /* NULL, a length above PTRDIFF_MAX, or one document passed twice */
+#define JSONPTR_BAD_ARGUMENT  3u  /* NULL, a length above PTRDIFF_MAX, an unknown flag, or one document passed twice */
 #define JSONPTR_NO_DOCUMENT   4u  /* the handle holds no document */
 #define JSONPTR_NOT_UTF8      5u  /* a text is not UTF-8 */
 #define JSONPTR_NOT_JSON      6u  /* a text is not a JSON text */
@@ -155,19 +177,22 @@ typedef uint32_t jsonptr_status;
 #define JSONPTR_KIND_NOT_A_STRING      15u  /* a member is not a string */
 #define JSONPTR_KIND_UNKNOWN_OP        16u  /* `op` is not the name of an operation */
 
-/* A member of an operation: jsonptr_error.member. */
-#define JSONPTR_MEMBER_NONE  0u
-#define JSONPTR_MEMBER_OP    1u
-#define JSONPTR_MEMBER_PATH  2u
-#define JSONPTR_MEMBER_FROM  3u
-#define JSONPTR_MEMBER_VALUE 4u
+/* A member of an operation, or an argument of the call: jsonptr_error.member. */
+#define JSONPTR_MEMBER_NONE      0u
+#define JSONPTR_MEMBER_OP        1u
+#define JSONPTR_MEMBER_PATH      2u
+#define JSONPTR_MEMBER_FROM      3u
+#define JSONPTR_MEMBER_VALUE     4u
+#define JSONPTR_ARGUMENT_POINTER 5u  /* JSONPTR_NOT_UTF8: the pointer of the call is not UTF-8 */
+#define JSONPTR_ARGUMENT_TOKEN   6u  /* the token */
+#define JSONPTR_ARGUMENT_TEXT    7u  /* the JSON text */
 
 /* The error of a call. A call that succeeds sets all fields to 0. Each error
  * sets `status`, and the fields in this table; the others are 0.
  *
  *     status        kind                          fields
  *     NO_ROOM       0                             length, which is needed
- *     NOT_UTF8      0                             offset
+ *     NOT_UTF8      0                             member, offset
  *     NOT_JSON      0                             offset
  *     NOT_POINTER   NO_LEADING_SLASH              kind; the fault is at offset 0
  *                   BAD_ESCAPE                    kind, position, slash, offset, length
@@ -218,13 +243,15 @@ typedef uint32_t jsonptr_status;
 typedef struct jsonptr_error {
     uint32_t status;     /* what the call returned */
     uint32_t kind;       /* JSONPTR_KIND_..: what is at fault */
-    uint32_t member;     /* JSONPTR_MEMBER_..: the member at fault, only of NOT_PATCH */
+    uint32_t member;     /* JSONPTR_MEMBER_.., only of NOT_PATCH; JSONPTR_ARGUMENT_.., only of NOT_UTF8 */
     uint32_t reserved;   /* 0 */
     uint64_t operation;  /* NOT_PATCH, PATCH_FAILED: the operation, from 0 */
     uint64_t position;   /* the token at fault, from 0 */
     uint64_t slash;      /* the offset of the slash before that token, in bytes */
     uint64_t offset;     /* the offset at fault, in bytes; of NOT_JSON, where reading stopped */
     uint64_t length;     /* the bytes at fault; of NO_ROOM, the length that is needed */
+    uint64_t reserved_2; /* 0: a later version may use it */
+    uint64_t reserved_3; /* 0 */
 } jsonptr_error;
 
 /* Copies the message of an error, such as "resolve failed: json pointer token at
@@ -234,12 +261,13 @@ typedef struct jsonptr_error {
  * The message of a success is "no error".
  *
  * The message is made of the struct alone, which may be copied and kept after
- * its document is freed. No message is longer than 200 bytes.
+ * its document is freed. No message of an error that this library wrote is longer
+ * than 200 bytes.
  *
  * Returns   JSONPTR_OK, JSONPTR_NO_ROOM, JSONPTR_NO_MEMORY.
  * length    may be NULL, but `error` may not.
  * Cost      linear in the message. */
-jsonptr_status jsonptr_error_message(const jsonptr_error *error,
+JSONPTR_API jsonptr_status jsonptr_error_message(const jsonptr_error *error,
                                      char *out, size_t capacity, size_t *length);
 
 /* ---- Pointers ---------------------------------------------------------- */
@@ -251,6 +279,7 @@ jsonptr_status jsonptr_error_message(const jsonptr_error *error,
  * count     may be NULL. "" has 0 tokens, "/" has one, which is empty.
  * error     may be NULL.
  * Cost      linear in the pointer. Allocates nothing. */
+JSONPTR_API JSONPTR_NODISCARD
 jsonptr_status jsonptr_pointer_count(const char *pointer, size_t pointer_length,
                                      size_t *count, jsonptr_error *error);
 
@@ -260,6 +289,7 @@ jsonptr_status jsonptr_pointer_count(const char *pointer, size_t pointer_length,
  *           JSONPTR_NO_ROOM, JSONPTR_NO_MEMORY.
  * length    may be NULL, and so may `error`.
  * Cost      linear in the pointer. Allocates only for a token with a '~'. */
+JSONPTR_API JSONPTR_NODISCARD
 jsonptr_status jsonptr_pointer_token(const char *pointer, size_t pointer_length,
                                      size_t position,
                                      char *out, size_t capacity, size_t *length,
@@ -271,6 +301,7 @@ jsonptr_status jsonptr_pointer_token(const char *pointer, size_t pointer_length,
  *           JSONPTR_NO_MEMORY.
  * length    may be NULL, and so may `error`.
  * Cost      linear in the token. Allocates only for a token with '~' or '/'. */
+JSONPTR_API JSONPTR_NODISCARD
 jsonptr_status jsonptr_pointer_escape(const char *token, size_t token_length,
                                       char *out, size_t capacity, size_t *length,
                                       jsonptr_error *error);
@@ -287,9 +318,9 @@ jsonptr_status jsonptr_pointer_escape(const char *token, size_t token_length,
  * Returns   JSONPTR_OK, JSONPTR_NO_ROOM if `*length` is above the capacity,
  *           those of jsonptr_pointer_count for the pointer, JSONPTR_NOT_UTF8 with
  *           offset for the token, JSONPTR_NO_ROOM, JSONPTR_NO_MEMORY.
- *           JSONPTR_NOT_UTF8 does not say which of the two texts it is of.
  * error     may be NULL.
  * Cost      linear in the longer pointer. */
+JSONPTR_API JSONPTR_NODISCARD
 jsonptr_status jsonptr_pointer_push(char *buffer, size_t capacity, size_t *length,
                                     const char *token, size_t token_length,
                                     jsonptr_error *error);
@@ -301,6 +332,7 @@ jsonptr_status jsonptr_pointer_push(char *buffer, size_t capacity, size_t *lengt
  *           pointer is "". An error leaves `*length`.
  * error     may be NULL.
  * Cost      linear in the pointer. Allocates nothing. */
+JSONPTR_API JSONPTR_NODISCARD
 jsonptr_status jsonptr_pointer_pop(const char *pointer, size_t *length,
                                    jsonptr_error *error);
 
@@ -314,8 +346,7 @@ typedef struct jsonptr_document {
 
 #define JSONPTR_DOCUMENT_INIT { NULL, false }
 
-/* Flags of a call that prints. Other bits are ignored: pass 0 for them, since a
- * later version may use them. */
+/* Flags of a call that prints. Any other bit is JSONPTR_BAD_ARGUMENT. */
 #define JSONPTR_COMPACT 0u  /* no spaces */
 #define JSONPTR_PRETTY  1u  /* on lines, indented by two spaces, no newline at the end */
 
@@ -325,6 +356,7 @@ typedef struct jsonptr_document {
  *           offset, JSONPTR_NO_MEMORY. An error leaves the handle.
  * error     may be NULL.
  * Cost      linear in the text. */
+JSONPTR_API JSONPTR_NODISCARD
 jsonptr_status jsonptr_document_parse(jsonptr_document *document,
                                       const char *text, size_t text_length,
                                       jsonptr_error *error);
@@ -333,7 +365,7 @@ jsonptr_status jsonptr_document_parse(jsonptr_document *document,
  * again. An empty handle, and NULL, are left as they are.
  *
  * Cost      linear in the document. */
-void jsonptr_document_free(jsonptr_document *document);
+JSONPTR_API void jsonptr_document_free(jsonptr_document *document);
 
 /* Copies the JSON text of a whole document.
  *
@@ -341,6 +373,7 @@ void jsonptr_document_free(jsonptr_document *document);
  * Returns   JSONPTR_OK, JSONPTR_NO_DOCUMENT, JSONPTR_NO_ROOM, JSONPTR_NO_MEMORY.
  * length    may be NULL, and so may `error`.
  * Cost      linear in the text, which is allocated and freed on the way. */
+JSONPTR_API JSONPTR_NODISCARD
 jsonptr_status jsonptr_document_print(jsonptr_document *document, uint32_t flags,
                                       char *out, size_t capacity, size_t *length,
                                       jsonptr_error *error);
@@ -353,6 +386,7 @@ jsonptr_status jsonptr_document_print(jsonptr_document *document, uint32_t flags
  * length    may be NULL, and so may `error`.
  * Cost      linear in the pointer and in the text, and logarithmic in each
  *           object on the way. */
+JSONPTR_API JSONPTR_NODISCARD
 jsonptr_status jsonptr_document_get(jsonptr_document *document,
                                     const char *pointer, size_t pointer_length,
                                     uint32_t flags,
@@ -365,6 +399,7 @@ jsonptr_status jsonptr_document_get(jsonptr_document *document,
  *           a string, before JSONPTR_NO_ROOM.
  * length    may be NULL, and so may `error`.
  * Cost      linear in the pointer and in the string. */
+JSONPTR_API JSONPTR_NODISCARD
 jsonptr_status jsonptr_document_string(jsonptr_document *document,
                                        const char *pointer, size_t pointer_length,
                                        char *out, size_t capacity, size_t *length,
@@ -388,6 +423,8 @@ typedef struct jsonptr_node {
     uint64_t natural;   /* or 0 */
     double number;      /* of a number the nearest double, else 0 */
     size_t length;      /* elements, members, or bytes of a string; else 0 */
+    uint64_t reserved;  /* 0: a later version may use it */
+    uint64_t reserved_2; /* 0 */
 } jsonptr_node;
 
 /* Says what the value is that a pointer resolves to: its kind, its length, its
@@ -398,6 +435,7 @@ typedef struct jsonptr_node {
  *           JSONPTR_NO_MEMORY. An error leaves `*node`.
  * error     may be NULL.
  * Cost      linear in the pointer. Allocates only for a token with a '~'. */
+JSONPTR_API JSONPTR_NODISCARD
 jsonptr_status jsonptr_document_node(jsonptr_document *document,
                                      const char *pointer, size_t pointer_length,
                                      jsonptr_node *node, jsonptr_error *error);
@@ -416,10 +454,9 @@ jsonptr_status jsonptr_document_node(jsonptr_document *document,
  *           JSONPTR_TOO_DEEP if the pointer has more than 10,000 tokens,
  *           JSONPTR_NOT_ASSIGNED with kind, position, slash, offset and length,
  *           JSONPTR_NO_MEMORY. An error leaves the document.
- *           JSONPTR_NOT_UTF8 does not say which of the two texts it is of: it is
- *           the text's, unless the text is UTF-8.
  * error     may be NULL.
  * Cost      linear in both texts. */
+JSONPTR_API JSONPTR_NODISCARD
 jsonptr_status jsonptr_document_assign(jsonptr_document *document,
                                        const char *pointer, size_t pointer_length,
                                        const char *text, size_t text_length,
@@ -432,6 +469,7 @@ jsonptr_status jsonptr_document_assign(jsonptr_document *document,
  *           JSONPTR_NO_MEMORY. An error leaves the document and `*found`.
  * found     may be NULL: whether there was a value. So may `error`.
  * Cost      linear in the pointer, in the value, and in the elements after it. */
+JSONPTR_API JSONPTR_NODISCARD
 jsonptr_status jsonptr_document_delete(jsonptr_document *document,
                                        const char *pointer, size_t pointer_length,
                                        bool *found, jsonptr_error *error);
@@ -464,6 +502,7 @@ jsonptr_status jsonptr_document_delete(jsonptr_document *document,
  * error     may be NULL.
  * Cost      linear in the text and in what the operations change, and in the
  *           document if `down` is not 0. */
+JSONPTR_API JSONPTR_NODISCARD
 jsonptr_status jsonptr_document_patch(jsonptr_document *document,
                                       const char *text, size_t text_length,
                                       jsonptr_error *error);
@@ -476,6 +515,7 @@ jsonptr_status jsonptr_document_patch(jsonptr_document *document,
  *           JSONPTR_NO_DOCUMENT, JSONPTR_NO_ROOM, JSONPTR_NO_MEMORY.
  * length    may be NULL, and so may `error`.
  * Cost      linear in both documents, except for long arrays that differ. */
+JSONPTR_API JSONPTR_NODISCARD
 jsonptr_status jsonptr_document_diff(jsonptr_document *from, jsonptr_document *to,
                                      uint32_t flags,
                                      char *out, size_t capacity, size_t *length,
@@ -493,10 +533,9 @@ jsonptr_status jsonptr_document_diff(jsonptr_document *from, jsonptr_document *t
  *           JSONPTR_NOT_UTF8 with offset and JSONPTR_NOT_JSON with offset for the
  *           text, JSONPTR_NOT_FOUND with kind, position, slash, offset and
  *           length, JSONPTR_NO_ROOM, JSONPTR_NO_MEMORY.
- *           JSONPTR_NOT_UTF8 does not say which of the two texts it is of: it is
- *           the pointer's, unless the pointer is UTF-8.
  * length    may be NULL, and so may `error`.
  * Cost      linear in the text. */
+JSONPTR_API JSONPTR_NODISCARD
 jsonptr_status jsonptr_resolve_in_text(const char *text, size_t text_length,
                                        const char *pointer, size_t pointer_length,
                                        uint32_t flags,
@@ -504,7 +543,7 @@ jsonptr_status jsonptr_resolve_in_text(const char *text, size_t text_length,
                                        jsonptr_error *error);
 
 /* The version of the library, such as "0.2.0", with a closing zero. */
-const char *jsonptr_version(void);
+JSONPTR_API const char *jsonptr_version(void);
 
 #ifdef __cplusplus
 }

@@ -35,7 +35,7 @@ Text = Union[str, bytes]
 
 OK, NO_MEMORY, NO_ROOM, BAD_ARGUMENT, NO_DOCUMENT, NOT_UTF8, NOT_JSON, NOT_POINTER, NO_TOKEN, NOT_FOUND, OTHER_KIND, \
     NOT_ASSIGNED, NOT_PATCH, PATCH_FAILED, TOO_DEEP = range(15)
-MEMBERS = [None, "op", "path", "from", "value"]
+MEMBERS = [None, "op", "path", "from", "value", "pointer", "token", "text"]
 
 
 def _library() -> ctypes.CDLL:
@@ -61,7 +61,8 @@ class _Handle(ctypes.Structure):
 class _Error(ctypes.Structure):
     _fields_ = [("status", ctypes.c_uint32), ("kind", ctypes.c_uint32), ("member", ctypes.c_uint32),
                 ("reserved", ctypes.c_uint32), ("operation", ctypes.c_uint64), ("position", ctypes.c_uint64),
-                ("slash", ctypes.c_uint64), ("offset", ctypes.c_uint64), ("length", ctypes.c_uint64)]
+                ("slash", ctypes.c_uint64), ("offset", ctypes.c_uint64), ("length", ctypes.c_uint64),
+                ("reserved_2", ctypes.c_uint64), ("reserved_3", ctypes.c_uint64)]
 
 
 def _function(name: str, result: Any = ctypes.c_uint32) -> Any:
@@ -93,7 +94,7 @@ class JsonPointerError(ValueError):
     `position` is that of the token at fault, from 0, and `slash` the offset of the slash before it. `offset` and
     `length` are the bytes at fault, in UTF-8; of a text that is not JSON, `offset` is where reading stopped. A field
     that an error does not have is 0: a pointer in a patch has no `length`. `operation` and `member` are those of a
-    patch, or None.
+    patch, or None. Of a text that is not UTF-8, `member` is "pointer", "token" or "text".
     """
 
     status: int = 0

@@ -5,20 +5,21 @@ ghost use Rattle.serde_json.specs.View.{view};
 ghost use Rattle.serde_json.specs.declared.value.Value.{Value};
 ghost use Rattle.jsonptr_handle.specs.Document.{IsEmpty, Keeps};
 ghost use Rattle.jsonptr_calls.specs.Depths.{IsBounded};
-ghost use Rattle.jsonptr_calls.specs.Editing.{AssignsAt, DeletesAt, IsNotAssigned, IsNotDeleted};
-ghost use Rattle.jsonptr_calls.specs.Failures.{FailsOn, IsNotParsed, IsNotPrinted, IsNotRead, IsNotWritten, Unfound};
+ghost use Rattle.jsonptr_calls.specs.Editing.{AssignsAt, DeletesAt, IsNotDeleted, IsTextNotAssigned};
+ghost use Rattle.jsonptr_calls.specs.Failures.{FailsOn, IsNotParsed, IsNotPrinted, IsNotRead, Unfound};
 ghost use Rattle.jsonptr_calls.specs.InTexts.{FindsTextIn, IsNotPrintedFrom};
 ghost use Rattle.jsonptr_calls.specs.Nodes.{FindsNode};
-ghost use Rattle.jsonptr_calls.specs.Outcomes.{Reports};
-ghost use Rattle.jsonptr_calls.specs.Patches.{AppliesText, IsDiffText, IsNotApplied, IsNotPatchText};
-ghost use Rattle.jsonptr_calls.specs.Values.{Changes, FindsTextOf, FindsString, HoldsWith, ReadsInto};
+ghost use Rattle.jsonptr_calls.specs.Outcomes.{IsLengthOf, Reports};
+ghost use Rattle.jsonptr_calls.specs.Patches.{AppliesText, IsDiffText, IsNotApplied, IsNotCompared, IsNotPatchText};
+ghost use Rattle.jsonptr_calls.specs.Rows.{no_error};
+ghost use Rattle.jsonptr_calls.specs.Values.{Changes, FindsTextOf, FindsString, HoldsWith, ReadsInto, layout_of};
 ghost use Rattle.jsonptr_calls.specs.declared.failure.Failure.{Failure};
 
 use jsonptr_calls::documents::{
     assign, delete, diff, free, node_at, parse, patch, print_at, string_at,
 };
-use jsonptr_calls::finish::{fail, fail_with_length, succeed};
 use jsonptr_calls::node::Node;
+use jsonptr_calls::outcome::{fail, fail_with_length, succeed};
 use jsonptr_calls::record::ErrorRecord;
 use jsonptr_calls::texts::print_in;
 use jsonptr_calls::values::Layout;
@@ -26,7 +27,9 @@ use jsonptr_handle::document::Document;
 use std::alloc::Global;
 
 /// Returns the layout of a text.
-fn layout(is_pretty: bool) -> Layout {
+fn layout(is_pretty: bool) -> Layout
+    ensures { result ≡ layout_of is_pretty }
+{
     if is_pretty {
         Layout::Pretty
     } else {
@@ -42,6 +45,7 @@ pub extern "C" fn jsonptrcore_document_parse(
     text: &[u8],
     error: &mut ErrorRecord,
 ) -> u32
+    ensures success { result ≡ 0 → error.new ≡ no_error }
     ensures parsed { result ≡ 0 → ReadsInto text.now document.new }
     ensures bounded { result ≡ 0 → HoldsWith document.new (λ v. IsBounded (view v)) }
     ensures refused { result ≢ 0 → (e : Failure) × Reports e [] result error.new
@@ -73,12 +77,14 @@ pub extern "C" fn jsonptrcore_document_print(
     length: &mut usize,
     error: &mut ErrorRecord,
 ) -> u32
+    ensures success { result ≡ 0 → error.new ≡ no_error }
     ensures printed { result ≡ 0 → HoldsWith document.old
-        (λ v. FindsTextOf (view v) pointer.now (take length.new out.new)) }
+        (λ v. FindsTextOf (layout_of is_pretty) (view v) pointer.now (take length.new out.new)) }
     ensures refused { result ≢ 0 → (e : Failure) × Reports e pointer.now result error.new
         × FailsOn document.old
-        (λ v. IsNotPrinted (view v) pointer.now (list_length out.old) e) e }
+        (λ v. IsNotPrinted (layout_of is_pretty) (view v) pointer.now (list_length out.old) e) e }
     ensures unchanged { result ≢ 0 → out.new ≡ out.old }
+    ensures length { result ≢ 0 → IsLengthOf error.new length.old length.new }
     ensures kept { Keeps document.old document.new }
 {
     match print_at(alloc, document, pointer, layout(is_pretty), out) {
@@ -100,12 +106,14 @@ pub extern "C" fn jsonptrcore_document_string(
     length: &mut usize,
     error: &mut ErrorRecord,
 ) -> u32
+    ensures success { result ≡ 0 → error.new ≡ no_error }
     ensures string { result ≡ 0 → HoldsWith document.old
         (λ v. FindsString (view v) pointer.now (take length.new out.new)) }
     ensures refused { result ≢ 0 → (e : Failure) × Reports e pointer.now result error.new
         × FailsOn document.old
         (λ v. IsNotRead (view v) pointer.now (list_length out.old) e) e }
     ensures unchanged { result ≢ 0 → out.new ≡ out.old }
+    ensures length { result ≢ 0 → IsLengthOf error.new length.old length.new }
     ensures kept { Keeps document.old document.new }
 {
     match string_at(alloc, document, pointer, out) {
@@ -126,6 +134,7 @@ pub extern "C" fn jsonptrcore_document_node(
     node: &mut Node,
     error: &mut ErrorRecord,
 ) -> u32
+    ensures success { result ≡ 0 → error.new ≡ no_error }
     ensures described { result ≡ 0 → HoldsWith document.old
         (λ v. FindsNode (view v) pointer.now node.new) }
     ensures refused { result ≢ 0 → (e : Failure) × Reports e pointer.now result error.new
@@ -150,13 +159,13 @@ pub extern "C" fn jsonptrcore_document_assign(
     text: &[u8],
     error: &mut ErrorRecord,
 ) -> u32
+    ensures success { result ≡ 0 → error.new ≡ no_error }
     ensures assigned { result ≡ 0 → (v : Value) × (read_text text.now ≡ Some (view v))
         × Changes document.old (λ d n. AssignsAt d pointer.now (view v) n) document.new }
     ensures bounded { result ≡ 0
         → Changes document.old (λ d n. IsBounded d → IsBounded n) document.new }
     ensures refused { result ≢ 0 → (e : Failure) × Reports e pointer.now result error.new
-        × (IsNotParsed text.now e
-        ⊎ FailsOn document.old (λ v. IsNotAssigned (view v) pointer.now e) e) }
+        × IsTextNotAssigned text.now document.old pointer.now e }
     ensures kept { result ≢ 0 → Keeps document.old document.new }
 {
     match assign(alloc, document, pointer, text) {
@@ -174,6 +183,7 @@ pub extern "C" fn jsonptrcore_document_delete(
     found: &mut bool,
     error: &mut ErrorRecord,
 ) -> u32
+    ensures success { result ≡ 0 → error.new ≡ no_error }
     ensures deleted { result ≡ 0 → Changes document.old
         (λ d n. DeletesAt d pointer.now found.new n) document.new }
     ensures bounded { result ≡ 0
@@ -199,13 +209,13 @@ pub extern "C" fn jsonptrcore_document_patch(
     text: &[u8],
     error: &mut ErrorRecord,
 ) -> u32
+    ensures success { result ≡ 0 → error.new ≡ no_error }
     ensures applied { result ≡ 0
         → Changes document.old (λ d n. AppliesText text.now d n) document.new }
     ensures bounded { result ≡ 0
         → Changes document.old (λ d n. IsBounded d → IsBounded n) document.new }
     ensures refused { result ≢ 0 → (e : Failure) × Reports e [] result error.new
-        × (IsNotPatchText text.now e
-        ⊎ FailsOn document.old (λ v. IsNotApplied text.now (view v) e) e) }
+        × (IsNotPatchText text.now e ⊎ IsNotApplied text.now document.old e) }
     ensures kept { result ≢ 0 → Keeps document.old document.new }
 {
     match patch(alloc, document, text) {
@@ -225,12 +235,14 @@ pub extern "C" fn jsonptrcore_document_diff(
     length: &mut usize,
     error: &mut ErrorRecord,
 ) -> u32
+    ensures success { result ≡ 0 → error.new ≡ no_error }
     ensures differing { result ≡ 0 → HoldsWith old.old (λ v. HoldsWith new.old
-        (λ w. IsDiffText (view v) (view w) (take length.new out.new))) }
+        (λ w. IsDiffText (layout_of is_pretty) (view v) (view w) (take length.new out.new))) }
     ensures refused { result ≢ 0 → (e : Failure) × Reports e [] result error.new
         × FailsOn old.old (λ v. FailsOn new.old
-        (λ w. IsNotWritten (list_length out.old) e) e) e }
+        (λ w. IsNotCompared (layout_of is_pretty) (view v) (view w) (list_length out.old) e) e) e }
     ensures unchanged { result ≢ 0 → out.new ≡ out.old }
+    ensures length { result ≢ 0 → IsLengthOf error.new length.old length.new }
     ensures old_kept { Keeps old.old old.new }
     ensures new_kept { Keeps new.old new.new }
 {
@@ -254,11 +266,13 @@ pub extern "C" fn jsonptrcore_text_print(
     length: &mut usize,
     error: &mut ErrorRecord,
 ) -> u32
+    ensures success { result ≡ 0 → error.new ≡ no_error }
     ensures printed { result ≡ 0
-        → FindsTextIn text.now pointer.now (take length.new out.new) }
+        → FindsTextIn (layout_of is_pretty) text.now pointer.now (take length.new out.new) }
     ensures refused { result ≢ 0 → (e : Failure) × Reports e pointer.now result error.new
-        × IsNotPrintedFrom text.now pointer.now (list_length out.old) e }
+        × IsNotPrintedFrom (layout_of is_pretty) text.now pointer.now (list_length out.old) e }
     ensures unchanged { result ≢ 0 → out.new ≡ out.old }
+    ensures length { result ≢ 0 → IsLengthOf error.new length.old length.new }
 {
     match print_in(alloc, text, pointer, layout(is_pretty), out) {
         Ok(copied) => {

@@ -1,8 +1,14 @@
 //! Messages of errors.
-ghost use Rattle.std.specs.Prelude.{◌≡◌, ◌≢◌};
+ghost use Rattle.std.specs.Prelude.{◌≡◌, ◌≢◌, [], take, length as list_length};
+ghost use Rattle.jsonptr_calls.specs.Failures.{IsNotWritten};
+ghost use Rattle.jsonptr_calls.specs.Messages.{message_of};
+ghost use Rattle.jsonptr_calls.specs.Outcomes.{ReportsLength};
+ghost use Rattle.jsonptr_calls.specs.Rows.{status_of};
+ghost use Rattle.jsonptr_calls.specs.declared.failure.Failure.{Failure};
 
-use jsonptr_calls::finish::fail_with_length;
-use jsonptr_calls::record::{ErrorRecord, OK, message};
+use jsonptr_calls::numbers::OK;
+use jsonptr_calls::outcome::fail_with_length;
+use jsonptr_calls::record::{ErrorRecord, message};
 use std::alloc::Global;
 
 /// Copies the message of the error to the buffer.
@@ -13,6 +19,11 @@ pub extern "C" fn jsonptrcore_error_message(
     out: &mut [u8],
     length: &mut usize,
 ) -> u32
+    ensures message { result ≡ 0 → take length.new out.new ≡ message_of error.now }
+    ensures length { result ≡ 0 → length.new ≡ list_length (message_of error.now) }
+    ensures refused { result ≢ 0 → (e : Failure) × (result ≡ status_of e)
+        × IsNotWritten (message_of error.now) (list_length out.old) e
+        × ReportsLength e length.old length.new }
     ensures unchanged { result ≢ 0 → out.new ≡ out.old }
 {
     match message(alloc, error, out) {

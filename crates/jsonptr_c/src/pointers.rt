@@ -2,11 +2,12 @@
 ghost use Rattle.std.specs.Prelude.{◌≡◌, ◌≢◌, [], take, length as list_length};
 ghost use Rattle.jsonptr.specs.Text.{esc};
 ghost use Rattle.jsonptr_calls.specs.Failures.{IsNoPointer, IsNoToken, IsNotEscaped, IsNotPopped, IsNotPushed};
-ghost use Rattle.jsonptr_calls.specs.Outcomes.{Reports};
+ghost use Rattle.jsonptr_calls.specs.Outcomes.{IsLengthOf, Reports};
+ghost use Rattle.jsonptr_calls.specs.Rows.{no_error};
 ghost use Rattle.jsonptr_calls.specs.Pointers.{HasCount, HasToken, Extends, Shortens};
 ghost use Rattle.jsonptr_calls.specs.declared.failure.Failure.{Failure};
 
-use jsonptr_calls::finish::{fail, fail_with_length, succeed};
+use jsonptr_calls::outcome::{fail, fail_with_length, succeed};
 use jsonptr_calls::pointers::{count, escape, pop, push, token};
 use jsonptr_calls::record::ErrorRecord;
 use std::alloc::Global;
@@ -18,6 +19,7 @@ pub extern "C" fn jsonptrcore_pointer_count(
     tokens: &mut usize,
     error: &mut ErrorRecord,
 ) -> u32
+    ensures success { result ≡ 0 → error.new ≡ no_error }
     ensures count { result ≡ 0 → HasCount pointer.now tokens.new }
     ensures refused { result ≢ 0 → (e : Failure) × Reports e pointer.now result error.new
         × IsNoPointer pointer.now e }
@@ -41,10 +43,12 @@ pub extern "C" fn jsonptrcore_pointer_token(
     length: &mut usize,
     error: &mut ErrorRecord,
 ) -> u32
+    ensures success { result ≡ 0 → error.new ≡ no_error }
     ensures token { result ≡ 0 → HasToken pointer.now position (take length.new out.new) }
     ensures refused { result ≢ 0 → (e : Failure) × Reports e pointer.now result error.new
         × IsNoToken pointer.now position (list_length out.old) e }
     ensures unchanged { result ≢ 0 → out.new ≡ out.old }
+    ensures length { result ≢ 0 → IsLengthOf error.new length.old length.new }
 {
     match token(alloc, pointer, position, out) {
         Ok(copied) => {
@@ -64,10 +68,12 @@ pub extern "C" fn jsonptrcore_pointer_escape(
     length: &mut usize,
     error: &mut ErrorRecord,
 ) -> u32
+    ensures success { result ≡ 0 → error.new ≡ no_error }
     ensures escaped { result ≡ 0 → take length.new out.new ≡ esc text.now }
     ensures refused { result ≢ 0 → (e : Failure) × Reports e [] result error.new
         × IsNotEscaped text.now (list_length out.old) e }
     ensures unchanged { result ≢ 0 → out.new ≡ out.old }
+    ensures length { result ≢ 0 → IsLengthOf error.new length.old length.new }
 {
     match escape(alloc, text, out) {
         Ok(copied) => {
@@ -88,11 +94,12 @@ pub extern "C" fn jsonptrcore_pointer_push(
     text: &[u8],
     error: &mut ErrorRecord,
 ) -> u32
+    ensures success { result ≡ 0 → error.new ≡ no_error }
     ensures pushed { result ≡ 0
         → Extends (take length.old buffer.old) text.now (take length.new buffer.new) }
     ensures refused { result ≢ 0 → (e : Failure)
         × Reports e (take length.old buffer.old) result error.new
-        × IsNotPushed (take length.old buffer.old) text.now (list_length buffer.old) e }
+        × IsNotPushed length.old buffer.old text.now e }
     ensures unchanged { result ≢ 0 → buffer.new ≡ buffer.old }
     ensures same_length { result ≢ 0 → length.new ≡ length.old }
 {
@@ -115,6 +122,7 @@ pub extern "C" fn jsonptrcore_pointer_pop(
     length: &mut usize,
     error: &mut ErrorRecord,
 ) -> u32
+    ensures success { result ≡ 0 → error.new ≡ no_error }
     ensures popped { result ≡ 0 → Shortens pointer.now length.new }
     ensures refused { result ≢ 0 → (e : Failure) × Reports e pointer.now result error.new
         × IsNotPopped pointer.now e }

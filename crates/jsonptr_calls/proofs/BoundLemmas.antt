@@ -6,9 +6,9 @@ use Rattle.serde_json.specs.View.{view}
 use Rattle.serde_json.proofs.Nesting.{depth-read}
 use Rattle.jsonptr.specs.Json.{nodes, HasSortedKeys}
 use Rattle.jsonptr.proofs.Calling.{ascends_read}
-use Rattle.jsonptr_depth.specs.Nesting.{NestsWithin}
-use Rattle.jsonptr_depth.proofs.LevelLemmas.{NestsWithin-depth, depth-within}
-use Rattle.jsonptr_depth.proofs.NestingLemmas.{NestsWithin-more, Assigns-within, Deletes-within}
+use Rattle.jsonptr_value.specs.Nesting.{NestsWithin}
+use Rattle.jsonptr_value.proofs.LevelLemmas.{NestsWithin-depth, depth-within}
+use Rattle.jsonptr_value.proofs.NestingLemmas.{NestsWithin-more, Assigns-within, Deletes-within}
 use Rattle.jsonptr_calls.specs.Depths.{max_levels, IsParsed, IsBounded}
 use Rattle.jsonptr_calls.specs.Editing.{AssignsAt, DeletesAt, Removes}
 

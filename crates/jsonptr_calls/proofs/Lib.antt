@@ -1,3 +1,6 @@
 pub mod PointerLemmas
 mod NestingLemmas
 mod BoundLemmas
+mod LawLemmas
+mod MessageLemmas
+mod CopyLemmas

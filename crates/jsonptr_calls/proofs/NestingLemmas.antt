@@ -15,9 +15,9 @@ use Rattle.jsonptr.specs.Node.{key, place, Path, Label, an_object, an_array, a_l
 use Rattle.jsonptr.specs.Following.{Finds}
 use Rattle.jsonptr.specs.Json.{nodes, HasSortedKeys}
 use Rattle.jsonptr_tree.proofs.NodeLemmas.{Names-length}
-use Rattle.jsonptr_depth.specs.Nesting.{IsContainer, NestsWithin}
-use Rattle.jsonptr_depth.proofs.LevelLemmas.{NestsWithin-depth, depth-within}
-use Rattle.jsonptr_depth.proofs.NestingLemmas.{NestsWithin-more, NestsWithin-sub, NestsWithin-put, Names-within, Finds-within, Deletes-within}
+use Rattle.jsonptr_value.specs.Nesting.{IsContainer, NestsWithin}
+use Rattle.jsonptr_value.proofs.LevelLemmas.{NestsWithin-depth, depth-within}
+use Rattle.jsonptr_value.proofs.NestingLemmas.{NestsWithin-more, NestsWithin-sub, NestsWithin-put, Names-within, Finds-within, Deletes-within}
 use Rattle.jsonptr_patch.specs.Adding.{Adds, AddsUnder}
 use Rattle.jsonptr_patch.specs.Inserting.{one_more, place_of_old, below_element, with_place}
 use Rattle.jsonptr_patch.specs.Operating.{Applies, Takes}

@@ -8,7 +8,6 @@ use Rattle.jsonptr.specs.Json.{HasSortedKeys}
 use Rattle.jsonptr.specs.Text.{Text}
 use Rattle.jsonptr_patch.specs.declared.operation.Operation.{Operation}
 use Rattle.jsonptr_patch.specs.declared.operation.Operation.TheVariants.{Add, Remove, Replace, Move, Copy, Test}
-use Rattle.jsonptr_calls.specs.Pointers.{HasTokens}
 
 -- `max_levels`: the most levels that pointers may add to the `max_depth` of a text that is read
 abbrev pub max_levels : ℕ
@@ -35,10 +34,6 @@ AddsParsed (Test path value) = ⊤
 -- `IsShort tokens`: a value at a pointer with these tokens is at most `max_levels` deep in its document
 abbrev pub IsShort : List Text → Type 0
 IsShort tokens = length tokens ≤ max_levels
-
--- `IsTooLong bytes`: the pointer `bytes` has more tokens than that
-abbrev pub IsTooLong : List ℕ → Type 0
-IsTooLong bytes = (tokens : List Text) × HasTokens bytes tokens × (max_levels < length tokens)
 
 -- `level_of o`: how deep in its document the operation `o` puts its own value, if it adds one
 abbrev pub level_of : Operation → ℕ

@@ -8,6 +8,6 @@ pub mod Nodes
 pub mod Editing
 pub mod InTexts
 pub mod Patches
-pub mod Kinding
-pub mod Records
+pub mod Rows
+pub mod Messages
 pub mod Outcomes

@@ -15,6 +15,8 @@ pub record Describes (d : Data) (node : Node) : Type 0 where
   pub has_natural : node.has_natural ≡ is_some (option_and_then as_u64 (as_number d))
   pub natural : node.natural ≡ unwrap_or (option_and_then as_u64 (as_number d)) 0
   pub length : node.length ≡ length_of d
+  pub reserved : node.reserved ≡ 0
+  pub reserved_2 : node.reserved_2 ≡ 0
 
 -- `FindsNode d bytes node`: `node` says what the value is that the pointer `bytes` resolves to in the document `d`
 abbrev pub FindsNode : Data → List ℕ → Node → Type 0

@@ -1,10 +1,14 @@
 -- Pointers as bytes.
-use Rattle.std.specs.Prelude.{◌≡◌, ◌++◌, ◌∷◌, [], List, ℕ, length, slice_get, take, Some}
+use Rattle.std.specs.Prelude.{◌≡◌, ◌++◌, ◌∷◌, [], IsUtf8, List, ℕ, length, slice_get, take, Some}
 use Rattle.jsonptr.specs.Text.{Text, text}
 
 -- `HasTokens bytes tokens`: `bytes` are the text of the pointer with these tokens. A text has at most one list of them
 abbrev pub HasTokens : List ℕ → List Text → Type 0
 HasTokens bytes tokens = text tokens ≡ bytes
+
+-- `ParsesTo bytes tokens`: `bytes` are UTF-8, and the text of the pointer with these tokens
+abbrev pub ParsesTo : List ℕ → List Text → Type 0
+ParsesTo bytes tokens = IsUtf8 bytes × HasTokens bytes tokens
 
 -- `HasCount bytes n`: the pointer `bytes` has `n` tokens
 abbrev pub HasCount : List ℕ → ℕ → Type 0

@@ -9,8 +9,8 @@ ghost use Rattle.jsonptr.specs.Pointer.{tokens};
 ghost use Rattle.jsonptr_calls.specs.Depths.{IsShort, StaysShallow, descent, descent_of, level_of, max_levels};
 
 use jsonptr::Pointer;
-use jsonptr_depth::{MAX_DEPTH, nests_within};
 use jsonptr_patch::Operation;
+use jsonptr_value::{MAX_DEPTH, nests_within};
 use serde_json::Value;
 
 /// The most levels that pointers may add to the 127 of a text that is read.

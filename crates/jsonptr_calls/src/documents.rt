@@ -5,10 +5,10 @@ ghost use Rattle.serde_json.specs.View.{view};
 ghost use Rattle.serde_json.specs.declared.value.Value.{Value as JsonValue};
 ghost use Rattle.jsonptr_handle.specs.Document.{IsEmpty, Keeps};
 ghost use Rattle.jsonptr_calls.specs.Depths.{IsBounded};
-ghost use Rattle.jsonptr_calls.specs.Editing.{AssignsAt, DeletesAt, IsNotAssigned, IsNotDeleted};
-ghost use Rattle.jsonptr_calls.specs.Failures.{FailsOn, IsNotParsed, IsNotPrinted, IsNotRead, IsNotWritten, Unfound};
+ghost use Rattle.jsonptr_calls.specs.Editing.{AssignsAt, DeletesAt, IsNotDeleted, IsTextNotAssigned};
+ghost use Rattle.jsonptr_calls.specs.Failures.{FailsOn, IsNotParsed, IsNotPrinted, IsNotRead, Unfound};
 ghost use Rattle.jsonptr_calls.specs.Nodes.{FindsNode};
-ghost use Rattle.jsonptr_calls.specs.Patches.{AppliesText, IsDiffText, IsNotApplied, IsNotPatchText};
+ghost use Rattle.jsonptr_calls.specs.Patches.{AppliesText, IsDiffText, IsNotApplied, IsNotCompared, IsNotPatchText};
 ghost use Rattle.jsonptr_calls.specs.Values.{Changes, FindsTextOf, FindsString, HoldsWith, ReadsInto};
 
 use crate::failure::Failure;
@@ -63,9 +63,9 @@ pub fn print_at(
     out: &mut [u8],
 ) -> Result<usize, Failure>
     ensures printed { IfOk result (λ n.
-        HoldsWith document.old (λ v. FindsTextOf (view v) pointer.now (take n out.new))) }
+        HoldsWith document.old (λ v. FindsTextOf layout (view v) pointer.now (take n out.new))) }
     ensures refused { IfErr result (λ e.
-        FailsOn document.old (λ v. IsNotPrinted (view v) pointer.now (length out.old) e) e) }
+        FailsOn document.old (λ v. IsNotPrinted layout (view v) pointer.now (length out.old) e) e) }
     ensures unchanged { OnErr result (out.new ≡ out.old) }
     ensures kept { Keeps document.old document.new }
 {
@@ -142,8 +142,7 @@ pub fn assign(
         × Changes document.old (λ d n. AssignsAt d pointer.now (view v) n) document.new) }
     ensures bounded { IfOk result (λ _.
         Changes document.old (λ d n. IsBounded d → IsBounded n) document.new) }
-    ensures refused { IfErr result (λ e. IsNotParsed text.now e
-        ⊎ FailsOn document.old (λ v. IsNotAssigned (view v) pointer.now e) e) }
+    ensures refused { IfErr result (IsTextNotAssigned text.now document.old pointer.now) }
     ensures kept { OnErr result (Keeps document.old document.new) }
 {
     let assigned = read(alloc, text)?;
@@ -191,8 +190,8 @@ pub fn patch(alloc: Global, document: &mut Document, text: &[u8]) -> Result<(), 
         Changes document.old (λ d n. AppliesText text.now d n) document.new) }
     ensures bounded { IfOk result (λ _.
         Changes document.old (λ d n. IsBounded d → IsBounded n) document.new) }
-    ensures refused { IfErr result (λ e. IsNotPatchText text.now e
-        ⊎ FailsOn document.old (λ v. IsNotApplied text.now (view v) e) e) }
+    ensures refused { IfErr result (λ e.
+        IsNotPatchText text.now e ⊎ IsNotApplied text.now document.old e) }
     ensures kept { OnErr result (Keeps document.old document.new) }
 {
     let operations = patches::read_text(alloc, text)?;
@@ -222,9 +221,10 @@ pub fn diff(
     out: &mut [u8],
 ) -> Result<usize, Failure>
     ensures differing { IfOk result (λ n. HoldsWith old.old (λ v.
-        HoldsWith new.old (λ w. IsDiffText (view v) (view w) (take n out.new)))) }
+        HoldsWith new.old (λ w. IsDiffText layout (view v) (view w) (take n out.new)))) }
     ensures refused { IfErr result (λ e. FailsOn old.old
-        (λ v. FailsOn new.old (λ w. IsNotWritten (length out.old) e) e) e) }
+        (λ v. FailsOn new.old
+        (λ w. IsNotCompared layout (view v) (view w) (length out.old) e) e) e) }
     ensures unchanged { OnErr result (out.new ≡ out.old) }
     ensures old_kept { Keeps old.old old.new }
     ensures new_kept { Keeps new.old new.new }
@@ -251,9 +251,10 @@ fn diff_with(
     out: &mut [u8],
 ) -> Result<usize, Failure>
     ensures differing { IfOk result (λ n.
-        HoldsWith new.old (λ w. IsDiffText (view old.now) (view w) (take n out.new))) }
+        HoldsWith new.old (λ w. IsDiffText layout (view old.now) (view w) (take n out.new))) }
     ensures refused { IfErr result (λ e.
-        FailsOn new.old (λ w. IsNotWritten (length out.old) e) e) }
+        FailsOn new.old
+        (λ w. IsNotCompared layout (view old.now) (view w) (length out.old) e) e) }
     ensures unchanged { OnErr result (out.new ≡ out.old) }
     ensures kept { Keeps new.old new.new }
 {

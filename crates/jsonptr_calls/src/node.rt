@@ -29,6 +29,10 @@ pub struct Node {
     pub number: f64,
     /// The number of elements or members, or of the bytes of a string; 0 for others.
     pub length: usize,
+    /// Always 0.
+    pub reserved: u64,
+    /// Always 0.
+    pub reserved_2: u64,
 }
 
 impl Node {
@@ -47,6 +51,8 @@ impl Node {
             natural: value.as_u64().unwrap_or(0),
             number: value.as_f64().unwrap_or(0.0),
             length: length(value),
+            reserved: 0,
+            reserved_2: 0,
         }
     }
 

@@ -1,12 +1,11 @@
 //! JSON Patch documents (RFC 6902) as bytes.
-ghost use Rattle.std.specs.Prelude.{◌≡◌, IfErr, IfOk, OnErr, OnOk, All, length, take};
+ghost use Rattle.std.specs.Prelude.{◌≡◌, IfErr, IfOk, IsUtf8, OnErr, OnOk, All, length, take};
 ghost use Rattle.serde_json.specs.View.{view};
 ghost use Rattle.jsonptr.specs.Json.{nodes, HasSortedKeys};
 ghost use Rattle.jsonptr_patch.specs.Order.{OperationHasSortedKeys};
 ghost use Rattle.jsonptr_patch.specs.Patching.{Patches};
 ghost use Rattle.jsonptr_calls.specs.Depths.{AddsParsed, StaysShallow};
-ghost use Rattle.jsonptr_calls.specs.Failures.{IsNotWritten};
-ghost use Rattle.jsonptr_calls.specs.Patches.{IsPatchText, IsNotPatchText, IsNotAppliedList, IsDiffText};
+ghost use Rattle.jsonptr_calls.specs.Patches.{IsPatchText, IsNotPatchText, IsNotAppliedList, IsNotCompared, IsDiffText};
 
 use crate::buffer::copy_to;
 use crate::depths::stays_shallow;
@@ -19,7 +18,7 @@ use jsonptr_patch::{Operation, apply};
 use jsonptr_patch_document::laws::patch_document_law;
 use jsonptr_patch_document::{read_patch, write_patch};
 use serde_json::Value;
-use std::alloc::Global;
+use std::alloc::{AllocError, Global};
 
 /// Returns the operations of the patch document that the bytes are the text of.
 ///
@@ -31,6 +30,7 @@ use std::alloc::Global;
 pub fn read_text(alloc: Global, text: &[u8]) -> Result<Vec<Operation>, Failure>
     ensures read { IfOk result (λ patch. IsPatchText text.now patch.items) }
     ensures parsed { IfOk result (λ patch. All AddsParsed patch.items) }
+    ensures utf8 { OnOk result (IsUtf8 text.now) }
     ensures refused { IfErr result (IsNotPatchText text.now) }
 {
     patch_document_law();
@@ -85,11 +85,22 @@ pub fn diff_text(
     out: &mut [u8],
 ) -> Result<usize, Failure>
     ensures differing { IfOk result (λ n.
-        IsDiffText (view old.now) (view new.now) (take n out.new)) }
-    ensures refused { IfErr result (IsNotWritten (length out.old)) }
+        IsDiffText layout (view old.now) (view new.now) (take n out.new)) }
+    ensures refused { IfErr result
+        (IsNotCompared layout (view old.now) (view new.now) (length out.old)) }
     ensures unchanged { OnErr result (out.new ≡ out.old) }
 {
+    match diff_of(alloc, old, new, layout) {
+        Ok(text) => copy_to(&text, out),
+        Err(error) => Err(Failure::Memory(error)),
+    }
+}
+
+/// Returns the text of a patch document that turns the document `old` into `new`.
+fn diff_of(alloc: Global, old: &Value, new: &Value, layout: Layout) -> Result<Vec<u8>, AllocError>
+    ensures { IfOk result (λ text.
+        IsDiffText layout (view old.now) (view new.now) text.items) }
+{
     let document = write_patch(alloc, &diff(alloc, old, new)?)?;
-    let text = json_text(alloc, &document, layout)?;
-    copy_to(&text, out)
+    json_text(alloc, &document, layout)
 }

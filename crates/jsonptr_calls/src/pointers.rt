@@ -1,29 +1,31 @@
 //! JSON Pointers (RFC 6901) as bytes.
-ghost use Rattle.std.specs.Prelude.{◌≡◌, IfErr, IfOk, OnErr, take, length as list_length};
+ghost use Rattle.std.specs.Prelude.{◌≡◌, IfErr, IfOk, IsUtf8, OnErr, OnOk, take, length as list_length};
 ghost use Rattle.jsonptr.specs.Pointer.{tokens};
 ghost use Rattle.jsonptr.specs.Text.{text, esc};
 ghost use Rattle.jsonptr_calls.specs.Failures.{IsNotUtf8, IsNoPointer, IsNoToken, IsNotEscaped, IsNotExtended, IsNotPushed, IsNotPopped};
 ghost use Rattle.jsonptr_calls.specs.Pointers.{HasTokens, HasCount, HasToken, Extends, Shortens};
 
 use crate::buffer::copy_to;
-use crate::failure::Failure;
+use crate::failure::{Argument, Failure};
 use jsonptr::{Pointer, PointerBuf, Token};
 use simdutf8::compat::from_utf8;
 use std::alloc::Global;
 use std::borrow::CowStr;
 
-/// Returns the text that the bytes are.
+/// Returns the text that the bytes of an argument are.
 ///
 /// # Errors
 ///
 /// [`Failure::NotUtf8`] if they are not UTF-8.
-pub fn text_of(bytes: &[u8]) -> Result<&str, Failure>
+pub fn text_of(argument: Argument, bytes: &[u8]) -> Result<&str, Failure>
     ensures text { IfOk result (λ s. s.now ≡ bytes.now) }
-    ensures refused { IfErr result (IsNotUtf8 bytes.now) }
+    ensures utf8 { OnOk result (IsUtf8 bytes.now) }
+    ensures refused { IfErr result (IsNotUtf8 argument bytes.now) }
 {
     match from_utf8(bytes) {
         Ok(text) => Ok(text),
         Err(error) => Err(Failure::NotUtf8 {
+            argument,
             offset: error.valid_up_to(),
         }),
     }
@@ -36,9 +38,10 @@ pub fn text_of(bytes: &[u8]) -> Result<&str, Failure>
 /// [`Failure::NotUtf8`] and [`Failure::NotPointer`].
 pub fn parse(bytes: &[u8]) -> Result<Pointer<'_>, Failure>
     ensures pointer { IfOk result (λ p. HasTokens bytes.now (tokens p)) }
+    ensures utf8 { OnOk result (IsUtf8 bytes.now) }
     ensures refused { IfErr result (IsNoPointer bytes.now) }
 {
-    match Pointer::parse(text_of(bytes)?) {
+    match Pointer::parse(text_of(Argument::Pointer, bytes)?) {
         Ok(pointer) => Ok(pointer),
         Err(error) => Err(Failure::NotPointer(error)),
     }
@@ -88,7 +91,7 @@ pub fn escape(alloc: Global, bytes: &[u8], out: &mut [u8]) -> Result<usize, Fail
     ensures refused { IfErr result (IsNotEscaped bytes.now (list_length out.old)) }
     ensures unchanged { OnErr result (out.new ≡ out.old) }
 {
-    let token = Token::new(alloc, CowStr::Borrowed(text_of(bytes)?))?;
+    let token = Token::new(alloc, CowStr::Borrowed(text_of(Argument::Token, bytes)?))?;
     copy_to(token.encoded().as_bytes(), out)
 }
 
@@ -104,14 +107,16 @@ pub fn push(alloc: Global, buffer: &mut [u8], length: usize, token: &[u8]) -> Re
     ensures pushed { IfOk result (λ n.
         Extends (take length buffer.old) token.now (take n buffer.new)) }
     ensures refused { IfErr result
-        (IsNotPushed (take length buffer.old) token.now (list_length buffer.old)) }
+        (IsNotPushed length buffer.old token.now) }
     ensures unchanged { OnErr result (buffer.new ≡ buffer.old) }
 {
     let Some(bytes) = buffer.get(..length) else {
         return Err(Failure::NoRoom { needed: length });
     };
-    let longer = extended(alloc, bytes, token)?;
-    copy_to(longer.as_ptr().as_str().as_bytes(), buffer)
+    match extended(alloc, bytes, token) {
+        Ok(longer) => copy_to(longer.as_ptr().as_str().as_bytes(), buffer),
+        Err(failure) => Err(failure),
+    }
 }
 
 /// Returns the pointer with one more token.
@@ -121,10 +126,12 @@ pub fn push(alloc: Global, buffer: &mut [u8], length: usize, token: &[u8]) -> Re
 /// Those of [`push`], except that of a short buffer.
 fn extended(alloc: Global, bytes: &[u8], token: &[u8]) -> Result<PointerBuf, Failure>
     ensures pushed { IfOk result (λ p. Extends bytes.now token.now (text p)) }
+    ensures pointer_utf8 { OnOk result (IsUtf8 bytes.now) }
+    ensures token_utf8 { OnOk result (IsUtf8 token.now) }
     ensures refused { IfErr result (IsNotExtended bytes.now token.now) }
 {
     let pointer = parse(bytes)?;
-    let token = Token::new(alloc, CowStr::Borrowed(text_of(token)?))?;
+    let token = Token::new(alloc, CowStr::Borrowed(text_of(Argument::Token, token)?))?;
     Ok(pointer.with_trailing_token(alloc, token)?)
 }
 

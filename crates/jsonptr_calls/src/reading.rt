@@ -1,11 +1,11 @@
 //! JSON texts as bytes.
-ghost use Rattle.std.specs.Prelude.{◌≡◌, IfErr, IfOk, Some};
+ghost use Rattle.std.specs.Prelude.{◌≡◌, IfErr, IfOk, IsUtf8, OnOk, Some};
 ghost use Rattle.serde_json.specs.Read.{read as read_text};
 ghost use Rattle.serde_json.specs.View.{view};
 ghost use Rattle.jsonptr_calls.specs.Depths.{IsParsed};
 ghost use Rattle.jsonptr_calls.specs.Failures.{IsNotParsed};
 
-use crate::failure::Failure;
+use crate::failure::{Argument, Failure};
 use crate::pointers::text_of;
 use serde_json::{Error, Value};
 use std::alloc::{AllocError, Global};
@@ -19,9 +19,10 @@ use std::alloc::{AllocError, Global};
 pub fn read(alloc: Global, bytes: &[u8]) -> Result<Value, Failure>
     ensures read { IfOk result (λ v. read_text bytes.now ≡ Some (view v)) }
     ensures parsed { IfOk result (λ v. IsParsed (view v)) }
+    ensures utf8 { OnOk result (IsUtf8 bytes.now) }
     ensures refused { IfErr result (IsNotParsed bytes.now) }
 {
-    let text = text_of(bytes)?;
+    let text = text_of(Argument::Text, bytes)?;
     match Value::from_str(alloc, text) {
         Ok(value) => Ok(value),
         Err(error) => {

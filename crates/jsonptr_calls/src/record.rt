@@ -1,17 +1,17 @@
 //! The error of a call as numbers, which C reads.
-ghost use Rattle.std.specs.Prelude.{◌≡◌, IfErr, OnErr, length as list_length};
+ghost use Rattle.std.specs.Prelude.{◌≡◌, IfErr, IfOk, OnErr, take, length as list_length};
 ghost use Rattle.jsonptr_calls.specs.Failures.{IsNotWritten};
+ghost use Rattle.jsonptr_calls.specs.Messages.{message_of};
+ghost use Rattle.jsonptr_calls.specs.Rows.{no_error, record_of};
 
 use crate::buffer::copy_to;
 use crate::failure::Failure;
-use crate::faults::{kind, length, member, offset, operation, position, slash, status};
-use crate::rebuild::failure_of;
+use crate::numbers::OK;
+use crate::rows::record;
 use std::alloc::Global;
 
-/// The status of a call that succeeds.
-pub const OK: u32 = 0;
-
-/// The error of a call. Each field that an error does not have is 0.
+/// The error of a call. Each field that an error does not have is 0. It displays the message of the
+/// error.
 #[repr(C)]
 #[derive(Clone, Copy)]
 pub struct ErrorRecord {
@@ -19,7 +19,7 @@ pub struct ErrorRecord {
     pub status: u32,
     /// What is at fault, more exactly.
     pub kind: u32,
-    /// The member of a patch document at fault.
+    /// The member of a patch document, or the argument of the call, at fault.
     pub member: u32,
     /// Always 0.
     pub reserved: u32,
@@ -31,16 +31,19 @@ pub struct ErrorRecord {
     pub slash: u64,
     /// The offset of the first byte at fault.
     pub offset: u64,
-    /// The number of bytes at fault, or 0 if it is not known.
+    /// The number of bytes at fault, or 0 if it is not known. Of a buffer that is too short it is
+    /// the length that is needed.
     pub length: u64,
+    /// Always 0.
+    pub reserved_2: u64,
+    /// Always 0.
+    pub reserved_3: u64,
 }
 
 impl ErrorRecord {
-    ghost use Rattle.jsonptr_calls.specs.Records.{Records, IsBlank};
-
     /// Returns the record of no error.
     pub fn none() -> ErrorRecord
-        ensures { IsBlank result }
+        ensures { result ≡ no_error }
     {
         ErrorRecord {
             status: OK,
@@ -52,24 +55,16 @@ impl ErrorRecord {
             slash: 0,
             offset: 0,
             length: 0,
+            reserved_2: 0,
+            reserved_3: 0,
         }
     }
 
     /// Returns the record of an error of a call with this pointer.
     pub fn of(failure: &Failure, pointer: &[u8]) -> ErrorRecord
-        ensures { Records failure.now pointer.now result }
+        ensures { result ≡ record_of failure.now pointer.now }
     {
-        ErrorRecord {
-            status: status(failure),
-            kind: kind(failure),
-            member: member(failure),
-            reserved: 0,
-            operation: operation(failure) as u64,
-            position: position(failure, pointer) as u64,
-            slash: slash(failure) as u64,
-            offset: offset(failure) as u64,
-            length: length(failure, pointer) as u64,
-        }
+        record(failure, pointer)
     }
 }
 
@@ -79,21 +74,11 @@ impl ErrorRecord {
 ///
 /// [`Failure::NoRoom`] if the buffer is shorter than the message, and [`Failure::Memory`] if an
 /// allocation fails. The buffer is unchanged.
-pub fn message(alloc: Global, record: &ErrorRecord, out: &mut [u8]) -> Result<usize, Failure>
+pub fn message(alloc: Global, error: &ErrorRecord, out: &mut [u8]) -> Result<usize, Failure>
+    ensures message { IfOk result (λ n. take n out.new ≡ message_of error.now) }
+    ensures length { IfOk result (λ n. n ≡ list_length (message_of error.now)) }
+    ensures refused { IfErr result (IsNotWritten (message_of error.now) (list_length out.old)) }
     ensures unchanged { OnErr result (out.new ≡ out.old) }
-    ensures refused { IfErr result (IsNotWritten (list_length out.old)) }
 {
-    match failure_of(record) {
-        Some(failure) => copy_to(failure.to_string(alloc)?.as_str().as_bytes(), out),
-        None => copy_to(fixed_message(record.status).as_bytes(), out),
-    }
-}
-
-/// Returns the message of a status that is not that of a [`Failure`].
-fn fixed_message(status: u32) -> &'static str {
-    match status {
-        OK => "no error",
-        3 => "an argument is NULL or too long, or one document is passed twice",
-        _ => "unknown status",
-    }
+    copy_to(error.to_string(alloc)?.as_str().as_bytes(), out)
 }

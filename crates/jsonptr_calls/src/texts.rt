@@ -1,9 +1,9 @@
 //! Resolving in a JSON text that is not read into a document.
-ghost use Rattle.std.specs.Prelude.{◌≡◌, IfErr, IfOk, OnErr, length, take};
+ghost use Rattle.std.specs.Prelude.{◌≡◌, IfErr, IfOk, IsUtf8, OnErr, OnOk, length, take};
 ghost use Rattle.jsonptr_calls.specs.InTexts.{FindsIn, FindsTextIn, IsNotInText, IsNotPrintedFrom};
 
 use crate::buffer::copy_to;
-use crate::failure::Failure;
+use crate::failure::{Argument, Failure};
 use crate::pointers::{parse, text_of};
 use crate::reading::stop;
 use crate::values::{Layout, json_text};
@@ -22,10 +22,12 @@ use std::alloc::Global;
 /// - [`Failure::Memory`] if an allocation fails.
 fn find_in(alloc: Global, text: &[u8], pointer: &[u8]) -> Result<Value, Failure>
     ensures found { IfOk result (FindsIn text.now pointer.now) }
+    ensures pointer_utf8 { OnOk result (IsUtf8 pointer.now) }
+    ensures text_utf8 { OnOk result (IsUtf8 text.now) }
     ensures refused { IfErr result (IsNotInText text.now pointer.now) }
 {
     let pointer = parse(pointer)?;
-    match resolve_in_text(alloc, text_of(text)?, pointer) {
+    match resolve_in_text(alloc, text_of(Argument::Text, text)?, pointer) {
         Ok(value) => Ok(value),
         Err(InTextError::NotJson) => Err(Failure::NotJson {
             offset: stop(alloc, text),
@@ -55,11 +57,12 @@ pub fn print_in(
     layout: Layout,
     out: &mut [u8],
 ) -> Result<usize, Failure>
-    ensures printed { IfOk result (λ n. FindsTextIn text.now pointer.now (take n out.new)) }
-    ensures refused { IfErr result (IsNotPrintedFrom text.now pointer.now (length out.old)) }
+    ensures printed { IfOk result (λ n. FindsTextIn layout text.now pointer.now (take n out.new)) }
+    ensures refused { IfErr result (IsNotPrintedFrom layout text.now pointer.now (length out.old)) }
     ensures unchanged { OnErr result (out.new ≡ out.old) }
 {
-    let value = find_in(alloc, text, pointer)?;
-    let printed = json_text(alloc, &value, layout)?;
-    copy_to(&printed, out)
+    match find_in(alloc, text, pointer) {
+        Ok(value) => copy_to(&json_text(alloc, &value, layout)?, out),
+        Err(failure) => Err(failure),
+    }
 }

@@ -1,5 +1,5 @@
 //! Values of a document.
-ghost use Rattle.std.specs.Prelude.{◌≡◌, IfErr, IfOk, OnErr, take, length};
+ghost use Rattle.std.specs.Prelude.{◌≡◌, IfErr, IfOk, IsUtf8, OnErr, OnOk, take, length};
 ghost use Rattle.serde_json.specs.View.{view};
 ghost use Rattle.jsonptr_calls.specs.Failures.{Unfound, IsNotPrinted, IsNotRead};
 ghost use Rattle.jsonptr_calls.specs.Values.{FindsAt, IsTextOf, FindsTextOf, FindsString};
@@ -20,6 +20,7 @@ use std::alloc::{AllocError, Global};
 /// - [`Failure::Memory`] if an allocation fails. Only a token that contains `~` needs one.
 pub fn find<'v>(alloc: Global, document: &'v Value, pointer: &[u8]) -> Result<&'v Value, Failure>
     ensures found { IfOk result (λ v. FindsAt (view document.now) pointer.now (view v.now)) }
+    ensures utf8 { OnOk result (IsUtf8 pointer.now) }
     ensures refused { IfErr result (Unfound (view document.now) pointer.now) }
 {
     match parse(pointer)?.resolve(alloc, document) {
@@ -44,7 +45,7 @@ pub enum Layout {
 ///
 /// [`AllocError`] if an allocation fails.
 pub fn json_text(alloc: Global, value: &Value, layout: Layout) -> Result<Vec<u8>, AllocError>
-    ensures { IfOk result (λ text. IsTextOf (view value.now) text.items) }
+    ensures { IfOk result (λ text. IsTextOf layout (view value.now) text.items) }
 {
     match layout {
         Layout::Compact => value.to_vec(alloc),
@@ -67,8 +68,9 @@ pub fn print_at(
     out: &mut [u8],
 ) -> Result<usize, Failure>
     ensures printed { IfOk result (λ n.
-        FindsTextOf (view document.now) pointer.now (take n out.new)) }
-    ensures refused { IfErr result (IsNotPrinted (view document.now) pointer.now (length out.old)) }
+        FindsTextOf layout (view document.now) pointer.now (take n out.new)) }
+    ensures refused { IfErr result
+        (IsNotPrinted layout (view document.now) pointer.now (length out.old)) }
     ensures unchanged { OnErr result (out.new ≡ out.old) }
 {
     let value = find(alloc, document, pointer)?;

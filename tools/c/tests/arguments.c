@@ -8,7 +8,7 @@
 #define EXPECT(call, wanted) expect_number("status", #call, (call), (wanted))
 
 static void check_bad(void) {
-    jsonptr_document document = parsed("[7]");
+    jsonptr_document document = parsed("[7]"), other = parsed("[8]");
     jsonptr_error error;
     jsonptr_node node;
     char out[8];
@@ -16,7 +16,7 @@ static void check_bad(void) {
     EXPECT(jsonptr_pointer_count(NULL, 1, &length, &error), BAD);
     expect_number("status of the error", "NULL", error.status, BAD);
     expect_number("kind of the error", "NULL", error.kind, 0);
-    expect_message("NULL", &error, "an argument is NULL or too long, or one document is passed twice");
+    expect_message("NULL", &error, "an argument is NULL or too long, a flag is unknown, or one document is passed twice");
     EXPECT(jsonptr_pointer_count("", huge, &length, NULL), BAD);
     EXPECT(jsonptr_pointer_token(NULL, 1, 0, out, 8, &length, NULL), BAD);
     EXPECT(jsonptr_pointer_token("/a", 2, 0, NULL, 8, &length, NULL), BAD);
@@ -54,11 +54,16 @@ static void check_bad(void) {
     EXPECT(jsonptr_resolve_in_text(NULL, 1, "", 0, 0, out, 8, &length, NULL), BAD);
     EXPECT(jsonptr_resolve_in_text("1", 1, NULL, 1, 0, out, 8, &length, NULL), BAD);
     EXPECT(jsonptr_resolve_in_text("1", 1, "", 0, 0, NULL, 8, &length, NULL), BAD);
+    EXPECT(jsonptr_document_print(&document, 2, out, 8, &length, NULL), BAD);
+    EXPECT(jsonptr_document_get(&document, "", 0, JSONPTR_PRETTY | 4u, out, 8, &length, NULL), BAD);
+    EXPECT(jsonptr_document_diff(&document, &other, 0x80000000u, out, 8, &length, NULL), BAD);
+    EXPECT(jsonptr_resolve_in_text("1", 1, "", 0, UINT32_MAX, out, 8, &length, NULL), BAD);
     EXPECT(jsonptr_error_message(NULL, out, 8, &length), BAD);
     EXPECT(jsonptr_error_message(&error, NULL, 8, &length), BAD);
     jsonptr_document_free(NULL);
     expect_document("after bad arguments", &document, "[7]");
     jsonptr_document_free(&document);
+    jsonptr_document_free(&other);
 }
 
 static void check_empty(void) {

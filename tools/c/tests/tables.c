@@ -151,12 +151,14 @@ static void check_unresolved(void) {
         size_t length = 77;
         jsonptr_error error;
         jsonptr_node node;
-        jsonptr_document_get(&document, TEXT(pointer), 0, out, sizeof out, &length, &error);
+        expect_number("get", pointer, jsonptr_document_get(&document, TEXT(pointer), 0, out, sizeof out, &length, &error),
+                      JSONPTR_NOT_FOUND);
         expect_error(pointer, &error, JSONPTR_NOT_FOUND, i);
         expect_number("length after an error", pointer, length, 77);
-        jsonptr_document_node(&document, TEXT(pointer), &node, &error);
+        expect_number("node", pointer, jsonptr_document_node(&document, TEXT(pointer), &node, &error), JSONPTR_NOT_FOUND);
         expect_error(pointer, &error, JSONPTR_NOT_FOUND, i);
-        jsonptr_resolve_in_text(TEXT(unresolved[i].document), TEXT(pointer), 0, out, sizeof out, &length, &error);
+        expect_number("in text", pointer, jsonptr_resolve_in_text(TEXT(unresolved[i].document), TEXT(pointer), 0, out, sizeof out,
+                                                                  &length, &error), JSONPTR_NOT_FOUND);
         expect_error(pointer, &error, JSONPTR_NOT_FOUND, i);
         jsonptr_document_free(&document);
     }
@@ -232,6 +234,16 @@ static void check_two_texts(void) {
     expect_number("text first", "\xff = [\xff", jsonptr_document_assign(&document, "\xff", 1, "[\xff", 2, &error),
                   JSONPTR_NOT_UTF8);
     expect_number("offset in the text", "\xff = [\xff", error.offset, 1);
+    expect_number("argument", "\xff = [\xff", error.member, JSONPTR_ARGUMENT_TEXT);
+    expect_number("pointer next", "\xff = 1", jsonptr_document_assign(&document, "\xff", 1, "1", 1, &error),
+                  JSONPTR_NOT_UTF8);
+    expect_number("argument", "\xff = 1", error.member, JSONPTR_ARGUMENT_POINTER);
+    expect_number("text next", "/0 in \xff",
+                  jsonptr_resolve_in_text("\xff", 1, "/0", 2, 0, out, sizeof out, &length, &error), JSONPTR_NOT_UTF8);
+    expect_number("argument", "/0 in \xff", error.member, JSONPTR_ARGUMENT_TEXT);
+    expect_number("token", "\xff", jsonptr_pointer_escape("\xff", 1, out, sizeof out, &length, &error),
+                  JSONPTR_NOT_UTF8);
+    expect_number("argument", "\xff", error.member, JSONPTR_ARGUMENT_TOKEN);
     expect_number("text first", "[ in no document", jsonptr_document_assign(&empty, "x", 1, "[", 1, &error),
                   JSONPTR_NOT_JSON);
     expect_number("document next", "x in no document", jsonptr_document_assign(&empty, "x", 1, "1", 1, &error),
@@ -497,10 +509,14 @@ static void check_faulty(void) {
     jsonptr_document_free(&document);
 }
 
-/* The longest message: all statuses, kinds and members, with the greatest numbers. */
+/* The longest message: all statuses, kinds and members of the records that the library writes, with the greatest numbers. */
 static void check_longest_message(void) {
-    for (uint32_t i = 0; i < 15 * 18 * 6; i++) {
-        jsonptr_error error = { i / 108, i / 6 % 18, i % 6, 0, UINT64_MAX, UINT64_MAX, UINT64_MAX, UINT64_MAX, UINT64_MAX };
+    for (uint32_t i = 0; i < 15 * 18 * 8; i++) {
+        uint32_t status = i / 144, kind = i / 8 % 18;
+        if (status == JSONPTR_NOT_PATCH && kind == JSONPTR_KIND_NO_CHILDREN) {
+            continue; /* no patch document has a document to resolve in */
+        }
+        jsonptr_error error = { status, kind, i % 8, 0, UINT64_MAX, UINT64_MAX, UINT64_MAX, UINT64_MAX, UINT64_MAX, 0, 0 };
         char out[200];
         expect_number("status", "a message of 200 bytes", jsonptr_error_message(&error, out, sizeof out, NULL), JSONPTR_OK);
     }
@@ -554,7 +570,7 @@ static void check_handles(void) {
     expect_number("status", "an exact buffer", jsonptr_document_print(&document, 0, out, 20, &length, &error), JSONPTR_OK);
     expect_number("next byte", "an exact buffer", (unsigned char)out[20], '#');
     expect_number("status", "other flags", jsonptr_document_print(&document, ~JSONPTR_PRETTY, out, 20, &length, &error),
-                  JSONPTR_OK);
+                  JSONPTR_BAD_ARGUMENT);
     jsonptr_document_free(&document);
     jsonptr_document_free(&document);
     jsonptr_document_free(&empty);

@@ -1,15 +1,16 @@
 //! The outcome of a call, as C receives it: a status, and the record of an error.
 ghost use Rattle.std.specs.Prelude.{◌≡◌, ◌≢◌};
-ghost use Rattle.jsonptr_calls.specs.Outcomes.{Reports, ReportsLength};
-ghost use Rattle.jsonptr_calls.specs.Records.{IsBlank};
+ghost use Rattle.jsonptr_calls.specs.Outcomes.{IsLengthOf, Reports, ReportsLength};
+ghost use Rattle.jsonptr_calls.specs.Rows.{no_error};
 
 use crate::failure::Failure;
-use crate::record::{ErrorRecord, OK};
+use crate::numbers::OK;
+use crate::record::ErrorRecord;
 
 /// Returns the status of a call that succeeds, and clears the record.
 pub fn succeed(error: &mut ErrorRecord) -> u32
     ensures status { result ≡ 0 }
-    ensures record { IsBlank error.new }
+    ensures record { error.new ≡ no_error }
 {
     *error = ErrorRecord::none();
     OK
@@ -34,6 +35,7 @@ pub fn fail_with_length(
     ensures reported { Reports failure.now pointer.now result error.new }
     ensures failed { result ≢ 0 }
     ensures length { ReportsLength failure.now length.old length.new }
+    ensures same_length { IsLengthOf error.new length.old length.new }
 {
     if let Failure::NoRoom { needed } = failure {
         *length = *needed;

@@ -1,0 +1,12 @@
+-- A result that is copied to a buffer, or is longer.
+use Rattle.std.proofs.Common.{ℕ, Result, Ok, Err, IfErr, MatchResult}
+use Rattle.jsonptr_calls.specs.Failures.{LacksRoom}
+use Rattle.jsonptr_calls.specs.declared.failure.Failure.{Failure}
+
+pub if_short : (r : Result ℕ Failure) (A : ℕ → Type 0) (B P : Failure → Type 0) (needed room : ℕ) → MatchResult r A (λ e. LacksRoom needed room e × B e) → ((e : Failure) → LacksRoom needed room e → P e) → IfErr r P
+if_short (Ok n) A B P needed room h f = tt
+if_short (Err e) A B P needed room h f = f e h.0
+
+pub if_err : (r : Result ℕ Failure) (P Q : Failure → Type 0) → IfErr r P → ((e : Failure) → P e → Q e) → IfErr r Q
+if_err (Ok n) P Q h f = tt
+if_err (Err e) P Q h f = f e h
