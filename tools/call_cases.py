@@ -903,6 +903,67 @@ def failed(operation, cause):
     return f"patch failed at operation {operation}: {cause}"
 
 
+def removals_that_wait():
+    """Removals and moves in an object, with an operation after them that is apart from them or is not."""
+    three, other = '{"a":1,"b":2,"c":{"d":3}}', '{"b":2,"c":{"d":3}}'
+    gone = ("remove", "/a")
+    yield patched(three, gone, ("test", "/b", "2"), after=other)
+    yield patched(three, gone, ("test", "/b", "3"), answer=failed(1, "test failed"))
+    yield patched(three, gone, ("test", "", other), after=other)
+    yield patched(three, gone, ("test", "/a", "null"), answer=failed(1, RESOLVE_NOT_FOUND.format(0)))
+    yield patched(three, gone, ("remove", "/a"), answer=failed(1, RESOLVE_NOT_FOUND.format(0)))
+    yield patched(three, gone, ("add", "/a", "4"), after='{"a":4,"b":2,"c":{"d":3}}')
+    yield patched(three, gone, ("add", "/a", "4"), ("remove", "/a"), after=other)
+    yield patched(three, gone, ("add", "/a/x", "4"), answer=failed(1, RESOLVE_NOT_FOUND.format(0)))
+    yield patched(three, gone, ("copy", "/b", "/a"), ("remove", "/b"), after='{"a":2,"c":{"d":3}}')
+    yield patched(three, gone, ("copy", "", "/a"), after='{"a":{"b":2,"c":{"d":3}},"b":2,"c":{"d":3}}')
+    yield patched(three, gone, ("remove", "/c/d"), ("remove", "/b"), after='{"c":{}}')
+    yield patched(three, ("remove", "/c/d"), ("remove", "/c"), ("remove", "/a"), after='{"b":2}')
+    yield patched(three, ("move", "/a", "/z"), ("move", "/z", "/a"), after=three)
+    yield patched(three, ("move", "/a", "/z"), ("move", "/z", "/a"), ("test", "/z", "1"), answer=failed(2, RESOLVE_NOT_FOUND.format(0)))
+    yield patched(three, ("move", "/a", "/b"), ("move", "/b", "/a"), after='{"a":1,"c":{"d":3}}')
+    yield patched(three, ("move", "/c/d", "/a"), ("move", "/c", "/b"), after='{"a":3,"b":{}}')
+    yield patched(three, ("move", "/c/d", "/c"), ("remove", "/a"), after='{"b":2,"c":3}')
+    yield patched(three, gone, ("move", "/c", "/c/d"), answer=failed(1, "from is a proper prefix of path"))
+    yield patched('[{"a":1,"b":2},{"a":1}]', ("remove", "/0/a"), ("remove", "/1/a"), after='[{"b":2},{}]')
+    yield patched('[{"a":1,"b":2},{"a":1}]', ("remove", "/0/a"), ("remove", "/0"), after='[{"a":1}]')
+    yield patched('{"a/b":1,"c":2}', ("remove", "/a~1b"), ("add", "/a~1b", "3"), after='{"a/b":3,"c":2}')
+
+
+def taking_back(document, operations, back, after):
+    """A patch, and the operations that take it back."""
+    patch = patch_of(word for operation in operations for word in operation)
+    return Case(("patch inverse", document, patch), "".join(f"{it}\n" for it in (*back, "done")), f"{after}\n")
+
+
+def inverses():
+    """Patches, and what takes them back."""
+    two = '{"a":[1,2],"b":3}'
+    yield taking_back(two, [], [], two)
+    yield taking_back(two, [("test", "/b", "3")], [], two)
+    yield taking_back(two, [("add", "/c", "4")], ["remove /c"], '{"a":[1,2],"b":3,"c":4}')
+    yield taking_back(two, [("add", "/b", "4")], ["replace /b 3"], '{"a":[1,2],"b":4}')
+    yield taking_back(two, [("add", "/a/-", "4")], ["remove /a/2"], '{"a":[1,2,4],"b":3}')
+    yield taking_back(two, [("add", "", "4")], [f"replace  {two}"], "4")
+    yield taking_back(two, [("remove", "/a")], ["add /a [1,2]"], '{"b":3}')
+    yield taking_back(two, [("remove", "/a/0")], ["add /a/0 1"], '{"a":[2],"b":3}')
+    yield taking_back(two, [("remove", "")], [f"add  {two}"], "null")
+    yield taking_back(two, [("replace", "/a", "4")], ["replace /a [1,2]"], '{"a":4,"b":3}')
+    yield taking_back(two, [("copy", "/b", "/a/0")], ["remove /a/0"], '{"a":[3,1,2],"b":3}')
+    yield taking_back(two, [("copy", "/a", "/b")], ["replace /b 3"], '{"a":[1,2],"b":[1,2]}')
+    yield taking_back(two, [("move", "/b", "/c")], ["move /c /b"], '{"a":[1,2],"c":3}')
+    yield taking_back(two, [("move", "/b", "/a")], ["move /a /b", "add /a [1,2]"], '{"a":3}')
+    yield taking_back(two, [("move", "/b", "/b")], ["move /b /b"], two)
+    yield taking_back(two, [("move", "/a/0", "/a/-")], ["move /a/1 /a/0"], '{"a":[2,1],"b":3}')
+    yield taking_back(two, [("move", "/a/1", "/b")], ["move /b /a/1", "add /b 3"], '{"a":[1],"b":2}')
+    yield taking_back(two, [("move", "/a/0", "/a")], ["replace /a [2]", "add /a/0 1"], '{"a":1,"b":3}')
+    yield taking_back("[[1],2]", [("move", "/0/0", "/0")], ["remove /0", "add /0/0 1"], "[1,[],2]")
+    yield taking_back(two, [("remove", "/b"), ("remove", "/a/1")], ["add /a/1 2", "add /b 3"], '{"a":[1]}')
+    yield taking_back(two, [("remove", "/b"), ("add", "/b", "4")], ["remove /b", "add /b 3"], '{"a":[1,2],"b":4}')
+    patch = patch_of(("remove", "/b", "test", "/a/0", "5"))
+    yield Case(("patch inverse", two, patch), f"{failed(1, 'test failed')}\n", f"{two}\n")
+
+
 def patches():
     """Patches, and deletions that can be undone."""
     two = '{"a":[1,2]}'
@@ -931,6 +992,8 @@ def patches():
         copied = [("copy", f"/{token}", "/c"), ("move", f"/{token}", "/c/0")]
         yield patched(kept, *patch, *copied, after='{"c":[[0,[2]],0,[2]]}')
     yield patched("{}", ("add", long, "1"), ("remove", long), after="{}")
+    yield from removals_that_wait()
+    yield from inverses()
     yield Case(("patch back", "[1,2,3]", "/1"), "add /1 2\n", "[1,3]\n")
     yield Case(("patch back", '{"a/b":[1]}', "/a~1b"), "add /a~1b [1]\n", "{}\n")
     yield Case(("patch back", "{}", "/a"), "nothing\n", "{}\n")

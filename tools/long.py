@@ -2,16 +2,19 @@
 import os
 import subprocess
 import sys
+import tempfile
 from concurrent.futures import ThreadPoolExecutor
 
 from call_cases import KINDS, PARSE_MALFORMED, RESOLVE_BAD_INDEX, RESOLVE_NOT_FOUND, RESOLVE_OUT_OF_BOUNDS
 from call_cases import Case, allocates, edit, no_alloc, session
-from harness import CheckFailed, line_of, parts_of, program
+from harness import CheckFailed, build_shim, line_of, parts_of, program, run_with_shim
 
 PROGRAM = program("jsonptr_tool_calls")
-STACK_KIBIBYTES = 256
+STACK_KIBIBYTES = 512
 SECONDS = 20
 COUNT = 1_000_000
+REFUSED = [10, 500_000, 1_000_000]
+PATCH_TEST_FAILED = "patch failed at operation {}: test failed"
 ROUNDS = 12_500
 TOKENS = "/a" * COUNT
 PLAIN = "a" * (16 << 20)
@@ -54,7 +57,7 @@ def deep(kind, pointer, offset):
     """A case that expands a scalar along a pointer, then finds, replaces and removes the value there."""
     is_index = pointer.endswith("/0")
     fault = (RESOLVE_OUT_OF_BOUNDS if is_index else RESOLVE_NOT_FOUND).format(offset)
-    lines = ("deep", kind, pointer, "assign", "resolve", "write", "delete", "resolve", "take apart")
+    lines = ("deep", kind, pointer, "assign", "resolve", "write", "delete", "resolve")
     return Case(lines, f"0\n1\n1\n1\n{fault}\n")
 
 
@@ -78,8 +81,33 @@ def called():
     yield from session("json", "[]", "", steps, f" [{left}]")
 
 
+def run(*words, result):
+    """A run of the program `jsonptr_run`: its words and its input, and the line that it prints, or its error."""
+    return Case(("program", *words), result + "\n", "")
+
+
+def programs():
+    """Runs of the program that nest a document as deep as their pointers lead."""
+    for token, begin, end in [("/x", '{"x":', "}"), ("/0", "[", "]"), ("/-", "[", "]")]:
+        yield run("assign", token * COUNT, "1", "null", result=begin * COUNT + "1" + end * COUNT)
+    patch, depth, line = ["patch"], 64, "[" * 64 + "1" + "]" * 64
+    start = line
+    while depth < COUNT:
+        patch += ["copy", "", "/0" * depth]
+        depth, line = 2 * depth, "[" * depth + line + "," + line[depth:]
+    deepest, count = "/0" * (depth - 1), len(patch) // 3
+    yield run(*patch, start, result=line)
+    yield run(*patch, "test", deepest, "[1]", start, result=line)
+    yield run(*patch, "test", deepest, "[2]", start, result=PATCH_TEST_FAILED.format(count))
+    yield run(*patch, "remove", deepest, start, result=line.replace("[1]", "", 1))
+    yield run(*patch, "move", "/0", "", start, result=line[1:-1])
+    yield run(*patch, "remove", "", start, result="null")
+    yield run(*patch, "replace", "", "2", start, result="2")
+
+
 def tables():
     """The cases, one table at a time, since they are large."""
+    yield list(programs())
     for text, first, last, count in [
         (TOKENS, "a", "a", COUNT),
         ("/" + PLAIN, PLAIN, PLAIN, 1),
@@ -104,15 +132,32 @@ def check(case):
     return None
 
 
+def check_refused(shim, number):
+    """Runs the program on long pointers with this memory request refused, and returns an error message or None."""
+    script = ["sh", "-c", f'ulimit -s {STACK_KIBIBYTES}; exec "$0"', PROGRAM]
+    for token in ["/a", "/0"]:
+        line = line_of("case", "program", "assign", token * COUNT, "1", "null")
+        try:
+            completed, requests, _ = run_with_shim(script, line, shim, number)
+        except CheckFailed as error:
+            return f"long: {token}, request {number}: {error}"
+        if completed.returncode or not completed.stdout.endswith(b"\nout of memory\n") or requests < number:
+            return f"long: {token}, request {number} of {requests}: {completed.returncode}, {completed.stdout[-60:]!r}"
+    return None
+
+
 def main():
     count, errors = 0, []
     with ThreadPoolExecutor(os.cpu_count()) as pool:
         for table in tables():
             count += len(table)
             errors += [error for error in pool.map(check, table) if error]
+        with tempfile.TemporaryDirectory() as folder:
+            shim = build_shim(folder)
+            errors += [error for error in pool.map(lambda number: check_refused(shim, number), REFUSED) if error]
     if errors:
         sys.exit("\n".join(errors[:20]))
-    print(f"long: {count} cases, each on a stack of {STACK_KIBIBYTES} KiB")
+    print(f"long: {count} cases, and {2 * len(REFUSED)} runs with a memory request refused, each on a stack of {STACK_KIBIBYTES} KiB")
 
 
 if __name__ == "__main__":

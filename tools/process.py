@@ -297,22 +297,21 @@ def bad_inputs():
 
 
 def deep():
-    """Documents that nest far deeper than the input: at the limit they are printed, and past it no memory is asked for."""
+    """Documents that nest far deeper than the input, as deep as the words of a process lead."""
     for token, begin, end in [("/x", '{"x":', "}"), ("/0", "[", "]")]:
-        yield succeeds("assign", token * 10_000, "1", input="null", line=begin * 10_000 + "1" + end * 10_000)
-        for count in (10_001, 65_535):
-            yield rejects(4, OUT_OF_MEMORY, "assign", token * count, "1")
+        for count in (10_000, 65_535):
+            yield succeeds("assign", token * count, "1", input="null", line=begin * count + "1" + end * count)
     patch, depth, line = ["patch"], 127, nested(127)
-    for _ in range(6):
+    for _ in range(9):
         patch += ["copy", "", "/0" * depth]
         depth, line = 2 * depth, "[" * depth + line + "," + line[depth:]
     yield succeeds(*patch, input=nested(127), line=line)
     yield succeeds(*patch, "remove", "", input=nested(127), line="null")
-    yield fails_with(PATCH_FAILED.format(6, TEST_FAILED), *patch, "test", "", "1", input=nested(127))
-    for _ in range(3):
-        patch += ["copy", "", "/0" * depth]
-        depth = 2 * depth
-        yield rejects(4, OUT_OF_MEMORY, *patch)
+    yield fails_with(PATCH_FAILED.format(9, TEST_FAILED), *patch, "test", "", "1", input=nested(127))
+    yield fails_with(BAD_INPUT, "assign", "/x" * 10_001, "1", input="[", status=3)
+    yield fails_with(ASSIGN_BAD_INDEX.format(0), "assign", "/x" * 10_001, "1", input="[]")
+    moves = ["move", "/a", "/b/a", "move", "/b/a", "/a"] * 5_000 + ["move", "/a", "/b/a"]
+    yield succeeds("patch", *moves, input='{"a":1,"b":{}}', line='{"b":{"a":1}}')
 
 
 def large():

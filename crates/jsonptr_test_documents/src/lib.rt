@@ -5,6 +5,8 @@
 #[cfg(test)]
 mod assign;
 #[cfg(test)]
+mod deep;
+#[cfg(test)]
 mod delete;
 #[cfg(test)]
 mod labels;

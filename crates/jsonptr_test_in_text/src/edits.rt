@@ -2,3 +2,4 @@
 mod assigning;
 mod deleting;
 mod reused;
+mod strict;

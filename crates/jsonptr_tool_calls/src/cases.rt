@@ -2,8 +2,8 @@
 use crate::out::Out;
 use crate::words::Words;
 use crate::{
-    documents, edits, errors, in_text, patches, pointers, sessions, shows, tabled, text_edits,
-    texts, tokens, undos,
+    documents, edits, errors, in_text, patches, pointers, programs, sessions, shows, tabled,
+    text_edits, texts, tokens, undos,
 };
 use jsonptr::{EncodingError, InvalidEncoding, ParseError, Pointer, Token};
 use serde_json::Value as Json;
@@ -32,10 +32,11 @@ pub fn run(out: &mut Out<'_>, mut words: Words<'_>) {
     }
 }
 
-/// Runs a case of a call on a text, of a patch or of a difference.
+/// Runs a case of a call on a text, of the program, of a patch or of a difference.
 fn in_text_or_patch(out: &mut Out<'_>, group: &str, words: Words<'_>) {
     match group {
         "in text" => in_text::run(out, words),
+        "program" => programs::run(out, words),
         "diff" | "change" => patches::run(out, group, words),
         _ if group.starts_with("patch") => patches::run(out, group, words),
         _ if group.contains("in text") => text_edits::run(out, group, words),

@@ -5,20 +5,17 @@ use jsonptr::{Fault, Pointer, PointerBuf, assign};
 use jsonptr_session::undo::{Undo, UndoRefused, json, toml_value};
 use jsonptr_session::{Call, Reply, run_json, run_json_with, run_toml, run_toml_with};
 use jsonptr_tabled::TabledPointer;
+use jsonptr_value::Nested;
 use std::alloc::{AllocError, Global};
 use std::fmt::Display;
 
 /// A JSON or TOML document.
-pub trait Document: Display + Drop + Sized {
+pub trait Document: Display + Nested + Sized {
     /// Parses a value.
     fn read(alloc: Global, text: &str) -> Option<Self>;
 
     /// Appends the text of a value.
     fn show(&self, out: &mut Out<'_>);
-
-    /// Removes the last value of an array or an object, so that a deep one can be dropped without
-    /// recursion.
-    fn last(self) -> Option<Self>;
 
     /// Assigns a value, and returns its undo.
     fn assign_with_undo(
@@ -55,14 +52,6 @@ impl Document for serde_json::Value {
 
     fn show(&self, out: &mut Out<'_>) {
         out.show(self);
-    }
-
-    fn last(self) -> Option<serde_json::Value> {
-        match self {
-            serde_json::Value::Array(mut elements) => elements.pop(),
-            serde_json::Value::Object(members) => Some(members.into_iter().last()?.1),
-            _ => None,
-        }
     }
 
     fn assign_with_undo(
@@ -111,14 +100,6 @@ impl Document for toml::Value {
             out.show(self);
         } else {
             toml_text::write(out, self);
-        }
-    }
-
-    fn last(self) -> Option<toml::Value> {
-        match self {
-            toml::Value::Array(mut elements) => elements.pop(),
-            toml::Value::Table(members) => Some(members.into_iter().last()?.1),
-            _ => None,
         }
     }
 

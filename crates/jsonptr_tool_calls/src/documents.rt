@@ -4,6 +4,7 @@ use crate::out::Out;
 use crate::requests;
 use crate::words::Words;
 use jsonptr::{Assign, Delete, Fault, Pointer, Resolve, ResolveMut, assign, resolve};
+use jsonptr_value::discard;
 use std::alloc::Global;
 use std::mem;
 
@@ -153,8 +154,7 @@ fn misplaced(out: &mut Out<'_>, fault: Fault<assign::Error>, pointer: Pointer<'_
     }
 }
 
-/// Makes calls in turn on a scalar: the pointer, and the calls. The last one may drop the document
-/// without recursion.
+/// Makes calls in turn on a scalar: the pointer, and the calls.
 pub fn deep<D>(out: &mut Out<'_>, pointer: &str, mut words: Words<'_>)
 where
     D: Document
@@ -171,21 +171,9 @@ where
     };
     for _turn in 0..u64::MAX {
         match words.next() {
-            "take apart" => break,
-            "" => return out.unknown(),
+            "" => break,
             call => make(out, call, &mut document, pointer, "1"),
         }
     }
-    take_apart(document, pointer.len())
-}
-
-/// Drops a document of at most this depth, from the outermost value inwards.
-fn take_apart<D: Document>(document: D, depth: usize) {
-    let mut rest = Some(document);
-    for _turn in 0..=depth {
-        rest = match rest {
-            Some(value) => value.last(),
-            None => None,
-        };
-    }
+    discard(document)
 }

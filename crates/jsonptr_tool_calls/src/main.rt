@@ -8,6 +8,7 @@
 //! | `case` | a case of `tools/call_cases.py`: one call, between two marks |
 //! | `find` | a case of `tools/in_text.py`: a pointer, and the bytes of a text, as hexadecimal digits |
 //! | `change` | a case of `tools/edits_in_text.py`: an edit, a text, a pointer, and an argument |
+//! | `patch` | a case of `tools/patches.py`: a document and a patch document |
 //! | another | a request of `docs/COMPARING.md` |
 //!
 //! With five arguments it makes one edit of the text that is its input again and again, for
@@ -24,6 +25,7 @@ mod in_text;
 mod out;
 mod patches;
 mod pointers;
+mod programs;
 mod requests;
 mod rounds;
 mod sessions;
@@ -89,6 +91,7 @@ fn answer(out: &mut Out<'_>, buffers: &mut Buffers, scratch: &mut Scratch, mut w
         }
         "find" => in_text::request(out, scratch, words),
         "change" => text_edits::compare(out, buffers, words),
+        "patch" => patches::round(out, words),
         request => requests::run(out, request, words),
     }
     out.end_request()

@@ -4,7 +4,7 @@ use crate::words::Words;
 use jsonptr::diagnostic::Diagnostic;
 use jsonptr::{Fault, Pointer};
 use jsonptr_diff::{change, diff};
-use jsonptr_patch::{Operation, apply, delete_with_undo};
+use jsonptr_patch::{Operation, PatchError, apply, apply_with_inverse, delete_with_undo};
 use jsonptr_patch_document::{PatchDocumentError, read_patch, write_patch};
 use serde_json::Value;
 use std::alloc::Global;
@@ -17,6 +17,7 @@ pub fn run(out: &mut Out<'_>, group: &str, mut words: Words<'_>) {
     };
     match group {
         "patch" => patch(out, document, words.next()),
+        "patch inverse" => inverse(out, document, words.next()),
         "patch back" => delete(out, document, words.next()),
         "patch read" => read(out, &document),
         "patch written" => written(out, &document),
@@ -42,6 +43,70 @@ fn patch(out: &mut Out<'_>, mut document: Value, patch: &str) {
     out.done(apply(out.alloc(), &mut document, operations));
     out.state();
     out.line(&document)
+}
+
+/// Applies a patch document, and writes the operations that take it back.
+fn inverse(out: &mut Out<'_>, mut document: Value, patch: &str) {
+    let Some(operations) = operations(out.alloc(), patch) else {
+        return out.unknown();
+    };
+    out.line(&document);
+    out.begin();
+    made(
+        out,
+        apply_with_inverse(out.alloc(), &mut document, operations),
+    );
+    out.state();
+    out.line(&document)
+}
+
+/// Applies a patch document as `apply` does, and as `apply_with_inverse` does, and then the patch that
+/// takes it back. Writes each document and that patch.
+pub fn round(out: &mut Out<'_>, mut words: Words<'_>) {
+    let text = words.next();
+    let patch = words.next();
+    if let Some(document) = applied(out, text, patch) {
+        out.field("made", document);
+    }
+    taken_back(out, text, patch);
+}
+
+/// Applies a patch document, and returns the document.
+fn applied(out: &mut Out<'_>, text: &str, patch: &str) -> Option<Value> {
+    let mut document = Value::from_str(out.alloc(), text).ok()?;
+    let operations = operations(out.alloc(), patch)?;
+    match apply(out.alloc(), &mut document, operations) {
+        Ok(()) => out.field("done", "done"),
+        Err(fault) => failed(out, "done", fault),
+    }
+    Some(document)
+}
+
+/// Applies a patch document, and then what takes it back.
+fn taken_back(out: &mut Out<'_>, text: &str, patch: &str) -> Option<()> {
+    let alloc = out.alloc();
+    let mut document = Value::from_str(alloc, text).ok()?;
+    match apply_with_inverse(alloc, &mut document, operations(alloc, patch)?) {
+        Ok(back) => {
+            out.field("again", &document);
+            out.field("back", write_patch(alloc, &back).ok()?);
+            apply(alloc, &mut document, back).ok()?;
+            out.field("restored", document);
+        }
+        Err(fault) => {
+            failed(out, "back", fault);
+            out.field("restored", document);
+        }
+    }
+    Some(())
+}
+
+/// Writes why a patch fails.
+fn failed(out: &mut Out<'_>, name: &str, fault: Fault<PatchError>) {
+    match fault {
+        Fault::Refused(error) => out.field(name, error),
+        Fault::Memory(_) => out.memory(),
+    }
 }
 
 /// Deletes a value, and writes the operation that undoes it.

@@ -16,6 +16,6 @@ AssignsBothInText old ts v us w new =
     × (m : NodeMap) × (first second : Option NodeMap)
     × Assigns (nodes d) ts v m first × Assigns m us w (nodes d2) second
 
--- `AssignsBothBytes old ts us new`: `new` comes from `old` by two edits, each of which changes bytes at its own location
-abbrev pub AssignsBothBytes : Text → List Text → List Text → Text → Type 0
-AssignsBothBytes old ts us new = (mid : Text) × AssignsBytes old ts mid × AssignsBytes mid us new
+-- `AssignsBothBytes old ts v us w new`: `new` comes from `old` by two edits, each of which changes bytes at its own location
+abbrev pub AssignsBothBytes : Text → List Text → Data → List Text → Data → Text → Type 0
+AssignsBothBytes old ts v us w new = (mid : Text) × AssignsBytes old ts v mid × AssignsBytes mid us w new

@@ -32,8 +32,8 @@ pub fn assign_both_in_text(
     ensures meaning { IfOk result (λ e. AssignsBothInText text.now
         (tokens first.entry) (nodes (view one))
         (tokens second.entry) (nodes (view two)) (text_of e)) }
-    ensures bytes { IfOk result
-        (KeepsBytes (AssignsBothBytes text.now (tokens first.entry) (tokens second.entry))) }
+    ensures bytes { IfOk result (KeepsBytes (AssignsBothBytes text.now
+        (tokens first.entry) (view one) (tokens second.entry) (view two))) }
 {
     match assign_in_text(alloc, text, first, one)? {
         Edited::InPlace(mid) => assign_in_text(alloc, mid.as_str(), second, two),

@@ -4,6 +4,7 @@ ghost use Rattle.serde_json.specs.Data.{Data};
 ghost use Rattle.serde_json.specs.Read.{read};
 ghost use Rattle.serde_json.specs.View.{view};
 ghost use Rattle.jsonptr_calls.specs.Patches.{AppliesText};
+ghost use Rattle.jsonptr_calls.specs.declared.values.Layout.TheVariants.{Compact};
 ghost use Rattle.jsonptr_calls.specs.Values.{HoldsWith, FindsTextOf};
 
 use jsonptr_calls::documents::{free, parse, patch, print_at};
@@ -26,7 +27,7 @@ pub fn value_after_patch(
     out: &mut [u8],
 ) -> Result<usize, Failure>
     ensures { IfOk result (λ n. (d m : Data) × (read text.now ≡ Some d)
-        × AppliesText operations.now d m × FindsTextOf m pointer.now (take n out.new)) }
+        × AppliesText operations.now d m × FindsTextOf Compact m pointer.now (take n out.new)) }
 {
     let mut document = Document::empty();
     parse(alloc, &mut document, text)?;
@@ -49,7 +50,7 @@ fn patched_value(
     out: &mut [u8],
 ) -> Result<usize, Failure>
     ensures { IfOk result (λ n. HoldsWith document.old (λ v. (m : Data)
-        × AppliesText operations.now (view v) m × FindsTextOf m pointer.now (take n out.new))) }
+        × AppliesText operations.now (view v) m × FindsTextOf Compact m pointer.now (take n out.new))) }
 {
     patch(alloc, document, operations)?;
     print_at(alloc, document, pointer, Layout::Compact, out)

@@ -1,4 +1,5 @@
 //! A document in a handle.
+use jsonptr_calls::record::ErrorRecord;
 use jsonptr_uses::handles::value_after_patch;
 use std::alloc::Global;
 use std::test::Fail;
@@ -13,7 +14,7 @@ fn after(alloc: Global, patch: &str, pointer: &str) -> Result<String, Fail> {
             let value = std::str::from_utf8(out.get(..length).unwrap_or(b""))?;
             Ok(String::from_str(alloc, value)?)
         }
-        Err(failure) => Ok(failure.to_string(alloc)?),
+        Err(failure) => Ok(ErrorRecord::of(&failure, pointer.as_bytes()).to_string(alloc)?),
     }
 }
 

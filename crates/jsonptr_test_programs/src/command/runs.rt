@@ -87,11 +87,11 @@ fn assigned_len(alloc: Global, tokens: usize) -> Result<Result<usize, RunFault>,
 }
 
 #[test]
-fn pointers_of_too_many_tokens_to_assign_at(rt: HostRuntime) -> Result<(), AllocError> {
+fn documents_as_deep_as_their_pointers(rt: HostRuntime) -> Result<(), AllocError> {
     let alloc = rt.alloc();
-    assert!(rt; matches!(assigned_len(alloc, 1_000)?, Ok(2_002)));
-    for tokens in [10_001, 65_535] {
-        assert!(rt; matches!(assigned_len(alloc, tokens)?, Err(RunFault::Memory(_))));
+    for tokens in [1_000, 10_001, 65_535, 100_000] {
+        let line = assigned_len(alloc, tokens)?;
+        assert!(rt; matches!(line, Ok(len) if len == 2 * tokens + 2));
     }
     Ok(())
 }

@@ -1,0 +1,71 @@
+//! Edits that are made in place or not at all.
+use jsonptr::{Pointer, PointerBuf};
+use jsonptr_edit_in_text::{
+    Buffers, EditError, InPlaceError, apply_in_place, assign_in_place, delete_in_place,
+};
+use jsonptr_patch::Operation;
+use serde_json::Value;
+use std::test::Fail;
+
+const TEXT: &str = "{ \"b\": 1.50, \"a\" : [1] }\n";
+
+#[test]
+fn a_value_is_assigned_in_place(rt: HostRuntime) -> Result<(), Fail> {
+    let alloc = rt.alloc();
+    let mut buffers = Buffers::new(alloc);
+    for (pointer, value, want) in [
+        ("/a/0", "2.50", "{ \"b\": 1.50, \"a\" : [2.5] }\n"),
+        ("/b", "[]", "{ \"b\": [], \"a\" : [1] }\n"),
+    ] {
+        let value = Value::from_str(alloc, value)?;
+        let new = assign_in_place(alloc, &mut buffers, TEXT, Pointer::parse(pointer)?, value)?;
+        assert_eq!(rt; new.as_str(), want);
+    }
+    let refused = assign_in_place(
+        alloc,
+        &mut buffers,
+        TEXT,
+        Pointer::parse("/a/2")?,
+        Value::Null,
+    );
+    assert!(rt; matches!(refused, Err(InPlaceError::Failed(EditError::Refused(_)))));
+    Ok(())
+}
+
+#[test]
+fn a_value_is_deleted_in_place(rt: HostRuntime) -> Result<(), Fail> {
+    let alloc = rt.alloc();
+    let mut buffers = Buffers::new(alloc);
+    let new = delete_in_place(alloc, &mut buffers, TEXT, Pointer::parse("/b")?)?;
+    assert_eq!(rt; new.ok_or("a text")?.as_str(), "{ \"a\" : [1] }\n");
+    let none = delete_in_place(alloc, &mut buffers, TEXT, Pointer::parse("/c")?)?;
+    assert!(rt; none.is_none());
+    let refused = delete_in_place(alloc, &mut buffers, "[1,", Pointer::root());
+    assert!(rt; matches!(refused, Err(InPlaceError::Failed(EditError::NotJson))));
+    Ok(())
+}
+
+#[test]
+fn a_patch_is_applied_in_place(rt: HostRuntime) -> Result<(), Fail> {
+    let alloc = rt.alloc();
+    let mut buffers = Buffers::new(alloc);
+    for (from, path, want) in [
+        ("", "", TEXT),
+        ("/b", "/c", "{ \"a\" : [1], \"c\": 1.50 }\n"),
+    ] {
+        let mut operations = Vec::new(alloc);
+        operations.push(Operation::Move {
+            from: PointerBuf::from_text(alloc, from)?,
+            path: PointerBuf::from_text(alloc, path)?,
+        })?;
+        let new = apply_in_place(alloc, &mut buffers, TEXT, operations)?;
+        assert_eq!(rt; new.as_str(), want);
+    }
+    let mut operations = Vec::new(alloc);
+    operations.push(Operation::Remove {
+        path: PointerBuf::from_text(alloc, "/c")?,
+    })?;
+    let refused = apply_in_place(alloc, &mut buffers, TEXT, operations);
+    assert!(rt; matches!(refused, Err(InPlaceError::Failed(EditError::Refused(_)))));
+    Ok(())
+}
