@@ -264,11 +264,12 @@ def run_pairs(words):
     """Runs a batch of random pairs of patches in both orders. Returns how many are apart and not, and the errors."""
     path, seed, count = words
     patches = Patches(f"pair {seed}")
-    kinds, errors, cases = collections.Counter(), [], []
+    kinds, errors, cases, lengths = collections.Counter(), [], [], []
     for _ in range(count):
         document = patches.value()
         left, right = patches.patch(document, 3), patches.patch(document, 3)
         cases += [(document, left + right), (document, right + left)]
+        lengths.append(len(left))
     outcomes = ask(path, cases)
     for position in range(0, len(cases), 2):
         (document, patch), (_, turned) = cases[position], cases[position + 1]
@@ -277,8 +278,8 @@ def run_pairs(words):
             if fault:
                 errors.append((len(each), f"{fault}: {printed(document)} by {json.dumps(each)}"))
         first, second = (it["made"] for it in outcomes[position : position + 2])
-        both = next(it for it in range(len(patch) + 1) if patch[it:] + patch[:it] == turned)
-        apart = are_apart(document, patch[:both], patch[both:])
+        length = lengths[position // 2]
+        apart = are_apart(document, patch[:length], patch[length:])
         kinds["apart" if apart else "not apart"] += 1
         if apart and first != second:
             errors.append((len(patch), f"two orders make {first} and {second}: {printed(document)} by {json.dumps(patch)}"))
