@@ -51,7 +51,7 @@ fn a_patch_is_applied_in_place(rt: HostRuntime) -> Result<(), Fail> {
     let mut buffers = Buffers::new(alloc);
     for (from, path, want) in [
         ("", "", TEXT),
-        ("/b", "/c", "{ \"a\" : [1], \"c\": 1.50 }\n"),
+        ("/b", "/c", "{ \"a\" : [1], \"c\" : 1.50 }\n"),
     ] {
         let mut operations = Vec::new(alloc);
         operations.push(Operation::Move {
