@@ -1,4 +1,4 @@
--- Additions in the place of a node that is removed later.
+-- Additions at the location of a node that is removed later.
 use Rattle.std.proofs.Common.{◌≡◌, ℕ, zero, suc, ◌<◌, length, slice_index_or, take, drop, remove, inl, inr, ⊎_elim, Contains, List, [], ◌∷◌, ◌++◌, Option, refl, sym, ap, subst, arith}
 use Rattle.std.proofs.lemmas.List.Elements.{Contains-append_left, Contains-append_right}
 use Rattle.serde_json.specs.View.{view}
@@ -111,7 +111,7 @@ never_refused n i tokens e tree h r = adds_refused n i tokens n (put n (h.path +
     }))
     r
 
--- an operation that adds in the place of a node
+-- an operation that adds at the location of a node
 
 in_place : (k n v : NodeMap) (o : Operation) (tokens : List Text) → IsTree k → Takes k tokens v n → HasObject k tokens → TakesPlace k o tokens → StandsFor k n o
 in_place k n v (Add path value) tokens tree t h p = record {

@@ -47,9 +47,9 @@ use std::alloc::{AllocError, Global};
 /// are taken back by two operations, which clone the value: one to a place above its source, and one
 /// that replaces a member without diverging from its source at an object.
 ///
-/// Else it costs what [`apply`](crate::apply) costs, except that a value that is added in the place of
-/// a member that waits makes the waiting removals first. A move within one array removes the element
-/// twice.
+/// Otherwise it costs what [`apply`](crate::apply) costs, with one exception. A value that is added at
+/// the location of a removal that waits makes all waiting removals first. A move within one array
+/// removes the element twice.
 ///
 /// ```rust
 /// let mut document = json!(in alloc; {"draft": 1, "title": 2})?;

@@ -215,8 +215,8 @@ fn member_at(alloc: Global, doc: &Value, later: &[Later], path: &PointerBuf) -> 
     Some(index)
 }
 
-/// Returns whether the operation adds a value in the place of a node that is removed later, and is
-/// apart from the others. Then that node waits no more: the value replaces its `null`.
+/// Returns whether the operation adds a value at the location of a node that is removed later, and is
+/// apart from the others. Then that removal waits no more: the value replaces its `null`.
 ///
 /// May return false if an allocation fails.
 fn take_place(alloc: Global, doc: &Value, later: &mut Vec<Later>, operation: &Operation) -> bool
@@ -291,7 +291,7 @@ pub fn unlink(alloc: Global, doc: &mut Value, later: Vec<Later>)
 const MOST_LATER: usize = 512;
 
 /// Makes the operation apart from the nodes that are removed later, as [`make_apart`] does. If it adds
-/// a value in the place of one of them, that one waits no more.
+/// a value at the location of one of them, that one waits no more.
 ///
 /// # Errors
 ///

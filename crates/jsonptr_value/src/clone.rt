@@ -11,7 +11,7 @@ use std::alloc::{AllocError, Global};
 
 /// Returns a copy of the value, as its `clone` does.
 ///
-/// Time is linear in the value, but for a logarithm of the number of members in an object. At most
+/// Time is linear in the value, times a logarithm of the number of members in an object. At most
 /// [`MAX_DEPTH`] levels take the stack, by recursion.
 ///
 /// # Errors
