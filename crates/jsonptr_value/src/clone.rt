@@ -2,7 +2,7 @@
 ghost use Rattle.std.specs.Prelude.{◌≡◌, IfOk};
 ghost use Rattle.serde_json.specs.View.{view, items_view, members_view};
 
-use crate::depth::MAX_DEPTH;
+use crate::depth::RECURSION_LEVELS;
 use crate::drop::discard;
 use crate::extend::{with_element, with_member};
 use crate::partial::copy_deep;
@@ -11,8 +11,8 @@ use std::alloc::{AllocError, Global};
 
 /// Returns a copy of the value, as its `clone` does.
 ///
-/// Time is linear in the value, times a logarithm of the number of members in an object. At most
-/// [`MAX_DEPTH`] levels take the stack, by recursion.
+/// Time is linear in the value, times a logarithm of the number of members in an object. The first 32
+/// levels take the stack, by recursion.
 ///
 /// # Errors
 ///
@@ -20,7 +20,7 @@ use std::alloc::{AllocError, Global};
 pub fn copy(alloc: Global, value: &Value) -> Result<Value, AllocError>
     ensures { IfOk result (λ v. view v ≡ view value.now) }
 {
-    copy_within(alloc, value, MAX_DEPTH)
+    copy_within(alloc, value, RECURSION_LEVELS)
 }
 
 /// Returns a copy of the value, by recursion down to so many levels and by a loop below them.

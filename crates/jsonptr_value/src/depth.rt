@@ -12,6 +12,12 @@ use serde_json::{Map, Value};
 /// How deep the arrays and objects of a text that `serde_json` reads may nest.
 pub const MAX_DEPTH: usize = 127;
 
+/// How many levels of a value are printed, copied and dropped by recursion, before a loop takes over.
+///
+/// A level takes some 2 KiB of stack, so all of them fit the 128 KiB that Linux maps when a process
+/// starts: no call here makes the stack grow, which fails where memory is used up.
+pub(crate) const RECURSION_LEVELS: usize = 32;
+
 /// Returns whether the arrays and objects of the value nest at most so many levels deep.
 ///
 /// Time is linear in the value. The stack is in proportion to the smaller of its depth and `levels`.

@@ -1,6 +1,6 @@
 //! Dropping a value.
 
-use crate::depth::MAX_DEPTH;
+use crate::depth::RECURSION_LEVELS;
 
 /// A value whose arrays and objects may nest deep.
 pub trait Nested: Drop {
@@ -10,9 +10,8 @@ pub trait Nested: Drop {
 
 /// Drops the value.
 ///
-/// The loop needs no memory. Time is linear in the value, but below [`MAX_DEPTH`] levels each member
-/// of an object takes a logarithm of their number. At most [`MAX_DEPTH`] levels take the stack, by
-/// recursion.
+/// The loop needs no memory. Time is linear in the value, but below 32 levels each member of an
+/// object takes a logarithm of their number. The first 32 levels take the stack, by recursion.
 pub fn discard<V: Nested>(value: V) {
-    value.discard_within(MAX_DEPTH);
+    value.discard_within(RECURSION_LEVELS);
 }

@@ -2,8 +2,7 @@
 //! one that nests deep.
 //!
 //! `serde_json` prints, clones and drops a value by recursion, so a value that nests deep overflows
-//! the stack. Here only the first [`MAX_DEPTH`] levels are taken by recursion, as deep as
-//! `serde_json` reads a text, and a loop takes those below.
+//! the stack. Here only the first 32 levels are taken by recursion, and a loop takes those below.
 #![tactic(auto)]
 
 mod clone;

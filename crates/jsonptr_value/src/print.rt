@@ -8,7 +8,7 @@ ghost use Rattle.serde_json.specs.View.{view};
 ghost use Rattle.serde_json.specs.Written.{has_float, compact_text, IsInOrder, WritesValue};
 ghost use Rattle.jsonptr_value.specs.PrivateFrames.{WritesElements, WritesMembersLeft};
 
-use crate::depth::MAX_DEPTH;
+use crate::depth::RECURSION_LEVELS;
 use crate::frame::write_deep;
 use crate::number::write_number;
 use json::Writer;
@@ -18,7 +18,7 @@ use std::collections::btree_map::Iter;
 
 /// Returns the JSON text of the value, without spaces: the one that `Value::to_string` returns.
 ///
-/// Time is linear in the value. At most [`MAX_DEPTH`] levels take the stack, by recursion.
+/// Time is linear in the value. The first 32 levels take the stack, by recursion.
 ///
 /// # Errors
 ///
@@ -32,7 +32,7 @@ pub fn to_string(value: &Value, alloc: Global) -> Result<String, AllocError>
         → read (string_bytes s) ≡ Some (view value.now)) }
 {
     let mut out = Writer::new(Vec::with_capacity(alloc, 128)?);
-    write(alloc, value, MAX_DEPTH, &mut out)?;
+    write(alloc, value, RECURSION_LEVELS, &mut out)?;
     Ok(unsafe { String::from_utf8_unchecked(out.into_inner()) })
 }
 
