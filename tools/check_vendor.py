@@ -6,7 +6,7 @@ import sys
 import tempfile
 
 TOP = os.path.dirname(os.path.dirname(os.path.abspath(__file__)))
-EXTRAS = ["tabled", "session", "patch", "patch_document", "diff", "in_text", "edit_in_text", "lines", "paths", "filter", "in_toml", "calls"]
+EXTRAS = ["value", "tabled", "session", "patch", "patch_document", "diff", "in_text", "edit_in_text", "lines", "paths", "filter", "in_toml", "calls"]
 
 
 def vendor(*arguments, status=0):

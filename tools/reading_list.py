@@ -1,9 +1,10 @@
-"""Checks that the reading list of docs/ARCHITECTURE.md has every definition that the headline rests on, and stays short.
+"""Checks that the reading lists of docs/ARCHITECTURE.md have every definition that the statements rest on: [--rows]
 
-The headline is the contracts of `run_json` and `run_toml`. Starting from their clauses, the check follows each word to its
-definition, and the words of that definition in turn. Each definition of this repository must be in a file of the list,
-and each file of the list must have one of them. Together they have at most 500 lines. The kit's words are not followed, nor
-are types that are declared in code.
+A statement is the contracts of some public functions. Starting from their clauses, the check follows each word to its
+definition, and the words of that definition in turn. The kit's words are not followed, nor are types that are declared in
+code. Each definition of this repository that the headline needs, the contracts of `run_json` and `run_toml`, must be in a
+file of the first list, and each file of the list must have one of them. Together they have at most 500 lines. For each other
+statement its row names the further files, and counts the lines that it needs of them: --rows prints these cells.
 """
 import os
 import re
@@ -11,7 +12,52 @@ import sys
 
 TOP = os.path.dirname(os.path.dirname(os.path.abspath(__file__)))
 CRATES = f"{TOP}/crates"
-HEADLINE = "jsonptr_session/src/session.rt", ["run_json", "run_toml"]
+HEADLINE = [("jsonptr_session/src/session.rt", ["run_json", "run_toml"])]
+UNDO = ["assign_with_undo", "undo"]
+EDITS = ["assign", "delete", "apply"]
+OTHERS = {
+    "undo": [("jsonptr_session/src/undo/json.rt", UNDO), ("jsonptr_session/src/undo/toml_value.rt", UNDO)],
+    "a report that is drawn": [("jsonptr_diagnostic/src/rendering.rt", ["render"])],
+    "patches": [
+        ("jsonptr_patch/src/patch.rt", ["apply"]),
+        ("jsonptr_patch/src/inverse.rt", ["apply_with_inverse"]),
+        ("jsonptr_patch/src/undo.rt", ["delete_with_undo"]),
+        ("jsonptr_patch/src/laws/apart.rt", ["apart_law"]),
+    ],
+    "patch documents": [
+        ("jsonptr_patch_document/src/read.rt", ["read_patch"]),
+        ("jsonptr_patch_document/src/write.rt", ["write_patch"]),
+        ("jsonptr_patch_document/src/error.rt", ["pointer_text"]),
+    ],
+    "differences": [("jsonptr_diff/src/diffing.rt", ["diff", "change"])],
+    "resolving in text": [("jsonptr_in_text/src/resolve.rt", ["resolve_in_text", "resolve_in_slice", "exists_in_text"])],
+    "edits in text": [
+        *((f"jsonptr_edit_in_text/src/{it}.rt", [f"{it}_in_text"]) for it in EDITS),
+        ("jsonptr_edit_in_text/src/in_place.rt", [f"{it}_in_place" for it in EDITS]),
+    ],
+    "documents as lines": [
+        ("jsonptr_paths/src/listing.rt", ["list"]),
+        ("jsonptr_paths/src/text_listing.rt", ["list_text"]),
+        ("jsonptr_paths/src/toml_listing.rt", ["list_toml"]),
+        ("jsonptr_paths/src/reading.rt", ["build"]),
+    ],
+    "TOML text": [("jsonptr_in_toml/src/change.rt", ["find_in_toml", "assign_in_toml", "delete_in_toml"])],
+    "commands on texts and lines": [
+        ("jsonptr_filter/src/result.rt", ["result_in_text"]),
+        ("jsonptr_filter/src/document.rt", ["run_document"]),
+        ("jsonptr_filter/src/lines.rt", ["run_lines"]),
+    ],
+    "a file that is replaced": [("jsonptr_filter/src/replacement.rt", ["replace"])],
+    "calls for C": [
+        ("jsonptr_calls/src/pointers.rt", ["count", "token", "escape", "push", "pop"]),
+        ("jsonptr_calls/src/documents.rt", ["parse", "free", "print_at", "string_at", "node_at", "assign", "delete", "patch", "diff"]),
+        ("jsonptr_calls/src/texts.rt", ["print_in"]),
+        ("jsonptr_calls/src/outcome.rt", ["succeed", "fail", "fail_with_length"]),
+        ("jsonptr_calls/src/record.rt", ["message"]),
+    ],
+}
+# Files of a few lines that nearly every statement needs, in one sentence of the page.
+COMMON = ["jsonptr/specs/Pointer.antt", "jsonptr_text/specs/PointerText.antt", "jsonptr_base/specs/Fault.antt"]
 MOST_LINES = 500
 WORD = re.compile(r"[^\W\d][\w'-]*(?:\.[^\W\d][\w'-]*)*")
 IMPORT = re.compile(r"(pub )?(?:ghost )?use Rattle\.([\w.]+?)(?:\.\{(.*)\}| as (\w+))?;?$")
@@ -48,7 +94,7 @@ def files_of_list():
 def file_of(module):
     """Returns the file of a module, also where a crate only passes it on, or None if it is the kit's or a declared type."""
     crate, *path = module.split(".")
-    if not os.path.isdir(f"{CRATES}/{crate}") or path[:1] != ["specs"] or "declared" in path:
+    if not os.path.isdir(f"{CRATES}/{crate}") or path[:1] != ["specs"] or {"declared", "Types"} & {*path}:
         return None
     file = "/".join([crate, *path]) + ".antt"
     if os.path.exists(f"{CRATES}/{file}"):
@@ -146,31 +192,65 @@ class Reading:
 
 def clauses_of(text, function):
     """Returns the clauses of a function."""
-    head = text.split(f"pub fn {function}(")[1].split("\n{")[0]
-    return head[head.index("    ensures") :].splitlines()
+    head = re.split(rf"\bfn {function}[(<]", text)[1]
+    head = re.split(r"^ *\{$", head, maxsplit=1, flags=re.MULTILINE)[0]
+    return head[re.search(r"^ *(requires|ensures) ", head, re.MULTILINE).start() :].splitlines()
+
+
+def needed(statement):
+    """Returns how many lines a statement needs of each file, and the names of the definitions there."""
+    reading = Reading()
+    for path, functions in statement:
+        text = read(path)
+        for function in functions:
+            reading.follow(clauses_of(text, function), *imports_of(text), None)
+    lines, names = {}, {}
+    for path, name, definition in reading.reached.values():
+        lines[path] = lines.get(path, 0) + len(definition)
+        names.setdefault(path, []).append(name)
+    return lines, names
+
+
+def check_headline(listed):
+    """Checks the first list, and returns how many lines the headline needs."""
+    lines, names = needed(HEADLINE)
+    missing = sorted({*lines} - {*listed})
+    if missing:
+        found = "; ".join(f"{file} ({', '.join(sorted(names[file]))})" for file in missing)
+        raise Failed(f"docs/ARCHITECTURE.md does not list {found}")
+    unneeded = [file for file in listed if file not in lines]
+    if unneeded:
+        raise Failed("docs/ARCHITECTURE.md lists " + ", ".join(unneeded) + ", of which the headline needs nothing")
+    count = sum(lines.values())
+    if count > MOST_LINES:
+        raise Failed(f"the definitions of the headline have {count} lines, more than {MOST_LINES}")
+    return count
+
+
+def cells(statement, listed):
+    """Returns the cells of a row: the files that a statement needs beyond the first list, and how many lines of them."""
+    lines = {file: count for file, count in needed(statement)[0].items() if file not in [*listed, *COMMON]}
+    crates = {}
+    for file in sorted(lines):
+        crate, *_, name = file.split("/")
+        crates.setdefault(crate, []).append(name.removesuffix(".antt"))
+    shown = "; ".join(f"`{crate}`: {', '.join(names)}" for crate, names in crates.items())
+    return f"{shown} | {sum(lines.values())}"
 
 
 def main():
-    path, functions = HEADLINE
-    text, reading = read(path), Reading()
-    for function in functions:
-        reading.follow(clauses_of(text, function), *imports_of(text), None)
     listed = files_of_list()
-    reached = list(reading.reached.values())
-    missing = {}
-    for file, name, _ in reached:
-        if file not in listed:
-            missing.setdefault(file, []).append(name)
-    if missing:
-        found = "; ".join(f"{file} ({', '.join(sorted(names))})" for file, names in sorted(missing.items()))
-        raise Failed(f"docs/ARCHITECTURE.md does not list {found}")
-    unneeded = [file for file in listed if file not in {file for file, _, _ in reached}]
-    if unneeded:
-        raise Failed("docs/ARCHITECTURE.md lists " + ", ".join(unneeded) + ", of which the headline needs nothing")
-    count = sum(len(lines) for _, _, lines in reached)
-    if count > MOST_LINES:
-        raise Failed(f"the definitions of the headline have {count} lines, more than {MOST_LINES}")
-    print(f"reading_list: the headline needs {count} lines of {len(listed)} files, and all of these are listed")
+    count = check_headline(listed)
+    rows = {about: f"| {about} | {cells(statement, listed)} | " for about, statement in OTHERS.items()}
+    if sys.argv[1:] == ["--rows"]:
+        print("\n".join(rows.values()))
+        return
+    with open(f"{TOP}/docs/ARCHITECTURE.md", encoding="utf-8") as file:
+        text = file.read()
+    for about, row in rows.items():
+        if row not in text:
+            raise Failed(f"docs/ARCHITECTURE.md has another row of '{about}' than\n{row}")
+    print(f"reading_list: the headline needs {count} lines of {len(listed)} files, and {len(rows)} other statements need what is listed")
 
 
 if __name__ == "__main__":

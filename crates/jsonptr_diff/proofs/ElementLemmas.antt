@@ -1,6 +1,8 @@
 -- The operations that turn one array into another: arrays of the first elements of one and the last of another.
-use Rattle.std.proofs.Common.{◌≡◌, ℕ, suc, ◌+◌, ◌-◌, ◌<◌, ◌≤◌, false, List, [], ◌∷◌, ◌++◌, length, get_or, Option, Some, is_some, IsSome, ⊎_elim, Vec, Global, refl, sym, ap, ◌∙◌, subst, arith}
+use Rattle.std.proofs.Common.{◌≡◌, ℕ, suc, ◌+◌, ◌-◌, ◌<◌, ◌≤◌, false, List, [], ◌∷◌, ◌++◌, length, get_or, drop, Option, Some, is_some, IsSome, ⊎_elim, Vec, Global, refl, sym, ap, ◌∙◌, subst, arith}
 use mathlib.Core.Path.{fun_ext}
+use Rattle.std.specs.List.{slice_range}
+use Rattle.std.proofs.lemmas.List.{get_or-take, get_or-drop}
 use Rattle.std.proofs.lemmas.Bool.{cases_lt}
 use Rattle.serde_json.specs.Data.{Data}
 use Rattle.serde_json.specs.Find.{as_array}
@@ -20,9 +22,12 @@ use Rattle.jsonptr_patch.specs.Inserting.{with_place}
 use Rattle.jsonptr_patch.specs.declared.operation.Operation.{Operation}
 use Rattle.jsonptr_patch.proofs.InsertingLemmas.{with_place-same, with_place-below, with_place-above, with_place-root}
 use Rattle.jsonptr_patch.proofs.TestingLemmas.{element_label, past_label, array_label, no_key_label, any_default}
-use Rattle.jsonptr_diff.specs.PrivateSame.{IsSame, SameSuffix}
-use Rattle.jsonptr_diff.specs.PrivateDiff.{AppendsRemove, AppendsAdd, Turns, array_map, IsArray, IsSpliced, Splices}
-use Rattle.jsonptr_diff.proofs.SameLemmas.{twin_same}
+use Rattle.jsonptr_diff.specs.PrivateSame.{IsSame, SameSuffix, AreSameFrom}
+use Rattle.jsonptr_diff.specs.PrivateDiff.{AppendsRemove, AppendsAdd, AppendsChanges, AppendsParts, Turns, array_map, IsArray, IsSpliced, Splices}
+use Rattle.jsonptr_diff.specs.Differing.{HaveNoDifference}
+use Rattle.jsonptr_diff.specs.PrivateSame.{SameElements}
+use Rattle.jsonptr_diff.proofs.ChangeLemmas.{parts_changes}
+use Rattle.jsonptr_diff.proofs.SameLemmas.{twin_same, twin_made, elements_same}
 use Rattle.jsonptr_diff.proofs.TurningLemmas.{turns_nowhere, turns_further, turns_as, turns_part, turns_below, turns_remove_element, turns_add_element}
 
 -- ---- the maps of elements
@@ -251,3 +256,40 @@ suffix_more vs ws done a0 b0 x y is other e0 f0 same before j a b z h e f = ⊎_
     subst (λ (n : ℕ). IsSame (get_or vs n z) (get_or ws b z)) left (subst (λ (n : ℕ). IsSame (get_or vs a0 z) (get_or ws n z)) right
     (subst (λ (u : Value). IsSame u (get_or ws b0 z)) (is ∙ any_default vs a0 x z inside) (subst (IsSame x) (other ∙ any_default ws b0 y z within) same))))
     (cases_lt j done)
+
+-- ---- which operations are appended
+
+-- arrays that are the same append nothing
+pub elements_change : (v w : Vec Value Global) (base : List Text) (first last : List Operation) → (SameElements v.items w.items → last ≡ first) → AppendsParts base first last → AppendsChanges base (array_map v) (array_map w) first last
+elements_change v w base first last kept h = parts_changes base (array_map v) (array_map w) (length v.items) (length w.items) first last (array_is_array v) (array_is_array w)
+    (λ (none : HaveNoDifference (array_map v) (array_map w)). kept ((elements_same v w).1 (twin_made (array_map v) (array_map w) none.0 none.1))) h
+
+-- arrays, as values
+pub arrays_change : (v w : Value) (a b : Vec Value Global) (first last : List Operation) (base : List Text) → v ≡ Array a → Some (items_view b.items) ≡ as_array (view w) → AppendsChanges base (array_map a) (array_map b) first last → AppendsChanges base (nodes (view v)) (nodes (view w)) first last
+arrays_change v w a b first last base is other h =
+    let same : view w ≡ view (Array b) = content_one (view w) (view (Array b)) (array_at w b other) in
+    subst (λ (d : Data). AppendsChanges base (nodes (view v)) (nodes d) first last) (sym same) (subst (λ (u : Value). AppendsChanges base (nodes (view u)) (array_map b) first last) (sym is) h)
+
+-- elements at one index of arrays that are the same
+pub same_from : (vs ws : List Value) (i n : ℕ) → SameElements vs ws → i + n ≤ length vs → AreSameFrom vs i ws i n
+same_from vs ws i n all within k x y low =
+    let inside : i + k < length vs = omega (arith, within, low) in
+    let other : i + k < length ws = omega (arith, inside, all.0) in
+    subst (λ (u : Value). IsSame (get_or vs (i + k) x) u) (any_default ws (i + k) x y other) (all.1 (i + k) x inside)
+
+-- the first elements of two parts of such arrays
+pub same_first : (vs ws us ts : List Value) (i j : ℕ) (m n : ℕ) → us ≡ vs → ts ≡ ws → i ≡ j → i < length vs → i < m → j < n → SameElements vs ws → IsSame (get_or (slice_range us i m) 0 Null) (get_or (slice_range ts j n) 0 Null)
+same_first vs ws us ts i j m n first second at inside low less all =
+    let one : get_or (slice_range us i m) 0 Null ≡ get_or vs i Null = slice_first us i m low ∙ ap (λ (l : List Value). get_or l i Null) first in
+    let two : get_or (slice_range ts j n) 0 Null ≡ get_or ws i Null = slice_first ts j n less ∙ ap (λ (l : List Value). get_or l j Null) second ∙ ap (λ (k : ℕ). get_or ws k Null) (sym at) in
+    subst (λ (u : Value). IsSame u (get_or (slice_range ts j n) 0 Null)) (sym one) (subst (λ (u : Value). IsSame (get_or vs i Null) u) (sym two) (all.1 i Null inside))
+  where
+    slice_first : (l : List Value) (a b : ℕ) → a < b → get_or (slice_range l a b) 0 Null ≡ get_or l a Null
+    slice_first l a b h = get_or-take (b - a) (drop a l) 0 Null (omega (arith, h)) ∙ get_or-drop a l 0 Null ∙ ap (λ (k : ℕ). get_or l k Null) (omega arith)
+
+-- elements, as the code reads them
+pub read_same : (vs ws : List Value) (i j : ℕ) (v w x y : Value) → v ≡ get_or vs i v → w ≡ get_or ws j w → i < length vs → j < length ws → IsSame (get_or vs i x) (get_or ws j y) → IsSame v w
+read_same vs ws i j v w x y one two inside within same =
+    let first : get_or vs i x ≡ v = any_default vs i x v inside ∙ sym one in
+    let second : get_or ws j y ≡ w = any_default ws j y w within ∙ sym two in
+    subst (λ (u : Value). IsSame u w) first (subst (λ (u : Value). IsSame (get_or vs i x) u) second same)

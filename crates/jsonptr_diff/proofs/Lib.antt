@@ -2,6 +2,7 @@
 pub mod SortedLemmas
 pub mod SameLemmas
 pub mod TurningLemmas
+pub mod ChangeLemmas
 pub mod MixedLemmas
 pub mod MemberLemmas
 pub mod ElementLemmas

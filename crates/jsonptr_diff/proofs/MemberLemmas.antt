@@ -1,5 +1,5 @@
 -- The operations that turn one object into another, member by member.
-use Rattle.std.proofs.Common.{◌≡◌, List, [], ◌∷◌, ◌++◌, Option, Some, None, option_map, IsSome, string_bytes, string_cmp, refl, sym, ap, ◌∙◌, subst}
+use Rattle.std.proofs.Common.{◌≡◌, Bool, false, List, ℕ, [], ◌∷◌, ◌++◌, Option, Some, None, is_some, option_map, IsSome, true≢false, string_bytes, string_cmp, refl, sym, ap, ◌∙◌, subst}
 use Rattle.std.specs.BTreeMap.{get_by_text}
 use Rattle.std.specs.List.Sorted.{IsStrictlySortedBy}
 use Rattle.std.specs.Map.{keys_of}
@@ -18,8 +18,10 @@ use Rattle.jsonptr_document.proofs.JsonLevel.{object_at}
 use Rattle.jsonptr_patch.specs.PrivateTesting as tested
 use Rattle.jsonptr_patch.specs.declared.operation.Operation.{Operation}
 use Rattle.jsonptr_patch.proofs.TestingLemmas.{object_label}
-use Rattle.jsonptr_diff.specs.PrivateDiff.{AppendsRemove, AppendsAdd, Turns, object_map, mixed}
+use Rattle.jsonptr_diff.specs.PrivateSame.{IsSame, SameMember, SameMembers}
+use Rattle.jsonptr_diff.specs.PrivateDiff.{AppendsRemove, AppendsAdd, AppendsChanges, Turns, object_map, mixed}
 use Rattle.jsonptr_diff.proofs.TurningLemmas.{turns_nowhere, turns_further, turns_as, turns_part, turns_below, turns_remove_member, turns_add_member}
+use Rattle.jsonptr_diff.proofs.ChangeLemmas.{changes_under, changes_remove, changes_add}
 use Rattle.jsonptr_diff.proofs.MixedLemmas.{without-put, mixed_none, mixed_push, mixed_left, mixed_all, mixed_skip, member_map, no_member_map, entry_found, entry_before}
 
 -- the keys in a member of an object with sorted keys are sorted
@@ -89,3 +91,52 @@ pub objects_turn : (v w : Value) (m n : tested.Object) (first last : List Operat
 objects_turn v w m n first last base is other turns =
     let same : view w ≡ view (Object n) = content_one (view w) (view (Object n)) (object_at w n other) in
     subst (λ (d : Data). Turns d first last base (nodes (view v)) (nodes d)) (sym same) (turns_as (view (Object n)) first last base (nodes (view v)) (object_map n) (object_map m) (object_map n) (ap (λ (u : Value). nodes (view u)) is) refl turns)
+
+-- ---- which operations are appended
+
+module _ (m n : tested.Object) (before after : List Operation) (base : List Text) (done : List Entry) (e : Entry) (more : List Entry) (k : Text) (name : k ≡ string_bytes e.0) where
+  map_under : (o : tested.Object) (v : Value) → get_by_text o (string_bytes e.0) ≡ Some v → sub (object_map o) (key k ∷ []) ≡ nodes (view v)
+  map_under o v found = ap (λ (t : Text). sub (object_map o) (key t ∷ [])) name ∙ member_map o (string_bytes e.0) v found
+
+  there_under : (o : tested.Object) (v : Value) → get_by_text o (string_bytes e.0) ≡ Some v → IsSome (object_map o (key k ∷ []))
+  there_under o v found = subst (λ (q : NodeMap). IsSome (q [])) (sym (map_under o v found)) refl
+
+  none_under : (o : tested.Object) → get_by_text o (string_bytes e.0) ≡ None → object_map o (key k ∷ []) ≡ None
+  none_under o lacks = ap (λ (q : NodeMap). q []) (ap (λ (t : Text). sub (object_map o) (key t ∷ [])) name ∙ no_member_map o (string_bytes e.0) lacks)
+
+  -- a member that both have
+  pub member_changes : (w : Value) → m.entries ≡ done ++ e ∷ more → IsStrictlySortedBy string_cmp (keys_of m.entries) → get_by_text n (string_bytes e.0) ≡ Some w → AppendsChanges (base ++ k ∷ []) (nodes (view e.1)) (nodes (view w)) before after → AppendsChanges base (object_map m) (object_map n) before after
+  member_changes w is ordered found child = changes_under base (object_map m) (object_map n) (nodes (view e.1)) (nodes (view w)) k (map_under m e.1 (entry_found m done e more is ordered)) (map_under n w found) refl before after child
+
+  -- a member that the second lacks
+  pub member_gone : m.entries ≡ done ++ e ∷ more → IsStrictlySortedBy string_cmp (keys_of m.entries) → get_by_text n (string_bytes e.0) ≡ None → AppendsRemove before after (base ++ k ∷ []) → AppendsChanges base (object_map m) (object_map n) before after
+  member_gone is ordered lacks removed = changes_remove base (object_map m) (object_map n) k before after (there_under m e.1 (entry_found m done e more is ordered)) (none_under n lacks) removed
+
+  -- a member that the first lacks
+  pub member_come : n.entries ≡ done ++ e ∷ more → IsStrictlySortedBy string_cmp (keys_of n.entries) → get_by_text m (string_bytes e.0) ≡ None → AppendsAdd before after (base ++ k ∷ []) (view e.1) → AppendsChanges base (object_map m) (object_map n) before after
+  member_come is ordered lacks added = changes_add base (object_map m) (object_map n) k (view e.1) before after (none_under m lacks) (there_under n e.1 (entry_found n done e more is ordered)) added
+
+no_value : {T : Type 0} (o : Option T) → is_some o ≡ false → o ≡ None
+no_value None h = refl
+no_value (Some v) h = absurd (true≢false h)
+
+pub key_missing : (m : tested.Object) (k s : List ℕ) (b : Bool) → s ≡ k → b ≡ is_some (get_by_text m s) → b ≡ false → get_by_text m k ≡ None
+key_missing m k s b same is lacks = no_value (get_by_text m k) (sym (ap (λ (l : List ℕ). is_some (get_by_text m l)) same) ∙ sym is ∙ lacks)
+
+-- objects, as values
+pub objects_change : (v w : Value) (m n : tested.Object) (first last : List Operation) (base : List Text) → v ≡ Object m → Some (members_view n.entries) ≡ as_object (view w) → AppendsChanges base (object_map m) (object_map n) first last → AppendsChanges base (nodes (view v)) (nodes (view w)) first last
+objects_change v w m n first last base is other h =
+    let same : view w ≡ view (Object n) = content_one (view w) (view (Object n)) (object_at w n other) in
+    subst (λ (d : Data). AppendsChanges base (nodes (view v)) (nodes d) first last) (sym same) (subst (λ (u : Value). AppendsChanges base (nodes (view u)) (object_map n) first last) (sym is) h)
+
+-- ---- members of objects that are the same
+
+module _ (m n : tested.Object) (done : List Entry) (e : Entry) (more : List Entry) (is : m.entries ≡ done ++ e ∷ more) (ordered : IsStrictlySortedBy string_cmp (keys_of m.entries)) where
+  same_member : SameMembers m n → SameMember (Some e.1) (get_by_text n (string_bytes e.0))
+  same_member same = subst (λ (o : Option Value). SameMember o (get_by_text n (string_bytes e.0))) (entry_found m done e more is ordered) (same (string_bytes e.0))
+
+  pub same_has : get_by_text n (string_bytes e.0) ≡ None → SameMembers m n → ⊥
+  same_has lacks same = subst (λ (p : Option Value). SameMember (Some e.1) p) lacks (same_member same)
+
+  pub same_value : (w : Value) → get_by_text n (string_bytes e.0) ≡ Some w → SameMembers m n → IsSame e.1 w
+  same_value w found same = subst (λ (p : Option Value). SameMember (Some e.1) p) found (same_member same)

@@ -262,6 +262,9 @@ array_only len (json.string s) e h = let same = h.same in cc
 array_only len (json.array ds) e h = cc
 array_only len (json.object ms) e h = let same = h.same in cc
 
+pub same_arrays : (v w : Value) (a o : Vec Value Global) → v ≡ Array a → Some (items_view o.items) ≡ as_array (view w) → IsSame v w → SameElements a.items o.items
+same_arrays v w a o is by s = (elements_same a o).1 (subst (λ (c : Content). IsTwin (nodes (view (Array a))) (map_of c)) (array_at w o by) (subst (λ (u : Value). IsSame u w) is s))
+
 pub array_differs : (v w : Value) (a : Vec Value Global) → v ≡ Array a → None ≡ as_array (view w) → IsTrue false ↔ IsSame v w
 array_differs v w a is by = never (IsSame v w) (λ h. array_only (length a.items) (view w) by (subst (λ (l : Option Label). SameLabel l (nodes (view w) [])) (ap (λ (u : Value). map_of (content_of u) []) is ∙ array_label a) (h [])))
 
@@ -279,6 +282,9 @@ object_only (json.number n) e h = let same = h.same in cc
 object_only (json.string s) e h = let same = h.same in cc
 object_only (json.array ds) e h = let same = h.same in cc
 object_only (json.object ms) e h = cc
+
+pub same_objects : (v w : Value) (m o : tested.Object) → v ≡ Object m → Some (members_view o.entries) ≡ as_object (view w) → IsSame v w → SameMembers m o
+same_objects v w m o is by s = (members_same m o).1 (subst (λ (c : Content). IsTwin (nodes (view (Object m))) (map_of c)) (object_at w o by) (subst (λ (u : Value). IsSame u w) is s))
 
 pub object_differs : (v w : Value) (m : tested.Object) → v ≡ Object m → None ≡ as_object (view w) → IsTrue false ↔ IsSame v w
 object_differs v w m is by = never (IsSame v w) (λ h. object_only (view w) by (subst (λ (l : Option Label). SameLabel l (nodes (view w) [])) (ap (λ (u : Value). map_of (content_of u) []) is ∙ object_label m) (h [])))

@@ -1,8 +1,38 @@
--- When two documents have no difference.
-use Rattle.std.specs.Prelude.{◌≡◌}
-use Rattle.jsonptr.specs.Node.{NodeMap}
+-- When two documents have no difference, and which operations a difference consists of.
+use Rattle.std.specs.Prelude.{◌≡◌, ℕ, ◌⊎◌, List, [], ◌∷◌, ◌++◌, Option, Some, None, IsSome}
+use Rattle.jsonptr.specs.Text.{Text}
+use Rattle.jsonptr.specs.Node.{key, Path, Label, an_object, an_array, NodeMap, sub}
 use Rattle.jsonptr_patch.specs.Testing.{HasFloat}
+use Rattle.jsonptr_patch.specs.declared.operation.Operation.{Operation}
+use Rattle.jsonptr_patch.specs.declared.operation.Operation.TheVariants.{Add, Remove, Replace}
 
 -- `HaveNoDifference n m`: the two maps are the same, and contain no float. Floats are not compared.
 abbrev pub HaveNoDifference : NodeMap → NodeMap → Type 0
 HaveNoDifference n m = (n ≡ m) × (HasFloat n → ⊥)
+
+-- `keys ts`: the path on which each of the tokens `ts` is the key of a member
+abbrev pub keys : List Text → Path
+keys [] = []
+keys (x ∷ xs) = key x ∷ keys xs
+
+-- `DifferAlong n m ts`: each value of `n` that a prefix of the tokens `ts` leads to through objects differs from that of `m`
+abbrev pub DifferAlong : NodeMap → NodeMap → List Text → Type 0
+DifferAlong n m ts =
+    (front rest : List Text) → ts ≡ front ++ rest → IsSome (n (keys front))
+    → HaveNoDifference (sub n (keys front)) (sub m (keys front)) → ⊥
+
+-- `AreOfOneKind k l`: both labels are those of objects, or both are those of arrays
+abbrev pub AreOfOneKind : Option Label → Option Label → Type 0
+AreOfOneKind k l =
+    ((k ≡ Some an_object) × (l ≡ Some an_object))
+    ⊎ ((i j : ℕ) × (k ≡ Some (an_array i)) × (l ≡ Some (an_array j)))
+
+-- `IsChange n m o`: the operation `o` adds, removes or replaces a value, and all that its pointer leads through differs in
+-- the maps `n` and `m`. What it adds is no member of an object of `n`, and what it removes none of one of `m`. What it
+-- replaces is not an object in both, and not an array in both
+abbrev pub IsChange : NodeMap → NodeMap → Operation → Type 0
+IsChange n m (Add path value) = DifferAlong n m path × (n (keys path) ≡ None)
+IsChange n m (Remove path) = DifferAlong n m path × (m (keys path) ≡ None)
+IsChange n m (Replace path value) =
+    DifferAlong n m path × (AreOfOneKind (n (keys path)) (m (keys path)) → ⊥)
+IsChange n m o = ⊥

@@ -19,6 +19,7 @@ use Rattle.jsonptr_patch.specs.Patching.{Patches}
 use Rattle.jsonptr_patch.specs.PrivateTesting as tested
 use Rattle.jsonptr_patch.specs.declared.operation.Operation.{Operation}
 use Rattle.jsonptr_patch.specs.declared.operation.Operation.TheVariants.{Add, Remove, Replace}
+use Rattle.jsonptr_diff.specs.Differing.{IsChange}
 use Rattle.jsonptr_diff.specs.declared.aligning.Gap.{Gap}
 use Rattle.jsonptr_diff.specs.declared.location.Location.{Location, Root, Member', Element'}
 
@@ -59,6 +60,38 @@ pub record Turns (goal : Data) (before after : List Operation) (base : List Text
       → Patches n before m → Names m base w → c ≡ sub m w → Patches n after (put m w d)
   pub sorted : HasSortedKeys goal
       → All OperationHasSortedKeys before → All OperationHasSortedKeys after
+
+-- `Appends P before after`: `after` is `before` with further operations, each of which meets `P`.
+pub record Appends (P : Operation → Type 0) (before after : List Operation) : Type 0 where
+  pub further : List Operation
+  pub appended : after ≡ before ++ further
+  pub all : All P further
+
+-- `IsChangeBelow base c d o`: the pointer of `o` is `base` and then that of a change of `c` into `d`.
+abbrev pub IsChangeBelow : List Text → NodeMap → NodeMap → Operation → Type 0
+IsChangeBelow base c d (Add path value) = (rest : List Text) × (path ≡ base ++ rest) × IsChange c d (Add rest value)
+IsChangeBelow base c d (Remove path) = (rest : List Text) × (path ≡ base ++ rest) × IsChange c d (Remove rest)
+IsChangeBelow base c d (Replace path value) = (rest : List Text) × (path ≡ base ++ rest) × IsChange c d (Replace rest value)
+IsChangeBelow base c d o = ⊥
+
+-- `AppendsChanges base c d before after`: `after` is `before` with changes of `c`, which is at `base`, into `d`.
+abbrev pub AppendsChanges : List Text → NodeMap → NodeMap → List Operation → List Operation → Type 0
+AppendsChanges base c d = Appends (IsChangeBelow base c d)
+
+-- `IsBelow base path`: `path` is `base` and at least one further token.
+abbrev pub IsBelow : List Text → List Text → Type 0
+IsBelow base path = (x : Text) × (rest : List Text) × (path ≡ base ++ x ∷ rest)
+
+-- `IsPartBelow base o`: `o` adds, removes or replaces a value below `base`.
+abbrev pub IsPartBelow : List Text → Operation → Type 0
+IsPartBelow base (Add path value) = IsBelow base path
+IsPartBelow base (Remove path) = IsBelow base path
+IsPartBelow base (Replace path value) = IsBelow base path
+IsPartBelow base o = ⊥
+
+-- `AppendsParts base before after`: `after` is `before` with such operations.
+abbrev pub AppendsParts : List Text → List Operation → List Operation → Type 0
+AppendsParts base = Appends (IsPartBelow base)
 
 abbrev pub Entry : Type 0
 Entry = String Global × Value

@@ -44,6 +44,11 @@ SameMember o p = ⊥
 abbrev pub SameMembers : Object → Object → Type 0
 SameMembers m n = (k : Text) → SameMember (get_by_text m k) (get_by_text n k)
 
+-- `AreSameFrom vs i ws j n`: the `n` elements of `vs` from index `i` are the same as those of `ws` from index `j`.
+abbrev pub AreSameFrom : List Value → ℕ → List Value → ℕ → ℕ → Type 0
+AreSameFrom vs i ws j n =
+    (k : ℕ) (x y : Value) → k < n → IsSame (slice_index_or vs (i + k) x) (slice_index_or ws (j + k) y)
+
 -- `SameSuffix vs ws n`: the last `n` elements of both lists are the same, counted from the end.
 pub record SameSuffix (vs ws : List Value) (n : ℕ) : Type 0 where
   pub within_first : n ≤ length vs

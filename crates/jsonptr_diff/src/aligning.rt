@@ -1,6 +1,8 @@
 //! Which elements of two arrays belong together.
-ghost use Rattle.std.specs.Prelude.{◌≡◌, ◌+◌, ◌≤◌, ◌<◌, length, IsTrue, IfSome};
+ghost use Rattle.std.specs.Prelude.{◌≡◌, ◌+◌, ◌≤◌, ◌<◌, length, slice_index_or, IsTrue, IfSome};
+ghost use Rattle.serde_json.specs.declared.value.Value.{Value as a_value};
 ghost use Rattle.jsonptr_diff.specs.PrivateDiff.{IsGap};
+ghost use Rattle.jsonptr_diff.specs.PrivateSame.{IsSame};
 
 use crate::likeness::is_match;
 use serde_json::Value;
@@ -25,7 +27,10 @@ pub struct Gap {
 pub fn next_gap(old: &[Value], new: &[Value]) -> Gap
     requires old { 1 ≤ length old.now }
     requires new { 1 ≤ length new.now }
-    ensures { IsGap (length old.now) (length new.now) result }
+    ensures gap { IsGap (length old.now) (length new.now) result }
+    ensures same { (x y : a_value)
+        → IsSame (slice_index_or old.now 0 x) (slice_index_or new.now 0 y)
+        → (result.removed ≡ 1) × (result.added ≡ 1) }
 {
     let (olds, news) = (old.len(), new.len());
     if is_match_at(old, 0, new, 0) {
@@ -80,9 +85,11 @@ fn gap_of(old: &[Value], new: &[Value], size: usize) -> Option<Gap>
 fn is_match_at(old: &[Value], from: usize, new: &[Value], to: usize) -> bool
     ensures old { IsTrue result → from < length old.now }
     ensures new { IsTrue result → to < length new.now }
+    ensures same { (x y : a_value) → from < length old.now → to < length new.now
+        → IsSame (slice_index_or old.now from x) (slice_index_or new.now to y) → IsTrue result }
 {
-    match (old.get(from), new.get(to)) {
-        (Some(left), Some(right)) => is_match(left, right),
-        _ => false,
+    if from >= old.len() || to >= new.len() {
+        return false;
     }
+    is_match(&old[from], &new[to])
 }

@@ -6,8 +6,9 @@ ghost use Rattle.jsonptr.specs.Json.{nodes, HasSortedKeys};
 ghost use Rattle.jsonptr_patch.specs.Order.{OperationHasSortedKeys};
 ghost use Rattle.jsonptr_patch.specs.Patching.{Patches};
 ghost use Rattle.jsonptr_patch.specs.declared.operation.Operation.{Operation as an_operation};
-ghost use Rattle.jsonptr_diff.specs.Differing.{HaveNoDifference};
-ghost use Rattle.jsonptr_diff.specs.PrivateDiff.{tokens_of, Turns, object_map, mixed, array_map, Splices};
+ghost use Rattle.jsonptr_diff.specs.Differing.{HaveNoDifference, AreOfOneKind, IsChange};
+ghost use Rattle.jsonptr_diff.specs.PrivateDiff.{tokens_of, Turns, AppendsChanges, AppendsParts, object_map, mixed, array_map, Splices};
+ghost use Rattle.jsonptr_diff.specs.PrivateSame.{AreSameFrom};
 
 use crate::aligning::{Gap, next_gap};
 use crate::elements::{add_elements, remove_elements};
@@ -24,8 +25,9 @@ use std::alloc::{AllocError, Global};
 /// Returns a patch that turns `old` into `new`: its operations in order make the node map of `new`
 /// from that of `old` (RFC 6902, sections 4 and 5).
 ///
-/// The patch has additions, removals and replacements only, and each pointer is the location of the
-/// change itself.
+/// The patch has additions, removals and replacements only. A member of an object that is the same in
+/// both is in no pointer. Nothing is added that `old` has, and nothing removed that `new` has. An
+/// object is not replaced by an object, nor an array by an array.
 ///
 /// - Members that both objects have are followed. The others are removed or added.
 /// - The common suffix of two arrays is left alone. Before it, elements that match are aligned:
@@ -67,6 +69,8 @@ use std::alloc::{AllocError, Global};
 pub fn diff(alloc: Global, old: &Value, new: &Value) -> Result<Vec<Operation>, AllocError>
     ensures patch { IfOk result (λ patch.
         Patches (nodes (view old.now)) patch.items (nodes (view new.now))) }
+    ensures changes { IfOk result (λ patch.
+        All (IsChange (nodes (view old.now)) (nodes (view new.now))) patch.items) }
     ensures sorted { IfOk result (λ patch.
         HasSortedKeys (view new.now) → All OperationHasSortedKeys patch.items) }
     ensures empty { HaveNoDifference (nodes (view old.now)) (nodes (view new.now))
@@ -132,8 +136,10 @@ fn diff_at(
     at: &Location<'_>,
     patch: &mut Vec<Operation>,
 ) -> Result<(), AllocError>
-    ensures { IfOk result (λ _. Turns (view new.now) patch.old.items patch.new.items
+    ensures turns { IfOk result (λ _. Turns (view new.now) patch.old.items patch.new.items
         (tokens_of at.now) (nodes (view old.now)) (nodes (view new.now))) }
+    ensures changes { IfOk result (λ _. AppendsChanges (tokens_of at.now)
+        (nodes (view old.now)) (nodes (view new.now)) patch.old.items patch.new.items) }
 {
     match old {
         Value::Object(members) => match new.as_object() {
@@ -161,8 +167,11 @@ fn diff_members(
     at: &Location<'_>,
     patch: &mut Vec<Operation>,
 ) -> Result<(), AllocError>
-    ensures { IfOk result (λ _. Turns (view (an_object new.now)) patch.old.items patch.new.items
+    ensures turns { IfOk result (λ _. Turns (view (an_object new.now))
+        patch.old.items patch.new.items
         (tokens_of at.now) (object_map old.now) (object_map new.now)) }
+    ensures changes { IfOk result (λ _. AppendsChanges (tokens_of at.now)
+        (object_map old.now) (object_map new.now) patch.old.items patch.new.items) }
 {
     follow_members(alloc, &*old, new, &*at, patch)?;
     add_members(alloc, old, &*new, &*at, patch)
@@ -181,9 +190,11 @@ fn follow_members<'a>(
     at: &'a Location<'a>,
     patch: &mut Vec<Operation>,
 ) -> Result<(), AllocError>
-    ensures { IfOk result (λ _. Turns (view (an_object new.now)) patch.old.items patch.new.items
-        (tokens_of at.now) (object_map old.now)
+    ensures turns { IfOk result (λ _. Turns (view (an_object new.now))
+        patch.old.items patch.new.items (tokens_of at.now) (object_map old.now)
         (mixed old.now.entries (object_map old.now) (object_map new.now))) }
+    ensures changes { IfOk result (λ _. AppendsChanges (tokens_of at.now)
+        (object_map old.now) (object_map new.now) patch.old.items patch.new.items) }
 {
     for (key, member) in old.iter() {
         let below = Location::Member(at, key.as_str());
@@ -208,8 +219,11 @@ fn diff_elements(
     at: &Location<'_>,
     patch: &mut Vec<Operation>,
 ) -> Result<(), AllocError>
-    ensures { IfOk result (λ _. Turns (view (an_array new.now)) patch.old.items patch.new.items
+    ensures turns { IfOk result (λ _. Turns (view (an_array new.now))
+        patch.old.items patch.new.items
         (tokens_of at.now) (array_map old.now) (array_map new.now)) }
+    ensures changes { IfOk result (λ _. AppendsChanges (tokens_of at.now)
+        (array_map old.now) (array_map new.now) patch.old.items patch.new.items) }
 {
     let suffix = same_suffix(old, new);
     let (old_end, new_end) = (old.len() - suffix, new.len() - suffix);
@@ -256,13 +270,18 @@ fn diff_gap(
 ) -> Result<(), AllocError>
     requires old { start.from + gap.removed ≤ length old.now.items }
     requires new { start.to + gap.added ≤ length new.now.items }
-    ensures { IfOk result (λ _. (first : List an_operation) (left : ℕ)
+    ensures splices { IfOk result (λ _. (first : List an_operation) (left : ℕ)
         → start.from + (gap.removed + left) ≡ length old.now.items
         → Splices (view (an_array new.now)) first patch.old.items (tokens_of at.now)
         (array_map old.now) (array_map new.now) start.to start.from (gap.removed + left)
         → Splices (view (an_array new.now)) first patch.new.items (tokens_of at.now)
         (array_map old.now) (array_map new.now)
         (start.to + gap.added) (start.from + gap.removed) left) }
+    ensures parts { IfOk result (λ _.
+        AppendsParts (tokens_of at.now) patch.old.items patch.new.items) }
+    ensures kept { IfOk result (λ _. gap.removed ≡ gap.added
+        → AreSameFrom old.now.items start.from new.now.items start.to gap.removed
+        → patch.new.items ≡ patch.old.items) }
 {
     let both = if gap.removed < gap.added {
         gap.removed
@@ -293,12 +312,17 @@ fn follow_elements(
 ) -> Result<(), AllocError>
     requires old { start.from + count ≤ length old.now.items }
     requires new { start.to + count ≤ length new.now.items }
-    ensures { IfOk result (λ _. (first : List an_operation) (left : ℕ)
+    ensures splices { IfOk result (λ _. (first : List an_operation) (left : ℕ)
         → start.from + (count + left) ≡ length old.now.items
         → Splices (view (an_array new.now)) first patch.old.items (tokens_of at.now)
         (array_map old.now) (array_map new.now) start.to start.from (count + left)
         → Splices (view (an_array new.now)) first patch.new.items (tokens_of at.now)
         (array_map old.now) (array_map new.now) (start.to + count) (start.from + count) left) }
+    ensures parts { IfOk result (λ _.
+        AppendsParts (tokens_of at.now) patch.old.items patch.new.items) }
+    ensures kept { IfOk result (λ _.
+        AreSameFrom old.now.items start.from new.now.items start.to count
+        → patch.new.items ≡ patch.old.items) }
 {
     for done in 0..count {
         let (from, to) = (start.from + done, start.to + done);
@@ -325,8 +349,12 @@ fn replace_other(
     at: &Location<'_>,
     patch: &mut Vec<Operation>,
 ) -> Result<(), AllocError>
-    ensures { IfOk result (λ _. Turns (view new.now) patch.old.items patch.new.items
+    ensures turns { IfOk result (λ _. Turns (view new.now) patch.old.items patch.new.items
         (tokens_of at.now) (nodes (view old.now)) (nodes (view new.now))) }
+    ensures changes { IfOk result (λ _.
+        (AreOfOneKind (nodes (view old.now) []) (nodes (view new.now) []) → ⊥)
+        → AppendsChanges (tokens_of at.now) (nodes (view old.now)) (nodes (view new.now))
+        patch.old.items patch.new.items) }
 {
     if is_same(old, new) {
         return Ok(());

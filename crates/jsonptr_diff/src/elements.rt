@@ -5,7 +5,7 @@ ghost use Rattle.serde_json.specs.View.{view};
 ghost use Rattle.serde_json.specs.declared.value.Value.{Array as an_array};
 ghost use Rattle.jsonptr.specs.Node.{NodeMap};
 ghost use Rattle.jsonptr_patch.specs.declared.operation.Operation.{Operation as an_operation};
-ghost use Rattle.jsonptr_diff.specs.PrivateDiff.{tokens_of, IsArray, Splices, array_map};
+ghost use Rattle.jsonptr_diff.specs.PrivateDiff.{tokens_of, AppendsParts, IsArray, Splices, array_map};
 
 use crate::location::Location;
 use crate::writing::{add, remove};
@@ -25,11 +25,14 @@ pub fn remove_elements(
     at: &Location<'_>,
     patch: &mut Vec<Operation>,
 ) -> Result<(), AllocError>
-    ensures { IfOk result (λ _.
+    ensures splices { IfOk result (λ _.
         (goal : Data) (first : List an_operation) (c d : NodeMap) (len k left : ℕ)
         → IsArray c len → k + (count + left) ≤ len
         → Splices goal first patch.old.items (tokens_of at.now) c d index k (count + left)
         → Splices goal first patch.new.items (tokens_of at.now) c d index (k + count) left) }
+    ensures parts { IfOk result (λ _.
+        AppendsParts (tokens_of at.now) patch.old.items patch.new.items) }
+    ensures kept { IfOk result (λ _. count ≡ 0 → patch.new.items ≡ patch.old.items) }
 {
     for _done in 0..count {
         remove(alloc, &Location::Element(&*at, index), patch)?;
@@ -53,11 +56,14 @@ pub fn add_elements(
 ) -> Result<(), AllocError>
     requires order { from ≤ to }
     requires within { to ≤ length new.now.items }
-    ensures { IfOk result (λ _. (first : List an_operation) (c : NodeMap) (k left : ℕ)
+    ensures splices { IfOk result (λ _. (first : List an_operation) (c : NodeMap) (k left : ℕ)
         → Splices (view (an_array new.now)) first patch.old.items (tokens_of at.now)
         c (array_map new.now) from k left
         → Splices (view (an_array new.now)) first patch.new.items (tokens_of at.now)
         c (array_map new.now) to k left) }
+    ensures parts { IfOk result (λ _.
+        AppendsParts (tokens_of at.now) patch.old.items patch.new.items) }
+    ensures kept { IfOk result (λ _. from ≡ to → patch.new.items ≡ patch.old.items) }
 {
     for index in from..to {
         add(alloc, &new[index], &Location::Element(&*at, index), patch)?;

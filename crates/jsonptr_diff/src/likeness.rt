@@ -1,5 +1,7 @@
-//! Which elements of two arrays may belong together. Nothing here is promised: an alignment only
-//! chooses which operations are written.
+//! Which elements of two arrays may belong together. An alignment only chooses which operations are
+//! written. All that is promised is that elements that are the same match.
+ghost use Rattle.std.specs.Prelude.{IsTrue};
+ghost use Rattle.jsonptr_diff.specs.PrivateSame.{IsSame, SameElements, SameMembers};
 
 use crate::same::is_same;
 use serde_json::{Map, Value};
@@ -13,15 +15,19 @@ const SAMPLE: usize = 16;
 
 /// Returns whether two elements are aligned: small ones that are the same, or large ones of the
 /// same kind whose first small parts are the same.
-pub fn is_match(left: &Value, right: &Value) -> bool {
-    if is_small(left) {
+pub fn is_match(left: &Value, right: &Value) -> bool
+    ensures { IsSame left.now right.now → IsTrue result }
+{
+    if is_small(left) || is_small(right) {
         return is_same(left, right);
     }
-    !is_small(right) && are_alike(left, right)
+    are_alike(left, right)
 }
 
 /// Returns whether two large values are of the same kind, and their first small parts are the same.
-fn are_alike(left: &Value, right: &Value) -> bool {
+fn are_alike(left: &Value, right: &Value) -> bool
+    ensures { IsSame left.now right.now → IsTrue result }
+{
     match left {
         Value::Array(elements) => match right.as_array() {
             Some(others) => elements_are_alike(elements, others),
@@ -31,14 +37,17 @@ fn are_alike(left: &Value, right: &Value) -> bool {
             Some(others) => members_are_alike(members, others),
             None => false,
         },
-        _ => false,
+        _ => is_same(left, right),
     }
 }
 
 /// Returns whether the small ones of the first elements are the same.
-fn elements_are_alike(left: &Vec<Value>, right: &Vec<Value>) -> bool {
-    for (element, other) in left.iter().zip(right.iter()).take(SAMPLE) {
-        if is_small(element) && !is_same(element, other) {
+fn elements_are_alike(left: &Vec<Value>, right: &Vec<Value>) -> bool
+    ensures { SameElements left.now.items right.now.items → IsTrue result }
+{
+    let both = left.len().min(right.len()).min(SAMPLE);
+    for index in 0..both {
+        if is_small(&left[index]) && !is_same(&left[index], &right[index]) {
             return false;
         }
     }
@@ -46,21 +55,25 @@ fn elements_are_alike(left: &Vec<Value>, right: &Vec<Value>) -> bool {
 }
 
 /// Returns whether the small ones of the first members are the same.
-fn members_are_alike(left: &Map<String, Value>, right: &Map<String, Value>) -> bool {
-    for (key, member) in left.iter().take(SAMPLE) {
-        if is_small(member) && !is_member(member, right.get(key.as_str())) {
-            return false;
+fn members_are_alike(left: &Map<String, Value>, right: &Map<String, Value>) -> bool
+    ensures { SameMembers left.now right.now → IsTrue result }
+{
+    let mut room = SAMPLE;
+    for (key, member) in left.iter() {
+        if room == 0 {
+            return true;
+        }
+        room -= 1;
+        if is_small(member) {
+            let Some(other) = right.get(key.as_str()) else {
+                return false;
+            };
+            if !is_same(member, other) {
+                return false;
+            }
         }
     }
     true
-}
-
-/// Returns whether there is a second value, and it is the same as the small first one.
-fn is_member(member: &Value, other: Option<&Value>) -> bool {
-    match other {
-        Some(other) => is_same(member, other),
-        None => false,
-    }
 }
 
 /// Returns whether a value has at most [`SMALL`] nodes.

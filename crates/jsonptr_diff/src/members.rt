@@ -2,7 +2,7 @@
 ghost use Rattle.std.specs.Prelude.{◌≡◌, IfOk};
 ghost use Rattle.serde_json.specs.View.{view};
 ghost use Rattle.serde_json.specs.declared.value.Value.{Object as an_object};
-ghost use Rattle.jsonptr_diff.specs.PrivateDiff.{tokens_of, Turns, object_map, mixed};
+ghost use Rattle.jsonptr_diff.specs.PrivateDiff.{tokens_of, Turns, AppendsChanges, object_map, mixed};
 
 use crate::location::Location;
 use crate::writing::add;
@@ -22,9 +22,11 @@ pub fn add_members<'a>(
     at: &'a Location<'a>,
     patch: &mut Vec<Operation>,
 ) -> Result<(), AllocError>
-    ensures { IfOk result (λ _. Turns (view (an_object new.now))
+    ensures turns { IfOk result (λ _. Turns (view (an_object new.now))
         patch.old.items patch.new.items (tokens_of at.now)
         (mixed old.now.entries (object_map old.now) (object_map new.now)) (object_map new.now)) }
+    ensures changes { IfOk result (λ _. AppendsChanges (tokens_of at.now)
+        (object_map old.now) (object_map new.now) patch.old.items patch.new.items) }
 {
     for (key, member) in new.iter() {
         if !old.contains_key(key.as_str()) {

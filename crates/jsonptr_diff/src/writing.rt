@@ -23,7 +23,7 @@ pub fn replace(
         (view value.now)) }
 {
     let path = to_pointer(alloc, at)?;
-    let value = value.clone()?;
+    let value = jsonptr_value::copy(alloc, value)?;
     patch.push(Operation::Replace { path, value })?;
     Ok(())
 }
@@ -60,7 +60,7 @@ pub fn add(
         (view value.now)) }
 {
     let path = to_pointer(alloc, at)?;
-    let value = value.clone()?;
+    let value = jsonptr_value::copy(alloc, value)?;
     patch.push(Operation::Add { path, value })?;
     Ok(())
 }

@@ -100,7 +100,7 @@ impl<'a> Parts<'a> {
         match self {
             Parts::Add { path, value } => {
                 let path = path.to_buf(alloc)?;
-                let value = value.clone()?;
+                let value = jsonptr_value::copy(alloc, value)?;
                 Ok(Operation::Add { path, value })
             }
             Parts::Remove { path } => {
@@ -109,7 +109,7 @@ impl<'a> Parts<'a> {
             }
             Parts::Replace { path, value } => {
                 let path = path.to_buf(alloc)?;
-                let value = value.clone()?;
+                let value = jsonptr_value::copy(alloc, value)?;
                 Ok(Operation::Replace { path, value })
             }
             Parts::Move { from, path } => {
@@ -124,7 +124,7 @@ impl<'a> Parts<'a> {
             }
             Parts::Test { path, value } => {
                 let path = path.to_buf(alloc)?;
-                let value = value.clone()?;
+                let value = jsonptr_value::copy(alloc, value)?;
                 Ok(Operation::Test { path, value })
             }
         }

@@ -89,6 +89,7 @@ fn with_value(
 ) -> Result<Value, AllocError>
     ensures { IfOk result (λ v. view v ≡ object_with_value op.now path.now (view value.now)) }
 {
+    let value = jsonptr_value::copy(alloc, value)?;
     json!(in alloc; {"op": op, "path": path.as_ptr().as_str(), "value": value})
 }
 
