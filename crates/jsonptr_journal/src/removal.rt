@@ -1,7 +1,7 @@
 //! Removals at a location of a document, and undoing them.
-ghost use Rattle.std.specs.Prelude.{◌≡◌, IfOk, OnErr, string_bytes};
+ghost use Rattle.std.specs.Prelude.{◌≡◌, None, IfOk, OnErr, MatchOption, string_bytes};
 ghost use Rattle.serde_json.specs.declared.value.Value.{Null};
-ghost use Rattle.jsonptr_tree.specs.Content.{Content};
+ghost use Rattle.jsonptr_tree.specs.Content.{Content, content_at};
 ghost use Rattle.jsonptr_journal.specs.Location.{path_of, contents_of};
 ghost use Rattle.jsonptr_journal.specs.Children.{members_of};
 ghost use Rattle.jsonptr_journal.specs.Writing.{At};
@@ -16,6 +16,7 @@ use crate::node_mut::NodeMut;
 use crate::object::{TakenMember, put_member_back, take_member};
 use serde_json::{Map, Value};
 use std::alloc::{AllocError, Global};
+use std::mem;
 
 /// What undoes a removal, apart from the value.
 #[derive(Debug, Drop)]
@@ -205,21 +206,21 @@ pub fn remove<D: NodeMut>(alloc: Global, doc: &mut D, location: Location) -> Val
     }
 }
 
-/// Takes the value of the node at the location, and leaves `null` there. The node is to be removed
-/// later, when nothing can fail any more.
+/// Takes the value of the node at the location, and leaves `null` there. Returns `None` if the
+/// location is not in the document, which is then unchanged.
 ///
+/// [`Removal::Blank`] undoes it. The node is to be removed later, when nothing can fail any more.
 /// Needs no allocation.
-pub fn blank<D: NodeMut>(doc: &mut D, location: Location) -> Taken
-    requires { IsThere (path_of location) (D.contents doc.old) }
-    ensures blanked { At (path_of location) (Replaces (contents_of result.value) (contents_of Null))
-        (D.contents doc.old) (D.contents doc.new) }
-    ensures undone { IsRemoval result.removal (contents_of result.value)
-        (D.contents doc.old) (D.contents doc.new) }
+pub fn blank<D: NodeMut>(doc: &mut D, location: &Location) -> Option<Value>
+    ensures { MatchOption result
+        ((content_at (path_of location.now) (D.contents doc.old) ≡ None)
+        × (D.contents doc.new ≡ D.contents doc.old))
+        (λ value. At (path_of location.now) (Replaces (contents_of value) (contents_of Null))
+        (D.contents doc.old) (D.contents doc.new)) }
 {
-    let value = overwrite(doc, &location, Value::Null);
-    Taken {
-        value,
-        removal: Removal::Blank { location },
+    match doc.node_mut(location) {
+        Ok(node) => Some(mem::replace(node, Value::Null)),
+        Err(_) => None,
     }
 }
 

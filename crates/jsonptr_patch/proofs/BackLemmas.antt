@@ -12,20 +12,22 @@ use Rattle.jsonptr_tree.proofs.ContentLemmas.{map_of-IsTree}
 use Rattle.jsonptr_tree.proofs.NodeLemmas.{Names-pop, Names_one_path}
 use Rattle.jsonptr_tree.proofs.RemovingLemmas.{Deletes_child}
 use Rattle.jsonptr_patch.specs.Apart.{Diverges, AllDiverge, pointers}
+use Rattle.jsonptr.specs.Delete.{NamesNothing}
 use Rattle.jsonptr_patch.specs.Inverse.{HasObject, TakesAddBack, IsReverse, TakesMoveBack, TakesBack}
 use Rattle.jsonptr_patch.specs.Operating.{IsProperFront, Takes, Applies, RestoresAt, RefusesAdd, RefusesMove, RefusesCopy}
 use Rattle.jsonptr_patch.specs.Patching.{Patches}
-use Rattle.jsonptr_patch.specs.PrivateInverse.{AppendsBack, TakesAllBackFrom}
-use Rattle.jsonptr_patch.specs.PrivateLater.{paths_of, removals, IsPending}
+use Rattle.jsonptr_patch.specs.PrivateInverse.{AppendsBack, TakesAllBackFrom, IsPlaceBack}
+use Rattle.jsonptr_patch.specs.PrivateLater.{paths_of, removals, IsPending, TakesPlace, Frees}
 use Rattle.jsonptr_patch.specs.declared.later.Later.{Later}
 use Rattle.jsonptr_patch.specs.declared.operation.Operation.{Operation}
 use Rattle.jsonptr_patch.specs.declared.operation.PatchError.{PatchError}
 use Rattle.jsonptr_patch.specs.declared.operation.Operation.TheVariants.{Add, Remove, Replace, Move, Copy, Test}
 use Rattle.jsonptr_patch.proofs.ApartLemmas.{after_applied}
-use Rattle.jsonptr_patch.proofs.InverseLemmas.{taken_back, all_back}
+use Rattle.jsonptr_patch.proofs.InverseLemmas.{gone_nothing, taken_back, all_back}
 use Rattle.jsonptr_patch.proofs.LaterLemmas.{first_in, second_in, removed_after, seen_later, diverges_later}
 use Rattle.jsonptr_patch.proofs.LevelLemmas.{local_take}
-use Rattle.jsonptr_patch.proofs.MemberLemmas.{same_next, diverges_turned, diverges_way}
+use Rattle.jsonptr_patch.proofs.MemberLemmas.{same_next, diverges_turned, diverges_after, diverges_way}
+use Rattle.jsonptr_patch.proofs.OneLemmas.{takes_tree}
 use Rattle.jsonptr_patch.proofs.RefusalLemmas.{IsSeen, cases_prefix, no_end, seen_refuses_add, seen_finds, seen_has_object, seen_is_element, seen_names_nothing, seen_after}
 use Rattle.jsonptr_patch.proofs.RestoringLemmas.{cases_token}
 use Rattle.jsonptr_patch.proofs.WaitingLemmas.{tree_later}
@@ -80,12 +82,10 @@ back_later d n (Copy from path) back ls h a b = (b.0, b.1, seen_later (λ n ts. 
 back_later d n (Test path value) back ls h a b = b
 
 -- one operation, and what takes it back
-pub step_done : (c d : Value) (o : Operation) (back os qs : List Operation) (ls ps : List Later) → AllDiverge (nodes (view c)) (pointers o) (paths_of ls) → TakesBack (nodes (view c)) o back → AppendsBack os back qs → ((n : NodeMap) → IsPending (nodes (view c)) ls n → (m : NodeMap) × Applies n o m × IsPending (nodes (view d)) ps m) → (n : NodeMap) → IsPending (nodes (view c)) ls n → (m : NodeMap) × Applies n o m × IsPending (nodes (view d)) ps m × TakesAllBackFrom m qs n os
-step_done c d o back os qs ls ps h b appended f n p =
-    let r = f n p in
+pub later_back : (c : Value) (n m : NodeMap) (o : Operation) (back os qs : List Operation) (ls : List Later) → AllDiverge (nodes (view c)) (pointers o) (paths_of ls) → TakesBack (nodes (view c)) o back → AppendsBack os back qs → IsPending (nodes (view c)) ls n → Applies n o m → TakesAllBackFrom m qs n os
+later_back c n m o back os qs ls h b appended p a =
     let tree : IsTree n = tree_later (nodes (view c)) n ls (map_of-IsTree (content (view c))) p.removed in
-    let back_n : TakesBack n o back = back_later (nodes (view c)) n o back ls h p.removed b in
-    (r.0, r.1, r.2, all_back n r.0 os back qs (taken_back n r.0 o back tree r.1 back_n) appended)
+    all_back n m os back qs (taken_back n m o back tree a (back_later (nodes (view c)) n o back ls h p.removed b)) appended
 
 -- a value can be removed
 
@@ -157,3 +157,30 @@ pub moved_back : {T E : Type 0} (n : NodeMap) (f p from path : List Text) (os qs
 moved_back n f p from path os qs r is_from is_path a =
     subst (λ (ts : List Text). IfOk r (λ _. (back : List Operation) × TakesBack n (Move from ts) back × AppendsBack os back qs)) is_path
     (subst (λ (ts : List Text). IfOk r (λ _. (back : List Operation) × TakesBack n (Move ts p) back × AppendsBack os back qs)) is_from a)
+
+-- an operation that adds at the location of a node that is removed later
+
+object_back : (k n v : NodeMap) (path tokens : List Text) → path ≡ tokens → IsTree k → Takes k tokens v n → HasObject k tokens → TakesAddBack n path (Remove path)
+object_back k n v path tokens is tree t h =
+    let r = gone_nothing k n v tokens tree t h in
+    inl (refl, subst (λ (ts : List Text). HasObject n ts) (sym is) r.0, subst (λ (ts : List Text). NamesNothing n ts) (sym is) r.1)
+
+place_back : (k n v m : NodeMap) (o : Operation) (tokens : List Text) (back : List Operation) → IsTree k → Takes k tokens v n → HasObject k tokens → TakesPlace k o tokens → IsPlaceBack o back → Applies n o m → TakesBack n o back
+place_back k n v m (Add path value) tokens back tree t h p is a = (Remove path, is, object_back k n v path tokens p tree t h)
+place_back k n v m (Remove path) tokens back tree t h p is a = absurd p
+place_back k n v m (Replace path value) tokens back tree t h p is a = absurd p
+place_back k n v m (Move from path) tokens back tree t h p is a =
+    let b : TakesAddBack n path (Remove path) = object_back k n v path tokens p.0 tree t h in
+    let away : Diverges k tokens from = diverges_turned k from tokens p.1 in
+    let after : Diverges n tokens from = diverges_after (λ n ts m. Takes n ts v m) (local_take v) k n tokens tokens from away away t in
+    let way : Diverges n from path = subst (λ (ts : List Text). Diverges n from ts) (sym p.0) (diverges_turned n tokens from after) in
+    subst (λ (l : List Operation). TakesBack n (Move from path) l) (sym is)
+    (way_taken_back n from path a.taken.found.path (Remove path) (Move path from ∷ []) way a.taken.found.named b (way_removed n from path path from refl way b))
+place_back k n v m (Copy from path) tokens back tree t h p is a = (Remove path, is, object_back k n v path tokens p.0 tree t h)
+place_back k n v m (Test path value) tokens back tree t h p is a = absurd p
+
+pub freed_back : (c : Value) (k n m : NodeMap) (o : Operation) (back os qs : List Operation) (ls : List Later) → IsPending (nodes (view c)) ls k → Frees k n o → IsPlaceBack o back → AppendsBack os back qs → Applies n o m → TakesAllBackFrom m qs n os
+freed_back c k n m o back os qs ls p f is appended a =
+    let tree : IsTree k = tree_later (nodes (view c)) k ls (map_of-IsTree (content (view c))) p.removed in
+    let tree_n : IsTree n = (takes_tree k f.tokens f.value n tree f.taken).1 in
+    all_back n m os back qs (taken_back n m o back tree_n a (place_back k n f.value m o f.tokens back tree f.taken f.object f.place is a)) appended

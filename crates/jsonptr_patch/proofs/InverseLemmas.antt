@@ -262,6 +262,30 @@ adds_where_gone k n v u m tokens tree t h a =
       made = subst (λ (l : Option Label). AddsUnder n h.path l h.last u m) (sym g.object) whole;
     })
 
+-- what is left without a member has its object, and no such member
+pub gone_nothing : (k n v : NodeMap) (tokens : List Text) → IsTree k → Takes k tokens v n → HasObject k tokens → HasObject n tokens × NamesNothing n tokens
+gone_nothing k n v tokens tree t h =
+    let q : Path = h.path ++ key h.last ∷ [] in
+    let level : NodeMap = without_key h.last (sub k h.path) in
+    let at : t.found.path ≡ q = named_child k h.front h.last h.path t.found.path h.named h.object (subst (λ (ts : List Text). Names k ts t.found.path) h.split t.found.named) in
+    let named : Names k tokens q = subst (λ (w : Path). Names k tokens w) at t.found.named in
+    let gone : n ≡ put k h.path level = Deletes_one k (nodes null) tokens n (put k h.path level) tree t.left (Deletes_child k (nodes null) tokens h.path (key h.last) named) in
+    let root : IsSome (level []) = subst (λ (l : Option Label). IsSome l) (sym (sub-root k h.path ∙ h.object)) refl in
+    let g : HasObject n tokens = record {
+      front = h.front;
+      last = h.last;
+      path = h.path;
+      split = h.split;
+      named = subst (λ (z : NodeMap). Names z h.front h.path) (sym gone) (Names-put k h.front h.path level h.named root);
+      object = ap (λ (z : NodeMap). z h.path) gone ∙ put_at k h.path level ∙ sub-root k h.path ∙ h.object;
+    } in
+    let none : n q ≡ None = sym (sub-root n q) ∙ ap (λ (z : NodeMap). z []) (sym (sub-sub n h.path (key h.last ∷ [])) ∙ ap (λ (z : NodeMap). sub z (key h.last ∷ [])) (ap (λ (z : NodeMap). sub z h.path) gone ∙ sub-put k h.path level)) ∙ without_key-same h.last (sub k h.path) [] in (
+      g,
+      λ w there.
+          let here : w ≡ q = named_child n h.front h.last h.path w g.named g.object (subst (λ (ts : List Text). Names n ts w) h.split there) in
+          no_none (n q) none (Names-here n tokens q (subst (λ (u : Path). Names n tokens u) here there)),
+    )
+
 -- a move back
 
 -- the value is moved back, and the member that it replaced is added again

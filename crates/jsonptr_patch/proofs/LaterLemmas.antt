@@ -1,5 +1,5 @@
 -- Operations on a document with nodes that are removed later.
-use Rattle.std.proofs.Common.{◌≡◌, ℕ, zero, suc, ◌<◌, ◌≤◌, ◌+◌, length, slice_index_or, false, ◌⊎◌, inl, inr, ⊎_elim, Result, Ok, Err, IfOk, OnErr, Contains, List, [], ◌∷◌, ◌++◌, Some, IsSome, refl, sym, ap, ◌∙◌, subst, arith}
+use Rattle.std.proofs.Common.{◌≡◌, ℕ, zero, suc, ◌<◌, ◌≤◌, ◌+◌, length, slice_index_or, false, ◌⊎◌, inl, inr, ⊎_elim, Result, Ok, Err, IfOk, OnErr, Contains, List, [], ◌∷◌, ◌++◌, Option, Some, None, IsSome, MatchOption, option_map, refl, sym, ap, ◌∙◌, subst, arith}
 use mathlib.Core.Path.{fun_ext}
 use Rattle.std.proofs.lemmas.Bool.{cases_lt}
 use Rattle.std.proofs.lemmas.List.Elements.{Contains-append_left, Contains-append_right}
@@ -7,20 +7,20 @@ use Rattle.serde_json.specs.Data.{Data, null}
 use Rattle.serde_json.specs.View.{view}
 use Rattle.serde_json.specs.declared.value.Value.{Value, Null}
 use Rattle.jsonptr.specs.Fault.{IfRefused}
-use Rattle.jsonptr.specs.Text.{Text}
+use Rattle.jsonptr.specs.Text.{Text, HasNoTilde, text}
 use Rattle.jsonptr.specs.Types.Fault.{Fault}
 use Rattle.jsonptr.specs.Resolve.{PutsAt}
-use Rattle.jsonptr_tree.specs.Node.{Step, key, place, Path, NodeMap, sub, Names, IsTree}
+use Rattle.jsonptr_tree.specs.Node.{Step, key, place, Path, Label, an_object, NodeMap, sub, NamesStep, Names, IsTree}
 use Rattle.jsonptr_tree.specs.Following.{Finds}
 use Rattle.jsonptr_tree.specs.Json.{nodes, content, FindsValue}
-use Rattle.jsonptr_tree.specs.Content.{Content, map_of, SortedContent}
+use Rattle.jsonptr_tree.specs.Content.{Content, label_of, content_at, map_of, SortedContent}
 use Rattle.jsonptr_tree.specs.Put.{same_step, put}
 use Rattle.jsonptr_tree.specs.Removing.{place_before, without_key, without_place, without_step, Deletes}
 use Rattle.jsonptr_tree.proofs.ContentLemmas.{map_of-IsTree}
 use Rattle.jsonptr_tree.proofs.FollowingLemmas.{Finds_one}
 use Rattle.jsonptr_tree.proofs.JsonLemmas.{FindsValue-Finds, null_is}
 use Rattle.jsonptr_tree.proofs.ListedLemmas.{Contains-cons}
-use Rattle.jsonptr_tree.proofs.NodeLemmas.{Names-pop, Names_one_path}
+use Rattle.jsonptr_tree.proofs.NodeLemmas.{Names-push, Names-pop, Names_one_path}
 use Rattle.jsonptr_tree.proofs.PutLemmas.{Names-put, put_none, put-put, put_below, sub-put, rest_after-other, cases_same}
 use Rattle.jsonptr_tree.proofs.RemovingLemmas.{Deletes_child, Deletes_one, without_key-same, without_key-other}
 use Rattle.jsonptr_journal.specs.Location.{path_of, contents_of}
@@ -35,7 +35,7 @@ use Rattle.jsonptr_patch.specs.Operating.{Takes, Moves, Applies, RefusesTarget, 
 use Rattle.jsonptr_patch.specs.Patching.{Patches, RefusesPatch}
 use Rattle.jsonptr_patch.specs.PrivateRecording.{Records}
 use Rattle.jsonptr_patch.specs.Memory.{TestNeedsNoMemory}
-use Rattle.jsonptr_patch.specs.PrivateLater.{paths_of, removals, AreScattered, IsPending, IsObjectAt, Forks, CanWait}
+use Rattle.jsonptr_patch.specs.PrivateLater.{paths_of, removals, IsKept, IsReached, AreScattered, IsPending, IsObjectAt, IsMemberAt, Forks, CanWait}
 use Rattle.jsonptr_patch.specs.declared.later.Later.{Later}
 use Rattle.jsonptr_patch.specs.declared.operation.Operation.{Operation}
 use Rattle.jsonptr_patch.specs.declared.operation.Operation.TheVariants.{Add, Remove, Replace, Move, Copy, Test}
@@ -109,6 +109,10 @@ diverges_later d n zs ys xss (l ∷ ls) at h a r =
     let away : Diverges d l.path ys = diverges_turned d ys l.path (first_diverges d xss l.path (paths_of ls) h ys at) in
     diverges_later r.0 n zs ys xss ls at (after_removal d r.0 l.path xss (paths_of ls) h r.1) (diverges_after (λ n tokens m. Takes n tokens r.1.0 m) (local_take r.1.0) d r.0 l.path zs ys away a r.1.1) r.2
 
+seen_kept : (kept : Option Location) → IsSeen (IsKept kept)
+seen_kept None n k front u x more r h = (h.0, h.1, seen_names h.1 n k front u x more r h.2)
+seen_kept (Some here) n k front u x more r h = seen_names (path_of here) n k front u x more r h
+
 -- the nodes are still apart from one another, and where they were
 pub scattered_after : (d e : NodeMap) (o : Operation) (xss : List (List Text)) (ls : List Later) → AmongAll xss o → AllDiverge d xss (paths_of ls) → Applies d o e → AreScattered d ls → AreScattered e ls
 scattered_after d e o xss [] among h a s = tt
@@ -119,7 +123,7 @@ scattered_after d e o xss (l ∷ ls) among h a s =
     (λ (k : Contains (l.path ∷ []) xs). s.1 xs ys k j)
     (in_parts xss (l.path ∷ []) xs i) in
     let after : AllDiverge e more (paths_of ls) = after_applied d e o more (paths_of ls) (λ xs i. Contains-append_left xss (l.path ∷ []) xs (among xs i)) both a in (
-      seen_applied (λ n tokens. Names n tokens (path_of l.location)) (seen_names (path_of l.location)) d e o (l.path ∷ paths_of ls) xss l.path (first_in l.path (paths_of ls)) among (all_turned d xss (l.path ∷ paths_of ls) h) a s.0,
+      seen_applied (IsKept l.location) (seen_kept l.location) d e o (l.path ∷ paths_of ls) xss l.path (first_in l.path (paths_of ls)) among (all_turned d xss (l.path ∷ paths_of ls) h) a s.0,
       λ xs ys i j. after xs ys (Contains-append_right xss (l.path ∷ []) xs i) j,
       scattered_after d e o xss ls among (rest_diverges d xss l.path (paths_of ls) h) a s.2,
     )
@@ -145,7 +149,7 @@ paths_push (k ∷ ls) l = ap (λ (ps : List (List Text)). k.path ∷ ps) (paths_
 none_in : (x : List Text) → Contains [] x → ⊥
 none_in x h = omega (arith, h.1)
 
-scattered_push : (d : NodeMap) (ls : List Later) (l : Later) → AreScattered d ls → Names d l.path (path_of l.location) → AllDiverge d (l.path ∷ []) (paths_of ls) → AreScattered d (ls ++ l ∷ [])
+scattered_push : (d : NodeMap) (ls : List Later) (l : Later) → AreScattered d ls → IsReached d l → AllDiverge d (l.path ∷ []) (paths_of ls) → AreScattered d (ls ++ l ∷ [])
 scattered_push d [] l s named h = (named, λ xs ys i j. absurd (none_in ys j), tt)
 scattered_push d (k ∷ ls) l s named h = (
   s.0,
@@ -156,7 +160,7 @@ scattered_push d (k ∷ ls) l s named h = (
   scattered_push d ls l s.2 named (rest_diverges d (l.path ∷ []) k.path (paths_of ls) h),
 )
 
-pending_push : (d m k v : NodeMap) (ls : List Later) (l : Later) → Patches d (removals ls) m → Takes m l.path v k → AreScattered d ls → Names d l.path (path_of l.location) → AllDiverge d (l.path ∷ []) (paths_of ls) → IsPending d (ls ++ l ∷ []) k
+pending_push : (d m k v : NodeMap) (ls : List Later) (l : Later) → Patches d (removals ls) m → Takes m l.path v k → AreScattered d ls → IsReached d l → AllDiverge d (l.path ∷ []) (paths_of ls) → IsPending d (ls ++ l ∷ []) k
 pending_push d m k v ls l r taken s named h = record {
   removed = subst (λ (os : List Operation). Patches d os k) (sym (removals_push ls l)) (patches_push d m k (removals ls) (Remove l.path) r (v, taken));
   scattered = scattered_push d ls l s named h;
@@ -235,14 +239,59 @@ null_removed n m c front x some puts =
     )
 
 -- its pointer names it still
-named_put : (d e : NodeMap) (l : Later) (v : NodeMap) → Names d l.path (path_of l.location) → PutsAt d l.path v e → IsSome (v []) → Names e l.path (path_of l.location)
-named_put d e l v named puts some =
-    let here : puts.path ≡ path_of l.location = Names_one_path d l.path puts.path (path_of l.location) puts.named named in
-    subst (λ (z : NodeMap). Names z l.path (path_of l.location)) (sym (puts.made ∙ ap (λ (w : Path). put d w v) here)) (Names-put d l.path (path_of l.location) v named some)
+named_put : (d e : NodeMap) (tokens : List Text) (w : Path) (v : NodeMap) → Names d tokens w → PutsAt d tokens v e → IsSome (v []) → Names e tokens w
+named_put d e tokens w v named puts some =
+    let here : puts.path ≡ w = Names_one_path d tokens puts.path w puts.named named in
+    subst (λ (z : NodeMap). Names z tokens w) (sym (puts.made ∙ ap (λ (p : Path). put d p v) here)) (Names-put d tokens w v named some)
+
+kept_put : (d e : NodeMap) (kept : Option Location) (tokens : List Text) (v : NodeMap) → IsKept kept d tokens → PutsAt d tokens v e → IsSome (v []) → IsKept kept e tokens
+kept_put d e None tokens v h puts some = (h.0, h.1, named_put d e tokens h.1 v h.2 puts some)
+kept_put d e (Some here) tokens v h puts some = named_put d e tokens (path_of here) v h puts some
+
+-- the path of a member
+
+object_step : (o : Option Label) (x : Text) (s : Step) → o ≡ Some an_object → NamesStep o x s → s ≡ key x
+object_step o x s object h = go s (subst (λ (l : Option Label). NamesStep l x s) object h)
+  where
+    go : (t : Step) → NamesStep (Some an_object) x t → t ≡ key x
+    go (key k) e = ap key e
+    go (place i) e = absurd e
+
+-- the path that its tokens name
+member_path : (n : NodeMap) (tokens : List Text) (u w : Path) → Names n tokens u → IsMemberAt n tokens w → Names n tokens w
+member_path n tokens u w named m =
+    let r = Names-pop n m.front m.last u (subst (λ (ts : List Text). Names n ts u) m.split named) in
+    let up : r.0 ≡ m.path = Names_one_path n m.front r.0 m.path r.3 m.named in
+    let object : n r.0 ≡ Some an_object = ap n up ∙ m.object in
+    let step : r.1 ≡ key m.last = object_step (n r.0) m.last r.1 object r.4 in
+    let same : u ≡ w = r.2 ∙ ap (λ (p : Path). p ++ r.1 ∷ []) up ∙ ap (λ (s : Step). m.path ++ s ∷ []) step ∙ sym m.below in
+    subst (λ (p : Path). Names n tokens p) same named
+
+-- they name it if the object has the member
+pub member_named : (c v : Content) (tokens : List Text) (w : Path) → IsMemberAt (map_of c) tokens w → content_at w c ≡ Some v → Names (map_of c) tokens w
+member_named c v tokens w m there =
+    let n : NodeMap = map_of c in
+    let last : Path = m.path ++ key m.last ∷ [] in
+    let found : n last ≡ Some (label_of v) = ap (option_map label_of) (ap (λ (p : Path). content_at p c) (sym m.below) ∙ there) in
+    let here : Names n (m.front ++ m.last ∷ []) last = Names-push n m.front m.last m.path (key m.last) m.named
+    (subst (λ (o : Option Label). NamesStep o m.last (key m.last)) (sym m.object) refl)
+    (subst (λ (o : Option Label). IsSome o) (sym found) refl) in
+    subst (λ (p : Path). Names n tokens p) (sym m.below) (subst (λ (ts : List Text). Names n ts last) (sym m.split) here)
+
+pub kept_names : (kept : Option Location) (n : NodeMap) (tokens : List Text) → IsKept kept n tokens → (w : Path) × Names n tokens w
+kept_names None n tokens h = (h.1, h.2)
+kept_names (Some here) n tokens h = (path_of here, h)
+
+pub member_kept : (n : NodeMap) (tokens : List Text) (w : Path) (kept : Option Location) → Names n tokens w → MatchOption kept (HasNoTilde (text tokens)) (λ here. IsMemberAt n tokens (path_of here)) → IsKept kept n tokens
+member_kept n tokens w None named h = (h, w, named)
+member_kept n tokens w (Some here) named h = member_path n tokens w (path_of here) named h
+
+pub none_diverges : (d : NodeMap) (xss : List (List Text)) (ls : List Later) → ls ≡ [] → AllDiverge d xss (paths_of ls)
+none_diverges d xss ls is = subst (λ (ks : List Later). AllDiverge d xss (paths_of ks)) (sym is) (λ xs ys i j. absurd (none_in ys j))
 
 -- a removal that is made later
 
-pub pending_remove : (d e n : NodeMap) (front : List Text) (x : Text) (ls : List Later) (l : Later) → l.path ≡ front ++ x ∷ [] → Names d l.path (path_of l.location) → AllDiverge d (l.path ∷ []) (paths_of ls) → PutsAt d l.path (nodes (view Null)) e → IsPending d ls n → (m v : NodeMap) × Takes n l.path v m × IsPending e (ls ++ l ∷ []) m
+pub pending_remove : (d e n : NodeMap) (front : List Text) (x : Text) (ls : List Later) (l : Later) → l.path ≡ front ++ x ∷ [] → IsReached d l → AllDiverge d (l.path ∷ []) (paths_of ls) → PutsAt d l.path (nodes (view Null)) e → IsPending d ls n → (m v : NodeMap) × Takes n l.path v m × IsPending e (ls ++ l ∷ []) m
 pending_remove d e n front x ls l is named h puts p =
     let o : Operation = Replace l.path Null in
     let xss : List (List Text) = l.path ∷ [] in
@@ -252,7 +301,7 @@ pending_remove d e n front x ls l is named h puts p =
       gone.1,
       gone.0,
       subst (λ (ts : List Text). Takes n ts gone.0 gone.1) (sym is) gone.2,
-      pending_push e r.0 gone.1 (nodes (view Null)) ls l r.2 taken (scattered_after d e o xss ls (λ xs i. i) h puts p.scattered) (named_put d e l (nodes (view Null)) named puts (value_root Null)) (after_applied d e o xss (paths_of ls) (λ xs i. i) h puts),
+      pending_push e r.0 gone.1 (nodes (view Null)) ls l r.2 taken (scattered_after d e o xss ls (λ xs i. i) h puts p.scattered) (kept_put d e l.location l.path (nodes (view Null)) named puts (value_root Null)) (after_applied d e o xss (paths_of ls) (λ xs i. i) h puts),
     )
 
 -- a move whose removal is made later: the source is null now, in what is left too
@@ -285,7 +334,7 @@ null_at d e n from path front x ls is h apart puts p =
       after = after_applied d e o xss (paths_of ls) among h puts;
     }
 
-pub pending_move : (d e f n : NodeMap) (value : Value) (path front : List Text) (x : Text) (ls : List Later) (l : Later) → l.path ≡ front ++ x ∷ [] → Names d l.path (path_of l.location) → AllDiverge d (l.path ∷ path ∷ []) (paths_of ls) → Diverges d l.path path → Finds d l.path (nodes (view value)) → PutsAt d l.path (nodes (view Null)) e → Adds e path (nodes (view value)) f → IsPending d ls n → (m : NodeMap) × Moves n l.path path m × IsPending f (ls ++ l ∷ []) m
+pub pending_move : (d e f n : NodeMap) (value : Value) (path front : List Text) (x : Text) (ls : List Later) (l : Later) → l.path ≡ front ++ x ∷ [] → IsReached d l → AllDiverge d (l.path ∷ path ∷ []) (paths_of ls) → Diverges d l.path path → Finds d l.path (nodes (view value)) → PutsAt d l.path (nodes (view Null)) e → Adds e path (nodes (view value)) f → IsPending d ls n → (m : NodeMap) × Moves n l.path path m × IsPending f (ls ++ l ∷ []) m
 pending_move d e f n value path front x ls l is named h apart found puts added p =
     let s = null_at d e n l.path path front x ls is h apart puts p in
     let xss : List (List Text) = l.path ∷ path ∷ [] in
@@ -296,9 +345,9 @@ pending_move d e f n value path front x ls l is named h apart found puts added p
     let both = local_diamond (λ n tokens m. Takes n tokens (nodes (view Null)) m) (λ n tokens m. Adds n tokens (nodes (view value)) m) (local_take (nodes (view Null))) (local_add (nodes (view value))) s.next s.left r.0 l.path path (diverges_turned s.next path l.path s.diverge) s.blank r.1 in
     let found_n : Finds n l.path (nodes (view value)) = seen_later (λ n tokens. Finds n tokens (nodes (view value))) (seen_finds (nodes (view value))) d n l.path xss ls (first_in l.path (path ∷ [])) h found p.removed in
     let value_is : s.value ≡ nodes (view value) = Finds_one n l.path s.value (nodes (view value)) s.taken.found found_n in
-    let named_e : Names e l.path (path_of l.location) = named_put d e l (nodes (view Null)) named puts (value_root Null) in
+    let named_e : IsReached e l = kept_put d e l.location l.path (nodes (view Null)) named puts (value_root Null) in
     let apart_e : Diverges e l.path path = diverges_after (λ n tokens m. PutsAt n tokens (nodes (view Null)) m) (local_put (nodes (view Null))) d e l.path l.path path apart apart puts in
-    let named_f : Names f l.path (path_of l.location) = seen_after (λ n tokens m. Adds n tokens (nodes (view value)) m) (local_add (nodes (view value))) (λ n tokens. Names n tokens (path_of l.location)) (seen_names (path_of l.location)) e f l.path path apart_e added named_e in
+    let named_f : IsReached f l = seen_after (λ n tokens m. Adds n tokens (nodes (view value)) m) (local_add (nodes (view value))) (IsKept l.location) (seen_kept l.location) e f l.path path apart_e added named_e in
     let after : AllDiverge f xss (paths_of ls) = after_applied e f o xss (paths_of ls) among s.after added in (
       both.0,
       record {
@@ -338,40 +387,59 @@ blank_sorted w v c d tokens a named s = (
   sorted_with_value w (contents_of Null) (contents_of c) (contents_of d) (record { old = a.old; new = a.new; there = a.there; made = a.made; related = a.related.1 }) null_sorted s,
 )
 
-pub waits_removed : (c d : Value) (tokens : List Text) (here : Location) (ls ps : List Later) (l : Later) → l.path ≡ tokens → Names (nodes (view c)) tokens (path_of here) → Names (nodes (view c)) tokens (path_of l.location) → AllDiverge (nodes (view c)) (tokens ∷ []) (paths_of ls) → (front : List Text) × (x : Text) × (tokens ≡ front ++ x ∷ []) → At (path_of here) (Writes (contents_of Null)) (contents_of c) (contents_of d) → ps ≡ ls ++ l ∷ [] → (n : NodeMap) → IsPending (nodes (view c)) ls n → (m v : NodeMap) × Takes n tokens v m × IsPending (nodes (view d)) ps m
-waits_removed c d tokens here ls ps l is named there h below a more n p =
-    let puts : PutsAt (nodes (view c)) tokens (nodes (view Null)) (nodes (view d)) = puts_value (path_of here) (contents_of Null) (contents_of c) (contents_of d) tokens a named in
-    let r = subst (λ (ts : List Text). ts ≡ below.0 ++ below.1 ∷ [] → Names (nodes (view c)) ts (path_of l.location) → AllDiverge (nodes (view c)) (ts ∷ []) (paths_of ls) → PutsAt (nodes (view c)) ts (nodes (view Null)) (nodes (view d)) → (m v : NodeMap) × Takes n ts v m × IsPending (nodes (view d)) (ls ++ l ∷ []) m) is
-    (λ e k g q. pending_remove (nodes (view c)) (nodes (view d)) n below.0 below.1 ls l e k g q p)
-    below.2 there h puts in
+pub waits_removed : (c d value : Value) (here : Location) (ls ps : List Later) (l : Later) → IsMemberAt (nodes (view c)) l.path (path_of here) → MatchOption l.location (HasNoTilde (text l.path)) (λ there. IsMemberAt (nodes (view c)) l.path (path_of there)) → AllDiverge (nodes (view c)) (l.path ∷ []) (paths_of ls) → At (path_of here) (Replaces (contents_of value) (contents_of Null)) (contents_of c) (contents_of d) → ps ≡ ls ++ l ∷ [] → (n : NodeMap) → IsPending (nodes (view c)) ls n → (m v : NodeMap) × Takes n l.path v m × IsPending (nodes (view d)) ps m
+waits_removed c d value here ls ps l m kept h a more n p =
+    let named : Names (nodes (view c)) l.path (path_of here) = member_named (contents_of c) a.old l.path (path_of here) m a.there in
+    let puts : PutsAt (nodes (view c)) l.path (nodes (view Null)) (nodes (view d)) = blank_puts (path_of here) (contents_of value) c d l.path a named in
+    let r = pending_remove (nodes (view c)) (nodes (view d)) n m.front m.last ls l m.split (member_kept (nodes (view c)) l.path (path_of here) l.location named kept) h puts p in
     (r.0, r.1, r.2, subst (λ (qs : List Later). IsPending (nodes (view d)) qs r.0) (sym more) r.3)
 
-pub waits_moved : (c d f value : Value) (from path : List Text) (here : Location) (ls ps : List Later) (l : Later) → l.path ≡ from → Names (nodes (view c)) from (path_of here) → Names (nodes (view c)) from (path_of l.location) → AllDiverge (nodes (view c)) (from ∷ path ∷ []) (paths_of ls) → Diverges (nodes (view c)) from path → (front : List Text) × (x : Text) × (from ≡ front ++ x ∷ []) → At (path_of here) (Replaces (contents_of value) (contents_of Null)) (contents_of c) (contents_of d) → Adds (nodes (view d)) path (nodes (view value)) (nodes (view f)) → ps ≡ ls ++ l ∷ [] → (n : NodeMap) → IsPending (nodes (view c)) ls n → (m : NodeMap) × Moves n from path m × IsPending (nodes (view f)) ps m
-waits_moved c d f value from path here ls ps l is named there h apart below a added more n p =
-    let puts : PutsAt (nodes (view c)) from (nodes (view Null)) (nodes (view d)) = blank_puts (path_of here) (contents_of value) c d from a named in
-    let found : Finds (nodes (view c)) from (nodes (view value)) = FindsValue-Finds (view c) from (view value) (blank_finds (path_of here) value c d from a named) in
-    let r = subst (λ (ts : List Text). ts ≡ below.0 ++ below.1 ∷ [] → Names (nodes (view c)) ts (path_of l.location) → AllDiverge (nodes (view c)) (ts ∷ path ∷ []) (paths_of ls) → Diverges (nodes (view c)) ts path → Finds (nodes (view c)) ts (nodes (view value)) → PutsAt (nodes (view c)) ts (nodes (view Null)) (nodes (view d)) → (m : NodeMap) × Moves n ts path m × IsPending (nodes (view f)) (ls ++ l ∷ []) m) is
-    (λ e k g t s q. pending_move (nodes (view c)) (nodes (view d)) (nodes (view f)) n value path below.0 below.1 ls l e k g t s q added p)
-    below.2 there h apart found puts in
+pub waits_moved : (c d f value : Value) (path : List Text) (here : Location) (ls ps : List Later) (l : Later) → IsMemberAt (nodes (view c)) l.path (path_of here) → MatchOption l.location (HasNoTilde (text l.path)) (λ there. IsMemberAt (nodes (view c)) l.path (path_of there)) → AllDiverge (nodes (view c)) (l.path ∷ path ∷ []) (paths_of ls) → Diverges (nodes (view c)) l.path path → At (path_of here) (Replaces (contents_of value) (contents_of Null)) (contents_of c) (contents_of d) → Adds (nodes (view d)) path (nodes (view value)) (nodes (view f)) → ps ≡ ls ++ l ∷ [] → (n : NodeMap) → IsPending (nodes (view c)) ls n → (m : NodeMap) × Moves n l.path path m × IsPending (nodes (view f)) ps m
+waits_moved c d f value path here ls ps l m kept h apart a added more n p =
+    let named : Names (nodes (view c)) l.path (path_of here) = member_named (contents_of c) a.old l.path (path_of here) m a.there in
+    let puts : PutsAt (nodes (view c)) l.path (nodes (view Null)) (nodes (view d)) = blank_puts (path_of here) (contents_of value) c d l.path a named in
+    let found : Finds (nodes (view c)) l.path (nodes (view value)) = FindsValue-Finds (view c) l.path (view value) (blank_finds (path_of here) value c d l.path a named) in
+    let r = pending_move (nodes (view c)) (nodes (view d)) (nodes (view f)) n value path m.front m.last ls l m.split (member_kept (nodes (view c)) l.path (path_of here) l.location named kept) h apart found puts added p in
     (r.0, r.1, subst (λ (qs : List Later). IsPending (nodes (view f)) qs r.0) (sym more) r.2)
 
-pub waits_move_refused : (c d value : Value) (i : ℕ) (from path : List Text) (here : Location) (ls : List Later) (e : PatchError) → Names (nodes (view c)) from (path_of here) → AllDiverge (nodes (view c)) (from ∷ path ∷ []) (paths_of ls) → Diverges (nodes (view c)) from path → (front : List Text) × (x : Text) × (from ≡ front ++ x ∷ []) → At (path_of here) (Replaces (contents_of value) (contents_of Null)) (contents_of c) (contents_of d) → RefusesAdd (nodes (view d)) i path e → (n : NodeMap) → IsPending (nodes (view c)) ls n → RefusesMove n i from path e
-waits_move_refused c d value i from path here ls e named h apart below a refused n p = pending_move_refused (nodes (view c)) (nodes (view d)) n i from path below.0 below.1 ls e below.2 h apart (blank_puts (path_of here) (contents_of value) c d from a named) p refused
+pub waits_move_refused : (c d value : Value) (i : ℕ) (from path : List Text) (here : Location) (ls : List Later) (e : PatchError) → IsMemberAt (nodes (view c)) from (path_of here) → AllDiverge (nodes (view c)) (from ∷ path ∷ []) (paths_of ls) → Diverges (nodes (view c)) from path → At (path_of here) (Replaces (contents_of value) (contents_of Null)) (contents_of c) (contents_of d) → RefusesAdd (nodes (view d)) i path e → (n : NodeMap) → IsPending (nodes (view c)) ls n → RefusesMove n i from path e
+waits_move_refused c d value i from path here ls e m h apart a refused n p =
+    let named : Names (nodes (view c)) from (path_of here) = member_named (contents_of c) a.old from (path_of here) m a.there in
+    pending_move_refused (nodes (view c)) (nodes (view d)) n i from path m.front m.last ls e m.split h apart (blank_puts (path_of here) (contents_of value) c d from a named) p refused
 
-pub waits_source_refused : (c : Value) (i : ℕ) (from path : List Text) (ls : List Later) (e : PatchError) → AllDiverge (nodes (view c)) (from ∷ path ∷ []) (paths_of ls) → Diverges (nodes (view c)) from path → RefusesTarget (nodes (view c)) i from e → (n : NodeMap) → IsPending (nodes (view c)) ls n → RefusesMove n i from path e
-waits_source_refused c i from path ls e h apart refused n p = pending_refused (nodes (view c)) n i (Move from path) e ls h p (inr (diverges_way (nodes (view c)) from path apart, inl refused))
+-- a move of which the removal is made at once: after the addition, the node is still there
+
+pub alone_pending : (c d f value : Value) (from path : List Text) (here : Location) → IsMemberAt (nodes (view c)) from (path_of here) → Diverges (nodes (view c)) from path → At (path_of here) (Replaces (contents_of value) (contents_of Null)) (contents_of c) (contents_of d) → Adds (nodes (view d)) path (nodes (view value)) (nodes (view f)) → (m : NodeMap) × Moves (nodes (view c)) from path m × IsPending (nodes (view f)) (record { path = from; location = Some here } ∷ []) m
+alone_pending c d f value from path here m apart a added =
+    let l : Later = record { path = from; location = Some here } in
+    waits_moved c d f value path here [] (l ∷ []) l m m (none_diverges (nodes (view c)) (from ∷ path ∷ []) [] refl) apart a added refl (nodes (view c)) (record { removed = refl; scattered = tt })
+
+pub alone_there : (c d f value : Value) (from path : List Text) (here : Location) → IsMemberAt (nodes (view c)) from (path_of here) → Diverges (nodes (view c)) from path → At (path_of here) (Replaces (contents_of value) (contents_of Null)) (contents_of c) (contents_of d) → Adds (nodes (view d)) path (nodes (view value)) (nodes (view f)) → IsThere (path_of here) (contents_of f)
+alone_there c d f value from path here m apart a added =
+    let r = alone_pending c d f value from path here m apart a added in
+    named_there (contents_of f) from (path_of here) r.2.scattered.0
+
+pub alone_moved : (c d f g value : Value) (v : Content) (from path : List Text) (here : Location) → IsMemberAt (nodes (view c)) from (path_of here) → Diverges (nodes (view c)) from path → At (path_of here) (Replaces (contents_of value) (contents_of Null)) (contents_of c) (contents_of d) → Adds (nodes (view d)) path (nodes (view value)) (nodes (view f)) → TakesAt (path_of here) v (contents_of f) (contents_of g) → Moves (nodes (view c)) from path (nodes (view g))
+alone_moved c d f g value v from path here m apart a added taken =
+    let l : Later = record { path = from; location = Some here } in
+    let r = alone_pending c d f value from path here m apart a added in
+    let last : IsPending (nodes (view g)) [] r.0 = pending_pop (nodes (view f)) (nodes (view g)) r.0 (map_of v) l [] (map_of-IsTree (contents_of f)) r.2 (takes_node (path_of here) v (contents_of f) (contents_of g) from taken r.2.scattered.0) in
+    subst (λ (k : NodeMap). Moves (nodes (view c)) from path k) last.removed r.1
+
+pub alone_refused : (c d value : Value) (i : ℕ) (from path : List Text) (here : Location) (e : PatchError) → IsMemberAt (nodes (view c)) from (path_of here) → Diverges (nodes (view c)) from path → At (path_of here) (Replaces (contents_of value) (contents_of Null)) (contents_of c) (contents_of d) → RefusesAdd (nodes (view d)) i path e → RefusesMove (nodes (view c)) i from path e
+alone_refused c d value i from path here e m apart a refused = waits_move_refused c d value i from path here [] e m (none_diverges (nodes (view c)) (from ∷ path ∷ []) [] refl) apart a refused (nodes (view c)) (record { removed = refl; scattered = tt })
 
 -- one node after another
 
-pub next_there : (d : Value) (ls rest : List Later) (l : Later) (n : NodeMap) → ls ≡ l ∷ rest → IsPending (nodes (view d)) ls n → IsThere (path_of l.location) (contents_of d)
-next_there d ls rest l n is p =
+pub next_reached : (d : Value) (ls rest : List Later) (l : Later) (n : NodeMap) → ls ≡ l ∷ rest → IsPending (nodes (view d)) ls n → IsReached (nodes (view d)) l
+next_reached d ls rest l n is p =
     let q : IsPending (nodes (view d)) (l ∷ rest) n = subst (λ (ks : List Later). IsPending (nodes (view d)) ks n) is p in
-    named_there (contents_of d) l.path (path_of l.location) q.scattered.0
+    q.scattered.0
 
-pub next_removed : (d e : Value) (v : Content) (ls rest : List Later) (l : Later) (n : NodeMap) → ls ≡ l ∷ rest → TakesAt (path_of l.location) v (contents_of d) (contents_of e) → IsPending (nodes (view d)) ls n → IsPending (nodes (view e)) rest n
+pub next_removed : (d e : Value) (v : NodeMap) (ls rest : List Later) (l : Later) (n : NodeMap) → ls ≡ l ∷ rest → Takes (nodes (view d)) l.path v (nodes (view e)) → IsPending (nodes (view d)) ls n → IsPending (nodes (view e)) rest n
 next_removed d e v ls rest l n is taken p =
     let q : IsPending (nodes (view d)) (l ∷ rest) n = subst (λ (ks : List Later). IsPending (nodes (view d)) ks n) is p in
-    pending_pop (nodes (view d)) (nodes (view e)) n (map_of v) l rest (map_of-IsTree (contents_of d)) q (takes_node (path_of l.location) v (contents_of d) (contents_of e) l.path taken q.scattered.0)
+    pending_pop (nodes (view d)) (nodes (view e)) n v l rest (map_of-IsTree (contents_of d)) q taken
 
 -- no node
 pub none_left : (d n : NodeMap) (ls : List Later) → ls ≡ [] → IsPending d ls n → n ≡ d
@@ -381,9 +449,6 @@ none_left d n ls is p =
 
 pub none_pending : (d n : NodeMap) (ls : List Later) → ls ≡ [] → n ≡ d → IsPending d ls n
 none_pending d n ls is same = subst (λ (ks : List Later). IsPending d ks n) (sym is) (record { removed = same; scattered = tt })
-
-pub none_diverges : (d : NodeMap) (xss : List (List Text)) (ls : List Later) → ls ≡ [] → AllDiverge d xss (paths_of ls)
-none_diverges d xss ls is = subst (λ (ks : List Later). AllDiverge d xss (paths_of ks)) (sym is) (λ xs ys i j. absurd (none_in ys j))
 
 -- a loop over the nodes
 
@@ -472,10 +537,10 @@ both_pointers d xs ys yss a b zs ws i j = ⊎_elim
     (λ (k : Contains (ys ∷ []) zs). b zs ws k j)
     (in_parts (xs ∷ []) (ys ∷ []) zs i)
 
-pub waits_no_test : (n : NodeMap) (o : Operation) → CanWait n o → TestNeedsNoMemory o → ⊥
-waits_no_test n (Add path value) w t = absurd w
-waits_no_test n (Remove path) w t = t
-waits_no_test n (Replace path value) w t = absurd w
-waits_no_test n (Move from path) w t = t
-waits_no_test n (Copy from path) w t = absurd w
-waits_no_test n (Test path value) w t = absurd w
+pub waits_no_test : (n : NodeMap) (o : Operation) (p : Path) → CanWait n o p → TestNeedsNoMemory o → ⊥
+waits_no_test n (Add path value) p w t = absurd w
+waits_no_test n (Remove path) p w t = t
+waits_no_test n (Replace path value) p w t = absurd w
+waits_no_test n (Move from path) p w t = t
+waits_no_test n (Copy from path) p w t = absurd w
+waits_no_test n (Test path value) p w t = absurd w

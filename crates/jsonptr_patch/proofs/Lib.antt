@@ -21,3 +21,4 @@ pub mod ApartLemmas
 pub mod LaterLemmas
 pub mod WaitingLemmas
 pub mod BackLemmas
+pub mod ApartnessLemmas

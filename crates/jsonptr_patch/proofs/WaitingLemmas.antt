@@ -15,7 +15,7 @@ use Rattle.jsonptr_patch.specs.Apart.{AllDiverge, all_pointers}
 use Rattle.jsonptr_patch.specs.Inverse.{HasObject}
 use Rattle.jsonptr_patch.specs.Operating.{Takes, RefusesTarget, RefusesAdd, RefusesMove, RefusesCopy}
 use Rattle.jsonptr_patch.specs.Patching.{Patches}
-use Rattle.jsonptr_patch.specs.PrivateLater.{paths_of, removals, AreScattered, IsPending, IsWaitingAt, TakesPlace, StandsFor}
+use Rattle.jsonptr_patch.specs.PrivateLater.{paths_of, removals, AreScattered, IsPending, IsWaitingAt, TakesPlace, Frees, StandsFor}
 use Rattle.jsonptr_patch.specs.declared.later.Later.{Later}
 use Rattle.jsonptr_patch.specs.declared.operation.Operation.{Operation}
 use Rattle.jsonptr_patch.specs.declared.operation.Operation.TheVariants.{Add, Remove, Replace, Move, Copy, Test}
@@ -170,13 +170,23 @@ place_later d k (Move from path) xs ys l s a p = (p.0, diverges_later d k from l
 place_later d k (Copy from path) xs ys l s a p = (p.0, diverges_later d k from l.path (l.path ∷ []) (xs ++ ys) (first_in l.path []) (others_diverge d xs ys l s) p.1 a)
 place_later d k (Test path value) xs ys l s a p = absurd p
 
-replaced_at : (d n : NodeMap) (o : Operation) (xs ys : List Later) (l : Later) → IsTree d → HasObject d l.path → TakesPlace d o l.path → IsPending d (xs ++ l ∷ ys) n → (k : NodeMap) × IsPending d (xs ++ ys) k × StandsFor k n o
-replaced_at d n o xs ys l tree h p pending =
+replaced_at : (d n : NodeMap) (o : Operation) (xs ys : List Later) (l : Later) → HasObject d l.path → TakesPlace d o l.path → IsPending d (xs ++ l ∷ ys) n → (k : NodeMap) × IsPending d (xs ++ ys) k × Frees k n o
+replaced_at d n o xs ys l h p pending =
     let r = kept_waiting d n xs ys l pending in
-    let left : Patches d (removals (xs ++ ys)) r.0 = r.2.removed in
-    let object : HasObject r.0 l.path = seen_later HasObject seen_has_object d r.0 l.path (l.path ∷ []) (xs ++ ys) (first_in l.path []) (others_diverge d xs ys l pending.scattered) h left in
-    let place : TakesPlace r.0 o l.path = place_later d r.0 o xs ys l pending.scattered left p in
-    (r.0, r.2, in_place r.0 n r.1 o l.path (tree_later d r.0 (xs ++ ys) tree left) r.3 object place)
+    let left : Patches d (removals (xs ++ ys)) r.0 = r.2.removed in (
+      r.0,
+      r.2,
+      record {
+        tokens = l.path;
+        value = r.1;
+        taken = r.3;
+        object = seen_later HasObject seen_has_object d r.0 l.path (l.path ∷ []) (xs ++ ys) (first_in l.path []) (others_diverge d xs ys l pending.scattered) h left;
+        place = place_later d r.0 o xs ys l pending.scattered left p;
+      },
+    )
+
+pub freed_stands : (c : Value) (k n : NodeMap) (o : Operation) (ls : List Later) → IsPending (nodes (view c)) ls k → Frees k n o → StandsFor k n o
+freed_stands c k n o ls p f = in_place k n f.value o f.tokens (tree_later (nodes (view c)) k ls (map_of-IsTree (content (view c))) p.removed) f.taken f.object f.place
 
 -- a node of a list, and the others
 split_node : (ls : List Later) (i : ℕ) (x : Later) → i < length ls → ls ≡ take i ls ++ slice_index_or ls i x ∷ drop (suc i) ls
@@ -184,11 +194,11 @@ split_node [] i x low = absurd (omega (arith, low))
 split_node (l ∷ ls) zero x low = refl
 split_node (l ∷ ls) (suc i) x low = ap (λ (ks : List Later). l ∷ ks) (split_node ls i x (omega (arith, low)))
 
-pub place_taken : (c : Value) (n : NodeMap) (o : Operation) (ls : List Later) (i : ℕ) (x : Later) (tokens : List Text) → IsWaitingAt ls i tokens → HasObject (nodes (view c)) tokens → TakesPlace (nodes (view c)) o tokens → IsPending (nodes (view c)) ls n → (k : NodeMap) × IsPending (nodes (view c)) (remove ls i) k × StandsFor k n o
+pub place_taken : (c : Value) (n : NodeMap) (o : Operation) (ls : List Later) (i : ℕ) (x : Later) (tokens : List Text) → IsWaitingAt ls i tokens → HasObject (nodes (view c)) tokens → TakesPlace (nodes (view c)) o tokens → IsPending (nodes (view c)) ls n → (k : NodeMap) × IsPending (nodes (view c)) (remove ls i) k × Frees k n o
 place_taken c n o ls i x tokens w h p pending =
     let l : Later = slice_index_or ls i x in
     let is : tokens ≡ l.path = sym (w.1 x) in
-    replaced_at (nodes (view c)) n o (take i ls) (drop (suc i) ls) l (map_of-IsTree (content (view c)))
+    replaced_at (nodes (view c)) n o (take i ls) (drop (suc i) ls) l
     (subst (λ (ts : List Text). HasObject (nodes (view c)) ts) is h)
     (subst (λ (ts : List Text). TakesPlace (nodes (view c)) o ts) is p)
     (subst (λ (ks : List Later). IsPending (nodes (view c)) ks n) (split_node ls i x w.0) pending)

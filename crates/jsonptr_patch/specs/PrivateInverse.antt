@@ -1,9 +1,10 @@
 -- Operations that take back the changes of a document. Used only by private contracts; no public contract depends on
 -- this file.
-use Rattle.std.specs.Prelude.{◌≡◌, List, ◌++◌, reverse}
+use Rattle.std.specs.Prelude.{◌≡◌, List, [], ◌∷◌, ◌++◌, reverse}
 use Rattle.jsonptr.specs.Node.{NodeMap}
 use Rattle.jsonptr_patch.specs.Patching.{Patches}
 use Rattle.jsonptr_patch.specs.declared.operation.Operation.{Operation}
+use Rattle.jsonptr_patch.specs.declared.operation.Operation.TheVariants.{Add, Remove, Replace, Move, Copy, Test}
 
 -- `AppendsBack os back ps`: `ps` are `os` and then the operations `back`, the last one first.
 abbrev pub AppendsBack : List Operation → List Operation → List Operation → Type 0
@@ -13,3 +14,13 @@ AppendsBack os back ps = ps ≡ os ++ reverse back
 -- one first, make of `m`.
 abbrev pub TakesAllBackFrom : NodeMap → List Operation → NodeMap → List Operation → Type 0
 TakesAllBackFrom m ps n os = (k : NodeMap) → Patches n (reverse os) k → Patches m (reverse ps) k
+
+-- `IsPlaceBack o back`: the operations `back` remove a value that operation `o` adds where there was none. A value that is
+-- moved is moved back.
+abbrev pub IsPlaceBack : Operation → List Operation → Type 0
+IsPlaceBack (Add path value) back = back ≡ Remove path ∷ []
+IsPlaceBack (Remove path) back = ⊥
+IsPlaceBack (Replace path value) back = ⊥
+IsPlaceBack (Move from path) back = back ≡ Move path from ∷ []
+IsPlaceBack (Copy from path) back = back ≡ Remove path ∷ []
+IsPlaceBack (Test path value) back = ⊥

@@ -1,11 +1,12 @@
 -- Removals that are made after all operations. Used only by private contracts; no public contract depends on this file.
-use Rattle.std.specs.Prelude.{◌≡◌, ◌≢◌, ℕ, ◌<◌, List, [], ◌∷◌, ◌++◌, length, slice_index_or, Some, ⊤}
-use Rattle.jsonptr.specs.Text.{Text}
-use Rattle.jsonptr.specs.Node.{Path, an_object, NodeMap, Names}
+use Rattle.std.specs.Prelude.{◌≡◌, ◌≢◌, ℕ, ◌<◌, List, [], ◌∷◌, ◌++◌, length, slice_index_or, Option, Some, MatchOption, ⊤}
+use Rattle.jsonptr.specs.Text.{Text, HasNoTilde, text}
+use Rattle.jsonptr.specs.Node.{key, Path, an_object, NodeMap, Names}
 use Rattle.jsonptr_journal.specs.Location.{path_of}
+use Rattle.jsonptr_journal.specs.declared.location.Location.{Location}
 use Rattle.jsonptr_patch.specs.Apart.{Diverges, AllDiverge}
 use Rattle.jsonptr_patch.specs.Inverse.{HasObject}
-use Rattle.jsonptr_patch.specs.Operating.{Applies, RefusesOperation}
+use Rattle.jsonptr_patch.specs.Operating.{Takes, Applies, RefusesOperation}
 use Rattle.jsonptr_patch.specs.Patching.{Patches}
 use Rattle.jsonptr_patch.specs.declared.later.Later.{Later}
 use Rattle.jsonptr_patch.specs.declared.operation.Operation.{Operation}
@@ -15,6 +16,17 @@ use Rattle.jsonptr_patch.specs.declared.operation.PatchError.{PatchError}
 -- `IsObjectAt n tokens`: `tokens` evaluate to an object of `n`.
 abbrev pub IsObjectAt : NodeMap → List Text → Type 0
 IsObjectAt n tokens = (w : Path) × Names n tokens w × (n w ≡ Some an_object)
+
+-- `IsMemberAt n tokens w`: the tokens before the last one evaluate to an object of `n`, and `w` is the path of its member
+-- under the last one. The object need not have the member.
+pub record IsMemberAt (n : NodeMap) (tokens : List Text) (w : Path) : Type 0 where
+  pub front : List Text
+  pub last : Text
+  pub path : Path
+  pub split : tokens ≡ front ++ last ∷ []
+  pub named : Names n front path
+  pub object : n path ≡ Some an_object
+  pub below : w ≡ path ++ key last ∷ []
 
 -- `Forks xs ys front`: the tokens `xs` and `ys` begin with `front`, and go on with different tokens.
 pub record Forks (xs ys front : List Text) : Type 0 where
@@ -36,11 +48,19 @@ abbrev pub removals : List Later → List Operation
 removals [] = []
 removals (l ∷ ls) = Remove l.path ∷ removals ls
 
--- `AreScattered d ls`: the pointers of `ls` diverge from one another at objects of `d`, and each names its location.
+-- `IsKept kept n tokens`: `tokens` name a path of `n`. It is that of `kept`, or `tokens` have no `~`.
+abbrev pub IsKept : Option Location → NodeMap → List Text → Type 0
+IsKept kept n tokens =
+    MatchOption kept (HasNoTilde (text tokens) × (w : Path) × Names n tokens w) (λ here. Names n tokens (path_of here))
+
+-- `IsReached d l`: the pointer of `l` names a node of `d`. It is at its location, or the pointer has no `~`.
+abbrev pub IsReached : NodeMap → Later → Type 0
+IsReached d l = IsKept l.location d l.path
+
+-- `AreScattered d ls`: the pointers of `ls` diverge from one another at objects of `d`, and each is reached.
 abbrev pub AreScattered : NodeMap → List Later → Type 0
 AreScattered d [] = ⊤
-AreScattered d (l ∷ ls) =
-    Names d l.path (path_of l.location) × AllDiverge d (l.path ∷ []) (paths_of ls) × AreScattered d ls
+AreScattered d (l ∷ ls) = IsReached d l × AllDiverge d (l.path ∷ []) (paths_of ls) × AreScattered d ls
 
 -- `IsPending d ls n`: the document `d`, with `null` at the nodes `ls`, stands for `n`, which is what is left without
 -- them.
@@ -61,14 +81,23 @@ TakesPlace n (Move from path) tokens = (path ≡ tokens) × Diverges n from toke
 TakesPlace n (Copy from path) tokens = (path ≡ tokens) × Diverges n from tokens
 TakesPlace n (Test path value) tokens = ⊥
 
--- `CanWait n o`: operation `o` removes or moves a member of an object of `n`, and the pointers of a move diverge.
-abbrev pub CanWait : NodeMap → Operation → Type 0
-CanWait n (Add path value) = ⊥
-CanWait n (Remove path) = HasObject n path
-CanWait n (Replace path value) = ⊥
-CanWait n (Move from path) = HasObject n from × Diverges n from path
-CanWait n (Copy from path) = ⊥
-CanWait n (Test path value) = ⊥
+-- `Frees k n o`: operation `o` adds a value at a node of `k`, a member of an object, and `n` is `k` without it.
+pub record Frees (k n : NodeMap) (o : Operation) : Type 0 where
+  pub tokens : List Text
+  pub value : NodeMap
+  pub taken : Takes k tokens value n
+  pub object : HasObject k tokens
+  pub place : TakesPlace k o tokens
+
+-- `CanWait n o w`: operation `o` removes or moves the member of an object of `n` at the path `w`, and the pointers of a
+-- move diverge.
+abbrev pub CanWait : NodeMap → Operation → Path → Type 0
+CanWait n (Add path value) w = ⊥
+CanWait n (Remove path) w = IsMemberAt n path w
+CanWait n (Replace path value) w = ⊥
+CanWait n (Move from path) w = IsMemberAt n from w × Diverges n from path
+CanWait n (Copy from path) w = ⊥
+CanWait n (Test path value) w = ⊥
 
 -- `StandsFor k n o`: what operation `o` makes of `k` it makes of `n`, and it fails on `n` as on `k`.
 pub record StandsFor (k n : NodeMap) (o : Operation) : Type 0 where

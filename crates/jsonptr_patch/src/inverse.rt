@@ -8,20 +8,20 @@ ghost use Rattle.jsonptr.specs.Json.{nodes, HasSortedKeys};
 ghost use Rattle.jsonptr.specs.Node.{NodeMap};
 ghost use Rattle.jsonptr.specs.Pointer.{tokens};
 ghost use Rattle.jsonptr.specs.Text.{Text, dec};
-ghost use Rattle.jsonptr_patch.specs.Apart.{Diverges};
+ghost use Rattle.jsonptr_patch.specs.Apart.{Diverges, AllDiverge, pointers};
 ghost use Rattle.jsonptr_patch.specs.Inverse.{TakesAddBack, TakesBack, TakesMoveBack};
 ghost use Rattle.jsonptr_patch.specs.Operating.{IsProperFront, Applies, RefusesAdd, RefusesMove, RefusesOperation};
 ghost use Rattle.jsonptr_patch.specs.Order.{OperationHasSortedKeys};
 ghost use Rattle.jsonptr_patch.specs.Patching.{Patches, RefusesPatch};
-ghost use Rattle.jsonptr_patch.specs.PrivateInverse.{AppendsBack, TakesAllBackFrom};
-ghost use Rattle.jsonptr_patch.specs.PrivateLater.{IsPending};
+ghost use Rattle.jsonptr_patch.specs.PrivateInverse.{AppendsBack, TakesAllBackFrom, IsPlaceBack};
+ghost use Rattle.jsonptr_patch.specs.PrivateLater.{paths_of, IsPending, TakesPlace, StandsFor};
 ghost use Rattle.jsonptr_patch.specs.PrivateRecording.{CanUndo, Records};
 ghost use Rattle.jsonptr_patch.specs.declared.operation.Operation.{Operation as SpecOperation};
 ghost use Rattle.jsonptr_patch.specs.declared.operation.Operation.TheVariants as variant;
 
 use crate::add::place;
 use crate::copy::copy_of;
-use crate::later::{Later, diverges, make_apart, record_apart, unlink};
+use crate::later::{Later, diverges, make_apart, record_apart, take_place, unlink};
 use crate::move_value::is_proper_front;
 use crate::operation::{Operation, PatchError};
 use crate::target::target;
@@ -47,9 +47,8 @@ use std::alloc::{AllocError, Global};
 /// are taken back by two operations, which clone the value: one to a place above its source, and one
 /// that replaces a member without diverging from its source at an object.
 ///
-/// Otherwise it costs what [`apply`](crate::apply) costs, with one exception. A value that is added at
-/// the location of a removal that waits makes all waiting removals first. A move within one array
-/// removes the element twice.
+/// Otherwise it costs what [`apply`](crate::apply) costs. A move within one array removes the element
+/// twice.
 ///
 /// ```rust
 /// let mut document = json!(in alloc; {"draft": 1, "title": 2})?;
@@ -196,9 +195,86 @@ fn step(
         → RefusesOperation n number operation e) }
     ensures undone { Records journal.old doc.old journal.new doc.new }
 {
-    make_apart(alloc, doc, journal, later, &operation)?;
-    back_of(alloc, doc, inverse, number, &operation)?;
+    settle_with_back(alloc, doc, journal, later, inverse, number, &operation)?;
     record_apart(alloc, doc, journal, later, number, operation)
+}
+
+/// Makes the operation apart from the nodes that are removed later, as [`settle`](crate::later::settle)
+/// does, and appends what takes it back, the last operation first.
+///
+/// # Errors
+///
+/// [`Fault::Refused`] if the operation fails, and [`Fault::Memory`] if an allocation fails. To undo
+/// the journal restores the document.
+fn settle_with_back(
+    alloc: Global,
+    doc: &mut Value,
+    journal: &mut Journal,
+    later: &mut Vec<Later>,
+    inverse: &mut Vec<Operation>,
+    number: usize,
+    operation: &Operation,
+) -> Result<(), Fault<PatchError>>
+    requires undone { CanUndo journal.old doc.old }
+    requires pending { (n : NodeMap) × IsPending (nodes (view doc.old)) later.old.items n }
+    ensures apart { IfOk result (λ _. AllDiverge (nodes (view doc.new)) (pointers operation.now)
+        (paths_of later.new.items)) }
+    ensures stands { IfOk result (λ _. (n : NodeMap)
+        → IsPending (nodes (view doc.old)) later.old.items n
+        → (k : NodeMap) × IsPending (nodes (view doc.new)) later.new.items k
+        × StandsFor k n operation.now) }
+    ensures back { IfOk result (λ _. (n m : NodeMap)
+        → IsPending (nodes (view doc.old)) later.old.items n → Applies n operation.now m
+        → TakesAllBackFrom m inverse.new.items n inverse.old.items) }
+    ensures sorted { IfOk result (λ _.
+        HasSortedKeys (view doc.old) → HasSortedKeys (view doc.new)) }
+    ensures refused { IfRefused result (λ e. (n : NodeMap)
+        → IsPending (nodes (view doc.old)) later.old.items n
+        → RefusesOperation n number operation.now e) }
+    ensures undone { Records journal.old doc.old journal.new doc.new }
+{
+    if take_place(alloc, doc, later, operation) {
+        append_place_back(inverse, operation)?;
+        return Ok(());
+    }
+    make_apart(alloc, doc, journal, later, operation)?;
+    back_of(alloc, doc, inverse, number, operation)
+}
+
+/// Appends what takes back an operation that adds a value where there is none: a removal, or a move
+/// back.
+///
+/// # Errors
+///
+/// [`AllocError`] if an allocation fails.
+fn append_place_back(inverse: &mut Vec<Operation>, operation: &Operation) -> Result<(), AllocError>
+    ensures { IfOk result (λ _. (n : NodeMap) (tokens : List Text)
+        → TakesPlace n operation.now tokens
+        → (back : List SpecOperation) × IsPlaceBack operation.now back
+        × AppendsBack inverse.old.items back inverse.new.items) }
+{
+    match operation {
+        Operation::Add { path, .. } => {
+            let path = path.clone()?;
+            append(inverse, Operation::Remove { path })
+        }
+        Operation::Move { from, path } => {
+            let place = path.clone()?;
+            let back = from.clone()?;
+            append(
+                inverse,
+                Operation::Move {
+                    from: place,
+                    path: back,
+                },
+            )
+        }
+        Operation::Copy { path, .. } => {
+            let path = path.clone()?;
+            append(inverse, Operation::Remove { path })
+        }
+        _ => Ok(()),
+    }
 }
 
 /// Appends what takes back the operation with this number, the last operation first.

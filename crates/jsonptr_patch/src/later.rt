@@ -3,30 +3,35 @@
 //! To undo the removal of a member needs room for all members of its object. So where the later
 //! operations allow it, the value is taken, `null` is left in its place, and the member is removed
 //! at the end.
-ghost use Rattle.std.specs.Prelude.{◌≡◌, ◌∷◌, ◌++◌, List, [], Contains, IfOk, IfSome, IsOk, IsTrue, IsFalse};
+ghost use Rattle.std.specs.Prelude.{◌≡◌, ◌≢◌, ◌∷◌, ◌++◌, List, [], Some, Contains, IfOk, IfSome, IsOk, IsTrue, IsFalse, MatchOption};
 ghost use Rattle.serde_json.specs.View.{view};
 ghost use Rattle.jsonptr.specs.Fault.{IfRefused, HasMemory};
 ghost use Rattle.jsonptr.specs.Json.{nodes, HasSortedKeys};
-ghost use Rattle.jsonptr.specs.Node.{NodeMap};
+ghost use Rattle.jsonptr.specs.Node.{key, Path, an_object, NodeMap, Names};
 ghost use Rattle.jsonptr.specs.Pointer.{tokens};
-ghost use Rattle.jsonptr.specs.Text.{Text};
+ghost use Rattle.jsonptr.specs.Text.{Text, HasNoTilde, text};
+ghost use Rattle.jsonptr_journal.specs.Location.{path_of};
 ghost use Rattle.jsonptr_patch.specs.Apart.{Diverges, AllDiverge, pointers};
 ghost use Rattle.jsonptr_patch.specs.Memory.{TestNeedsNoMemory};
 ghost use Rattle.jsonptr_patch.specs.Operating.{Takes, Moves, Applies, RefusesTarget, RefusesMove, RefusesOperation};
 ghost use Rattle.jsonptr_patch.specs.Order.{OperationHasSortedKeys};
 ghost use Rattle.jsonptr_patch.specs.Inverse.{HasObject};
-ghost use Rattle.jsonptr_patch.specs.PrivateLater.{paths_of, IsPending, IsObjectAt, Forks, IsWaitingAt, TakesPlace, CanWait, StandsFor};
+ghost use Rattle.jsonptr_patch.specs.PrivateLater.{paths_of, IsReached, IsPending, IsObjectAt, IsMemberAt, Forks, IsWaitingAt, TakesPlace, Frees, CanWait, StandsFor};
 ghost use Rattle.jsonptr_patch.specs.PrivateRecording.{CanUndo, Records};
 
-use crate::move_value::{NotAdded, add_taken};
+use crate::add::key_of;
+use crate::apart::fork;
+use crate::move_value::{NotAdded, add_taken, move_value};
 use crate::operation::{Operation, PatchError};
 use crate::patch::record;
-use crate::target::target;
-use jsonptr::{Fault, Pointer, PointerBuf};
+use crate::remove::remove;
+use jsonptr::{Fault, Pointer, PointerBuf, Token};
 use jsonptr_document::document::{Document, Node};
 use jsonptr_journal::journal::{Entry, Journal};
-use jsonptr_journal::location::Location;
-use jsonptr_journal::removal::{Taken, blank, remove, undo_removal};
+use jsonptr_journal::locate::locate;
+use jsonptr_journal::location::{Location, Part};
+use jsonptr_journal::removal::{self, Removal, blank, undo_removal};
+use jsonptr_value::discard;
 use serde_json::Value;
 use std::alloc::{AllocError, Global};
 use std::mem;
@@ -36,8 +41,8 @@ use std::mem;
 pub struct Later {
     /// The pointer of the node.
     pub path: PointerBuf,
-    /// Its location.
-    pub location: Location,
+    /// Its location, if the pointer contains a `~`. To follow any other pointer needs no allocation.
+    pub location: Option<Location>,
 }
 
 /// Returns whether the pointer resolves to an object. May return false if an allocation fails.
@@ -63,18 +68,38 @@ fn is_same(left: Pointer<'_>, right: Pointer<'_>) -> bool
     }
 }
 
-/// Returns the prefix at whose end two pointers diverge, or `None` if one is a prefix of the other.
-fn fork<'a>(left: Pointer<'a>, right: Pointer<'_>) -> Option<Pointer<'a>>
+/// Returns the prefix at whose end two pointers diverge, as [`fork`] does. The first one is `front` and
+/// the token `last`.
+///
+/// Two children of one node, which are the most common, cost less than others.
+fn fork_at<'a>(
+    ptr: Pointer<'a>,
+    front: Pointer<'a>,
+    last: &Token<'_>,
+    other: Pointer<'_>,
+) -> Option<Pointer<'a>>
+    requires { tokens ptr ≡ tokens front ++ last.now ∷ [] }
     ensures { IfSome result (λ common.
-        Forks (tokens left.entry) (tokens right.entry) (tokens common)) }
+        Forks (tokens ptr.entry) (tokens other.entry) (tokens common)) }
 {
-    let common = left.intersection(right);
-    let (x, _) = left.strip_prefix(common)?.split_front()?;
-    let (y, _) = right.strip_prefix(common)?.split_front()?;
-    if x == y {
-        return None;
+    if is_beside(front, last, other) {
+        return Some(front);
     }
-    Some(common)
+    match fork(ptr, other) {
+        Some(common) => Some(common),
+        None => None,
+    }
+}
+
+/// Returns whether the pointer is `front` and a token that is not `last`.
+fn is_beside(front: Pointer<'_>, last: &Token<'_>, other: Pointer<'_>) -> bool
+    ensures { IsTrue result → (there : Text) × (tokens other.entry ≡ tokens front.entry ++ there ∷ [])
+        × (last.now ≢ there) }
+{
+    match other.split_back() {
+        Some((parent, there)) => parent.as_str() == front.as_str() && there != *last,
+        None => false,
+    }
 }
 
 /// Returns whether the two pointers diverge at an object of the document. May return false if an
@@ -109,9 +134,12 @@ fn diverges_from_all(alloc: Global, doc: &Value, later: &[Later], ptr: Pointer<'
         (paths_of later.now) }
     ensures empty { later.now ≡ [] → IsTrue result }
 {
+    let Some((front, last)) = ptr.split_back() else {
+        return later.is_empty();
+    };
     let mut known = None;
     for one in later {
-        let Some(common) = fork(ptr, one.path.as_ptr()) else {
+        let Some(common) = fork_at(ptr, front, &last, one.path.as_ptr()) else {
             return false;
         };
         if !is_object_too(alloc, doc, known, common) {
@@ -219,13 +247,13 @@ fn member_at(alloc: Global, doc: &Value, later: &[Later], path: &PointerBuf) -> 
 /// apart from the others. Then that removal waits no more: the value replaces its `null`.
 ///
 /// May return false if an allocation fails.
-fn take_place(alloc: Global, doc: &Value, later: &mut Vec<Later>, operation: &Operation) -> bool
+pub fn take_place(alloc: Global, doc: &Value, later: &mut Vec<Later>, operation: &Operation) -> bool
     ensures apart { IsTrue result → AllDiverge (nodes (view doc.now)) (pointers operation.now)
         (paths_of later.new.items) }
-    ensures stands { IsTrue result → (n : NodeMap)
+    ensures frees { IsTrue result → (n : NodeMap)
         → IsPending (nodes (view doc.now)) later.old.items n
         → (k : NodeMap) × IsPending (nodes (view doc.now)) later.new.items k
-        × StandsFor k n operation.now }
+        × Frees k n operation.now }
     ensures same { IsFalse result → later.new.items ≡ later.old.items }
     ensures empty { later.old.items ≡ [] → later.new.items ≡ [] }
 {
@@ -267,9 +295,30 @@ fn flush(
 {
     let waiting = mem::replace(later, Vec::new(alloc));
     for one in waiting {
-        journal.remove(alloc, doc, one.location)?;
+        let location = location_of(alloc, doc, one)?;
+        journal.remove(alloc, doc, location)?;
     }
     Ok(())
+}
+
+/// Returns the location of a node that is removed later.
+///
+/// # Errors
+///
+/// [`AllocError`] if an allocation fails.
+fn location_of(alloc: Global, doc: &Value, one: Later) -> Result<Location, AllocError>
+    requires { IsReached (nodes (view doc.now)) one }
+    ensures { IfOk result (λ here. Names (nodes (view doc.now)) one.path (path_of here)) }
+{
+    let Later { path, location } = one;
+    if let Some(location) = location {
+        return Ok(location);
+    }
+    match locate(alloc, doc, path.as_ptr()) {
+        Ok(found) => Ok(found.location),
+        Err(Fault::Memory(error)) => Err(error),
+        Err(Fault::Refused(_)) => unreachable!(),
+    }
 }
 
 /// Removes the nodes that were to be removed later.
@@ -282,13 +331,50 @@ pub fn unlink(alloc: Global, doc: &mut Value, later: Vec<Later>)
     ensures sorted { HasSortedKeys (view doc.old) → HasSortedKeys (view doc.new) }
 {
     for one in later {
-        drop(remove(alloc, doc, one.location));
+        unlink_one(alloc, doc, one);
+    }
+}
+
+/// Removes a node that was to be removed later.
+///
+/// Needs no allocation, and nothing undoes it.
+fn unlink_one(alloc: Global, doc: &mut Value, one: Later)
+    requires { IsReached (nodes (view doc.old)) one }
+    ensures removed { (v : NodeMap)
+        × Takes (nodes (view doc.old)) one.path v (nodes (view doc.new)) }
+    ensures sorted { HasSortedKeys (view doc.old) → HasSortedKeys (view doc.new) }
+{
+    let Later { path, location } = one;
+    match location {
+        Some(location) => discard(removal::remove(alloc, doc, location)),
+        None => delete_plain(alloc, doc, path.as_ptr()),
+    }
+}
+
+/// Deletes the value that the pointer resolves to.
+///
+/// Needs no allocation.
+///
+/// # Conditions
+///
+/// The pointer resolves to a value, and has no `~`.
+fn delete_plain(alloc: Global, doc: &mut Value, ptr: Pointer<'_>)
+    requires plain { HasNoTilde (text (tokens ptr)) }
+    requires named { (w : Path) × Names (nodes (view doc.old)) (tokens ptr) w }
+    ensures removed { (v : NodeMap)
+        × Takes (nodes (view doc.old)) (tokens ptr.entry) v (nodes (view doc.new)) }
+    ensures sorted { HasSortedKeys (view doc.old) → HasSortedKeys (view doc.new) }
+{
+    match ptr.delete(alloc, doc) {
+        Ok(Some(value)) => discard(value),
+        Ok(None) => unreachable!(),
+        Err(_) => unreachable!(),
     }
 }
 
 /// The number of nodes that wait to be removed. The pointers of an operation are compared with
 /// theirs, so more would make it slower, and fewer would clone the keys of an object more often.
-const MOST_LATER: usize = 512;
+const MOST_LATER: usize = 1024;
 
 /// Makes the operation apart from the nodes that are removed later, as [`make_apart`] does. If it adds
 /// a value at the location of one of them, that one waits no more.
@@ -362,35 +448,37 @@ pub fn make_apart(
 ///
 /// [`Fault::Refused`] if the pointer does not resolve to a value, and [`Fault::Memory`] if an
 /// allocation fails. To undo the journal restores the document.
-pub fn remove_later(
+fn remove_later(
     alloc: Global,
     doc: &mut Value,
     journal: &mut Journal,
     later: &mut Vec<Later>,
     number: usize,
-    path: Pointer<'_>,
+    path: PointerBuf,
+    location: Location,
 ) -> Result<(), Fault<PatchError>>
-    requires apart { AllDiverge (nodes (view doc.old)) (tokens path ∷ [])
-        (paths_of later.old.items) }
-    requires member { HasObject (nodes (view doc.old)) (tokens path) }
+    requires undone { CanUndo journal.old doc.old }
+    requires apart { AllDiverge (nodes (view doc.old)) (path ∷ []) (paths_of later.old.items) }
+    requires member { IsMemberAt (nodes (view doc.old)) path (path_of location) }
     ensures removed { IfOk result (λ _. (n : NodeMap)
         → IsPending (nodes (view doc.old)) later.old.items n
-        → (m v : NodeMap) × Takes n (tokens path.entry) v m
-        × IsPending (nodes (view doc.new)) later.new.items m) }
+        → (m v : NodeMap) × Takes n path v m × IsPending (nodes (view doc.new)) later.new.items m) }
     ensures sorted { IfOk result (λ _.
         HasSortedKeys (view doc.old) → HasSortedKeys (view doc.new)) }
-    ensures refused { IfRefused result
-        (RefusesTarget (nodes (view doc.old)) number (tokens path.entry)) }
+    ensures refused { IfRefused result (RefusesTarget (nodes (view doc.old)) number path) }
     ensures undone { Records journal.old doc.old journal.new doc.new }
 {
-    let location = target(alloc, doc, number, path)?;
-    let one = Later {
-        path: path.to_buf(alloc)?,
-        location: target(alloc, doc, number, path)?,
-    };
+    let kept = kept_location(alloc, doc, &path)?;
     later.reserve(1)?;
-    journal.replace(doc, location, Value::Null)?;
-    later.push_reserved(one);
+    journal.reserve()?;
+    let Some(value) = blank(doc, &location) else {
+        return remove(alloc, doc, journal, number, path.as_ptr());
+    };
+    journal.push(Entry::Removed(Removal::Blank { location }, value));
+    later.push_reserved(Later {
+        path,
+        location: kept,
+    });
     Ok(())
 }
 
@@ -401,65 +489,151 @@ pub fn remove_later(
 ///
 /// [`Fault::Refused`] if `from` does not resolve to a value, or if the value cannot be added.
 /// [`Fault::Memory`] if an allocation fails. To undo the journal restores the document.
-pub fn move_later(
+fn move_later(
     alloc: Global,
     doc: &mut Value,
     journal: &mut Journal,
     later: &mut Vec<Later>,
     number: usize,
-    from: Pointer<'_>,
+    from: PointerBuf,
     path: Pointer<'_>,
+    location: Location,
 ) -> Result<(), Fault<PatchError>>
-    requires apart { AllDiverge (nodes (view doc.old)) (tokens from ∷ tokens path ∷ [])
+    requires apart { AllDiverge (nodes (view doc.old)) (from ∷ tokens path ∷ [])
         (paths_of later.old.items) }
-    requires ways { Diverges (nodes (view doc.old)) (tokens from) (tokens path) }
-    requires member { HasObject (nodes (view doc.old)) (tokens from) }
+    requires ways { Diverges (nodes (view doc.old)) from (tokens path) }
+    requires member { IsMemberAt (nodes (view doc.old)) from (path_of location) }
     ensures moved { IfOk result (λ _. (n : NodeMap)
         → IsPending (nodes (view doc.old)) later.old.items n
-        → (m : NodeMap) × Moves n (tokens from.entry) (tokens path.entry) m
+        → (m : NodeMap) × Moves n from (tokens path.entry) m
         × IsPending (nodes (view doc.new)) later.new.items m) }
     ensures sorted { IfOk result (λ _.
         HasSortedKeys (view doc.old) → HasSortedKeys (view doc.new)) }
     ensures refused { IfRefused result (λ e. (n : NodeMap)
         → IsPending (nodes (view doc.old)) later.old.items n
-        → RefusesMove n number (tokens from.entry) (tokens path.entry) e) }
+        → RefusesMove n number from (tokens path.entry) e) }
     ensures undone { Records journal.old doc.old journal.new doc.new }
 {
-    let location = target(alloc, doc, number, from)?;
-    let one = Later {
-        path: from.to_buf(alloc)?,
-        location: target(alloc, doc, number, from)?,
-    };
+    let kept = kept_location(alloc, doc, &from)?;
     later.reserve(1)?;
     journal.reserve()?;
-    let Taken { value, removal } = blank(doc, location);
+    let Some(value) = blank(doc, &location) else {
+        return move_value(alloc, doc, journal, number, from.as_ptr(), path);
+    };
     match add_taken(alloc, doc, number, path, value) {
         Ok(addition) => {
-            journal.push(Entry::Moved(removal, addition));
-            later.push_reserved(one);
+            journal.push(Entry::Moved(Removal::Blank { location }, addition));
+            later.push_reserved(Later {
+                path: from,
+                location: kept,
+            });
             Ok(())
         }
         Err(NotAdded { value, fault }) => {
-            undo_removal(alloc, doc, removal, value);
+            undo_removal(alloc, doc, Removal::Blank { location }, value);
             Err(fault)
         }
     }
 }
 
-/// Returns whether the removal that the operation makes can wait until all operations are applied. It
-/// removes or moves a member of an object, and the pointers of a move diverge at an object. May
-/// return false if an allocation fails.
-pub fn can_wait(alloc: Global, doc: &Value, operation: &Operation) -> bool
-    ensures { IsTrue result → CanWait (nodes (view doc.now)) operation.now }
+/// Returns the location of a node that is removed later, if its pointer contains a `~`.
+///
+/// # Errors
+///
+/// [`AllocError`] if an allocation fails.
+fn kept_location(
+    alloc: Global,
+    doc: &Value,
+    path: &PointerBuf,
+) -> Result<Option<Location>, AllocError>
+    requires { (w : Path) × IsMemberAt (nodes (view doc.now)) path.now w }
+    ensures { IfOk result (λ kept. MatchOption kept (HasNoTilde (text path.now))
+        (λ here. IsMemberAt (nodes (view doc.now)) path.now (path_of here))) }
+{
+    if !path.as_ptr().as_str().as_bytes().contains(&b'~') {
+        return Ok(None);
+    }
+    match member_location(alloc, doc, path.as_ptr()) {
+        Some(location) => Ok(Some(location)),
+        None => Err(AllocError),
+    }
+}
+
+/// Returns the location of the member to which the pointer resolves, if its parent is an object. The
+/// object need not have the member. May return `None` if an allocation fails.
+fn member_location(alloc: Global, doc: &Value, path: Pointer<'_>) -> Option<Location>
+    ensures { IfSome result (λ here.
+        IsMemberAt (nodes (view doc.now)) (tokens path.entry) (path_of here)) }
+{
+    let (front, last) = path.split_back()?;
+    let object = object_location(alloc, doc, front)?;
+    below(alloc, object, &last)
+}
+
+/// Returns the location of the object to which the pointer resolves, or `None` if it resolves to no
+/// object. May return `None` if an allocation fails.
+fn object_location(alloc: Global, doc: &Value, ptr: Pointer<'_>) -> Option<Location>
+    ensures { IfSome result (λ here.
+        Names (nodes (view doc.now)) (tokens ptr.entry) (path_of here)
+        × (nodes (view doc.now) (path_of here) ≡ Some an_object)) }
+{
+    match locate(alloc, doc, ptr) {
+        Ok(found) => match found.node.node() {
+            Node::Object(_) => Some(found.location),
+            _ => None,
+        },
+        Err(_) => None,
+    }
+}
+
+/// Returns the location of the member of an object whose key is the token, or `None` if an
+/// allocation fails.
+fn below(alloc: Global, object: Location, last: &Token<'_>) -> Option<Location>
+    ensures { IfSome result (λ here. path_of here ≡ path_of object ++ key last.now ∷ []) }
+{
+    let mut parts = object.parts;
+    match key_of(alloc, last) {
+        Ok(name) => match parts.push(Part::Key(name)) {
+            Ok(()) => Some(Location { parts }),
+            Err(_) => None,
+        },
+        Err(_) => None,
+    }
+}
+
+/// Returns the location of the node that the operation removes, if that can wait until all operations
+/// are applied. It removes or moves a member of an object, and the pointers of a move diverge at an
+/// object. May return `None` if an allocation fails.
+pub fn waiting_location(alloc: Global, doc: &Value, operation: &Operation) -> Option<Location>
+    ensures { IfSome result (λ here.
+        CanWait (nodes (view doc.now)) operation.now (path_of here)) }
 {
     match operation {
-        Operation::Remove { path } => is_member(alloc, doc, path.as_ptr()),
+        Operation::Remove { path } => member_location(alloc, doc, path.as_ptr()),
         Operation::Move { from, path } => {
-            is_member(alloc, doc, from.as_ptr())
-                && diverges(alloc, doc, from.as_ptr(), path.as_ptr())
+            moved_location(alloc, doc, from.as_ptr(), path.as_ptr())
         }
-        _ => false,
+        _ => None,
     }
+}
+
+/// Returns the location of the member that a move removes, if the two pointers diverge at an object.
+/// May return `None` if an allocation fails.
+pub fn moved_location(
+    alloc: Global,
+    doc: &Value,
+    from: Pointer<'_>,
+    path: Pointer<'_>,
+) -> Option<Location>
+    ensures member { IfSome result (λ here.
+        IsMemberAt (nodes (view doc.now)) (tokens from.entry) (path_of here)) }
+    ensures ways { IfSome result (λ _.
+        Diverges (nodes (view doc.now)) (tokens from.entry) (tokens path.entry)) }
+{
+    if !diverges(alloc, doc, from, path) {
+        return None;
+    }
+    member_location(alloc, doc, from)
 }
 
 /// Applies an operation whose removal waits, and which is apart from the nodes that are removed
@@ -469,17 +643,19 @@ pub fn can_wait(alloc: Global, doc: &Value, operation: &Operation) -> bool
 ///
 /// [`Fault::Refused`] if the operation fails, and [`Fault::Memory`] if an allocation fails. To undo
 /// the journal restores the document.
-pub fn wait(
+fn wait(
     alloc: Global,
     doc: &mut Value,
     journal: &mut Journal,
     later: &mut Vec<Later>,
     number: usize,
     operation: Operation,
+    location: Location,
 ) -> Result<(), Fault<PatchError>>
+    requires undone { CanUndo journal.old doc.old }
     requires apart { AllDiverge (nodes (view doc.old)) (pointers operation)
         (paths_of later.old.items) }
-    requires waits { CanWait (nodes (view doc.old)) operation }
+    requires waits { CanWait (nodes (view doc.old)) operation (path_of location) }
     ensures applied { IfOk result (λ _. (n : NodeMap)
         → IsPending (nodes (view doc.old)) later.old.items n
         → (m : NodeMap) × Applies n operation m × IsPending (nodes (view doc.new)) later.new.items m) }
@@ -492,7 +668,7 @@ pub fn wait(
 {
     match operation {
         Operation::Remove { path } => {
-            remove_later(alloc, doc, journal, later, number, path.as_ptr())
+            remove_later(alloc, doc, journal, later, number, path, location)
         }
         Operation::Move { from, path } => {
             move_later(
@@ -501,8 +677,9 @@ pub fn wait(
                 journal,
                 later,
                 number,
-                from.as_ptr(),
+                from,
                 path.as_ptr(),
+                location,
             )
         }
         Operation::Add { .. } => unreachable!(),
@@ -542,10 +719,9 @@ pub fn record_apart(
     ensures no_memory { TestNeedsNoMemory operation → HasMemory result }
     ensures none { TestNeedsNoMemory operation → later.new.items ≡ later.old.items }
 {
-    if can_wait(alloc, doc, &operation) {
-        wait(alloc, doc, journal, later, number, operation)
-    } else {
-        record(alloc, doc, journal, number, operation)
+    match waiting_location(alloc, doc, &operation) {
+        Some(location) => wait(alloc, doc, journal, later, number, operation, location),
+        None => record(alloc, doc, journal, number, operation),
     }
 }
 

@@ -29,6 +29,7 @@
 //! - [`Operation`] is one operation of a patch, and [`apply`] applies a list of them.
 //! - [`PatchError`] identifies the operation that failed, and why.
 //! - [`apply_with_inverse`] applies a patch and returns the patch that takes it back.
+//! - [`are_apart`] returns whether two patches can be applied in either order.
 //! - [`delete_with_undo`] deletes a value and returns the operation that restores it.
 //! - [`laws`] states what holds of operations and patches, such as that each has exactly one
 //!   outcome.
@@ -38,6 +39,7 @@
 #![tactic(auto)]
 
 mod add;
+mod apart;
 mod copy;
 mod equality;
 mod float_search;
@@ -53,6 +55,7 @@ mod target;
 mod test;
 mod undo;
 
+pub use apart::are_apart;
 pub use inverse::apply_with_inverse;
 pub use operation::{Operation, PatchError};
 pub use patch::apply;

@@ -4,20 +4,25 @@ ghost use Rattle.serde_json.specs.View.{view};
 ghost use Rattle.jsonptr.specs.Fault.{IfRefused, ForRefused};
 ghost use Rattle.jsonptr.specs.Json.{nodes, HasSortedKeys};
 ghost use Rattle.jsonptr.specs.Pointer.{tokens};
-ghost use Rattle.jsonptr_journal.specs.Location.{contents_of};
+ghost use Rattle.jsonptr_journal.specs.Location.{path_of, contents_of};
 ghost use Rattle.jsonptr_journal.specs.Journal.{Undoes};
 ghost use Rattle.jsonptr_journal.specs.Undoing.{IsAddition};
 ghost use Rattle.jsonptr_patch.specs.Adding.{Adds};
+ghost use Rattle.jsonptr_patch.specs.Apart.{Diverges};
 ghost use Rattle.jsonptr_patch.specs.Operating.{Moves, IsProperFront, RefusesAdd, RefusesMove};
+ghost use Rattle.jsonptr_patch.specs.PrivateLater.{IsMemberAt};
 ghost use Rattle.jsonptr_patch.specs.PrivateRecording.{Records};
 
 use crate::add::place;
+use crate::later::moved_location;
 use crate::operation::PatchError;
 use crate::target::target;
 use jsonptr::{Fault, Pointer};
-use jsonptr_journal::addition::{Addition, add};
+use jsonptr_journal::addition::{Addition, add, insert};
 use jsonptr_journal::journal::{Entry, Journal};
-use jsonptr_journal::removal::{Taken, take, undo_removal};
+use jsonptr_journal::location::Location;
+use jsonptr_journal::removal::{Removal, Taken, blank, remove, take, undo_removal};
+use jsonptr_value::discard;
 use serde_json::Value;
 use std::alloc::{AllocError, Global};
 
@@ -49,7 +54,8 @@ pub fn move_value(
     Ok(())
 }
 
-/// Moves a value, as [`move_value`] does, for the last operation of a patch.
+/// Moves a value, as [`move_value`] does, for the last operation of a patch. A member that is moved out
+/// of an object costs what it changes if the pointers diverge at an object.
 ///
 /// # Errors
 ///
@@ -69,8 +75,72 @@ pub fn move_last(
         (tokens from.entry) (tokens path.entry)) }
     ensures unchanged { OnErr result (view doc.new ≡ view doc.old) }
 {
+    match moved_location(alloc, doc, from, path) {
+        Some(location) => move_member(alloc, doc, number, from, path, location),
+        None => move_any(alloc, doc, number, from, path),
+    }
+}
+
+/// Moves any value, as [`move_last`] does.
+///
+/// # Errors
+///
+/// Those of [`move_value`]. The document is unchanged.
+fn move_any(
+    alloc: Global,
+    doc: &mut Value,
+    number: usize,
+    from: Pointer<'_>,
+    path: Pointer<'_>,
+) -> Result<(), Fault<PatchError>>
+    ensures moved { IfOk result (λ _. Moves (nodes (view doc.old)) (tokens from.entry)
+        (tokens path.entry) (nodes (view doc.new))) }
+    ensures sorted { IfOk result (λ _.
+        HasSortedKeys (view doc.old) → HasSortedKeys (view doc.new)) }
+    ensures refused { IfRefused result (RefusesMove (nodes (view doc.old)) number
+        (tokens from.entry) (tokens path.entry)) }
+    ensures unchanged { OnErr result (view doc.new ≡ view doc.old) }
+{
     moved(alloc, doc, number, from, path)?.discard();
     Ok(())
+}
+
+/// Moves the member at the location, as [`move_last`] does. It is `null` until the value is added.
+///
+/// # Errors
+///
+/// Those of [`move_value`]. The document is unchanged.
+fn move_member(
+    alloc: Global,
+    doc: &mut Value,
+    number: usize,
+    from: Pointer<'_>,
+    path: Pointer<'_>,
+    location: Location,
+) -> Result<(), Fault<PatchError>>
+    requires ways { Diverges (nodes (view doc.old)) (tokens from) (tokens path) }
+    requires member { IsMemberAt (nodes (view doc.old)) (tokens from) (path_of location) }
+    ensures moved { IfOk result (λ _. Moves (nodes (view doc.old)) (tokens from.entry)
+        (tokens path.entry) (nodes (view doc.new))) }
+    ensures sorted { IfOk result (λ _.
+        HasSortedKeys (view doc.old) → HasSortedKeys (view doc.new)) }
+    ensures refused { IfRefused result (RefusesMove (nodes (view doc.old)) number
+        (tokens from.entry) (tokens path.entry)) }
+    ensures unchanged { OnErr result (view doc.new ≡ view doc.old) }
+{
+    let Some(value) = blank(doc, &location) else {
+        return move_any(alloc, doc, number, from, path);
+    };
+    match insert_taken(alloc, doc, number, path, value) {
+        Ok(()) => {
+            discard(remove(alloc, doc, location));
+            Ok(())
+        }
+        Err(NotAdded { value, fault }) => {
+            undo_removal(alloc, doc, Removal::Blank { location }, value);
+            Err(fault)
+        }
+    }
 }
 
 /// Moves a value, as [`move_value`] does, and returns what undoes that.
@@ -145,6 +215,39 @@ pub fn add_taken(
     match place(alloc, doc, number, path) {
         Ok(place) => match add(alloc, doc, place, value) {
             Ok(addition) => Ok(addition),
+            Err(value) => Err(NotAdded {
+                value,
+                fault: Fault::Memory(AllocError),
+            }),
+        },
+        Err(fault) => Err(NotAdded { value, fault }),
+    }
+}
+
+/// Adds a value that was removed, as [`add_taken`] does, and drops the one that it replaces, if any.
+///
+/// # Errors
+///
+/// Those of [`add_taken`]. The document is unchanged.
+fn insert_taken(
+    alloc: Global,
+    doc: &mut Value,
+    number: usize,
+    path: Pointer<'_>,
+    value: Value,
+) -> Result<(), NotAdded>
+    ensures added { IfOk result (λ _. Adds (nodes (view doc.old)) (tokens path.entry)
+        (nodes (view value)) (nodes (view doc.new))) }
+    ensures sorted { IfOk result (λ _.
+        HasSortedKeys (view value) → HasSortedKeys (view doc.old) → HasSortedKeys (view doc.new)) }
+    ensures returned { IfErr result (λ e. e.value ≡ value) }
+    ensures refused { IfErr result (λ e. ForRefused e.fault
+        (RefusesAdd (nodes (view doc.old)) number (tokens path.entry))) }
+    ensures unchanged { OnErr result (contents_of doc.new ≡ contents_of doc.old) }
+{
+    match place(alloc, doc, number, path) {
+        Ok(place) => match insert(alloc, doc, place, value) {
+            Ok(()) => Ok(()),
             Err(value) => Err(NotAdded {
                 value,
                 fault: Fault::Memory(AllocError),

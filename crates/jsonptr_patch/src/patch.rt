@@ -1,20 +1,19 @@
 //! Applying a patch: a list of operations, whole or not at all (RFC 6902, section 5).
-ghost use Rattle.std.specs.Prelude.{◌≡◌, [], ◌∷◌, ◌++◌, ℕ, length, All, IfOk, IsOk, IsTrue, OnErr};
+ghost use Rattle.std.specs.Prelude.{◌≡◌, [], ◌∷◌, ◌++◌, ℕ, length, All, IfOk, IsOk, OnErr};
 ghost use Rattle.serde_json.specs.View.{view};
 ghost use Rattle.jsonptr.specs.Fault.{IfRefused, HasMemory};
 ghost use Rattle.jsonptr.specs.Json.{nodes, HasSortedKeys};
 ghost use Rattle.jsonptr.specs.Node.{NodeMap};
-ghost use Rattle.jsonptr_patch.specs.Apart.{AllDiverge, pointers};
 ghost use Rattle.jsonptr_patch.specs.Memory.{TestNeedsNoMemory, LastNeedsNoMemory, NeedsNoMemory};
 ghost use Rattle.jsonptr_patch.specs.Operating.{Applies, RefusesOperation};
 ghost use Rattle.jsonptr_patch.specs.Order.{OperationHasSortedKeys};
 ghost use Rattle.jsonptr_patch.specs.Patching.{Patches, RefusesPatch};
-ghost use Rattle.jsonptr_patch.specs.PrivateLater.{paths_of, IsPending};
+ghost use Rattle.jsonptr_patch.specs.PrivateLater.{IsPending};
 ghost use Rattle.jsonptr_patch.specs.PrivateRecording.{CanUndo, Records};
 
 use crate::add::{add, add_last};
 use crate::copy::{copy, copy_last};
-use crate::later::{Later, can_wait, record_or_wait, settle, unlink, wait};
+use crate::later::{Later, record_or_wait, settle, unlink};
 use crate::move_value::{move_last, move_value};
 use crate::operation::{Operation, PatchError};
 use crate::remove::{remove, remove_last};
@@ -35,7 +34,7 @@ use std::alloc::Global;
 /// An operation costs what it changes. A member that is removed from an object, also by a move, is
 /// replaced by `null` until the last operation has been applied, and then removed. An operation is
 /// apart from it if each of its pointers diverges from that of the member at an object of the
-/// document. If a later operation is not, or if 512 members wait, all that wait are removed before it.
+/// document. If a later operation is not, or if 1,024 members wait, all that wait are removed before it.
 /// That clones the keys of their objects, once for members of one object that follow one another. To
 /// undo it takes time in proportion to the objects. An addition to a member that waits takes its
 /// place instead.
@@ -185,54 +184,9 @@ fn finish(
 {
     let mut later = later;
     settle(alloc, doc, journal, &mut later, &last)?;
-    apply_last_apart(alloc, doc, journal, &mut later, number, last)?;
+    apply_last(alloc, doc, number, last)?;
     unlink(alloc, doc, later);
     Ok(())
-}
-
-/// Applies the last operation, which is apart from the nodes that are removed later.
-///
-/// # Errors
-///
-/// [`Fault::Refused`] if the operation fails, and [`Fault::Memory`] if an allocation fails. To undo
-/// the journal restores the document.
-fn apply_last_apart(
-    alloc: Global,
-    doc: &mut Value,
-    journal: &mut Journal,
-    later: &mut Vec<Later>,
-    number: usize,
-    operation: Operation,
-) -> Result<(), Fault<PatchError>>
-    requires { AllDiverge (nodes (view doc.old)) (pointers operation)
-        (paths_of later.old.items) }
-    ensures applied { IfOk result (λ _. (n : NodeMap)
-        → IsPending (nodes (view doc.old)) later.old.items n
-        → (m : NodeMap) × Applies n operation m × IsPending (nodes (view doc.new)) later.new.items m) }
-    ensures sorted { IfOk result (λ _. OperationHasSortedKeys operation
-        → HasSortedKeys (view doc.old) → HasSortedKeys (view doc.new)) }
-    ensures refused { IfRefused result (λ e. (n : NodeMap)
-        → IsPending (nodes (view doc.old)) later.old.items n
-        → RefusesOperation n number operation e) }
-    ensures undone { OnErr result (Records journal.old doc.old journal.new doc.new) }
-    ensures no_memory { LastNeedsNoMemory operation → HasMemory result }
-{
-    if is_move(&operation) && can_wait(alloc, doc, &operation) {
-        wait(alloc, doc, journal, later, number, operation)
-    } else {
-        apply_last(alloc, doc, number, operation)
-    }
-}
-
-/// Returns whether the operation is a move. As the last one it waits, since its removal may have to
-/// be undone; any other is only applied.
-fn is_move(operation: &Operation) -> bool
-    ensures { IsTrue result → LastNeedsNoMemory operation.now → ⊥ }
-{
-    match operation {
-        Operation::Move { .. } => true,
-        _ => false,
-    }
 }
 
 /// Applies the operation with this number, and records in the journal what undoes it.

@@ -13,7 +13,7 @@ loop-one-preserved c =
     record {
       known = object;
       apart = more_diverges (nodes (view c.args.doc.now)) (tokens c.args.ptr) c.args.later.now c.loop-one.one-index c.one-item.result c.loop-one-test.true c.one-item.is
-          (subst (λ (ys : List Text). Diverges (nodes (view c.args.doc.now)) (tokens c.args.ptr) ys) c.as_ptr.ensures.tokens (fork_diverges _ _ _ _ c.in-Some.ensures object))
+          (subst (λ (ys : List Text). Diverges (nodes (view c.args.doc.now)) (tokens c.args.ptr) ys) c.as_ptr.ensures.tokens (fork_diverges _ _ _ _ c.in-Some-fork_at.ensures object))
           c.loop-one.invariant.apart;
     }
 

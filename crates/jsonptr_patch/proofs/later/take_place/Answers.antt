@@ -19,8 +19,8 @@ returns-clause-apart c = λ _.
     (subst (λ (ks : List Later). AllDiverge d (pointers c.args.operation.now) (paths_of ks)) before (c.is_apart.ensures.apart c.if-not-is_apart.false))
     (subst (λ (ks : List Later). AllDiverge d (pointers c.args.operation.now) (paths_of ks)) after (c.is_apart-2.ensures.apart c.if-not-is_apart-2.false)))
 
-pub returns-clause-stands : goal.returns-clause-stands
-returns-clause-stands c = λ _ n p.
+pub returns-clause-frees : goal.returns-clause-frees
+returns-clause-frees c = λ _ n p.
     let at = c.in-Some.ensures in
     let r = place_taken c.args.doc.now n c.args.operation.now c.args.later.now.items c.in-Some.index c.remove.result at.0 (subst (λ (ks : List Later). IsWaitingAt ks c.in-Some.index at.0) c.as_slice.ensures.value at.1) at.2 at.3 p in
     (r.0, subst (λ (ks : List Later). IsPending (nodes (view c.args.doc.now)) ks r.0) (sym c.remove.ensures.items) r.1, r.2)

@@ -1,7 +1,6 @@
-use Rattle.std.proofs.Common.{List, [], ◌∷◌, sym, subst}
+use Rattle.std.proofs.Common.{List, [], ◌∷◌, refl, sym, subst}
 use Rattle.serde_json.specs.View.{view}
 use Rattle.jsonptr.specs.Json.{nodes}
-use Rattle.jsonptr.specs.Pointer.{tokens}
 use Rattle.jsonptr.specs.Text.{Text}
 use Rattle.jsonptr_patch.specs.Apart.{AllDiverge}
 use Rattle.jsonptr_patch.specs.PrivateLater.{paths_of}
@@ -13,13 +12,12 @@ move_later-requires-clause-apart c =
     let d = nodes (view c.args.doc.now) in
     let yss = paths_of c.args.later.now.items in
     let apart = rw c.in-Move.is at c.requires.apart in
-    subst (λ (ts : List Text). AllDiverge d (ts ∷ tokens c.as_ptr-in-Move-2.result ∷ []) yss) (sym c.as_ptr-in-Move.ensures.tokens)
-    (subst (λ (ts : List Text). AllDiverge d (c.in-Move.from ∷ ts ∷ []) yss) (sym c.as_ptr-in-Move-2.ensures.tokens) apart)
+    subst (λ (ts : List Text). AllDiverge d (c.in-Move.from ∷ ts ∷ []) yss) (sym c.as_ptr.ensures.tokens) apart
 
 pub returns-in-Remove-clause-refused : goal.returns-in-Remove-clause-refused
 returns-in-Remove-clause-refused c =
     let apart = rw c.in-Remove.is at c.requires.apart in
-    rw c.in-Remove.is (removed_refused c.args.doc.now c.args.number _ c.in-Remove.path c.args.later.now.items c.remove_later.result c.as_ptr.ensures.tokens apart c.remove_later.ensures.refused)
+    rw c.in-Remove.is (removed_refused c.args.doc.now c.args.number c.in-Remove.path c.in-Remove.path c.args.later.now.items c.remove_later.result refl apart c.remove_later.ensures.refused)
 
 pub returns-in-Move-clause-refused : goal.returns-in-Move-clause-refused
-returns-in-Move-clause-refused c = rw c.in-Move.is (moved_refused c.args.doc.now c.args.number _ _ c.in-Move.from c.in-Move.path c.args.later.now.items c.move_later.result c.as_ptr-in-Move.ensures.tokens c.as_ptr-in-Move-2.ensures.tokens c.move_later.ensures.refused)
+returns-in-Move-clause-refused c = rw c.in-Move.is (moved_refused c.args.doc.now c.args.number c.in-Move.from _ c.in-Move.from c.in-Move.path c.args.later.now.items c.move_later.result refl c.as_ptr.ensures.tokens c.move_later.ensures.refused)

@@ -1,0 +1,21 @@
+use Rattle.serde_json.specs.View.{view}
+use Rattle.jsonptr.specs.Json.{nodes}
+use Rattle.jsonptr_tree.specs.Content.{map_of}
+use Rattle.jsonptr_journal.specs.Location.{path_of, contents_of}
+use Rattle.jsonptr_patch.proofs.ChangeMapLemmas.{takes_node}
+use Rattle.jsonptr_patch.proofs.ChangeOrderLemmas.{sorted_without}
+use Rattle.jsonptr_patch.proofs.PlaceLemmas.{named_there}
+use Rattle.jsonptr_patch.proofs.later.unlink_one.Goals as goal
+
+pub remove-requires : goal.remove-requires
+remove-requires c =
+    let named = rw c.in-Some.is at c.requires in
+    named_there (contents_of c.args.doc.now) c.args.one.path (path_of c.in-Some.location) named
+
+pub returns-in-Some-clause-removed : goal.returns-in-Some-clause-removed
+returns-in-Some-clause-removed c =
+    let named = rw c.in-Some.is at c.requires in
+    (map_of (contents_of c.remove.result), takes_node (path_of c.in-Some.location) (contents_of c.remove.result) (contents_of c.args.doc.now) (contents_of c.remove.new.doc) c.args.one.path c.remove.ensures named)
+
+pub returns-in-Some-clause-sorted : goal.returns-in-Some-clause-sorted
+returns-in-Some-clause-sorted c = λ s. sorted_without (path_of c.in-Some.location) (contents_of c.remove.result) (contents_of c.args.doc.now) (contents_of c.remove.new.doc) c.remove.ensures s
