@@ -1,6 +1,6 @@
 """Runs both programs on pointers of up to 65,000 tokens and on documents as deep as they read.
 
-No run ends by a signal, and each has the result that the rules give. What `jp` prints can be read again, at the depths around its limits.
+No run ends by a signal, also with little memory, and each has the result that the rules give. What `jp` prints can be read again, at the depths around its limits.
 """
 import os
 import subprocess
@@ -15,6 +15,7 @@ from harness import CheckFailed, program
 SECONDS = 60
 COUNTS = (1_000, 10_000, 32_200, 65_000)
 TOKENS = ("0", "-", "a")
+LIMITS = (*range(4, 40, 2), *range(40, 161, 10), 320, 640, 1_024)  # of memory, in MiB
 MAX_DEPTH = 127  # of a JSON text that is read
 MAX_TOML_DEPTH = 80  # of the values of a TOML text that is printed
 JP, RUN = program("jsonptr_cli"), program("jsonptr_run")
@@ -316,11 +317,24 @@ def check_in_place(folder):
     return runs + 1
 
 
+def check_limited():
+    """Checks that no limit on memory ends `jsonptr_run` by a signal: it prints the whole line, or nothing."""
+    for token in TOKENS:
+        wanted = f"{expanded(token, COUNTS[-1])}\n".encode()
+        for limit in LIMITS:
+            script = f'ulimit -v {limit * 1024}; exec "$@"'
+            given = start(("sh", "-c", script, "sh", RUN, "assign", f"/{token}" * COUNTS[-1], "1"), "null")
+            found = given.returncode, given.stdout, given.stderr
+            if found not in ((0, wanted, b""), (4, b"", b"out of memory\n")):
+                raise CheckFailed(f"{token}, {limit} MiB of memory: status {given.returncode}, {given.stderr[:100]!r}")
+    return len(TOKENS) * len(LIMITS)
+
+
 def main():
     count, errors = 0, []
     with tempfile.TemporaryDirectory() as folder, ThreadPoolExecutor(os.cpu_count()) as pool:
         try:
-            count += check_read_again(folder) + check_in_place(folder)
+            count += check_read_again(folder) + check_in_place(folder) + check_limited()
         except CheckFailed as error:
             sys.exit(f"deep: {error}")
         for table in (of_run, of_jp, of_toml, deep_toml, lambda: patches(folder)):

@@ -10,7 +10,7 @@ from call_cases import Case, allocates, edit, no_alloc, session
 from harness import CheckFailed, build_shim, line_of, parts_of, program, run_with_shim
 
 PROGRAM = program("jsonptr_tool_calls")
-STACK_KIBIBYTES = 512
+STACK_KIBIBYTES = 256
 SECONDS = 20
 COUNT = 1_000_000
 REFUSED = [10, 500_000, 1_000_000]
