@@ -7,5 +7,6 @@ mod TomlListingLemmas
 mod ReadingLemmas
 mod OrderLemmas
 mod RebuildingLemmas
-mod PlainLemmas
+pub mod PlainLemmas
 mod RowLemmas
+mod OneErrorLemmas

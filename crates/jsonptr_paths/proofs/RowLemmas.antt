@@ -33,7 +33,7 @@ use Rattle.jsonptr_paths.proofs.PlainLemmas.{plain_quoted, plain_printed, read_q
 
 -- parts of a line
 
-cut_one : (c : ℕ) (a b x y : Text) → AllByRecursion (λ z. z ≢ c) a → AllByRecursion (λ z. z ≢ c) b → a ++ c ∷ x ≡ b ++ c ∷ y → (a ≡ b) × (x ≡ y)
+pub cut_one : (c : ℕ) (a b x y : Text) → AllByRecursion (λ z. z ≢ c) a → AllByRecursion (λ z. z ≢ c) b → a ++ c ∷ x ≡ b ++ c ∷ y → (a ≡ b) × (x ≡ y)
 cut_one c [] [] x y h k e = (refl, cc)
 cut_one c [] (z ∷ b) x y h k e = let same : z ≡ c = cc in absurd (k.0 same)
 cut_one c (z ∷ a) [] x y h k e = let same : z ≡ c = cc in absurd (h.0 same)
@@ -260,7 +260,7 @@ row_fits d ts l row =
     let fits : length f.path + depth (emptied row.0) ≤ depth d = emptied_fits d row.0 ts f le (λ c. NestsWithin-depth d f.path c) in
     omega (arith, same, fits)
 
-tab_there : (a x : Text) → AllByRecursion (λ z. z ≢ 9) (a ++ 9 ∷ x) → ⊥
+pub tab_there : (a x : Text) → AllByRecursion (λ z. z ≢ 9) (a ++ 9 ∷ x) → ⊥
 tab_there [] x h = h.0 refl
 tab_there (z ∷ a) x h = tab_there a x h.1
 

@@ -7,10 +7,12 @@ ghost use Rattle.jsonptr.specs.Node.{NodeMap};
 ghost use Rattle.jsonptr.specs.Text.{Text};
 ghost use Rattle.jsonptr_lines.specs.Lines.{IsOneLine};
 ghost use Rattle.jsonptr_paths.specs.Listing.{IsLineOf, Lists};
-ghost use Rattle.jsonptr_paths.specs.Reading.{Builds, StopsBuilding};
+ghost use Rattle.jsonptr_paths.specs.Reading.{Builds, IsLineError, StopsBuilding};
 ghost use Rattle.jsonptr_paths.specs.declared.listing.Listed.TheVariants.{AllNodes};
 ghost use Rattle.jsonptr_paths.specs.declared.reading.LineError.{LineError};
 ghost use Rattle.jsonptr_paths.specs.declared.reading.BuildError.TheVariants.{Line};
+
+use jsonptr_laws::assign::assign_law;
 
 /// States that the lines of all nodes of a document build that document.
 ///
@@ -32,3 +34,21 @@ pub fn one_line_law()
     ensures { (pointer : Text) (v : Data) (line : Text) → IsLineOf pointer v line
         → (l : Text) × (line ≡ l ++ 10 ∷ []) × IsOneLine l }
 {}
+
+/// States that lines build one document, or that one line of them is at fault for one reason.
+///
+/// A line that adds no value has one error, with all its fields (`line`). So a text has at most one
+/// line at fault (`one_stop`), none if it builds a document (`not_both`), and it builds at most one
+/// (`one_document`).
+pub fn one_error_law()
+    ensures line { (n : NodeMap) (line : Text) (e f : LineError)
+        → IsLineError n line e → IsLineError n line f → e ≡ f }
+    ensures one_stop { (lines : Text) (i j : ℕ) (e f : LineError)
+        → StopsBuilding lines (Line i e) → StopsBuilding lines (Line j f) → (i ≡ j) × (e ≡ f) }
+    ensures not_both { (lines : Text) (m : NodeMap) (i : ℕ) (e : LineError)
+        → Builds lines m → StopsBuilding lines (Line i e) → ⊥ }
+    ensures one_document { (lines : Text) (k m : NodeMap)
+        → Builds lines k → Builds lines m → k ≡ m }
+{
+    assign_law();
+}
