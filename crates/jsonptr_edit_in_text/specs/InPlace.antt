@@ -1,5 +1,6 @@
 -- Edits of a text that are made in place or not at all.
 use Rattle.jsonptr_grammar.specs.Text.{Text}
+use Rattle.jsonptr_lines.specs.Lines.{IsOneLine}
 use Rattle.jsonptr_edit_in_text.specs.declared.edited.EditError.{EditError}
 use Rattle.jsonptr_edit_in_text.specs.declared.in_place.InPlaceError.{InPlaceError}
 use Rattle.jsonptr_edit_in_text.specs.declared.in_place.InPlaceError.TheVariants.{NotInPlace, Failed}
@@ -9,3 +10,7 @@ use Rattle.jsonptr_edit_in_text.specs.declared.in_place.InPlaceError.TheVariants
 abbrev pub IsInPlaceError : {E : Type 0} → (Text → Type 0) → (EditError E → Type 0) → InPlaceError E → Type 0
 IsInPlaceError P Q NotInPlace = (new : Text) × P new
 IsInPlaceError P Q (Failed e) = Q e
+
+-- `StaysOneLine old new`: if the text `old` has no line feed, neither has `new`
+abbrev pub StaysOneLine : Text → Text → Type 0
+StaysOneLine old new = IsOneLine old → IsOneLine new

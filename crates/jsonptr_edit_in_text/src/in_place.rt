@@ -6,12 +6,13 @@ ghost use Rattle.jsonptr_tree.specs.Json.{nodes};
 ghost use Rattle.jsonptr_edit_in_text.specs.Bytes.{AssignsBytes, DeletesBytes};
 ghost use Rattle.jsonptr_edit_in_text.specs.EditInText.{AssignsInText, DeletesInText, LacksInText, IsAssignError, IsReadFault};
 ghost use Rattle.jsonptr_edit_in_text.specs.PatchInText.{PatchesInText, PatchBytes, IsPatchFault};
-ghost use Rattle.jsonptr_edit_in_text.specs.InPlace.{IsInPlaceError};
+ghost use Rattle.jsonptr_edit_in_text.specs.InPlace.{IsInPlaceError, StaysOneLine};
 
 use crate::apply::apply_in_text_with;
 use crate::assign::assign_in_text_with;
 use crate::delete::delete_in_text_with;
 use crate::edited::{EditError, Edited};
+use crate::one_line::stays_one_line;
 use jsonptr::{Pointer, assign};
 use jsonptr_patch::{Operation, PatchError};
 use jsonptr_splice::buffers::Buffers;
@@ -50,13 +51,20 @@ pub fn assign_in_place(
         (nodes (view value)) (string_bytes s)) }
     ensures bytes { IfOk result (λ s.
         AssignsBytes text.now (tokens pointer.entry) (view value) (string_bytes s)) }
+    ensures line { IfOk result (λ s. StaysOneLine text.now (string_bytes s)) }
     ensures refused { IfErr result (IsInPlaceError
         (AssignsInText text.now (tokens pointer.entry) (nodes (view value)))
         (IsAssignError text.now (tokens pointer.entry)
         (view value))) }
 {
     match assign_in_text_with(alloc, buffers, text, pointer, value) {
-        Ok(Edited::InPlace(new)) => Ok(new),
+        Ok(Edited::InPlace(new)) => {
+            if stays_one_line(text, new.as_str()) {
+                Ok(new)
+            } else {
+                Err(InPlaceError::NotInPlace)
+            }
+        }
         Ok(Edited::Rewritten(_new)) => Err(InPlaceError::NotInPlace),
         Err(error) => Err(InPlaceError::Failed(error)),
     }
@@ -78,12 +86,19 @@ pub fn delete_in_place(
         (λ s. DeletesInText text.now (tokens pointer.entry) (string_bytes s))) }
     ensures bytes { IfOk result (λ o. IfSome o (λ s.
         DeletesBytes text.now (tokens pointer.entry) (string_bytes s))) }
+    ensures line { IfOk result (λ o. IfSome o (λ s. StaysOneLine text.now (string_bytes s))) }
     ensures refused { IfErr result (IsInPlaceError
         (DeletesInText text.now (tokens pointer.entry)) (IsReadFault text.now)) }
 {
     match delete_in_text_with(alloc, buffers, text, pointer) {
         Ok(None) => Ok(None),
-        Ok(Some(Edited::InPlace(new))) => Ok(Some(new)),
+        Ok(Some(Edited::InPlace(new))) => {
+            if stays_one_line(text, new.as_str()) {
+                Ok(Some(new))
+            } else {
+                Err(InPlaceError::NotInPlace)
+            }
+        }
         Ok(Some(Edited::Rewritten(_new))) => Err(InPlaceError::NotInPlace),
         Err(error) => Err(InPlaceError::Failed(error)),
     }
@@ -104,11 +119,18 @@ pub fn apply_in_place(
     ensures applied { IfOk result
         (λ s. PatchesInText text.now operations.items (string_bytes s)) }
     ensures bytes { IfOk result (λ s. PatchBytes text.now operations.items (string_bytes s)) }
+    ensures line { IfOk result (λ s. StaysOneLine text.now (string_bytes s)) }
     ensures refused { IfErr result (IsInPlaceError
         (PatchesInText text.now operations.items) (IsPatchFault text.now operations.items)) }
 {
     match apply_in_text_with(alloc, buffers, text, operations) {
-        Ok(Edited::InPlace(new)) => Ok(new),
+        Ok(Edited::InPlace(new)) => {
+            if stays_one_line(text, new.as_str()) {
+                Ok(new)
+            } else {
+                Err(InPlaceError::NotInPlace)
+            }
+        }
         Ok(Edited::Rewritten(_new)) => Err(InPlaceError::NotInPlace),
         Err(error) => Err(InPlaceError::Failed(error)),
     }

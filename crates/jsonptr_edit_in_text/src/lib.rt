@@ -32,6 +32,7 @@ mod edited;
 mod expand;
 mod in_place;
 mod insert;
+mod one_line;
 mod operate;
 mod place;
 mod remove;
