@@ -4,8 +4,9 @@
     tools/bench/patches.py [--rounds N] [--ours PROGRAM] [PROGRAM]
 
 It times the program that program.py builds, or another build of it. The result of a case is its minimum over all
-rounds, for one operation. With PROGRAM, that of crates/jsonptr_run, it also prints the time and the peak memory of a
-patch of three operations and of a deletion on a document of 10 MB.
+rounds, for one operation. Where Python has `jsonpatch`, it is timed too, on 1,000 moves and removals in one object of
+100,000 records. With PROGRAM, that of crates/jsonptr_run, it also prints the time and the peak memory of a patch of three
+operations and of a deletion on a document of 10 MB.
 """
 import argparse
 import json
@@ -20,7 +21,8 @@ from speed import least_of, shown, times_of
 SIZES = (10, 1000, 100_000)
 SINGLE = [("object", "add"), ("object", "replace"), ("object", "remove"), ("array", "add"), ("array", "replace"),
           ("object", "test"), ("array", "test")]
-TEN = ["replace a name", "add", "add a member", "add, then an error", "remove"]
+TEN = ["replace a name", "add", "add a member", "add, then an error"]
+WAITING = ["move", "remove", "move, then an error", "remove, then an error"]
 
 
 def rows():
@@ -30,13 +32,23 @@ def rows():
             yield f"one `{change}`, {kind} of {records:,}", (kind, change, records, min(records, 1000), 1)
     for change in TEN:
         for records in SIZES[1:]:
-            patches = 1 if change == "remove" else 10
-            yield f"ten: {change}, object of {records:,}", ("object", change, records, patches, 10)
+            yield f"ten: {change}, object of {records:,}", ("object", change, records, 10, 10)
+    for change in WAITING:
+        for records in (100, 10_000, 100_000):
+            for operations in (1, 2, 10):
+                patches = min(records, 1000) // (2 * operations)
+                yield f"{operations}: {change}, object of {records:,}", ("object", change, records, patches, operations)
+
+
+def long_rows():
+    """Returns the rows that are timed beside Python's jsonpatch, in the same form."""
+    for change in ("move", "remove"):
+        yield f"1,000: {change}, object of 100,000", ("object", change, 100_000, 1, 1000)
 
 
 def lines_of():
     """Returns the lines of the benchmark's input."""
-    for title, words in rows():
+    for title, words in [*rows(), *long_rows()]:
         for maker in ("apply", "calls"):
             yield "\t".join([f"{title}, {maker}", "patch", maker, *map(str, words)])
 
@@ -50,6 +62,27 @@ def seconds_and_memory(command, path):
         if status:
             raise subprocess.CalledProcessError(status, command)
         return time.perf_counter() - start, usage.ru_maxrss / 1024
+
+
+def python_times(rounds):
+    """Returns the picoseconds of one operation of Python's jsonpatch for each of the long rows, or nothing without it."""
+    try:
+        import jsonpatch
+    except ImportError:
+        return {}
+    found = {}
+    for title, (_, change, records, _, operations) in long_rows():
+        names = [f"/k{number * (records // operations):06}" for number in range(operations)]
+        moves = [{"op": "move", "from": name, "path": f"{name}x0"} for name in names]
+        removals = [{"op": "remove", "path": name} for name in names]
+        patch = jsonpatch.JsonPatch(moves if change == "move" else removals)
+        for _ in range(rounds):
+            document = {f"k{number:06}": {"id": number, "name": "some name"} for number in range(records)}
+            start = time.perf_counter()
+            patch.apply(document, in_place=True)
+            picoseconds = int(1e12 * (time.perf_counter() - start) / operations)
+            found[title] = min(picoseconds, found.get(title, picoseconds))
+    return found
 
 
 def time_program(program, rounds):
@@ -80,6 +113,13 @@ def main():
     for title, _ in rows():
         ours, plain = least[f"{title}, apply"], least[f"{title}, calls"]
         print(f"| {title} | {shown(ours)} | {shown(plain)} | {ours / plain:.2f} |")
+    theirs = python_times(words.rounds)
+    print("| Operation | in a patch | by itself | in Python's jsonpatch | ratio to it |")
+    print("|---|---|---|---|---|")
+    for title, _ in long_rows():
+        ours, plain = least[f"{title}, apply"], least[f"{title}, calls"]
+        python = f"{shown(theirs[title])} | {ours / theirs[title]:.2f}" if theirs else " | "
+        print(f"| {title} | {shown(ours)} | {shown(plain)} | {python} |")
     if words.program:
         time_program(words.program, words.rounds)
 

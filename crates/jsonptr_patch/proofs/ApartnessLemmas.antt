@@ -1,5 +1,5 @@
 -- Whether pointers, operations and patches are apart.
-use Rattle.std.proofs.Common.{◌≡◌, ◌≢◌, ◌↔◌, ℕ, zero, suc, ◌<◌, ◌≤◌, ◌+◌, length, slice_index_or, Bool, true, false, true≢false, IsTrue, Result, Ok, Err, IfOk, ◌⊎◌, ⊎_elim, Contains, List, [], ◌∷◌, ◌++◌, Option, Some, option_map, refl, sym, ap, ap₂, ◌∙◌, subst, append_assoc, arith, length-append}
+use Rattle.std.proofs.Common.{◌≡◌, ◌≢◌, ◌↔◌, ℕ, zero, suc, ◌<◌, ◌≤◌, ◌+◌, length, slice_index_or, Bool, true, false, true≢false, IsTrue, Result, Ok, Err, IfOk, ⊎_elim, Contains, List, [], ◌∷◌, ◌++◌, Some, option_map, refl, sym, ap, ap₂, ◌∙◌, subst, append_assoc, arith, length-append}
 use Rattle.std.proofs.lemmas.Bool.{cases_lt}
 use Rattle.std.proofs.lemmas.List.Elements.{Contains-append_left, Contains-append_right}
 use Rattle.jsonptr.specs.Text.{Text}

@@ -27,7 +27,7 @@ use Rattle.jsonptr_journal.specs.Location.{path_of, contents_of}
 use Rattle.jsonptr_journal.specs.Journal.{Undone}
 use Rattle.jsonptr_journal.specs.Writing.{At}
 use Rattle.jsonptr_journal.specs.declared.journal.Journal.{Journal}
-use Rattle.jsonptr_journal.specs.Changes.{IsThere, Writes, Replaces, TakesAt}
+use Rattle.jsonptr_journal.specs.Changes.{IsThere, Replaces, TakesAt}
 use Rattle.jsonptr_journal.specs.declared.location.Location.{Location}
 use Rattle.jsonptr_patch.specs.Adding.{Adds}
 use Rattle.jsonptr_patch.specs.Apart.{Diverges, AllDiverge, pointers}

@@ -3,6 +3,8 @@
 #![tactic(auto)]
 
 #[cfg(test)]
+mod apart;
+#[cfg(test)]
 mod appendix;
 #[cfg(test)]
 mod arrays;
@@ -16,3 +18,5 @@ mod diffs;
 mod members;
 #[cfg(test)]
 mod reading;
+#[cfg(test)]
+mod waiting;

@@ -1,6 +1,4 @@
-use Rattle.std.proofs.Common.{[], ◌∷◌}
 use Rattle.jsonptr.specs.Json.{nodes}
-use Rattle.jsonptr.specs.Pointer.{tokens}
 use Rattle.serde_json.specs.View.{view}
 use Rattle.jsonptr_patch.specs.Apart.{all_pointers}
 use Rattle.jsonptr_patch.proofs.ApartnessLemmas.{pointer_of, pointers_of}

@@ -1,5 +1,3 @@
-use Rattle.serde_json.specs.View.{view}
-use Rattle.jsonptr.specs.Json.{nodes}
 use Rattle.jsonptr_tree.specs.Content.{map_of}
 use Rattle.jsonptr_journal.specs.Location.{path_of, contents_of}
 use Rattle.jsonptr_patch.proofs.ChangeMapLemmas.{takes_node}
