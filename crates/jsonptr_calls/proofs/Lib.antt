@@ -3,4 +3,5 @@ mod NestingLemmas
 mod BoundLemmas
 mod LawLemmas
 mod MessageLemmas
+mod BoundedMessages
 mod CopyLemmas

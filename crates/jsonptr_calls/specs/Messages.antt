@@ -1,5 +1,5 @@
 -- The messages of errors.
-use Rattle.std.specs.Prelude.{ℕ, ◌++◌, ◌==◌, ◌||◌, codes, decimal, if◌then◌else◌}
+use Rattle.std.specs.Prelude.{ℕ, ◌++◌, ◌^◌, ◌<◌, ◌==◌, ◌||◌, codes, decimal, if◌then◌else◌}
 use Rattle.jsonptr.specs.Assign.{assign_message}
 use Rattle.jsonptr.specs.ParseError.{parse_message}
 use Rattle.jsonptr.specs.Resolve.{resolve_message}
@@ -126,8 +126,10 @@ document_message r =
     ++ codes " is not a string"
     else if r.kind == number.KIND_UNKNOWN_OP
     then codes "member `op` of operation " ++ decimal r.operation ++ codes " is not an operation"
-    else codes "member `" ++ member_name r.member ++ codes "` of operation " ++ decimal r.operation ++ codes ": "
+    else if (r.kind == number.KIND_NO_LEADING_SLASH) || (r.kind == number.KIND_BAD_ESCAPE)
+    then codes "member `" ++ member_name r.member ++ codes "` of operation " ++ decimal r.operation ++ codes ": "
     ++ cause_message r.kind r.slash
+    else codes "unknown kind"
 
 -- `message_of r`: the message of the record `r`
 abbrev pub message_of : ErrorRecord → Text
@@ -138,3 +140,11 @@ message_of r =
     else if r.status == number.PATCH_FAILED
     then codes "patch failed at operation " ++ decimal r.operation ++ codes ": " ++ cause_message r.kind r.slash
     else fixed_message r.status
+
+-- `Fits r`: the numbers of the record `r` that are in messages are those of an `u64`
+abbrev pub Fits : ErrorRecord → Type 0
+Fits r = (r.operation < 2 ^ 64) × (r.slash < 2 ^ 64)
+
+-- `message_room`: no message is longer
+abbrev pub message_room : ℕ
+message_room = 200

@@ -1,5 +1,5 @@
 //! Laws of the errors of the calls.
-ghost use Rattle.std.specs.Prelude.{◌≡◌, ℕ, List};
+ghost use Rattle.std.specs.Prelude.{◌≡◌, ◌≤◌, ℕ, List, length};
 ghost use Rattle.serde_json.specs.Data.{Data};
 ghost use Rattle.serde_json.specs.View.{view};
 ghost use Rattle.jsonptr_handle.specs.declared.document.Document.{Document};
@@ -7,18 +7,21 @@ ghost use Rattle.jsonptr_patch.specs.declared.operation.Operation.{Operation};
 ghost use Rattle.jsonptr_calls.specs.Editing.{IsNotDeleted, IsTextNotAssigned};
 ghost use Rattle.jsonptr_calls.specs.Failures.{FailsOn, IsNoPointer, IsNoToken, IsNotEscaped, IsNotParsed, IsNotPopped, IsNotPrinted, IsNotPushed, IsNotRead, SameStatus, Unfound};
 ghost use Rattle.jsonptr_calls.specs.InTexts.{IsNotPrintedFrom};
-ghost use Rattle.jsonptr_calls.specs.Messages.{failure_message, message_of};
+ghost use Rattle.jsonptr_calls.specs.Messages.{Fits, failure_message, message_of, message_room};
 ghost use Rattle.jsonptr_calls.specs.Patches.{IsNotAppliedList, IsNotPatchText};
 ghost use Rattle.jsonptr_calls.specs.Rows.{record_of};
 ghost use Rattle.jsonptr_calls.specs.declared.failure.Failure.{Failure};
+ghost use Rattle.jsonptr_calls.specs.declared.record.ErrorRecord.{ErrorRecord};
 ghost use Rattle.jsonptr_calls.specs.declared.values.Layout.{Layout};
 
 use jsonptr::laws::parse_law;
 
-/// States that the message of the record of an error is the text of the error.
+/// States that the message of the record of an error is the text of the error, and that no message is
+/// longer than 200 bytes, also that of a record which is not of an error.
 pub fn message_law()
-    ensures { (e : Failure) (bytes : List ℕ)
+    ensures text { (e : Failure) (bytes : List ℕ)
         → message_of (record_of e bytes) ≡ failure_message e }
+    ensures short { (r : ErrorRecord) → Fits r → length (message_of r) ≤ message_room }
 {}
 
 /// States that what a call is passed fixes the status with which it fails, except that an allocation

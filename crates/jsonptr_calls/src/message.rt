@@ -117,11 +117,12 @@ impl fmt::Display for DocumentFault {
                     "member `op` of operation {operation} is not an operation"
                 )
             }
-            _ => write!(
+            KIND_NO_LEADING_SLASH | KIND_BAD_ESCAPE => write!(
                 f,
                 "member `{member}` of operation {operation}: {}",
                 Cause(self.0)
             ),
+            _ => f.write_str("unknown kind"),
         }
     }
 }

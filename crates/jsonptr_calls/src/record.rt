@@ -1,11 +1,12 @@
 //! The error of a call as numbers, which C reads.
-ghost use Rattle.std.specs.Prelude.{◌≡◌, IfErr, IfOk, OnErr, take, length as list_length};
+ghost use Rattle.std.specs.Prelude.{◌≡◌, ◌≤◌, IfErr, IfOk, OnErr, take, length as list_length};
 ghost use Rattle.jsonptr_calls.specs.Failures.{IsNotWritten};
-ghost use Rattle.jsonptr_calls.specs.Messages.{message_of};
+ghost use Rattle.jsonptr_calls.specs.Messages.{message_of, message_room};
 ghost use Rattle.jsonptr_calls.specs.Rows.{no_error, record_of};
 
 use crate::buffer::copy_to;
 use crate::failure::Failure;
+use crate::laws::message_law;
 use crate::numbers::OK;
 use crate::rows::record;
 use std::alloc::Global;
@@ -68,7 +69,8 @@ impl ErrorRecord {
     }
 }
 
-/// Copies the message of the error to the buffer, and returns its length.
+/// Copies the message of the error to the buffer, and returns its length, which is at most 200 bytes
+/// of each record.
 ///
 /// # Errors
 ///
@@ -77,8 +79,11 @@ impl ErrorRecord {
 pub fn message(alloc: Global, error: &ErrorRecord, out: &mut [u8]) -> Result<usize, Failure>
     ensures message { IfOk result (λ n. take n out.new ≡ message_of error.now) }
     ensures length { IfOk result (λ n. n ≡ list_length (message_of error.now)) }
+    ensures short { list_length (message_of error.now) ≤ message_room }
     ensures refused { IfErr result (IsNotWritten (message_of error.now) (list_length out.old)) }
     ensures unchanged { OnErr result (out.new ≡ out.old) }
 {
+    message_law();
+    let (_operation, _slash) = (error.operation, error.slash);
     copy_to(error.to_string(alloc)?.as_str().as_bytes(), out)
 }
