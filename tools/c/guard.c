@@ -27,6 +27,9 @@ uint32_t jsonptrcore_document_delete(jsonptr_document *document, const char *poi
                                      jsonptr_error *error);
 uint32_t jsonptrcore_document_patch(jsonptr_document *document, const char *text, size_t text_length,
                                     jsonptr_error *error);
+uint32_t jsonptrcore_document_patch_with_inverse(jsonptr_document *document, const char *text, size_t text_length,
+                                                 bool is_pretty, char *out, size_t capacity, size_t *length,
+                                                 jsonptr_error *error);
 uint32_t jsonptrcore_document_diff(jsonptr_document *from, jsonptr_document *to, bool is_pretty, char *out,
                                    size_t capacity, size_t *length, jsonptr_error *error);
 uint32_t jsonptrcore_text_print(const char *text, size_t text_length, const char *pointer, size_t pointer_length,
@@ -197,6 +200,18 @@ jsonptr_status jsonptr_document_patch(jsonptr_document *document, const char *te
         return refuse(error);
     }
     return jsonptrcore_document_patch(document, start_of(text), text_length, OR(error, none.error));
+}
+
+jsonptr_status jsonptr_document_patch_with_inverse(jsonptr_document *document, const char *text, size_t text_length,
+                                                   uint32_t flags, char *out, size_t capacity, size_t *length,
+                                                   jsonptr_error *error) {
+    unwanted none;
+    if (document == NULL || !is_slice(text, text_length) || !is_known(flags) || !is_slice(out, capacity)) {
+        return refuse(error);
+    }
+    return jsonptrcore_document_patch_with_inverse(document, start_of(text), text_length, flags & JSONPTR_PRETTY,
+                                                   OR(out, none.buffer), capacity, OR(length, none.length),
+                                                   OR(error, none.error));
 }
 
 jsonptr_status jsonptr_document_diff(jsonptr_document *from, jsonptr_document *to, uint32_t flags, char *out,

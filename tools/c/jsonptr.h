@@ -26,7 +26,8 @@
  *         return status != JSONPTR_OK;
  *     }
  *
- *     cc first.c $(pkg-config --cflags --libs jsonptr)        with the shared library
+ *     cc first.c $(pkg-config --cflags --libs jsonptr) -Wl,-rpath,PREFIX/lib
+ *                                                             with the shared library
  *     cc first.c -I PREFIX/include PREFIX/lib/libjsonptr.a    with the static library
  *
  * CONVENTIONS
@@ -58,9 +59,9 @@
  * Memory      Blocks are from malloc, realloc and free of the program. A failed
  *             allocation is JSONPTR_NO_MEMORY.
  * Depth       A text whose arrays and objects nest deeper than 127 is
- *             JSONPTR_NOT_JSON. jsonptr_document_assign and
- *             jsonptr_document_patch can nest a document deeper, up to 10,127.
- *             A call that could nest it deeper than that is JSONPTR_TOO_DEEP.
+ *             JSONPTR_NOT_JSON. Assignments and patches can nest a document
+ *             deeper, up to 10,127. A call that could nest it deeper than that
+ *             is JSONPTR_TOO_DEEP.
  *             A document deeper than 127 prints, but this library does not read
  *             that text again.
  * Numbers     Integers from -2^63 to 2^64-1 are exact. Every other number is
@@ -176,6 +177,8 @@ typedef uint32_t jsonptr_status;
 #define JSONPTR_KIND_NO_SUCH_MEMBER    14u  /* an operation lacks a member */
 #define JSONPTR_KIND_NOT_A_STRING      15u  /* a member is not a string */
 #define JSONPTR_KIND_UNKNOWN_OP        16u  /* `op` is not the name of an operation */
+/* JSONPTR_TOO_DEEP of jsonptr_document_patch_with_inverse */
+#define JSONPTR_KIND_DEEP_INVERSE      17u  /* the text that takes the patch back would nest deeper than 127 */
 
 /* A member of an operation, or an argument of the call: jsonptr_error.member. */
 #define JSONPTR_MEMBER_NONE      0u
@@ -205,10 +208,11 @@ typedef uint32_t jsonptr_status;
  *                   NO_SUCH_MEMBER, NOT_A_STRING,
  *                   UNKNOWN_OP, NO_LEADING_SLASH  kind, operation, member
  *                   BAD_ESCAPE                    kind, operation, member, slash, offset
- *     PATCH_FAILED  those of NOT_FOUND and
- *                   NOT_ASSIGNED                  kind, operation, position, slash, offset
+ *     PATCH_FAILED  those of NOT_FOUND and        kind, operation, member, position, slash,
+ *                   NOT_ASSIGNED                  offset
  *                   MOVE_INTO_SELF, TEST_FLOAT,
  *                   TEST_FAILED                   kind, operation
+ *     TOO_DEEP      0, DEEP_INVERSE               kind
  *     others        0                             none
  *
  * The fields position, slash, offset and length are of a pointer. A token's
@@ -226,10 +230,8 @@ typedef uint32_t jsonptr_status;
  * is 0 even if slash is not.
  *
  * The pointer of PATCH_FAILED is the string `path` of the operation, but of
- * "move" and "copy" it is `from` if that does not resolve. The fields do not say
- * which: kinds 7 and 8 are always of `path`; for kinds 3 to 6, `path` is at fault
- * if `from` resolves in the document that this operation is applied to. member
- * and length are 0.
+ * "move" and "copy" it is `from` if that does not resolve: member says which.
+ * length is 0.
  *
  * The offset of NOT_UTF8 is that of the first byte that is not UTF-8. The offset
  * of NOT_JSON is where reading stopped:
@@ -243,7 +245,7 @@ typedef uint32_t jsonptr_status;
 typedef struct jsonptr_error {
     uint32_t status;     /* what the call returned */
     uint32_t kind;       /* JSONPTR_KIND_..: what is at fault */
-    uint32_t member;     /* JSONPTR_MEMBER_.., only of NOT_PATCH; JSONPTR_ARGUMENT_.., only of NOT_UTF8 */
+    uint32_t member;     /* JSONPTR_MEMBER_.., of NOT_PATCH and PATCH_FAILED; JSONPTR_ARGUMENT_.., of NOT_UTF8 */
     uint32_t reserved;   /* 0 */
     uint64_t operation;  /* NOT_PATCH, PATCH_FAILED: the operation, from 0 */
     uint64_t position;   /* the token at fault, from 0 */
@@ -261,8 +263,8 @@ typedef struct jsonptr_error {
  * The message of a success is "no error".
  *
  * The message is made of the struct alone, which may be copied and kept after
- * its document is freed. No message of an error that this library wrote is longer
- * than 200 bytes.
+ * its document is freed. No message is longer than 200 bytes, whatever the struct
+ * contains.
  *
  * Returns   JSONPTR_OK, JSONPTR_NO_ROOM, JSONPTR_NO_MEMORY.
  * length    may be NULL, but `error` may not.
@@ -496,16 +498,49 @@ jsonptr_status jsonptr_document_delete(jsonptr_document *document,
  *           offset, JSONPTR_NOT_PATCH with kind, operation and member, and of a
  *           bad escape with slash and offset, JSONPTR_NO_DOCUMENT,
  *           JSONPTR_TOO_DEEP (see above),
- *           JSONPTR_PATCH_FAILED with kind and operation, and with position,
- *           slash and offset if a pointer is at fault, JSONPTR_NO_MEMORY.
+ *           JSONPTR_PATCH_FAILED with kind and operation, and with member,
+ *           position, slash and offset if a pointer is at fault,
+ *           JSONPTR_NO_MEMORY.
  *           An error leaves the document as it was before the first operation.
  * error     may be NULL.
- * Cost      linear in the text and in what the operations change, and in the
- *           document if `down` is not 0. */
+ * Cost      linear in the text and in what the operations change, which is of an
+ *           array the elements after the one that is added or removed, and in
+ *           the document if `down` is not 0. A member that is removed or moved
+ *           away leaves its object after the last operation. If 512 of them wait,
+ *           or an operation reads or writes above or below one of them, they
+ *           leave before it, which takes time linear in their objects.
+ *           JSONPTR_PATCH_FAILED costs at most twice as much. */
 JSONPTR_API JSONPTR_NODISCARD
 jsonptr_status jsonptr_document_patch(jsonptr_document *document,
                                       const char *text, size_t text_length,
                                       jsonptr_error *error);
+
+/* Applies a patch document, all of it or nothing, and copies the text of a patch
+ * document that takes it back: applied to the new document, it makes the old one.
+ *
+ *     [{"op": "replace", "path": "/a", "value": 2}]     in {"a": 1} is taken back by
+ *     [{"op":"replace","path":"/a","value":1}]
+ *
+ * That text is always read again: JSONPTR_TOO_DEEP comes also, with the kind
+ * JSONPTR_KIND_DEEP_INVERSE, if it would nest deeper than 127. It nests two
+ * levels deeper than the values in it, which are those that the operations
+ * remove or replace.
+ *
+ * flags     JSONPTR_COMPACT or JSONPTR_PRETTY, of the text that is copied.
+ * Returns   JSONPTR_OK, those of jsonptr_document_patch, JSONPTR_TOO_DEEP (see
+ *           above), JSONPTR_NO_ROOM, JSONPTR_NO_MEMORY. An error, also
+ *           JSONPTR_NO_ROOM, leaves the document and the buffer: so a call with a
+ *           short buffer can be repeated with a longer one.
+ * length    may be NULL, and so may `error`.
+ * Cost      that of jsonptr_document_patch, and linear in the document, which is
+ *           copied before the first operation, and in the values that the
+ *           operations remove or replace. */
+JSONPTR_API JSONPTR_NODISCARD
+jsonptr_status jsonptr_document_patch_with_inverse(jsonptr_document *document,
+                                                   const char *text, size_t text_length,
+                                                   uint32_t flags,
+                                                   char *out, size_t capacity, size_t *length,
+                                                   jsonptr_error *error);
 
 /* Copies a patch document that turns `from` into `to`. Both are unchanged.
  * Applied to `from`, it makes a document that prints as `to`. It is not always

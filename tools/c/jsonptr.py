@@ -13,6 +13,12 @@ A module without dependencies. Documents cross to the library as JSON text:
     '{"sizes":[3,5,8]}'
     >>> jsonptr.make_patch({"a": 1}, {"a": 2}).operations
     [{'op': 'replace', 'path': '/a', 'value': 2}]
+    >>> undo = jsonptr.Patch([{"op": "remove", "path": "/sizes/0"}]).apply_with_inverse(document)
+    >>> document.text(), undo.operations
+    ('{"sizes":[5,8]}', [{'op': 'add', 'path': '/sizes/0', 'value': 3}])
+    >>> document.apply(undo)
+    >>> document.text()
+    '{"sizes":[3,5,8]}'
 
 Each error that a call raises is a `JsonPointerError`, or a `TypeError` or `MemoryError`. Errors, documents and patches
 can be copied and pickled.
@@ -79,6 +85,7 @@ def _function(name: str, result: Any = ctypes.c_uint32) -> Any:
 _lib = _library()
 _get, _in_text, _parse = _function("document_get"), _function("resolve_in_text"), _function("document_parse")
 _assign, _delete, _patch = _function("document_assign"), _function("document_delete"), _function("document_patch")
+_patch_with_inverse = _function("document_patch_with_inverse")
 _diff, _free = _function("document_diff"), _function("document_free", None)
 _count, _escape = _function("pointer_count"), _function("pointer_escape")
 _error_message, _version = _function("error_message"), _function("version", ctypes.c_char_p)
@@ -123,7 +130,7 @@ class JsonPatchError(JsonPointerError):
 
 
 class TooDeep(JsonPointerError):
-    """The document would nest deeper than 10,127 levels."""
+    """The document would nest deeper than 10,127 levels, or the patch that takes a patch back deeper than 127."""
 
 
 _CLASSES: Dict[int, Type[JsonPointerError]] = {
@@ -378,6 +385,17 @@ class Patch:
         document = Document.of(value)
         document.apply(self)
         return document.value()
+
+    def apply_with_inverse(self, document: Document) -> "Patch":
+        """Applies the patch to a `Document`, all of it or nothing, and returns the patch that takes it back.
+
+        The document is copied on the way, and twice if the text of that patch is longer than 512 bytes.
+        """
+        if not isinstance(document, Document):
+            raise TypeError(f"a Document is needed, not {type(document).__name__}")
+        text = _text(self.text)
+        with document._lock:
+            return Patch(_Buffer().fill(_patch_with_inverse, document._at, *text, _COMPACT))
 
     def _normal(self) -> str:
         """Returns one text for all patches with the same operations."""

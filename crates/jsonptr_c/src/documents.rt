@@ -10,13 +10,13 @@ ghost use Rattle.jsonptr_calls.specs.Failures.{FailsOn, IsNotParsed, IsNotPrinte
 ghost use Rattle.jsonptr_calls.specs.InTexts.{FindsTextIn, IsNotPrintedFrom};
 ghost use Rattle.jsonptr_calls.specs.Nodes.{FindsNode};
 ghost use Rattle.jsonptr_calls.specs.Outcomes.{IsLengthOf, Reports};
-ghost use Rattle.jsonptr_calls.specs.Patches.{AppliesText, IsDiffText, IsNotApplied, IsNotCompared, IsNotPatchText};
+ghost use Rattle.jsonptr_calls.specs.Patches.{AppliesText, AppliesWithBack, IsDiffText, IsNotApplied, IsNotAppliedWithBack, IsNotCompared, IsNotPatchText};
 ghost use Rattle.jsonptr_calls.specs.Rows.{no_error};
 ghost use Rattle.jsonptr_calls.specs.Values.{Changes, FindsTextOf, FindsString, HoldsWith, ReadsInto, layout_of};
 ghost use Rattle.jsonptr_calls.specs.declared.failure.Failure.{Failure};
 
 use jsonptr_calls::documents::{
-    assign, delete, diff, free, node_at, parse, patch, print_at, string_at,
+    assign, delete, diff, free, node_at, parse, patch, patch_with_inverse, print_at, string_at,
 };
 use jsonptr_calls::node::Node;
 use jsonptr_calls::outcome::{fail, fail_with_length, succeed};
@@ -221,6 +221,40 @@ pub extern "C" fn jsonptrcore_document_patch(
     match patch(alloc, document, text) {
         Ok(()) => succeed(error),
         Err(failure) => fail(&failure, b"", error),
+    }
+}
+
+/// Applies the patch document that the text is, and copies the text of a patch document that takes it
+/// back to the buffer.
+#[unsafe(no_mangle)]
+pub extern "C" fn jsonptrcore_document_patch_with_inverse(
+    alloc: Global,
+    document: &mut Document,
+    text: &[u8],
+    is_pretty: bool,
+    out: &mut [u8],
+    length: &mut usize,
+    error: &mut ErrorRecord,
+) -> u32
+    ensures success { result ≡ 0 → error.new ≡ no_error }
+    ensures applied { result ≡ 0 → Changes document.old (λ d n.
+        AppliesWithBack (layout_of is_pretty) text.now d n (take length.new out.new))
+        document.new }
+    ensures bounded { result ≡ 0
+        → Changes document.old (λ d n. IsBounded d → IsBounded n) document.new }
+    ensures refused { result ≢ 0 → (e : Failure) × Reports e [] result error.new
+        × (IsNotPatchText text.now e ⊎ IsNotAppliedWithBack (layout_of is_pretty) text.now
+        document.old (list_length out.old) e) }
+    ensures unchanged { result ≢ 0 → out.new ≡ out.old }
+    ensures length { result ≢ 0 → IsLengthOf error.new length.old length.new }
+    ensures kept { result ≢ 0 → Keeps document.old document.new }
+{
+    match patch_with_inverse(alloc, document, text, layout(is_pretty), out) {
+        Ok(copied) => {
+            *length = copied;
+            succeed(error)
+        }
+        Err(failure) => fail_with_length(&failure, b"", length, error),
     }
 }
 

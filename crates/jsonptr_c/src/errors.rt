@@ -1,7 +1,7 @@
 //! Messages of errors.
-ghost use Rattle.std.specs.Prelude.{◌≡◌, ◌≢◌, [], take, length as list_length};
+ghost use Rattle.std.specs.Prelude.{◌≡◌, ◌≢◌, ◌≤◌, [], take, length as list_length};
 ghost use Rattle.jsonptr_calls.specs.Failures.{IsNotWritten};
-ghost use Rattle.jsonptr_calls.specs.Messages.{message_of};
+ghost use Rattle.jsonptr_calls.specs.Messages.{message_of, message_room};
 ghost use Rattle.jsonptr_calls.specs.Outcomes.{ReportsLength};
 ghost use Rattle.jsonptr_calls.specs.Rows.{status_of};
 ghost use Rattle.jsonptr_calls.specs.declared.failure.Failure.{Failure};
@@ -21,6 +21,7 @@ pub extern "C" fn jsonptrcore_error_message(
 ) -> u32
     ensures message { result ≡ 0 → take length.new out.new ≡ message_of error.now }
     ensures length { result ≡ 0 → length.new ≡ list_length (message_of error.now) }
+    ensures short { list_length (message_of error.now) ≤ message_room }
     ensures refused { result ≢ 0 → (e : Failure) × (result ≡ status_of e)
         × IsNotWritten (message_of error.now) (list_length out.old) e
         × ReportsLength e length.old length.new }

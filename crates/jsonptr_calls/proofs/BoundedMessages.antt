@@ -1,5 +1,5 @@
 -- No message is longer than 200 bytes.
-use Rattle.std.proofs.Common.{◌≡◌, ℕ, ◌+◌, ◌^◌, ◌<◌, ◌≤◌, ◌==◌, ◌||◌, Bool, true, false, List, ◌++◌, length, arith, length-append, lit≤, lit<, refl, if◌then◌else◌}
+use Rattle.std.proofs.Common.{◌≡◌, ℕ, ◌+◌, ◌^◌, ◌<◌, ◌≤◌, ◌==◌, ◌&&◌, ◌||◌, Bool, true, false, List, ◌++◌, length, arith, length-append, lit≤, lit<, refl, if◌then◌else◌}
 use Rattle.std.specs.Prelude.{codes, decimal}
 use Rattle.std.proofs.lemmas.Fmt.{length-decimal-le}
 use Rattle.jsonptr_calls.specs.declared.numbers.TheConstants as number
@@ -119,4 +119,4 @@ message_short r fits =
     either 200 ((r.status == number.NOT_POINTER) || ((r.status == number.NOT_FOUND) || (r.status == number.NOT_ASSIGNED))) _ _ (omega (arith, cause))
     (either 200 (r.status == number.NOT_PATCH) _ _ (before 200 (codes "not a JSON Patch document: ") (document_message r) (omega (arith, start, document)))
     (either 200 (r.status == number.PATCH_FAILED) _ _ (before 200 (codes "patch failed at operation " ++ decimal r.operation ++ codes ": ") (cause_message r.kind r.slash) (omega (arith, place, cause)))
-    (fixed_short r.status)))
+    (either 200 ((r.status == number.TOO_DEEP) && (r.kind == number.KIND_DEEP_INVERSE)) _ _ (lit≤ tt) (fixed_short r.status))))

@@ -1,5 +1,5 @@
 -- A result that is copied to a buffer, or is longer.
-use Rattle.std.proofs.Common.{ℕ, Result, Ok, Err, IfErr, MatchResult}
+use Rattle.std.proofs.Common.{ℕ, Result, Ok, Err, IfErr, IfOk, MatchResult, OnOk}
 use Rattle.jsonptr_calls.specs.Failures.{LacksRoom}
 use Rattle.jsonptr_calls.specs.declared.failure.Failure.{Failure}
 
@@ -10,3 +10,8 @@ if_short (Err e) A B P needed room h f = f e h.0
 pub if_err : (r : Result ℕ Failure) (P Q : Failure → Type 0) → IfErr r P → ((e : Failure) → P e → Q e) → IfErr r Q
 if_err (Ok n) P Q h f = tt
 if_err (Err e) P Q h f = f e h
+
+-- what a fact on the value of an `Ok`, and one on each success, imply
+pub if_ok_held : (r : Result ℕ Failure) (P R : ℕ → Type 0) (S : Type 0) → ((n : ℕ) → P n → S → R n) → IfOk r P → OnOk r S → IfOk r R
+if_ok_held (Ok n) P R S f p s = f n p s
+if_ok_held (Err e) P R S f p s = tt

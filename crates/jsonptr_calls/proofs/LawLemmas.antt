@@ -6,7 +6,9 @@ use Rattle.serde_json.specs.Find.{as_str}
 use Rattle.serde_json.specs.Read.{read}
 use Rattle.serde_json.specs.View.{view}
 use Rattle.serde_json.specs.declared.value.Value.{Value}
+use Rattle.jsonptr.specs.Documents.{IsDocument}
 use Rattle.jsonptr.specs.Json.{nodes, FindsValue}
+use Rattle.jsonptr.specs.Node.{NodeMap}
 use Rattle.jsonptr.specs.ParseError.{IsParseErrorOf}
 use Rattle.jsonptr.specs.Resolve.{Refuses}
 use Rattle.jsonptr.specs.Text.{Text}
@@ -17,17 +19,20 @@ use Rattle.jsonptr_handle.specs.declared.document.Document.{Document}
 use Rattle.jsonptr_calls.specs.Editing.{IsNotAssigned, IsNotDeleted, IsTextNotAssigned, RefusesAt}
 use Rattle.jsonptr_calls.specs.Failures.{FailsOn, IsNoPointer, IsNoToken, IsNotEscaped, IsNotExtended, IsNotParsed, IsNotPopped, IsNotPrinted, IsNotPushed, IsNotRead, IsNotUtf8, IsOutOfMemory, LacksRoom, LacksString, LacksToken, SameStatus, Unfound}
 use Rattle.jsonptr_calls.specs.InTexts.{FindsIn, IsNotInText, IsNotPrintedFrom, LacksValue}
+use Rattle.jsonptr_patch.specs.Patching.{Patches, RefusesPatch}
 use Rattle.jsonptr_patch.specs.declared.operation.Operation.{Operation}
-use Rattle.jsonptr_calls.specs.Patches.{IsNotAppliedList, IsNotPatchText}
+use Rattle.jsonptr_patch.specs.declared.operation.PatchError.{PatchError}
+use Rattle.jsonptr_calls.specs.Patches.{IsNotAppliedList, IsNotPatched, IsNotPatchText, LacksBack}
 use Rattle.jsonptr_calls.specs.Pointers.{ParsesTo}
 use Rattle.jsonptr_calls.specs.Rows.{status_of}
 use Rattle.jsonptr_calls.specs.Values.{FindsAt}
 use Rattle.jsonptr_calls.specs.declared.failure.Argument.{Argument}
 use Rattle.jsonptr_calls.specs.declared.failure.Argument.TheVariants as argument
 use Rattle.jsonptr_calls.specs.declared.failure.Failure.{Failure}
-use Rattle.jsonptr_calls.specs.declared.failure.Failure.TheVariants.{NoRoom, NoDocument, NotUtf8, NotJson, NotPointer, NoToken, NotFound, OtherKind, NotAssigned, NotPatch, PatchFailed, TooDeep}
+use Rattle.jsonptr_calls.specs.declared.failure.Failure.TheVariants.{NoRoom, NoDocument, NotUtf8, NotJson, NotPointer, NoToken, NotFound, OtherKind, NotAssigned, NotPatch, PatchFailed, TooDeep, DeepInverse}
 use Rattle.jsonptr_calls.specs.declared.values.Layout.{Layout}
-use Rattle.jsonptr_calls.specs.Depths.{max_levels}
+use Rattle.jsonptr_calls.specs.Depths.{max_levels, StaysShallow}
+use Rattle.jsonptr_calls.proofs.SourceLemmas.{is_document}
 
 same : (e f x y : Failure) → e ≡ x → f ≡ y → status_of x ≡ status_of y → SameStatus e f
 same e f x y p q s = inr (inr (ap status_of p ∙ s ∙ sym (ap status_of q)))
@@ -224,14 +229,25 @@ module _ (not_both : (s : Text) (e : ParseError) → IsPointer s → IsParseErro
   not_patch t e f (inr h) (inl k) = turned f e (no_read t h.0 f e k h.2 h.3)
   not_patch t e f (inr h) (inr k) = same e f (NotPatch h.1) (NotPatch k.1) h.5 k.5 refl
 
-  pub not_applied : (d : Data) (os : List Operation) (e f : Failure) → IsNotAppliedList d os e → IsNotAppliedList d os f → SameStatus e f
-  not_applied d os e f (inr (inl h)) k = inl h
-  not_applied d os e f (inl h) (inr (inl k)) = inr (inl k)
-  not_applied d os e f (inr (inr h)) (inr (inl k)) = inr (inl k)
-  not_applied d os e f (inl h) (inl k) = same e f TooDeep TooDeep h.1 k.1 refl
-  not_applied d os e f (inl h) (inr (inr k)) = absurd (h.0 k.1)
-  not_applied d os e f (inr (inr h)) (inl k) = absurd (k.0 h.1)
-  not_applied d os e f (inr (inr h)) (inr (inr k)) = same e f (PatchFailed h.0) (PatchFailed k.0) h.3 k.3 refl
+  pub not_applied : (d : Data) (t : List ℕ) (os : List Operation) (e f : Failure) → IsNotAppliedList d t os e → IsNotAppliedList d t os f → SameStatus e f
+  not_applied d t os e f (inr (inl h)) k = inl h
+  not_applied d t os e f (inl h) (inr (inl k)) = inr (inl k)
+  not_applied d t os e f (inr (inr h)) (inr (inl k)) = inr (inl k)
+  not_applied d t os e f (inl h) (inl k) = same e f TooDeep TooDeep h.1 k.1 refl
+  not_applied d t os e f (inl h) (inr (inr k)) = absurd (h.0 k.0)
+  not_applied d t os e f (inr (inr h)) (inl k) = absurd (k.0 h.0)
+  not_applied d t os e f (inr (inr h)) (inr (inr k)) = same e f (PatchFailed h.1.0 h.1.1) (PatchFailed k.1.0 k.1.1) h.1.4 k.1.4 refl
+
+  no_back : ((n m : NodeMap) (os : List Operation) (e : PatchError) → IsDocument n → Patches n os m → RefusesPatch n os e → ⊥) → (d : Data) (t : List ℕ) (os : List Operation) (e f : Failure) → IsNotAppliedList d t os e → ((n : Data) × StaysShallow d os × Patches (nodes d) os (nodes n) × LacksBack d n f) → SameStatus e f
+  no_back apart d t os e f (inl h) k = absurd (h.0 k.1)
+  no_back apart d t os e f (inr (inl h)) k = inl h
+  no_back apart d t os e f (inr (inr h)) k = absurd (apart (nodes d) (nodes k.0) os h.1.0 (is_document d) k.2 h.1.2)
+
+  pub not_patched : ((n m : NodeMap) (os : List Operation) (e : PatchError) → IsDocument n → Patches n os m → RefusesPatch n os e → ⊥) → (d : Data) (t : List ℕ) (os : List Operation) (e f : Failure) → IsNotPatched d t os e → IsNotPatched d t os f → SameStatus e f
+  not_patched apart d t os e f (inl h) (inl k) = not_applied d t os e f h k
+  not_patched apart d t os e f (inl h) (inr k) = no_back apart d t os e f h k
+  not_patched apart d t os e f (inr h) (inl k) = turned f e (no_back apart d t os f e k h)
+  not_patched apart d t os e f (inr h) (inr k) = same e f DeepInverse DeepInverse h.3.3 k.3.3 refl
 
   lacks_value : (t : List ℕ) (ts : List Text) (e f : Failure) → LacksValue t ts e → LacksValue t ts f → SameStatus e f
   lacks_value t ts e f (inl h) (inl k) = same e f (NotJson h.0) (NotJson k.0) h.2 k.2 refl

@@ -5,3 +5,4 @@ mod LawLemmas
 mod MessageLemmas
 mod BoundedMessages
 mod CopyLemmas
+mod SourceLemmas

@@ -9,7 +9,7 @@ use Rattle.jsonptr_patch_document.specs.declared.error.PatchDocumentError.TheVar
 use Rattle.jsonptr_calls.specs.Messages.{failure_message, message_of}
 use Rattle.jsonptr_calls.specs.Rows.{record_of}
 use Rattle.jsonptr_calls.specs.declared.failure.Failure.{Failure}
-use Rattle.jsonptr_calls.specs.declared.failure.Failure.TheVariants.{Memory, NoRoom, NoDocument, NotUtf8, NotJson, NotPointer, NoToken, NotFound, OtherKind, NotAssigned, NotPatch, PatchFailed, TooDeep}
+use Rattle.jsonptr_calls.specs.declared.failure.Failure.TheVariants.{Memory, NoRoom, NoDocument, NotUtf8, NotJson, NotPointer, NoToken, NotFound, OtherKind, NotAssigned, NotPatch, PatchFailed, TooDeep, DeepInverse}
 
 pub message_one : (e : Failure) (bytes : List ℕ) → message_of (record_of e bytes) ≡ failure_message e
 message_one (Memory e) bytes = refl
@@ -46,13 +46,14 @@ message_one (NotPatch (document_error.NotPointer i member.Op (parse_error.Invali
 message_one (NotPatch (document_error.NotPointer i member.Path (parse_error.InvalidEncoding offset source))) bytes = refl
 message_one (NotPatch (document_error.NotPointer i member.From (parse_error.InvalidEncoding offset source))) bytes = refl
 message_one (NotPatch (document_error.NotPointer i member.Value (parse_error.InvalidEncoding offset source))) bytes = refl
-message_one (PatchFailed (patch_error.NoTarget i (resolve_error.FailedToParseIndex position offset source))) bytes = refl
-message_one (PatchFailed (patch_error.NoTarget i (resolve_error.OutOfBounds position offset source))) bytes = refl
-message_one (PatchFailed (patch_error.NoTarget i (resolve_error.NotFound position offset))) bytes = refl
-message_one (PatchFailed (patch_error.NoTarget i (resolve_error.Unreachable position offset))) bytes = refl
-message_one (PatchFailed (patch_error.BadPlace i (assign_error.FailedToParseIndex position offset source))) bytes = refl
-message_one (PatchFailed (patch_error.BadPlace i (assign_error.OutOfBounds position offset source))) bytes = refl
-message_one (PatchFailed (patch_error.MoveIntoSelf i)) bytes = refl
-message_one (PatchFailed (patch_error.TestFloat i)) bytes = refl
-message_one (PatchFailed (patch_error.TestFailed i)) bytes = refl
+message_one (PatchFailed (patch_error.NoTarget i (resolve_error.FailedToParseIndex position offset source)) m) bytes = refl
+message_one (PatchFailed (patch_error.NoTarget i (resolve_error.OutOfBounds position offset source)) m) bytes = refl
+message_one (PatchFailed (patch_error.NoTarget i (resolve_error.NotFound position offset)) m) bytes = refl
+message_one (PatchFailed (patch_error.NoTarget i (resolve_error.Unreachable position offset)) m) bytes = refl
+message_one (PatchFailed (patch_error.BadPlace i (assign_error.FailedToParseIndex position offset source)) m) bytes = refl
+message_one (PatchFailed (patch_error.BadPlace i (assign_error.OutOfBounds position offset source)) m) bytes = refl
+message_one (PatchFailed (patch_error.MoveIntoSelf i) m) bytes = refl
+message_one (PatchFailed (patch_error.TestFloat i) m) bytes = refl
+message_one (PatchFailed (patch_error.TestFailed i) m) bytes = refl
 message_one TooDeep bytes = refl
+message_one DeepInverse bytes = refl

@@ -7,6 +7,8 @@ pub mod Kinds
 pub mod Nodes
 pub mod Editing
 pub mod InTexts
+pub mod Sources
+pub mod PrivateSources
 pub mod Patches
 pub mod Rows
 pub mod Messages

@@ -1,5 +1,5 @@
 -- The messages of errors.
-use Rattle.std.specs.Prelude.{ℕ, ◌++◌, ◌^◌, ◌<◌, ◌==◌, ◌||◌, codes, decimal, if◌then◌else◌}
+use Rattle.std.specs.Prelude.{ℕ, ◌++◌, ◌^◌, ◌<◌, ◌==◌, ◌&&◌, ◌||◌, codes, decimal, if◌then◌else◌}
 use Rattle.jsonptr.specs.Assign.{assign_message}
 use Rattle.jsonptr.specs.ParseError.{parse_message}
 use Rattle.jsonptr.specs.Resolve.{resolve_message}
@@ -11,7 +11,7 @@ use Rattle.jsonptr_patch_document.specs.declared.error.PatchDocumentError.{Patch
 use Rattle.jsonptr_patch_document.specs.declared.error.PatchDocumentError.TheVariants as document_error
 use Rattle.jsonptr_calls.specs.declared.numbers.TheConstants as number
 use Rattle.jsonptr_calls.specs.declared.failure.Failure.{Failure}
-use Rattle.jsonptr_calls.specs.declared.failure.Failure.TheVariants.{Memory, NoRoom, NoDocument, NotUtf8, NotJson, NotPointer, NoToken, NotFound, OtherKind, NotAssigned, NotPatch, PatchFailed, TooDeep}
+use Rattle.jsonptr_calls.specs.declared.failure.Failure.TheVariants.{Memory, NoRoom, NoDocument, NotUtf8, NotJson, NotPointer, NoToken, NotFound, OtherKind, NotAssigned, NotPatch, PatchFailed, TooDeep, DeepInverse}
 use Rattle.jsonptr_calls.specs.declared.record.ErrorRecord.{ErrorRecord}
 
 -- `patch_message e`: the message of an operation that fails
@@ -58,8 +58,9 @@ failure_message (NotFound e) = resolve_message e
 failure_message OtherKind = codes "the value is of another kind"
 failure_message (NotAssigned e) = assign_message e
 failure_message (NotPatch e) = patch_document_message e
-failure_message (PatchFailed e) = patch_message e
+failure_message (PatchFailed e m) = patch_message e
 failure_message TooDeep = codes "the document would nest deeper than 10,127"
+failure_message DeepInverse = codes "the inverse of the patch would nest deeper than 127"
 
 -- ---- The same by the numbers of a record
 
@@ -139,6 +140,8 @@ message_of r =
     else if r.status == number.NOT_PATCH then codes "not a JSON Patch document: " ++ document_message r
     else if r.status == number.PATCH_FAILED
     then codes "patch failed at operation " ++ decimal r.operation ++ codes ": " ++ cause_message r.kind r.slash
+    else if (r.status == number.TOO_DEEP) && (r.kind == number.KIND_DEEP_INVERSE)
+    then codes "the inverse of the patch would nest deeper than 127"
     else fixed_message r.status
 
 -- `Fits r`: the numbers of the record `r` that are in messages are those of an `u64`

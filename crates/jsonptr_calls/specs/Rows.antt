@@ -1,5 +1,5 @@
 -- The numbers by which C knows an error: a row for each error. They never change.
-use Rattle.std.specs.Prelude.{ℕ, ◌+◌, ◌-◌, ◌^◌, ◌==◌, not, List, count_by, drop, length, min, take}
+use Rattle.std.specs.Prelude.{ℕ, ◌+◌, ◌-◌, ◌^◌, ◌==◌, not, List, Option, Some, None, count_by, drop, length, min, take}
 use Rattle.std.specs.List.{prefix_len}
 use Rattle.jsonptr.specs.Types.ParseError.{ParseError}
 use Rattle.jsonptr.specs.Resolve.{resolve_offset_of}
@@ -19,7 +19,7 @@ use Rattle.jsonptr_calls.specs.declared.numbers.TheConstants as number
 use Rattle.jsonptr_calls.specs.declared.failure.Argument.{Argument}
 use Rattle.jsonptr_calls.specs.declared.failure.Argument.TheVariants as argument
 use Rattle.jsonptr_calls.specs.declared.failure.Failure.{Failure}
-use Rattle.jsonptr_calls.specs.declared.failure.Failure.TheVariants.{Memory, NoRoom, NoDocument, NotUtf8, NotJson, NotPointer, NoToken, NotFound, OtherKind, NotAssigned, NotPatch, PatchFailed, TooDeep}
+use Rattle.jsonptr_calls.specs.declared.failure.Failure.TheVariants.{Memory, NoRoom, NoDocument, NotUtf8, NotJson, NotPointer, NoToken, NotFound, OtherKind, NotAssigned, NotPatch, PatchFailed, TooDeep, DeepInverse}
 use Rattle.jsonptr_calls.specs.declared.record.ErrorRecord.{ErrorRecord}
 
 -- `row status kind member operation position slash offset length`: the record with these numbers
@@ -58,12 +58,9 @@ capped n = min n (2 ^ 64 - 1)
 abbrev pub at_token : ℕ → ℕ → ℕ → ErrorRecord
 at_token k position slash = row 0 k 0 0 position slash (capped (slash + 1)) 0
 
--- `with_length n r`, `with_operation i r`, `with_member m i r`: the record `r` with other numbers
+-- `with_length n r`, `with_member m i r`: the record `r` with other numbers
 abbrev pub with_length : ℕ → ErrorRecord → ErrorRecord
 with_length n r = row r.status r.kind r.member r.operation r.position r.slash r.offset n
-
-abbrev pub with_operation : ℕ → ErrorRecord → ErrorRecord
-with_operation i r = row r.status r.kind r.member i r.position r.slash r.offset r.length
 
 abbrev pub with_member : ℕ → ℕ → ErrorRecord → ErrorRecord
 with_member m i r = row r.status r.kind m i r.position r.slash r.offset r.length
@@ -80,20 +77,25 @@ abbrev pub assign_row : assign.Error → ErrorRecord
 assign_row (assign_error.FailedToParseIndex position offset source) = at_token number.KIND_NOT_A_NEW_INDEX position offset
 assign_row (assign_error.OutOfBounds position offset source) = at_token number.KIND_INDEX_ABOVE_LENGTH position offset
 
--- `patch_row e`: why an operation fails
-abbrev pub patch_row : PatchError → ErrorRecord
-patch_row (patch_error.NoTarget i cause) = with_operation i (resolve_row cause)
-patch_row (patch_error.BadPlace i cause) = with_operation i (assign_row cause)
-patch_row (patch_error.MoveIntoSelf i) = of_operation number.KIND_MOVE_INTO_SELF 0 i
-patch_row (patch_error.TestFloat i) = of_operation number.KIND_TEST_FLOAT 0 i
-patch_row (patch_error.TestFailed i) = of_operation number.KIND_TEST_FAILED 0 i
-
 -- `member_number m`: the number of the member `m` of an operation
 abbrev pub member_number : Member → ℕ
 member_number member.Op = number.MEMBER_OP
 member_number member.Path = number.MEMBER_PATH
 member_number member.From = number.MEMBER_FROM
 member_number member.Value = number.MEMBER_VALUE
+
+-- `fault_number m`: that of the member at fault, or 0 if none is
+abbrev pub fault_number : Option Member → ℕ
+fault_number None = 0
+fault_number (Some m) = member_number m
+
+-- `patch_row e m`: why an operation fails, and the number of the member at fault
+abbrev pub patch_row : PatchError → ℕ → ErrorRecord
+patch_row (patch_error.NoTarget i cause) m = with_member m i (resolve_row cause)
+patch_row (patch_error.BadPlace i cause) m = with_member m i (assign_row cause)
+patch_row (patch_error.MoveIntoSelf i) m = of_operation number.KIND_MOVE_INTO_SELF m i
+patch_row (patch_error.TestFloat i) m = of_operation number.KIND_TEST_FLOAT m i
+patch_row (patch_error.TestFailed i) m = of_operation number.KIND_TEST_FAILED m i
 
 -- `parse_row e`: why a text is not a pointer, as far as that is known without the text. A `~` at fault is at its offset
 abbrev pub parse_row : ParseError → ErrorRecord
@@ -148,8 +150,9 @@ status_of (NotFound e) = number.NOT_FOUND
 status_of OtherKind = number.OTHER_KIND
 status_of (NotAssigned e) = number.NOT_ASSIGNED
 status_of (NotPatch e) = number.NOT_PATCH
-status_of (PatchFailed e) = number.PATCH_FAILED
+status_of (PatchFailed e m) = number.PATCH_FAILED
 status_of TooDeep = number.TOO_DEEP
+status_of DeepInverse = number.TOO_DEEP
 
 -- `fields_of e bytes`: the record of the error `e` of a call with the pointer `bytes`, without its status
 abbrev pub fields_of : Failure → List ℕ → ErrorRecord
@@ -164,8 +167,9 @@ fields_of (NotFound e) bytes = with_length (token_length bytes (resolve_offset_o
 fields_of OtherKind bytes = no_error
 fields_of (NotAssigned e) bytes = with_length (token_length bytes (assign_offset_of e)) (assign_row e)
 fields_of (NotPatch e) bytes = patch_document_row e
-fields_of (PatchFailed e) bytes = patch_row e
+fields_of (PatchFailed e m) bytes = patch_row e (fault_number m)
 fields_of TooDeep bytes = no_error
+fields_of DeepInverse bytes = of_kind number.KIND_DEEP_INVERSE
 
 -- `with_status s r`: the record `r` with the status `s`
 abbrev pub with_status : ℕ → ErrorRecord → ErrorRecord

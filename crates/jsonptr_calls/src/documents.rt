@@ -1,18 +1,19 @@
 //! Documents in a handle.
-ghost use Rattle.std.specs.Prelude.{◌≡◌, ◌⊎◌, IfErr, IfOk, OnErr, Some, length, take};
+ghost use Rattle.std.specs.Prelude.{◌≡◌, ◌⊎◌, IfErr, IfOk, OnErr, OnOk, Some, length, take};
 ghost use Rattle.serde_json.specs.Read.{read as read_text};
 ghost use Rattle.serde_json.specs.View.{view};
 ghost use Rattle.serde_json.specs.declared.value.Value.{Value as JsonValue};
-ghost use Rattle.jsonptr_handle.specs.Document.{IsEmpty, Keeps};
+ghost use Rattle.jsonptr_handle.specs.Document.{Holds, IsEmpty, Keeps};
 ghost use Rattle.jsonptr_calls.specs.Depths.{IsBounded};
 ghost use Rattle.jsonptr_calls.specs.Editing.{AssignsAt, DeletesAt, IsNotDeleted, IsTextNotAssigned};
-ghost use Rattle.jsonptr_calls.specs.Failures.{FailsOn, IsNotParsed, IsNotPrinted, IsNotRead, Unfound};
+ghost use Rattle.jsonptr_calls.specs.Failures.{FailsOn, IsNotParsed, IsNotPrinted, IsNotRead, LacksRoom, Unfound};
 ghost use Rattle.jsonptr_calls.specs.Nodes.{FindsNode};
-ghost use Rattle.jsonptr_calls.specs.Patches.{AppliesText, IsDiffText, IsNotApplied, IsNotCompared, IsNotPatchText};
+ghost use Rattle.jsonptr_calls.specs.Patches.{AppliesText, AppliesWithBack, IsDiffText, IsNotAppliedWithBack, IsNotApplied, IsNotCompared, IsNotPatchText};
 ghost use Rattle.jsonptr_calls.specs.Values.{Changes, FindsTextOf, FindsString, HoldsWith, ReadsInto};
 
 use crate::failure::Failure;
 use crate::node::Node;
+use crate::patches::Patched;
 use crate::reading::read;
 use crate::values::{self, Layout};
 use crate::{editing, patches};
@@ -198,7 +199,75 @@ pub fn patch(alloc: Global, document: &mut Document, text: &[u8]) -> Result<(), 
     let Some(mut value) = document.take(alloc) else {
         return Err(Failure::NoDocument);
     };
-    let outcome = patches::apply_all(alloc, &mut value, operations);
+    let outcome = patches::apply_all(alloc, &mut value, text, operations);
+    document.put(value);
+    outcome
+}
+
+/// Applies the patch document that the text is, whole or not at all, and copies the text of a patch
+/// document that takes it back to the buffer. Returns the length of that text. It is always read
+/// again, and its operations turn the new document into the old one.
+///
+/// The document is copied first, so this takes time in proportion to it. So the change is made only
+/// once that text is in the buffer, and needs no memory.
+///
+/// # Errors
+///
+/// - Those of [`patch`].
+/// - [`Failure::DeepInverse`] if the patch document that takes it back nests deeper than 127.
+/// - [`Failure::NoRoom`] if the buffer is shorter than its text.
+///
+/// The document and the buffer are unchanged.
+pub fn patch_with_inverse(
+    alloc: Global,
+    document: &mut Document,
+    text: &[u8],
+    layout: Layout,
+    out: &mut [u8],
+) -> Result<usize, Failure>
+    ensures applied { IfOk result (λ n. Changes document.old
+        (λ d m. AppliesWithBack layout text.now d m (take n out.new)) document.new) }
+    ensures bounded { IfOk result (λ _.
+        Changes document.old (λ d n. IsBounded d → IsBounded n) document.new) }
+    ensures refused { IfErr result (λ e. IsNotPatchText text.now e
+        ⊎ IsNotAppliedWithBack layout text.now document.old (length out.old) e) }
+    ensures unchanged { OnErr result (out.new ≡ out.old) }
+    ensures kept { OnErr result (Keeps document.old document.new) }
+{
+    let operations = patches::read_text(alloc, text)?;
+    let Some(mut value) = document.take(alloc) else {
+        return Err(Failure::NoDocument);
+    };
+    match patches::patched_copy(alloc, &mut value, text, operations, layout) {
+        Ok(made) => put_patched(document, value, made, out),
+        Err(failure) => {
+            document.put(value);
+            Err(failure)
+        }
+    }
+}
+
+/// Copies the text that takes a patch back to the buffer, and puts the document after the patch into
+/// the handle. Returns the length of the text.
+///
+/// # Errors
+///
+/// [`Failure::NoRoom`] if the buffer is shorter than the text. It is unchanged, and the old document
+/// is put into the handle.
+fn put_patched(
+    document: &mut Document,
+    old: Box<Value, Global>,
+    made: Patched,
+    out: &mut [u8],
+) -> Result<usize, Failure>
+    ensures copied { IfOk result (λ n. take n out.new ≡ made.back.items) }
+    ensures held { OnOk result (Holds document.new made.document) }
+    ensures refused { IfErr result (LacksRoom (length made.back.items) (length out.old)) }
+    ensures unchanged { OnErr result (out.new ≡ out.old) }
+    ensures kept { OnErr result (Holds document.new old.value) }
+{
+    let mut value = old;
+    let outcome = patches::keep(&mut value, made, out);
     document.put(value);
     outcome
 }

@@ -4,7 +4,7 @@ ghost use Rattle.jsonptr_calls.specs.declared.failure.Failure.TheVariants.{Memor
 
 use jsonptr::{ParseError, assign, resolve};
 use jsonptr_patch::PatchError;
-use jsonptr_patch_document::PatchDocumentError;
+use jsonptr_patch_document::{Member, PatchDocumentError};
 use std::alloc::AllocError;
 
 /// A text that is passed to a call.
@@ -52,12 +52,19 @@ pub enum Failure {
     OtherKind,
     /// The document would nest deeper than 10,127.
     TooDeep,
+    /// The patch document that takes a patch back would nest deeper than 127.
+    DeepInverse,
     /// A value cannot be assigned at a pointer.
     NotAssigned(assign::Error),
     /// A document is not a patch.
     NotPatch(PatchDocumentError),
     /// An operation of a patch fails.
-    PatchFailed(PatchError),
+    PatchFailed {
+        /// Why.
+        error: PatchError,
+        /// The member of the operation with the pointer at fault, if a pointer is at fault.
+        member: Option<Member>,
+    },
 }
 
 impl From<AllocError> for Failure {

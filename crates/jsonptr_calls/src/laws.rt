@@ -8,13 +8,14 @@ ghost use Rattle.jsonptr_calls.specs.Editing.{IsNotDeleted, IsTextNotAssigned};
 ghost use Rattle.jsonptr_calls.specs.Failures.{FailsOn, IsNoPointer, IsNoToken, IsNotEscaped, IsNotParsed, IsNotPopped, IsNotPrinted, IsNotPushed, IsNotRead, SameStatus, Unfound};
 ghost use Rattle.jsonptr_calls.specs.InTexts.{IsNotPrintedFrom};
 ghost use Rattle.jsonptr_calls.specs.Messages.{Fits, failure_message, message_of, message_room};
-ghost use Rattle.jsonptr_calls.specs.Patches.{IsNotAppliedList, IsNotPatchText};
+ghost use Rattle.jsonptr_calls.specs.Patches.{IsNotAppliedList, IsNotPatched, IsNotPatchText};
 ghost use Rattle.jsonptr_calls.specs.Rows.{record_of};
 ghost use Rattle.jsonptr_calls.specs.declared.failure.Failure.{Failure};
 ghost use Rattle.jsonptr_calls.specs.declared.record.ErrorRecord.{ErrorRecord};
 ghost use Rattle.jsonptr_calls.specs.declared.values.Layout.{Layout};
 
 use jsonptr::laws::parse_law;
+use jsonptr_patch::laws::patch::patch_law;
 
 /// States that the message of the record of an error is the text of the error, and that no message is
 /// longer than 200 bytes, also that of a record which is not of an error.
@@ -56,11 +57,14 @@ pub fn one_error_law()
         → SameStatus e f }
     ensures patch { (text : List ℕ) (e f : Failure)
         → IsNotPatchText text e → IsNotPatchText text f → SameStatus e f }
-    ensures apply { (d : Data) (os : List Operation) (e f : Failure)
-        → IsNotAppliedList d os e → IsNotAppliedList d os f → SameStatus e f }
+    ensures apply { (d : Data) (text : List ℕ) (os : List Operation) (e f : Failure)
+        → IsNotAppliedList d text os e → IsNotAppliedList d text os f → SameStatus e f }
+    ensures take_back { (d : Data) (text : List ℕ) (os : List Operation) (e f : Failure)
+        → IsNotPatched d text os e → IsNotPatched d text os f → SameStatus e f }
     ensures print_in { (layout : Layout) (text bytes : List ℕ) (room : ℕ) (e f : Failure)
         → IsNotPrintedFrom layout text bytes room e → IsNotPrintedFrom layout text bytes room f
         → SameStatus e f }
 {
     parse_law();
+    patch_law();
 }

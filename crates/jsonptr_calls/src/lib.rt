@@ -20,5 +20,6 @@ pub mod pointers;
 pub mod reading;
 pub mod record;
 mod rows;
+mod sources;
 pub mod texts;
 pub mod values;

@@ -17,6 +17,9 @@ impl fmt::Display for ErrorRecord {
                 let operation = self.operation;
                 write!(f, "patch failed at operation {operation}: {}", Cause(*self))
             }
+            TOO_DEEP if self.kind == KIND_DEEP_INVERSE => {
+                f.write_str("the inverse of the patch would nest deeper than 127")
+            }
             status => f.write_str(fixed_message(status)),
         }
     }

@@ -64,6 +64,8 @@ pub const KIND_NO_SUCH_MEMBER: u32 = 14;
 pub const KIND_NOT_A_STRING: u32 = 15;
 /// `op` is not the name of an operation.
 pub const KIND_UNKNOWN_OP: u32 = 16;
+/// The patch that takes a patch back would nest deeper than a text that is read.
+pub const KIND_DEEP_INVERSE: u32 = 17;
 
 /// The member `op` of an operation.
 pub const MEMBER_OP: u32 = 1;

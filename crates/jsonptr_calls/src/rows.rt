@@ -1,7 +1,7 @@
 //! The numbers of each error: a row for each variant.
 ghost use Rattle.std.specs.Prelude.{◌≡◌, ◌==◌, ◌+◌, not, count_by, drop, take};
 ghost use Rattle.std.specs.List.{prefix_len};
-ghost use Rattle.jsonptr_calls.specs.Rows.{argument_number, assign_row, at_token, fields_of, member_number, of_kind, of_operation, parse_row, patch_document_row, patch_row, pointer_row, record_of, resolve_row, slashes_before, escape_length, status_of, token_length};
+ghost use Rattle.jsonptr_calls.specs.Rows.{argument_number, assign_row, at_token, fault_number, fields_of, member_number, of_kind, of_operation, parse_row, patch_document_row, patch_row, pointer_row, record_of, resolve_row, slashes_before, escape_length, status_of, token_length};
 
 use crate::failure::{Argument, Failure};
 use crate::numbers::*;
@@ -36,8 +36,8 @@ fn status(failure: &Failure) -> u32
         Failure::OtherKind => OTHER_KIND,
         Failure::NotAssigned(_) => NOT_ASSIGNED,
         Failure::NotPatch(_) => NOT_PATCH,
-        Failure::PatchFailed(_) => PATCH_FAILED,
-        Failure::TooDeep => TOO_DEEP,
+        Failure::PatchFailed { .. } => PATCH_FAILED,
+        Failure::TooDeep | Failure::DeepInverse => TOO_DEEP,
     }
 }
 
@@ -69,7 +69,8 @@ fn fields(failure: &Failure, pointer: &[u8]) -> ErrorRecord
             ..assign_row(error)
         },
         Failure::NotPatch(error) => patch_document_row(error),
-        Failure::PatchFailed(error) => patch_row(error),
+        Failure::PatchFailed { error, member } => patch_row(error, fault_number(*member)),
+        Failure::DeepInverse => of_kind(KIND_DEEP_INVERSE),
         _ => ErrorRecord::none(),
     }
 }
@@ -162,22 +163,36 @@ fn assign_row(error: &assign::Error) -> ErrorRecord
     }
 }
 
-/// Returns the row of an operation that fails.
-fn patch_row(error: &PatchError) -> ErrorRecord
-    ensures { result ≡ patch_row error.now }
+/// Returns the row of an operation that fails, with the number of the member at fault.
+fn patch_row(error: &PatchError, member: u32) -> ErrorRecord
+    ensures { result ≡ patch_row error.now member }
 {
     match error {
         PatchError::NoTarget { operation, cause } => ErrorRecord {
+            member,
             operation: *operation as u64,
             ..resolve_row(cause)
         },
         PatchError::BadPlace { operation, cause } => ErrorRecord {
+            member,
             operation: *operation as u64,
             ..assign_row(cause)
         },
-        PatchError::MoveIntoSelf { operation } => of_operation(KIND_MOVE_INTO_SELF, 0, *operation),
-        PatchError::TestFloat { operation } => of_operation(KIND_TEST_FLOAT, 0, *operation),
-        PatchError::TestFailed { operation } => of_operation(KIND_TEST_FAILED, 0, *operation),
+        PatchError::MoveIntoSelf { operation } => {
+            of_operation(KIND_MOVE_INTO_SELF, member, *operation)
+        }
+        PatchError::TestFloat { operation } => of_operation(KIND_TEST_FLOAT, member, *operation),
+        PatchError::TestFailed { operation } => of_operation(KIND_TEST_FAILED, member, *operation),
+    }
+}
+
+/// Returns the number of the member at fault, or 0 if none is.
+fn fault_number(member: Option<Member>) -> u32
+    ensures { result ≡ fault_number member }
+{
+    match member {
+        Some(member) => member_number(member),
+        None => 0,
     }
 }
 

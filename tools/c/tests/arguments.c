@@ -48,6 +48,11 @@ static void check_bad(void) {
     EXPECT(jsonptr_document_delete(&document, NULL, 1, NULL, NULL), BAD);
     EXPECT(jsonptr_document_patch(NULL, "[]", 2, NULL), BAD);
     EXPECT(jsonptr_document_patch(&document, NULL, 2, NULL), BAD);
+    EXPECT(jsonptr_document_patch_with_inverse(NULL, "[]", 2, 0, out, 8, &length, NULL), BAD);
+    EXPECT(jsonptr_document_patch_with_inverse(&document, NULL, 2, 0, out, 8, &length, NULL), BAD);
+    EXPECT(jsonptr_document_patch_with_inverse(&document, "[]", huge, 0, out, 8, &length, NULL), BAD);
+    EXPECT(jsonptr_document_patch_with_inverse(&document, "[]", 2, 0, NULL, 8, &length, NULL), BAD);
+    EXPECT(jsonptr_document_patch_with_inverse(&document, "[]", 2, 2, out, 8, &length, NULL), BAD);
     EXPECT(jsonptr_document_diff(&document, &document, 0, out, 8, &length, NULL), BAD);
     EXPECT(jsonptr_document_diff(&document, NULL, 0, out, 8, &length, NULL), BAD);
     EXPECT(jsonptr_document_diff(NULL, &document, 0, out, 8, &length, NULL), BAD);
@@ -68,6 +73,7 @@ static void check_bad(void) {
 
 static void check_empty(void) {
     jsonptr_document document = parsed("[7]");
+    char out[2];
     size_t length = 9;
     EXPECT(jsonptr_pointer_count(NULL, 0, &length, NULL), JSONPTR_OK);
     expect_number("tokens", "NULL", length, 0);
@@ -77,6 +83,8 @@ static void check_empty(void) {
     expect_number("length", "the root", length, 3);
     EXPECT(jsonptr_document_get(&document, "/0", 2, 0, NULL, 0, NULL, NULL), JSONPTR_NO_ROOM);
     EXPECT(jsonptr_document_delete(&document, "/0", 2, NULL, NULL), JSONPTR_OK);
+    EXPECT(jsonptr_document_patch_with_inverse(&document, "[]", 2, 0, NULL, 0, NULL, NULL), JSONPTR_NO_ROOM);
+    EXPECT(jsonptr_document_patch_with_inverse(&document, "[]", 2, 0, out, 2, NULL, NULL), JSONPTR_OK);
     EXPECT(jsonptr_document_assign(&document, NULL, 0, "{}", 2, NULL), JSONPTR_OK);
     expect_document("NULL as the root", &document, "{}");
     EXPECT(jsonptr_resolve_in_text(NULL, 0, NULL, 0, 0, NULL, 0, NULL, NULL), JSONPTR_NOT_JSON);

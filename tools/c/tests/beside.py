@@ -76,6 +76,15 @@ def outcome(call):
     return type(result).__name__ if type(result).__name__ == "EndOfList" else result
 
 
+def outcome_error(call):
+    """Returns the `JsonPatchError` of a call."""
+    try:
+        call()
+    except jsonptr.JsonPatchError as error:
+        return error
+    raise AssertionError("no exception")
+
+
 def same(value, other):
     """Returns whether two values are the same JSON."""
     return json.dumps(value, sort_keys=True) == json.dumps(other, sort_keys=True)
@@ -148,6 +157,27 @@ def check_patches():
     return count
 
 
+def check_inverses():
+    """Checks that each patch that applies is taken back by its inverse, and that one that fails changes nothing."""
+    count = 0
+    for value, patch in itertools.product(DOCUMENTS, PATCHES):
+        count += 1
+        document = jsonptr.Document.of(value)
+        before = document.text()
+        after = outcome(lambda: jsonptr.Patch(patch).apply(value))
+        back = outcome(lambda: jsonptr.Patch(patch).apply_with_inverse(document))
+        if not isinstance(back, jsonptr.Patch):
+            if (back, document.text()) != (after, before):
+                report("a patch with an inverse failed", value, patch, back, document)
+            continue
+        if not same(document.value(), after):
+            report("apply_with_inverse", value, patch, "made", document)
+        document.apply(back)
+        if document.text() != before:
+            report("the inverse", value, patch, back, "made", document, "of", before)
+    return count
+
+
 def check_differences_of_documents():
     """Compares patches that turn one document into another: each library applies both."""
     count = 0
@@ -193,6 +223,14 @@ def check_errors():
             report("fields", error.operation, error.member)
     else:
         report("no exception")
+    for patch, member in (
+        ([{"op": "move", "from": "/a", "path": "/b/x"}], "from"),
+        ([{"op": "add", "path": "/a", "value": 1}, {"op": "move", "from": "/a", "path": "/b/x"}], "path"),
+        ([{"op": "test", "path": "", "value": 1}], None),
+    ):
+        error = outcome_error(lambda: jsonptr.Document("{}").apply(patch))
+        if (error.operation, error.member) != (len(patch) - 1, member):
+            report("fields", error.operation, error.member)
 
 
 def check_depth():
@@ -242,6 +280,7 @@ def check_threads():
 print("jsonpointer", jsonpointer.__version__, "and jsonpatch", jsonpatch.__version__)
 print(check_pointers(), "pointers and documents compared")
 print(check_patches(), "patches and documents compared")
+print(check_inverses(), "patches and documents taken back")
 print(check_differences_of_documents(), "pairs of documents compared")
 check_named()
 check_errors()

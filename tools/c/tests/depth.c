@@ -234,6 +234,22 @@ static jsonptr_status call_failing(void) {
     return patch_with("[{\"op\":\"copy\",\"from\":\"%s\",\"path\":\"%s\"},{\"op\":\"remove\",\"path\":\"/9\"}]");
 }
 
+/* Replaces the deepest value, so the inverse is short, and the document is copied and freed. */
+static jsonptr_status call_inverse(void) {
+    text patch = repeated("[{\"op\":\"replace\",\"value\":1,\"path\":\"", 1);
+    append(&patch, tokens.bytes);
+    append(&patch, "\"}]");
+    jsonptr_status status =
+        jsonptr_document_patch_with_inverse(&deepest, TEXT(patch.bytes), 0, out, OUT, NULL, NULL);
+    free(patch.bytes);
+    return status;
+}
+
+/* The inverse would have the whole document. */
+static jsonptr_status call_deep_inverse(void) {
+    return jsonptr_document_patch_with_inverse(&deepest, TEXT("[{\"op\":\"remove\",\"path\":\"\"}]"), 0, out, OUT, NULL, NULL);
+}
+
 /* Looks at the depth of the document, since the path is longer. */
 static jsonptr_status call_deepening(void) {
     return patch_with("[{\"op\":\"copy\",\"from\":\"\",\"path\":\"%s\"}]");
@@ -267,6 +283,8 @@ static const struct {
     { "patch: replace", call_replace, JSONPTR_OK, false },
     { "patch: copy", call_copy, JSONPTR_OK, false },
     { "patch that is undone", call_failing, JSONPTR_PATCH_FAILED, false },
+    { "patch with an inverse", call_inverse, JSONPTR_TOO_DEEP, false },
+    { "patch with a deep inverse", call_deep_inverse, JSONPTR_TOO_DEEP, false },
     { "patch that is too deep", call_deepening, JSONPTR_TOO_DEEP, false },
     { "diff from it", call_diff, JSONPTR_OK, false },
     { "diff to it", call_diff_to, JSONPTR_OK, false },

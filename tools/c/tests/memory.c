@@ -38,7 +38,7 @@ void __wrap_free(void *block) {
 
 typedef struct state {
     jsonptr_document document, other;
-    char out[512];
+    char out[1024];
 } state;
 
 static jsonptr_status parse(state *s) {
@@ -74,6 +74,17 @@ static jsonptr_status patch(state *s) {
     return jsonptr_document_patch(&s->document, TEXT(PATCH), NULL);
 }
 
+/* A failed operation whose `from` does not resolve, which is found out by applying those before it again. */
+static jsonptr_status fail(state *s) {
+    jsonptr_status status = jsonptr_document_patch(
+        &s->document, TEXT("[{\"op\":\"remove\",\"path\":\"/a~1b/1\"},{\"op\":\"move\",\"from\":\"/a~1b/1\",\"path\":\"/x/y\"}]"), NULL);
+    return status == JSONPTR_PATCH_FAILED ? JSONPTR_OK : status;
+}
+
+static jsonptr_status inverse(state *s) {
+    return jsonptr_document_patch_with_inverse(&s->document, TEXT(PATCH), JSONPTR_PRETTY, s->out, sizeof s->out, NULL, NULL);
+}
+
 static jsonptr_status diff(state *s) {
     return jsonptr_document_diff(&s->document, &s->other, 0, s->out, sizeof s->out, NULL, NULL);
 }
@@ -105,7 +116,7 @@ static const struct {
     jsonptr_status (*call)(state *);
 } calls[] = {
     { "parse", parse }, { "print", print }, { "get", get }, { "string", string }, { "node", node }, { "assign", assign },
-    { "delete", delete }, { "patch", patch }, { "diff", diff }, { "in_text", in_text }, { "token", token },
+    { "delete", delete }, { "patch", patch }, { "fail", fail }, { "inverse", inverse }, { "diff", diff }, { "in_text", in_text }, { "token", token },
     { "escape", escape }, { "push", push }, { "message", message },
 };
 

@@ -77,6 +77,13 @@ def check_documents():
     assert patch != jsonptr.Patch([]) and not jsonptr.Patch([]) and not jsonptr.make_patch({}, {})
     assert jsonptr.Patch('[{"op":"test","path":"","value":1}]') != jsonptr.Patch('[{"op":"test","path":"","value":true}]')
     assert len({patch, pickle.loads(pickle.dumps(patch)), jsonptr.Patch([])}) == 2
+    undo = jsonptr.Patch([{"op": "remove", "path": "/a"}]).apply_with_inverse(document)
+    assert document.text() == "{}" and undo.operations == [{"op": "add", "path": "/a", "value": [1.5, -0.0, 2 ** 64 - 1]}]
+    long = jsonptr.Patch([{"op": "replace", "path": "", "value": "x" * 10_000}])
+    assert long.apply_with_inverse(document) == jsonptr.Patch([{"op": "replace", "path": "", "value": {}}])
+    assert len(jsonptr.Patch([{"op": "remove", "path": ""}]).apply_with_inverse(document).text) > 10_000
+    assert document.text() == "null"
+    assert isinstance(caught(long.apply_with_inverse, {"a": 1}), TypeError)
     for text in ("garbage", "{}"):
         assert isinstance(caught(len, jsonptr.Patch(text)), jsonptr.JsonPatchError)
 

@@ -412,17 +412,17 @@ static const struct {
     { "{\"foo\":\"bar\"}", "[{\"op\":\"add\",\"path\":\"/baz\",\"value\":\"qux\",\"xyz\":123}]", JSONPTR_OK,
       "{\"baz\":\"qux\",\"foo\":\"bar\"}", 0, 0, 0, "no error" },
     { "{\"foo\":\"bar\"}", "[{\"op\":\"add\",\"path\":\"/baz/bat\",\"value\":\"qux\"}]", JSONPTR_PATCH_FAILED,
-      "{\"foo\":\"bar\"}", JSONPTR_KIND_NO_MEMBER, 0, 0,
+      "{\"foo\":\"bar\"}", JSONPTR_KIND_NO_MEMBER, JSONPTR_MEMBER_PATH, 0,
       "patch failed at operation 0: resolve failed: json pointer token at 0 was not found in value" },
     { "{\"/\":9,\"~1\":10}", "[{\"op\":\"test\",\"path\":\"/~01\",\"value\":10}]", JSONPTR_OK, "{\"/\":9,\"~1\":10}", 0, 0, 0,
       "no error" },
     { "{\"foo\":[\"bar\"]}", "[{\"op\":\"add\",\"path\":\"/foo/-\",\"value\":[\"abc\",\"def\"]}]", JSONPTR_OK,
       "{\"foo\":[\"bar\",[\"abc\",\"def\"]]}", 0, 0, 0, "no error" },
     { "{\"a\":1}", "[{\"op\":\"add\",\"path\":\"/b\",\"value\":2},{\"op\":\"remove\",\"path\":\"/c\"}]",
-      JSONPTR_PATCH_FAILED, "{\"a\":1}", JSONPTR_KIND_NO_MEMBER, 0, 1,
+      JSONPTR_PATCH_FAILED, "{\"a\":1}", JSONPTR_KIND_NO_MEMBER, JSONPTR_MEMBER_PATH, 1,
       "patch failed at operation 1: resolve failed: json pointer token at 0 was not found in value" },
     { "[1]", "[{\"op\":\"add\",\"path\":\"/2\",\"value\":2}]", JSONPTR_PATCH_FAILED, "[1]",
-      JSONPTR_KIND_INDEX_ABOVE_LENGTH, 0, 0,
+      JSONPTR_KIND_INDEX_ABOVE_LENGTH, JSONPTR_MEMBER_PATH, 0,
       "patch failed at operation 0: assign failed: json pointer token at offset 0 is out of bounds" },
     { "{\"a\":{}}", "[{\"op\":\"move\",\"from\":\"/a\",\"path\":\"/a/b\"}]", JSONPTR_PATCH_FAILED, "{\"a\":{}}",
       JSONPTR_KIND_MOVE_INTO_SELF, 0, 0, "patch failed at operation 0: from is a proper prefix of path" },
@@ -469,17 +469,24 @@ static const struct {
     uint32_t kind, member;
     uint64_t position, slash, offset;
 } faulty[] = {
-    { "[{\"op\":\"remove\",\"path\":\"/sizes/7\"}]", JSONPTR_PATCH_FAILED, JSONPTR_KIND_OUT_OF_BOUNDS, 0, 1, 6, 7 },
-    { "[{\"op\":\"add\",\"path\":\"/sizes/x\",\"value\":1}]", JSONPTR_PATCH_FAILED, JSONPTR_KIND_NOT_A_NEW_INDEX, 0, 1,
-      6, 7 },
-    { "[{\"op\":\"add\",\"path\":\"/sizes/0/x\",\"value\":1}]", JSONPTR_PATCH_FAILED, JSONPTR_KIND_NO_CHILDREN, 0, 2,
-      8, 9 },
+    { "[{\"op\":\"remove\",\"path\":\"/sizes/7\"}]", JSONPTR_PATCH_FAILED, JSONPTR_KIND_OUT_OF_BOUNDS,
+      JSONPTR_MEMBER_PATH, 1, 6, 7 },
+    { "[{\"op\":\"add\",\"path\":\"/sizes/x\",\"value\":1}]", JSONPTR_PATCH_FAILED, JSONPTR_KIND_NOT_A_NEW_INDEX,
+      JSONPTR_MEMBER_PATH, 1, 6, 7 },
+    { "[{\"op\":\"add\",\"path\":\"/sizes/0/x\",\"value\":1}]", JSONPTR_PATCH_FAILED, JSONPTR_KIND_NO_CHILDREN,
+      JSONPTR_MEMBER_PATH, 2, 8, 9 },
     { "[{\"op\":\"move\",\"path\":\"/no/x\",\"from\":\"/sizes/7\"}]", JSONPTR_PATCH_FAILED, JSONPTR_KIND_OUT_OF_BOUNDS,
-      0, 1, 6, 7 },
+      JSONPTR_MEMBER_FROM, 1, 6, 7 },
+    { "[{\"op\":\"move\",\"path\":\"/no/x\",\"from\":\"/sizes/0\"}]", JSONPTR_PATCH_FAILED, JSONPTR_KIND_NO_MEMBER,
+      JSONPTR_MEMBER_PATH, 0, 0, 1 },
+    { "[{\"op\":\"move\",\"path\":\"/b/x\",\"from\":\"/a/x\"}]", JSONPTR_PATCH_FAILED, JSONPTR_KIND_NO_MEMBER,
+      JSONPTR_MEMBER_FROM, 0, 0, 1 },
+    { "[{\"op\":\"copy\",\"path\":\"/b/x\",\"from\":\"\"}]", JSONPTR_PATCH_FAILED, JSONPTR_KIND_NO_MEMBER,
+      JSONPTR_MEMBER_PATH, 0, 0, 1 },
     { "[{\"op\":\"copy\",\"path\":\"/sizes/0/x\",\"from\":\"/sizes/1\"}]", JSONPTR_PATCH_FAILED,
-      JSONPTR_KIND_NO_CHILDREN, 0, 2, 8, 9 },
+      JSONPTR_KIND_NO_CHILDREN, JSONPTR_MEMBER_PATH, 2, 8, 9 },
     { "[{\"op\":\"copy\",\"path\":\"/sizes/9\",\"from\":\"/sizes/1\"}]", JSONPTR_PATCH_FAILED,
-      JSONPTR_KIND_INDEX_ABOVE_LENGTH, 0, 1, 6, 7 },
+      JSONPTR_KIND_INDEX_ABOVE_LENGTH, JSONPTR_MEMBER_PATH, 1, 6, 7 },
     { "[{\"op\":\"move\",\"path\":\"/no/x\",\"from\":\"/no\"}]", JSONPTR_PATCH_FAILED, JSONPTR_KIND_MOVE_INTO_SELF, 0,
       0, 0, 0 },
     { "[{\"op\":\"test\",\"path\":\"/sizes\",\"value\":[3.0]}]", JSONPTR_PATCH_FAILED, JSONPTR_KIND_TEST_FLOAT, 0, 0, 0,
@@ -490,6 +497,15 @@ static const struct {
       JSONPTR_MEMBER_FROM, 0, 0, 1 },
     { "[{\"op\":\"remove\",\"path\":\"ok\"}]", JSONPTR_NOT_PATCH, JSONPTR_KIND_NO_LEADING_SLASH, JSONPTR_MEMBER_PATH, 0, 0,
       0 },
+    /* Operations before the one that fails decide whether its `from` resolves. */
+    { "[{\"op\":\"remove\",\"path\":\"/sizes/1\"},{\"op\":\"move\",\"from\":\"/sizes/1\",\"path\":\"/b/x\"}]",
+      JSONPTR_PATCH_FAILED, JSONPTR_KIND_OUT_OF_BOUNDS, JSONPTR_MEMBER_FROM, 1, 6, 7 },
+    { "[{\"op\":\"add\",\"path\":\"/a\",\"value\":{}},{\"op\":\"copy\",\"from\":\"/a\",\"path\":\"/b/x\"}]",
+      JSONPTR_PATCH_FAILED, JSONPTR_KIND_NO_MEMBER, JSONPTR_MEMBER_PATH, 0, 0, 1 },
+    { "[{\"op\":\"move\",\"from\":\"/sizes\",\"path\":\"/a\"},{\"op\":\"copy\",\"from\":\"/sizes/0\",\"path\":\"/sizes/1\"}]",
+      JSONPTR_PATCH_FAILED, JSONPTR_KIND_NO_MEMBER, JSONPTR_MEMBER_FROM, 0, 0, 1 },
+    { "[{\"op\":\"move\",\"from\":\"/sizes\",\"path\":\"/a\"},{\"op\":\"copy\",\"from\":\"/a/0\",\"path\":\"/sizes/1\"}]",
+      JSONPTR_PATCH_FAILED, JSONPTR_KIND_NO_MEMBER, JSONPTR_MEMBER_PATH, 0, 0, 1 },
 };
 
 static void check_faulty(void) {
@@ -509,17 +525,127 @@ static void check_faulty(void) {
     jsonptr_document_free(&document);
 }
 
-/* The longest message: all statuses, kinds and members of the records that the library writes, with the greatest numbers. */
+/* The longest message: all statuses, kinds and members, also those that no error has, with the greatest numbers. */
 static void check_longest_message(void) {
-    for (uint32_t i = 0; i < 15 * 18 * 8; i++) {
-        uint32_t status = i / 144, kind = i / 8 % 18;
-        if (status == JSONPTR_NOT_PATCH && kind == JSONPTR_KIND_NO_CHILDREN) {
-            continue; /* no patch document has a document to resolve in */
-        }
-        jsonptr_error error = { status, kind, i % 8, 0, UINT64_MAX, UINT64_MAX, UINT64_MAX, UINT64_MAX, UINT64_MAX, 0, 0 };
+    static const uint32_t greatest[] = { 1000, UINT32_MAX };
+    size_t longest = 0;
+    for (uint32_t i = 0; i < 17 * 20 * 10; i++) {
+        uint32_t status = i / 200, kind = i / 10 % 20, member = i % 10;
+        jsonptr_error error = { status < 16 ? status : greatest[i % 2], kind < 19 ? kind : greatest[i % 2],
+                                member < 9 ? member : greatest[i % 2], UINT32_MAX, UINT64_MAX, UINT64_MAX, UINT64_MAX,
+                                UINT64_MAX, UINT64_MAX, UINT64_MAX, UINT64_MAX };
         char out[200];
-        expect_number("status", "a message of 200 bytes", jsonptr_error_message(&error, out, sizeof out, NULL), JSONPTR_OK);
+        size_t length = 0;
+        expect_number("status", "a message of 200 bytes", jsonptr_error_message(&error, out, sizeof out, &length),
+                      JSONPTR_OK);
+        longest = length > longest ? length : longest;
     }
+    expect_number("bytes", "the longest message", longest, 198);
+    jsonptr_error odd = { .status = JSONPTR_NOT_PATCH, .kind = JSONPTR_KIND_NO_CHILDREN };
+    expect_message("a patch that does not resolve", &odd, "not a JSON Patch document: unknown kind");
+}
+
+/* Patches, the document after each, and the patch that takes it back. */
+static const struct {
+    const char *document, *patch, *after, *back;
+} inverses[] = {
+    { "{\"a\":1}", "[{\"op\":\"replace\",\"path\":\"/a\",\"value\":2}]", "{\"a\":2}",
+      "[{\"op\":\"replace\",\"path\":\"/a\",\"value\":1}]" },
+    { "{\"a\":1}", "[{\"op\":\"add\",\"path\":\"/b\",\"value\":2}]", "{\"a\":1,\"b\":2}", "[{\"op\":\"remove\",\"path\":\"/b\"}]" },
+    { "[3,5]", "[{\"op\":\"remove\",\"path\":\"/0\"}]", "[5]", "[{\"op\":\"add\",\"path\":\"/0\",\"value\":3}]" },
+    { "[3,5]", "[{\"op\":\"add\",\"path\":\"/-\",\"value\":8}]", "[3,5,8]", "[{\"op\":\"remove\",\"path\":\"/2\"}]" },
+    { "{\"a\":1,\"b\":2}", "[{\"op\":\"move\",\"from\":\"/a\",\"path\":\"/c\"}]", "{\"b\":2,\"c\":1}",
+      "[{\"from\":\"/c\",\"op\":\"move\",\"path\":\"/a\"}]" },
+    { "{\"a\":1}", "[{\"op\":\"test\",\"path\":\"/a\",\"value\":1}]", "{\"a\":1}", "[]" },
+    { "{\"a\":1}", "[]", "{\"a\":1}", "[]" },
+    { "{\"a\":[1.5]}", "[{\"op\":\"remove\",\"path\":\"\"}]", "null", "[{\"op\":\"add\",\"path\":\"\",\"value\":{\"a\":[1.5]}}]" },
+};
+
+static void check_inverses(void) {
+    for (size_t i = 0; i < COUNT(inverses); i++) {
+        const char *patch = inverses[i].patch;
+        jsonptr_document document = parsed(inverses[i].document);
+        jsonptr_error error;
+        char out[256];
+        size_t length = 0, needed = strlen(inverses[i].back);
+        memset(out, '#', sizeof out);
+        expect_number("status of a short buffer", patch,
+                      jsonptr_document_patch_with_inverse(&document, TEXT(patch), 0, out, needed - 1, &length, &error),
+                      JSONPTR_NO_ROOM);
+        expect_number("length of a short buffer", patch, length, needed);
+        expect_number("length in the error", patch, error.length, needed);
+        expect_number("first byte of a short buffer", patch, (unsigned char)out[0], '#');
+        expect_document("after a short buffer", &document, inverses[i].document);
+        length = 0;
+        expect_number("status", patch,
+                      jsonptr_document_patch_with_inverse(&document, TEXT(patch), 0, out, needed, &length, &error),
+                      JSONPTR_OK);
+        expect_number("status of the error", patch, error.status, JSONPTR_OK);
+        expect_text("inverse", patch, out, length, inverses[i].back);
+        expect_document(patch, &document, inverses[i].after);
+        expect_number("status back", patch, jsonptr_document_patch(&document, out, length, &error), JSONPTR_OK);
+        expect_document("taken back", &document, inverses[i].document);
+        jsonptr_document_free(&document);
+    }
+}
+
+/* A patch that fails, by both calls: the same error, and the document and the buffer stay. */
+static void expect_same_error(const char *document_text, const char *patch, jsonptr_status wanted) {
+    jsonptr_document document = parsed(document_text);
+    jsonptr_error error, other;
+    char out[64];
+    size_t length = 7;
+    memset(out, '#', sizeof out);
+    expect_number("status", patch, jsonptr_document_patch(&document, TEXT(patch), &other), wanted);
+    expect_number("status with an inverse", patch,
+                  jsonptr_document_patch_with_inverse(&document, TEXT(patch), 0, out, sizeof out, &length, &error), wanted);
+    expect_number("fields", patch, memcmp(&error, &other, sizeof error) == 0, 1);
+    expect_number("length", patch, length, 7);
+    expect_number("first byte", patch, (unsigned char)out[0], '#');
+    expect_document(patch, &document, document_text);
+    jsonptr_document_free(&document);
+}
+
+static void check_failing_inverses(void) {
+    for (size_t i = 0; i < COUNT(patches); i++) {
+        if (patches[i].status != JSONPTR_OK) {
+            expect_same_error(patches[i].after, patches[i].patch, patches[i].status);
+        }
+    }
+    for (size_t i = 0; i < COUNT(faulty); i++) {
+        expect_same_error("{\"sizes\":[3,5]}", faulty[i].patch, faulty[i].status);
+    }
+    expect_same_error("[1]", "[", JSONPTR_NOT_JSON);
+    expect_same_error("[1]", "[\"\xff\"]", JSONPTR_NOT_UTF8);
+    jsonptr_document empty = JSONPTR_DOCUMENT_INIT;
+    jsonptr_error error;
+    expect_number("status", "an empty handle",
+                  jsonptr_document_patch_with_inverse(&empty, "[]", 2, 0, NULL, 0, NULL, &error), JSONPTR_NO_DOCUMENT);
+    expect_number("status", "an empty handle and no patch",
+                  jsonptr_document_patch_with_inverse(&empty, "{}", 2, 0, NULL, 0, NULL, &error), JSONPTR_NOT_PATCH);
+    /* A value of 126 levels needs a text of 128 to be added again, which is not read. */
+    char deep[256], patch[] = "[{\"op\":\"remove\",\"path\":\"/0\"}]", out[512];
+    size_t length = 0;
+    memset(deep, '[', 127);
+    memset(deep + 127, ']', 127);
+    jsonptr_document document = JSONPTR_DOCUMENT_INIT;
+    expect_number("status", "127 arrays", jsonptr_document_parse(&document, deep, 254, NULL), JSONPTR_OK);
+    expect_number("status", "an inverse of 128 levels",
+                  jsonptr_document_patch_with_inverse(&document, TEXT(patch), 0, out, sizeof out, &length, &error),
+                  JSONPTR_TOO_DEEP);
+    expect_number("kind", "an inverse of 128 levels", error.kind, JSONPTR_KIND_DEEP_INVERSE);
+    expect_message("an inverse of 128 levels", &error, "the inverse of the patch would nest deeper than 127");
+    expect_number("status", "printing", jsonptr_document_print(&document, 0, out, sizeof out, &length, NULL), JSONPTR_OK);
+    expect_number("text", "after the error", length == 254 && memcmp(out, deep, 254) == 0, 1);
+    expect_number("status", "126 arrays", jsonptr_document_parse(&document, deep + 1, 252, NULL), JSONPTR_OK);
+    expect_number("status", "an inverse of 127 levels",
+                  jsonptr_document_patch_with_inverse(&document, TEXT(patch), 0, out, sizeof out, &length, &error),
+                  JSONPTR_OK);
+    expect_document("after the removal", &document, "[]");
+    expect_number("status", "the inverse", jsonptr_document_patch(&document, out, length, &error), JSONPTR_OK);
+    expect_number("status", "printing", jsonptr_document_print(&document, 0, out, sizeof out, &length, NULL), JSONPTR_OK);
+    expect_number("text", "taken back", length == 252 && memcmp(out, deep + 1, 252) == 0, 1);
+    jsonptr_document_free(&document);
 }
 
 /* Differences: the patch of each pair turns the one into the other. */
@@ -617,6 +743,8 @@ int main(void) {
     check_patches();
     check_faulty();
     check_longest_message();
+    check_inverses();
+    check_failing_inverses();
     check_differences();
     check_handles();
     return report("tables");
