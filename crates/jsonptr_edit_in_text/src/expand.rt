@@ -6,6 +6,7 @@ ghost use Rattle.jsonptr_tree.specs.Growing.{grown};
 ghost use Rattle.jsonptr_tree.specs.Json.{nodes};
 
 use jsonptr::{Assign, Fault, Pointer};
+use jsonptr_value::copy;
 use serde_json::Value;
 use std::alloc::{AllocError, Global};
 
@@ -19,7 +20,7 @@ pub fn expand(alloc: Global, pointer: Pointer<'_>, value: &Value) -> Result<Valu
         (λ v. nodes (view v) ≡ grown (tokens pointer.entry) (nodes (view value.now))) }
 {
     let mut expanded = Value::Null;
-    match expanded.assign(alloc, pointer, value.clone()?) {
+    match expanded.assign(alloc, pointer, copy(alloc, value)?) {
         Ok(_) => Ok(expanded),
         Err(_) => Err(AllocError),
     }

@@ -192,7 +192,7 @@ fn passes(
         Err(InTextError::Resolve(_error)) => return Ok(false),
     };
     let path = PointerBuf::new(alloc);
-    let value = value.clone()?;
+    let value = jsonptr_value::copy(alloc, value)?;
     let test = vec![in alloc; Operation::Test { path, value }]?;
     match apply(alloc, &mut found, test) {
         Ok(()) => Ok(true),

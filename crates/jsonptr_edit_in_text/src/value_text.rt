@@ -42,7 +42,7 @@ pub fn expanded_text(
     ensures { IfOk result (λ text. IfSome text
         (IsExpanded (tokens pointer.entry) (nodes (view value.now)))) }
 {
-    if pointer.count() > MAX_DEPTH {
+    if pointer.count() > MAX_DEPTH || !nests_within(value, MAX_DEPTH) {
         return Ok(None);
     }
     let expanded = expand(alloc, pointer, value)?;

@@ -11,5 +11,5 @@ use Rattle.jsonptr_edit_in_text.proofs.expand.expand.Goals as goal
 
 pub returns-in-Ok : goal.returns-in-Ok
 returns-in-Ok c =
-    let same : view c.in_ok-clone.field-0 ≡ view c.args.value.now = c.in_ok-clone.ensures.cases in
-    expanded (content_of Null) (tokens c.args.pointer) (nodes (view c.in_ok-clone.field-0)) _ _ null_is c.in-Ok.ensures.assigned.assigned ∙ ap (λ (d : Data). grown (tokens c.args.pointer) (nodes d)) same
+    let same : view c.in_ok-copy.field-0 ≡ view c.args.value.now = c.in_ok-copy.ensures in
+    expanded (content_of Null) (tokens c.args.pointer) (nodes (view c.in_ok-copy.field-0)) _ _ null_is c.in-Ok.ensures.assigned.assigned ∙ ap (λ (d : Data). grown (tokens c.args.pointer) (nodes d)) same

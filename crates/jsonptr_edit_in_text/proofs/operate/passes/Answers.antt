@@ -16,5 +16,5 @@ returns-in-Ok-apply c = λ _.
     let n = nodes (view c.in-Ok.found) in
     let p = subst (λ (os : List Operation). Patches n os (nodes (view c.apply.new.doc))) c.in_ok-test.ensures.items c.in-Ok-apply.ensures.applied in
     let q = subst (λ (ts : List Text). Passes n ts (nodes (view c.in_ok-value.value))) c.new-path.ensures p.1.0 in
-    let w = subst (λ (d : Data). Passes n [] (nodes d)) c.in_ok-value.ensures.cases q in
+    let w = subst (λ (d : Data). Passes n [] (nodes d)) c.in_ok-value.ensures q in
     (f.0, f.1, passes_there f.0 (view c.in-Ok.found) (tokens c.args.pointer) (nodes (view c.args.value.now)) f.2 w)
