@@ -1,5 +1,5 @@
 -- What is printed can be read again, and a patch that is printed applies.
-use Rattle.std.proofs.Common.{◌≡◌, ◌≤◌, List, Option, Some, None, MatchOption, refl, sym, ◌∙◌, subst}
+use Rattle.std.proofs.Common.{◌≡◌, ◌≤◌, ◌⊎◌, inl, inr, List, Option, Some, None, MatchOption, refl, sym, ◌∙◌, subst}
 use Rattle.std.specs.declared.alloc.AllocError.{AllocError}
 use Rattle.serde_json.specs.Data.{Data, depth}
 use Rattle.serde_json.specs.Find.{as_str}
@@ -21,7 +21,7 @@ use Rattle.jsonptr_filter.specs.PrivateResults.{IsPatchTextFault}
 use Rattle.jsonptr_filter.specs.Layouts.{IsCompact, Shows, ReadsBack}
 use Rattle.jsonptr_filter.specs.Results.{Restyles, FailsToPatch}
 use Rattle.jsonptr_filter.specs.declared.failure.Failure.{Failure}
-use Rattle.jsonptr_filter.specs.declared.failure.Failure.TheVariants.{BadPointer, NotPatch, NoValue, BadPlace, NotThere, BadPatch, TooDeep, PatchTooDeep, LineBreak, BadLine, NotUtf8, NotJson, ArgumentNotJson, Memory, Read, Write}
+use Rattle.jsonptr_filter.specs.declared.failure.Failure.TheVariants.{BadPointer, NotPatch, NoValue, BadPlace, NotThere, BadPatch, TooDeep, NotInPlace, PatchTooDeep, LineBreak, BadLine, NotUtf8, NotJson, ArgumentNotJson, Memory, Read, Write}
 use Rattle.jsonptr_filter.specs.declared.layout.Layout.{Layout}
 use Rattle.jsonptr_filter.specs.declared.layout.Layout.TheVariants.{Kept, Compact, Pretty, Raw}
 
@@ -49,6 +49,7 @@ patch_fault n m os (BadPlace f) turns h = absurd h
 patch_fault n m os NotThere turns h = absurd h
 patch_fault n m os (BadPatch f) turns h = absurd h
 patch_fault n m os TooDeep turns h = absurd h
+patch_fault n m os NotInPlace turns h = absurd h
 patch_fault n m os PatchTooDeep turns h = (os, turns, h)
 patch_fault n m os LineBreak turns h = absurd h
 patch_fault n m os (BadLine number f) turns h = absurd h
@@ -72,21 +73,22 @@ restyled Compact text out d reads h = shown_reads Compact text out d h.0 reads h
 restyled Pretty text out d reads h = shown_reads Pretty text out d h.0 reads h.1 h.2
 restyled Raw text out d reads h = shown_reads Raw text out d h.0 reads h.1 h.2
 
--- without these four reasons, only a failed allocation is left
-pub no_fault : (a : Text) (p : Data) (e : Failure) → ((f : PatchDocumentError) → IsNoPatch p f → ⊥) → (read a ≡ None → ⊥) → ((os : List Operation) (d : Data) (f : PatchError) → IsPatch p os → read a ≡ Some d → RefusesPatch (nodes d) os f → ⊥) → ((os : List Operation) → IsPatch p os → IsPatchFault a os edit.TooDeep → ⊥) → FailsToPatch a p e → (f : AllocError) × (e ≡ Memory f)
-no_fault a p (BadPointer f) patch json refused deep h = absurd h
-no_fault a p (NotPatch f) patch json refused deep h = absurd (patch f h)
-no_fault a p (NoValue f) patch json refused deep h = absurd h
-no_fault a p (BadPlace f) patch json refused deep h = absurd h
-no_fault a p NotThere patch json refused deep h = absurd h
-no_fault a p (BadPatch f) patch json refused deep h = absurd (refused h.0 h.1 f h.2 h.3 h.4)
-no_fault a p TooDeep patch json refused deep h = absurd (deep h.0 h.1 h.2)
-no_fault a p PatchTooDeep patch json refused deep h = absurd h
-no_fault a p LineBreak patch json refused deep h = absurd h
-no_fault a p (BadLine number f) patch json refused deep h = absurd h
-no_fault a p NotUtf8 patch json refused deep h = absurd h
-no_fault a p NotJson patch json refused deep h = absurd (json h)
-no_fault a p ArgumentNotJson patch json refused deep h = absurd h
-no_fault a p (Memory f) patch json refused deep h = (f, refl)
-no_fault a p Read patch json refused deep h = absurd h
-no_fault a p Write patch json refused deep h = absurd h
+-- without these four reasons, only a failed allocation is left, and that the edit is not made in place
+pub no_fault : (a : Text) (p : Data) (layout : Layout) (e : Failure) → ((f : PatchDocumentError) → IsNoPatch p f → ⊥) → (read a ≡ None → ⊥) → ((os : List Operation) (d : Data) (f : PatchError) → IsPatch p os → read a ≡ Some d → RefusesPatch (nodes d) os f → ⊥) → ((os : List Operation) → IsPatch p os → IsPatchFault a os edit.TooDeep → ⊥) → FailsToPatch a p layout e → ((f : AllocError) × (e ≡ Memory f)) ⊎ ((layout ≡ Kept) × (e ≡ NotInPlace))
+no_fault a p layout (BadPointer f) patch json refused deep h = absurd h
+no_fault a p layout (NotPatch f) patch json refused deep h = absurd (patch f h)
+no_fault a p layout (NoValue f) patch json refused deep h = absurd h
+no_fault a p layout (BadPlace f) patch json refused deep h = absurd h
+no_fault a p layout NotThere patch json refused deep h = absurd h
+no_fault a p layout (BadPatch f) patch json refused deep h = absurd (refused h.0 h.1 f h.2 h.3 h.4)
+no_fault a p layout TooDeep patch json refused deep h = absurd (deep h.0 h.1 h.2)
+no_fault a p layout NotInPlace patch json refused deep h = inr (h.0, refl)
+no_fault a p layout PatchTooDeep patch json refused deep h = absurd h
+no_fault a p layout LineBreak patch json refused deep h = absurd h
+no_fault a p layout (BadLine number f) patch json refused deep h = absurd h
+no_fault a p layout NotUtf8 patch json refused deep h = absurd h
+no_fault a p layout NotJson patch json refused deep h = absurd (json h.1)
+no_fault a p layout ArgumentNotJson patch json refused deep h = absurd h
+no_fault a p layout (Memory f) patch json refused deep h = inl (f, refl)
+no_fault a p layout Read patch json refused deep h = absurd h
+no_fault a p layout Write patch json refused deep h = absurd h

@@ -2,3 +2,4 @@ pub mod ResultLemmas
 pub mod RunLemmas
 mod ReplacementLemmas
 mod DifferenceLemmas
+mod CuttingLemmas

@@ -1,34 +1,144 @@
 -- From edits of a text to what is printed, and from what is printed to what a line writes.
-use Rattle.std.proofs.Common.{◌≡◌, inl, inr, ℕ, List, [], ◌∷◌, ◌++◌, Result, Ok, Err, IfOk, String, string_bytes, refl, sym, subst}
+use Rattle.std.proofs.Common.{◌≡◌, ◌≤◌, inl, inr, ℕ, List, [], ◌∷◌, ◌++◌, Result, Ok, Err, IfOk, IfErr, All, String, string_bytes, refl, sym, subst, arith}
 use Rattle.std.specs.declared.alloc.Global.{Global}
 use Rattle.std.proofs.KnownBytes.{Appends-nil}
 use Rattle.serde_json.specs.Data.{Data}
 use Rattle.jsonptr_grammar.specs.Text.{Text}
 use Rattle.jsonptr_tree.specs.Json.{nodes}
-use Rattle.jsonptr_edit_in_text.specs.EditInText.{text_of, AssignsInText, DeletesInText}
-use Rattle.jsonptr_edit_in_text.specs.declared.edited.Edited.{Edited}
+use Rattle.jsonptr_edit_in_text.specs.Bytes.{AssignsBytes}
+use Rattle.jsonptr_edit_in_text.specs.EditInText.{AssignsInText, IsAssignError, DeletesInText}
+use Rattle.jsonptr_edit_in_text.specs.InPlace.{IsInPlaceError, StaysOneLine}
+use Rattle.jsonptr_edit_in_text.specs.declared.edited.EditError.TheVariants as edit
+use Rattle.jsonptr_edit_in_text.specs.declared.in_place.InPlaceError.{InPlaceError}
+use Rattle.jsonptr_edit_in_text.specs.declared.in_place.InPlaceError.TheVariants as in_place
+use Rattle.jsonptr_lines.specs.Lines.{IsOneLine}
 use Rattle.jsonptr_lines.specs.Streams.{AppendsPrefix}
+use Rattle.jsonptr_paths.proofs.PlainLemmas.{plain_printed}
+use Rattle.jsonptr.specs.declared.assign.Error as assign
 use Rattle.jsonptr_patch.specs.declared.operation.Operation.{Operation}
+use Rattle.jsonptr_patch.specs.declared.operation.PatchError.{PatchError}
 use Rattle.jsonptr_patch_document.specs.Document.{IsPatch}
-use Rattle.jsonptr_edit_in_text.specs.PatchInText.{PatchesInText}
-use Rattle.jsonptr_filter.specs.Results.{Restyles, Sets, Deletes, PatchesBy}
+use Rattle.jsonptr_edit_in_text.specs.PatchInText.{PatchesInText, PatchBytes, IsPatchFault}
+use Rattle.jsonptr_filter.specs.Layouts.{IsCompact, CanBreak}
+use Rattle.jsonptr_filter.specs.Failures.{of_strict_assign_error, of_strict_patch_error}
+use Rattle.jsonptr_filter.specs.Results.{Restyles, Sets, Deletes, PatchesBy, Yields, FailsToSet, FailsToPatch}
+use Rattle.jsonptr_filter.specs.PrivateResults.{Remakes, FailsToApply}
 use Rattle.jsonptr_filter.specs.LineResults.{YieldsLine, IsLineFault, IsReport, StopsRun, fallback_line}
 use Rattle.jsonptr_filter.specs.PrivateLineResults.{Known, OrMemory, IsNoMemory, StopsPut}
 use Rattle.jsonptr_filter.specs.declared.failure.Failure.{Failure}
-use Rattle.jsonptr_filter.specs.declared.failure.Failure.TheVariants.{Memory, Write}
+use Rattle.jsonptr_filter.specs.declared.failure.Failure.TheVariants.{BadPointer, NotPatch, NoValue, BadPlace, NotThere, BadPatch, TooDeep, NotInPlace, PatchTooDeep, LineBreak, BadLine, NotUtf8, NotJson, ArgumentNotJson, Memory, Read, Write}
 use Rattle.jsonptr_filter.specs.declared.layout.Layout.{Layout}
+use Rattle.jsonptr_filter.specs.declared.layout.Layout.TheVariants.{Kept, Compact, Pretty, Raw}
 use Rattle.jsonptr_filter.specs.declared.line.LineTask.{LineTask}
+use Rattle.jsonptr_filter.specs.declared.task.Task.{Task}
+use Rattle.jsonptr_filter.specs.declared.task.Task.TheVariants.{Get, Set, Delete, Patch}
 
-pub deletes_then : (text : Text) (ts : List Text) (layout : Layout) (e : Edited) (new : Text) (r : Result (String Global) Failure)
-    → DeletesInText text ts (text_of e) → new ≡ text_of e → IfOk r (λ s. Restyles layout new (string_bytes s)) → IfOk r (λ s. Deletes text ts layout (string_bytes s))
-deletes_then text ts layout e new (Ok s) d same h = (new, subst (DeletesInText text ts) (sym same) d, h)
-deletes_then text ts layout e new (Err f) d same h = tt
+-- ---- edits in place
 
-pub sets_then : (text : Text) (ts : List Text) (v w : Data) (layout : Layout) (e : Edited) (new : Text) (r : Result (String Global) Failure)
-    → w ≡ v → AssignsInText text ts (nodes w) (text_of e) → new ≡ text_of e → IfOk r (λ s. Restyles layout new (string_bytes s)) → IfOk r (λ s. Sets text ts (nodes v) layout (string_bytes s))
-sets_then text ts v w layout e new (Ok s) clone d same h =
-    (new, subst (AssignsInText text ts (nodes v)) (sym same) (subst (λ (x : Data). AssignsInText text ts (nodes x) (text_of e)) clone d), h)
-sets_then text ts v w layout e new (Err f) clone d same h = tt
+pub set_kept : (text : Text) (ts : List Text) (v w : Data) (out : Text)
+    → w ≡ v → AssignsInText text ts (nodes w) out → AssignsBytes text ts w out → StaysOneLine text out → Sets text ts v Kept out
+set_kept text ts v w out clone meaning bytes line =
+    (out, subst (λ (x : Data). AssignsInText text ts (nodes x) out) clone meaning, refl, λ e. (subst (λ (x : Data). AssignsBytes text ts x out) clone bytes, line))
+
+pub patch_kept : (text : Text) (patch : Data) (os : List Operation) (r : Result (String Global) Failure)
+    → IsPatch patch os → IfOk r (λ s. PatchesInText text os (string_bytes s)) → IfOk r (λ s. PatchBytes text os (string_bytes s)) → IfOk r (λ s. StaysOneLine text (string_bytes s)) → IfOk r (λ s. PatchesBy text patch Kept (string_bytes s))
+patch_kept text patch os (Ok s) is meaning bytes line = (os, string_bytes s, is, meaning, refl, λ e. (bytes, line))
+patch_kept text patch os (Err f) is meaning bytes line = tt
+
+-- ---- documents that are printed anew
+
+pub remade : (P : Text → Type 0) (layout : Layout) (t new : Text) (r : Result (String Global) Failure)
+    → P t → new ≡ t → IfOk r (λ s. Restyles layout new (string_bytes s)) → IfOk r (λ s. Remakes P layout (string_bytes s))
+remade P layout t new (Ok s) p same h = (new, subst P (sym same) p, h)
+remade P layout t new (Err f) p same h = tt
+
+pub set_anew : (text : Text) (ts : List Text) (v : Data) (layout : Layout) (r : Result (String Global) Failure)
+    → (layout ≡ Kept → ⊥) → IfOk r (λ s. Remakes (AssignsInText text ts (nodes v)) layout (string_bytes s)) → IfOk r (λ s. Sets text ts v layout (string_bytes s))
+set_anew text ts v layout (Ok s) other h = (h.0, h.1, h.2, λ e. absurd (other e))
+set_anew text ts v layout (Err f) other h = tt
+
+pub delete_anew : (text : Text) (ts : List Text) (layout : Layout) (r : Result (String Global) Failure)
+    → (layout ≡ Kept → ⊥) → IfOk r (λ s. Remakes (DeletesInText text ts) layout (string_bytes s)) → IfOk r (λ s. Deletes text ts layout (string_bytes s))
+delete_anew text ts layout (Ok s) other h = (h.0, h.1, h.2, λ e. absurd (other e))
+delete_anew text ts layout (Err f) other h = tt
+
+pub patch_anew : (text : Text) (patch : Data) (layout : Layout) (os : List Operation) (r : Result (String Global) Failure)
+    → (layout ≡ Kept → ⊥) → IsPatch patch os → IfOk r (λ s. Remakes (PatchesInText text os) layout (string_bytes s)) → IfOk r (λ s. PatchesBy text patch layout (string_bytes s))
+patch_anew text patch layout os (Ok s) other is h = (os, h.0, is, h.1, h.2, λ e. absurd (other e))
+patch_anew text patch layout os (Err f) other is h = tt
+
+-- ---- edits that are not made
+
+set_fails : (text : Text) (ts : List Text) (v : Data) (e : InPlaceError assign.Error)
+    → IsInPlaceError (AssignsInText text ts (nodes v)) (IsAssignError text ts v) e → FailsToSet text ts v Kept (of_strict_assign_error e)
+set_fails text ts v in_place.NotInPlace h = (refl, h)
+set_fails text ts v (in_place.Failed edit.NotJson) h = h
+set_fails text ts v (in_place.Failed (edit.Refused f)) h = h
+set_fails text ts v (in_place.Failed edit.TooDeep) h = h
+set_fails text ts v (in_place.Failed (edit.Memory f)) h = tt
+
+pub copy_fails : (text : Text) (ts : List Text) (v w : Data) (e : InPlaceError assign.Error)
+    → w ≡ v → IsInPlaceError (AssignsInText text ts (nodes w)) (IsAssignError text ts w) e → FailsToSet text ts v Kept (of_strict_assign_error e)
+copy_fails text ts v w e clone h = subst (λ (x : Data). FailsToSet text ts x Kept (of_strict_assign_error e)) clone (set_fails text ts w e h)
+
+pub apply_fails : (text : Text) (os : List Operation) (e : InPlaceError PatchError)
+    → IsInPlaceError (PatchesInText text os) (IsPatchFault text os) e → FailsToApply text os Kept (of_strict_patch_error e)
+apply_fails text os in_place.NotInPlace h = (refl, h)
+apply_fails text os (in_place.Failed edit.NotJson) h = h
+apply_fails text os (in_place.Failed (edit.Refused f)) h = h
+apply_fails text os (in_place.Failed edit.TooDeep) h = h
+apply_fails text os (in_place.Failed (edit.Memory f)) h = tt
+
+patch_fails : (text : Text) (patch : Data) (os : List Operation) (layout : Layout) (e : Failure) → IsPatch patch os → FailsToApply text os layout e → FailsToPatch text patch layout e
+patch_fails text patch os layout (NotPatch f) is h = absurd h
+patch_fails text patch os layout (BadPatch f) is h = (os, h.0, is, h.1, h.2)
+patch_fails text patch os layout TooDeep is h = (os, is, h)
+patch_fails text patch os layout NotInPlace is h = (h.0, (os, h.1.0, is, h.1.1))
+patch_fails text patch os layout NotJson is h = ((os, is), h)
+patch_fails text patch os layout (Memory f) is h = tt
+patch_fails text patch os layout (BadPointer f) is h = absurd h
+patch_fails text patch os layout (NoValue f) is h = absurd h
+patch_fails text patch os layout (BadPlace f) is h = absurd h
+patch_fails text patch os layout NotThere is h = absurd h
+patch_fails text patch os layout PatchTooDeep is h = absurd h
+patch_fails text patch os layout LineBreak is h = absurd h
+patch_fails text patch os layout (BadLine number f) is h = absurd h
+patch_fails text patch os layout NotUtf8 is h = absurd h
+patch_fails text patch os layout ArgumentNotJson is h = absurd h
+patch_fails text patch os layout Read is h = absurd h
+patch_fails text patch os layout Write is h = absurd h
+
+pub patch_not_made : (text : Text) (patch : Data) (os : List Operation) (layout : Layout) (r : Result (String Global) Failure)
+    → IsPatch patch os → IfErr r (FailsToApply text os layout) → IfErr r (FailsToPatch text patch layout)
+patch_not_made text patch os layout (Ok s) is h = tt
+patch_not_made text patch os layout (Err e) is h = patch_fails text patch os layout e is h
+
+-- ---- results that are one line
+
+plain_line : (text : Text) → All (λ b. 32 ≤ b) text → IsOneLine text
+plain_line text h = λ k d low is. omega (arith, h k d low, is)
+
+compact_line : (v : Data) (out : Text) → IsCompact v out → IsOneLine out
+compact_line v out h = plain_line out (plain_printed out h.compact)
+
+kept_result : (task : Task) (l out : Text) → IsOneLine l → Yields task Kept l out → IsOneLine out
+kept_result (Get p fallback) l out one h = compact_line h.0 out h.2
+kept_result (Set p v) l out one h = subst IsOneLine (sym h.2) ((h.3 refl).1 one)
+kept_result (Delete p) l out one h = subst IsOneLine (sym h.2) ((h.3 refl).1 one)
+kept_result (Patch d) l out one h = subst IsOneLine (sym h.4) ((h.5 refl).1 one)
+
+compact_result : (task : Task) (l out : Text) → Yields task Compact l out → IsOneLine out
+compact_result (Get p fallback) l out h = compact_line h.0 out h.2
+compact_result (Set p v) l out h = compact_line h.2.0 out h.2.2
+compact_result (Delete p) l out h = compact_line h.2.0 out h.2.2
+compact_result (Patch d) l out h = compact_line h.4.0 out h.4.2
+
+-- only a layout that can break makes several lines of one
+pub can_break : (task : Task) (layout : Layout) (l out : Text) → Yields task layout l out → (IsOneLine out → ⊥) → IsOneLine l → CanBreak layout
+can_break task Kept l out h several one = several (kept_result task l out one h)
+can_break task Compact l out h several one = several (compact_result task l out h)
+can_break task Pretty l out h several one = tt
+can_break task Raw l out h several one = tt
 
 -- the write of a result failed
 pub result_stops : (run : LineTask) (n : ℕ) (l : Text) (w0 w1 e0 : Known) (s text : Text) (e : Failure)
@@ -51,8 +161,3 @@ pub fault_stops : (run : LineTask) (n : ℕ) (l : Text) (w0 w1 e0 e1 : Known) (f
     → AppendsPrefix w0 w1 (fallback_line run.fallback) → AppendsPrefix e0 e1 report → StopsPut run n l w0 w1 e0 e1 e
 fault_stops run n l w0 w1 e0 e1 f report e fault is_report is wrote told =
     (subst StopsRun (sym is) tt, inr (fallback_line run.fallback, report, inr (f, fault, refl, is_report), wrote, told))
-
-pub patches_then : (text : Text) (patch : Data) (layout : Layout) (os : List Operation) (new : Text) (r : Result (String Global) Failure)
-    → IsPatch patch os → PatchesInText text os new → IfOk r (λ s. Restyles layout new (string_bytes s)) → IfOk r (λ s. PatchesBy text patch layout (string_bytes s))
-patches_then text patch layout os new (Ok s) is applied h = (os, new, is, applied, h)
-patches_then text patch layout os new (Err f) is applied h = tt

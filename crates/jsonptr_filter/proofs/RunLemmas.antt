@@ -23,7 +23,7 @@ use Rattle.jsonptr_filter.specs.declared.lines.Turn.TheVariants.{Line, LastLine,
 
 -- ---- texts
 
-not_nil : (x : Text) (b : ℕ) (y : Text) → x ++ b ∷ y ≡ [] → ⊥
+pub not_nil : (x : Text) (b : ℕ) (y : Text) → x ++ b ∷ y ≡ [] → ⊥
 not_nil [] b y e = cc
 not_nil (a ∷ x) b y e = cc
 

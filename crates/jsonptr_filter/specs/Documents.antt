@@ -27,11 +27,11 @@ Prints task layout bytes out =
     × ((EndsInBreak task layout × ((new : Text) × Yields task layout bytes new × (out ≡ new ++ 10 ∷ [])))
     ⊎ ((EndsInBreak task layout → ⊥) × Yields task layout bytes out))
 
--- `FailsOn task bytes e`: e is why the task has no result on the document `bytes`, if it is not for memory
-abbrev pub FailsOn : Task → List ℕ → Failure → Type 0
-FailsOn task bytes NotJson = IsUtf8 bytes → read bytes ≡ None
-FailsOn task bytes (Memory e) = ⊤
-FailsOn task bytes e = IsUtf8 bytes × Fails task bytes e
+-- `FailsOn task layout bytes e`: e is why the task has no result on the document `bytes`, if it is not for memory
+abbrev pub FailsOn : Task → Layout → List ℕ → Failure → Type 0
+FailsOn task layout bytes NotJson = IsUtf8 bytes → read bytes ≡ None
+FailsOn task layout bytes (Memory e) = ⊤
+FailsOn task layout bytes e = IsUtf8 bytes × Fails task layout bytes e
 
 -- `PutsDocument task layout known w0 w1`: what is printed for the input is written
 abbrev pub PutsDocument : Task → Layout → Option (List ℕ) → Option (List ℕ) → Option (List ℕ) → Type 0
@@ -44,4 +44,4 @@ abbrev pub StopsDocument : Task → Layout → Option (List ℕ) → Option (Lis
 StopsDocument task layout known w0 w1 Write =
     ForInput known (λ bytes. (out : Text) × Prints task layout bytes out × AppendsPrefix w0 w1 out)
 StopsDocument task layout known w0 w1 Read = Keeps w0 w1
-StopsDocument task layout known w0 w1 e = Keeps w0 w1 × ForInput known (λ bytes. FailsOn task bytes e)
+StopsDocument task layout known w0 w1 e = Keeps w0 w1 × ForInput known (λ bytes. FailsOn task layout bytes e)

@@ -2,16 +2,19 @@
 use Rattle.std.specs.Prelude.{ℕ}
 use Rattle.std.specs.declared.convert.Infallible.{Infallible}
 use Rattle.jsonptr.specs.declared.assign.Error as assign
+use Rattle.jsonptr_patch.specs.declared.operation.PatchError.{PatchError}
 use Rattle.jsonptr_in_text.specs.declared.resolve.InTextError.{InTextError}
 use Rattle.jsonptr_in_text.specs.declared.resolve.InTextError.TheVariants as in_text
 use Rattle.jsonptr_edit_in_text.specs.declared.edited.EditError.{EditError}
 use Rattle.jsonptr_edit_in_text.specs.declared.edited.EditError.TheVariants as edit
+use Rattle.jsonptr_edit_in_text.specs.declared.in_place.InPlaceError.{InPlaceError}
+use Rattle.jsonptr_edit_in_text.specs.declared.in_place.InPlaceError.TheVariants as in_place
 use Rattle.jsonptr_paths.specs.declared.reading.LineError.{LineError}
 use Rattle.jsonptr_paths.specs.declared.reading.LineError.TheVariants as line
 use Rattle.jsonptr_paths.specs.declared.reading.BuildError.{BuildError}
 use Rattle.jsonptr_paths.specs.declared.reading.BuildError.TheVariants as build
 use Rattle.jsonptr_filter.specs.declared.failure.Failure.{Failure}
-use Rattle.jsonptr_filter.specs.declared.failure.Failure.TheVariants.{BadPointer, NotPatch, NoValue, BadPlace, NotThere, BadPatch, TooDeep, PatchTooDeep, LineBreak, BadLine, NotUtf8, NotJson, ArgumentNotJson, Memory, Read, Write}
+use Rattle.jsonptr_filter.specs.declared.failure.Failure.TheVariants.{BadPointer, NotPatch, NoValue, BadPlace, NotThere, BadPatch, TooDeep, NotInPlace, PatchTooDeep, LineBreak, BadLine, NotUtf8, NotJson, ArgumentNotJson, Memory, Read, Write}
 
 -- `status_of_line e`: the exit status if a line adds no value, for the reason e
 abbrev pub status_of_line : LineError → ℕ
@@ -30,6 +33,7 @@ status_of (BadPlace e) = 1
 status_of NotThere = 1
 status_of (BadPatch e) = 1
 status_of TooDeep = 1
+status_of NotInPlace = 1
 status_of PatchTooDeep = 3
 status_of LineBreak = 1
 status_of (BadLine number e) = status_of_line e
@@ -59,6 +63,27 @@ of_delete_error edit.NotJson = NotJson
 of_delete_error (edit.Refused e) = elim e [ ]
 of_delete_error edit.TooDeep = TooDeep
 of_delete_error (edit.Memory e) = Memory e
+
+-- `of_patch_error e`: the error of the command if a patch is not applied in a text
+abbrev pub of_patch_error : EditError PatchError → Failure
+of_patch_error edit.NotJson = NotJson
+of_patch_error (edit.Refused e) = BadPatch e
+of_patch_error edit.TooDeep = TooDeep
+of_patch_error (edit.Memory e) = Memory e
+
+-- `of_strict_assign_error e`, `of_strict_delete_error e`, `of_strict_patch_error e`: the same of edits that are made in place
+-- or not at all
+abbrev pub of_strict_assign_error : InPlaceError assign.Error → Failure
+of_strict_assign_error in_place.NotInPlace = NotInPlace
+of_strict_assign_error (in_place.Failed e) = of_assign_error e
+
+abbrev pub of_strict_delete_error : InPlaceError Infallible → Failure
+of_strict_delete_error in_place.NotInPlace = NotInPlace
+of_strict_delete_error (in_place.Failed e) = of_delete_error e
+
+abbrev pub of_strict_patch_error : InPlaceError PatchError → Failure
+of_strict_patch_error in_place.NotInPlace = NotInPlace
+of_strict_patch_error (in_place.Failed e) = of_patch_error e
 
 -- `of_build_error e`: the error of the command if lines build no document
 abbrev pub of_build_error : BuildError → Failure

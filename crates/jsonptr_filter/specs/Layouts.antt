@@ -1,5 +1,5 @@
 -- The text of a value in each layout.
-use Rattle.std.specs.Prelude.{◌≡◌, ◌≤◌, false, Some, MatchOption}
+use Rattle.std.specs.Prelude.{◌≡◌, ◌≤◌, false, Some, MatchOption, ⊤}
 use Rattle.json.specs.Lex as lex
 use Rattle.json.specs.Print.{print}
 use Rattle.json.specs.Layout.{pretty}
@@ -38,3 +38,10 @@ ReadsBack Kept value text = read text ≡ Some value
 ReadsBack Compact value text = read text ≡ Some value
 ReadsBack Pretty value text = read text ≡ Some value
 ReadsBack Raw value text = MatchOption (as_str value) (read text ≡ Some value) (λ s. text ≡ s)
+
+-- `CanBreak layout`: a text in this layout may contain a line feed
+abbrev pub CanBreak : Layout → Type 0
+CanBreak Kept = ⊥
+CanBreak Compact = ⊥
+CanBreak Pretty = ⊤
+CanBreak Raw = ⊤

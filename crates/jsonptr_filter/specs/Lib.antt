@@ -7,6 +7,7 @@ pub mod Documents
 pub mod Paths
 pub mod LineResults
 pub mod Runs
+pub mod Cutting
 -- Replacing the text of a file.
 pub mod Replacement
 pub mod PrivateReplacement

@@ -5,6 +5,7 @@ use Rattle.std.specs.declared.alloc.Global.{Global}
 use Rattle.serde_json.specs.Read.{read}
 use Rattle.jsonptr_grammar.specs.Text.{Text}
 use Rattle.jsonptr_lines.specs.Lines.{IsOneLine}
+use Rattle.jsonptr_filter.specs.Layouts.{CanBreak}
 use Rattle.jsonptr_filter.specs.Results.{Yields, Fails}
 use Rattle.jsonptr_filter.specs.declared.failure.Failure.{Failure}
 use Rattle.jsonptr_filter.specs.declared.failure.Failure.TheVariants.{NotJson, LineBreak, Memory, Read, Write}
@@ -17,12 +18,14 @@ abbrev pub YieldsLine : Task → Layout → Text → Text → Type 0
 YieldsLine task layout l out = IsUtf8 l × Yields task layout l out × IsOneLine out
 
 -- `IsLineFault task layout l e`: the line l is at fault: e is why the task has no result on it, or the result is not one
--- line. A failed allocation is not a fault of the line
+-- line. If the line l is one, as each line of an input is, that takes a layout that can break. A failed allocation is not a
+-- fault of the line
 abbrev pub IsLineFault : Task → Layout → Text → Failure → Type 0
 IsLineFault task layout l NotJson = IsUtf8 l → read l ≡ None
-IsLineFault task layout l LineBreak = (out : Text) × Yields task layout l out × (IsOneLine out → ⊥)
+IsLineFault task layout l LineBreak =
+    (IsOneLine l → CanBreak layout) × ((out : Text) × Yields task layout l out × (IsOneLine out → ⊥))
 IsLineFault task layout l (Memory e) = ⊥
-IsLineFault task layout l e = IsUtf8 l × Fails task l e
+IsLineFault task layout l e = IsUtf8 l × Fails task layout l e
 
 -- `fallback_line o`: what is printed for a line at fault
 abbrev pub fallback_line : Option (String Global) → Text

@@ -1,4 +1,5 @@
--- Why a text is not printed anew, and why a patch is not read or applied. Used only by private contracts.
+-- What is printed anew, why a text is not printed anew, and why a patch is not read or applied. Used only by private
+-- contracts.
 use Rattle.std.specs.Prelude.{◌≡◌, ◌<◌, List, Some, None, ⊤}
 use Rattle.serde_json.specs.Data.{Data, depth}
 use Rattle.serde_json.specs.Read.{read, max_depth}
@@ -8,10 +9,17 @@ use Rattle.jsonptr_patch.specs.Patching.{RefusesPatch}
 use Rattle.jsonptr_patch.specs.declared.operation.Operation.{Operation}
 use Rattle.jsonptr_patch_document.specs.Document.{IsNoPatch}
 use Rattle.jsonptr_patch_document.specs.Writing.{document_of}
-use Rattle.jsonptr_edit_in_text.specs.PatchInText.{IsPatchFault}
+use Rattle.jsonptr_edit_in_text.specs.PatchInText.{PatchesInText, IsPatchFault}
 use Rattle.jsonptr_edit_in_text.specs.declared.edited.EditError.TheVariants as edit
+use Rattle.jsonptr_filter.specs.Results.{Restyles}
 use Rattle.jsonptr_filter.specs.declared.failure.Failure.{Failure}
-use Rattle.jsonptr_filter.specs.declared.failure.Failure.TheVariants.{NotPatch, BadPatch, TooDeep, PatchTooDeep, NotJson, Memory}
+use Rattle.jsonptr_filter.specs.declared.failure.Failure.TheVariants.{NotPatch, BadPatch, TooDeep, NotInPlace, PatchTooDeep, NotJson, Memory}
+use Rattle.jsonptr_filter.specs.declared.layout.Layout.{Layout}
+use Rattle.jsonptr_filter.specs.declared.layout.Layout.TheVariants.{Kept}
+
+-- `Remakes P layout out`: `out` is the document of a text that meets P, in this layout
+abbrev pub Remakes : (Text → Type 0) → Layout → Text → Type 0
+Remakes P layout out = (new : Text) × P new × Restyles layout new out
 
 -- `IsRestyleError text e`: e is why the document of `text` is not printed, if it is not for memory
 abbrev pub IsRestyleError : Text → Failure → Type 0
@@ -25,13 +33,15 @@ IsNotPatch patch (NotPatch f) = IsNoPatch patch f
 IsNotPatch patch (Memory f) = ⊤
 IsNotPatch patch e = ⊥
 
--- `FailsToApply text os e`: e is why the operations os are not applied, if it is not for memory
-abbrev pub FailsToApply : Text → List Operation → Failure → Type 0
-FailsToApply text os NotJson = read text ≡ None
-FailsToApply text os (BadPatch f) = (d : Data) × (read text ≡ Some d) × RefusesPatch (nodes d) os f
-FailsToApply text os TooDeep = IsPatchFault text os edit.TooDeep
-FailsToApply text os (Memory f) = ⊤
-FailsToApply text os e = ⊥
+-- `FailsToApply text os layout e`: e is why the operations os are not applied, if it is not for memory. With `NotInPlace` they
+-- apply, but not in place
+abbrev pub FailsToApply : Text → List Operation → Layout → Failure → Type 0
+FailsToApply text os layout NotJson = read text ≡ None
+FailsToApply text os layout (BadPatch f) = (d : Data) × (read text ≡ Some d) × RefusesPatch (nodes d) os f
+FailsToApply text os layout TooDeep = IsPatchFault text os edit.TooDeep
+FailsToApply text os layout NotInPlace = (layout ≡ Kept) × ((new : Text) × PatchesInText text os new)
+FailsToApply text os layout (Memory f) = ⊤
+FailsToApply text os layout e = ⊥
 
 -- `IsPatchTextFault os e`: e is why the patch document of the operations os is not printed, if it is not for memory
 abbrev pub IsPatchTextFault : List Operation → Failure → Type 0

@@ -5,7 +5,6 @@ use Rattle.serde_json.specs.Read.{read}
 use Rattle.serde_json.specs.View.{view}
 use Rattle.serde_json.specs.declared.value.Value.{Value}
 use Rattle.jsonptr_grammar.specs.Text.{Text}
-use Rattle.jsonptr_tree.specs.Node.{NodeMap}
 use Rattle.jsonptr_tree.specs.Json.{nodes}
 use Rattle.jsonptr.specs.Pointer.{tokens}
 use Rattle.jsonptr.specs.declared.resolve.Error.{Error}
@@ -13,12 +12,14 @@ use Rattle.jsonptr_patch.specs.Patching.{RefusesPatch}
 use Rattle.jsonptr_patch.specs.declared.operation.Operation.{Operation}
 use Rattle.jsonptr_patch_document.specs.Document.{IsPatch, IsNoPatch}
 use Rattle.jsonptr_in_text.specs.InText.{FindsInText, RefusesInText}
+use Rattle.jsonptr_edit_in_text.specs.Bytes.{AssignsBytes, DeletesBytes}
+use Rattle.jsonptr_edit_in_text.specs.InPlace.{StaysOneLine}
 use Rattle.jsonptr_edit_in_text.specs.EditInText.{AssignsInText, IsAssignError, DeletesInText, LacksInText}
-use Rattle.jsonptr_edit_in_text.specs.PatchInText.{PatchesInText, IsPatchFault}
+use Rattle.jsonptr_edit_in_text.specs.PatchInText.{PatchesInText, PatchBytes, IsPatchFault}
 use Rattle.jsonptr_edit_in_text.specs.declared.edited.EditError.TheVariants as edit
 use Rattle.jsonptr_filter.specs.Layouts.{Shows}
 use Rattle.jsonptr_filter.specs.declared.failure.Failure.{Failure}
-use Rattle.jsonptr_filter.specs.declared.failure.Failure.TheVariants.{NotPatch, NoValue, BadPlace, NotThere, BadPatch, TooDeep, NotJson, Memory}
+use Rattle.jsonptr_filter.specs.declared.failure.Failure.TheVariants.{NotPatch, NoValue, BadPlace, NotThere, BadPatch, TooDeep, NotInPlace, NotJson, Memory}
 use Rattle.jsonptr_filter.specs.declared.layout.Layout.{Layout}
 use Rattle.jsonptr_filter.specs.declared.layout.Layout.TheVariants.{Kept, Compact, Pretty, Raw}
 use Rattle.jsonptr_filter.specs.declared.task.Task.{Task}
@@ -42,25 +43,32 @@ Finds text ts fallback v =
 abbrev pub Gets : Text → List Text → Option Value → Layout → Text → Type 0
 Gets text ts fallback layout out = (v : Data) × Finds text ts fallback v × Shows layout v out
 
--- `Sets text ts v layout out`: `out` is the document of `text` with v assigned at the tokens, in this layout
-abbrev pub Sets : Text → List Text → NodeMap → Layout → Text → Type 0
-Sets text ts v layout out = (new : Text) × AssignsInText text ts v new × Restyles layout new out
+-- `Sets text ts v layout out`: `out` is the document of `text` with v assigned at the tokens, in this layout. In the layout
+-- `Kept` only the bytes of the assignment change, and a text of one line stays one line
+abbrev pub Sets : Text → List Text → Data → Layout → Text → Type 0
+Sets text ts v layout out =
+    (new : Text) × AssignsInText text ts (nodes v) new × Restyles layout new out
+    × (layout ≡ Kept → AssignsBytes text ts v new × StaysOneLine text new)
 
--- `Deletes text ts layout out`: `out` is the document of `text` without the value at the tokens, in this layout
+-- `Deletes text ts layout out`: `out` is the document of `text` without the value at the tokens, in this layout. In the
+-- layout `Kept` only the bytes of the deletion change, and a text of one line stays one line
 abbrev pub Deletes : Text → List Text → Layout → Text → Type 0
-Deletes text ts layout out = (new : Text) × DeletesInText text ts new × Restyles layout new out
+Deletes text ts layout out =
+    (new : Text) × DeletesInText text ts new × Restyles layout new out
+    × (layout ≡ Kept → DeletesBytes text ts new × StaysOneLine text new)
 
 -- `PatchesBy text patch layout out`: `out` is the document of `text` after the operations that the document `patch` is,
--- in this layout
+-- in this layout. In the layout `Kept` only the bytes of the operations change, and a text of one line stays one line
 abbrev pub PatchesBy : Text → Data → Layout → Text → Type 0
 PatchesBy text patch layout out =
     (os : List Operation) × (new : Text)
     × IsPatch patch os × PatchesInText text os new × Restyles layout new out
+    × (layout ≡ Kept → PatchBytes text os new × StaysOneLine text new)
 
 -- `Yields task layout text out`: `out` is the result of the task on `text`, in this layout
 abbrev pub Yields : Task → Layout → Text → Text → Type 0
 Yields (Get p fallback) layout text out = Gets text (tokens p) fallback layout out
-Yields (Set p v) layout text out = Sets text (tokens p) (nodes (view v)) layout out
+Yields (Set p v) layout text out = Sets text (tokens p) (view v) layout out
 Yields (Delete p) layout text out = Deletes text (tokens p) layout out
 Yields (Patch d) layout text out = PatchesBy text (view d) layout out
 
@@ -71,36 +79,43 @@ FailsToGet text ts fallback (NoValue f) = (fallback ≡ None) × RefusesInText t
 FailsToGet text ts fallback (Memory f) = ⊤
 FailsToGet text ts fallback e = ⊥
 
--- `FailsToSet text ts v e`: e is why v is not assigned at the tokens, if it is not for memory
-abbrev pub FailsToSet : Text → List Text → Data → Failure → Type 0
-FailsToSet text ts v NotJson = read text ≡ None
-FailsToSet text ts v (BadPlace f) = IsAssignError text ts v (edit.Refused f)
-FailsToSet text ts v TooDeep = IsAssignError text ts v edit.TooDeep
-FailsToSet text ts v (Memory f) = ⊤
-FailsToSet text ts v e = ⊥
+-- `FailsToSet text ts v layout e`: e is why v is not assigned at the tokens, if it is not for memory. With `NotInPlace` the
+-- assignment is possible, but not in place
+abbrev pub FailsToSet : Text → List Text → Data → Layout → Failure → Type 0
+FailsToSet text ts v layout NotJson = read text ≡ None
+FailsToSet text ts v layout (BadPlace f) = IsAssignError text ts v (edit.Refused f)
+FailsToSet text ts v layout TooDeep = IsAssignError text ts v edit.TooDeep
+FailsToSet text ts v layout NotInPlace = (layout ≡ Kept) × ((new : Text) × AssignsInText text ts (nodes v) new)
+FailsToSet text ts v layout (Memory f) = ⊤
+FailsToSet text ts v layout e = ⊥
 
--- `FailsToDelete text ts e`: e is why nothing is deleted, if it is not for memory
-abbrev pub FailsToDelete : Text → List Text → Failure → Type 0
-FailsToDelete text ts NotJson = read text ≡ None
-FailsToDelete text ts NotThere = LacksInText text ts
-FailsToDelete text ts (Memory f) = ⊤
-FailsToDelete text ts e = ⊥
+-- `FailsToDelete text ts layout e`: e is why nothing is deleted, if it is not for memory. With `NotInPlace` the deletion is
+-- possible, but not in place
+abbrev pub FailsToDelete : Text → List Text → Layout → Failure → Type 0
+FailsToDelete text ts layout NotJson = read text ≡ None
+FailsToDelete text ts layout NotThere = LacksInText text ts
+FailsToDelete text ts layout NotInPlace = (layout ≡ Kept) × ((new : Text) × DeletesInText text ts new)
+FailsToDelete text ts layout (Memory f) = ⊤
+FailsToDelete text ts layout e = ⊥
 
--- `FailsToPatch text patch e`: e is why the patch is not applied, if it is not for memory
-abbrev pub FailsToPatch : Text → Data → Failure → Type 0
-FailsToPatch text patch (NotPatch f) = IsNoPatch patch f
-FailsToPatch text patch NotJson = read text ≡ None
-FailsToPatch text patch (BadPatch f) =
+-- `FailsToPatch text patch layout e`: e is why the patch is not applied, if it is not for memory. The document `patch` is read
+-- first. With `NotInPlace` the operations apply, but not in place
+abbrev pub FailsToPatch : Text → Data → Layout → Failure → Type 0
+FailsToPatch text patch layout (NotPatch f) = IsNoPatch patch f
+FailsToPatch text patch layout NotJson = ((os : List Operation) × IsPatch patch os) × (read text ≡ None)
+FailsToPatch text patch layout (BadPatch f) =
     (os : List Operation) × (d : Data)
     × IsPatch patch os × (read text ≡ Some d) × RefusesPatch (nodes d) os f
-FailsToPatch text patch TooDeep =
+FailsToPatch text patch layout TooDeep =
     (os : List Operation) × IsPatch patch os × IsPatchFault text os edit.TooDeep
-FailsToPatch text patch (Memory f) = ⊤
-FailsToPatch text patch e = ⊥
+FailsToPatch text patch layout NotInPlace =
+    (layout ≡ Kept) × ((os : List Operation) × (new : Text) × IsPatch patch os × PatchesInText text os new)
+FailsToPatch text patch layout (Memory f) = ⊤
+FailsToPatch text patch layout e = ⊥
 
--- `Fails task text e`: e is why the task has no result on `text`, if it is not for memory
-abbrev pub Fails : Task → Text → Failure → Type 0
-Fails (Get p fallback) text e = FailsToGet text (tokens p) fallback e
-Fails (Set p v) text e = FailsToSet text (tokens p) (view v) e
-Fails (Delete p) text e = FailsToDelete text (tokens p) e
-Fails (Patch d) text e = FailsToPatch text (view d) e
+-- `Fails task layout text e`: e is why the task has no result on `text`, if it is not for memory
+abbrev pub Fails : Task → Layout → Text → Failure → Type 0
+Fails (Get p fallback) layout text e = FailsToGet text (tokens p) fallback e
+Fails (Set p v) layout text e = FailsToSet text (tokens p) (view v) layout e
+Fails (Delete p) layout text e = FailsToDelete text (tokens p) layout e
+Fails (Patch d) layout text e = FailsToPatch text (view d) layout e

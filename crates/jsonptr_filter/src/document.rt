@@ -40,7 +40,7 @@ pub fn document_result(
     bytes: &[u8],
 ) -> Result<String, Failure>
     ensures done { IfOk result (λ s. Prints task.now layout bytes.now (string_bytes s)) }
-    ensures failed { IfErr result (FailsOn task.now bytes.now) }
+    ensures failed { IfErr result (FailsOn task.now layout bytes.now) }
 {
     let Ok(text) = from_utf8(bytes) else {
         return Err(Failure::NotJson);

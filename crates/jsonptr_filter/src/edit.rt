@@ -1,20 +1,26 @@
-//! Changing a document in its text, and printing it anew where that is wanted.
+//! Changing a document in its text: in place, or by printing it anew where that is wanted.
 ghost use Rattle.std.specs.Prelude.{◌≡◌, Some, IfOk, IfErr, string_bytes};
 ghost use Rattle.serde_json.specs.Read.{read};
 ghost use Rattle.serde_json.specs.View.{view};
 ghost use Rattle.jsonptr.specs.Pointer.{tokens};
 ghost use Rattle.jsonptr_tree.specs.Json.{nodes};
+ghost use Rattle.jsonptr_edit_in_text.specs.EditInText.{AssignsInText, DeletesInText};
 ghost use Rattle.jsonptr_filter.specs.Results.{Restyles, Sets, Deletes, FailsToSet, FailsToDelete};
-ghost use Rattle.jsonptr_filter.specs.PrivateResults.{IsRestyleError};
+ghost use Rattle.jsonptr_filter.specs.PrivateResults.{Remakes, IsRestyleError};
 
 use crate::failure::Failure;
 use crate::layout::{Layout, show};
 use jsonptr::Pointer;
-use jsonptr_edit_in_text::{Buffers, assign_in_text_with, delete_in_text_with};
+use jsonptr_edit_in_text::{
+    Buffers, assign_in_place, assign_in_text_with, delete_in_place, delete_in_text_with,
+};
 use serde_json::Value;
 use std::alloc::{AllocError, Global};
 
 /// Assigns the value at the pointer in the text, and returns the new document in this layout.
+///
+/// With [`Layout::Kept`] the text is edited in place. In the other layouts the new document is printed
+/// anew.
 ///
 /// # Errors
 ///
@@ -27,10 +33,51 @@ pub fn set(
     value: &Value,
     layout: Layout,
 ) -> Result<String, Failure>
-    ensures done { IfOk result (λ s. Sets text.now (tokens pointer.entry)
-        (nodes (view value.now)) layout (string_bytes s)) }
-    ensures failed { IfErr result (FailsToSet text.now (tokens pointer.entry)
-        (view value.now)) }
+    ensures done { IfOk result (λ s. Sets text.now (tokens pointer.entry) (view value.now) layout
+        (string_bytes s)) }
+    ensures failed { IfErr result
+        (FailsToSet text.now (tokens pointer.entry) (view value.now) layout) }
+{
+    match layout {
+        Layout::Kept => set_in_place(alloc, buffers, text, pointer, value),
+        _ => set_anew(alloc, buffers, text, pointer, value, layout),
+    }
+}
+
+/// Assigns the value at the pointer in the text, in place.
+fn set_in_place(
+    alloc: Global,
+    buffers: &mut Buffers,
+    text: &str,
+    pointer: Pointer<'_>,
+    value: &Value,
+) -> Result<String, Failure>
+    ensures done { IfOk result (λ s. Sets text.now (tokens pointer.entry) (view value.now)
+        Layout.Kept (string_bytes s)) }
+    ensures failed { IfErr result
+        (FailsToSet text.now (tokens pointer.entry) (view value.now) Layout.Kept) }
+{
+    let copy = value.clone()?;
+    match assign_in_place(alloc, buffers, text, pointer, copy) {
+        Ok(new) => Ok(new),
+        Err(error) => Err(Failure::from(error)),
+    }
+}
+
+/// Assigns the value at the pointer in the text, and prints the new document in this layout.
+fn set_anew(
+    alloc: Global,
+    buffers: &mut Buffers,
+    text: &str,
+    pointer: Pointer<'_>,
+    value: &Value,
+    layout: Layout,
+) -> Result<String, Failure>
+    ensures done { IfOk result (λ s. Remakes
+        (AssignsInText text.now (tokens pointer.entry) (nodes (view value.now))) layout
+        (string_bytes s)) }
+    ensures failed { IfErr result
+        (FailsToSet text.now (tokens pointer.entry) (view value.now) layout) }
 {
     let edited = assign_in_text_with(alloc, buffers, text, pointer, value.clone()?)?;
     restyle(alloc, edited.into_string(), layout)
@@ -38,6 +85,9 @@ pub fn set(
 
 /// Deletes the value that the pointer resolves to in the text, and returns the new document in this
 /// layout.
+///
+/// With [`Layout::Kept`] the text is edited in place. In the other layouts the new document is printed
+/// anew.
 ///
 /// # Errors
 ///
@@ -51,7 +101,44 @@ pub fn delete(
 ) -> Result<String, Failure>
     ensures done { IfOk result (λ s. Deletes text.now (tokens pointer.entry) layout
         (string_bytes s)) }
-    ensures failed { IfErr result (FailsToDelete text.now (tokens pointer.entry)) }
+    ensures failed { IfErr result (FailsToDelete text.now (tokens pointer.entry) layout) }
+{
+    match layout {
+        Layout::Kept => cut_out(alloc, buffers, text, pointer),
+        _ => delete_anew(alloc, buffers, text, pointer, layout),
+    }
+}
+
+/// Deletes the value that the pointer resolves to in the text, in place.
+fn cut_out(
+    alloc: Global,
+    buffers: &mut Buffers,
+    text: &str,
+    pointer: Pointer<'_>,
+) -> Result<String, Failure>
+    ensures done { IfOk result (λ s. Deletes text.now (tokens pointer.entry) Layout.Kept
+        (string_bytes s)) }
+    ensures failed { IfErr result
+        (FailsToDelete text.now (tokens pointer.entry) Layout.Kept) }
+{
+    match delete_in_place(alloc, buffers, text, pointer)? {
+        Some(new) => Ok(new),
+        None => Err(Failure::NotThere),
+    }
+}
+
+/// Deletes the value that the pointer resolves to in the text, and prints the new document in this
+/// layout.
+fn delete_anew(
+    alloc: Global,
+    buffers: &mut Buffers,
+    text: &str,
+    pointer: Pointer<'_>,
+    layout: Layout,
+) -> Result<String, Failure>
+    ensures done { IfOk result (λ s. Remakes (DeletesInText text.now (tokens pointer.entry)) layout
+        (string_bytes s)) }
+    ensures failed { IfErr result (FailsToDelete text.now (tokens pointer.entry) layout) }
 {
     match delete_in_text_with(alloc, buffers, text, pointer)? {
         Some(edited) => restyle(alloc, edited.into_string(), layout),

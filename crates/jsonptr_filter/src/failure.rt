@@ -1,10 +1,10 @@
 //! The errors of a command, and its exit status.
 ghost use Rattle.std.specs.Prelude.{◌≡◌};
-ghost use Rattle.jsonptr_filter.specs.Failures.{of_in_text_error, of_assign_error, of_delete_error, of_build_error, status_of, status_of_line};
+ghost use Rattle.jsonptr_filter.specs.Failures.{of_in_text_error, of_assign_error, of_delete_error, of_patch_error, of_strict_assign_error, of_strict_delete_error, of_strict_patch_error, of_build_error, status_of, status_of_line};
 ghost use Rattle.jsonptr_filter.specs.declared.failure.Failure.TheVariants.{Memory};
 
 use jsonptr::{ParseError, assign, resolve};
-use jsonptr_edit_in_text::EditError;
+use jsonptr_edit_in_text::{EditError, InPlaceError};
 use jsonptr_in_text::InTextError;
 use jsonptr_patch::PatchError;
 use jsonptr_patch_document::PatchDocumentError;
@@ -37,6 +37,9 @@ pub enum Failure {
     /// The new document nests deeper than 127.
     #[error("the new document nests deeper than 127")]
     TooDeep,
+    /// The edit is possible, but not in place: the document would have to be printed anew.
+    #[error("the edit cannot be made in place")]
+    NotInPlace,
     /// The patch that turns one document into another nests deeper than 127.
     #[error("the patch would nest deeper than 127")]
     PatchTooDeep,
@@ -67,7 +70,8 @@ pub enum Failure {
 }
 
 impl Failure {
-    /// Returns the exit status of the program: 1 if the pointer or the patch does not apply, 3 if a
+    /// Returns the exit status of the program: 1 if the pointer or the patch does not apply or
+    /// the edit cannot be made in place, 3 if a
     /// text or a line is not what it must be, or if two documents have no patch that can be read, 4 if
     /// an allocation failed, and 5 if a read or a write failed.
     pub fn status(&self) -> u8
@@ -81,6 +85,7 @@ impl Failure {
             | Failure::NotThere
             | Failure::BadPatch(_)
             | Failure::TooDeep
+            | Failure::NotInPlace
             | Failure::LineBreak => 1,
             Failure::BadLine(_, error) => line_status(error),
             Failure::PatchTooDeep
@@ -157,6 +162,52 @@ impl From<EditError<Infallible>> for Failure {
             EditError::Refused(never) => match never {},
             EditError::TooDeep => Failure::TooDeep,
             EditError::Memory(error) => Failure::Memory(error),
+        }
+    }
+}
+
+impl From<EditError<PatchError>> for Failure {
+    ghost from_gives = { λ error failure. failure ≡ of_patch_error error };
+
+    fn from(error: EditError<PatchError>) -> Failure {
+        match error {
+            EditError::NotJson => Failure::NotJson,
+            EditError::Refused(error) => Failure::BadPatch(error),
+            EditError::TooDeep => Failure::TooDeep,
+            EditError::Memory(error) => Failure::Memory(error),
+        }
+    }
+}
+
+impl From<InPlaceError<assign::Error>> for Failure {
+    ghost from_gives = { λ error failure. failure ≡ of_strict_assign_error error };
+
+    fn from(error: InPlaceError<assign::Error>) -> Failure {
+        match error {
+            InPlaceError::NotInPlace => Failure::NotInPlace,
+            InPlaceError::Failed(error) => Failure::from(error),
+        }
+    }
+}
+
+impl From<InPlaceError<Infallible>> for Failure {
+    ghost from_gives = { λ error failure. failure ≡ of_strict_delete_error error };
+
+    fn from(error: InPlaceError<Infallible>) -> Failure {
+        match error {
+            InPlaceError::NotInPlace => Failure::NotInPlace,
+            InPlaceError::Failed(error) => Failure::from(error),
+        }
+    }
+}
+
+impl From<InPlaceError<PatchError>> for Failure {
+    ghost from_gives = { λ error failure. failure ≡ of_strict_patch_error error };
+
+    fn from(error: InPlaceError<PatchError>) -> Failure {
+        match error {
+            InPlaceError::NotInPlace => Failure::NotInPlace,
+            InPlaceError::Failed(error) => Failure::from(error),
         }
     }
 }

@@ -1,20 +1,25 @@
 //! Laws of what the commands print. Each law is the contract of a function that does nothing.
-ghost use Rattle.std.specs.Prelude.{◌≡◌, ℕ, List, [], ◌∷◌, ◌++◌, Some, string_bytes};
+ghost use Rattle.std.specs.Prelude.{◌≡◌, ◌⊎◌, ◌↔◌, ℕ, List, [], ◌∷◌, ◌++◌, length, Some, string_bytes};
 ghost use Rattle.std.specs.declared.alloc.AllocError.{AllocError};
 ghost use Rattle.serde_json.specs.Data.{Data};
 ghost use Rattle.serde_json.specs.Read.{read};
 ghost use Rattle.jsonptr_grammar.specs.Text.{Text};
 ghost use Rattle.jsonptr_tree.specs.Json.{nodes};
+ghost use Rattle.jsonptr_lines.specs.Lines.{AreLines};
 ghost use Rattle.jsonptr_paths.specs.declared.listing.Listed.TheVariants.{AllNodes};
 ghost use Rattle.jsonptr_paths.specs.declared.reading.LineError.{LineError};
+ghost use Rattle.jsonptr_filter.specs.Cutting.{EndsInLineFeed, InputGives, IsShifted};
+ghost use Rattle.jsonptr_filter.specs.LineResults.{LinesGive};
 ghost use Rattle.jsonptr_filter.specs.Differences.{IsDifference};
 ghost use Rattle.jsonptr_filter.specs.Layouts.{Shows, ReadsBack};
 ghost use Rattle.jsonptr_filter.specs.Paths.{ListsText, BuildsText, FailsToBuild};
 ghost use Rattle.jsonptr_filter.specs.Results.{PatchesBy, FailsToPatch};
 ghost use Rattle.jsonptr_filter.specs.declared.difference.Difference.{Difference};
 ghost use Rattle.jsonptr_filter.specs.declared.failure.Failure.{Failure};
-ghost use Rattle.jsonptr_filter.specs.declared.failure.Failure.TheVariants.{BadLine, Memory};
+ghost use Rattle.jsonptr_filter.specs.declared.failure.Failure.TheVariants.{BadLine, NotInPlace, Memory};
 ghost use Rattle.jsonptr_filter.specs.declared.layout.Layout.{Layout};
+ghost use Rattle.jsonptr_filter.specs.declared.line.LineTask.{LineTask};
+ghost use Rattle.jsonptr_filter.specs.declared.layout.Layout.TheVariants.{Kept};
 
 use jsonptr_patch::laws::patch::patch_law;
 use jsonptr_patch_document::laws::{patch_document_law, writing_law};
@@ -41,8 +46,9 @@ pub fn paths_law()
 /// States what `patch` does after `diff`, as texts.
 ///
 /// Let `a` and `b` be texts of documents, and let the text of their difference be applied to `a`. Then
-/// the text that is printed reads as the document of `b`, in each layout, and there is no error but a
-/// failed allocation.
+/// the text that is printed reads as the document of `b`, in each layout. There is no error but a
+/// failed allocation, and [`Failure::NotInPlace`](crate::failure::Failure::NotInPlace) in the layout
+/// [`Layout::Kept`](crate::layout::Layout::Kept).
 pub fn difference_law()
     ensures patched { (a b out : Text) (n m p : Data) (style layout : Layout) (d : Difference)
         → read a ≡ Some n → read b ≡ Some m
@@ -50,15 +56,41 @@ pub fn difference_law()
         → read (string_bytes d.text) ≡ Some p
         → PatchesBy a p layout out
         → ReadsBack layout m out }
-    ensures never_fails { (a b : Text) (n m p : Data) (style : Layout) (d : Difference) (e : Failure)
+    ensures never_fails { (a b : Text) (n m p : Data) (style layout : Layout) (d : Difference) (e : Failure)
         → read a ≡ Some n → read b ≡ Some m
         → IsDifference (nodes n) (nodes m) style d
         → read (string_bytes d.text) ≡ Some p
-        → FailsToPatch a p e
-        → (f : AllocError) × (e ≡ Memory f) }
+        → FailsToPatch a p layout e
+        → ((f : AllocError) × (e ≡ Memory f)) ⊎ ((layout ≡ Kept) × (e ≡ NotInPlace)) }
 {
     patch_document_law();
     writing_law();
     jsonptr_diff::laws::difference_law();
     patch_law();
 }
+
+/// States that an input may be cut after a line feed, and each part be run by itself.
+///
+/// Let a first part be empty or end in a line feed. What a run over the first part prints, and then what
+/// a run over the second part prints, is what a run over the whole prints. So it is with the reports,
+/// if the number of lines of the first part is added to each line number of the second (`joined`).
+/// Conversely, what a run over the whole prints and reports comes from runs over the parts so
+/// (`parted`). The whole has a line at fault exactly if one of the parts has one (`quiet`).
+///
+/// It is about runs that go on to the last line: a strict run that stops reads no part after it.
+pub fn cut_law()
+    ensures joined { (run : LineTask) (first second : List ℕ) (ls : List Text)
+        (o1 r1 o2 r2 : Text)
+        → EndsInLineFeed first → AreLines first ls
+        → LinesGive run 1 ls o1 r1 → InputGives run second o2 r2
+        → (later : Text) × IsShifted (string_bytes run.name) (length ls) r2 later
+        × InputGives run (first ++ second) (o1 ++ o2) (r1 ++ later) }
+    ensures parted { (run : LineTask) (first second : List ℕ) (ls : List Text) (out err : Text)
+        → EndsInLineFeed first → AreLines first ls → InputGives run (first ++ second) out err
+        → (o1 r1 o2 r2 later : Text)
+        × LinesGive run 1 ls o1 r1 × InputGives run second o2 r2
+        × IsShifted (string_bytes run.name) (length ls) r2 later
+        × (out ≡ o1 ++ o2) × (err ≡ r1 ++ later) }
+    ensures quiet { (name : Text) (k : ℕ) (err later : Text)
+        → IsShifted name k err later → (err ≡ []) ↔ (later ≡ []) }
+{}

@@ -2,15 +2,16 @@
 ghost use Rattle.std.specs.Prelude.{IfOk, IfErr, string_bytes};
 ghost use Rattle.serde_json.specs.View.{view};
 ghost use Rattle.jsonptr_patch_document.specs.Document.{IsPatch};
-ghost use Rattle.jsonptr_edit_in_text.specs.PatchInText.{PatchesInText};
+ghost use Rattle.jsonptr_edit_in_text.specs.PatchInText.{PatchesInText, PatchBytes};
+ghost use Rattle.jsonptr_edit_in_text.specs.InPlace.{StaysOneLine};
 ghost use Rattle.jsonptr_filter.specs.Results.{PatchesBy, FailsToPatch};
-ghost use Rattle.jsonptr_filter.specs.PrivateResults.{FailsToApply, IsNotPatch};
+ghost use Rattle.jsonptr_filter.specs.PrivateResults.{Remakes, FailsToApply, IsNotPatch};
 
 use crate::edit::restyle;
 use crate::failure::Failure;
 use crate::layout::Layout;
 use jsonptr::Fault;
-use jsonptr_edit_in_text::{Buffers, EditError, apply_in_text_with};
+use jsonptr_edit_in_text::{Buffers, apply_in_place, apply_in_text_with};
 use jsonptr_patch::Operation;
 use jsonptr_patch_document::read_patch;
 use serde_json::Value;
@@ -18,9 +19,12 @@ use std::alloc::Global;
 
 /// Applies the patch document to the text, and returns the new document in this layout.
 ///
+/// With [`Layout::Kept`] the text is edited in place. In the other layouts the new document is printed
+/// anew.
+///
 /// # Errors
 ///
-/// Those of [`Task::Patch`](crate::task::Task::Patch).
+/// Those of [`Task::Patch`](crate::task::Task::Patch). The patch document is read first.
 pub fn patch(
     alloc: Global,
     buffers: &mut Buffers,
@@ -30,11 +34,13 @@ pub fn patch(
 ) -> Result<String, Failure>
     ensures done { IfOk result (λ s. PatchesBy text.now (view document.now) layout
         (string_bytes s)) }
-    ensures failed { IfErr result (FailsToPatch text.now (view document.now)) }
+    ensures failed { IfErr result (FailsToPatch text.now (view document.now) layout) }
 {
     let operations = operations_of(alloc, document)?;
-    let new = apply_text(alloc, buffers, text, operations)?;
-    restyle(alloc, new, layout)
+    match layout {
+        Layout::Kept => patch_in_place(alloc, buffers, text, operations),
+        _ => patch_anew(alloc, buffers, text, operations, layout),
+    }
 }
 
 /// Reads the operations of a patch document.
@@ -53,8 +59,8 @@ pub fn operations_of(alloc: Global, document: &Value) -> Result<Vec<Operation>, 
     }
 }
 
-/// Applies the operations in the text, all of them or none.
-fn apply_text(
+/// Applies the operations in the text, all of them or none, in place.
+fn patch_in_place(
     alloc: Global,
     buffers: &mut Buffers,
     text: &str,
@@ -62,13 +68,26 @@ fn apply_text(
 ) -> Result<String, Failure>
     ensures done { IfOk result
         (λ s. PatchesInText text.now operations.items (string_bytes s)) }
-    ensures failed { IfErr result (FailsToApply text.now operations.items) }
+    ensures bytes { IfOk result (λ s. PatchBytes text.now operations.items (string_bytes s)) }
+    ensures line { IfOk result (λ s. StaysOneLine text.now (string_bytes s)) }
+    ensures failed { IfErr result (FailsToApply text.now operations.items Layout.Kept) }
 {
-    match apply_in_text_with(alloc, buffers, text, operations) {
-        Ok(edited) => Ok(edited.into_string()),
-        Err(EditError::NotJson) => Err(Failure::NotJson),
-        Err(EditError::Refused(error)) => Err(Failure::BadPatch(error)),
-        Err(EditError::TooDeep) => Err(Failure::TooDeep),
-        Err(EditError::Memory(error)) => Err(Failure::Memory(error)),
-    }
+    Ok(apply_in_place(alloc, buffers, text, operations)?)
+}
+
+/// Applies the operations in the text, all of them or none, and prints the new document in this
+/// layout.
+fn patch_anew(
+    alloc: Global,
+    buffers: &mut Buffers,
+    text: &str,
+    operations: Vec<Operation>,
+    layout: Layout,
+) -> Result<String, Failure>
+    ensures done { IfOk result
+        (λ s. Remakes (PatchesInText text.now operations.items) layout (string_bytes s)) }
+    ensures failed { IfErr result (FailsToApply text.now operations.items layout) }
+{
+    let edited = apply_in_text_with(alloc, buffers, text, operations)?;
+    restyle(alloc, edited.into_string(), layout)
 }

@@ -17,8 +17,9 @@ use std::alloc::Global;
 /// Returns the text that the task makes of the text of a document.
 ///
 /// [`Task::Get`] finds its value in the text, and reads no document. [`Task::Set`],
-/// [`Task::Delete`] and [`Task::Patch`] edit the text, as `jsonptr_edit_in_text` does. In a layout
-/// other than [`Layout::Kept`] the new document is then printed anew.
+/// [`Task::Delete`] and [`Task::Patch`] edit the text in place, as `assign_in_place` and the like of
+/// `jsonptr_edit_in_text` do: only the bytes of the edit change, and a text of one line stays one line.
+/// In a layout other than [`Layout::Kept`] the new document is printed anew.
 ///
 /// # Errors
 ///
@@ -28,6 +29,8 @@ use std::alloc::Global;
 /// - [`Failure::NotPatch`] if the patch document is not a patch, and [`Failure::BadPatch`] if an
 ///   operation fails.
 /// - [`Failure::TooDeep`] if the new document nests deeper than 127.
+/// - [`Failure::NotInPlace`] if the edit is possible, but not in place. In a layout other than
+///   [`Layout::Kept`] that is no error.
 /// - [`Failure::Memory`] if an allocation fails.
 ///
 /// # Examples
@@ -47,7 +50,7 @@ pub fn result_in_text(
     text: &str,
 ) -> Result<String, Failure>
     ensures done { IfOk result (λ s. Yields task.now layout text.now (string_bytes s)) }
-    ensures failed { IfErr result (Fails task.now text.now) }
+    ensures failed { IfErr result (Fails task.now layout text.now) }
 {
     let mut buffers = Buffers::new(alloc);
     result_in_text_with(alloc, &mut buffers, task, layout, text)
@@ -81,7 +84,7 @@ pub fn result_in_text_with(
     text: &str,
 ) -> Result<String, Failure>
     ensures done { IfOk result (λ s. Yields task.now layout text.now (string_bytes s)) }
-    ensures failed { IfErr result (Fails task.now text.now) }
+    ensures failed { IfErr result (Fails task.now layout text.now) }
 {
     match task {
         Task::Get(pointer, fallback) => get(

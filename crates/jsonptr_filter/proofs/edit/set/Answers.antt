@@ -1,9 +1,13 @@
 use Rattle.serde_json.specs.View.{view}
 use Rattle.jsonptr.specs.Pointer.{tokens}
-use Rattle.jsonptr_filter.proofs.ResultLemmas.{sets_then}
+use Rattle.jsonptr_filter.proofs.ResultLemmas.{set_anew}
 use Rattle.jsonptr_filter.proofs.edit.set.Goals as goal
 
-pub returns-clause-done : goal.returns-clause-done
-returns-clause-done c =
-    sets_then c.args.text.now (tokens c.args.pointer) (view c.args.value.now) (view c.in_ok-clone.field-0) c.args.layout c.in_ok-edited.edited _ c.restyle.result
-    c.in_ok-clone.ensures.cases c.in_ok-edited.ensures.assigned c.into_string.ensures c.restyle.ensures.done
+pub returns-in-Kept-clause-done : goal.returns-in-Kept-clause-done
+returns-in-Kept-clause-done c = rw c.in-Kept.is c.set_in_place.ensures.done
+
+pub returns-in_default : goal.returns-in_default
+returns-in_default c = record {
+  done = set_anew c.args.text.now (tokens c.args.pointer) (view c.args.value.now) c.args.layout c.set_anew.result c.in_default.not-Kept c.set_anew.ensures.done;
+  failed = c.set_anew.ensures.failed;
+}

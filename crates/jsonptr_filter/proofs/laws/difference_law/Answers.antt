@@ -45,13 +45,13 @@ returns-clause-patched c a b out n m p style layout d reads_a reads_b diff reads
     restyled layout y.1 out m (subst (λ (q : Data). read y.1 ≡ Some q) one z.3) y.4
 
 pub returns-clause-never_fails : goal.returns-clause-never_fails
-returns-clause-never_fails c a b n m p style d e reads_a reads_b diff reads_p h =
+returns-clause-never_fails c a b n m p style layout d e reads_a reads_b diff reads_p h =
     let os = diff.0 in
     let is : p ≡ document_of os = one_read (string_bytes d.text) p (document_of os) reads_p diff.3 in
     let patch : IsPatch p os = subst (λ (q : Data). IsPatch q os) (sym is) (c.writing_law.ensures.read os) in
     let turns : (us : List Operation) → IsPatch p us → Patches (nodes n) us (nodes m) = λ us same. c.patch_document_law.ensures.same_effect (nodes n) (nodes m) os us (c.patch_document_law.ensures.one_patch p os us patch same) diff.1 in
     let within : NestsWithin max_depth (nodes m) = NestsWithin-more (depth m) max_depth (nodes m) (depth-read b m reads_b) (NestsWithin-depth m) in
-    no_fault a p e
+    no_fault a p layout e
     (λ f none. c.patch_document_law.ensures.not_both p os f patch none)
     (λ none. no_read a n reads_a none)
     (λ us d1 f same reads refused. c.difference_law.ensures.never_refused n m us f (turns us same) (subst (λ (q : Data). RefusesPatch (nodes q) us f) (one_read a d1 n reads reads_a) refused))
