@@ -138,6 +138,7 @@ def usage():
     yield ("set", "/a", "1", "-i")
     yield ("set", "/a", "1", "-i", "-")
     yield ("set", "/a", "1", "f", "-i", "--lines")
+    yield ("set", "/a", "1", "--lines", "--reformat")
     yield ("get", "--lines", "--raw", "--default", '"a\\nb"', "/a")
     yield ("delete", "/a", "--unknown")
     yield ("patch", "-", "-")
@@ -377,7 +378,39 @@ def check_in_place(folder):
     given = run(("delete", "/b", "/dev/null", "-i"))
     if given.returncode == 0:
         raise CheckFailed("in place: a device was replaced")
-    return 5 + check_locked(folder, path)
+    return 5 + check_locked(folder, path) + check_reformat(folder)
+
+
+def check_reformat(folder):
+    """Checks an edit that is possible, but not in the text: a patch that nests deeper than 127 in between."""
+    deepest, path = "/0" * 127, f"{folder}/deep.json"
+    text = f"[ {'[' * 126}{']' * 126} ]\n"
+    with open(path, "w", encoding="utf-8") as file:
+        file.write(text)
+    with open(f"{folder}/patch.json", "w", encoding="utf-8") as file:
+        json.dump([{"op": "add", "path": deepest, "value": []}, {"op": "remove", "path": deepest}], file)
+    words = ("patch", f"{folder}/patch.json")
+    message = "the edit cannot be made in place"
+    error = f"{message}; --reformat prints the document anew\n"
+    anew = text.replace(" ", "")
+    for case in [
+        Case(words, text, "", f"jp: standard input: {error}", 1),
+        Case((*words, path, "-i"), "", "", f"jp: {path}: {error}", 1),
+        Case((*words, "--lines"), text, "", f"jp: standard input:1: {message}\n", 1),
+        Case((*words, "--check"), text, ""),
+        Case((*words, "--compact"), text, anew),
+        Case((*words, "--compact", "--lines"), text, anew),
+        Case((*words, "--reformat"), text, anew),
+        Case(("set", "/a", "2", "--reformat"), '{ "a": 1 }', '{ "a": 2 }'),
+        Case(("delete", "/a", "--reformat"), '{ "a": 1 }', "{}"),
+    ]:
+        check_result(case, run(case.words, case.input))
+    if read(path) != text:
+        raise CheckFailed("an edit that cannot be made in place wrote the file")
+    check_result(Case((*words, path, "-i", "--reformat"), "", ""), run((*words, path, "-i", "--reformat")))
+    if read(path) != anew:
+        raise CheckFailed(f"--in-place --reformat left {read(path)!r}")
+    return 10
 
 
 def check_locked(folder, path):

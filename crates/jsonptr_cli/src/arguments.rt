@@ -96,7 +96,8 @@ fn patch<'a>(alloc: Global) -> Result<Command<'a>, AllocError> {
             arg!(in alloc; --check "Prints nothing: the exit status says whether the patch applies")
                 .conflicts_with("in-place")?
                 .conflicts_with("lines")?,
-        )?;
+        )?
+        .arg(reformat(alloc)?)?;
     with_lines(alloc, with_in_place(alloc, with_layout(alloc, command)?)?)
 }
 
@@ -148,9 +149,11 @@ fn toml_flag<'a>(alloc: Global) -> Arg<'a> {
     arg!(in alloc; --toml "Takes TOML, as for a file whose name ends in .toml; comments and layout go")
 }
 
-/// Returns the flag that allows a TOML file to lose its comments and layout.
+/// Returns the flag that allows a document to lose its layout.
 fn reformat<'a>(alloc: Global) -> Result<Arg<'a>, AllocError> {
-    arg!(in alloc; --reformat "Lets --in-place print a TOML file anew").requires_arg("in-place")
+    arg!(in alloc; --reformat "Prints a document anew that cannot be edited in its text, and lets --in-place print TOML anew").conflicts_with(
+        "lines",
+    )
 }
 
 /// Adds the flags for the layout.

@@ -143,12 +143,21 @@ fn text_of(
         return Ok(None);
     }
     let name = shown(alloc, name)?;
-    let mut text = format!(in alloc; "jp: {name}: {failure}\n")?;
+    let hint = hint_of(&failure);
+    let mut text = format!(in alloc; "jp: {name}: {failure}{hint}\n")?;
     if let Some(drawn) = drawing(alloc, pointer, failure)? {
         text.push_str(drawn.as_str())?;
         text.push('\n')?;
     }
     Ok(Some(text))
+}
+
+/// Returns what is printed after the text of a failure: what to do about it.
+fn hint_of(failure: &Failure) -> &'static str {
+    match failure {
+        Failure::NotInPlace => "; --reformat prints the document anew",
+        _ => "",
+    }
 }
 
 /// Returns the pointer with carets below the token at fault, if the failure is about a pointer.

@@ -2,7 +2,7 @@
 
 use crate::in_place::{open_file, replace_text};
 use crate::input::{is_standard, name_of, open, problem, read_all};
-use crate::output::Output;
+use crate::output::{Output, print_text};
 use crate::problem::{NOT_APPLIED, Problem, USAGE};
 use clap::ArgMatches;
 use jsonptr_filter::document::{document_result, run_document};
@@ -11,6 +11,7 @@ use jsonptr_filter::layout::{Layout, show};
 use jsonptr_filter::line::LineTask;
 use jsonptr_filter::lines::{Ended, run_lines};
 use jsonptr_filter::task::Task;
+use std::alloc::Global;
 use std::io::{BufReader, BufWriter};
 
 /// The bytes that are read or written at once where each line is a document.
@@ -29,6 +30,15 @@ pub fn layout_of(matches: &ArgMatches<'_>) -> Layout {
     }
 }
 
+/// How the document is edited.
+#[derive(Clone, Copy)]
+struct Style {
+    /// How the result is printed.
+    layout: Layout,
+    /// Whether the document is printed anew if it cannot be edited in place.
+    reformats: bool,
+}
+
 /// Runs the task as the flags say, and returns the exit status.
 pub fn run_task(
     rt: &HostRuntime,
@@ -38,14 +48,16 @@ pub fn run_task(
 ) -> Result<u8, Problem> {
     let file = matches.get_str("FILE");
     let layout = layout_of(matches);
+    let reformats = matches.get_flag("reformat");
+    let style = Style { layout, reformats };
     if matches.get_flag("check") {
         check(rt, file, &task)
     } else if matches.get_flag("lines") {
         on_lines(rt, file, task, layout, matches.get_flag("strict"))
     } else if matches.get_flag("in-place") {
-        in_place(rt, file, &task, layout, pointer)
+        in_place(rt, file, &task, style, pointer)
     } else {
-        on_document(rt, file, &task, layout, pointer)
+        on_document(rt, file, &task, style, pointer)
     }
 }
 
@@ -54,9 +66,9 @@ fn check(rt: &HostRuntime, file: Option<&str>, task: &Task<'_>) -> Result<u8, Pr
     let alloc = rt.alloc();
     let bytes = read_all(rt, file)?;
     match document_result(alloc, task, Layout::Kept, &bytes) {
-        Ok(_) => Ok(0),
-        Err(Failure::NotJson) => Err(Problem::of_bytes(alloc, name_of(file), &bytes)),
-        Err(failure) => Err(Problem::of_failure(alloc, name_of(file), "", failure)),
+        // The operations apply, but not in place.
+        Ok(_) | Err(Failure::NotInPlace) => Ok(0),
+        Err(failure) => Err(document_problem(alloc, name_of(file), "", &bytes, failure)),
     }
 }
 
@@ -65,19 +77,45 @@ fn on_document(
     rt: &HostRuntime,
     file: Option<&str>,
     task: &Task<'_>,
-    layout: Layout,
+    style: Style,
     pointer: &str,
 ) -> Result<u8, Problem> {
     let alloc = rt.alloc();
     let mut input = open(rt, file)?;
     let mut output = Output::new(rt);
     let mut bytes = Vec::new(alloc);
-    match run_document(alloc, task, layout, &mut input, &mut bytes, &mut output) {
+    match run_document(
+        alloc,
+        task,
+        style.layout,
+        &mut input,
+        &mut bytes,
+        &mut output,
+    ) {
         Ok(()) => Ok(0),
         Err(Failure::Read) => Err(input.read_problem(alloc, name_of(file))),
         Err(Failure::Write) => Err(output.problem(alloc)),
-        Err(Failure::NotJson) => Err(Problem::of_bytes(alloc, name_of(file), &bytes)),
-        Err(failure) => Err(Problem::of_failure(alloc, name_of(file), pointer, failure)),
+        Err(Failure::NotInPlace) if style.reformats => {
+            print_anew(rt, name_of(file), task, &bytes, pointer)
+        }
+        Err(failure) => Err(document_problem(alloc, name_of(file), pointer, &bytes, failure)),
+    }
+}
+
+/// Runs the task on the bytes of a document that cannot be edited in place, and prints the result anew.
+fn print_anew(
+    rt: &HostRuntime,
+    name: &str,
+    task: &Task<'_>,
+    bytes: &[u8],
+    pointer: &str,
+) -> Result<u8, Problem> {
+    match document_result(rt.alloc(), task, Layout::Compact, bytes) {
+        Ok(new) => {
+            print_text(rt, new.as_str())?;
+            Ok(0)
+        }
+        Err(failure) => Err(document_problem(rt.alloc(), name, pointer, bytes, failure)),
     }
 }
 
@@ -86,7 +124,7 @@ fn in_place(
     rt: &HostRuntime,
     file: Option<&str>,
     task: &Task<'_>,
-    layout: Layout,
+    style: Style,
     pointer: &str,
 ) -> Result<u8, Problem> {
     let alloc = rt.alloc();
@@ -97,15 +135,39 @@ fn in_place(
         return Err(Problem::new(alloc, USAGE, "--in-place", "needs a file"));
     }
     let (target, bytes) = open_file(rt, path)?;
-    match document_result(alloc, task, layout, &bytes) {
+    match edited(alloc, task, style, &bytes) {
         Ok(new) => {
             if new.as_bytes() != bytes.as_slice() {
                 replace_text(rt, path, &target, new.as_str())?;
             }
             Ok(0)
         }
-        Err(Failure::NotJson) => Err(Problem::of_bytes(alloc, path, &bytes)),
-        Err(failure) => Err(Problem::of_failure(alloc, path, pointer, failure)),
+        Err(failure) => Err(document_problem(alloc, path, pointer, &bytes, failure)),
+    }
+}
+
+/// Returns the document after the task, printed anew if that is wanted where it cannot be edited in
+/// place.
+fn edited(alloc: Global, task: &Task<'_>, style: Style, bytes: &[u8]) -> Result<String, Failure> {
+    match document_result(alloc, task, style.layout, bytes) {
+        Err(Failure::NotInPlace) if style.reformats => {
+            document_result(alloc, task, Layout::Compact, bytes)
+        }
+        result => result,
+    }
+}
+
+/// Returns the problem of a task that failed on the bytes of the document with this name.
+fn document_problem(
+    alloc: Global,
+    name: &str,
+    pointer: &str,
+    bytes: &[u8],
+    failure: Failure,
+) -> Problem {
+    match failure {
+        Failure::NotJson => Problem::of_bytes(alloc, name, bytes),
+        failure => Problem::of_failure(alloc, name, pointer, failure),
     }
 }
 
