@@ -1,3 +1,5 @@
 //! The commands of `jp`.
+mod in_place;
+mod parts;
 mod streams;
 mod toml_lines;
