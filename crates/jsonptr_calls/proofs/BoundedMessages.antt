@@ -84,6 +84,7 @@ document_short r fits =
         let name : length (member_name r.member) ≤ 5 = member_short r.member in
         let end : length (codes "`") ≤ 1 = lit≤ tt in
         omega (arith, all, one, number, name, end)
+
     go : (b : Bool) → (b ≡ true → length (cause_message r.kind r.slash) ≤ 121) → length (if b then codes "member `" ++ member_name r.member ++ codes "` of operation " ++ decimal r.operation ++ codes ": " ++ cause_message r.kind r.slash else codes "unknown kind") ≤ 171
     go true cause =
         let start = codes "member `" ++ member_name r.member ++ codes "` of operation " ++ decimal r.operation ++ codes ": " in

@@ -3,7 +3,6 @@ use Rattle.std.proofs.Common.{◌≡◌, ◌⊎◌, inl, inr, ℕ, zero, suc, �
 use Rattle.std.proofs.lemmas.List.{take_at}
 use Rattle.serde_json.specs.Data.{Data}
 use Rattle.serde_json.specs.Read.{read}
-use Rattle.serde_json.specs.View.{view}
 use Rattle.serde_json.specs.declared.value.Value.{Value}
 use Rattle.jsonptr.specs.Documents.{IsDocument}
 use Rattle.jsonptr.specs.Fault.{ForRefused}
@@ -104,9 +103,9 @@ same_front (suc k) (o ∷ os) [] same = absurd same
 same_front (suc k) (o ∷ os) (p ∷ ps) same = (same.0, same_front k os ps same.1)
 
 pub front_again : ((d : Data) (os ps : List Operation) → IsPatch d os → IsPatch d ps → AreSameOperations os ps)
-  → ((n m : NodeMap) (os ps : List Operation) → AreSameOperations os ps → Patches n os m → Patches n ps m)
-  → (text : List ℕ) (os ps : List Operation) (k : ℕ) (n left : NodeMap)
-  → IsPatchText text os → IsPatchText text ps → Patches n (take k os) left → Patches n (take k ps) left
+    → ((n m : NodeMap) (os ps : List Operation) → AreSameOperations os ps → Patches n os m → Patches n ps m)
+    → (text : List ℕ) (os ps : List Operation) (k : ℕ) (n left : NodeMap)
+    → IsPatchText text os → IsPatchText text ps → Patches n (take k os) left → Patches n (take k ps) left
 front_again one_patch same_effect text os ps k n left one other applied =
     let same_document : one.0 ≡ other.0 = same_value one.0 other.0 (sym one.1 ∙ other.1) in
     let first : IsPatch other.0 os = subst (λ (d : Data). IsPatch d os) same_document one.2 in
@@ -114,8 +113,8 @@ front_again one_patch same_effect text os ps k n left one other applied =
 
 -- what was a patch document is not read again only for want of memory
 pub only_memory : ((d : Data) (os : List Operation) (e : PatchDocumentError) → IsPatch d os → IsNoPatch d e → ⊥)
-  → (text : List ℕ) (os : List Operation) (e : Failure)
-  → IsUtf8 text → IsPatchText text os → IsNotPatchText text e → IsOutOfMemory e
+    → (text : List ℕ) (os : List Operation) (e : Failure)
+    → IsUtf8 text → IsPatchText text os → IsNotPatchText text e → IsOutOfMemory e
 only_memory not_both text os e utf8 patch (inl (inl h)) = absurd (h.0 utf8)
 only_memory not_both text os e utf8 patch (inl (inr (inl h))) = h
 only_memory not_both text os e utf8 patch (inl (inr (inr h))) = absurd (no_value patch.0 (sym h.2 ∙ patch.1))
@@ -134,12 +133,12 @@ never_applied n m [] from x xs v is patched = patched.2.1.apart (x, xs, is)
 never_applied n m (o ∷ ops) from x xs v is patched = never_applied patched.0 m ops from x xs v is patched.2
 
 walk : ((n m : NodeMap) (k : ℕ) (o : Operation) (e : PatchError) → IsTree n → Applies n o m → RefusesOperation n k o e → ⊥)
-  → ((n m l : NodeMap) (o : Operation) → IsTree n → Applies n o m → Applies n o l → m ≡ l)
-  → ((n m : NodeMap) (o : Operation) → IsDocument n → Applies n o m → IsDocument m)
-  → (k : ℕ) (n left stop : NodeMap) (ops done : List Operation) (from : List Text) (x : Text) (xs : List Text) (v : Value) (fails : Operation) (rest : List Operation) (e : PatchError)
-  → from ≡ x ∷ xs → IsDocument n → Patches n ops left → Patches n done stop
-  → ops ++ Replace from v ∷ Move [] from ∷ [] ≡ done ++ fails ∷ rest
-  → RefusesOperation stop k fails e → SourceFault left from (told_by e)
+    → ((n m l : NodeMap) (o : Operation) → IsTree n → Applies n o m → Applies n o l → m ≡ l)
+    → ((n m : NodeMap) (o : Operation) → IsDocument n → Applies n o m → IsDocument m)
+    → (k : ℕ) (n left stop : NodeMap) (ops done : List Operation) (from : List Text) (x : Text) (xs : List Text) (v : Value) (fails : Operation) (rest : List Operation) (e : PatchError)
+    → from ≡ x ∷ xs → IsDocument n → Patches n ops left → Patches n done stop
+    → ops ++ Replace from v ∷ Move [] from ∷ [] ≡ done ++ fails ∷ rest
+    → RefusesOperation stop k fails e → SourceFault left from (told_by e)
 walk not_both one_map document k n left stop (o ∷ ops) (p ∷ done) from x xs v fails rest e is doc applied before split refused =
     let same : o ≡ p = heads o p (ops ++ Replace from v ∷ Move [] from ∷ []) (done ++ fails ∷ rest) split in
     let again : Applies n o before.0 = subst (λ (q : Operation). Applies n q before.0) (sym same) before.1 in
@@ -172,11 +171,11 @@ walk not_both one_map document k n left stop [] (p ∷ q ∷ done) from x xs v f
     absurd (unequal_ends fails done rest (tails (Move [] from) q [] (done ++ fails ∷ rest) (tails (Replace from v) p (Move [] from ∷ []) (q ∷ (done ++ fails ∷ rest)) split)))
 
 pub told : ((n m : NodeMap) (k : ℕ) (o : Operation) (e : PatchError) → IsTree n → Applies n o m → RefusesOperation n k o e → ⊥)
-  → ((n m l : NodeMap) (o : Operation) → IsTree n → Applies n o m → Applies n o l → m ≡ l)
-  → ((n m : NodeMap) (o : Operation) → IsDocument n → Applies n o m → IsDocument m)
-  → (n left : NodeMap) (ops : List Operation) (from : List Text) (x : Text) (xs : List Text) (v : Value) (e : PatchError)
-  → from ≡ x ∷ xs → IsDocument n → Patches n ops left → RefusesPatch n (ops ++ Replace from v ∷ Move [] from ∷ []) e
-  → IsFaultOf n ops (Some from) (told_by e)
+    → ((n m l : NodeMap) (o : Operation) → IsTree n → Applies n o m → Applies n o l → m ≡ l)
+    → ((n m : NodeMap) (o : Operation) → IsDocument n → Applies n o m → IsDocument m)
+    → (n left : NodeMap) (ops : List Operation) (from : List Text) (x : Text) (xs : List Text) (v : Value) (e : PatchError)
+    → from ≡ x ∷ xs → IsDocument n → Patches n ops left → RefusesPatch n (ops ++ Replace from v ∷ Move [] from ∷ []) e
+    → IsFaultOf n ops (Some from) (told_by e)
 told not_both one_map document n left ops from x xs v e is doc applied refused = (
   left,
   applied,
@@ -194,10 +193,10 @@ first_token (x ∷ xs) there = (x, xs, refl)
 
 -- why a patch fails, with the pointer at fault
 pub apply_fails : (d now : Data) (text : List ℕ) (os : List Operation) (error : Fault PatchError) (e : Failure)
-  → now ≡ d → StaysShallow d os
-  → ForRefused error (RefusesPatch (nodes d) os)
-  → (IsOutOfMemory e ⊎ ((x : PatchError) × (m : Option Member) × (error ≡ fault.Refused x) × Blames text (nodes now) x m × (e ≡ PatchFailed x m)))
-  → IsNotAppliedList d text os e
+    → now ≡ d → StaysShallow d os
+    → ForRefused error (RefusesPatch (nodes d) os)
+    → (IsOutOfMemory e ⊎ ((x : PatchError) × (m : Option Member) × (error ≡ fault.Refused x) × Blames text (nodes now) x m × (e ≡ PatchFailed x m)))
+    → IsNotAppliedList d text os e
 apply_fails d now text os error e same shallow refused (inl h) = inr (inl h)
 apply_fails d now text os error e same shallow refused (inr (x, m, is, blamed, reported)) =
     let why : RefusesPatch (nodes d) os x = subst (λ (f : Fault PatchError). ForRefused f (RefusesPatch (nodes d) os)) is refused in

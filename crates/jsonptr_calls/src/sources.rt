@@ -191,7 +191,13 @@ fn telling(
 {
     let mut all = operations;
     let path = from.clone()?;
-    all.push(Operation::Replace { path, value: Value::Null })?;
-    all.push(Operation::Move { from: PointerBuf::root(alloc), path: from })?;
+    all.push(Operation::Replace {
+        path,
+        value: Value::Null,
+    })?;
+    all.push(Operation::Move {
+        from: PointerBuf::root(alloc),
+        path: from,
+    })?;
     Ok(all)
 }

@@ -1,19 +1,20 @@
-//! A deletion in a JSON document that a patch undoes.
+//! Changes of a JSON document that patches undo: a deletion, and a patch by its inverse.
 ghost use Rattle.std.specs.Prelude.{◌≡◌, ◌⊎◌, ◌∷◌, [], IfOk, OnErr};
 ghost use Rattle.serde_json.specs.Data.{null};
 ghost use Rattle.serde_json.specs.View.{view};
-ghost use Rattle.jsonptr.specs.Fault.{IsRefused};
+ghost use Rattle.jsonptr.specs.Fault.{IfRefused, IsRefused};
 ghost use Rattle.jsonptr.specs.Json.{nodes, HasSortedKeys};
 ghost use Rattle.jsonptr.specs.Node.{NodeMap};
 ghost use Rattle.jsonptr.specs.Pointer.{tokens};
 ghost use Rattle.jsonptr.specs.Removing.{Deletes};
 ghost use Rattle.jsonptr_patch.specs.Operating.{Applies};
 ghost use Rattle.jsonptr_patch.specs.Order.{OperationHasSortedKeys};
+ghost use Rattle.jsonptr_patch.specs.Patching.{Patches, RefusesPatch};
 
 use jsonptr::tree::json::json_map_law;
 use jsonptr::{Fault, Pointer};
 use jsonptr_patch::laws::patch::patch_law;
-use jsonptr_patch::{Operation, PatchError, apply, delete_with_undo};
+use jsonptr_patch::{Operation, PatchError, apply, apply_with_inverse, delete_with_undo};
 use serde_json::Value;
 use std::alloc::{AllocError, Global};
 
@@ -66,4 +67,52 @@ fn patch_of(alloc: Global, operation: Operation) -> Result<Vec<Operation>, Alloc
     let mut patch = Vec::new(alloc);
     patch.push(operation)?;
     Ok(patch)
+}
+
+/// Undoes a patch, as an editor does: applies the inverse that
+/// [`apply_with_inverse`](jsonptr_patch::apply_with_inverse) returned. The document then has the node
+/// map that it had before the patch.
+///
+/// # Errors
+///
+/// [`Fault::Memory`] if an allocation fails, and no other error. The document is unchanged.
+///
+/// # Conditions
+///
+/// The operations apply to the document, as an inverse does to the one that its patch left.
+pub fn undo(
+    alloc: Global,
+    document: &mut Value,
+    inverse: Vec<Operation>,
+) -> Result<(), Fault<PatchError>>
+    requires { (old : NodeMap) × Patches (nodes (view document.old)) inverse.items old }
+    ensures undone { IfOk result (λ _. (old : NodeMap)
+        → Patches (nodes (view document.old)) inverse.items old
+        → nodes (view document.new) ≡ old) }
+    ensures unchanged { OnErr result (view document.new ≡ view document.old) }
+    ensures never_refused { IsRefused result → ⊥ }
+{
+    patch_law();
+    apply(alloc, document, inverse)
+}
+
+/// Applies the patch, keeps its inverse, and undoes it. The document then has the same node map as
+/// before.
+///
+/// # Errors
+///
+/// [`Fault::Refused`] if an operation of the patch fails, and [`Fault::Memory`] if an allocation
+/// fails. The document is the one before the patch, or the one after it.
+pub fn changed_and_undone(
+    alloc: Global,
+    document: &mut Value,
+    patch: Vec<Operation>,
+) -> Result<(), Fault<PatchError>>
+    ensures restored { IfOk result (λ _. nodes (view document.new) ≡ nodes (view document.old)) }
+    ensures refused { IfRefused result (RefusesPatch (nodes (view document.old)) patch.items) }
+    ensures stays { OnErr result ((view document.new ≡ view document.old)
+        ⊎ Patches (nodes (view document.old)) patch.items (nodes (view document.new))) }
+{
+    let inverse = apply_with_inverse(alloc, document, patch)?;
+    undo(alloc, document, inverse)
 }

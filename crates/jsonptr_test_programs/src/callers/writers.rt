@@ -1,7 +1,8 @@
-//! Writing, changing settings, pushes and pops, and a deletion that is undone.
+//! Writing, changing settings, pushes and pops, and a deletion and a patch that are undone.
 use jsonptr::{Pointer, PointerBuf, Token};
+use jsonptr_patch::Operation;
 use jsonptr_uses::edits::{pushed_and_popped_back, pushed_and_popped_front};
-use jsonptr_uses::patches::deleted_and_put_back;
+use jsonptr_uses::patches::{changed_and_undone, deleted_and_put_back};
 use jsonptr_uses::settings::set;
 use jsonptr_uses::writes::{assign_json, delete_json, replace, replace_json, replace_toml};
 use serde_json::Value;
@@ -108,5 +109,28 @@ fn a_deletion_is_put_back(rt: HostRuntime) -> Result<(), Fail> {
     for pointer in ["", "/a", "/a/0", "/m~0n", "/b"] {
         assert_eq!(rt; restored(alloc, pointer)?.as_str(), DOCUMENT);
     }
+    Ok(())
+}
+
+/// Returns a patch that removes an element, moves the array, and replaces a member.
+fn patch(alloc: Global) -> Result<Vec<Operation>, Fail> {
+    let mut operations = Vec::new(alloc);
+    let path = PointerBuf::from_text(alloc, "/a/0")?;
+    operations.push(Operation::Remove { path })?;
+    let from = PointerBuf::from_text(alloc, "/a")?;
+    let path = PointerBuf::from_text(alloc, "/b")?;
+    operations.push(Operation::Move { from, path })?;
+    let path = PointerBuf::from_text(alloc, "/m~0n")?;
+    let value = Value::Bool(true);
+    operations.push(Operation::Replace { path, value })?;
+    Ok(operations)
+}
+
+#[test]
+fn a_patch_is_undone(rt: HostRuntime) -> Result<(), Fail> {
+    let alloc = rt.alloc();
+    let mut document = Value::from_str(alloc, DOCUMENT)?;
+    changed_and_undone(alloc, &mut document, patch(alloc)?)?;
+    assert_eq!(rt; document.to_string(alloc)?.as_str(), DOCUMENT);
     Ok(())
 }

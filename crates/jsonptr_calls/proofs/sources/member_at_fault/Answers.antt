@@ -1,4 +1,4 @@
-use Rattle.std.proofs.Common.{rules, ◌≡◌, ◌∷◌, ◌++◌, [], List, Some, sym, subst}
+use Rattle.std.proofs.Common.{rules, ◌≡◌, [], List, Some, sym, subst}
 use Rattle.serde_json.specs.View.{view}
 use Rattle.jsonptr.specs.Json.{nodes}
 use Rattle.jsonptr_patch.specs.Patching.{RefusesPatch}
