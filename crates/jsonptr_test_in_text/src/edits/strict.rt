@@ -5,6 +5,7 @@ use jsonptr_edit_in_text::{
 };
 use jsonptr_patch::Operation;
 use serde_json::Value;
+use std::alloc::Global;
 use std::test::Fail;
 
 const TEXT: &str = "{ \"b\": 1.50, \"a\" : [1] }\n";
@@ -67,5 +68,39 @@ fn a_patch_is_applied_in_place(rt: HostRuntime) -> Result<(), Fail> {
     })?;
     let refused = apply_in_place(alloc, &mut buffers, TEXT, operations);
     assert!(rt; matches!(refused, Err(InPlaceError::Failed(EditError::Refused(_)))));
+    Ok(())
+}
+
+/// Returns a text of 127 arrays, each in the one before.
+fn deepest_text(alloc: Global) -> Result<String, Fail> {
+    let mut text = String::new(alloc);
+    for _ in 0..127 {
+        text.push('[')?;
+    }
+    for _ in 0..127 {
+        text.push(']')?;
+    }
+    Ok(text)
+}
+
+#[test]
+fn a_patch_that_is_too_deep_in_between(rt: HostRuntime) -> Result<(), Fail> {
+    let alloc = rt.alloc();
+    let text = deepest_text(alloc)?;
+    let mut deeper = String::new(alloc);
+    for _ in 0..127 {
+        deeper.push_str("/0")?;
+    }
+    let mut operations = Vec::new(alloc);
+    operations.push(Operation::Add {
+        path: PointerBuf::from_text(alloc, deeper.as_str())?,
+        value: Value::from_str(alloc, "[]")?,
+    })?;
+    operations.push(Operation::Remove {
+        path: PointerBuf::from_text(alloc, deeper.as_str())?,
+    })?;
+    let mut buffers = Buffers::new(alloc);
+    let refused = apply_in_place(alloc, &mut buffers, text.as_str(), operations);
+    assert!(rt; matches!(refused, Err(InPlaceError::NotInPlace)));
     Ok(())
 }
