@@ -1,14 +1,16 @@
-//! A number in the text of a JSON document, as in a file of settings.
-ghost use Rattle.std.specs.Prelude.{◌≡◌, IfOk, None, Err};
-ghost use Rattle.serde_json.specs.Data.{Data};
+//! A number or a text in the text of a JSON document, as in a file of settings or a message.
+ghost use Rattle.std.specs.Prelude.{◌≡◌, IfOk, IsTrue, None, Err};
+ghost use Rattle.std.specs.Str.{IsUtf8};
+ghost use Rattle.serde_json.specs.Data.{Data, string};
 ghost use Rattle.serde_json.specs.Read.{read};
 ghost use Rattle.jsonptr.specs.Pointer.{tokens};
+ghost use Rattle.jsonptr_in_text.specs.InText.{FindsInText};
 ghost use Rattle.jsonptr_uses.specs.InText.{IsNumberAt, IsRangeAt};
 ghost use Rattle.jsonptr_uses.specs.declared.sessions.TextFault.TheVariants.{NotJson};
 
 use crate::sessions::TextFault;
 use jsonptr::Pointer;
-use jsonptr_in_text::{InTextError, resolve_in_text};
+use jsonptr_in_text::{InTextError, resolve_in_slice, resolve_in_text};
 use std::alloc::Global;
 
 /// Returns the number that the pointer resolves to in the document that the text contains, or
@@ -67,5 +69,31 @@ pub fn range_in_text(
                 Ok(None)
             },
         },
+    }
+}
+
+/// Returns whether the bytes of a message have this text at the pointer, as a server asks for the
+/// type of a message. No document is built.
+///
+/// # Errors
+///
+/// [`InTextError::NotJson`] if the bytes are no JSON text, and [`InTextError::Memory`] if an
+/// allocation fails.
+pub fn has_text_at(
+    alloc: Global,
+    message: &[u8],
+    pointer: Pointer<'_>,
+    wanted: &str,
+) -> Result<bool, InTextError>
+    ensures { IfOk result (λ found. IsTrue found → IsUtf8 message.now
+        × FindsInText message.now (tokens pointer.entry) (string wanted.now)) }
+{
+    match resolve_in_slice(alloc, message, pointer) {
+        Ok(value) => match value.as_str() {
+            Some(text) => Ok(text == wanted),
+            None => Ok(false),
+        },
+        Err(InTextError::Resolve(_error)) => Ok(false),
+        Err(error) => Err(error),
     }
 }

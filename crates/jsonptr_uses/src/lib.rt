@@ -9,8 +9,9 @@
 //! - [`editor`], [`cursor_editor`] and [`patches`]: changes that can be undone.
 //! - [`patch_documents`]: a patch document that is applied.
 //! - [`differences`]: a copy that is kept up to date by differences.
+//! - [`merging`]: the patches of two people, and a difference that is sent.
 //! - [`sessions`]: calls on a document that is read from a text.
-//! - [`in_text`]: numbers in the text of a document.
+//! - [`in_text`]: numbers and texts in the text of a document.
 //! - [`edits_in_text`]: two edits in the text of a document.
 //! - [`handles`]: a document in a handle, as a program in C uses it.
 //! - [`commands`]: a command on the text of a document.
@@ -28,6 +29,7 @@ pub mod edits;
 pub mod edits_in_text;
 pub mod handles;
 pub mod in_text;
+pub mod merging;
 pub mod nodes;
 pub mod overlay;
 pub mod patch_documents;
