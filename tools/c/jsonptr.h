@@ -509,9 +509,7 @@ jsonptr_status jsonptr_document_delete(jsonptr_document *document,
  *           away leaves its object after the last operation. If 512 of them wait,
  *           or an operation reads or writes above or below one of them, they
  *           leave before it, which takes time linear in their objects.
- *           JSONPTR_PATCH_FAILED costs twice as much. If a "move" or "copy" fails
- *           so, it also takes time linear in the objects that operations before
- *           it removed members from. */
+ *           JSONPTR_PATCH_FAILED costs at most twice as much. */
 JSONPTR_API JSONPTR_NODISCARD
 jsonptr_status jsonptr_document_patch(jsonptr_document *document,
                                       const char *text, size_t text_length,

@@ -128,68 +128,59 @@ unequal_ends : (p : Operation) (ps rest : List Operation) → [] ≡ ps ++ p ∷
 unequal_ends p [] rest same = no_cons p rest same
 unequal_ends p (q ∷ ps) rest same = no_cons q (ps ++ p ∷ rest) same
 
-pub never_applied : (n m : NodeMap) (ops : List Operation) (from : List Text) (x : Text) (xs : List Text) (v : Value) → from ≡ x ∷ xs → Patches n (ops ++ Replace from v ∷ Move [] from ∷ []) m → ⊥
-never_applied n m [] from x xs v is patched = patched.2.1.apart (x, xs, is)
-never_applied n m (o ∷ ops) from x xs v is patched = never_applied patched.0 m ops from x xs v is patched.2
+pub never_applied : (n m : NodeMap) (ops : List Operation) (from : List Text) (x : Text) (v : Value) → Patches n (ops ++ Replace from v ∷ Move from (from ++ x ∷ []) ∷ []) m → ⊥
+never_applied n m [] from x v patched = patched.2.1.apart (x, [], refl)
+never_applied n m (o ∷ ops) from x v patched = never_applied patched.0 m ops from x v patched.2
 
 walk : ((n m : NodeMap) (k : ℕ) (o : Operation) (e : PatchError) → IsTree n → Applies n o m → RefusesOperation n k o e → ⊥)
     → ((n m l : NodeMap) (o : Operation) → IsTree n → Applies n o m → Applies n o l → m ≡ l)
     → ((n m : NodeMap) (o : Operation) → IsDocument n → Applies n o m → IsDocument m)
-    → (k : ℕ) (n left stop : NodeMap) (ops done : List Operation) (from : List Text) (x : Text) (xs : List Text) (v : Value) (fails : Operation) (rest : List Operation) (e : PatchError)
-    → from ≡ x ∷ xs → IsDocument n → Patches n ops left → Patches n done stop
-    → ops ++ Replace from v ∷ Move [] from ∷ [] ≡ done ++ fails ∷ rest
+    → (k : ℕ) (n left stop : NodeMap) (ops done : List Operation) (from : List Text) (x : Text) (v : Value) (fails : Operation) (rest : List Operation) (e : PatchError)
+    → IsDocument n → Patches n ops left → Patches n done stop
+    → ops ++ Replace from v ∷ Move from (from ++ x ∷ []) ∷ [] ≡ done ++ fails ∷ rest
     → RefusesOperation stop k fails e → SourceFault left from (told_by e)
-walk not_both one_map document k n left stop (o ∷ ops) (p ∷ done) from x xs v fails rest e is doc applied before split refused =
-    let same : o ≡ p = heads o p (ops ++ Replace from v ∷ Move [] from ∷ []) (done ++ fails ∷ rest) split in
+walk not_both one_map document k n left stop (o ∷ ops) (p ∷ done) from x v fails rest e doc applied before split refused =
+    let same : o ≡ p = heads o p (ops ++ Replace from v ∷ Move from (from ++ x ∷ []) ∷ []) (done ++ fails ∷ rest) split in
     let again : Applies n o before.0 = subst (λ (q : Operation). Applies n q before.0) (sym same) before.1 in
     let next : before.0 ≡ applied.0 = one_map n before.0 applied.0 o doc.0 again applied.1 in
-    walk not_both one_map document k applied.0 left stop ops done from x xs v fails rest e is
+    walk not_both one_map document k applied.0 left stop ops done from x v fails rest e
     (document n applied.0 o doc applied.1) applied.2
     (subst (λ (m : NodeMap). Patches m done stop) next before.2)
-    (tails o p (ops ++ Replace from v ∷ Move [] from ∷ []) (done ++ fails ∷ rest) split) refused
-walk not_both one_map document k n left stop (o ∷ ops) [] from x xs v fails rest e is doc applied before split refused =
-    let same : o ≡ fails = heads o fails (ops ++ Replace from v ∷ Move [] from ∷ []) rest split in
+    (tails o p (ops ++ Replace from v ∷ Move from (from ++ x ∷ []) ∷ []) (done ++ fails ∷ rest) split) refused
+walk not_both one_map document k n left stop (o ∷ ops) [] from x v fails rest e doc applied before split refused =
+    let same : o ≡ fails = heads o fails (ops ++ Replace from v ∷ Move from (from ++ x ∷ []) ∷ []) rest split in
     let here : RefusesOperation n k fails e = subst (λ (m : NodeMap). RefusesOperation m k fails e) before refused in
     absurd (not_both n applied.0 k o e doc.0 applied.1 (subst (λ (q : Operation). RefusesOperation n k q e) (sym same) here))
-walk not_both one_map document k n left stop [] [] from x xs v fails rest e is doc applied before split refused =
-    let same : fails ≡ Replace from v = sym (heads (Replace from v) fails (Move [] from ∷ []) rest split) in
+walk not_both one_map document k n left stop [] [] from x v fails rest e doc applied before split refused =
+    let same : fails ≡ Replace from v = sym (heads (Replace from v) fails (Move from (from ++ x ∷ []) ∷ []) rest split) in
     let one : stop ≡ left = before ∙ sym applied in
     let here : RefusesTarget left k from e = subst (λ (m : NodeMap). RefusesTarget m k from e) one (subst (λ (q : Operation). RefusesOperation stop k q e) same refused) in
     subst (λ (f : PatchError). SourceFault left from (told_by f)) (sym here.1) (here.0, here.2)
-walk not_both one_map document k n left stop [] (p ∷ []) from x xs v fails rest e is doc applied before split refused =
-    let first : p ≡ Replace from v = sym (heads (Replace from v) p (Move [] from ∷ []) (fails ∷ rest) split) in
-    let second : fails ≡ Move [] from = sym (heads (Move [] from) fails [] rest (tails (Replace from v) p (Move [] from ∷ []) (fails ∷ rest) split)) in
+walk not_both one_map document k n left stop [] (p ∷ []) from x v fails rest e doc applied before split refused =
+    let first : p ≡ Replace from v = sym (heads (Replace from v) p (Move from (from ++ x ∷ []) ∷ []) (fails ∷ rest) split) in
+    let second : fails ≡ Move from (from ++ x ∷ []) = sym (heads (Move from (from ++ x ∷ [])) fails [] rest (tails (Replace from v) p (Move from (from ++ x ∷ []) ∷ []) (fails ∷ rest) split)) in
     let put : Applies n (Replace from v) before.0 = subst (λ (q : Operation). Applies n q before.0) first before.1 in
     let found : Finds n from (sub n put.path) = record { path = put.path; named = put.named; below = refl } in
     let there : (w : NodeMap) × Finds left from w = subst (λ (m : NodeMap). (w : NodeMap) × Finds m from w) (sym applied) (sub n put.path, found) in
     last (subst (λ (q : Operation). RefusesOperation stop k q e) second refused) there
   where
-    last : RefusesOperation stop k (Move [] from) e → ((w : NodeMap) × Finds left from w) → SourceFault left from (told_by e)
+    last : RefusesOperation stop k (Move from (from ++ x ∷ [])) e → ((w : NodeMap) × Finds left from w) → SourceFault left from (told_by e)
     last (inl h) there = subst (λ (f : PatchError). SourceFault left from (told_by f)) (sym h.0) there
-    last (inr h) there = absurd (h.0 (x, xs, is))
-walk not_both one_map document k n left stop [] (p ∷ q ∷ done) from x xs v fails rest e is doc applied before split refused =
-    absurd (unequal_ends fails done rest (tails (Move [] from) q [] (done ++ fails ∷ rest) (tails (Replace from v) p (Move [] from ∷ []) (q ∷ (done ++ fails ∷ rest)) split)))
+    last (inr h) there = absurd (h.0 (x, [], refl))
+walk not_both one_map document k n left stop [] (p ∷ q ∷ done) from x v fails rest e doc applied before split refused =
+    absurd (unequal_ends fails done rest (tails (Move from (from ++ x ∷ [])) q [] (done ++ fails ∷ rest) (tails (Replace from v) p (Move from (from ++ x ∷ []) ∷ []) (q ∷ (done ++ fails ∷ rest)) split)))
 
 pub told : ((n m : NodeMap) (k : ℕ) (o : Operation) (e : PatchError) → IsTree n → Applies n o m → RefusesOperation n k o e → ⊥)
     → ((n m l : NodeMap) (o : Operation) → IsTree n → Applies n o m → Applies n o l → m ≡ l)
     → ((n m : NodeMap) (o : Operation) → IsDocument n → Applies n o m → IsDocument m)
-    → (n left : NodeMap) (ops : List Operation) (from : List Text) (x : Text) (xs : List Text) (v : Value) (e : PatchError)
-    → from ≡ x ∷ xs → IsDocument n → Patches n ops left → RefusesPatch n (ops ++ Replace from v ∷ Move [] from ∷ []) e
+    → (n left : NodeMap) (ops : List Operation) (from : List Text) (x : Text) (v : Value) (e : PatchError)
+    → IsDocument n → Patches n ops left → RefusesPatch n (ops ++ Replace from v ∷ Move from (from ++ x ∷ []) ∷ []) e
     → IsFaultOf n ops (Some from) (told_by e)
-told not_both one_map document n left ops from x xs v e is doc applied refused = (
+told not_both one_map document n left ops from x v e doc applied refused = (
   left,
   applied,
-  walk not_both one_map document (length refused.done) n left refused.left ops refused.done from x xs v refused.fails refused.rest e is doc applied refused.applied refused.split refused.refused,
+  walk not_both one_map document (length refused.done) n left refused.left ops refused.done from x v refused.fails refused.rest e doc applied refused.applied refused.split refused.refused,
 )
-
--- the root resolves
-pub root_found : (left : NodeMap) (from : List Text) → IsTree left → from ≡ [] → (v : NodeMap) × Finds left from v
-root_found left from tree is = subst (λ (ts : List Text). (v : NodeMap) × Finds left ts v) (sym is) (sub left [], record { path = []; named = tree.root; below = refl })
-
--- a pointer that is not the root has a first token
-pub first_token : (from : List Text) → (from ≡ [] → ⊥) → (x : Text) × (xs : List Text) × (from ≡ x ∷ xs)
-first_token [] there = absurd (there refl)
-first_token (x ∷ xs) there = (x, xs, refl)
 
 -- why a patch fails, with the pointer at fault
 pub apply_fails : (d now : Data) (text : List ℕ) (os : List Operation) (error : Fault PatchError) (e : Failure)

@@ -9,6 +9,7 @@ ghost use Rattle.serde_json.specs.declared.value.Value.{Value as JsonValue};
 ghost use Rattle.jsonptr.specs.Fault.{ForRefused};
 ghost use Rattle.jsonptr.specs.Json.{nodes};
 ghost use Rattle.jsonptr.specs.Node.{NodeMap};
+ghost use Rattle.jsonptr.specs.Text.{Text};
 ghost use Rattle.jsonptr.specs.Types.Fault.TheVariants.{Refused};
 ghost use Rattle.jsonptr_patch.specs.Patching.{Patches, RefusesPatch};
 ghost use Rattle.jsonptr_patch.specs.declared.operation.Operation.{Operation as SpecOperation};
@@ -23,9 +24,8 @@ ghost use Rattle.jsonptr_calls.specs.declared.failure.Failure.TheVariants.{Patch
 
 use crate::failure::Failure;
 use crate::patches::read_text;
-use jsonptr::{Fault, PointerBuf};
+use jsonptr::{Fault, PointerBuf, Token};
 use jsonptr_patch::laws::operation::operation_law;
-use jsonptr_patch::laws::patch::patch_law;
 use jsonptr_patch::{Operation, PatchError, apply};
 use jsonptr_patch_document::Member;
 use jsonptr_patch_document::laws::patch_document_law;
@@ -154,10 +154,6 @@ fn member_at_fault(
     ensures unchanged { view document.new ≡ view document.old }
 {
     operation_law();
-    patch_law();
-    if from.as_ptr().is_root() {
-        return Ok(Member::Path);
-    }
     match apply(alloc, document, telling(alloc, operations, from)?) {
         Ok(()) => unreachable!(),
         Err(Fault::Refused(error)) => Ok(told_by(&error)),
@@ -176,7 +172,7 @@ fn told_by(error: &PatchError) -> Member
 }
 
 /// Returns the operations, then one that fails if the pointer does not resolve, and then one that
-/// always fails: it moves the root below itself.
+/// always fails: it moves the value there below itself.
 ///
 /// # Errors
 ///
@@ -186,18 +182,18 @@ fn telling(
     operations: Vec<Operation>,
     from: PointerBuf,
 ) -> Result<Vec<Operation>, AllocError>
-    ensures { IfOk result (λ all. (value : JsonValue) × (all.items ≡ operations.items
-        ++ variant.Replace from value ∷ variant.Move [] from ∷ [])) }
+    ensures { IfOk result (λ all. (value : JsonValue) × (token : Text)
+        × (all.items ≡ operations.items ++ variant.Replace from value
+        ∷ variant.Move from (from ++ token ∷ []) ∷ [])) }
 {
     let mut all = operations;
-    let path = from.clone()?;
+    let below = from
+        .as_ptr()
+        .with_trailing_token(alloc, Token::from_number(alloc, 0usize)?)?;
     all.push(Operation::Replace {
-        path,
+        path: from.clone()?,
         value: Value::Null,
     })?;
-    all.push(Operation::Move {
-        from: PointerBuf::root(alloc),
-        path: from,
-    })?;
+    all.push(Operation::Move { from, path: below })?;
     Ok(all)
 }
