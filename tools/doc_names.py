@@ -6,7 +6,7 @@
 - Each crate, file, law, module and clause that a document names exists.
 - README, `docs/ARCHITECTURE.md` and `crates/jsonptr/CALLING.md` list each crate, and each module of `jsonptr_uses`.
 - Counts of tests, mutants, cases and stored answers are those of the tree, and the version is one everywhere.
-- Each word of a public contract is in `docs/SPECIFICATION.md`, with the file that defines it.
+- Each word of a public contract is in `docs/SPECIFICATION.md`.
 """
 import functools
 import glob
@@ -18,6 +18,7 @@ import api
 import call_cases
 import doc_examples
 import repository
+import specification
 
 TOP = repository.TOP
 FENCE = re.compile(r"^```.*?^```$", re.MULTILINE | re.DOTALL)
@@ -275,27 +276,23 @@ def contract(item):
     return text[start.start() :] if start else ""
 
 
-def short_path(path):
-    """Returns the name of a file of `specs/` as SPECIFICATION writes it: `tree/Node`."""
-    crate, _, file = os.path.relpath(path, f"{TOP}/crates").partition("/specs/")
-    return f"{crate.removeprefix('jsonptr_')}/{file[:-5]}"
-
-
+@functools.cache
 def specified():
     """Returns the words of SPECIFICATION's tables, each with its file."""
-    return {(word.split()[0].rstrip(","), file) for rows in tables(read("docs/SPECIFICATION.md")) for row in rows[2:] if len(cells(row)) > 2 for word in CODE.findall(cells(row)[0]) for file in CODE.findall(cells(row)[1])}
+    paths = [path for crate in specification.crates() for path in specification.files(crate)]
+    return {(name, path) for path in paths for word in specification.words(path) for name in re.findall(r"`(\w+)", specification.cells(word)[0])}
 
 
 def check_specification():
     """Checks that SPECIFICATION has each word of each public contract, with its file."""
-    known, name = specified(), "docs/SPECIFICATION.md"
     for crate in api.libraries():
         for module in api.modules(crate).values():
             for item in api.own_rows(crate, module):
                 for word in set(re.findall(r"(?<![\w.])[A-Za-z]\w*", contract(item))):
                     files = defining(word, item.path)
-                    if files and not any((word, short_path(path)) in known for path in files):
-                        errors.append(f"{name}: {word} of {short_path(files[0])} is missing (in {item.name} of {crate})")
+                    if files and not any((word, path) in specified() for path in files):
+                        where = os.path.relpath(files[0], TOP)
+                        errors.append(f"{where}: {word} has no comment, so SPECIFICATION lacks it (in {item.name} of {crate})")
 
 
 @functools.cache
