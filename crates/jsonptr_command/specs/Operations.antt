@@ -43,14 +43,15 @@ form_values (move from pointer) = []
 form_values (copy from pointer) = []
 form_values (test pointer value) = value ∷ []
 
--- `words_of forms`: the words of a list of operations. The two definitions below are the pointers and the values
--- among them.
+-- `words_of forms`: the words of a list of operations
 abbrev pub words_of : List Form → List Text
 words_of forms = flat_map form_words forms
 
+-- `pointers_of forms`: the pointers among them
 abbrev pub pointers_of : List Form → List Text
 pointers_of forms = flat_map form_pointers forms
 
+-- `values_of forms`: the values among them
 abbrev pub values_of : List Form → List Text
 values_of forms = flat_map form_values forms
 

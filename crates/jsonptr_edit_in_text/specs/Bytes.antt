@@ -15,12 +15,12 @@ use Rattle.jsonptr_splice.specs.Child.{IsValueText, IsOneChild}
 use Rattle.jsonptr_edit_in_text.specs.declared.edited.Edited.{Edited}
 use Rattle.jsonptr_edit_in_text.specs.declared.edited.Edited.TheVariants.{InPlace, Rewritten}
 
--- `IsScalar d`: d is neither an array nor an object
+-- `IsScalar d`: `d` is neither an array nor an object
 abbrev pub IsScalar : Data → Type 0
 IsScalar d = (a : Scalar) × (label_of (content d) ≡ a_leaf a)
 
 -- `ReplacesBytes old new tokens e`: `new` is the text `old` with exactly the text of the value that all of `tokens`
--- identify replaced by exactly a text of the value e. Neither has white space around it
+-- identify replaced by exactly a text of the value `e`. Neither has white space around it
 pub record ReplacesBytes (old new : Text) (tokens : List Text) (e : Data) : Type 0 where
   pub was : Text
   pub piece : Text
@@ -31,7 +31,7 @@ pub record ReplacesBytes (old new : Text) (tokens : List Text) (e : Data) : Type
   pub made : IsValueText e piece
 
 -- `ExpandsBytes old new front more v`: `tokens` lead no further than `front`, to a scalar, and exactly its text is replaced
--- by a text of v expanded by `more`
+-- by a text of `v` expanded by `more`
 pub record ExpandsBytes (old new : Text) (front more : List Text) (v : Data) : Type 0 where
   pub grows : Data
   pub grown_is : nodes grows ≡ grown more (nodes v)
@@ -39,7 +39,7 @@ pub record ExpandsBytes (old new : Text) (front more : List Text) (v : Data) : T
   pub scalar : IsScalar replaces.value
 
 -- `AddsPiece old new key e`: `new` is the text `old` with the text of one child more, a member with the key or an element if
--- there is none, with the value e, at most one comma, and white space. Except for white space, no byte of `old` is replaced
+-- there is none, with the value `e`, at most one comma, and white space. Except for white space, no byte of `old` is replaced
 pub record AddsPiece (old new : Text) (key : Option Text) (e : Data) : Type 0 where
   pub was : Text
   pub piece : Text
@@ -47,38 +47,38 @@ pub record AddsPiece (old new : Text) (key : Option Text) (e : Data) : Type 0 wh
   pub blank : IsBlank was
   pub child : IsOneChild key e piece
 
--- `LacksMember old front x`: `front` leads to an object that has no member with the key x
+-- `LacksMember old front x`: `front` leads to an object that has no member with the key `x`
 abbrev pub LacksMember : Text → List Text → Text → Type 0
 LacksMember old front x = (ms : Members) × FindsInText old front (object ms) × (get_member x ms ≡ None)
 
--- `HasPlace old front x`: `front` leads to an array, and x refers to an index of it, or to the one after its last element
+-- `HasPlace old front x`: `front` leads to an array, and `x` refers to an index of it, or to the one after its last element
 abbrev pub HasPlace : Text → List Text → Text → Type 0
 HasPlace old front x = (ds : Items) × FindsInText old front (array ds) × ((i : ℕ) × MeansPlace (items_len ds) x i)
 
 -- `AddsBytes old new front x e`: the text of one child is added to the value that `front` leads to: of a member with the key
--- x, which was missing, or of an element
+-- `x`, which was missing, or of an element
 abbrev pub AddsBytes : Text → Text → List Text → Text → Data → Type 0
 AddsBytes old new front x e =
     (LacksMember old front x × AddsPiece old new (Some x) e) ⊎ (HasPlace old front x × AddsPiece old new None e)
 
--- `GrowsBytes old new front x rest v`: the same with v expanded by the tokens after x
+-- `GrowsBytes old new front x rest v`: the same with `v` expanded by the tokens after `x`
 abbrev pub GrowsBytes : Text → Text → List Text → Text → List Text → Data → Type 0
 GrowsBytes old new front x rest v = (e : Data) × (nodes e ≡ grown rest (nodes v)) × AddsBytes old new front x e
 
 -- `CutsBytes old new key v`: `new` is the text `old` without the text of one child, a member with the key or an element if
--- there is none, with the value v, at most one comma, and white space
+-- there is none, with the value `v`, at most one comma, and white space
 pub record CutsBytes (old new : Text) (key : Option Text) (v : Data) : Type 0 where
   pub was : Text
   pub splices : Splices old new was []
   pub child : IsOneChild key v was
 
--- `CutsInTurn x old mids new`: `new` comes from `old` by cutting out a member with the key x for each of the texts `mids`,
+-- `CutsInTurn x old mids new`: `new` comes from `old` by cutting out a member with the key `x` for each of the texts `mids`,
 -- which are the texts before each cut, the last one first
 abbrev pub CutsInTurn : Text → Text → List Text → Text → Type 0
 CutsInTurn x old [] new = new ≡ old
 CutsInTurn x old (mid ∷ mids) new = CutsInTurn x old mids mid × ((v : Data) × CutsBytes mid new (Some x) v)
 
--- `CutsMembers old new front x`: `front` leads to an object, and its member with the key x is cut out, and then each one
+-- `CutsMembers old new front x`: `front` leads to an object, and its member with the key `x` is cut out, and then each one
 -- before it with the same key
 pub record CutsMembers (old new : Text) (front : List Text) (x : Text) : Type 0 where
   pub ms : Members
@@ -90,7 +90,7 @@ pub record CutsMembers (old new : Text) (front : List Text) (x : Text) : Type 0 
   pub cuts : CutsBytes old first (Some x) v
   pub again : CutsInTurn x first mids new
 
--- `CutsElement old new front x`: `front` leads to an array, and its element at the index x is cut out
+-- `CutsElement old new front x`: `front` leads to an array, and its element at the index `x` is cut out
 pub record CutsElement (old new : Text) (front : List Text) (x : Text) : Type 0 where
   pub ds : Items
   pub i : ℕ
@@ -104,8 +104,8 @@ pub record CutsElement (old new : Text) (front : List Text) (x : Text) : Type 0 
 abbrev pub CutsChild : Text → Text → List Text → Text → Type 0
 CutsChild old new front x = CutsMembers old new front x ⊎ CutsElement old new front x
 
--- `AssignsBytes old tokens v new`: the text of one value, to which all tokens lead, is replaced by a text of v; or `tokens`
--- stop at a scalar, which is replaced by v expanded; or they stop at an object or an array, to which one child is added
+-- `AssignsBytes old tokens v new`: the text of one value, to which all tokens lead, is replaced by a text of `v`; or `tokens`
+-- stop at a scalar, which is replaced by `v` expanded; or they stop at an object or an array, to which one child is added
 abbrev pub AssignsBytes : Text → List Text → Data → Text → Type 0
 AssignsBytes old tokens v new =
     ReplacesBytes old new tokens v
@@ -119,7 +119,7 @@ DeletesBytes old tokens new =
     ((tokens ≡ []) × ReplacesBytes old new [] null)
     ⊎ ((front : List Text) × (x : Text) × (tokens ≡ front ++ x ∷ []) × CutsChild old new front x)
 
--- `KeepsBytes P e`: if e was edited in place, its text meets P
+-- `KeepsBytes P e`: if `e` was edited in place, its text meets `P`
 abbrev pub KeepsBytes : (Text → Type 0) → Edited → Type 0
 KeepsBytes P (InPlace s) = P (string_bytes s)
 KeepsBytes P (Rewritten s) = ⊤

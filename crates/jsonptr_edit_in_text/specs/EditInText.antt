@@ -20,19 +20,19 @@ abbrev pub text_of : Edited → Text
 text_of (InPlace s) = string_bytes s
 text_of (Rewritten s) = string_bytes s
 
--- `AssignsInText old tokens v new`: the texts read as documents, and assigning v at the tokens turns the first document
+-- `AssignsInText old tokens v new`: the texts read as documents, and assigning `v` at the tokens turns the first document
 -- into the second
 abbrev pub AssignsInText : Text → List Text → NodeMap → Text → Type 0
 AssignsInText old tokens v new =
     (d d2 : Data) × (read old ≡ Some d) × (read new ≡ Some d2)
     × (replaced : Option NodeMap) × Assigns (nodes d) tokens v (nodes d2) replaced
 
--- `IsTooDeep m`: the arrays and objects of the map m nest deeper than those of a text that is read
+-- `IsTooDeep m`: the arrays and objects of the map `m` nest deeper than those of a text that is read
 abbrev pub IsTooDeep : NodeMap → Type 0
 IsTooDeep m = NestsWithin max_depth m → ⊥
 
--- `IsAssignError old tokens v e`: e is why assigning v at the tokens in the text `old` fails, if it is not for memory. Of
--- a value v whose keys are sorted, as those of each value that is read, `TooDeep` says that the new document is too deep
+-- `IsAssignError old tokens v e`: `e` is why assigning `v` at the tokens in the text `old` fails, if it is not for memory. Of
+-- a value `v` whose keys are sorted, as those of each value that is read, `TooDeep` says that the new document is too deep
 abbrev pub IsAssignError : Text → List Text → Data → EditError AssignError → Type 0
 IsAssignError old tokens v NotJson = read old ≡ None
 IsAssignError old tokens v (Refused e) = (d : Data) × (read old ≡ Some d) × RefusesAssign (nodes d) tokens e
@@ -52,7 +52,7 @@ DeletesInText old tokens new =
 abbrev pub LacksInText : Text → List Text → Type 0
 LacksInText old tokens = (d : Data) × (read old ≡ Some d) × ((w : Path) → Names (nodes d) tokens w → ⊥)
 
--- `IsReadFault text e`: e is why the text is not read, if it is not for memory
+-- `IsReadFault text e`: `e` is why the text is not read, if it is not for memory
 abbrev pub IsReadFault : {E : Type 0} → Text → EditError E → Type 0
 IsReadFault text NotJson = read text ≡ None
 IsReadFault text (Refused e) = ⊥

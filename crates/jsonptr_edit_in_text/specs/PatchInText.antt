@@ -17,13 +17,13 @@ use Rattle.jsonptr_edit_in_text.specs.EditInText.{IsTooDeep}
 use Rattle.jsonptr_edit_in_text.specs.declared.edited.EditError.{EditError}
 use Rattle.jsonptr_edit_in_text.specs.declared.edited.EditError.TheVariants.{NotJson, Refused, TooDeep, Memory}
 
--- `PatchesInText old os new`: the texts read as documents, and the operations os turn the first into the second
+-- `PatchesInText old os new`: the texts read as documents, and the operations `os` turn the first into the second
 abbrev pub PatchesInText : Text → List Operation → Text → Type 0
 PatchesInText old os new =
     (d d2 : Data) × (read old ≡ Some d) × (read new ≡ Some d2) × Patches (nodes d) os (nodes d2)
 
--- `AddsAtBytes old tokens e new`: the text of the value that `tokens` identify is replaced by a text of e, or one child with
--- the value e is added, which the last token refers to
+-- `AddsAtBytes old tokens e new`: the text of the value that `tokens` identify is replaced by a text of `e`, or one child with
+-- the value `e` is added, which the last token refers to
 abbrev pub AddsAtBytes : Text → List Text → Data → Text → Type 0
 AddsAtBytes old tokens e new =
     ReplacesBytes old new tokens e
@@ -38,7 +38,7 @@ MovesBytes old from path new =
 abbrev pub CopiesBytes : Text → List Text → List Text → Text → Type 0
 CopiesBytes old from path new = (e : Data) × FindsInText old from e × AddsAtBytes old path e new
 
--- `OperationBytes old o new`: which bytes of the text `old` the operation o changes. A move cuts a child out, and then adds
+-- `OperationBytes old o new`: which bytes of the text `old` the operation `o` changes. A move cuts a child out, and then adds
 -- one
 abbrev pub OperationBytes : Text → Operation → Text → Type 0
 OperationBytes old (Add path value) new = AddsAtBytes old path (view value) new
@@ -48,12 +48,12 @@ OperationBytes old (Move from path) new = MovesBytes old from path new
 OperationBytes old (Copy from path) new = CopiesBytes old from path new
 OperationBytes old (Test path value) new = new ≡ old
 
--- `PatchBytes old os new`: which bytes the operations os change, each in the text that the one before left
+-- `PatchBytes old os new`: which bytes the operations `os` change, each in the text that the one before left
 abbrev pub PatchBytes : Text → List Operation → Text → Type 0
 PatchBytes old [] new = new ≡ old
 PatchBytes old (o ∷ os) new = (mid : Text) × OperationBytes old o mid × PatchBytes mid os new
 
--- `IsPatchFault text os e`: e is why applying the operations os in the text fails, if it is not for memory. `TooDeep` says
+-- `IsPatchFault text os e`: `e` is why applying the operations `os` in the text fails, if it is not for memory. `TooDeep` says
 -- that the new document is too deep, if the keys of their values are sorted
 abbrev pub IsPatchFault : Text → List Operation → EditError PatchError → Type 0
 IsPatchFault text os NotJson = read text ≡ None

@@ -15,17 +15,17 @@ use Rattle.jsonptr_patch.specs.Operating.{Applies, Moves, Copies, Passes}
 use Rattle.jsonptr_patch.specs.declared.operation.Operation.{Operation}
 use Rattle.jsonptr_edit_in_text.specs.PatchInText.{AddsAtBytes}
 
--- `OperatesInText old o new`: the texts read as documents, and the operation o turns the first into the second
+-- `OperatesInText old o new`: the texts read as documents, and the operation `o` turns the first into the second
 abbrev pub OperatesInText : Text → Operation → Text → Type 0
 OperatesInText old o new =
     (d d2 : Data) × (read old ≡ Some d) × (read new ≡ Some d2) × Applies (nodes d) o (nodes d2)
 
--- `PutsInText old tokens v new`: the same for a value that is replaced by v
+-- `PutsInText old tokens v new`: the same for a value that is replaced by `v`
 abbrev pub PutsInText : Text → List Text → NodeMap → Text → Type 0
 PutsInText old tokens v new =
     (d d2 : Data) × (read old ≡ Some d) × (read new ≡ Some d2) × PutsAt (nodes d) tokens v (nodes d2)
 
--- `AddsValueInText old tokens v new`: the same for a value v that is added
+-- `AddsValueInText old tokens v new`: the same for a value `v` that is added
 abbrev pub AddsValueInText : Text → List Text → NodeMap → Text → Type 0
 AddsValueInText old tokens v new =
     (d d2 : Data) × (read old ≡ Some d) × (read new ≡ Some d2) × Adds (nodes d) tokens v (nodes d2)
@@ -49,11 +49,11 @@ abbrev pub CopiesInText : Text → List Text → List Text → Text → Type 0
 CopiesInText old from path new =
     (d d2 : Data) × (read old ≡ Some d) × (read new ≡ Some d2) × Copies (nodes d) from path (nodes d2)
 
--- `PassesInText text tokens v`: the test that the value at `tokens` equals v passes
+-- `PassesInText text tokens v`: the test that the value at `tokens` equals `v` passes
 abbrev pub PassesInText : Text → List Text → NodeMap → Type 0
 PassesInText text tokens v = (d : Data) × (read text ≡ Some d) × Passes (nodes d) tokens v
 
--- `ElementInserted x piece d d2`: d2 is the array d with the value of the text `piece` as an element more, at the index x
+-- `ElementInserted x piece d d2`: `d2` is the array `d` with the value of the text `piece` as an element more, at the index `x`
 abbrev pub ElementInserted : Text → Text → Data → Data → Type 0
 ElementInserted x piece d d2 =
     (e : Data) × (c : Choice) × (read piece ≡ Some e) × IsChoiceOf x c × AddsElement c e d d2
@@ -62,7 +62,7 @@ ElementInserted x piece d d2 =
 abbrev pub AddsAtByText : Text → List Text → Text → Text → Type 0
 AddsAtByText old tokens flat new = (e : Data) × (read flat ≡ Some e) × AddsAtBytes old tokens e new
 
--- `AreMemberChoices tokens x cs`: cs are the selectors of `tokens`, and one of the member with the key x
+-- `AreMemberChoices tokens x cs`: `cs` are the selectors of `tokens`, and one of the member with the key `x`
 abbrev pub AreMemberChoices : List Text → Text → List Choice → Type 0
 AreMemberChoices tokens x cs =
     (front : List Choice) × (cs ≡ front ++ (x, None) ∷ []) × AreChoicesOf tokens front

@@ -13,7 +13,7 @@ use Rattle.jsonptr_tree.specs.Growing.{grown}
 use Rattle.jsonptr_splice.specs.declared.layout.ValueText.{ValueText}
 use Rattle.jsonptr_edit_in_text.specs.Bytes.{IsScalar, ReplacesBytes, AddsPiece, AddsBytes}
 
--- `Reached R d d2 tokens`: the tokens name a path of d, and d2 is d with another value there, which R relates to the old
+-- `Reached R d d2 tokens`: the tokens name a path of `d`, and `d2` is `d` with another value there, which `R` relates to the old
 -- one
 pub record Reached (R : Data → Data → Type 0) (d d2 : Data) (tokens : List Text) : Type 0 where
   pub path : Path
@@ -30,37 +30,37 @@ pub record Reached (R : Data → Data → Type 0) (d d2 : Data) (tokens : List T
 abbrev pub ReachedInText : Text → Text → List Text → (Data → Data → Type 0) → Type 0
 ReachedInText old new tokens R = (d d2 : Data) × (read old ≡ Some d) × (read new ≡ Some d2) × Reached R d d2 tokens
 
--- `ReplacesScalar e d d2`: d is a scalar, and d2 is e
+-- `ReplacesScalar e d d2`: `d` is a scalar, and `d2` is `e`
 abbrev pub ReplacesScalar : Data → Data → Data → Type 0
 ReplacesScalar e d d2 = IsScalar d × (d2 ≡ e)
 
--- `AddsMemberAt x e d d2`: d2 is the object d with the member e under the key x, which d lacks
+-- `AddsMemberAt x e d d2`: `d2` is the object `d` with the member `e` under the key `x`, which `d` lacks
 abbrev pub AddsMemberAt : Text → Data → Data → Data → Type 0
 AddsMemberAt x e d d2 = AddsMember (x, None) e d d2
 
--- `AppendsAt x e d d2`: d2 is the array d with the element e after its last, to which the token x refers
+-- `AppendsAt x e d d2`: `d2` is the array `d` with the element `e` after its last, to which the token `x` refers
 abbrev pub AppendsAt : Text → Data → Data → Data → Type 0
 AppendsAt x e d d2 = (ds ds2 : Items) × (d ≡ array ds) × (d2 ≡ array ds2) × InsertsItem (items_len ds) e ds ds2
     × ((x ≡ codes "-") ⊎ (x ≡ dec (items_len ds)))
 
--- `Trades was piece d d2`: d is the value of the text `was`, and d2 that of the text `piece`
+-- `Trades was piece d d2`: `d` is the value of the text `was`, and `d2` that of the text `piece`
 abbrev pub Trades : Text → Text → Data → Data → Type 0
 Trades was piece d d2 = (read was ≡ Some d) × (read piece ≡ Some d2)
 
--- `Becomes piece d d2`: d2 is the value of the text `piece`
+-- `Becomes piece d d2`: `d2` is the value of the text `piece`
 abbrev pub Becomes : Text → Data → Data → Type 0
 Becomes piece d d2 = read piece ≡ Some d2
 
--- `ScalarBecomes piece d d2`: d is a scalar, and d2 is the value of the text `piece`
+-- `ScalarBecomes piece d d2`: `d` is a scalar, and `d2` is the value of the text `piece`
 abbrev pub ScalarBecomes : Text → Data → Data → Type 0
 ScalarBecomes piece d d2 = IsScalar d × (read piece ≡ Some d2)
 
--- `MemberAdded x piece d d2`: d2 is the object d with the value of the text `piece` under the key x, which d lacks
+-- `MemberAdded x piece d d2`: `d2` is the object `d` with the value of the text `piece` under the key `x`, which `d` lacks
 abbrev pub MemberAdded : Text → Text → Data → Data → Type 0
 MemberAdded x piece d d2 = (e : Data) × (read piece ≡ Some e) × AddsMember (x, None) e d d2
 
--- `ElementAppended x piece d d2`: d2 is the array d with the value of the text `piece` after its last element, to which
--- the token x refers
+-- `ElementAppended x piece d d2`: `d2` is the array `d` with the value of the text `piece` after its last element, to which
+-- the token `x` refers
 pub record ElementAppended (x piece : Text) (d d2 : Data) : Type 0 where
   pub ds : Items
   pub ds2 : Items
@@ -71,7 +71,7 @@ pub record ElementAppended (x piece : Text) (d d2 : Data) : Type 0 where
   pub inserts : InsertsItem (items_len ds) e ds ds2
   pub refers : (x ≡ codes "-") ⊎ (x ≡ dec (items_len ds))
 
--- `IsExpanded tokens v t`: the text t is that of v, expanded by `tokens`
+-- `IsExpanded tokens v t`: the text `t` is that of `v`, expanded by `tokens`
 abbrev pub IsExpanded : List Text → NodeMap → ValueText → Type 0
 IsExpanded tokens v t = (e : Data) × (read (string_bytes t.flat) ≡ Some e) × (nodes e ≡ grown tokens v)
 
@@ -90,6 +90,6 @@ ReplacesScalarByText old new tokens flat =
 abbrev pub AddsPieceByText : Text → Text → Option Text → Text → Type 0
 AddsPieceByText old new key flat = (e : Data) × (read flat ≡ Some e) × AddsPiece old new key e
 
--- `AddsByText old new front x flat`: the same of a child that x refers to
+-- `AddsByText old new front x flat`: the same of a child that `x` refers to
 abbrev pub AddsByText : Text → Text → List Text → Text → Text → Type 0
 AddsByText old new front x flat = (e : Data) × (read flat ≡ Some e) × AddsBytes old new front x e

@@ -12,7 +12,7 @@ IsShortened tokens front =
     (front ≡ tokens)
     ⊎ ((rest : List Text) × (tokens ≡ front ++ rest) × (max_depth < length front))
 
--- `IsPrintFault d e`: e is why the document d is not printed, if it is not for memory
+-- `IsPrintFault d e`: `e` is why the document `d` is not printed, if it is not for memory
 abbrev pub IsPrintFault : {E : Type 0} → Data → EditError E → Type 0
 IsPrintFault d NotJson = ⊥
 IsPrintFault d (Refused e) = ⊥

@@ -13,7 +13,7 @@ use Rattle.jsonptr_filter.specs.declared.failure.Failure.{Failure}
 use Rattle.jsonptr_filter.specs.declared.failure.Failure.TheVariants.{PatchTooDeep, Memory}
 use Rattle.jsonptr_filter.specs.declared.layout.Layout.{Layout}
 
--- `IsDifference n m layout d`: the text of d is the patch document of operations that turn n into m, and is read as it.
+-- `IsDifference n m layout d`: the text of `d` is the patch document of operations that turn `n` into `m`, and is read as it.
 -- `is_empty` says whether there are none
 abbrev pub IsDifference : NodeMap → NodeMap → Layout → Difference → Type 0
 IsDifference n m layout d =
@@ -23,12 +23,12 @@ IsDifference n m layout d =
     × (read (string_bytes d.text) ≡ Some (document_of os))
     × ((d.is_empty ≡ true) ↔ (os ≡ []))
 
--- `FailsToDiffer n m e`: e is why no patch document of operations that turn n into m is printed, if it is not for memory
+-- `FailsToDiffer n m e`: `e` is why no patch document of operations that turn `n` into `m` is printed, if it is not for memory
 abbrev pub FailsToDiffer : NodeMap → NodeMap → Failure → Type 0
 FailsToDiffer n m PatchTooDeep = (os : List Operation) × Patches n os m × (max_depth < depth (document_of os))
 FailsToDiffer n m (Memory f) = ⊤
 FailsToDiffer n m e = ⊥
 
--- `IsNoneIfSame n m d`: if n and m have no difference, d has no operation
+-- `IsNoneIfSame n m d`: if `n` and `m` have no difference, `d` has no operation
 abbrev pub IsNoneIfSame : NodeMap → NodeMap → Difference → Type 0
 IsNoneIfSame n m d = HaveNoDifference n m → d.is_empty ≡ true

@@ -27,7 +27,7 @@ Prints task layout bytes out =
     × ((EndsInBreak task layout × ((new : Text) × Yields task layout bytes new × (out ≡ new ++ 10 ∷ [])))
     ⊎ ((EndsInBreak task layout → ⊥) × Yields task layout bytes out))
 
--- `FailsOn task layout bytes e`: e is why the task has no result on the document `bytes`, if it is not for memory
+-- `FailsOn task layout bytes e`: `e` is why the task has no result on the document `bytes`, if it is not for memory
 abbrev pub FailsOn : Task → Layout → List ℕ → Failure → Type 0
 FailsOn task layout bytes NotJson = IsUtf8 bytes → read bytes ≡ None
 FailsOn task layout bytes (Memory e) = ⊤
@@ -38,7 +38,7 @@ abbrev pub PutsDocument : Task → Layout → Option (List ℕ) → Option (List
 PutsDocument task layout known w0 w1 =
     ForInput known (λ bytes. (out : Text) × Prints task layout bytes out × Appends w0 w1 out)
 
--- `StopsDocument task layout known w0 w1 e`: the run fails with e. Nothing is written, or e is a failed write and a
+-- `StopsDocument task layout known w0 w1 e`: the run fails with `e`. Nothing is written, or `e` is a failed write and a
 -- prefix of what is printed is written
 abbrev pub StopsDocument : Task → Layout → Option (List ℕ) → Option (List ℕ) → Option (List ℕ) → Failure → Type 0
 StopsDocument task layout known w0 w1 Write =

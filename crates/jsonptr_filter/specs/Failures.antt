@@ -16,7 +16,7 @@ use Rattle.jsonptr_paths.specs.declared.reading.BuildError.TheVariants as build
 use Rattle.jsonptr_filter.specs.declared.failure.Failure.{Failure}
 use Rattle.jsonptr_filter.specs.declared.failure.Failure.TheVariants.{BadPointer, NotPatch, NoValue, BadPlace, NotThere, BadPatch, TooDeep, NotInPlace, PatchTooDeep, LineBreak, BadLine, NotUtf8, NotJson, ArgumentNotJson, Memory, Read, Write}
 
--- `status_of_line e`: the exit status if a line adds no value, for the reason e
+-- `status_of_line e`: the exit status if a line adds no value, for the reason `e`
 abbrev pub status_of_line : LineError → ℕ
 status_of_line line.NoTab = 3
 status_of_line line.NotPointer = 3
@@ -24,7 +24,7 @@ status_of_line line.TooDeep = 1
 status_of_line line.NotJson = 3
 status_of_line (line.BadPlace e) = 1
 
--- `status_of e`: the exit status of the program after the error e
+-- `status_of e`: the exit status of the program after the error `e`
 abbrev pub status_of : Failure → ℕ
 status_of (BadPointer e) = 1
 status_of (NotPatch e) = 1

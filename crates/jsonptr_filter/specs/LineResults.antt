@@ -13,12 +13,12 @@ use Rattle.jsonptr_filter.specs.declared.layout.Layout.{Layout}
 use Rattle.jsonptr_filter.specs.declared.line.LineTask.{LineTask}
 use Rattle.jsonptr_filter.specs.declared.task.Task.{Task}
 
--- `YieldsLine task layout l out`: `out` is the result of the task on the line l, and is one line
+-- `YieldsLine task layout l out`: `out` is the result of the task on the line `l`, and is one line
 abbrev pub YieldsLine : Task → Layout → Text → Text → Type 0
 YieldsLine task layout l out = IsUtf8 l × Yields task layout l out × IsOneLine out
 
--- `IsLineFault task layout l e`: the line l is at fault: e is why the task has no result on it, or the result is not one
--- line. If the line l is one, as each line of an input is, that takes a layout that can break. A failed allocation is not a
+-- `IsLineFault task layout l e`: the line `l` is at fault: `e` is why the task has no result on it, or the result is not one
+-- line. If the line `l` is one, as each line of an input is, that takes a layout that can break. A failed allocation is not a
 -- fault of the line
 abbrev pub IsLineFault : Task → Layout → Text → Failure → Type 0
 IsLineFault task layout l NotJson = IsUtf8 l → read l ≡ None
@@ -32,19 +32,19 @@ abbrev pub fallback_line : Option (String Global) → Text
 fallback_line None = []
 fallback_line (Some s) = string_bytes s
 
--- `IsReport name n text`: `text` reports the line with the number n of the input that is called `name`
+-- `IsReport name n text`: `text` reports the line with the number `n` of the input that is called `name`
 abbrev pub IsReport : Text → ℕ → Text → Type 0
 IsReport name n text =
     (message : Text) × (text ≡ name ++ (codes ":" ++ (decimal n ++ (codes ": " ++ (message ++ 10 ∷ [])))))
 
--- `LineGives run n l out err`: for the line l, with the number n, `out` is printed and `err` is reported
+-- `LineGives run n l out err`: for the line `l`, with the number `n`, `out` is printed and `err` is reported
 abbrev pub LineGives : LineTask → ℕ → Text → Text → Text → Type 0
 LineGives run n l out err =
     ((s : Text) × YieldsLine run.task run.layout l s × (out ≡ s ++ 10 ∷ []) × (err ≡ []))
     ⊎ ((e : Failure) × IsLineFault run.task run.layout l e × (out ≡ fallback_line run.fallback)
     × IsReport (string_bytes run.name) n err)
 
--- `LinesGive run n ls out err`: for the lines `ls`, with the numbers from n on, `out` is printed and `err` is reported,
+-- `LinesGive run n ls out err`: for the lines `ls`, with the numbers from `n` on, `out` is printed and `err` is reported,
 -- line by line
 abbrev pub LinesGive : LineTask → ℕ → List Text → Text → Text → Type 0
 LinesGive run n [] out err = (out ≡ []) × (err ≡ [])
@@ -55,7 +55,7 @@ LinesGive run n (l ∷ ls) out err =
     × (out ≡ o ++ os)
     × (err ≡ r ++ rs)
 
--- `StopsRun e`: the error e ends the run, whichever line it comes at
+-- `StopsRun e`: the error `e` ends the run, whichever line it comes at
 abbrev pub StopsRun : Failure → Type 0
 StopsRun (Memory e) = ⊤
 StopsRun Read = ⊤

@@ -20,7 +20,7 @@ use Rattle.jsonptr_filter.specs.declared.layout.Layout.{Layout}
 abbrev pub ListsText : Listed → List ℕ → Text → Type 0
 ListsText which bytes out = (d : Data) × IsUtf8 bytes × (read bytes ≡ Some d) × Lists which d out
 
--- `FailsToList bytes e`: e is why the document `bytes` is not listed, if it is not for memory
+-- `FailsToList bytes e`: `e` is why the document `bytes` is not listed, if it is not for memory
 abbrev pub FailsToList : List ℕ → Failure → Type 0
 FailsToList bytes NotJson = IsUtf8 bytes → read bytes ≡ None
 FailsToList bytes (Memory f) = ⊤
@@ -34,7 +34,7 @@ BuildsText layout bytes out =
     × IsUtf8 bytes × Builds bytes (nodes d) × HasSortedKeys d × Shows layout d shown × ReadsBack layout d shown
     × (out ≡ shown ++ 10 ∷ [])
 
--- `FailsToBuild bytes e`: e is why the lines `bytes` build no document, if it is not for memory
+-- `FailsToBuild bytes e`: `e` is why the lines `bytes` build no document, if it is not for memory
 abbrev pub FailsToBuild : List ℕ → Failure → Type 0
 FailsToBuild bytes NotUtf8 = IsUtf8 bytes → ⊥
 FailsToBuild bytes (BadLine number e) = IsUtf8 bytes × StopsBuilding bytes (Line number e)
@@ -45,8 +45,8 @@ FailsToBuild bytes e = ⊥
 abbrev pub PutsText : (List ℕ → Text → Type 0) → Option (List ℕ) → Option (List ℕ) → Option (List ℕ) → Type 0
 PutsText P known w0 w1 = ForInput known (λ bytes. (out : Text) × P bytes out × Appends w0 w1 out)
 
--- `StopsText P F known w0 w1 e`: the run fails with e. Nothing is written and `F bytes e` holds of the bytes of the
--- input, or e is a failed read, or e is a failed write and a prefix of some `out` with `P bytes out` is written
+-- `StopsText P F known w0 w1 e`: the run fails with `e`. Nothing is written and `F bytes e` holds of the bytes of the
+-- input, or `e` is a failed read, or `e` is a failed write and a prefix of some `out` with `P bytes out` is written
 abbrev pub StopsText : (List ℕ → Text → Type 0) → (List ℕ → Failure → Type 0) → Option (List ℕ) → Option (List ℕ) → Option (List ℕ) → Failure → Type 0
 StopsText P F known w0 w1 Write = ForInput known (λ bytes. (out : Text) × P bytes out × AppendsPrefix w0 w1 out)
 StopsText P F known w0 w1 Read = Keeps w0 w1

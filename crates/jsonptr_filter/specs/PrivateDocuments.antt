@@ -3,7 +3,7 @@ use Rattle.std.specs.Prelude.{⊤}
 use Rattle.jsonptr_filter.specs.declared.failure.Failure.{Failure}
 use Rattle.jsonptr_filter.specs.declared.failure.Failure.TheVariants.{Memory, Read}
 
--- `IsReadFailure e`: e is a failed read or a failed allocation
+-- `IsReadFailure e`: `e` is a failed read or a failed allocation
 abbrev pub IsReadFailure : Failure → Type 0
 IsReadFailure (Memory f) = ⊤
 IsReadFailure Read = ⊤

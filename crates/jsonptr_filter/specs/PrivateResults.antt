@@ -17,23 +17,23 @@ use Rattle.jsonptr_filter.specs.declared.failure.Failure.TheVariants.{NotPatch, 
 use Rattle.jsonptr_filter.specs.declared.layout.Layout.{Layout}
 use Rattle.jsonptr_filter.specs.declared.layout.Layout.TheVariants.{Kept}
 
--- `Remakes P layout out`: `out` is the document of a text that meets P, in this layout
+-- `Remakes P layout out`: `out` is the document of a text that meets `P`, in this layout
 abbrev pub Remakes : (Text → Type 0) → Layout → Text → Type 0
 Remakes P layout out = (new : Text) × P new × Restyles layout new out
 
--- `IsRestyleError text e`: e is why the document of `text` is not printed, if it is not for memory
+-- `IsRestyleError text e`: `e` is why the document of `text` is not printed, if it is not for memory
 abbrev pub IsRestyleError : Text → Failure → Type 0
 IsRestyleError text NotJson = read text ≡ None
 IsRestyleError text (Memory f) = ⊤
 IsRestyleError text e = ⊥
 
--- `IsNotPatch patch e`: e is why the document `patch` is not read as a patch, if it is not for memory
+-- `IsNotPatch patch e`: `e` is why the document `patch` is not read as a patch, if it is not for memory
 abbrev pub IsNotPatch : Data → Failure → Type 0
 IsNotPatch patch (NotPatch f) = IsNoPatch patch f
 IsNotPatch patch (Memory f) = ⊤
 IsNotPatch patch e = ⊥
 
--- `FailsToApply text os layout e`: e is why the operations os are not applied, if it is not for memory. With `NotInPlace` they
+-- `FailsToApply text os layout e`: `e` is why the operations `os` are not applied, if it is not for memory. With `NotInPlace` they
 -- apply, but not in place
 abbrev pub FailsToApply : Text → List Operation → Layout → Failure → Type 0
 FailsToApply text os layout NotJson = read text ≡ None
@@ -43,7 +43,7 @@ FailsToApply text os layout NotInPlace = (layout ≡ Kept) × ((new : Text) × P
 FailsToApply text os layout (Memory f) = ⊤
 FailsToApply text os layout e = ⊥
 
--- `IsPatchTextFault os e`: e is why the patch document of the operations os is not printed, if it is not for memory
+-- `IsPatchTextFault os e`: `e` is why the patch document of the operations `os` is not printed, if it is not for memory
 abbrev pub IsPatchTextFault : List Operation → Failure → Type 0
 IsPatchTextFault os PatchTooDeep = max_depth < depth (document_of os)
 IsPatchTextFault os (Memory f) = ⊤

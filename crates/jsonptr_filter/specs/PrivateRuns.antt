@@ -20,7 +20,7 @@ abbrev pub ended_as : Bool → Ended
 ended_as true = Fine
 ended_as false = Faults
 
--- `IsTurn run n r0 r1 w0 w1 e0 e1 t`: the next line, with the number n, is read, and what it gives is written
+-- `IsTurn run n r0 r1 w0 w1 e0 e1 t`: the next line, with the number `n`, is read, and what it gives is written
 abbrev pub IsTurn : LineTask → ℕ → Known → Known → Known → Known → Known → Known → Turn → Type 0
 IsTurn run n r0 r1 w0 w1 e0 e1 (Line fine) =
     (l : Text) × IsNextLine r0 r1 l Break × IsPut run n l w0 w1 e0 e1 fine
@@ -28,7 +28,7 @@ IsTurn run n r0 r1 w0 w1 e0 e1 (LastLine fine) =
     (l : Text) × IsNextLine r0 r1 l Input × IsPut run n l w0 w1 e0 e1 fine
 IsTurn run n r0 r1 w0 w1 e0 e1 NoLine = IsAtEnd r0 × Keeps w0 w1 × Keeps e0 e1
 
--- `StopsTurn run n r0 r1 w0 w1 e0 e1 e`: the turn fails with e. Nothing is written, or a part of what the next line gives
+-- `StopsTurn run n r0 r1 w0 w1 e0 e1 e`: the turn fails with `e`. Nothing is written, or a part of what the next line gives
 abbrev pub StopsTurn : LineTask → ℕ → Known → Known → Known → Known → Known → Known → Failure → Type 0
 StopsTurn run n r0 r1 w0 w1 e0 e1 e =
     StopsRun e
@@ -39,7 +39,7 @@ StopsTurn run n r0 r1 w0 w1 e0 e1 e =
     × AppendsPrefix w0 w1 out
     × AppendsPrefix e0 e1 err))
 
--- `Progress run n fine r0 r w0 w e0 e`: what is known before the line with the number n is read. `fine` says that no line
+-- `Progress run n fine r0 r w0 w e0 e`: what is known before the line with the number `n` is read. `fine` says that no line
 -- was at fault
 pub record Progress (run : LineTask) (n : ℕ) (fine : Bool) (r0 r w0 w e0 e : Known) : Type 0 where
   pub lines : List Text

@@ -32,8 +32,8 @@ Restyles Compact text out = (d : Data) × (read text ≡ Some d) × Shows Compac
 Restyles Pretty text out = (d : Data) × (read text ≡ Some d) × Shows Pretty d out
 Restyles Raw text out = (d : Data) × (read text ≡ Some d) × Shows Raw d out
 
--- `Finds text ts fallback v`: v is the value that the tokens identify in the document of `text`. If they identify none,
--- v is the value in `fallback`
+-- `Finds text ts fallback v`: `v` is the value that the tokens identify in the document of `text`. If they identify none,
+-- `v` is the value in `fallback`
 abbrev pub Finds : Text → List Text → Option Value → Data → Type 0
 Finds text ts fallback v =
     FindsInText text ts v
@@ -43,7 +43,7 @@ Finds text ts fallback v =
 abbrev pub Gets : Text → List Text → Option Value → Layout → Text → Type 0
 Gets text ts fallback layout out = (v : Data) × Finds text ts fallback v × Shows layout v out
 
--- `Sets text ts v layout out`: `out` is the document of `text` with v assigned at the tokens, in this layout. In the layout
+-- `Sets text ts v layout out`: `out` is the document of `text` with `v` assigned at the tokens, in this layout. In the layout
 -- `Kept` only the bytes of the assignment change, and a text of one line stays one line
 abbrev pub Sets : Text → List Text → Data → Layout → Text → Type 0
 Sets text ts v layout out =
@@ -72,14 +72,14 @@ Yields (Set p v) layout text out = Sets text (tokens p) (view v) layout out
 Yields (Delete p) layout text out = Deletes text (tokens p) layout out
 Yields (Patch d) layout text out = PatchesBy text (view d) layout out
 
--- `FailsToGet text ts fallback e`: e is why no value is found, if it is not for memory
+-- `FailsToGet text ts fallback e`: `e` is why no value is found, if it is not for memory
 abbrev pub FailsToGet : Text → List Text → Option Value → Failure → Type 0
 FailsToGet text ts fallback NotJson = read text ≡ None
 FailsToGet text ts fallback (NoValue f) = (fallback ≡ None) × RefusesInText text ts f
 FailsToGet text ts fallback (Memory f) = ⊤
 FailsToGet text ts fallback e = ⊥
 
--- `FailsToSet text ts v layout e`: e is why v is not assigned at the tokens, if it is not for memory. With `NotInPlace` the
+-- `FailsToSet text ts v layout e`: `e` is why `v` is not assigned at the tokens, if it is not for memory. With `NotInPlace` the
 -- assignment is possible, but not in place
 abbrev pub FailsToSet : Text → List Text → Data → Layout → Failure → Type 0
 FailsToSet text ts v layout NotJson = read text ≡ None
@@ -89,7 +89,7 @@ FailsToSet text ts v layout NotInPlace = (layout ≡ Kept) × ((new : Text) × A
 FailsToSet text ts v layout (Memory f) = ⊤
 FailsToSet text ts v layout e = ⊥
 
--- `FailsToDelete text ts layout e`: e is why nothing is deleted, if it is not for memory. With `NotInPlace` the deletion is
+-- `FailsToDelete text ts layout e`: `e` is why nothing is deleted, if it is not for memory. With `NotInPlace` the deletion is
 -- possible, but not in place
 abbrev pub FailsToDelete : Text → List Text → Layout → Failure → Type 0
 FailsToDelete text ts layout NotJson = read text ≡ None
@@ -98,7 +98,7 @@ FailsToDelete text ts layout NotInPlace = (layout ≡ Kept) × ((new : Text) × 
 FailsToDelete text ts layout (Memory f) = ⊤
 FailsToDelete text ts layout e = ⊥
 
--- `FailsToPatch text patch layout e`: e is why the patch is not applied, if it is not for memory. The document `patch` is read
+-- `FailsToPatch text patch layout e`: `e` is why the patch is not applied, if it is not for memory. The document `patch` is read
 -- first. With `NotInPlace` the operations apply, but not in place
 abbrev pub FailsToPatch : Text → Data → Layout → Failure → Type 0
 FailsToPatch text patch layout (NotPatch f) = IsNoPatch patch f
@@ -113,7 +113,7 @@ FailsToPatch text patch layout NotInPlace =
 FailsToPatch text patch layout (Memory f) = ⊤
 FailsToPatch text patch layout e = ⊥
 
--- `Fails task layout text e`: e is why the task has no result on `text`, if it is not for memory
+-- `Fails task layout text e`: `e` is why the task has no result on `text`, if it is not for memory
 abbrev pub Fails : Task → Layout → Text → Failure → Type 0
 Fails (Get p fallback) layout text e = FailsToGet text (tokens p) fallback e
 Fails (Set p v) layout text e = FailsToSet text (tokens p) (view v) layout e

@@ -31,7 +31,7 @@ IsRun run known w0 w1 e0 e1 ended =
     × Appends w0 w1 out
     × Appends e0 e1 err)
 
--- `StopsIn run known w0 w1 e0 e1 e`: the run fails with e. To both outputs a prefix is appended of what some first lines
+-- `StopsIn run known w0 w1 e0 e1 e`: the run fails with `e`. To both outputs a prefix is appended of what some first lines
 -- of the input give
 abbrev pub StopsIn : LineTask → Option (List ℕ) → Option (List ℕ) → Option (List ℕ) → Option (List ℕ) → Option (List ℕ) → Failure → Type 0
 StopsIn run known w0 w1 e0 e1 e =

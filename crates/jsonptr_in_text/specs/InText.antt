@@ -10,27 +10,27 @@ use Rattle.jsonptr.specs.declared.resolve.Error.{Error}
 use Rattle.jsonptr_in_text.specs.declared.resolve.InTextError.{InTextError}
 use Rattle.jsonptr_in_text.specs.declared.resolve.InTextError.TheVariants.{NotJson, Resolve, Memory}
 
--- `FindsInText text tokens v`: `serde_json` reads `text` as a document in which `tokens` identify the value v
+-- `FindsInText text tokens v`: `serde_json` reads `text` as a document in which `tokens` identify the value `v`
 abbrev pub FindsInText : Text → List Text → Data → Type 0
 FindsInText text tokens v = (d : Data) × (read text ≡ Some d) × FindsValue d tokens v
 
--- `RefusesInText text tokens e`: `serde_json` reads `text` as a document in which evaluating `tokens` fails with e
+-- `RefusesInText text tokens e`: `serde_json` reads `text` as a document in which evaluating `tokens` fails with `e`
 abbrev pub RefusesInText : Text → List Text → Error → Type 0
 RefusesInText text tokens e = (d : Data) × (read text ≡ Some d) × Refuses (nodes d) tokens e
 
--- `IsInTextError text tokens e`: e is why resolving `tokens` in `text` fails, if it is not for memory
+-- `IsInTextError text tokens e`: `e` is why resolving `tokens` in `text` fails, if it is not for memory
 abbrev pub IsInTextError : Text → List Text → InTextError → Type 0
 IsInTextError text tokens NotJson = read text ≡ None
 IsInTextError text tokens (Resolve e) = RefusesInText text tokens e
 IsInTextError text tokens (Memory e) = ⊤
 
--- the same for bytes, which are not JSON if they are not UTF-8
+-- `IsInSliceError bytes tokens e`: the same for `bytes`, which are not JSON if they are not UTF-8
 abbrev pub IsInSliceError : List ℕ → List Text → InTextError → Type 0
 IsInSliceError bytes tokens NotJson = IsUtf8 bytes → read bytes ≡ None
 IsInSliceError bytes tokens (Resolve e) = IsUtf8 bytes × RefusesInText bytes tokens e
 IsInSliceError bytes tokens (Memory e) = ⊤
 
--- `IsReadError text e`: e is why `text` is not read, if it is not for memory
+-- `IsReadError text e`: `e` is why `text` is not read, if it is not for memory
 abbrev pub IsReadError : Text → InTextError → Type 0
 IsReadError text NotJson = read text ≡ None
 IsReadError text (Resolve e) = ⊥

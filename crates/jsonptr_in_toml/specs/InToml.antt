@@ -16,7 +16,7 @@ use Rattle.jsonptr_paths.specs.declared.listing.Listed.{Listed}
 use Rattle.jsonptr_in_toml.specs.declared.error.InTomlError.{InTomlError}
 use Rattle.jsonptr_in_toml.specs.declared.error.InTomlError.TheVariants.{NotToml, DocumentTooDeep, NoValue, BadPlace, NotThere, TooDeep, NoText, Memory}
 
--- `ReadsAs text d`: the document that `text` contains is the table d, whose values nest at most 80 deep
+-- `ReadsAs text d`: the document that `text` contains is the table `d`, whose values nest at most 80 deep
 abbrev pub ReadsAs : Text → Data → Type 0
 ReadsAs text d = (ms : Members) × (parse_document text ≡ Some ms) × (d ≡ table ms) × (members_depth ms ≤ max_depth)
 
@@ -24,36 +24,36 @@ ReadsAs text d = (ms : Members) × (parse_document text ≡ Some ms) × (d ≡ t
 abbrev pub IsDeep : Text → Type 0
 IsDeep text = (ms : Members) × (parse_document text ≡ Some ms) × (max_depth < members_depth ms)
 
--- `PrintsAs d text`: d is a table, and `text` a document of it, which is read as d
+-- `PrintsAs d text`: `d` is a table, and `text` a document of it, which is read as `d`
 abbrev pub PrintsAs : Data → Text → Type 0
 PrintsAs d text = (ms : Members) × (d ≡ table ms) × IsDocumentText false ms text × ReadsAs text d
 
--- `HasDeepValues d`: d is a table whose values nest deeper than 80
+-- `HasDeepValues d`: `d` is a table whose values nest deeper than 80
 abbrev pub HasDeepValues : Data → Type 0
 HasDeepValues d = (ms : Members) × (d ≡ table ms) × (max_depth < members_depth ms)
 
--- `HasNoText d`: d is not a table, or has a date-time that TOML has no text for
+-- `HasNoText d`: `d` is not a table, or has a date-time that TOML has no text for
 abbrev pub HasNoText : Data → Type 0
 HasNoText d = (ms : Members) → d ≡ table ms → members_have_valid_dates ms ≡ false
 
--- `AssignsTo text ts v d2`: assigning v at the tokens turns the document of `text` into d2
+-- `AssignsTo text ts v d2`: assigning `v` at the tokens turns the document of `text` into `d2`
 abbrev pub AssignsTo : Text → List Text → Data → Data → Type 0
 AssignsTo text ts v d2 =
     (d : Data) × ReadsAs text d
     × ((replaced : Option NodeMap) × Assigns (nodes d) ts (nodes v) (nodes d2) replaced)
 
 -- `DeletesTo text ts d2`: the tokens identify a value in the document of `text`, and deleting it turns the document into
--- d2. Deleting the root leaves an empty table
+-- `d2`. Deleting the root leaves an empty table
 abbrev pub DeletesTo : Text → List Text → Data → Type 0
 DeletesTo text ts d2 =
     (d : Data) × ReadsAs text d
     × ((v : Data) × FindsValue d ts v) × Deletes (nodes d) ts (nodes (table no_members)) (nodes d2)
 
--- `FindsInToml text ts v`: the tokens identify the value v in the document of `text`
+-- `FindsInToml text ts v`: the tokens identify the value `v` in the document of `text`
 abbrev pub FindsInToml : Text → List Text → Data → Type 0
 FindsInToml text ts v = (d : Data) × ReadsAs text d × FindsValue d ts v
 
--- `AssignsInToml text ts v new`: assigning v at the tokens turns the document of `text` into that of `new`
+-- `AssignsInToml text ts v new`: assigning `v` at the tokens turns the document of `text` into that of `new`
 abbrev pub AssignsInToml : Text → List Text → Data → Text → Type 0
 AssignsInToml text ts v new = (d2 : Data) × AssignsTo text ts v d2 × PrintsAs d2 new
 
@@ -66,7 +66,7 @@ DeletesInToml text ts new = (d2 : Data) × DeletesTo text ts d2 × PrintsAs d2 n
 abbrev pub ListsInToml : Listed → Text → Text → Type 0
 ListsInToml which text out = (d : Data) × ReadsAs text d × Lists which d out
 
--- `FailsToFind text ts e`: e is why no value is found, if it is not for memory
+-- `FailsToFind text ts e`: `e` is why no value is found, if it is not for memory
 abbrev pub FailsToFind : Text → List Text → InTomlError → Type 0
 FailsToFind text ts NotToml = parse_document text ≡ None
 FailsToFind text ts DocumentTooDeep = IsDeep text
@@ -74,7 +74,7 @@ FailsToFind text ts (NoValue f) = (d : Data) × ReadsAs text d × Refuses (nodes
 FailsToFind text ts (Memory f) = ⊤
 FailsToFind text ts e = ⊥
 
--- `FailsToAssign text ts v e`: e is why v is not assigned at the tokens, if it is not for memory
+-- `FailsToAssign text ts v e`: `e` is why `v` is not assigned at the tokens, if it is not for memory
 abbrev pub FailsToAssign : Text → List Text → Data → InTomlError → Type 0
 FailsToAssign text ts v NotToml = parse_document text ≡ None
 FailsToAssign text ts v DocumentTooDeep = IsDeep text
@@ -87,7 +87,7 @@ FailsToAssign text ts v NoText = (d2 : Data) × AssignsTo text ts v d2 × HasNoT
 FailsToAssign text ts v (Memory f) = ⊤
 FailsToAssign text ts v e = ⊥
 
--- `FailsToDelete text ts e`: e is why nothing is deleted, if it is not for memory
+-- `FailsToDelete text ts e`: `e` is why nothing is deleted, if it is not for memory
 abbrev pub FailsToDelete : Text → List Text → InTomlError → Type 0
 FailsToDelete text ts NotToml = parse_document text ≡ None
 FailsToDelete text ts DocumentTooDeep = IsDeep text
@@ -97,7 +97,7 @@ FailsToDelete text ts NoText = (d2 : Data) × DeletesTo text ts d2 × HasNoText 
 FailsToDelete text ts (Memory f) = ⊤
 FailsToDelete text ts e = ⊥
 
--- `FailsToList text e`: e is why nothing is listed, if it is not for memory
+-- `FailsToList text e`: `e` is why nothing is listed, if it is not for memory
 abbrev pub FailsToList : Text → InTomlError → Type 0
 FailsToList text NotToml = parse_document text ≡ None
 FailsToList text DocumentTooDeep = IsDeep text

@@ -16,7 +16,7 @@ AreLines bytes (l ∷ ls) =
     × (((rest : List ℕ) × (bytes ≡ l ++ 10 ∷ rest) × AreLines rest ls)
     ⊎ ((bytes ≡ l) × (l ≢ []) × (ls ≡ [])))
 
--- `IsNextLine old new l ending`: the line l is read, and ends so. `old` and `new` are the bytes that are left before and
+-- `IsNextLine old new l ending`: the line `l` is read, and ends so. `old` and `new` are the bytes that are left before and
 -- after it, if they are known
 abbrev pub IsNextLine : Option (List ℕ) → Option (List ℕ) → List ℕ → Ending → Type 0
 IsNextLine old new l Break = IsOneLine l × Consumes old new (l ++ 10 ∷ [])

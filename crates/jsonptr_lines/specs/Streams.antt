@@ -2,7 +2,7 @@
 use Rattle.std.specs.Prelude.{ℕ, List, take, Option, Some, None}
 use Rattle.std.specs.Io.KnownBytes.{Appends, Consumes}
 
--- `ForInput known P`: P holds of the known bytes, or of some bytes if they are unknown
+-- `ForInput known P`: `P` holds of the known bytes, or of some bytes if they are unknown
 abbrev pub ForInput : Option (List ℕ) → (List ℕ → Type 0) → Type 0
 ForInput None P = (bytes : List ℕ) × P bytes
 ForInput (Some bytes) P = P bytes

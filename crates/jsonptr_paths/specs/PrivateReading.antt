@@ -12,11 +12,11 @@ use Rattle.jsonptr_paths.specs.declared.reading.LineError.{LineError}
 use Rattle.jsonptr_paths.specs.declared.reading.BuildError.{BuildError}
 use Rattle.jsonptr_paths.specs.declared.reading.BuildError.TheVariants.{Line, Memory}
 
--- `IsFirstLine s l rest`: l is the first line of s, and `rest` is after it
+-- `IsFirstLine s l rest`: `l` is the first line of `s`, and `rest` is after it
 abbrev pub IsFirstLine : Text → Text → Text → Type 0
 IsFirstLine s l rest = CutsAt 10 s l rest ⊎ (IsOneLine s × (l ≡ s) × (rest ≡ []))
 
--- `Progress text rest number m`: the first `number` lines of `text` turn `null` into m, and `rest` is after them
+-- `Progress text rest number m`: the first `number` lines of `text` turn `null` into `m`, and `rest` is after them
 pub record Progress (whole rest : Text) (number : ℕ) (m : NodeMap) : Type 0 where
   pub lines : List Text
   pub count : number ≡ length lines

@@ -13,24 +13,24 @@ use Rattle.jsonptr_paths.specs.declared.reading.LineError.TheVariants.{NoTab, No
 use Rattle.jsonptr_paths.specs.declared.reading.BuildError.{BuildError}
 use Rattle.jsonptr_paths.specs.declared.reading.BuildError.TheVariants.{Line, Memory}
 
--- `CutsAt c s front back`: `front` and `back` are the parts of s before and after its first byte c
+-- `CutsAt c s front back`: `front` and `back` are the parts of `s` before and after its first byte `c`
 abbrev pub CutsAt : ℕ → Text → Text → Text → Type 0
 CutsAt c s front back = All (λ b. b ≢ c) front × (s ≡ front ++ c ∷ back)
 
--- `ReadsField field ts`: `field` is the pointer with the tokens ts, or a JSON string of it
+-- `ReadsField field ts`: `field` is the pointer with the tokens `ts`, or a JSON string of it
 abbrev pub ReadsField : Text → List Text → Type 0
 ReadsField field ts = (field ≡ text ts) ⊎ (read field ≡ Some (string (text ts)))
 
--- `ReadsLine line ts v`: `line` is a pointer with the tokens ts, a tab, and a JSON text of the value v
+-- `ReadsLine line ts v`: `line` is a pointer with the tokens `ts`, a tab, and a JSON text of the value `v`
 abbrev pub ReadsLine : Text → List Text → Data → Type 0
 ReadsLine line ts v =
     (field json : Text) × CutsAt 9 line field json × ReadsField field ts × (read json ≡ Some v)
 
--- `Fits ts v`: the value v, at a pointer with the tokens ts, nests no deeper in its document than a text that is read
+-- `Fits ts v`: the value `v`, at a pointer with the tokens `ts`, nests no deeper in its document than a text that is read
 abbrev pub Fits : List Text → Data → Type 0
 Fits ts v = length ts + depth v ≤ max_depth
 
--- `AssignsLine n line m`: assigning the value of `line` at its pointer, where it fits, turns the map n into m
+-- `AssignsLine n line m`: assigning the value of `line` at its pointer, where it fits, turns the map `n` into `m`
 abbrev pub AssignsLine : NodeMap → Text → NodeMap → Type 0
 AssignsLine n line m =
     (ts : List Text) × (v : Data) × (old : Option NodeMap)
@@ -38,16 +38,16 @@ AssignsLine n line m =
     × Fits ts v
     × Assigns n ts (nodes v) m old
 
--- `AssignsLines n lines m`: assigning the values of `lines`, in order, turns the map n into m
+-- `AssignsLines n lines m`: assigning the values of `lines`, in order, turns the map `n` into `m`
 abbrev pub AssignsLines : NodeMap → List Text → NodeMap → Type 0
 AssignsLines n [] m = m ≡ n
 AssignsLines n (l ∷ ls) m = (k : NodeMap) × AssignsLine n l k × AssignsLines k ls m
 
--- `Builds text m`: assigning the values of the lines of `text`, in order, turns `null` into m
+-- `Builds text m`: assigning the values of the lines of `text`, in order, turns `null` into `m`
 abbrev pub Builds : Text → NodeMap → Type 0
 Builds text m = (ls : List Text) × AreLines text ls × AssignsLines (nodes null) ls m
 
--- `IsLineError n line e`: e is the first reason why `line` adds no value to the map n
+-- `IsLineError n line e`: `e` is the first reason why `line` adds no value to the map `n`
 abbrev pub IsLineError : NodeMap → Text → LineError → Type 0
 IsLineError n line NoTab = All (λ b. b ≢ 9) line
 IsLineError n line NotPointer =
@@ -58,7 +58,7 @@ IsLineError n line TooDeep = (ts : List Text) × (v : Data) × ReadsLine line ts
 IsLineError n line (BadPlace e) =
     (ts : List Text) × (v : Data) × ReadsLine line ts v × Fits ts v × RefusesAssign n ts e
 
--- `StopsBuilding text e`: e is why the lines of `text` build no document, if it is not for memory. The line with this
+-- `StopsBuilding text e`: `e` is why the lines of `text` build no document, if it is not for memory. The line with this
 -- number, from 1, adds no value after those before it
 abbrev pub StopsBuilding : Text → BuildError → Type 0
 StopsBuilding text (Line number e) =

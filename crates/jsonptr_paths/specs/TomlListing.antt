@@ -12,7 +12,7 @@ use Rattle.jsonptr_paths.specs.Listing.{IsField}
 use Rattle.jsonptr_paths.specs.declared.listing.Listed.{Listed}
 use Rattle.jsonptr_paths.specs.declared.listing.Listed.TheVariants as listed
 
--- `emptied v`: v without its elements or members. A scalar stays as it is
+-- `emptied v`: `v` without its elements or members. A scalar stays as it is
 abbrev pub emptied : Data → Data
 emptied (string s) = string s
 emptied (integer z) = integer z
@@ -22,30 +22,30 @@ emptied (datetime dt) = datetime dt
 emptied (array ds) = array no_items
 emptied (table ms) = table no_members
 
--- `IsLeaf v`: v is a scalar, an empty array or an empty table
+-- `IsLeaf v`: `v` is a scalar, an empty array or an empty table
 abbrev pub IsLeaf : Data → Type 0
 IsLeaf v = emptied v ≡ v
 
--- `IsShort v t`: t is the TOML text of v without its elements or members. A string whose TOML text contains a line feed
+-- `IsShort v t`: `t` is the TOML text of `v` without its elements or members. A string whose TOML text contains a line feed
 -- is a JSON string
 abbrev pub IsShort : Data → Text → Type 0
 IsShort (string s) t =
     (IsOneLine (string_text s) × (t ≡ string_text s)) ⊎ ((IsOneLine (string_text s) → ⊥) × (t ≡ quoted s))
 IsShort v t = IsValueText false (emptied v) t
 
--- `IsLineOf p v line`: `line` is the line of the node v at the pointer with the text p: the pointer, a tab, the value
+-- `IsLineOf p v line`: `line` is the line of the node `v` at the pointer with the text `p`: the pointer, a tab, the value
 -- without its elements or members, and a line feed
 abbrev pub IsLineOf : Text → Data → Text → Type 0
 IsLineOf p v line =
     (field short : Text) × IsField p field × IsShort v short × (line ≡ field ++ 9 ∷ (short ++ 10 ∷ []))
 
--- `IsShown which p v out`: `out` is printed for the node v at the pointer with the text p. If leaves alone are listed,
+-- `IsShown which p v out`: `out` is printed for the node `v` at the pointer with the text `p`. If leaves alone are listed,
 -- nothing is printed for any other node
 abbrev pub IsShown : Listed → Text → Data → Text → Type 0
 IsShown listed.AllNodes p v out = IsLineOf p v out
 IsShown listed.Leaves p v out = (IsLeaf v × IsLineOf p v out) ⊎ ((IsLeaf v → ⊥) × (out ≡ []))
 
--- `AreShown which d lists out`: `out` is printed for the nodes of d that the lists of tokens name, in this order
+-- `AreShown which d lists out`: `out` is printed for the nodes of `d` that the lists of tokens name, in this order
 abbrev pub AreShown : Listed → Data → List (List Text) → Text → Type 0
 AreShown which d [] out = out ≡ []
 AreShown which d (ts ∷ lists) out =
@@ -55,6 +55,6 @@ AreShown which d (ts ∷ lists) out =
     × AreShown which d lists more
     × (out ≡ one ++ more)
 
--- `Lists which d out`: `out` lists the nodes of d, or its leaves: a line for each, once, in document order
+-- `Lists which d out`: `out` lists the nodes of `d`, or its leaves: a line for each, once, in document order
 abbrev pub Lists : Listed → Data → Text → Type 0
 Lists which d out = (lists : List (List Text)) × IsWalk (nodes d) lists × AreShown which d lists out

@@ -5,7 +5,7 @@ use Rattle.json.specs.Json.{items, members, value, parse_map}
 use Rattle.serde_json.specs.Data.{Data, null, boolean, number, string, Items, item, Members, no_members}
 use Rattle.serde_json.specs.Read.{number_of, of_items, of_members, converted}
 
--- `scalar_of t`: the value that the token t is on its own, if it is one
+-- `scalar_of t`: the value that the token `t` is on its own, if it is one
 abbrev pub scalar_of : Token → Option Data
 scalar_of Token.begin_object = None
 scalar_of Token.end_object = None
@@ -18,7 +18,7 @@ scalar_of (Token.boolean b) = Some (boolean b)
 scalar_of Token.null = Some null
 scalar_of Token.bad = None
 
--- `with_items_before ds es` is the items ds and then es
+-- `with_items_before ds es` is the items `ds` and then `es`
 abbrev pub with_items_before : List Data → Items → Items
 with_items_before [] es = es
 with_items_before (d ∷ ds) es = item d (with_items_before ds es)

@@ -5,7 +5,7 @@ use Rattle.json.specs.Json.{items, members, value}
 use Rattle.serde_json.specs.Data.{Data, Items, Members, no_members}
 use Rattle.serde_json.specs.Read.{of_json, of_items, of_members, converted}
 
--- `Reads depth old d new`: the tokens `old` are those of the value d, which nests at most `depth` deep, and then `new`
+-- `Reads depth old d new`: the tokens `old` are those of the value `d`, which nests at most `depth` deep, and then `new`
 abbrev pub Reads : ℕ → List Token → Data → List Token → Type 0
 Reads depth old d new = converted of_json (value depth old) ≡ Some (d, new)
 
@@ -13,16 +13,18 @@ Reads depth old d new = converted of_json (value depth old) ≡ Some (d, new)
 abbrev pub Unreadable : ℕ → List Token → Type 0
 Unreadable depth old = converted of_json (value depth old) ≡ None
 
--- the same for the rest of an array, with its closing bracket
+-- `ReadsItems depth old ds new`: the same for the rest of an array, with its closing bracket
 abbrev pub ReadsItems : ℕ → List Token → Items → List Token → Type 0
 ReadsItems depth old ds new = converted of_items (items (value depth) (length old) old) ≡ Some (ds, new)
 
+-- `UnreadableItems depth old`: the tokens `old` begin with no such rest
 abbrev pub UnreadableItems : ℕ → List Token → Type 0
 UnreadableItems depth old = converted of_items (items (value depth) (length old) old) ≡ None
 
--- the same for the rest of an object, with its closing bracket
+-- `ReadsMembers depth old ms new`: the same for the rest of an object, with its closing bracket
 abbrev pub ReadsMembers : ℕ → List Token → Members → List Token → Type 0
 ReadsMembers depth old ms new = converted (λ es. of_members es no_members) (members (value depth) (length old) old) ≡ Some (ms, new)
 
+-- `UnreadableMembers depth old`: the tokens `old` begin with no such rest
 abbrev pub UnreadableMembers : ℕ → List Token → Type 0
 UnreadableMembers depth old = converted (λ es. of_members es no_members) (members (value depth) (length old) old) ≡ None

@@ -4,13 +4,13 @@ use Rattle.serde_json.specs.Data.{Data, string}
 use Rattle.serde_json.specs.Read.{read}
 use Rattle.jsonptr_splice.specs.Spacing.{IsBlank, IsSpaced, IsTrimmed}
 
--- `IsValueText e t`: t is a text of the value e, without white space around it
+-- `IsValueText e t`: `t` is a text of the value `e`, without white space around it
 pub record IsValueText (e : Data) (t : List ℕ) : Type 0 where
   pub reads : read t ≡ Some e
   pub trimmed : IsTrimmed t
 
--- `IsMemberText k e t`: t is a text of a member: its name, which reads as the key k, a colon with white space around it,
--- and its value e
+-- `IsMemberText k e t`: `t` is a text of a member: its name, which reads as the key `k`, a colon with white space around it,
+-- and its value `e`
 pub record IsMemberText (k : List ℕ) (e : Data) (t : List ℕ) : Type 0 where
   pub name : List ℕ
   pub colon : List ℕ
@@ -20,7 +20,7 @@ pub record IsMemberText (k : List ℕ) (e : Data) (t : List ℕ) : Type 0 where
   pub spaced : IsSpaced 58 colon
   pub whole : IsValueText e value
 
--- `IsChildText k e t`: t is a text of a member with the key k, or of an element if there is no key, with the value e
+-- `IsChildText k e t`: `t` is a text of a member with the key `k`, or of an element if there is no key, with the value `e`
 abbrev pub IsChildText : Option (List ℕ) → Data → List ℕ → Type 0
 IsChildText None e t = IsValueText e t
 IsChildText (Some k) e t = IsMemberText k e t
@@ -30,7 +30,7 @@ abbrev pub HaveOneComma : List ℕ → List ℕ → Type 0
 HaveOneComma lead trail =
     (IsBlank lead × IsBlank trail) ⊎ ((IsSpaced 44 lead × IsBlank trail) ⊎ (IsBlank lead × IsSpaced 44 trail))
 
--- `IsOneChild k e t`: t is a text of one child with the value e, with at most one comma and white space beside it
+-- `IsOneChild k e t`: `t` is a text of one child with the value `e`, with at most one comma and white space beside it
 pub record IsOneChild (k : Option (List ℕ)) (e : Data) (t : List ℕ) : Type 0 where
   pub lead : List ℕ
   pub child : List ℕ
@@ -39,7 +39,7 @@ pub record IsOneChild (k : Option (List ℕ)) (e : Data) (t : List ℕ) : Type 0
   pub whole : IsChildText k e child
   pub beside : HaveOneComma lead trail
 
--- `IsReadAs given e`: the text reads as the value e, if one is given
+-- `IsReadAs given e`: the text reads as the value `e`, if one is given
 abbrev pub IsReadAs : Option (List ℕ) → Data → Type 0
 IsReadAs None e = ⊤
 IsReadAs (Some t) e = read t ≡ Some e

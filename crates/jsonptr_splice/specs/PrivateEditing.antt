@@ -10,12 +10,12 @@ use Rattle.jsonptr_skim.specs.Search.{Choice}
 use Rattle.jsonptr_splice.specs.declared.edit.Edit.{Edit}
 use Rattle.jsonptr_splice.specs.Editing.{OnlyMemberDiffers, InsertsMember, ChangesAt, Makes}
 
--- `ChangesIf wanted cs edit d d2`: d2 is d with the edit below the selectors cs if it is wanted, and d if not
+-- `ChangesIf wanted cs edit d d2`: `d2` is `d` with the edit below the selectors `cs` if it is wanted, and `d` if not
 abbrev pub ChangesIf : Bool → List Choice → Edit → Data → Data → Type 0
 ChangesIf true cs edit d d2 = ChangesAt cs (Makes edit) d d2
 ChangesIf false cs edit d d2 = d2 ≡ d
 
--- `AddsItemIf wanted value depth old d new`: d is the value of the text if it is wanted, and if not the next element of
+-- `AddsItemIf wanted value depth old d new`: `d` is the value of the text if it is wanted, and if not the next element of
 -- the tokens `old`
 abbrev pub AddsItemIf : Bool → List ℕ → ℕ → List Token → Data → List Token → Type 0
 AddsItemIf true value depth old d new = (read value ≡ Some d) × (new ≡ old)
@@ -29,7 +29,7 @@ AddsMemberIf false true value depth name old d new = new ≡ old
 AddsMemberIf false false value depth name old d new =
     (mid : List Token) × (read_key old ≡ Some (Some name, mid)) × Reads depth mid d new × (length new < length old)
 
--- `ItemDiffers i R ds ds2`: the elements ds and ds2 differ only at i, where R relates them
+-- `ItemDiffers i R ds ds2`: the elements `ds` and `ds2` differ only at `i`, where `R` relates them
 pub record ItemDiffers (i : ℕ) (R : Data → Data → Type 0) (ds ds2 : List Data) : Type 0 where
   pub front : List Data
   pub back : List Data
@@ -40,17 +40,17 @@ pub record ItemDiffers (i : ℕ) (R : Data → Data → Type 0) (ds ds2 : List D
   pub new : ds2 ≡ front ++ at2 ∷ back
   pub changes : R at at2
 
--- `ItemsSo done i R ds ds2`: of the elements ds and ds2, which were read, one differs if done, and none if not
+-- `ItemsSo done i R ds ds2`: of the elements `ds` and `ds2`, which were read, one differs if done, and none if not
 abbrev pub ItemsSo : Bool → ℕ → (Data → Data → Type 0) → List Data → List Data → Type 0
 ItemsSo true i R ds ds2 = ItemDiffers i R ds ds2
 ItemsSo false i R ds ds2 = ds2 ≡ ds
 
--- `MembersSo done k R ms ms2`: the same of members, and of the key k
+-- `MembersSo done k R ms ms2`: the same of members, and of the key `k`
 abbrev pub MembersSo : Bool → List ℕ → (Data → Data → Type 0) → Members → Members → Type 0
 MembersSo true k R ms ms2 = (at at2 : Data) × OnlyMemberDiffers k at at2 ms ms2 × R at at2
 MembersSo false k R ms ms2 = ms2 ≡ ms
 
--- `ItemAdded i value ds ds2`: the elements ds2 are ds and, at i, the value of the text
+-- `ItemAdded i value ds ds2`: the elements `ds2` are `ds` and, at `i`, the value of the text
 pub record ItemAdded (i : ℕ) (value : List ℕ) (ds ds2 : List Data) : Type 0 where
   pub front : List Data
   pub back : List Data
@@ -60,13 +60,13 @@ pub record ItemAdded (i : ℕ) (value : List ℕ) (ds ds2 : List Data) : Type 0 
   pub new : ds2 ≡ front ++ e ∷ back
   pub reads : read value ≡ Some e
 
--- `ItemsAdded done i value ds ds2`: of the elements ds2, which were read, one is new if done, and none if not
+-- `ItemsAdded done i value ds ds2`: of the elements `ds2`, which were read, one is new if done, and none if not
 abbrev pub ItemsAdded : Bool → ℕ → List ℕ → List Data → List Data → Type 0
 ItemsAdded true i value ds ds2 = ItemAdded i value ds ds2
 ItemsAdded false i value ds ds2 = ds2 ≡ ds
 
--- `MembersAdded done k value ms ms2`: of the members ms2, which were read, the last with the key k is new if done. If not,
--- those with the key k are to be replaced, and the others are ms
+-- `MembersAdded done k value ms ms2`: of the members `ms2`, which were read, the last with the key `k` is new if done. If not,
+-- those with the key `k` are to be replaced, and the others are `ms`
 abbrev pub MembersAdded : Bool → List ℕ → List ℕ → Members → Members → Type 0
 MembersAdded true k value ms ms2 = (e : Data) × (read value ≡ Some e) × InsertsMember k e ms ms2
 MembersAdded false k value ms ms2 =

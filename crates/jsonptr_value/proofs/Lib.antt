@@ -4,5 +4,6 @@ pub mod NestingLemmas
 pub mod LevelLemmas
 pub mod LengthLemmas
 mod StackLemmas
+mod SameLemmas
 pub mod WritingLemmas
 mod PartialLemmas

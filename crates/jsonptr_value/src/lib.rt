@@ -1,5 +1,5 @@
-//! What is true of a JSON value without pointers: how deep it nests, and how to print, copy and drop
-//! one that nests deep.
+//! What is true of a JSON value without pointers: how deep it nests, how to print, copy and drop one
+//! that nests deep, and when two numbers are the same.
 //!
 //! `serde_json` prints, clones and drops a value by recursion, so a value that nests deep overflows
 //! the stack. Here only the first 32 levels are taken by recursion, and a loop takes those below.
@@ -14,6 +14,7 @@ mod json_nested;
 mod number;
 mod partial;
 mod print;
+mod same;
 mod toml_nested;
 mod tree;
 
@@ -21,3 +22,4 @@ pub use clone::copy;
 pub use depth::{MAX_DEPTH, depth_law, nests_within};
 pub use drop::{Nested, discard};
 pub use print::to_string;
+pub use same::{is_same_float, is_same_number};
