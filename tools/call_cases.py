@@ -1131,7 +1131,7 @@ def changed(old, new, *operations):
 
 
 def differences_of_objects():
-    """Differences of objects and of scalars, of equal documents, and of floats, which always differ."""
+    """Differences of objects and of scalars, of equal documents, and of floats, which are the same if their bits are."""
     minus, greatest = str(-(2**63)), str(USIZE_MAX)
     for document in ["true", "0", minus, greatest, '"text"', '{"a":[1,{"b":[null,"c"]},[]],"d":{}}', "[[1,2],[3,[4,5]],[[[]]]]"]:
         yield from changed(document, document)
@@ -1148,9 +1148,11 @@ def differences_of_objects():
         ("null", "{}", "replace  {}"), ("[]", "{}", "replace  {}"), ('"a"', '"b"', 'replace  "b"'),
         ("true", "false", "replace  false"), ("1", "true", "replace  true"), ("0", "false", "replace  false"),
         ("-1", "1", "replace  1"), ('"1"', "1", "replace  1"), (greatest, str(USIZE_MAX - 1), f"replace  {USIZE_MAX - 1}"),
-        ("1.5", "1.5", "replace  1.5"), ("1.5", "1", "replace  1"), ("1", "1.5", "replace  1.5"),
-        ('{"a":1.5,"b":1}', '{"a":1.5,"b":1}', "replace /a 1.5"), ("[1,2.5,3]", "[1,2.5,3]", "replace /1 2.5"),
-        ('[{"a":1,"x":0.5},{"a":2}]', '[{"a":1,"x":0.5},{"a":3}]', "replace /0/x 0.5", "replace /1/a 3"),
+        ("1.5", "1.5"), ("1.5", "1", "replace  1"), ("1", "1.5", "replace  1.5"), ("1", "1.0", "replace  1.0"),
+        ("0.0", "-0.0", "replace  -0.0"), ("0.1", "0.30000000000000004", "replace  0.30000000000000004"),
+        ('{"a":1.5,"b":1}', '{"a":1.5,"b":1}'), ('{"a":1.5,"b":1}', '{"a":1.25,"b":1}', "replace /a 1.25"),
+        ("[1,2.5,3]", "[1,2.5,3]"), ("[1,2.5,3]", "[1,2.5,0.5,3]", "add /2 0.5"),
+        ('[{"a":1,"x":0.5},{"a":2}]', '[{"a":1,"x":0.5},{"a":3}]', "replace /1/a 3"),
     ]:
         yield from changed(old, new, *operations)
 

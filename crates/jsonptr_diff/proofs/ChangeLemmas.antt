@@ -11,12 +11,11 @@ use Rattle.serde_json.specs.Find.{as_array, as_object}
 use Rattle.serde_json.specs.View.{view}
 use Rattle.serde_json.specs.declared.value.Value.{Value, Array, Object}
 use Rattle.jsonptr_patch.specs.PrivateTesting.{Object as Object'}
-use Rattle.jsonptr_patch.specs.Testing.{HasFloat}
 use Rattle.jsonptr_patch.proofs.TestingLemmas.{object_label, array_label}
 use Rattle.jsonptr_patch.specs.declared.operation.Operation.{Operation}
 use Rattle.jsonptr_patch.specs.declared.operation.Operation.TheVariants.{Add, Remove, Replace, Move, Copy, Test}
-use Rattle.jsonptr_diff.specs.Differing.{HaveNoDifference, keys, DifferAlong, AreOfOneKind, IsChange}
-use Rattle.jsonptr_diff.specs.PrivateDiff.{AppendsReplace, AppendsRemove, AppendsAdd, Appends, IsChangeBelow, AppendsChanges, IsBelow, IsPartBelow, AppendsParts, IsArray}
+use Rattle.jsonptr_diff.specs.Differing.{keys, DifferAlong, AreOfOneKind, IsChange}
+use Rattle.jsonptr_diff.specs.PrivateDiff.{AppendsReplace, AppendsRemove, AppendsAdd, Appends, IsChangeBelow, AppendsChanges, IsPartBelow, AppendsParts, IsArray}
 use Rattle.jsonptr_diff.specs.PrivateSame.{IsSame}
 use Rattle.jsonptr_diff.proofs.SameLemmas.{twin_same, twin_made}
 use Rattle.jsonptr_diff.proofs.TurningLemmas.{all_push}
@@ -66,34 +65,28 @@ keys-append (x ∷ xs) ys = ap (λ p. key x ∷ p) (keys-append xs ys)
 differ_at : (c d : NodeMap) (ts : List Text) → (c (keys ts) ≡ d (keys ts) → ⊥) → DifferAlong c d ts
 differ_at c d ts apart = λ front rest is some none.
     let way : keys ts ≡ keys front ++ keys rest = ap keys is ∙ keys-append front rest in
-    apart (ap c way ∙ ap (λ (n : NodeMap). n (keys rest)) none.0 ∙ sym (ap d way))
+    apart (ap c way ∙ ap (λ (n : NodeMap). n (keys rest)) none ∙ sym (ap d way))
 
 -- the values themselves differ
-differ_here : (c d : NodeMap) → (HaveNoDifference c d → ⊥) → DifferAlong c d []
+differ_here : (c d : NodeMap) → (c ≡ d → ⊥) → DifferAlong c d []
 differ_here c d apart = by_front
   where
-    by_front : (front rest : List Text) → [] ≡ front ++ rest → IsSome (c (keys front)) → HaveNoDifference (sub c (keys front)) (sub d (keys front)) → ⊥
+    by_front : (front rest : List Text) → [] ≡ front ++ rest → IsSome (c (keys front)) → sub c (keys front) ≡ sub d (keys front) → ⊥
     by_front [] rest is some none = apart none
     by_front (x ∷ xs) rest is some none = let bad : ⊥ = cc in bad
-
-float_below : (c v : NodeMap) (k : Text) → sub c (key k ∷ []) ≡ v → HasFloat v → HasFloat c
-float_below c v k at f = (key k ∷ f.0, f.1, ap (λ (n : NodeMap). n f.0) at ∙ f.2)
 
 -- values of members differ
 differ_under : (c d v w : NodeMap) (k : Text) (ts : List Text) → sub c (key k ∷ []) ≡ v → sub d (key k ∷ []) ≡ w → IsSome (v []) → DifferAlong v w ts → DifferAlong c d (k ∷ ts)
 differ_under c d v w k ts first second there h = by_front
   where
-    by_front : (front rest : List Text) → k ∷ ts ≡ front ++ rest → IsSome (c (keys front)) → HaveNoDifference (sub c (keys front)) (sub d (keys front)) → ⊥
-    by_front [] rest is some none = h [] ts refl there (
-      sym first ∙ ap (λ (n : NodeMap). sub n (key k ∷ [])) none.0 ∙ second,
-      λ f. none.1 (float_below c v k first f),
-    )
+    by_front : (front rest : List Text) → k ∷ ts ≡ front ++ rest → IsSome (c (keys front)) → sub c (keys front) ≡ sub d (keys front) → ⊥
+    by_front [] rest is some none = h [] ts refl there (sym first ∙ ap (λ (n : NodeMap). sub n (key k ∷ [])) none ∙ second)
     by_front (x ∷ xs) rest is some none =
         let same = cons_same k x ts (xs ++ rest) is in
         let some_of : IsSome (c (key k ∷ keys xs)) = subst (λ (y : Text). IsSome (c (key y ∷ keys xs))) (sym same.0) some in
-        let none_of : HaveNoDifference (sub c (key k ∷ keys xs)) (sub d (key k ∷ keys xs)) = subst (λ (y : Text). HaveNoDifference (sub c (key y ∷ keys xs)) (sub d (key y ∷ keys xs))) (sym same.0) none in
+        let none_of : sub c (key k ∷ keys xs) ≡ sub d (key k ∷ keys xs) = subst (λ (y : Text). sub c (key y ∷ keys xs) ≡ sub d (key y ∷ keys xs)) (sym same.0) none in
         h xs rest same.1 (subst (λ (n : NodeMap). IsSome (n (keys xs))) first some_of)
-        (subst (λ (n : NodeMap). HaveNoDifference (sub n (keys xs)) (sub w (keys xs))) first (subst (λ (n : NodeMap). HaveNoDifference (sub (sub c (key k ∷ [])) (keys xs)) (sub n (keys xs))) second none_of))
+        (subst (λ (n : NodeMap). sub n (keys xs) ≡ sub w (keys xs)) first (subst (λ (n : NodeMap). sub (sub c (key k ∷ [])) (keys xs) ≡ sub n (keys xs)) second none_of))
 
 -- ---- changes of a member
 
@@ -133,7 +126,7 @@ changes_add base c d k e before after none some h = appends_one (IsChangeBelow b
     (k ∷ [], h.at, (differ_at c d (k ∷ []) (λ same. some_none (d (key k ∷ [])) some (sym same ∙ none)), none))
 
 -- a value is replaced
-pub changes_replace : (base : List Text) (c : NodeMap) (d : Data) (before after : List Operation) → (HaveNoDifference c (nodes d) → ⊥) → (AreOfOneKind (c []) (nodes d []) → ⊥) → AppendsReplace before after base d → AppendsChanges base c (nodes d) before after
+pub changes_replace : (base : List Text) (c : NodeMap) (d : Data) (before after : List Operation) → (c ≡ nodes d → ⊥) → (AreOfOneKind (c []) (nodes d []) → ⊥) → AppendsReplace before after base d → AppendsChanges base c (nodes d) before after
 changes_replace base c d before after apart other h = appends_one (IsChangeBelow base c (nodes d)) before after (Replace h.path h.value) h.appended
     ([], h.at ∙ sym (append-nil base), (differ_here c (nodes d) apart, other))
 
@@ -162,14 +155,14 @@ pub parts_add : (base : List Text) (x : Text) (e : Data) (before after : List Op
 parts_add base x e before after h = appends_one (IsPartBelow base) before after (Add h.path h.value) h.appended (x, [], h.at)
 
 -- no value of a document is under a key of an array
-differ_inside : (c d : NodeMap) (x : Text) (rest : List Text) → ((k : Text) (p : Path) → c (key k ∷ p) ≡ None) → (HaveNoDifference c d → ⊥) → DifferAlong c d (x ∷ rest)
+differ_inside : (c d : NodeMap) (x : Text) (rest : List Text) → ((k : Text) (p : Path) → c (key k ∷ p) ≡ None) → (c ≡ d → ⊥) → DifferAlong c d (x ∷ rest)
 differ_inside c d x rest none apart = by_front
   where
-    by_front : (front more : List Text) → x ∷ rest ≡ front ++ more → IsSome (c (keys front)) → HaveNoDifference (sub c (keys front)) (sub d (keys front)) → ⊥
+    by_front : (front more : List Text) → x ∷ rest ≡ front ++ more → IsSome (c (keys front)) → sub c (keys front) ≡ sub d (keys front) → ⊥
     by_front [] more is some same = apart same
     by_front (y ∷ ys) more is some same = some_none (c (key y ∷ keys ys)) some (none y (keys ys))
 
-part_change : (base : List Text) (c d : NodeMap) → ((k : Text) (p : Path) → c (key k ∷ p) ≡ None) → ((k : Text) (p : Path) → d (key k ∷ p) ≡ None) → (HaveNoDifference c d → ⊥) → (o : Operation) → IsPartBelow base o → IsChangeBelow base c d o
+part_change : (base : List Text) (c d : NodeMap) → ((k : Text) (p : Path) → c (key k ∷ p) ≡ None) → ((k : Text) (p : Path) → d (key k ∷ p) ≡ None) → (c ≡ d → ⊥) → (o : Operation) → IsPartBelow base o → IsChangeBelow base c d o
 part_change base c d first second apart (Add path value) h = (h.0 ∷ h.1, h.2, (differ_inside c d h.0 h.1 first apart, first h.0 (keys h.1)))
 part_change base c d first second apart (Remove path) h = (h.0 ∷ h.1, h.2, (differ_inside c d h.0 h.1 first apart, second h.0 (keys h.1)))
 part_change base c d first second apart (Replace path value) h = (
@@ -187,14 +180,14 @@ part_change base c d first second apart (Copy from path) h = absurd h
 part_change base c d first second apart (Test path value) h = absurd h
 
 -- where arrays that are the same append nothing
-pub parts_changes : (base : List Text) (c d : NodeMap) (len other : ℕ) (before after : List Operation) → IsArray c len → IsArray d other → (HaveNoDifference c d → after ≡ before) → AppendsParts base before after → AppendsChanges base c d before after
+pub parts_changes : (base : List Text) (c d : NodeMap) (len other : ℕ) (before after : List Operation) → IsArray c len → IsArray d other → (c ≡ d → after ≡ before) → AppendsParts base before after → AppendsChanges base c d before after
 parts_changes base c d len other before after one two kept h = record {
   further = h.further;
   appended = h.appended;
   all = λ i x low. part_change base c d one.keys two.keys (apart i low) (get_or h.further i x) (h.all i x low);
 }
   where
-    apart : (i : ℕ) → i < length h.further → HaveNoDifference c d → ⊥
+    apart : (i : ℕ) → i < length h.further → c ≡ d → ⊥
     apart i low none =
         let lengths : length before + length h.further ≡ length before = sym (length-append before h.further) ∙ ap length (sym h.appended ∙ kept none) in
         omega (arith, low, lengths)
@@ -202,7 +195,7 @@ parts_changes base c d len other before after one two kept h = record {
 -- ---- what is the same
 
 -- values that are the same append nothing
-pub changes_kept : (base : List Text) (c d : NodeMap) (before after : List Operation) → IsSome (c []) → HaveNoDifference c d → AppendsChanges base c d before after → after ≡ before
+pub changes_kept : (base : List Text) (c d : NodeMap) (before after : List Operation) → IsSome (c []) → c ≡ d → AppendsChanges base c d before after → after ≡ before
 changes_kept base c d before after some none h = appends_kept (IsChangeBelow base c d) before after never h
   where
     never : (o : Operation) → IsChangeBelow base c d o → ⊥
@@ -265,9 +258,9 @@ leaf_kind v l no_object no_array =
 
 -- ---- values that are not the same
 
-pub not_same : (v w : Value) (b : Bool) → IsTrue b ↔ IsSame v w → b ≡ false → HaveNoDifference (nodes (view v)) (nodes (view w)) → ⊥
-not_same v w b h is none = true≢false (sym (h.1 (twin_made (nodes (view v)) (nodes (view w)) none.0 none.1)) ∙ is)
+pub not_same : (v w : Value) (b : Bool) → IsTrue b ↔ IsSame v w → b ≡ false → nodes (view v) ≡ nodes (view w) → ⊥
+not_same v w b h is none = true≢false (sym (h.1 (twin_made (nodes (view v)) (nodes (view w)) none)) ∙ is)
 
 -- the same values have no difference
-pub none_of_same : (v w : Value) → IsSame v w → HaveNoDifference (nodes (view v)) (nodes (view w))
-none_of_same v w h = (twin_same (nodes (view v)) (nodes (view w)) h, λ f. (h f.0).plain f.1 f.2)
+pub none_of_same : (v w : Value) → IsSame v w → nodes (view v) ≡ nodes (view w)
+none_of_same v w h = twin_same (nodes (view v)) (nodes (view w)) h

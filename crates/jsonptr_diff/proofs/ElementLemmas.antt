@@ -24,7 +24,6 @@ use Rattle.jsonptr_patch.proofs.InsertingLemmas.{with_place-same, with_place-bel
 use Rattle.jsonptr_patch.proofs.TestingLemmas.{element_label, past_label, array_label, no_key_label, any_default}
 use Rattle.jsonptr_diff.specs.PrivateSame.{IsSame, SameSuffix, AreSameFrom}
 use Rattle.jsonptr_diff.specs.PrivateDiff.{AppendsRemove, AppendsAdd, AppendsChanges, AppendsParts, Turns, array_map, IsArray, IsSpliced, Splices}
-use Rattle.jsonptr_diff.specs.Differing.{HaveNoDifference}
 use Rattle.jsonptr_diff.specs.PrivateSame.{SameElements}
 use Rattle.jsonptr_diff.proofs.ChangeLemmas.{parts_changes}
 use Rattle.jsonptr_diff.proofs.SameLemmas.{twin_same, twin_made, elements_same}
@@ -262,7 +261,7 @@ suffix_more vs ws done a0 b0 x y is other e0 f0 same before j a b z h e f = ⊎_
 -- arrays that are the same append nothing
 pub elements_change : (v w : Vec Value Global) (base : List Text) (first last : List Operation) → (SameElements v.items w.items → last ≡ first) → AppendsParts base first last → AppendsChanges base (array_map v) (array_map w) first last
 elements_change v w base first last kept h = parts_changes base (array_map v) (array_map w) (length v.items) (length w.items) first last (array_is_array v) (array_is_array w)
-    (λ (none : HaveNoDifference (array_map v) (array_map w)). kept ((elements_same v w).1 (twin_made (array_map v) (array_map w) none.0 none.1))) h
+    (λ (none : array_map v ≡ array_map w). kept ((elements_same v w).1 (twin_made (array_map v) (array_map w) none))) h
 
 -- arrays, as values
 pub arrays_change : (v w : Value) (a b : Vec Value Global) (first last : List Operation) (base : List Text) → v ≡ Array a → Some (items_view b.items) ≡ as_array (view w) → AppendsChanges base (array_map a) (array_map b) first last → AppendsChanges base (nodes (view v)) (nodes (view w)) first last

@@ -1,14 +1,9 @@
--- When two documents have no difference, and which operations a difference consists of.
+-- Which operations the difference of two documents consists of.
 use Rattle.std.specs.Prelude.{◌≡◌, ℕ, ◌⊎◌, List, [], ◌∷◌, ◌++◌, Option, Some, None, IsSome}
 use Rattle.jsonptr.specs.Text.{Text}
 use Rattle.jsonptr.specs.Node.{key, Path, Label, an_object, an_array, NodeMap, sub}
-use Rattle.jsonptr_patch.specs.Testing.{HasFloat}
 use Rattle.jsonptr_patch.specs.declared.operation.Operation.{Operation}
 use Rattle.jsonptr_patch.specs.declared.operation.Operation.TheVariants.{Add, Remove, Replace}
-
--- `HaveNoDifference n m`: the two maps are the same, and contain no float. Floats are not compared.
-abbrev pub HaveNoDifference : NodeMap → NodeMap → Type 0
-HaveNoDifference n m = (n ≡ m) × (HasFloat n → ⊥)
 
 -- `keys ts`: the path on which each of the tokens `ts` is the key of a member
 abbrev pub keys : List Text → Path
@@ -19,7 +14,7 @@ keys (x ∷ xs) = key x ∷ keys xs
 abbrev pub DifferAlong : NodeMap → NodeMap → List Text → Type 0
 DifferAlong n m ts =
     (front rest : List Text) → ts ≡ front ++ rest → IsSome (n (keys front))
-    → HaveNoDifference (sub n (keys front)) (sub m (keys front)) → ⊥
+    → sub n (keys front) ≡ sub m (keys front) → ⊥
 
 -- `AreOfOneKind k l`: both labels are those of objects, or both are those of arrays
 abbrev pub AreOfOneKind : Option Label → Option Label → Type 0

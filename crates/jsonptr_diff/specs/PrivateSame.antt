@@ -1,31 +1,20 @@
 -- Which values are the same. Used only by private contracts; no public contract depends on this file.
-use Rattle.std.specs.Prelude.{◌≡◌, ℕ, ◌+◌, ◌<◌, ◌≤◌, false, Float, List, length, slice_index_or, Option, Some, None, ⊤}
+use Rattle.std.specs.Prelude.{◌≡◌, ℕ, ◌+◌, ◌<◌, ◌≤◌, List, length, slice_index_or, Option, Some, None, ⊤}
 use Rattle.std.specs.BTreeMap.{get_by_text}
-use Rattle.serde_json.specs.Data.{Num, number, float}
-use Rattle.serde_json.specs.Find.{is_float}
 use Rattle.serde_json.specs.View.{view}
 use Rattle.serde_json.specs.declared.value.Value.{Value}
 use Rattle.jsonptr.specs.Json.{nodes}
 use Rattle.jsonptr.specs.Text.{Text}
-use Rattle.jsonptr.specs.Node.{Path, of_json, Label, a_leaf, NodeMap}
+use Rattle.jsonptr.specs.Node.{Path, NodeMap}
 use Rattle.jsonptr_patch.specs.PrivateTesting.{Object}
 
--- `SameLabel l k`: both nodes have the same label, which is not that of a float, or neither exists.
-pub record SameLabel (l k : Option Label) : Type 0 where
-  pub same : l ≡ k
-  pub plain : (x : Float) → l ≡ Some (a_leaf (of_json (number (float x)))) → ⊥
-
--- `IsTwin n m`: the maps are the same and contain no float.
+-- `IsTwin n m`: the maps are the same, path by path.
 abbrev pub IsTwin : NodeMap → NodeMap → Type 0
-IsTwin n m = (w : Path) → SameLabel (n w) (m w)
+IsTwin n m = (w : Path) → n w ≡ m w
 
--- `IsSame v w`: the values have the same map, and contain no float.
+-- `IsSame v w`: the values have the same map.
 abbrev pub IsSame : Value → Value → Type 0
 IsSame v w = IsTwin (nodes (view v)) (nodes (view w))
-
--- `SameNumber n m`: both numbers are the same integer, stored in the same way.
-abbrev pub SameNumber : Num → Num → Type 0
-SameNumber n m = (n ≡ m) × (is_float n ≡ false)
 
 -- `SameElements vs ws`: there are as many elements in `vs` as in `ws`, and they are the same.
 abbrev pub SameElements : List Value → List Value → Type 0

@@ -6,7 +6,7 @@ ghost use Rattle.jsonptr.specs.Json.{nodes, HasSortedKeys};
 ghost use Rattle.jsonptr_patch.specs.Order.{OperationHasSortedKeys};
 ghost use Rattle.jsonptr_patch.specs.Patching.{Patches};
 ghost use Rattle.jsonptr_patch.specs.declared.operation.Operation.{Operation as an_operation};
-ghost use Rattle.jsonptr_diff.specs.Differing.{HaveNoDifference, AreOfOneKind, IsChange};
+ghost use Rattle.jsonptr_diff.specs.Differing.{AreOfOneKind, IsChange};
 ghost use Rattle.jsonptr_diff.specs.PrivateDiff.{tokens_of, Turns, AppendsChanges, AppendsParts, object_map, mixed, array_map, Splices};
 ghost use Rattle.jsonptr_diff.specs.PrivateSame.{AreSameFrom};
 
@@ -36,9 +36,8 @@ use std::alloc::{AllocError, Global};
 ///   left over are removed or inserted.
 /// - Anything else is replaced, unless it is the same.
 ///
-/// Floats are never compared. A float equals nothing, so it is replaced, and values that contain one
-/// are never the same. Documents that are the same and contain no float have an empty patch, and
-/// need no allocation.
+/// Two floats are the same if they have the same bits. So `0.0` and `-0.0` differ, and so do `1` and
+/// `1.0`. Documents that are the same have an empty patch, and need no allocation.
 ///
 /// If the keys of each object in `new` are in ascending order, as in parsed documents, those in the
 /// values of the operations are so as well.
@@ -73,9 +72,9 @@ pub fn diff(alloc: Global, old: &Value, new: &Value) -> Result<Vec<Operation>, A
         All (IsChange (nodes (view old.now)) (nodes (view new.now))) patch.items) }
     ensures sorted { IfOk result (λ patch.
         HasSortedKeys (view new.now) → All OperationHasSortedKeys patch.items) }
-    ensures empty { HaveNoDifference (nodes (view old.now)) (nodes (view new.now))
+    ensures empty { nodes (view old.now) ≡ nodes (view new.now)
         → IfOk result (λ patch. patch.items ≡ []) }
-    ensures no_memory { HaveNoDifference (nodes (view old.now)) (nodes (view new.now))
+    ensures no_memory { nodes (view old.now) ≡ nodes (view new.now)
         → IsOk result }
 {
     let mut patch = Vec::new(alloc);
@@ -90,8 +89,7 @@ pub fn diff(alloc: Global, old: &Value, new: &Value) -> Result<Vec<Operation>, A
 /// is.
 ///
 /// The document then has the node map of `new`. If the keys of each object are in ascending order in
-/// both, as in parsed documents, it is `new`. If both are the same and contain no float, nothing is
-/// allocated.
+/// both, as in parsed documents, it is `new`. If both are the same, nothing is allocated.
 ///
 /// # Examples
 ///
@@ -111,7 +109,7 @@ pub fn change(alloc: Global, doc: &mut Value, new: &Value) -> Result<(), AllocEr
         HasSortedKeys (view doc.old) → HasSortedKeys (view new.now)
         → view doc.new ≡ view new.now) }
     ensures unchanged { OnErr result (view doc.new ≡ view doc.old) }
-    ensures no_memory { HaveNoDifference (nodes (view doc.old)) (nodes (view new.now))
+    ensures no_memory { nodes (view doc.old) ≡ nodes (view new.now)
         → IsOk result }
 {
     difference_law();

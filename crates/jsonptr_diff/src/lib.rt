@@ -17,7 +17,8 @@
 //! - [`change`] turns a document into another one by these operations.
 //! - [`laws`] states what applying such a patch does.
 //!
-//! A float is never compared. It equals nothing, and is replaced.
+//! Two floats are the same if they have the same bits. So `0.0` and `-0.0` differ, and so do `1` and
+//! `1.0`.
 #![tactic(auto)]
 
 mod aligning;

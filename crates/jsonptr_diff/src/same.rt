@@ -1,12 +1,12 @@
-//! Whether two values are the same. A value with a float is the same as none.
-ghost use Rattle.std.specs.Prelude.{◌≡◌, ◌↔◌, IsTrue};
-ghost use Rattle.serde_json.specs.View.{number_view};
-ghost use Rattle.jsonptr_diff.specs.PrivateSame.{IsSame, SameNumber, SameElements, SameMembers, SameSuffix};
+//! Whether two values are the same, floats by their bits.
+ghost use Rattle.std.specs.Prelude.{◌↔◌, IsTrue};
+ghost use Rattle.jsonptr_diff.specs.PrivateSame.{IsSame, SameElements, SameMembers, SameSuffix};
 
 use crate::likeness::is_small;
-use serde_json::{Map, Number, Value};
+use jsonptr_value::is_same_number;
+use serde_json::{Map, Value};
 
-/// Returns whether the two values are the same and contain no float.
+/// Returns whether the two values are the same.
 #[cycle(same)]
 pub fn is_same(left: &Value, right: &Value) -> bool
     ensures { IsTrue result ↔ IsSame left.now right.now }
@@ -33,19 +33,6 @@ pub fn is_same(left: &Value, right: &Value) -> bool
             Some(others) => same_members(members, others),
             None => false,
         },
-    }
-}
-
-/// Returns whether the two numbers are the same integer, stored in the same way.
-fn is_same_number(left: &Number, right: &Number) -> bool
-    ensures { IsTrue result ↔ SameNumber (number_view left.now) (number_view right.now) }
-{
-    if left.is_u64() != right.is_u64() {
-        return false;
-    }
-    match (left.as_i128(), right.as_i128()) {
-        (Some(whole), Some(other)) => whole == other,
-        _ => false,
     }
 }
 

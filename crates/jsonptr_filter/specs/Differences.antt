@@ -6,7 +6,6 @@ use Rattle.jsonptr_tree.specs.Node.{NodeMap}
 use Rattle.jsonptr_patch.specs.Patching.{Patches}
 use Rattle.jsonptr_patch.specs.declared.operation.Operation.{Operation}
 use Rattle.jsonptr_patch_document.specs.Writing.{document_of}
-use Rattle.jsonptr_diff.specs.Differing.{HaveNoDifference}
 use Rattle.jsonptr_filter.specs.Layouts.{Shows}
 use Rattle.jsonptr_filter.specs.declared.difference.Difference.{Difference}
 use Rattle.jsonptr_filter.specs.declared.failure.Failure.{Failure}
@@ -29,6 +28,6 @@ FailsToDiffer n m PatchTooDeep = (os : List Operation) × Patches n os m × (max
 FailsToDiffer n m (Memory f) = ⊤
 FailsToDiffer n m e = ⊥
 
--- `IsNoneIfSame n m d`: if `n` and `m` have no difference, `d` has no operation
+-- `IsNoneIfSame n m d`: if `n` and `m` are the same, `d` has no operation
 abbrev pub IsNoneIfSame : NodeMap → NodeMap → Difference → Type 0
-IsNoneIfSame n m d = HaveNoDifference n m → d.is_empty ≡ true
+IsNoneIfSame n m d = n ≡ m → d.is_empty ≡ true

@@ -28,8 +28,7 @@ pub struct Difference {
 
 /// Returns the patch document that turns one document into the other.
 ///
-/// It has no operation if both are the same and contain no float. A float equals nothing, and is
-/// replaced.
+/// It has no operation if both are the same, floats by their bits.
 ///
 /// Its text reads as the patch document, so [`Task::Patch`](crate::task::Task::Patch) applies it to
 /// `old`, and the result is `new` ([`difference_law`](crate::laws::difference_law)).

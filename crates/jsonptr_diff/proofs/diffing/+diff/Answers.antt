@@ -225,14 +225,14 @@ follow_elements-returns-clause-splices t c = λ first left all s.
 pub diff_at-returns-in-None-clause-changes : goal.diff_at-returns-in-None-clause-changes
 diff_at-returns-in-None-clause-changes t c = ok_all c.replace.result _ _
     (λ replaced. changes_replace (tokens_of c.args.at.now) (nodes (view c.args.old.now)) (view c.args.new.now) c.args.patch.now.items c.replace.new.patch.items
-    (λ none. false≢true ((object_differs c.args.old.now c.args.new.now c.in-Object.members c.in-Object.is c.in-None.ensures).1 (twin_made _ _ none.0 none.1)))
+    (λ none. false≢true ((object_differs c.args.old.now c.args.new.now c.in-Object.members c.in-Object.is c.in-None.ensures).1 (twin_made _ _ none)))
     (object_kind c.args.old.now c.args.new.now c.in-Object.members c.in-Object.is c.in-None.ensures) replaced)
     c.replace.ensures
 
 pub diff_at-returns-in-None-as_array-clause-changes : goal.diff_at-returns-in-None-as_array-clause-changes
 diff_at-returns-in-None-as_array-clause-changes t c = ok_all c.replace-in-None-as_array.result _ _
     (λ replaced. changes_replace (tokens_of c.args.at.now) (nodes (view c.args.old.now)) (view c.args.new.now) c.args.patch.now.items c.replace-in-None-as_array.new.patch.items
-    (λ none. false≢true ((array_differs c.args.old.now c.args.new.now c.in-Array.elements c.in-Array.is c.in-None-as_array.ensures).1 (twin_made _ _ none.0 none.1)))
+    (λ none. false≢true ((array_differs c.args.old.now c.args.new.now c.in-Array.elements c.in-Array.is c.in-None-as_array.ensures).1 (twin_made _ _ none)))
     (array_kind c.args.old.now c.args.new.now c.in-Array.elements c.in-Array.is c.in-None-as_array.ensures) replaced)
     c.replace-in-None-as_array.ensures
 

@@ -13,7 +13,7 @@ pub returns-clause-changes : goal.returns-clause-changes
 returns-clause-changes c = changes_root (nodes (view c.args.old.now)) (nodes (view c.args.new.now)) c.new-patch.result.items c.diff_at.new.patch.items c.new-patch.ensures.items c.in_ok-diff_at.ensures.changes
 
 pub returns-in_err-diff_at-clause-no_memory : goal.returns-in_err-diff_at-clause-no_memory
-returns-in_err-diff_at-clause-no_memory c = λ none. absurd (true≢false (sym (c.is_same.ensures.1 (twin_made _ _ none.0 none.1)) ∙ c.if-is_same.false))
+returns-in_err-diff_at-clause-no_memory c = λ none. absurd (true≢false (sym (c.is_same.ensures.1 (twin_made _ _ none)) ∙ c.if-is_same.false))
 
 pub returns-clause-empty : goal.returns-clause-empty
-returns-clause-empty c = λ none. absurd (true≢false (sym (c.is_same.ensures.1 (twin_made _ _ none.0 none.1)) ∙ c.if-is_same.false))
+returns-clause-empty c = λ none. absurd (true≢false (sym (c.is_same.ensures.1 (twin_made _ _ none)) ∙ c.if-is_same.false))
