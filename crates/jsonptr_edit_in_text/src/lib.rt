@@ -10,6 +10,7 @@
 //!
 //! - [`assign_in_text`] and [`delete_in_text`] edit at a pointer, as `assign` and `delete` do.
 //! - [`apply_in_text`] applies a JSON Patch (RFC 6902), all of its operations or none.
+//! - [`locate_in_text`] returns where a value is, and its own text.
 //!
 //! Each call makes two promises. *Meaning*: the new text reads as the document that the call on
 //! documents makes of the document that the old text reads as. *Bytes*: a value that is replaced
@@ -32,6 +33,7 @@ mod edited;
 mod expand;
 mod in_place;
 mod insert;
+mod locate;
 mod one_line;
 mod operate;
 mod place;
@@ -47,3 +49,4 @@ pub use delete::{delete_in_text, delete_in_text_with};
 pub use edited::{EditError, Edited};
 pub use in_place::{InPlaceError, apply_in_place, assign_in_place, delete_in_place};
 pub use jsonptr_splice::buffers::Buffers;
+pub use locate::{LocateError, Located, locate_in_text, locate_in_text_with};

@@ -1,0 +1,172 @@
+//! Where a value is in a text.
+ghost use Rattle.std.specs.Prelude.{List, IfOk, IfErr, IfSome, IsTrue};
+ghost use Rattle.jsonptr.specs.Pointer.{tokens};
+ghost use Rattle.jsonptr_grammar.specs.Text.{Text};
+ghost use Rattle.jsonptr_skim.specs.Search.{choices};
+ghost use Rattle.jsonptr_in_text.specs.Selecting.{AreChoicesOf};
+ghost use Rattle.jsonptr_edit_in_text.specs.Locating.{IsLocated, IsLocateError};
+ghost use Rattle.jsonptr_edit_in_text.specs.PrivateOperating.{FindsText};
+
+use crate::place::place_of;
+use jsonptr::Pointer;
+use jsonptr_in_text::selectors::selectors_of;
+use jsonptr_in_text::{InTextError, resolve_in_text_with};
+use jsonptr_skim::selector::Selector;
+use jsonptr_splice::buffers::Buffers;
+use jsonptr_splice::check::is_edited_with;
+use jsonptr_splice::cut::{Cut, cut_at};
+use jsonptr_splice::edit::Edit;
+use jsonptr_splice::locate::Place;
+use jsonptr_splice::spacing::is_trimmed;
+use std::alloc::{AllocError, Global};
+use thiserror::Error;
+
+/// A text that is cut before and after one of its values.
+#[derive(Clone, Copy, Debug, Drop)]
+pub struct Located<'t> {
+    /// What is before the value. Its length is the offset of the value, in bytes.
+    pub before: &'t str,
+    /// The text of the value, without white space around it.
+    pub value: &'t str,
+    /// What is after the value.
+    pub after: &'t str,
+}
+
+/// Why the text of a value is not found.
+#[derive(Debug, Drop, Error)]
+pub enum LocateError {
+    /// The value is there, but the check of its offsets failed. No text is known for which it does.
+    #[error("value cannot be located in the text")]
+    NotLocated,
+    /// The text is not JSON, the pointer does not resolve, or an allocation failed.
+    #[error("{0}")]
+    Failed(InTextError),
+}
+
+/// Returns where the value that the pointer resolves to is in the JSON text.
+///
+/// The result borrows the text: it is the text in three parts, and the second is the text of that
+/// value, with its members in their order, its numbers and escapes as they are written, and the white
+/// space within it. Of a repeated key the last member counts.
+///
+/// Reads the text three times, and copies the text of the value twice. Builds no document.
+///
+/// # Errors
+///
+/// - [`LocateError::Failed`] with the error of
+///   [`resolve_in_text`](jsonptr_in_text::resolve_in_text).
+/// - [`LocateError::NotLocated`] if the check of the offsets fails.
+///
+/// # Examples
+///
+/// ```rust
+/// let text = r#"{"b": [1.0, 1e5], "a": {}}"#;
+/// let located = locate_in_text(alloc, text, Pointer::parse("/b")?)?;
+/// assert_eq!(rt; (located.before.len(), located.value), (6, "[1.0, 1e5]"));
+/// ```
+pub fn locate_in_text<'t>(
+    alloc: Global,
+    text: &'t str,
+    pointer: Pointer<'_>,
+) -> Result<Located<'t>, LocateError>
+    ensures located { IfOk result (λ l. IsLocated text.now (tokens pointer.entry)
+        l.before.now l.value.now l.after.now) }
+    ensures refused { IfErr result (IsLocateError text.now (tokens pointer.entry)) }
+{
+    let mut buffers = Buffers::new(alloc);
+    locate_in_text_with(alloc, &mut buffers, text, pointer)
+}
+
+/// Returns where the value that the pointer resolves to is in the JSON text, as [`locate_in_text`]
+/// does, in buffers of the caller.
+///
+/// No call minds what an earlier one left in the buffers, also after an error.
+///
+/// # Errors
+///
+/// Those of [`locate_in_text`].
+///
+/// # Examples
+///
+/// ```rust
+/// let mut buffers = Buffers::new(alloc);
+/// let one = locate_in_text_with(alloc, &mut buffers, "[ 1, 2 ]", Pointer::parse("/1")?)?;
+/// let all = locate_in_text_with(alloc, &mut buffers, " [1]\n", Pointer::root())?;
+/// assert_eq!(rt; (one.value, all.value), ("2", "[1]"));
+/// ```
+pub fn locate_in_text_with<'t>(
+    alloc: Global,
+    buffers: &mut Buffers,
+    text: &'t str,
+    pointer: Pointer<'_>,
+) -> Result<Located<'t>, LocateError>
+    ensures located { IfOk result (λ l. IsLocated text.now (tokens pointer.entry)
+        l.before.now l.value.now l.after.now) }
+    ensures refused { IfErr result (IsLocateError text.now (tokens pointer.entry)) }
+{
+    match cut_around(alloc, buffers, text, pointer) {
+        Ok(Some(cut)) => Ok(Located {
+            before: cut.before,
+            value: cut.was,
+            after: cut.after,
+        }),
+        Ok(None) => match resolve_in_text_with(alloc, &mut buffers.old, text, pointer) {
+            Ok(_value) => Err(LocateError::NotLocated),
+            Err(error) => Err(LocateError::Failed(error)),
+        },
+        Err(error) => Err(LocateError::Failed(InTextError::Memory(error))),
+    }
+}
+
+/// Returns the text cut around the value, or `None` if it is not found.
+fn cut_around<'t>(
+    alloc: Global,
+    buffers: &mut Buffers,
+    text: &'t str,
+    pointer: Pointer<'_>,
+) -> Result<Option<Cut<'t>>, AllocError>
+    ensures { IfOk result (λ found. IfSome found (λ c. IsLocated text.now (tokens pointer.entry)
+        c.before.now c.was.now c.after.now)) }
+{
+    let selectors = selectors_of(alloc, pointer)?;
+    let Some(place) = place_of(alloc, buffers, text, &selectors)? else {
+        return Ok(None);
+    };
+    if place.followed != selectors.len() {
+        return Ok(None);
+    }
+    let Some(cut) = cut_at(text, place.value.from, place.value.to) else {
+        return Ok(None);
+    };
+    if is_trimmed(cut.was) && is_value_there(alloc, buffers, &cut, &selectors, &place)? {
+        Ok(Some(cut))
+    } else {
+        Ok(None)
+    }
+}
+
+/// Returns whether what is between the cuts is a text of the value that the selectors lead to.
+fn is_value_there(
+    alloc: Global,
+    buffers: &mut Buffers,
+    cut: &Cut<'_>,
+    selectors: &[Selector],
+    place: &Place,
+) -> Result<bool, AllocError>
+    ensures { IfOk result (λ b. IsTrue b → (ts : List Text) → AreChoicesOf ts (choices selectors.now)
+        → FindsText cut.now.text.now ts cut.now.was.now) }
+{
+    let edit = Edit::Replace {
+        old: String::from_str(alloc, cut.was)?,
+        new: String::from_str(alloc, cut.was)?,
+    };
+    // Nothing is edited: the two readings show that the value there is that of the text between.
+    is_edited_with(
+        buffers,
+        cut.text,
+        cut.text,
+        selectors,
+        &place.positions,
+        &edit,
+    )
+}
