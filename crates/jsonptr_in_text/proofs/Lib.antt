@@ -1,4 +1,5 @@
 pub mod ChildLemmas
 pub mod ErrorLemmas
+mod FormatLemmas
 pub mod SearchLemmas
 pub mod SelectorLemmas

@@ -18,6 +18,8 @@
 //!
 //! A text that is not JSON is reported as that, even if the damage is after the value.
 //!
+//! [`format_text`] lays the tokens of a text out anew, without reading a document either.
+//!
 //! # Cost
 //!
 //! One pass over the text. Memory for the text's strings, unescaped, and for the value that is
@@ -32,10 +34,12 @@
 
 mod child;
 mod error_at;
+mod format;
 pub mod laws;
 mod resolve;
 pub mod selectors;
 
+pub use format::{Format, format_text};
 pub use json::Scratch;
 pub use resolve::{
     InTextError, exists_in_text, exists_in_text_with, resolve_in_slice, resolve_in_slice_with,
