@@ -16,6 +16,7 @@
 //! - [`handles`]: a document in a handle, as a program in C uses it.
 //! - [`commands`]: a command on the text of a document.
 //! - [`tabled`]: a look-up by a pointer with a table.
+//! - [`own_text`]: the text of a value as it is written, and where it is.
 //! - [`overlay`]: a document type of one's own.
 //! - [`edits`]: edits that undo each other.
 #![tactic(auto)]
@@ -32,6 +33,7 @@ pub mod in_text;
 pub mod merging;
 pub mod nodes;
 pub mod overlay;
+pub mod own_text;
 pub mod patch_documents;
 pub mod patches;
 pub mod references;

@@ -61,6 +61,25 @@ fn write(alloc: Global, value: &Value, levels: usize, out: &mut Writer) -> Resul
     }
 }
 
+/// Writes a value. Writing a number or a string here saves a call of `write`.
+#[cycle(write)]
+#[inline(always)]
+fn write_child(
+    alloc: Global,
+    value: &Value,
+    levels: usize,
+    out: &mut Writer,
+) -> Result<(), AllocError>
+    ensures ok { OnOk result (WritesValue (view value.now) out.old.tokens out.new.tokens) }
+    ensures before { out.new.before ≡ out.old.before }
+{
+    match value {
+        Value::Number(number) => write_number(number, out),
+        Value::String(text) => out.string(text.as_str()),
+        _ => write(alloc, value, levels, out),
+    }
+}
+
 /// Writes the elements and the closing bracket.
 #[cycle(write)]
 fn write_elements(
@@ -73,11 +92,7 @@ fn write_elements(
     ensures before { out.new.before ≡ out.old.before }
 {
     for element in elements {
-        // Writing a number here saves a call of `write`.
-        match element {
-            Value::Number(number) => write_number(number, out)?,
-            _ => write(alloc, element, levels, out)?,
-        }
+        write_child(alloc, element, levels, out)?;
     }
     out.end_array()
 }
@@ -95,7 +110,7 @@ fn write_members(
 {
     for (key, member) in members {
         out.key(key.as_str())?;
-        write(alloc, member, levels, out)?;
+        write_child(alloc, member, levels, out)?;
     }
     out.end_object()
 }

@@ -5,13 +5,12 @@ use Rattle.json.specs.Token.{begin_array, begin_object, key}
 use Rattle.json.specs.Json as json
 use Rattle.serde_json.specs.Data.{null, boolean, number, string, array, object}
 use Rattle.serde_json.specs.View.{view, number_view, items_view, members_view}
-use Rattle.serde_json.specs.Written.{outline, WritesValue}
+use Rattle.serde_json.specs.Written.{outline}
 use Rattle.serde_json.specs.declared.value.Value.{Value, the_lemmas}
 use Rattle.serde_json.proofs.Views.{Entry, view-Array, view-Object}
 use Rattle.jsonptr_value.specs.PrivateFrames.{WritesElements, WritesMembersLeft}
 use Rattle.jsonptr_value.proofs.WritingLemmas.{writes_array, writes_object, writes_no_elements, writes_element, writes_no_members, writes_member}
 use Rattle.jsonptr_value.proofs.print.+write.Goals as goal
-use Rattle.jsonptr_value.proofs.print.+write.Goals.{write_elements-in-Number+in_ok-write_number-in-Number, write_elements-in_default+in_ok-write-in_default}
 
 pub write-returns-in-Null-clause-ok : goal.write-returns-in-Null-clause-ok
 write-returns-in-Null-clause-ok t c =
@@ -48,22 +47,24 @@ write-returns-in_ok-begin_object-in-Object-clause-ok t c =
     let same : c.iter.result ≡ es = search rules in
     on_ok_weaker c.write_members.result (λ w. writes_object es _ _ _ _ c.iter.ensures.ordered seen opened (subst (λ (xs : List Entry). WritesMembersLeft xs c.begin_object.new.self.tokens c.write_members.new.out.tokens) same w)) c.write_members.ensures.ok
 
+pub write_child-returns-in-String-clause-ok : goal.write_child-returns-in-String-clause-ok
+write_child-returns-in-String-clause-ok t c =
+    let seen : string c.as_str.result.now ≡ view c.args.value.now = rw c.in-String.is (search (rules, the_lemmas)) in
+    on_ok_weaker c.string.result (λ e. (json.string c.as_str.result.now, e, ap Some seen, omega arith, ap outline seen)) c.string.ensures.ok
+
+pub write_child-returns-in-Number-clause-ok : goal.write_child-returns-in-Number-clause-ok
+write_child-returns-in-Number-clause-ok t c =
+    let seen : number (number_view c.in-Number.number) ≡ view c.args.value.now = rw c.in-Number.is (search (rules, the_lemmas)) in
+    on_ok_weaker c.write_number.result (λ w. (json.number w.0, w.1, ap (option_map number) w.2 ∙ ap Some seen, omega arith, ap json.number w.3 ∙ ap outline seen)) c.write_number.ensures.ok
+
 pub write_elements-loop-element-preserved : goal.write_elements-loop-element-preserved
 write_elements-loop-element-preserved t c =
     let l = c.loop-element in
     let xs = c.args.elements.now in
     let x = c.element-item.result in
-    let here : drop l.element-index xs ≡ x ∷ drop (l.element-index + 1) xs = drop_more xs l.element-index x (omega arith) ∙ ap (λ y. y ∷ drop (l.element-index + 1) xs) (sym c.element-item.is) in
-    let step : (c.match-element.out.before ≡ l.out.before) × WritesValue (view x) l.out.tokens c.match-element.out.tokens =
-    elim c.match-element.branch [
-      | write_elements-in-Number+in_ok-write_number-in-Number b ↦
-          let n = b.in_ok-write_number-in-Number.ensures.ok in
-          let seen : number (number_view b.in-Number.number) ≡ view x = rw b.in-Number.is (search (rules, the_lemmas)) in
-          rw b.out-is (b.write_number.ensures.before, (json.number n.0, n.1, ap (option_map number) n.2 ∙ ap Some seen, omega arith, ap json.number n.3 ∙ ap outline seen))
-      | write_elements-in_default+in_ok-write-in_default b ↦ rw b.out-is (b.write.ensures.before, b.in_ok-write-in_default.ensures.ok)
-    ] in (
-      step.0 ∙ l.invariant.0,
-      λ end rest. l.invariant.1 end (subst (λ (vs : List Value). WritesElements vs l.out.tokens end) (sym here) (writes_element x _ _ _ _ step.1 rest)),
+    let here : drop l.element-index xs ≡ x ∷ drop (l.element-index + 1) xs = drop_more xs l.element-index x (omega arith) ∙ ap (λ y. y ∷ drop (l.element-index + 1) xs) (sym c.element-item.is) in (
+      c.write_child.ensures.before ∙ l.invariant.0,
+      λ end rest. l.invariant.1 end (subst (λ (vs : List Value). WritesElements vs l.out.tokens end) (sym here) (writes_element x _ _ _ _ c.in_ok-write_child.ensures.ok rest)),
     )
 
 pub write_elements-returns-clause-ok : goal.write_elements-returns-clause-ok
@@ -81,7 +82,7 @@ write_members-loop-key-preserved t c =
     let all : l.key-iterator ≡ m ∷ left = c.in-Some.ensures.steps in
     let named : c.key.new.self.tokens ≡ l.out.tokens ++ key (string_bytes m.0) ∷ [] = search rules in (
       search rules,
-      λ end rest. l.invariant.1 end (subst (λ (es : List Entry). WritesMembersLeft es l.out.tokens end) (sym all) (writes_member m left _ _ _ _ named c.in_ok-write.ensures.ok rest)),
+      λ end rest. l.invariant.1 end (subst (λ (es : List Entry). WritesMembersLeft es l.out.tokens end) (sym all) (writes_member m left _ _ _ _ named c.in_ok-write_child.ensures.ok rest)),
     )
 
 pub write_members-returns-clause-ok : goal.write_members-returns-clause-ok

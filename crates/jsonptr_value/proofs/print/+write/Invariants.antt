@@ -16,10 +16,13 @@ invariant-write_members-loop-key l =
     × ((end : List Token) → WritesMembersLeft l.key-iterator l.out.tokens end → WritesMembersLeft l.fn.members l.initial.out.tokens end)
 
 abbrev pub decreases-write : goal.decreases-write
-decreases-write l = 2 * l.levels
+decreases-write l = 3 * l.levels
+
+abbrev pub decreases-write_child : goal.decreases-write_child
+decreases-write_child l = 3 * l.levels + 1
 
 abbrev pub decreases-write_elements : goal.decreases-write_elements
-decreases-write_elements l = 2 * l.levels + 1
+decreases-write_elements l = 3 * l.levels + 2
 
 abbrev pub decreases-write_members : goal.decreases-write_members
-decreases-write_members l = 2 * l.levels + 1
+decreases-write_members l = 3 * l.levels + 2

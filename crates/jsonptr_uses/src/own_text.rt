@@ -1,0 +1,46 @@
+//! The text of a value as somebody wrote it, for a message, and where it is, for an editor.
+ghost use Rattle.std.specs.Prelude.{◌≡◌, IfOk, IfErr, length, string_bytes};
+ghost use Rattle.jsonptr.specs.Pointer.{tokens};
+ghost use Rattle.jsonptr.specs.Text.{Text};
+ghost use Rattle.jsonptr_in_text.specs.Format.{IsFormatted};
+ghost use Rattle.jsonptr_in_text.specs.declared.format.Format.TheVariants.{Compact};
+ghost use Rattle.jsonptr_edit_in_text.specs.Locating.{IsLocated, IsLocateError};
+
+use jsonptr::Pointer;
+use jsonptr_edit_in_text::{LocateError, locate_in_text};
+use jsonptr_in_text::{Format, Scratch, format_text};
+use std::alloc::Global;
+
+/// Returns the offset, in bytes, at which the value that the pointer resolves to begins.
+///
+/// # Errors
+///
+/// Those of [`locate_in_text`].
+pub fn offset_of(alloc: Global, text: &str, pointer: Pointer<'_>) -> Result<usize, LocateError>
+    ensures offset { IfOk result (λ at. (before piece after : Text)
+        × IsLocated text.now (tokens pointer.entry) before piece after × (at ≡ length before)) }
+    ensures refused { IfErr result (IsLocateError text.now (tokens pointer.entry)) }
+{
+    let located = locate_in_text(alloc, text, pointer)?;
+    Ok(located.before.len())
+}
+
+/// Returns the text of the value that the pointer resolves to on one line, with its members in their
+/// order and its numbers as they are written.
+///
+/// # Errors
+///
+/// Those of [`locate_in_text`].
+pub fn on_one_line(alloc: Global, text: &str, pointer: Pointer<'_>) -> Result<String, LocateError>
+    ensures shown { IfOk result (λ s. (before piece after : Text)
+        × IsLocated text.now (tokens pointer.entry) before piece after
+        × IsFormatted Compact piece (string_bytes s)) }
+    ensures refused { IfErr result (IsLocateError text.now (tokens pointer.entry)) }
+{
+    let located = locate_in_text(alloc, text, pointer)?;
+    let mut scratch = Scratch::new(alloc);
+    match format_text(alloc, &mut scratch, located.value, Format::Compact) {
+        Ok(line) => Ok(line),
+        Err(error) => Err(LocateError::Failed(error)),
+    }
+}
