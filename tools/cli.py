@@ -146,6 +146,9 @@ def usage():
     yield ("paths", "--pretty")
     yield ("from-paths", "--all")
     yield ("patch", "x", "y", "--check", "-i")
+    yield ("patch", "x", "y", "--inverse", "u", "--check")
+    yield ("patch", "x", "y", "--inverse", "u", "--lines")
+    yield ("patch", "x", "y", "--inverse")
 
 
 def run(words, text="", **options):
@@ -413,6 +416,114 @@ def check_reformat(folder):
     return 10
 
 
+# Operations on `BEFORE`, and the operations that take them back (RFC 6902, section 4).
+BEFORE = '{ "a": {"b": [1, 2]}, "c": 1.50 }\n'
+INVERSES = [
+    ([], []),
+    ([{"op": "test", "path": "/a/b/0", "value": 1}], []),
+    ([{"op": "remove", "path": "/a/b/0"}], [{"op": "add", "path": "/a/b/0", "value": 1}]),
+    ([{"op": "replace", "path": "/c", "value": 2}], [{"op": "replace", "path": "/c", "value": 1.5}]),
+    ([{"op": "add", "path": "/a/b/-", "value": 3}], [{"op": "remove", "path": "/a/b/2"}]),
+    ([{"op": "move", "from": "/a", "path": "/d"}], [{"op": "move", "from": "/d", "path": "/a"}]),
+    ([{"op": "copy", "from": "/c", "path": "/~1"}, {"op": "remove", "path": "/c"}],
+     [{"op": "add", "path": "/c", "value": 1.5}, {"op": "remove", "path": "/~1"}]),
+]
+
+
+def check_inverse(folder, shim):
+    """Checks `--inverse`: the file that it writes, and what is left after an error. Returns the number of runs."""
+    patch, path, undo = f"{folder}/p.json", f"{folder}/d.json", f"{folder}/u.json"
+    runs = 0
+    for operations, back in INVERSES:
+        write(patch, json.dumps(operations))
+        new = run(("patch", patch), BEFORE).stdout.decode()
+        written = json.dumps(back, sort_keys=True, separators=(",", ":")) + "\n"
+        for old in (None, "{}"):
+            leave(undo, old)
+            check_result(Case((), "", new), run(("patch", patch, "--inverse", undo), BEFORE))
+            expect_files(folder, {patch: json.dumps(operations), undo: written})
+            check_result(Case((), "", BEFORE.replace("1.50", "1.5").replace(" ", "")), run(("patch", undo, "--compact"), new))
+            leave(undo, old)
+            write(path, BEFORE)
+            check_result(Case((), "", ""), run(("patch", patch, path, "-i", "--inverse", undo)))
+            expect_files(folder, {patch: json.dumps(operations), undo: written, path: new})
+            os.remove(path)
+            runs += 4
+    return runs + check_inverse_fails(folder, patch, path, undo) + check_inverse_memory(folder, patch, path, undo, shim)
+
+
+def check_inverse_fails(folder, patch, path, undo):
+    """Checks that an error leaves the document and the file of the inverse as they were, and returns the number of runs."""
+    write(patch, '[{"op": "remove", "path": ""}]')
+    deep, deepest = f"{'[' * 125}{']' * 125}", f"{'[' * 126}{']' * 126}"
+    runs = 0
+    for old in (None, "{}"):
+        for text, operations, words, errors, status in [
+            (deepest, '[{"op": "remove", "path": ""}]', (), f"jp: {undo}: the patch would nest deeper than 127\n", 3),
+            (BEFORE, '[{"op": "remove", "path": "/x"}]', (), f"jp: {path}: patch failed at operation 0: {NOT_FOUND}\n", 1),
+            ("{", "[]", (), f"jp: {path}: not JSON: EOF while parsing at line 1 column 1\n", 3),
+            (BEFORE, "[]", ("--inverse", path), "jp: --inverse: names the document\n", 2),
+            (BEFORE, "[]", ("--inverse", "-"), "jp: --inverse: needs a file\n", 2),
+            (BEFORE, "[]", ("--inverse", folder), f"jp: {folder}: not a regular file\n", 5),
+            (BEFORE, "[]", ("--inverse", f"{folder}/x/u"), f"jp: {folder}/x/u: No such file or directory (os error 2)\n", 5),
+        ]:
+            leave(undo, old)
+            write(path, text)
+            write(patch, operations)
+            for in_place in ((), ("-i",)):
+                check_result(Case((), "", "", errors, status), run(("patch", patch, path, *(words or ("--inverse", undo)), *in_place)))
+                expect_files(folder, {patch: operations, path: text, **({undo: old} if old else {})})
+                runs += 1
+    write(patch, '[{"op": "remove", "path": ""}]')
+    check_result(Case((), "", "null"), run(("patch", patch, "--inverse", undo), deep))
+    with open("/dev/full", "wb") as full:
+        leave(undo, None)
+        given = subprocess.run([PROGRAM, "patch", patch, path, "--inverse", undo], stdout=full, stderr=subprocess.PIPE)
+    if given.returncode != 5 or os.path.exists(undo):
+        raise CheckFailed(f"--inverse, to a full device: status {given.returncode}, {os.listdir(folder)}")
+    return runs + 2
+
+
+def check_inverse_memory(folder, patch, path, undo, shim):
+    """Runs a patch in place with each memory request failing in turn: both files are old, or both are new."""
+    operations = '[{"op": "move", "from": "/c", "path": "/d"}, {"op": "remove", "path": "/a"}]'
+    words = [PROGRAM, "patch", patch, path, "-i", "--inverse", undo]
+    before = {patch: operations, path: BEFORE, undo: "{}"}
+    for name, text in before.items():
+        write(name, text)
+    _, requests, _ = run_with_shim(words, "", shim, 0, count="run", may_keep=True)
+    after = {name: read(name) for name in before}
+    for fail in range(1, requests + 1):
+        for name, text in before.items():
+            write(name, text)
+        given, _, _ = run_with_shim(words, "", shim, fail, count="run", may_keep=True)
+        if given.returncode not in (0, 4):
+            raise CheckFailed(f"--inverse, without request {fail}: status {given.returncode}, {given.stderr!r}")
+        expect_files(folder, before if given.returncode else after)
+    return requests + 1
+
+
+def expect_files(folder, wanted):
+    """Fails if the files of a folder are not these texts by their paths."""
+    found = {f"{folder}/{name}": read(f"{folder}/{name}") for name in os.listdir(folder)}
+    if found != wanted:
+        raise CheckFailed(f"--inverse left {found}, and not {wanted}")
+
+
+def leave(path, text):
+    """Writes the text to a file, or removes the file."""
+    if text is not None:
+        write(path, text)
+    elif os.path.exists(path):
+        os.remove(path)
+
+
+def write(path, text):
+    """Writes a text to a file."""
+    with open(path, "w", encoding="utf-8") as file:
+        file.write(text)
+
+
 def check_locked(folder, path):
     """Checks that a file in a folder that cannot be written stays as it is."""
     if os.getuid() != 0:
@@ -497,9 +608,10 @@ def main():
         shim = build_shim(folder)
         # First, and alone: a process that another thread starts can hold the end of a pipe that is closed here.
         runs = check_streams() + check_usage()
-        for name in ["files", "in_place", "guide"]:
+        for name in ["files", "in_place", "inverse", "guide"]:
             os.mkdir(f"{folder}/{name}")
         runs += check_files(f"{folder}/files") + check_in_place(f"{folder}/in_place") + check_lines()
+        runs += check_inverse(f"{folder}/inverse", shim)
         runs += check_round_trips()
         all_cases = list(cases())
         for case, given in zip(all_cases, pool.map(lambda case: run(case.words, case.input), all_cases)):

@@ -23,6 +23,9 @@ SECONDS = 60
 OLD, NEW = '{"name": "a", "sizes": [1.0]}\n', '{"name": "b", "sizes": [1.0]}\n'
 SET = ("set", "/name", '"b"')
 CALLS = ("openat", "write", "fchown", "fchmod", "fsync", "statx,newfstatat,fstat,stat", "rename,renameat,renameat2")
+# A patch that makes the same change, and what `--inverse` writes for it.
+PATCH = '[{"op":"replace","path":"/name","value":"b"}]\n'
+UNDO = '[{"op":"replace","path":"/name","value":"a"}]\n'
 CHANGED = "it was changed by somebody else, so nothing is written"
 BUSY = "another edit is at work"
 WRITERS, APPENDS = 2, 200
@@ -105,6 +108,48 @@ def killed():
                 if done.returncode == 0:
                     break
     expect("texts after a kill", sorted(texts), [OLD, NEW])
+
+
+def with_inverse(folder, old):
+    """Writes a document, a patch and, if `old` is a text, a file for its inverse. Returns the paths of the first and the last, and
+    the words of the command."""
+    undo = os.path.join(folder, "u.json")
+    if old is not None:
+        file_in(folder, old, "u.json")
+    return file_in(folder), undo, ("patch", file_in(folder, PATCH, "p.json"), "--inverse", undo)
+
+
+def killed_with_inverse():
+    """The program is killed at each of its calls: if the document is the new one, the inverse is in its file."""
+    seen = set()
+    for old in (None, "{}\n"):
+        for call in (*CALLS, "link,linkat", "unlink,unlinkat"):
+            for number in range(1, 24):
+                with tempfile.TemporaryDirectory() as folder:
+                    path, undo, words = with_inverse(folder, old)
+                    done = run(path, f"{call}:signal=KILL:when={number}", words=words, trace=call)
+                    kept = text_of(undo) if os.path.exists(undo) else None
+                    seen.add((text_of(path), kept))
+                    if done.returncode == 0:
+                        break
+    expect("texts after a kill", seen, {(OLD, None), (OLD, ""), (OLD, "{}\n"), (OLD, UNDO), (NEW, UNDO)})
+
+
+def failures_with_inverse():
+    """Calls that fail: document and inverse are what they were, and no other file is left."""
+    for old in (None, "{}\n"):
+        for call in ["write:error=ENOSPC:when=1", "write:error=ENOSPC:when=2", "fsync:error=EIO:when=1", "fsync:error=EIO:when=3",
+                     "rename:error=EXDEV:when=1", "rename:error=EXDEV:when=2", "link:error=EPERM"]:
+            if old is None and call.startswith("link"):
+                continue
+            with tempfile.TemporaryDirectory() as folder:
+                path, undo, words = with_inverse(folder, old)
+                done = run(path, call, words=words)
+                expect(f"{call}: status", done.returncode, 5)
+                expect(f"{call}: text", text_of(path), OLD)
+                expect(f"{call}: files", sorted(os.listdir(folder)), ["f.json", "p.json"] + ["u.json"] * (old is not None))
+                if old is not None:
+                    expect(f"{call}: inverse", text_of(undo), old)
 
 
 def changed_meanwhile():
@@ -243,7 +288,7 @@ def main():
         subprocess.run(["apt-get", "install", "-y", "strace"], capture_output=True, check=False)
     checks = [two_writers, names]
     if shutil.which("strace") is not None:
-        checks += [failures, synced_late, killed, changed_meanwhile]
+        checks += [failures, synced_late, killed, killed_with_inverse, failures_with_inverse, changed_meanwhile]
     else:
         print("in_place: skipped the calls that fail: strace is missing")
     if os.geteuid() == 0:

@@ -16,7 +16,7 @@ _jp() {
         set | delete) words="--toml --reformat --pretty --compact --in-place --lines --strict --help" ;;
         paths) words="--toml --all --help" ;;
         from-paths) words="--pretty --compact --help" ;;
-        patch) words="--check --reformat --pretty --compact --in-place --lines --strict --help" ;;
+        patch) words="--check --inverse --reformat --pretty --compact --in-place --lines --strict --help" ;;
         diff) words="--pretty --compact --help" ;;
         tokens) words="--raw --help" ;;
         escape | unescape) words="--help" ;;

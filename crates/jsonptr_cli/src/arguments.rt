@@ -97,6 +97,11 @@ fn patch<'a>(alloc: Global) -> Result<Command<'a>, AllocError> {
                 .conflicts_with("in-place")?
                 .conflicts_with("lines")?,
         )?
+        .arg(
+            arg!(in alloc; --inverse <UNDO> "Writes the patch that takes this one back to this file")
+                .conflicts_with("check")?
+                .conflicts_with("lines")?,
+        )?
         .arg(reformat(alloc)?)?;
     with_lines(alloc, with_in_place(alloc, with_layout(alloc, command)?)?)
 }

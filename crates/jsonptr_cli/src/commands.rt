@@ -1,6 +1,7 @@
 //! The commands.
 
 use crate::input::{is_standard, name_of, read_all};
+use crate::inverse::patch_with_inverse;
 use crate::output::{print_line, print_text};
 use crate::paths::{from_paths, paths};
 use crate::problem::{FILE, NOT_APPLIED, NOT_JSON, Problem, USAGE};
@@ -120,7 +121,10 @@ fn patch(rt: &HostRuntime, matches: &ArgMatches<'_>) -> Result<u8, Problem> {
     }
     let document = document_of(rt, name)?;
     match operations_of(alloc, &document) {
-        Ok(_) => run_task(rt, matches, Task::Patch(document), ""),
+        Ok(_) => match matches.get_str("inverse") {
+            Some(undo) => patch_with_inverse(rt, matches, document, undo),
+            None => run_task(rt, matches, Task::Patch(document), ""),
+        },
         Err(failure) => Err(Problem::of_patch(alloc, name_of(Some(name)), &document, failure)),
     }
 }

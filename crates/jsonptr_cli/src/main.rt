@@ -8,11 +8,13 @@ mod arguments;
 mod commands;
 mod in_place;
 mod input;
+mod inverse;
 mod output;
 mod paths;
 mod problem;
 mod task;
 mod toml_file;
+mod written;
 
 use crate::problem::Problem;
 use std::process::ExitCode;

@@ -32,11 +32,18 @@ pub fn layout_of(matches: &ArgMatches<'_>) -> Layout {
 
 /// How the document is edited.
 #[derive(Clone, Copy)]
-struct Style {
+pub struct Style {
     /// How the result is printed.
-    layout: Layout,
+    pub layout: Layout,
     /// Whether the document is printed anew if it cannot be edited in place.
-    reformats: bool,
+    pub reformats: bool,
+}
+
+/// Returns how the document is edited.
+pub fn style_of(matches: &ArgMatches<'_>) -> Style {
+    let layout = layout_of(matches);
+    let reformats = matches.get_flag("reformat");
+    Style { layout, reformats }
 }
 
 /// Runs the task as the flags say, and returns the exit status.
@@ -47,13 +54,11 @@ pub fn run_task(
     pointer: &str,
 ) -> Result<u8, Problem> {
     let file = matches.get_str("FILE");
-    let layout = layout_of(matches);
-    let reformats = matches.get_flag("reformat");
-    let style = Style { layout, reformats };
+    let style = style_of(matches);
     if matches.get_flag("check") {
         check(rt, file, &task)
     } else if matches.get_flag("lines") {
-        on_lines(rt, file, task, layout, matches.get_flag("strict"))
+        on_lines(rt, file, task, style.layout, matches.get_flag("strict"))
     } else if matches.get_flag("in-place") {
         in_place(rt, file, &task, style, pointer)
     } else {
@@ -148,7 +153,12 @@ fn in_place(
 
 /// Returns the document after the task, printed anew if that is wanted where it cannot be edited in
 /// place.
-fn edited(alloc: Global, task: &Task<'_>, style: Style, bytes: &[u8]) -> Result<String, Failure> {
+pub fn edited(
+    alloc: Global,
+    task: &Task<'_>,
+    style: Style,
+    bytes: &[u8],
+) -> Result<String, Failure> {
     match document_result(alloc, task, style.layout, bytes) {
         Err(Failure::NotInPlace) if style.reformats => {
             document_result(alloc, task, Layout::Compact, bytes)
@@ -158,7 +168,7 @@ fn edited(alloc: Global, task: &Task<'_>, style: Style, bytes: &[u8]) -> Result<
 }
 
 /// Returns the problem of a task that failed on the bytes of the document with this name.
-fn document_problem(
+pub fn document_problem(
     alloc: Global,
     name: &str,
     pointer: &str,

@@ -1,13 +1,15 @@
 -- What is printed can be read again, and a patch that is printed applies.
-use Rattle.std.proofs.Common.{◌≡◌, ◌≤◌, ◌⊎◌, inl, inr, List, Option, Some, None, MatchOption, refl, sym, ◌∙◌, subst}
+use Rattle.std.proofs.Common.{◌≡◌, ◌≢◌, ◌≤◌, ◌⊎◌, inl, inr, List, Option, Some, None, MatchOption, refl, sym, ◌∙◌, subst}
 use Rattle.std.specs.declared.alloc.AllocError.{AllocError}
 use Rattle.serde_json.specs.Data.{Data, depth}
 use Rattle.serde_json.specs.Find.{as_str}
 use Rattle.serde_json.specs.Read.{read, max_depth}
 use Rattle.serde_json.proofs.Nesting.{depth-read}
 use Rattle.jsonptr_grammar.specs.Text.{Text}
+use Rattle.jsonptr.specs.Documents.{IsDocument}
+use Rattle.jsonptr.proofs.Calling.{map_of-IsTree, map_of-finite}
 use Rattle.jsonptr_tree.specs.Node.{NodeMap}
-use Rattle.jsonptr_tree.specs.Json.{nodes}
+use Rattle.jsonptr_tree.specs.Json.{nodes, content}
 use Rattle.jsonptr_patch.specs.Patching.{Patches, RefusesPatch}
 use Rattle.jsonptr_patch.specs.declared.operation.Operation.{Operation}
 use Rattle.jsonptr_patch.specs.declared.operation.PatchError.{PatchError}
@@ -16,10 +18,12 @@ use Rattle.jsonptr_patch_document.specs.Writing.{document_of}
 use Rattle.jsonptr_patch_document.specs.declared.error.PatchDocumentError.{PatchDocumentError}
 use Rattle.jsonptr_edit_in_text.specs.PatchInText.{IsPatchFault}
 use Rattle.jsonptr_edit_in_text.specs.declared.edited.EditError.TheVariants as edit
-use Rattle.jsonptr_filter.specs.Differences.{FailsToDiffer}
+use Rattle.jsonptr_filter.specs.Differences.{IsDifference, FailsToDiffer}
+use Rattle.jsonptr_filter.specs.Inverting.{IsInverse}
 use Rattle.jsonptr_filter.specs.PrivateResults.{IsPatchTextFault}
 use Rattle.jsonptr_filter.specs.Layouts.{IsCompact, Shows, ReadsBack}
 use Rattle.jsonptr_filter.specs.Results.{Restyles, FailsToPatch}
+use Rattle.jsonptr_filter.specs.declared.difference.Difference.{Difference}
 use Rattle.jsonptr_filter.specs.declared.failure.Failure.{Failure}
 use Rattle.jsonptr_filter.specs.declared.failure.Failure.TheVariants.{BadPointer, NotPatch, NoValue, BadPlace, NotThere, BadPatch, TooDeep, NotInPlace, PatchTooDeep, LineBreak, BadLine, NotUtf8, NotJson, ArgumentNotJson, Memory, Read, Write}
 use Rattle.jsonptr_filter.specs.declared.layout.Layout.{Layout}
@@ -92,3 +96,29 @@ no_fault a p layout ArgumentNotJson patch json refused deep h = absurd h
 no_fault a p layout (Memory f) patch json refused deep h = inl (f, refl)
 no_fault a p layout Read patch json refused deep h = absurd h
 no_fault a p layout Write patch json refused deep h = absurd h
+
+-- a text is read as one document
+pub one_read : (text : Text) (d e : Data) → read text ≡ Some d → read text ≡ Some e → d ≡ e
+one_read text d e h k =
+    let whole : Some d ≡ Some e = sym h ∙ k in
+    let same : d ≡ e = cc in
+    same
+
+-- the map of a value is that of a document
+pub is_document : (d : Data) → IsDocument (nodes d)
+is_document d = (map_of-IsTree (content d), map_of-finite (content d))
+
+-- what is printed is read as that document, in each layout but that of a string without quotes
+pub printed : (layout : Layout) (text out : Text) (d : Data) → read text ≡ Some d → layout ≢ Raw → Restyles layout text out → read out ≡ Some d
+printed Kept text out d reads other h = restyled Kept text out d reads h
+printed Compact text out d reads other h = restyled Compact text out d reads h
+printed Pretty text out d reads other h = restyled Pretty text out d reads h
+printed Raw text out d reads other h = absurd (other refl)
+
+-- the inverse of a patch turns the one document that the patch makes into the one before
+pub inverse_undoes : (a : Text) (d m patch : Data) (style : Layout) (u : Difference) → ((ps : List Operation) (l : NodeMap) → IsPatch patch ps → Patches (nodes d) ps l → l ≡ nodes m) → read a ≡ Some d → IsInverse a patch style u → IsDifference (nodes m) (nodes d) style u
+inverse_undoes a d m patch style u one reads inverse =
+    let same : inverse.0 ≡ d = one_read a inverse.0 d inverse.3 reads in
+    let again : Patches (nodes d) inverse.1 inverse.2 = subst (λ (q : Data). Patches (nodes q) inverse.1 inverse.2) same inverse.5 in
+    let turned : IsDifference inverse.2 (nodes d) style u = subst (λ (q : Data). IsDifference inverse.2 (nodes q) style u) same inverse.6 in
+    subst (λ (n : NodeMap). IsDifference n (nodes d) style u) (one inverse.1 inverse.2 inverse.4 again) turned

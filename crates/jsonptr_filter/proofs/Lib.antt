@@ -2,4 +2,5 @@ pub mod ResultLemmas
 pub mod RunLemmas
 mod ReplacementLemmas
 mod DifferenceLemmas
+mod InverseLemmas
 mod CuttingLemmas

@@ -3,6 +3,7 @@ pub mod Failures
 pub mod Layouts
 pub mod Results
 pub mod Differences
+pub mod Inverting
 pub mod Documents
 pub mod Paths
 pub mod LineResults

@@ -4,6 +4,7 @@ use Rattle.std.specs.Prelude.{◌≡◌, ◌<◌, List, Some, None, ⊤}
 use Rattle.serde_json.specs.Data.{Data, depth}
 use Rattle.serde_json.specs.Read.{read, max_depth}
 use Rattle.jsonptr_grammar.specs.Text.{Text}
+use Rattle.jsonptr_tree.specs.Node.{NodeMap}
 use Rattle.jsonptr_tree.specs.Json.{nodes}
 use Rattle.jsonptr_patch.specs.Patching.{RefusesPatch}
 use Rattle.jsonptr_patch.specs.declared.operation.Operation.{Operation}
@@ -48,3 +49,9 @@ abbrev pub IsPatchTextFault : List Operation → Failure → Type 0
 IsPatchTextFault os PatchTooDeep = max_depth < depth (document_of os)
 IsPatchTextFault os (Memory f) = ⊤
 IsPatchTextFault os e = ⊥
+
+-- `IsApplyFault n os e`: `e` is why the operations `os` are not applied to `n`, if it is not for memory
+abbrev pub IsApplyFault : NodeMap → List Operation → Failure → Type 0
+IsApplyFault n os (BadPatch f) = RefusesPatch n os f
+IsApplyFault n os (Memory f) = ⊤
+IsApplyFault n os e = ⊥

@@ -73,7 +73,11 @@ pub fn difference_of(
 ///
 /// [`Failure::PatchTooDeep`] if it nests deeper than 127, and [`Failure::Memory`] if an allocation
 /// fails.
-fn patch_text(alloc: Global, patch: &Vec<Operation>, layout: Layout) -> Result<String, Failure>
+pub(crate) fn patch_text(
+    alloc: Global,
+    patch: &Vec<Operation>,
+    layout: Layout,
+) -> Result<String, Failure>
     ensures shown { IfOk result
         (λ s. Shows layout (document_of patch.now.items) (string_bytes s)) }
     ensures read_back { IfOk result

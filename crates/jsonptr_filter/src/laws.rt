@@ -1,5 +1,5 @@
 //! Laws of what the commands print. Each law is the contract of a function that does nothing.
-ghost use Rattle.std.specs.Prelude.{◌≡◌, ◌⊎◌, ◌↔◌, ℕ, List, [], ◌∷◌, ◌++◌, length, Some, string_bytes};
+ghost use Rattle.std.specs.Prelude.{◌≡◌, ◌≢◌, ◌⊎◌, ◌↔◌, ℕ, List, [], ◌∷◌, ◌++◌, length, Some, string_bytes};
 ghost use Rattle.std.specs.declared.alloc.AllocError.{AllocError};
 ghost use Rattle.serde_json.specs.Data.{Data};
 ghost use Rattle.serde_json.specs.Read.{read};
@@ -11,6 +11,7 @@ ghost use Rattle.jsonptr_paths.specs.declared.reading.LineError.{LineError};
 ghost use Rattle.jsonptr_filter.specs.Cutting.{EndsInLineFeed, InputGives, IsShifted};
 ghost use Rattle.jsonptr_filter.specs.LineResults.{LinesGive};
 ghost use Rattle.jsonptr_filter.specs.Differences.{IsDifference};
+ghost use Rattle.jsonptr_filter.specs.Inverting.{IsInverse};
 ghost use Rattle.jsonptr_filter.specs.Layouts.{Shows, ReadsBack};
 ghost use Rattle.jsonptr_filter.specs.Paths.{ListsText, BuildsText, FailsToBuild};
 ghost use Rattle.jsonptr_filter.specs.Results.{PatchesBy, FailsToPatch};
@@ -19,7 +20,7 @@ ghost use Rattle.jsonptr_filter.specs.declared.failure.Failure.{Failure};
 ghost use Rattle.jsonptr_filter.specs.declared.failure.Failure.TheVariants.{BadLine, NotInPlace, Memory};
 ghost use Rattle.jsonptr_filter.specs.declared.layout.Layout.{Layout};
 ghost use Rattle.jsonptr_filter.specs.declared.line.LineTask.{LineTask};
-ghost use Rattle.jsonptr_filter.specs.declared.layout.Layout.TheVariants.{Kept};
+ghost use Rattle.jsonptr_filter.specs.declared.layout.Layout.TheVariants.{Kept, Raw};
 
 use jsonptr_patch::laws::patch::patch_law;
 use jsonptr_patch_document::laws::{patch_document_law, writing_law};
@@ -67,6 +68,32 @@ pub fn difference_law()
     writing_law();
     jsonptr_diff::laws::difference_law();
     patch_law();
+}
+
+/// States what `patch` does with the inverse of a patch, as texts.
+///
+/// Let a patch be applied to the text `a`, and let its inverse be applied to the text that is printed.
+/// Then the text that is printed reads as the document of `a`, in each layout. There is no error but a
+/// failed allocation, and [`Failure::NotInPlace`](crate::failure::Failure::NotInPlace) in the layout
+/// [`Layout::Kept`](crate::layout::Layout::Kept). The first of the two does not print in the layout
+/// [`Layout::Raw`](crate::layout::Layout::Raw), since a string is not JSON without its quotes.
+pub fn inverse_law()
+    ensures undone { (a b out : Text) (d patch back : Data) (style first layout : Layout) (u : Difference)
+        → read a ≡ Some d
+        → PatchesBy a patch first b → first ≢ Raw
+        → IsInverse a patch style u → read (string_bytes u.text) ≡ Some back
+        → PatchesBy b back layout out
+        → ReadsBack layout d out }
+    ensures never_fails { (a b : Text) (d patch back : Data) (style first layout : Layout) (u : Difference) (e : Failure)
+        → read a ≡ Some d
+        → PatchesBy a patch first b → first ≢ Raw
+        → IsInverse a patch style u → read (string_bytes u.text) ≡ Some back
+        → FailsToPatch b back layout e
+        → ((f : AllocError) × (e ≡ Memory f)) ⊎ ((layout ≡ Kept) × (e ≡ NotInPlace)) }
+{
+    patch_document_law();
+    patch_law();
+    difference_law();
 }
 
 /// States that an input may be cut after a line feed, and each part be run by itself.

@@ -5,6 +5,7 @@
 //! - [`layout`]: how the result is printed.
 //! - [`result`]: the result of a task on one text.
 //! - [`difference`]: the patch document that turns one document into another.
+//! - [`inverse`]: the patch document that takes a patch back.
 //! - [`document`]: a task on one document, from a reader to a writer.
 //! - [`lines`]: a task on each line of an input.
 //! - [`paths`]: a document as lines of pointers and values, and a document from such lines.
@@ -18,6 +19,7 @@ pub mod difference;
 pub mod document;
 mod edit;
 pub mod failure;
+pub mod inverse;
 pub mod laws;
 pub mod layout;
 pub mod line;

@@ -8,6 +8,7 @@
 //! - [`nodes`]: the nodes of a document, counted, and read back from their lines.
 //! - [`editor`], [`cursor_editor`] and [`patches`]: changes that can be undone.
 //! - [`patch_documents`]: a patch document that is applied.
+//! - [`patched_texts`]: a text that is patched, with a patch that takes that back.
 //! - [`differences`]: a copy that is kept up to date by differences.
 //! - [`merging`]: the patches of two people, and a difference that is sent.
 //! - [`sessions`]: calls on a document that is read from a text.
@@ -35,6 +36,7 @@ pub mod nodes;
 pub mod overlay;
 pub mod own_text;
 pub mod patch_documents;
+pub mod patched_texts;
 pub mod patches;
 pub mod references;
 pub mod sessions;

@@ -1,6 +1,7 @@
-//! A patch document that is applied.
+//! A patch document that is applied, and one that takes it back.
 use jsonptr::Fault;
 use jsonptr_uses::patch_documents::{ApplyError, apply_document};
+use jsonptr_uses::patched_texts::patched_text;
 use serde_json::Value;
 use std::alloc::Global;
 use std::test::Fail;
@@ -38,6 +39,32 @@ fn a_patch_document_is_applied(rt: HostRuntime) -> Result<(), Fail> {
     ] {
         let (document, said) = applied(rt.alloc(), patch)?;
         assert_eq!(rt; (document.as_str(), said.as_str()), (want, error));
+    }
+    Ok(())
+}
+
+#[test]
+fn a_text_is_patched_and_patched_back(rt: HostRuntime) -> Result<(), Fail> {
+    let alloc = rt.alloc();
+    for (patch, new, undo) in [
+        ("[]", r#"{ "a": [1, 2], "b": null }"#, "[]"),
+        (
+            r#"[{"op":"remove","path":"/b"}]"#,
+            r#"{ "a": [1, 2] }"#,
+            r#"[{"op":"add","path":"/b","value":null}]"#,
+        ),
+        (
+            r#"[{"op":"add","path":"/a/-","value":3},{"op":"test","path":"/b","value":null}]"#,
+            r#"{ "a": [1, 2, 3], "b": null }"#,
+            r#"[{"op":"remove","path":"/a/2"}]"#,
+        ),
+    ] {
+        let old = r#"{ "a": [1, 2], "b": null }"#;
+        let patched = patched_text(alloc, old, Value::from_str(alloc, patch)?)?;
+        assert_eq!(rt; (patched.new.as_str(), patched.undo.as_str()), (new, undo));
+        let back = Value::from_str(alloc, patched.undo.as_str())?;
+        let again = patched_text(alloc, patched.new.as_str(), back)?;
+        assert!(rt; Value::from_str(alloc, again.new.as_str())? == Value::from_str(alloc, old)?);
     }
     Ok(())
 }

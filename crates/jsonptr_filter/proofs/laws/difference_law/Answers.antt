@@ -2,9 +2,8 @@ use Rattle.std.proofs.Common.{◌≡◌, ◌≤◌, List, Some, None, sym, ◌�
 use Rattle.serde_json.specs.Data.{Data, depth}
 use Rattle.serde_json.specs.Read.{read, max_depth}
 use Rattle.serde_json.proofs.Nesting.{depth-read}
-use Rattle.jsonptr.specs.Documents.{IsDocument}
-use Rattle.jsonptr.proofs.Calling.{ascends_read, map_of-IsTree, map_of-finite}
-use Rattle.jsonptr_tree.specs.Json.{nodes, content}
+use Rattle.jsonptr.proofs.Calling.{ascends_read}
+use Rattle.jsonptr_tree.specs.Json.{nodes}
 use Rattle.jsonptr_tree.specs.Node.{NodeMap}
 use Rattle.jsonptr_value.specs.Nesting.{NestsWithin}
 use Rattle.jsonptr_value.proofs.LevelLemmas.{NestsWithin-depth}
@@ -13,24 +12,14 @@ use Rattle.jsonptr_patch.specs.Patching.{Patches, RefusesPatch}
 use Rattle.jsonptr_patch.specs.declared.operation.Operation.{Operation}
 use Rattle.jsonptr_patch_document.specs.Document.{IsPatch}
 use Rattle.jsonptr_patch_document.specs.Writing.{document_of}
-use Rattle.jsonptr_filter.proofs.DifferenceLemmas.{restyled, no_fault}
+use Rattle.jsonptr_filter.proofs.DifferenceLemmas.{one_read, is_document, restyled, no_fault}
 use Rattle.jsonptr_filter.proofs.laws.difference_law.Goals as goal
-
--- a text is read as one document
-one_read : (text : _) (d e : Data) → read text ≡ Some d → read text ≡ Some e → d ≡ e
-one_read text d e h k =
-    let whole : Some d ≡ Some e = sym h ∙ k in
-    let same : d ≡ e = cc in
-    same
 
 no_read : (text : _) (d : Data) → read text ≡ Some d → read text ≡ None → ⊥
 no_read text d h k =
     let whole : Some d ≡ None = sym h ∙ k in
     let wrong : ⊥ = cc in
     wrong
-
-is_document : (d : Data) → IsDocument (nodes d)
-is_document d = (map_of-IsTree (content d), map_of-finite (content d))
 
 pub returns-clause-patched : goal.returns-clause-patched
 returns-clause-patched c a b out n m p style layout d reads_a reads_b diff reads_p y =

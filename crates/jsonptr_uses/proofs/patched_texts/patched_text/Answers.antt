@@ -1,0 +1,8 @@
+use Rattle.std.proofs.Common.{string_bytes}
+use Rattle.serde_json.specs.View.{view}
+use Rattle.jsonptr_filter.specs.declared.layout.Layout.TheVariants.{Kept, Compact}
+use Rattle.jsonptr_uses.proofs.patched_texts.patched_text.Goals as goal
+
+pub returns-clause-undone : goal.returns-clause-undone
+returns-clause-undone c = λ d back again reads reads_back second.
+    c.inverse_law.ensures.undone c.args.text.now (string_bytes c.in_ok-new.new) again d (view c.args.patch) back Compact Kept Kept c.in_ok-inverse.inverse reads c.in_ok-new.ensures.done (λ e. cc) c.in_ok-inverse.ensures.inverse reads_back second

@@ -1,0 +1,47 @@
+//! A text that is patched, with a patch that takes that back.
+ghost use Rattle.std.specs.Prelude.{◌≡◌, Some, IfOk, string_bytes};
+ghost use Rattle.serde_json.specs.Data.{Data};
+ghost use Rattle.serde_json.specs.Read.{read};
+ghost use Rattle.serde_json.specs.View.{view};
+ghost use Rattle.jsonptr.specs.Text.{Text};
+ghost use Rattle.jsonptr_filter.specs.Results.{PatchesBy};
+ghost use Rattle.jsonptr_filter.specs.declared.layout.Layout.TheVariants.{Kept};
+
+use jsonptr_filter::failure::Failure;
+use jsonptr_filter::inverse::inverse_of;
+use jsonptr_filter::laws::inverse_law;
+use jsonptr_filter::layout::Layout;
+use jsonptr_filter::result::result_in_text;
+use jsonptr_filter::task::Task;
+use serde_json::Value;
+use std::alloc::Global;
+
+/// The text of a document after a patch, and the text of a patch that takes it back.
+#[derive(Debug, Drop)]
+pub struct PatchedText {
+    /// The new text, in the layout of the old one.
+    pub new: String,
+    /// The text of a patch document.
+    pub undo: String,
+}
+
+/// Applies the patch to the text. What the patch `undo` makes of the new text is read as the document
+/// of the old one.
+///
+/// # Errors
+///
+/// Those of [`inverse_of`] and of [`Task::Patch`].
+pub fn patched_text(alloc: Global, text: &str, patch: Value) -> Result<PatchedText, Failure>
+    ensures patched { IfOk result (λ p.
+        PatchesBy text.now (view patch) Kept (string_bytes p.new)) }
+    ensures undone { IfOk result (λ p. (d back : Data) (again : Text)
+        → read text.now ≡ Some d → read (string_bytes p.undo) ≡ Some back
+        → PatchesBy (string_bytes p.new) back Kept again → read again ≡ Some d) }
+{
+    inverse_law();
+    let inverse = inverse_of(alloc, text, &patch, Layout::Compact)?;
+    let task = Task::Patch(patch);
+    let new = result_in_text(alloc, &task, Layout::Kept, text)?;
+    let undo = inverse.text;
+    Ok(PatchedText { new, undo })
+}
