@@ -21,4 +21,5 @@ pub mod ApartLemmas
 pub mod LaterLemmas
 pub mod WaitingLemmas
 pub mod BackLemmas
+mod BackOrderLemmas
 pub mod ApartnessLemmas

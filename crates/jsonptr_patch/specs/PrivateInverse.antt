@@ -1,7 +1,10 @@
 -- Operations that take back the changes of a document. Used only by private contracts; no public contract depends on
 -- this file.
-use Rattle.std.specs.Prelude.{◌≡◌, List, [], ◌∷◌, ◌++◌, reverse}
+use Rattle.std.specs.Prelude.{◌≡◌, List, [], ◌∷◌, ◌++◌, reverse, All}
+use Rattle.serde_json.specs.Data.{Data}
+use Rattle.jsonptr.specs.Json.{HasSortedKeys}
 use Rattle.jsonptr.specs.Node.{NodeMap}
+use Rattle.jsonptr_patch.specs.Order.{OperationHasSortedKeys}
 use Rattle.jsonptr_patch.specs.Patching.{Patches}
 use Rattle.jsonptr_patch.specs.declared.operation.Operation.{Operation}
 use Rattle.jsonptr_patch.specs.declared.operation.Operation.TheVariants.{Add, Remove, Replace, Move, Copy, Test}
@@ -24,3 +27,8 @@ IsPlaceBack (Replace path value) back = ⊥
 IsPlaceBack (Move from path) back = back ≡ Move path from ∷ []
 IsPlaceBack (Copy from path) back = back ≡ Remove path ∷ []
 IsPlaceBack (Test path value) back = ⊥
+
+-- `StaySorted d os ps`: if the keys of `d` are sorted, and those of the values in the operations `os`, so are those of the
+-- values in the operations `ps`.
+abbrev pub StaySorted : Data → List Operation → List Operation → Type 0
+StaySorted d os ps = HasSortedKeys d → All OperationHasSortedKeys os → All OperationHasSortedKeys ps

@@ -13,7 +13,7 @@ ghost use Rattle.jsonptr_patch.specs.Inverse.{TakesAddBack, TakesBack, TakesMove
 ghost use Rattle.jsonptr_patch.specs.Operating.{IsProperFront, Applies, RefusesAdd, RefusesMove, RefusesOperation};
 ghost use Rattle.jsonptr_patch.specs.Order.{OperationHasSortedKeys};
 ghost use Rattle.jsonptr_patch.specs.Patching.{Patches, RefusesPatch};
-ghost use Rattle.jsonptr_patch.specs.PrivateInverse.{AppendsBack, TakesAllBackFrom, IsPlaceBack};
+ghost use Rattle.jsonptr_patch.specs.PrivateInverse.{AppendsBack, TakesAllBackFrom, IsPlaceBack, StaySorted};
 ghost use Rattle.jsonptr_patch.specs.PrivateLater.{paths_of, IsPending, TakesPlace, StandsFor};
 ghost use Rattle.jsonptr_patch.specs.PrivateRecording.{CanUndo, Records};
 ghost use Rattle.jsonptr_patch.specs.declared.operation.Operation.{Operation as SpecOperation};
@@ -50,6 +50,9 @@ use std::alloc::{AllocError, Global};
 /// Otherwise it costs what [`apply`](crate::apply) costs. A move within one array removes the element
 /// twice.
 ///
+/// If the keys of each object are in ascending order in the document and in the values that are moved
+/// into it, they are so in the new document and in the values of the inverse.
+///
 /// ```rust
 /// let mut document = json!(in alloc; {"draft": 1, "title": 2})?;
 /// let from = PointerBuf::from_text(alloc, "/draft")?;
@@ -75,6 +78,8 @@ pub fn apply_with_inverse(
         → HasSortedKeys (view doc.old) → HasSortedKeys (view doc.new)) }
     ensures inverse { IfOk result (λ back.
         Patches (nodes (view doc.new)) back.items (nodes (view doc.old))) }
+    ensures inverse_sorted { IfOk result (λ back. All OperationHasSortedKeys patch.items
+        → HasSortedKeys (view doc.old) → All OperationHasSortedKeys back.items) }
     ensures empty { patch.items ≡ [] → IsOk result }
     ensures refused { IfRefused result (RefusesPatch (nodes (view doc.old)) patch.items) }
     ensures unchanged { OnErr result (view doc.new ≡ view doc.old) }
@@ -101,6 +106,7 @@ pub fn apply_with_inverse(
 /// # Errors
 ///
 /// Those of [`apply_with_inverse`]. To undo the journal restores the document.
+#[tactic(auto, using(crate::proofs::BackOrderLemmas::turned))]
 fn record_with_inverse(
     alloc: Global,
     doc: &mut Value,
@@ -114,6 +120,8 @@ fn record_with_inverse(
         → HasSortedKeys (view doc.old) → HasSortedKeys (view doc.new)) }
     ensures inverse { IfOk result (λ back.
         Patches (nodes (view doc.new)) back.items (nodes (view doc.old))) }
+    ensures inverse_sorted { IfOk result (λ back. All OperationHasSortedKeys operations.items
+        → HasSortedKeys (view doc.old) → All OperationHasSortedKeys back.items) }
     ensures refused { IfRefused result (RefusesPatch (nodes (view doc.old)) operations.items) }
     ensures undone { OnErr result (Records journal.old doc.old journal.new doc.new) }
 {
@@ -155,6 +163,8 @@ fn record_each(
         × Patches n (reverse inverse.new.items) (nodes (view doc.old))) }
     ensures sorted { IfOk result (λ _. All OperationHasSortedKeys operations.items
         → HasSortedKeys (view doc.old) → HasSortedKeys (view doc.new)) }
+    ensures inverse_sorted { IfOk result (λ _. All OperationHasSortedKeys operations.items
+        → HasSortedKeys (view doc.old) → All OperationHasSortedKeys inverse.new.items) }
     ensures refused { IfRefused result (RefusesPatch (nodes (view doc.old)) operations.items) }
     ensures undone { Records journal.old doc.old journal.new doc.new }
 {
@@ -190,6 +200,8 @@ fn step(
         × TakesAllBackFrom m inverse.new.items n inverse.old.items) }
     ensures sorted { IfOk result (λ _. OperationHasSortedKeys operation
         → HasSortedKeys (view doc.old) → HasSortedKeys (view doc.new)) }
+    ensures kept { IfOk result (λ _.
+        StaySorted (view doc.old) inverse.old.items inverse.new.items) }
     ensures refused { IfRefused result (λ e. (n : NodeMap)
         → IsPending (nodes (view doc.old)) later.old.items n
         → RefusesOperation n number operation e) }
@@ -228,6 +240,8 @@ fn settle_with_back(
         → TakesAllBackFrom m inverse.new.items n inverse.old.items) }
     ensures sorted { IfOk result (λ _.
         HasSortedKeys (view doc.old) → HasSortedKeys (view doc.new)) }
+    ensures kept { IfOk result (λ _.
+        StaySorted (view doc.old) inverse.old.items inverse.new.items) }
     ensures refused { IfRefused result (λ e. (n : NodeMap)
         → IsPending (nodes (view doc.old)) later.old.items n
         → RefusesOperation n number operation.now e) }
@@ -248,10 +262,12 @@ fn settle_with_back(
 ///
 /// [`AllocError`] if an allocation fails.
 fn append_place_back(inverse: &mut Vec<Operation>, operation: &Operation) -> Result<(), AllocError>
-    ensures { IfOk result (λ _. (n : NodeMap) (tokens : List Text)
+    ensures back { IfOk result (λ _. (n : NodeMap) (tokens : List Text)
         → TakesPlace n operation.now tokens
         → (back : List SpecOperation) × IsPlaceBack operation.now back
         × AppendsBack inverse.old.items back inverse.new.items) }
+    ensures kept { IfOk result (λ _. All OperationHasSortedKeys inverse.old.items
+        → All OperationHasSortedKeys inverse.new.items) }
 {
     match operation {
         Operation::Add { path, .. } => {
@@ -292,6 +308,8 @@ fn back_of(
     ensures back { IfOk result (λ _. (back : List SpecOperation)
         × TakesBack (nodes (view doc.old)) operation.now back
         × AppendsBack inverse.old.items back inverse.new.items) }
+    ensures kept { IfOk result (λ _.
+        StaySorted (view doc.old) inverse.old.items inverse.new.items) }
     ensures refused { IfRefused result (RefusesOperation (nodes (view doc.old)) number operation.now) }
     ensures same { view doc.new ≡ view doc.old }
 {
@@ -338,6 +356,8 @@ fn back_of_add(
     path: Pointer<'_>,
 ) -> Result<Operation, Fault<PatchError>>
     ensures back { IfOk result (TakesAddBack (nodes (view doc.now)) (tokens path.entry)) }
+    ensures sorted { IfOk result (λ back.
+        HasSortedKeys (view doc.now) → OperationHasSortedKeys back) }
     ensures refused { IfRefused result
         (RefusesAdd (nodes (view doc.now)) number (tokens path.entry)) }
 {
@@ -394,6 +414,8 @@ fn back_of_move(
     ensures back { IfOk result (λ _. (back : List SpecOperation)
         × TakesBack (nodes (view doc.old)) (variant.Move (tokens from.entry) (tokens path.entry)) back
         × AppendsBack inverse.old.items back inverse.new.items) }
+    ensures kept { IfOk result (λ _.
+        StaySorted (view doc.old) inverse.old.items inverse.new.items) }
     ensures refused { IfRefused result (RefusesMove (nodes (view doc.old)) number
         (tokens from.entry) (tokens path.entry)) }
     ensures same { view doc.new ≡ view doc.old }
@@ -429,6 +451,8 @@ fn back_of_way(
         × TakesAddBack (nodes (view doc.now)) (tokens path.entry) o
         × TakesMoveBack (nodes (view doc.now)) (tokens from.entry) (tokens path.entry) o back
         × AppendsBack inverse.old.items back inverse.new.items) }
+    ensures kept { IfOk result (λ _.
+        StaySorted (view doc.now) inverse.old.items inverse.new.items) }
     ensures refused { IfRefused result
         (RefusesAdd (nodes (view doc.now)) number (tokens path.entry)) }
 {
@@ -481,6 +505,8 @@ fn back_in_left(
         × TakesAddBack (nodes (view left.now)) (tokens path.entry) o
         × TakesMoveBack n (tokens from.entry) (tokens path.entry) o back
         × AppendsBack inverse.old.items back inverse.new.items) }
+    ensures kept { IfOk result (λ _. HasSortedKeys (view value.now)
+        → StaySorted (view left.now) inverse.old.items inverse.new.items) }
     ensures refused { IfRefused result
         (RefusesAdd (nodes (view left.now)) number (tokens path.entry)) }
 {

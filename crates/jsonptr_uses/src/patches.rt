@@ -1,6 +1,6 @@
 //! Changes of a JSON document that patches undo: a deletion, and a patch by its inverse.
-ghost use Rattle.std.specs.Prelude.{◌≡◌, ◌⊎◌, ◌∷◌, [], IfOk, OnErr};
-ghost use Rattle.serde_json.specs.Data.{null};
+ghost use Rattle.std.specs.Prelude.{◌≡◌, ◌⊎◌, ◌∷◌, [], All, IfOk, OnErr};
+ghost use Rattle.serde_json.specs.Data.{Data, null};
 ghost use Rattle.serde_json.specs.View.{view};
 ghost use Rattle.jsonptr.specs.Fault.{IfRefused, IsRefused};
 ghost use Rattle.jsonptr.specs.Json.{nodes, HasSortedKeys};
@@ -71,7 +71,8 @@ fn patch_of(alloc: Global, operation: Operation) -> Result<Vec<Operation>, Alloc
 
 /// Undoes a patch, as an editor does: applies the inverse that
 /// [`apply_with_inverse`](jsonptr_patch::apply_with_inverse) returned. The document then has the node
-/// map that it had before the patch.
+/// map that it had before the patch. It is the same value if the keys of each object are in ascending order
+/// in the document before the patch and in the values of the patch, as in parsed ones.
 ///
 /// # Errors
 ///
@@ -89,15 +90,21 @@ pub fn undo(
     ensures undone { IfOk result (λ _. (old : NodeMap)
         → Patches (nodes (view document.old)) inverse.items old
         → nodes (view document.new) ≡ old) }
+    ensures same { IfOk result (λ _. (old : Data)
+        → Patches (nodes (view document.old)) inverse.items (nodes old) → HasSortedKeys old
+        → HasSortedKeys (view document.old) → All OperationHasSortedKeys inverse.items
+        → view document.new ≡ old) }
     ensures unchanged { OnErr result (view document.new ≡ view document.old) }
     ensures never_refused { IsRefused result → ⊥ }
 {
     patch_law();
+    json_map_law();
     apply(alloc, document, inverse)
 }
 
 /// Applies the patch, keeps its inverse, and undoes it. The document then has the same node map as
-/// before.
+/// before, and is the same value if the keys of its objects and of the values in the patch are in
+/// ascending order.
 ///
 /// # Errors
 ///
@@ -109,6 +116,8 @@ pub fn changed_and_undone(
     patch: Vec<Operation>,
 ) -> Result<(), Fault<PatchError>>
     ensures restored { IfOk result (λ _. nodes (view document.new) ≡ nodes (view document.old)) }
+    ensures same { IfOk result (λ _. All OperationHasSortedKeys patch.items
+        → HasSortedKeys (view document.old) → view document.new ≡ view document.old) }
     ensures refused { IfRefused result (RefusesPatch (nodes (view document.old)) patch.items) }
     ensures stays { OnErr result ((view document.new ≡ view document.old)
         ⊎ Patches (nodes (view document.old)) patch.items (nodes (view document.new))) }

@@ -8,6 +8,8 @@ use Rattle.jsonptr_patch.specs.Inverse.{TakesAddBack}
 use Rattle.jsonptr_patch.proofs.BackLemmas.{copy_add_refused, moved_back}
 use Rattle.jsonptr_patch.proofs.InverseLemmas.{one_back}
 use Rattle.jsonptr_patch.proofs.OperatingLemmas.{way_refused}
+use Rattle.jsonptr_patch.proofs.BackOrderLemmas.{appended}
+use Rattle.jsonptr_patch.specs.declared.operation.Operation.TheVariants as variant
 use Rattle.jsonptr_patch.proofs.inverse.back_of.Goals as goal
 
 pub returns-in_ok-append-in-Add-clause-back : goal.returns-in_ok-append-in-Add-clause-back
@@ -36,3 +38,19 @@ returns-in-Move-clause-back c = rw c.in-Move.is (moved_back (nodes (view c.args.
 
 pub returns-in-Move-clause-refused : goal.returns-in-Move-clause-refused
 returns-in-Move-clause-refused c = rw c.in-Move.is (way_refused (nodes (view c.args.doc.now)) c.args.number _ _ _ _ c.back_of_move.result c.as_ptr-in-Move.ensures.tokens c.as_ptr-in-Move-2.ensures.tokens c.back_of_move.ensures.refused)
+
+pub returns-in_ok-append-in-Add-clause-kept : goal.returns-in_ok-append-in-Add-clause-kept
+returns-in_ok-append-in-Add-clause-kept c = λ h.
+    appended c.args.inverse.now.items c.append.new.inverse.items c.in_ok-back-in-Add.back c.in_ok-append-in-Add.ensures (c.in_ok-back-in-Add.ensures.sorted h)
+
+pub returns-in_ok-append-in-Copy-clause-kept : goal.returns-in_ok-append-in-Copy-clause-kept
+returns-in_ok-append-in-Copy-clause-kept c = λ h.
+    appended c.args.inverse.now.items c.append-in-Copy.new.inverse.items c.in_ok-back-in-Copy.back c.in_ok-append-in-Copy.ensures (c.in_ok-back-in-Copy.ensures.sorted h)
+
+pub returns-in_ok-append-in-Remove-clause-kept : goal.returns-in_ok-append-in-Remove-clause-kept
+returns-in_ok-append-in-Remove-clause-kept c = λ h.
+    appended c.args.inverse.now.items c.append-in-Remove.new.inverse.items (variant.Add c.in_ok-path-in-Remove.path c.in_ok-value-in-Remove.value) c.in_ok-append-in-Remove.ensures (c.in_ok-value-in-Remove.ensures.sorted h)
+
+pub returns-in_ok-append-in-Replace-clause-kept : goal.returns-in_ok-append-in-Replace-clause-kept
+returns-in_ok-append-in-Replace-clause-kept c = λ h.
+    appended c.args.inverse.now.items c.append-in-Replace.new.inverse.items (variant.Replace c.in_ok-path-in-Replace.path c.in_ok-value-in-Replace.value) c.in_ok-append-in-Replace.ensures (c.in_ok-value-in-Replace.ensures.sorted h)

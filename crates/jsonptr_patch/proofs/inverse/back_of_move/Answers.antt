@@ -8,6 +8,7 @@ use Rattle.jsonptr_patch.proofs.BackLemmas.{way_taken_back, way_add_refused}
 use Rattle.jsonptr_patch.proofs.ChangeMapLemmas.{takes_node}
 use Rattle.jsonptr_patch.proofs.OperatingLemmas.{ok_all, refused_all, left_refused}
 use Rattle.jsonptr_patch.proofs.PlaceLemmas.{named_there}
+use Rattle.jsonptr_patch.proofs.ChangeOrderLemmas.{sorted_taken, sorted_without}
 use Rattle.jsonptr_patch.proofs.inverse.back_of_move.Goals as goal
 
 pub returns-then-diverges-clause-back : goal.returns-then-diverges-clause-back
@@ -44,3 +45,10 @@ returns-clause-refused c = refused_all c.back_in_left-appended.result _ _
 
 pub returns-clause-same : goal.returns-clause-same
 returns-clause-same c = content_one (view c.undo_removal.new.doc) (view c.args.doc.now) (c.undo_removal.ensures (contents_of c.args.doc.now) c.in_ok-value.ensures.undone)
+
+pub returns-clause-kept : goal.returns-clause-kept
+returns-clause-kept c = ok_all c.back_in_left-appended.result _ _
+    (λ h s. h
+    (sorted_taken (path_of c.in_ok-location.location) (contents_of c.in_ok-value.field-0.value) (contents_of c.args.doc.now) (contents_of c.take.new.doc) c.in_ok-value.ensures.taken s)
+    (sorted_without (path_of c.in_ok-location.location) (contents_of c.in_ok-value.field-0.value) (contents_of c.args.doc.now) (contents_of c.take.new.doc) c.in_ok-value.ensures.taken s))
+    c.back_in_left-appended.ensures.kept

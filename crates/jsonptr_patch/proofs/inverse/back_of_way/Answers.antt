@@ -5,6 +5,7 @@ use Rattle.jsonptr.specs.Pointer.{tokens}
 use Rattle.jsonptr_patch.specs.declared.operation.Operation.TheVariants.{Add, Remove, Replace, Move}
 use Rattle.jsonptr_patch.proofs.BackLemmas.{way_removed, way_replaced}
 use Rattle.jsonptr_patch.proofs.InverseLemmas.{one_back, two_back}
+use Rattle.jsonptr_patch.proofs.BackOrderLemmas.{appended, both_appended}
 use Rattle.jsonptr_patch.proofs.inverse.back_of_way.Goals as goal
 
 pub returns-in_ok-append-in-Remove-clause-back : goal.returns-in_ok-append-in-Remove-clause-back
@@ -28,3 +29,14 @@ returns-in_ok-append-in-Replace-2-clause-back c =
       two_back c.args.inverse.now.items c.append-in-Replace-2.new.inverse.items (Move c.in-Replace.place c.in_ok-back.back) first
           (search (c.in_ok-append-in-Replace-2.ensures, c.in_ok-append-in-Replace.ensures)),
     )
+
+pub returns-in_ok-append-in-Remove-clause-kept : goal.returns-in_ok-append-in-Remove-clause-kept
+returns-in_ok-append-in-Remove-clause-kept c = λ h.
+    appended c.args.inverse.now.items c.append.new.inverse.items (Move c.in-Remove.place c.in_ok-back.back) c.in_ok-append-in-Remove.ensures tt
+
+pub returns-in_ok-append-in-Replace-2-clause-kept : goal.returns-in_ok-append-in-Replace-2-clause-kept
+returns-in_ok-append-in-Replace-2-clause-kept c = λ h.
+    both_appended c.args.inverse.now.items c.append-in-Replace-2.new.inverse.items (Add c.in_ok-again.again c.in-Replace.value) (Move c.in-Replace.place c.in_ok-back.back)
+    (search (c.in_ok-append-in-Replace-2.ensures, c.in_ok-append-in-Replace.ensures))
+    (rw c.in-Replace.is at c.in_ok-_other.ensures.sorted h)
+    tt

@@ -18,6 +18,7 @@ loop-operation-preserved c =
       counted = simp length-append (omega (arith, held.counted));
       done = (next.0, patches_push _ _ _ c.loop-operation.yielded c.in-Some.operation held.done.1 next.1, next.2, next.3 (nodes (view c.args.doc.now)) held.done.3);
       ordered = λ all a. c.in_ok-step.ensures.sorted (each_at OperationHasSortedKeys _ c.loop-operation.yielded _ c.in-Some.operation all split) (held.ordered all a);
+      kept = λ all a. c.in_ok-step.ensures.kept (held.ordered all a) (held.kept all a);
       recorded = λ k u. c.in_ok-step.ensures.undone k (held.recorded k u);
     }
 

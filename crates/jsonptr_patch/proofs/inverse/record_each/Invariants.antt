@@ -16,5 +16,6 @@ invariant-loop-operation l = record {
   counted : l.number ≡ length l.yielded;
   done : (n : NodeMap) × Patches (nodes (view l.initial.doc)) l.yielded n × IsPending (nodes (view l.doc)) l.later.items n × Patches n (reverse l.inverse.items) (nodes (view l.initial.doc));
   ordered : All OperationHasSortedKeys l.fn.operations.items → HasSortedKeys (view l.initial.doc) → HasSortedKeys (view l.doc);
+  kept : All OperationHasSortedKeys l.fn.operations.items → HasSortedKeys (view l.initial.doc) → All OperationHasSortedKeys l.inverse.items;
   recorded : Records l.initial.journal l.initial.doc l.journal l.doc;
 }

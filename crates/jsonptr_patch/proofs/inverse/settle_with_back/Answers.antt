@@ -21,7 +21,7 @@ returns-then-take_place-clause-stands c = λ n p.
 pub returns-then-take_place-clause-back : goal.returns-then-take_place-clause-back
 returns-then-take_place-clause-back c = λ n m p a.
     let r = c.take_place.ensures.frees c.if-take_place.true n p in
-    let b = c.in_ok-append_place_back.ensures r.0 r.2.tokens r.2.place in
+    let b = c.in_ok-append_place_back.ensures.back r.0 r.2.tokens r.2.place in
     freed_back c.args.doc.now r.0 n m c.args.operation.now b.0 c.args.inverse.now.items c.append_place_back.new.inverse.items c.take_place.new.later.items r.1 r.2 b.1 b.2 a
 
 pub returns-clause-stands : goal.returns-clause-stands
@@ -44,3 +44,11 @@ returns-clause-refused c = refused_all c.back_of.result _ _
     let q = subst (λ (ls : List Later). IsPending (nodes (view c.args.doc.now)) ls n) (sym (c.take_place.ensures.same c.if-take_place.false)) p in
     now_refused c.make_apart.new.doc c.args.number c.args.operation.now c.make_apart.new.later.items c.in_ok-make_apart.ensures.apart e r n (c.in_ok-make_apart.ensures.same n q))
     c.back_of.ensures.refused
+
+pub returns-then-take_place-clause-kept : goal.returns-then-take_place-clause-kept
+returns-then-take_place-clause-kept c = λ h. c.in_ok-append_place_back.ensures.kept
+
+pub returns-clause-kept : goal.returns-clause-kept
+returns-clause-kept c = ok_all c.back_of.result _ _
+    (λ k h. k (c.in_ok-make_apart.ensures.sorted h))
+    c.back_of.ensures.kept

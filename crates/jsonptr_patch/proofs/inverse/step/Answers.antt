@@ -9,3 +9,8 @@ returns-clause-applied c = ok_all c.record_apart.result _ _
     let a = s.2.applied r.0 r.1 in
     (r.0, a, r.2, c.in_ok-settle_with_back.ensures.back n r.0 p a))
     c.record_apart.ensures.applied
+
+pub returns-clause-kept : goal.returns-clause-kept
+returns-clause-kept c = ok_all c.record_apart.result _ _
+    (λ f. c.in_ok-settle_with_back.ensures.kept)
+    c.record_apart.ensures.applied
