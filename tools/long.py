@@ -1,4 +1,5 @@
 """Runs very long inputs, each once, on a small stack and within a time limit that only linear work meets."""
+import json
 import os
 import subprocess
 import sys
@@ -16,6 +17,7 @@ COUNT = 1_000_000
 REFUSED = [10, 500_000, 1_000_000]
 PATCH_TEST_FAILED = "patch failed at operation {}: test failed"
 ROUNDS = 12_500
+MEMBERS = 2_500
 TOKENS = "/a" * COUNT
 PLAIN = "a" * (16 << 20)
 ESCAPED = "~1" * (8 << 20)
@@ -105,9 +107,26 @@ def programs():
     yield run(*patch, "replace", "", "2", start, result="2")
 
 
+def waiting():
+    """Patches that remove or move more members of one object than may wait until their last operation."""
+    names = [f"k{number:04}" for number in range(MEMBERS)]
+    document = json.dumps({**{name: 1 for name in names}, "last": 2}, separators=(",", ":"))
+    removals = [word for name in names for word in ("remove", f"/{name}")]
+    moves = [word for name in names for word in ("move", f"/{name}", f"/{name}x")]
+    for operations, result in [(removals, '{"last":2}'), (moves, document.replace('":1', 'x":1'))]:
+        yield run("patch", *operations, document, result=sorted_members(result))
+        yield run("patch", *operations, "test", "/last", "3", document, result=PATCH_TEST_FAILED.format(MEMBERS))
+
+
+def sorted_members(text):
+    """Returns the JSON text of an object with its keys in order."""
+    return json.dumps(json.loads(text), sort_keys=True, separators=(",", ":"))
+
+
 def tables():
     """The cases, one table at a time, since they are large."""
     yield list(programs())
+    yield list(waiting())
     for text, first, last, count in [
         (TOKENS, "a", "a", COUNT),
         ("/" + PLAIN, PLAIN, PLAIN, 1),

@@ -506,10 +506,12 @@ jsonptr_status jsonptr_document_delete(jsonptr_document *document,
  * Cost      linear in the text and in what the operations change, which is of an
  *           array the elements after the one that is added or removed, and in
  *           the document if `down` is not 0. A member that is removed or moved
- *           away leaves its object after the last operation. If 512 of them wait,
- *           or an operation reads or writes above or below one of them, they
- *           leave before it, which takes time linear in their objects.
- *           JSONPTR_PATCH_FAILED costs at most twice as much. */
+ *           away leaves its object after the last operation. Each pointer is
+ *           compared with those of the members that wait. If 1,024 wait, or an
+ *           operation reads or writes above or below one of them, or in another
+ *           element of an array around it, all leave before it, which takes time
+ *           linear in their objects. A value that is added where a member waits
+ *           takes its place. JSONPTR_PATCH_FAILED costs at most twice as much. */
 JSONPTR_API JSONPTR_NODISCARD
 jsonptr_status jsonptr_document_patch(jsonptr_document *document,
                                       const char *text, size_t text_length,
