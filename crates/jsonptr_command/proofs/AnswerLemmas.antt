@@ -1,8 +1,11 @@
 -- From what is known about the document to what is known about the bytes of the input.
-use Rattle.std.proofs.Common.{◌≡◌, ℕ, List, Option, Some, None, Result, Ok, Err, MatchOption, refl, sym, ap, ◌∙◌, subst, inl, inr}
-use Rattle.std.specs.Prelude.{IfSome}
+use Rattle.std.proofs.Common.{◌≡◌, ℕ, List, Option, Some, None, Result, Ok, Err, MatchOption, ◌⊎◌, refl, sym, ap, ◌∙◌, subst, inl, inr}
+use Rattle.std.specs.Prelude.{IfSome, IfErr, OnErr, String, option_map, alloc_error}
 use Rattle.std.specs.Str.{IsUtf8}
+use Rattle.std.specs.declared.alloc.Global.{Global}
 use Rattle.serde_json.specs.Data.{Data}
+use Rattle.serde_json.specs.View.{view}
+use Rattle.serde_json.specs.declared.value.Value.{Value}
 use Rattle.jsonptr.specs.Text.{Text}
 use Rattle.jsonptr.specs.declared.pointer.Pointer.{Pointer}
 use Rattle.jsonptr_in_text.specs.InText.{FindsInText, IsInSliceError}
@@ -12,15 +15,15 @@ use Rattle.jsonptr_in_text.specs.declared.resolve.InTextError.TheVariants as in_
 use Rattle.jsonptr_command.specs.JsonText.{json_of}
 use Rattle.jsonptr_command.specs.Streams.{ForBytes}
 use Rattle.jsonptr_command.proofs.JsonLemmas.{json_of-utf8, json_of-None}
-use Rattle.jsonptr_command.specs.Run.{Outcome, HasValueOf, IsKept, IsLeft, IsRequestFault, NeedsInput, OnDocument, Resolves, resolving}
+use Rattle.jsonptr_command.specs.Run.{Asks, ComesAfterInput, ForRequest, Outcome, HasValueOf, IsKept, IsLeft, IsOperationFault, IsRequestFault, IsWordsMemory, LeavesValue, NeedsInput, listing, splitting, SplitsInTwo, texts_value, OnDocument, Resolves, resolving}
 use Rattle.jsonptr_command.specs.Faults.{IsInputFault, of_in_text_error}
-use Rattle.jsonptr_command.specs.Private.{task_of, request_of, Does, IsFaultOf, IsLeftBy, IsLineOf}
+use Rattle.jsonptr_command.specs.Private.{task_of, request_of, ComesBeforeDocument, Does, IsFaultOf, IsLeftBy, IsLineOf, IsNoValue}
 use Rattle.jsonptr_command.specs.declared.run.Request as code
 use Rattle.jsonptr_command.specs.declared.run.Request.TheVariants.{Tokens, Split, Document}
 use Rattle.jsonptr_command.specs.declared.run.Task.{Task}
 use Rattle.jsonptr_command.specs.declared.run.Task.TheVariants.{Resolve, Assign, Delete, Patch}
 use Rattle.jsonptr_command.specs.declared.fault.RunFault.{RunFault}
-use Rattle.jsonptr_command.specs.declared.fault.RunFault.TheVariants.{InputNotJson, NoValue}
+use Rattle.jsonptr_command.specs.declared.fault.RunFault.TheVariants.{Usage, BadPointer, ValueNotJson, NoValue, BadPlace, NotThere, BadSplit, BadPatch, InputNotJson, Memory, Read, Write}
 
 -- a property of the bytes, weakened
 pub ForBytes-map : (known : Option (List ℕ)) (P Q : List ℕ → Type 0) → ((bytes : List ℕ) → P bytes → Q bytes) → ForBytes known P → ForBytes known Q
@@ -88,6 +91,15 @@ module _ (task : Task) (known : Option (List ℕ)) where
         (λ bytes is. gives task bytes (Err e) (on_document bytes d (Err e) (λ d. Does task d (Err e)) is h)) read)
     fault_given e (inr memory) = inr (inl memory)
 
+    -- what the task leaves where an allocation fails is that document, or the one after the task
+    pub either_given : (new : Data) → (new ≡ d) ⊎ IsLeftBy task d new → ForBytes known (λ bytes. (some new ≡ json_of bytes) ⊎ IsKept (task_of task) bytes (Some new))
+    either_given new (inl same) =
+        ForBytes-map known (λ bytes. json_of bytes ≡ Some d) (λ bytes. (some new ≡ json_of bytes) ⊎ IsKept (task_of task) bytes (Some new))
+        (λ bytes is. inl (ap some same ∙ sym is)) read
+    either_given new (inr h) =
+        ForBytes-map known (λ bytes. json_of bytes ≡ Some d) (λ bytes. (some new ≡ json_of bytes) ⊎ IsKept (task_of task) bytes (Some new))
+        (λ bytes is. inr (new, refl, leaves task bytes d new is h)) read
+
     -- and what the task leaves is the document of the bytes, or the one after the task
     pub left_given : (new : Data) → IsLeftBy task d new → ForBytes known (λ bytes. IsKept (task_of task) bytes (Some new))
     left_given new h =
@@ -123,3 +135,165 @@ pub needs_task : (request : code.Request) → ((task : Task) → request ≡ Doc
 needs_task (Tokens p) not needs = needs
 needs_task (Split p n) not needs = needs
 needs_task (Document task) not needs = not task refl
+
+-- ---- errors that do not come together
+
+-- an error on a document is none of the words or of the input
+pub after_document : (task : Task) (d : Data) (e : RunFault) → IsFaultOf (Does task d) e → ComesBeforeDocument e → ⊥
+after_document task d e (inr is) before = subst ComesBeforeDocument is before
+after_document (Resolve p) d e (inl h) before = subst ComesBeforeDocument h.2 before
+after_document (Assign p v) d e (inl h) before = subst ComesBeforeDocument h.2 before
+after_document (Delete p) d e (inl h) before = subst ComesBeforeDocument h.1 before
+after_document (Patch patch) d e (inl h) before = subst ComesBeforeDocument h.4 before
+
+-- the bytes of which a property holds
+some_bytes : (known : Option (List ℕ)) (P : List ℕ → Type 0) → ForBytes known P → (bytes : List ℕ) × P bytes
+some_bytes None P h = h
+some_bytes (Some bytes) P h = (bytes, h)
+
+-- an error on the bytes is that they are not a document, or one on it
+error_on : (o : Option Data) (e : RunFault) (P : Data → Type 0) → MatchOption o (refusal e ≡ refusal InputNotJson) P → (e ≡ InputNotJson) ⊎ ((d : Data) × P d)
+error_on None e P h = let is : e ≡ InputNotJson = cc in inl is
+error_on (Some d) e P h = inr (d, h)
+
+-- on a document, only `resolve` finds no value
+finds_value : (task : Task) (d : Data) (e : RunFault) → ((p : Pointer) → task ≡ Resolve p → ⊥) → Does task d (Err e) → IsNoValue e → ⊥
+finds_value (Resolve p) d e not h none = absurd (not p refl)
+finds_value (Assign p v) d e not h none = let is = h.2 in let other = none.1 in cc
+finds_value (Delete p) d e not h none = let is = h.1 in let other = none.1 in cc
+finds_value (Patch patch) d e not h none = let is = h.4 in let other = none.1 in cc
+
+-- the result of a task on the bytes is the one on their document
+takes : (task : Task) (bytes : List ℕ) (r : Result Data RunFault) → Outcome (task_of task) bytes r → OnDocument bytes r (λ d. Does task d r)
+takes (Resolve p) bytes r h = h
+takes (Assign p v) bytes r h = h
+takes (Delete p) bytes r h = h
+takes (Patch patch) bytes r h = h
+
+module _ (known : Option (List ℕ)) (e : RunFault) where
+  -- only `resolve` finds no value
+  pub not_no_value : (task : Task) → ((p : Pointer) → task ≡ Resolve p → ⊥) → IsRequestFault (task_of task) known e → IsNoValue e → ⊥
+  not_no_value task not (inr (inl is)) none = let other = none.1 in cc
+  not_no_value task not (inr (inr h)) none = let is = h.1 in let other = none.1 in cc
+  not_no_value task not (inl h) none =
+      let found = some_bytes known (λ bytes. Outcome (task_of task) bytes (Err e)) h in
+      by_error (error_on (json_of found.0) e (λ d. Does task d (Err e)) (takes task found.0 (Err e) found.1))
+    where
+      by_error : (e ≡ InputNotJson) ⊎ ((d : Data) × Does task d (Err e)) → ⊥
+      by_error (inl is) = let other = none.1 in cc
+      by_error (inr g) = finds_value task g.0 e not g.1 none
+
+  -- and it fails with nothing else once the input is read
+  pub resolve_is_no_value : (ts : List Text) → IsRequestFault (resolving ts) known e → IsOperationFault e → (IsNoValue e → ⊥) → ⊥
+  resolve_is_no_value ts (inr (inl is)) fault not = subst ComesAfterInput is fault.0
+  resolve_is_no_value ts (inr (inr h)) fault not = subst ComesAfterInput h.1 fault.0
+  resolve_is_no_value ts (inl h) fault not =
+      let found = some_bytes known (λ bytes. Outcome (resolving ts) bytes (Err e)) h in
+      by_error (error_on (json_of found.0) e (λ d. Resolves d ts (Err e)) found.1)
+    where
+      by_error : (e ≡ InputNotJson) ⊎ ((d : Data) × Resolves d ts (Err e)) → ⊥
+      by_error (inl is) = fault.1 is
+      by_error (inr g) = not (g.1.0, g.1.2)
+
+-- ---- what an error leaves of the value
+
+abbrev some_value : Option Value → Option Data
+some_value v = option_map view v
+
+module _ (known : Option (List ℕ)) (P Q : List ℕ → Type 0) (more : (bytes : List ℕ) → P bytes → Q bytes) (old new : Option Data) where
+  either_more : (bytes : List ℕ) → (new ≡ json_of bytes) ⊎ P bytes → (new ≡ json_of bytes) ⊎ Q bytes
+  either_more bytes (inl is) = inl is
+  either_more bytes (inr h) = inr (more bytes h)
+
+  memory_more : (new ≡ old) ⊎ ForBytes known (λ bytes. (new ≡ json_of bytes) ⊎ P bytes) → (new ≡ old) ⊎ ForBytes known (λ bytes. (new ≡ json_of bytes) ⊎ Q bytes)
+  memory_more (inl is) = inl is
+  memory_more (inr h) = inr (ForBytes-map known (λ bytes. (new ≡ json_of bytes) ⊎ P bytes) (λ bytes. (new ≡ json_of bytes) ⊎ Q bytes) either_more h)
+
+  pub leaves_more : (e : RunFault) → LeavesValue known P old new e → LeavesValue known Q old new e
+  leaves_more Usage h = h
+  leaves_more (BadPointer f) h = h
+  leaves_more ValueNotJson h = h
+  leaves_more (BadSplit position count) h = h
+  leaves_more (NoValue f) h = h
+  leaves_more (BadPlace f) h = h
+  leaves_more NotThere h = h
+  leaves_more (BadPatch f) h = h
+  leaves_more InputNotJson h = h
+  leaves_more (Memory f) h = memory_more h
+  leaves_more Read h = h
+  leaves_more Write h = tt
+
+-- where nothing was changed
+module _ (known : Option (List ℕ)) (P : List ℕ → Type 0) (old new : Option Data) (same : new ≡ old) where
+  same_left : (e : RunFault) → (IsOperationFault e → (IsNoValue e → ⊥) → ⊥) → LeavesValue known P old new e
+  same_left Usage not = same
+  same_left (BadPointer f) not = same
+  same_left ValueNotJson not = same
+  same_left (BadSplit position count) not = same
+  same_left (NoValue f) not = same
+  same_left (BadPlace f) not = absurd (not (tt, (λ is. let no : ⊥ = cc in no), (λ is. let no : ⊥ = cc in no)) (λ none. let is = none.1 in let no : ⊥ = cc in no))
+  same_left NotThere not = absurd (not (tt, (λ is. let no : ⊥ = cc in no), (λ is. let no : ⊥ = cc in no)) (λ none. let is = none.1 in let no : ⊥ = cc in no))
+  same_left (BadPatch f) not = absurd (not (tt, (λ is. let no : ⊥ = cc in no), (λ is. let no : ⊥ = cc in no)) (λ none. let is = none.1 in let no : ⊥ = cc in no))
+  same_left InputNotJson not = same
+  same_left (Memory f) not = inl same
+  same_left Read not = same
+  same_left Write not = tt
+
+-- a pointer that is resolved leaves the value unchanged
+pub found_left : (ts : List Text) (known : Option (List ℕ)) (P : List ℕ → Type 0) (old new : Option Value) (r : Result (String Global) RunFault)
+    → IfErr r (IsRequestFault (resolving ts) known) → OnErr r (new ≡ old) → IfErr r (LeavesValue known P (some_value old) (some_value new))
+found_left ts known P old new (Ok s) fault same = tt
+found_left ts known P old new (Err e) fault same = same_left known P (some_value old) (some_value new) (ap some_value same) e (resolve_is_no_value known e ts fault)
+
+-- a task on a document
+module _ (task : Task) (other : (p : Pointer) → task ≡ Resolve p → ⊥) (known : Option (List ℕ)) (old new : Option Data) where
+  abbrev Made : List ℕ → Type 0
+  Made bytes = HasValueOf (task_of task) bytes new
+
+  made_value : (bytes : List ℕ) → IsKept (task_of task) bytes new → Made bytes
+  made_value bytes h = left_is_value task (Some bytes) new other h
+
+  task_left : (e : RunFault) → IsRequestFault (task_of task) known e → (ComesBeforeDocument e → new ≡ old)
+      → (IsOperationFault e → ForBytes known (λ bytes. new ≡ json_of bytes))
+      → (e ≡ Memory alloc_error → (new ≡ old) ⊎ ForBytes known (λ bytes. (new ≡ json_of bytes) ⊎ IsKept (task_of task) bytes new))
+      → LeavesValue known Made old new e
+  task_left Usage fault before after memory = before tt
+  task_left (BadPointer f) fault before after memory = before tt
+  task_left ValueNotJson fault before after memory = before tt
+  task_left (BadSplit position count) fault before after memory = before tt
+  task_left (NoValue f) fault before after memory = absurd (not_no_value known (NoValue f) task other fault (f, refl))
+  task_left (BadPlace f) fault before after memory = after (tt, (λ is. let no : ⊥ = cc in no), (λ is. let no : ⊥ = cc in no))
+  task_left NotThere fault before after memory = after (tt, (λ is. let no : ⊥ = cc in no), (λ is. let no : ⊥ = cc in no))
+  task_left (BadPatch f) fault before after memory = after (tt, (λ is. let no : ⊥ = cc in no), (λ is. let no : ⊥ = cc in no))
+  task_left InputNotJson fault before after memory = before tt
+  task_left (Memory f) fault before after memory = memory_more known (λ bytes. IsKept (task_of task) bytes new) Made made_value old new (memory refl)
+  task_left Read fault before after memory = before tt
+  task_left Write fault before after memory = tt
+
+pub value_left : (task : Task) → ((p : Pointer) → task ≡ Resolve p → ⊥) → (known : Option (List ℕ)) (old new : Option Value) (r : Result (String Global) RunFault)
+    → IfErr r (IsRequestFault (task_of task) known) → IfErr r (λ e. ComesBeforeDocument e → new ≡ old)
+    → IfErr r (λ e. IsOperationFault e → ForBytes known (λ bytes. some_value new ≡ json_of bytes))
+    → IfErr r (λ e. e ≡ Memory alloc_error → (new ≡ old) ⊎ ForBytes known (λ bytes. (some_value new ≡ json_of bytes) ⊎ IsKept (task_of task) bytes (some_value new)))
+    → IfErr r (LeavesValue known (λ bytes. HasValueOf (task_of task) bytes (some_value new)) (some_value old) (some_value new))
+value_left task other known old new (Ok s) fault before after memory = tt
+value_left task other known old new (Err e) fault before after memory =
+    task_left task other known (some_value old) (some_value new) e fault (λ h. ap some_value (before h)) after (λ is. views (memory is))
+  where
+    views : {A : Type 0} → (new ≡ old) ⊎ A → (some_value new ≡ some_value old) ⊎ A
+    views (inl same) = inl (ap some_value same)
+    views (inr h) = inr h
+
+-- a request without an input has no operation on a document
+no_operation : (request : code.Request) → ((task : Task) → request ≡ Document task → ⊥) → (known : Option (List ℕ)) (e : RunFault)
+    → IsRequestFault (request_of request) known e → IsOperationFault e → ⊥
+no_operation request not known e (inr (inl is)) fault = subst ComesAfterInput is fault.0
+no_operation request not known e (inr (inr h)) fault = needs_task request not h.0
+no_operation (Tokens p) not known e (inl h) fault = let found = some_bytes known _ h in let is = found.1 in let no : ⊥ = cc in no
+no_operation (Split p n) not known e (inl h) fault = let found = some_bytes known _ h in subst ComesAfterInput found.1.1 fault.0
+no_operation (Document task) not known e h fault = absurd (not task refl)
+
+pub request_left : (request : code.Request) → ((task : Task) → request ≡ Document task → ⊥) → (known : Option (List ℕ)) (P : List ℕ → Type 0) (old new : Option Value) (r : Result (String Global) RunFault)
+    → IfErr r (IsRequestFault (request_of request) known) → ((NeedsInput (request_of request) → ⊥) → new ≡ old) → IfErr r (LeavesValue known P (some_value old) (some_value new))
+request_left request not known P old new (Ok s) fault same = tt
+request_left request not known P old new (Err e) fault same =
+    same_left known P (some_value old) (some_value new) (ap some_value (same (needs_task request not))) e (λ h none. no_operation request not known e fault h)

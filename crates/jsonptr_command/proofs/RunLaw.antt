@@ -148,7 +148,7 @@ patch_request_one words r q is same h k =
     let meanings : a.0 ≡ b.0 = mean_one b.1 a.0 b.0 (subst (λ (fs : List Form). MeanAll fs a.0) forms a.4) b.4 in
     a.2 ∙ ap (λ (os : List Meant). patching os) meanings ∙ sym b.2
 
-request_one : (words : List Text) (r q : Request) → AskFor words r → AskFor words q → r ≡ q
+pub request_one : (words : List Text) (r q : Request) → AskFor words r → AskFor words q → r ≡ q
 request_one words r q h k = by_kind (is_patch r) refl
   where
     same : is_patch r ≡ is_patch q

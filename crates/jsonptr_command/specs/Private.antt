@@ -1,6 +1,6 @@
 -- What the program's enums stand for, and the faults and lines of single stages. Used only by private contracts; no
 -- public contract depends on this file.
-use Rattle.std.specs.Prelude.{◌≡◌, ◌⊎◌, ℕ, List, map, Result, Ok, Err, alloc_error}
+use Rattle.std.specs.Prelude.{◌≡◌, ◌⊎◌, ℕ, List, map, Result, Ok, Err, alloc_error, ⊤}
 use Rattle.serde_json.specs.Data.{Data}
 use Rattle.serde_json.specs.View.{view}
 use Rattle.jsonptr.specs.Text.{Text}
@@ -10,7 +10,8 @@ use Rattle.jsonptr.specs.Types.ParseError.{ParseError}
 use Rattle.jsonptr.specs.Index.{Reads}
 use Rattle.jsonptr.specs.Types.Index.TheVariants.{Num}
 use Rattle.jsonptr_command.specs.declared.fault.RunFault.{RunFault}
-use Rattle.jsonptr_command.specs.declared.fault.RunFault.TheVariants.{Usage, BadPointer, Memory}
+use Rattle.jsonptr.specs.declared.resolve.Error as resolve
+use Rattle.jsonptr_command.specs.declared.fault.RunFault.TheVariants.{Usage, BadPointer, ValueNotJson, NoValue, BadPlace, NotThere, BadSplit, BadPatch, InputNotJson, Memory, Read, Write}
 use Rattle.jsonptr_command.specs.declared.run.Request as code
 use Rattle.jsonptr_command.specs.declared.run.Request.TheVariants.{Tokens, Split, Document}
 use Rattle.jsonptr_command.specs.declared.run.Task.{Task}
@@ -69,3 +70,23 @@ RefusesCommand words e =
     × IsParseErrorOf pointer f
     × (e ≡ BadPointer f))
     ⊎ ((ts : List Text) × (value : Text) × HaveValue words ts value × RefusesValue value e)
+
+-- `ComesBeforeDocument e`: a run fails with `e` only while it has no document: `e` is an error of the words or of the
+-- input.
+abbrev pub ComesBeforeDocument : RunFault → Type 0
+ComesBeforeDocument Usage = ⊤
+ComesBeforeDocument (BadPointer e) = ⊤
+ComesBeforeDocument ValueNotJson = ⊤
+ComesBeforeDocument (BadSplit position count) = ⊤
+ComesBeforeDocument (NoValue e) = ⊥
+ComesBeforeDocument (BadPlace e) = ⊥
+ComesBeforeDocument NotThere = ⊥
+ComesBeforeDocument (BadPatch e) = ⊥
+ComesBeforeDocument InputNotJson = ⊤
+ComesBeforeDocument (Memory e) = ⊥
+ComesBeforeDocument Read = ⊤
+ComesBeforeDocument Write = ⊥
+
+-- `IsNoValue e`: `e` is the error of a pointer that resolves to no value.
+abbrev pub IsNoValue : RunFault → Type 0
+IsNoValue e = (f : resolve.Error) × (e ≡ NoValue f)

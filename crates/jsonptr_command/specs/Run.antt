@@ -287,6 +287,25 @@ IsRequestFault request known e =
     ⊎ (e ≡ Memory alloc_error)
     ⊎ (NeedsInput request × (e ≡ Read))
 
+-- `LeavesValue known Made old new e`: after the error `e` the value, which was `old`, is `new`. An error of the words or of
+-- the input, and a pointer that resolves to no value, leave it unchanged. An error of an assignment, a deletion or a patch
+-- leaves the document of the bytes `known`, and a failed allocation one of these or what `Made` holds of. Nothing is said
+-- of a failed write.
+abbrev pub LeavesValue : Option (List ℕ) → (List ℕ → Type 0) → Option Data → Option Data → RunFault → Type 0
+LeavesValue known Made old new Usage = new ≡ old
+LeavesValue known Made old new (BadPointer e) = new ≡ old
+LeavesValue known Made old new ValueNotJson = new ≡ old
+LeavesValue known Made old new (BadSplit position count) = new ≡ old
+LeavesValue known Made old new (NoValue e) = new ≡ old
+LeavesValue known Made old new (BadPlace e) = ForBytes known (λ bytes. new ≡ json_of bytes)
+LeavesValue known Made old new NotThere = ForBytes known (λ bytes. new ≡ json_of bytes)
+LeavesValue known Made old new (BadPatch e) = ForBytes known (λ bytes. new ≡ json_of bytes)
+LeavesValue known Made old new InputNotJson = new ≡ old
+LeavesValue known Made old new (Memory e) =
+    (new ≡ old) ⊎ ForBytes known (λ bytes. (new ≡ json_of bytes) ⊎ Made bytes)
+LeavesValue known Made old new Read = new ≡ old
+LeavesValue known Made old new Write = ⊤
+
 -- ---- the line, and the whole run
 
 -- `ForLine words known P`: the words ask for a request with a value, and `P` holds of its line.

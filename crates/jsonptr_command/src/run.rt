@@ -1,5 +1,5 @@
 //! One run of the program.
-ghost use Rattle.std.specs.Prelude.{◌≡◌, ◌≢◌, ◌⊎◌, ◌∷◌, [], Result, map, option_map, Some, Ok, Err, OnOk, IfOk, IfErr, IsErrOf, string_bytes};
+ghost use Rattle.std.specs.Prelude.{◌≡◌, ◌≢◌, ◌⊎◌, ◌∷◌, [], Result, map, option_map, Some, Ok, Err, OnOk, OnErr, IfOk, IfErr, IsErrOf, alloc_error, string_bytes};
 ghost use Rattle.std.specs.Io.KnownBytes.{Appends, IsAtEnd};
 ghost use Rattle.serde_json.specs.Data.{string};
 ghost use Rattle.serde_json.specs.View.{view};
@@ -10,9 +10,10 @@ ghost use Rattle.jsonptr.specs.Pointer.{tokens};
 ghost use Rattle.jsonptr_command.specs.JsonText.{json_of, IsJsonLine};
 ghost use Rattle.jsonptr_command.specs.Streams.{AppendsFront, ForBytes};
 ghost use Rattle.jsonptr_command.specs.declared.fault.RunFault.{RunFault};
-ghost use Rattle.jsonptr_command.specs.Private.{request_of, task_of, Does, IsFaultOf, IsLineOf, IsLeftBy, RefusesCommand, RefusesPosition};
+ghost use Rattle.jsonptr_command.specs.declared.fault.RunFault.TheVariants.{Memory};
+ghost use Rattle.jsonptr_command.specs.Private.{request_of, task_of, ComesBeforeDocument, Does, IsFaultOf, IsLineOf, IsLeftBy, RefusesCommand, RefusesPosition};
 ghost use Rattle.jsonptr_command.specs.Operations.{meant};
-ghost use Rattle.jsonptr_command.specs.Run.{AskFor, Asks, AssignsAt, DeletesAt, ForLine, ForRequest, HasValueOf, IsKept, IsOperationFault, Outcome, IsPastInput, IsRefusedSo, IsRequestFault, IsWordsMemory, NeedInput, NeedNoInput, NeedsInput, PatchesBy, Resolves, SplitsInTwo, resolving, texts_value};
+ghost use Rattle.jsonptr_command.specs.Run.{AskFor, Asks, AssignsAt, DeletesAt, ForLine, ForRequest, HasValueOf, IsKept, IsOperationFault, Outcome, IsPastInput, IsRefusedSo, IsRequestFault, IsWordsMemory, LeavesValue, NeedInput, NeedNoInput, NeedsInput, PatchesBy, Resolves, SplitsInTwo, resolving, texts_value};
 
 use crate::fault::RunFault;
 use crate::input::read_all;
@@ -110,10 +111,11 @@ pub fn run_program<R: Read, W: Write>(
 
 /// Runs the program as [`run_program`] does, and leaves the value that it printed in `value`.
 ///
-/// After `Ok` of a command that needs the input, `value` has that value: the one that the pointer
-/// resolves to, or the document after the command. A command that needs no input leaves `value`
-/// unchanged. After an error it may have the document of the input. What `value` had before is
-/// dropped.
+/// After `Ok` of a command that needs the input, and after a failed write, `value` has that value:
+/// the one that the pointer resolves to, or the document after the command. After an error of an
+/// assignment, a deletion or a patch it has the document of the input, and after any other error it is
+/// unchanged. After a failed allocation it is one of these. A command that needs no input leaves
+/// `value` unchanged. What `value` had before is dropped.
 ///
 /// A program that ends anyway can forget the value: dropping a document of some megabytes takes
 /// about as long as parsing it, and the system frees its memory at once.
@@ -144,6 +146,14 @@ pub fn run_program_into<R: Read, W: Write>(
         → OnOk result (ForRequest (map string_bytes words.now)
         (λ request. ForBytes (R.remaining input.old)
         (λ bytes. HasValueOf request bytes (option_map view value.new)))) }
+    ensures written { IsErrOf result RunFault.Write
+        → ForRequest (map string_bytes words.now)
+        (λ request. NeedsInput request → ForBytes (R.remaining input.old)
+        (λ bytes. HasValueOf request bytes (option_map view value.new))) }
+    ensures left { IfErr result (LeavesValue (R.remaining input.old)
+        (λ bytes. ForRequest (map string_bytes words.now)
+        (λ request. HasValueOf request bytes (option_map view value.new)))
+        (option_map view value.old) (option_map view value.new)) }
     ensures untouched { NeedNoInput (map string_bytes words.now) → value.new ≡ value.old }
 {
     let request = read_request(alloc, words)?;
@@ -302,6 +312,9 @@ fn line_of<R: Read>(
     ensures value { NeedsInput (request_of request.entry)
         → OnOk result (ForBytes (R.remaining input.old)
         (λ bytes. HasValueOf (request_of request.entry) bytes (option_map view value.new))) }
+    ensures left { IfErr result (LeavesValue (R.remaining input.old)
+        (λ bytes. HasValueOf (request_of request.entry) bytes (option_map view value.new))
+        (option_map view value.old) (option_map view value.new)) }
     ensures untouched { (NeedsInput (request_of request.entry) → ⊥) → value.new ≡ value.old }
 {
     match request {
@@ -323,6 +336,9 @@ fn value_line<R: Read>(
     ensures at_end { IsPastInput result → IsAtEnd (R.remaining input.new) }
     ensures value { OnOk result (ForBytes (R.remaining input.old)
         (λ bytes. HasValueOf (task_of task.entry) bytes (option_map view value.new))) }
+    ensures left { IfErr result (LeavesValue (R.remaining input.old)
+        (λ bytes. HasValueOf (task_of task.entry) bytes (option_map view value.new))
+        (option_map view value.old) (option_map view value.new)) }
 {
     match task {
         Task::Resolve(pointer) => found_line(alloc, pointer, input, value),
@@ -345,6 +361,7 @@ fn found_line<R: Read>(
     ensures at_end { IsPastInput result → IsAtEnd (R.remaining input.new) }
     ensures value { OnOk result (ForBytes (R.remaining input.old)
         (λ bytes. HasValueOf (resolving (tokens pointer.entry)) bytes (option_map view value.new))) }
+    ensures unchanged { OnErr result (value.new ≡ value.old) }
 {
     let bytes = read_all(alloc, input)?;
     line_in_bytes(alloc, &bytes, pointer, value)
@@ -363,6 +380,7 @@ fn line_in_bytes(
     ensures err { IfErr result (IsFaultOf (Outcome (resolving (tokens pointer.entry)) bytes.now)) }
     ensures value { OnOk result
         (HasValueOf (resolving (tokens pointer.entry)) bytes.now (option_map view value.new)) }
+    ensures unchanged { OnErr result (value.new ≡ value.old) }
 {
     let found = resolve_in_slice(alloc, bytes, pointer)?;
     let line = json_line(alloc, &found)?;
@@ -417,6 +435,11 @@ fn document_line<R: Read>(
         (λ bytes. IsKept (task_of task.entry) bytes (option_map view document.new))) }
     ensures restored { IfErr result (λ e. IsOperationFault e → ForBytes (R.remaining input.old)
         (λ bytes. option_map view document.new ≡ json_of bytes)) }
+    ensures unchanged { IfErr result (λ e. ComesBeforeDocument e → document.new ≡ document.old) }
+    ensures memory { IfErr result (λ e. e ≡ Memory alloc_error → (document.new ≡ document.old)
+        ⊎ ForBytes (R.remaining input.old)
+        (λ bytes. (option_map view document.new ≡ json_of bytes)
+        ⊎ IsKept (task_of task.entry) bytes (option_map view document.new))) }
 {
     let mut value = read_json_input(alloc, input)?;
     let line = task_line(alloc, &mut value, task);
@@ -430,6 +453,8 @@ fn task_line(alloc: Global, document: &mut Value, task: Task<'_>) -> Result<Stri
         (λ line. IsLineOf (Does task.entry (view document.old)) (string_bytes line)) }
     ensures err { IfErr result (IsFaultOf (Does task.entry (view document.old))) }
     ensures left { OnOk result (IsLeftBy task.entry (view document.old) (view document.new)) }
+    ensures either { (view document.new ≡ view document.old)
+        ⊎ IsLeftBy task.entry (view document.old) (view document.new) }
     ensures restored { IfErr result
         (λ e. IsOperationFault e → view document.new ≡ view document.old) }
 {
@@ -465,6 +490,8 @@ fn line_with(
         (IsFaultOf (AssignsAt (view document.old) (tokens pointer.entry) (view value))) }
     ensures left { OnOk result
         (AssignsAt (view document.old) (tokens pointer.entry) (view value) (Ok (view document.new))) }
+    ensures either { (view document.new ≡ view document.old)
+        ⊎ AssignsAt (view document.old) (tokens pointer.entry) (view value) (Ok (view document.new)) }
     ensures restored { IfErr result
         (λ e. IsOperationFault e → view document.new ≡ view document.old) }
 {
@@ -483,6 +510,8 @@ fn line_without(
     ensures err { IfErr result (IsFaultOf (DeletesAt (view document.old) (tokens pointer.entry))) }
     ensures left { OnOk result
         (DeletesAt (view document.old) (tokens pointer.entry) (Ok (view document.new))) }
+    ensures either { (view document.new ≡ view document.old)
+        ⊎ DeletesAt (view document.old) (tokens pointer.entry) (Ok (view document.new)) }
     ensures restored { IfErr result
         (λ e. IsOperationFault e → view document.new ≡ view document.old) }
 {
@@ -504,6 +533,8 @@ fn line_after(
         (IsFaultOf (PatchesBy (view document.old) (map meant patch.items))) }
     ensures left { OnOk result
         (PatchesBy (view document.old) (map meant patch.items) (Ok (view document.new))) }
+    ensures either { (view document.new ≡ view document.old)
+        ⊎ PatchesBy (view document.old) (map meant patch.items) (Ok (view document.new)) }
     ensures restored { IfErr result
         (λ e. IsOperationFault e → view document.new ≡ view document.old) }
 {

@@ -1,7 +1,7 @@
-use Rattle.std.proofs.Common.{string_bytes}
+use Rattle.std.proofs.Common.{string_bytes, inr}
 use Rattle.std.proofs.lemmas.Result.{IfOk-weaker, IfErr-weaker, err_from_is_err_and, on_ok_weaker}
 use Rattle.serde_json.specs.View.{view}
-use Rattle.jsonptr_command.proofs.AnswerLemmas.{line_given, fault_given, input_fault_given, left_given}
+use Rattle.jsonptr_command.proofs.AnswerLemmas.{after_document, either_given, line_given, fault_given, input_fault_given, left_given}
 use Rattle.jsonptr_command.proofs.run.document_line.Goals as goal
 
 pub returns-in_err-value-clause-err : goal.returns-in_err-value-clause-err
@@ -23,3 +23,14 @@ pub returns-clause-kept : goal.returns-clause-kept
 returns-clause-kept g c =
     on_ok_weaker c.task_line-line.result
     (λ h. left_given c.args.task _ (view c.in_ok-value.value) c.in_ok-value.ensures.value _ h) c.task_line-line.ensures.left
+
+pub returns-clause-unchanged : goal.returns-clause-unchanged
+returns-clause-unchanged g c =
+    IfErr-weaker c.task_line-line.result _ _
+    (λ e h before. absurd (after_document c.args.task (view c.in_ok-value.value) e h before)) c.task_line-line.ensures.err
+
+pub returns-clause-memory : goal.returns-clause-memory
+returns-clause-memory g c =
+    IfErr-weaker c.task_line-line.result _ _
+    (λ e h is. inr (either_given c.args.task _ (view c.in_ok-value.value) c.in_ok-value.ensures.value _ c.task_line-line.ensures.either))
+    c.task_line-line.ensures.err
