@@ -20,7 +20,7 @@ use Rattle.jsonptr_tree.proofs.ContentLemmas.{content_at-below, content_at-push}
 use Rattle.jsonptr_tree.proofs.JsonLemmas.{array_is, object_is}
 use Rattle.jsonptr_document.proofs.JsonLevel.{array_at, object_at}
 use Rattle.jsonptr_journal.specs.declared.location.Part.{Part}
-use Rattle.jsonptr_journal.specs.Location.{step_of, steps_of, contents_of}
+use Rattle.jsonptr_journal.specs.Location.{step_of, steps_of, contents_of, LeadsNowhereAt}
 use Rattle.jsonptr_journal.specs.PrivateNodeMut.{MovesTo, MovesBack, IsLost}
 use Rattle.jsonptr_journal.specs.Writing.{write_item, write_member, write_step, write_below, write_at}
 use Rattle.jsonptr_journal.specs.PrivateNodeMut.{nth}
@@ -244,6 +244,12 @@ module _ (path : Path) (doc x : Value) (F : Value → Value) (i : ℕ) (k : Kept
       ap (λ (p : Path). content_at p (contents_of doc)) (k.split ∙ ap (λ (p : Path). k.front ++ p) first.1)
       ∙ content_at-below k.front (s ∷ first.0) (contents_of doc) (contents_of x) k.there
       ∙ ap (λ (o : Option Content). option_and_then (content_at first.0) o) lost.2
+
+  pub kept_nowhere : IsLost path i x → LeadsNowhereAt path (contents_of doc) i
+  kept_nowhere lost =
+      let s : Step = lost.0 in
+      let first = first_left k.left s (sym (nth_left path i k.front k.left k.split k.long) ∙ lost.1) in
+      (k.front, s, first.0, contents_of x, k.split ∙ ap (λ (p : Path). k.front ++ p) first.1, sym k.long, k.there, lost.2)
 
   pub kept_same : (y : Value) → contents_of y ≡ contents_of x → contents_of (F y) ≡ contents_of doc
   kept_same y same = k.made y ∙ ap (λ (c : Content). write_at k.front c (contents_of doc)) same ∙ write_same k.front (contents_of x) (contents_of doc) k.there

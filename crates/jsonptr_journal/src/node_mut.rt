@@ -1,9 +1,9 @@
 //! Going to a location of a document, without an allocation.
-ghost use Rattle.std.specs.Prelude.{◌≡◌, Option, Some, None, IfOk, OnErr, IsOk};
+ghost use Rattle.std.specs.Prelude.{◌≡◌, Option, Some, None, IfOk, IfErr, OnErr, IsOk};
 ghost use Rattle.std.specs.Borrow.{sem, follows_so, name_if_ok};
 ghost use Rattle.serde_json.specs.contracts.value.Value.{the_row};
 ghost use Rattle.jsonptr_tree.specs.Content.{Content, content_at};
-ghost use Rattle.jsonptr_journal.specs.Location.{path_of, contents_of};
+ghost use Rattle.jsonptr_journal.specs.Location.{path_of, contents_of, LeadsNowhereAt};
 ghost use Rattle.jsonptr_journal.specs.PrivateNodeMut.{MovesTo, IsLost, LendsMove};
 ghost use Rattle.jsonptr_journal.specs.Writing.{write_at};
 
@@ -30,7 +30,8 @@ pub trait NodeMut: Sized {
     ///
     /// # Errors
     ///
-    /// [`NoSuchNode`] if the location is not in the document, which is unchanged.
+    /// [`NoSuchNode`] with the first step that leads nowhere, if the location is not in the document,
+    /// which is unchanged.
     fn node_mut(&mut self, location: &Location) -> Result<&mut Value, NoSuchNode>
         ensures* writes_back { sem 𝓛 (follows_so Self.row the_row self.entry.ghost_name
             (name_if_ok (λ v. v.ghost_name) result)
@@ -39,7 +40,9 @@ pub trait NodeMut: Sized {
             (λ n. OnErr result (contents n ≡ contents self.old))) }
         ensures value { IfOk result (λ v.
             content_at (path_of location.now) (contents self.old) ≡ Some (contents_of v.now))
-            × OnErr result (content_at (path_of location.now) (contents self.old) ≡ None) };
+            × OnErr result (content_at (path_of location.now) (contents self.old) ≡ None)
+            × IfErr result (λ e.
+            LeadsNowhereAt (path_of location.now) (contents self.old) e.position) };
 }
 
 /// Returns the child at the step at position `i`, or the value itself if the location has no such step.
@@ -52,7 +55,7 @@ fn step<'v>(
         (LendsMove the_row (λ v. v) at.entry (path_of location.now) i result) }
     ensures value { IfOk result (λ r.
         MovesTo (path_of location.now) i r.down at.old r.next r.node.now)
-        × OnErr result (IsLost (path_of location.now) i at.old) }
+        × IfErr result (λ e. (e.position ≡ i) × IsLost (path_of location.now) i at.old) }
 {
     if i >= location.parts.len() {
         return Ok(StepResult {

@@ -29,7 +29,7 @@ returns-else-index-len c =
     let inside : i < length ps.items = omega (arith, c.if-i-len.false, c.len.ensures, ps.ok.0) in
     let named : nth i (path_of c.args.location.now) ≡ Some (place c.in-Index.index) = nth_at ps.items i c.index.result.now inside c.index.ensures ∙ ap (λ (p : Part). Some (step_of p)) c.in-Index.is in (
       (refl, (λ w. tt), array_same at vs is),
-      record { writes_back = tt; value = (tt, (place c.in-Index.index, named, element_beyond at vs is c.in-Index.index (omega (arith, c.if-index-len.false, c.len-in-Some.ensures, vs.ok.0)))) },
+      record { writes_back = tt; value = (tt, (refl, (place c.in-Index.index, named, element_beyond at vs is c.in-Index.index (omega (arith, c.if-index-len.false, c.len-in-Some.ensures, vs.ok.0))))) },
     )
 
 pub returns-in-None : goal.returns-in-None
@@ -37,7 +37,7 @@ returns-in-None c =
     let ps = c.args.location.now.parts in let i = c.args.i in
     let inside : i < length ps.items = omega (arith, c.if-i-len.false, c.len.ensures, ps.ok.0) in
     let named : nth i (path_of c.args.location.now) ≡ Some (place c.in-Index.index) = nth_at ps.items i c.index.result.now inside c.index.ensures ∙ ap (λ (p : Part). Some (step_of p)) c.in-Index.is in
-    ((refl, (λ w. tt), refl), record { writes_back = tt; value = (tt, (place c.in-Index.index, named, no_element c.args.at.now c.in-Index.index c.in-None.ensures.value)) })
+    ((refl, (λ w. tt), refl), record { writes_back = tt; value = (tt, (refl, (place c.in-Index.index, named, no_element c.args.at.now c.in-Index.index c.in-None.ensures.value))) })
 
 pub returns-in-Some-get_mut : goal.returns-in-Some-get_mut
 returns-in-Some-get_mut c =
@@ -59,7 +59,7 @@ returns-in-None-get_mut c =
     let named : nth i (path_of c.args.location.now) ≡ Some (key k) = nth_at ps.items i c.index.result.now inside c.index.ensures ∙ ap (λ (p : Part). Some (step_of p)) c.in-Key.is in
     let text : c.as_str.result.now ≡ k = c.as_str.ensures.value in (
       (refl, (λ w. tt), object_same at m is c.get_mut.follows.lender-at-none c.get_mut.follows.holds-at-none),
-      record { writes_back = tt; value = (tt, (key k, named, subst (λ (t : Text). child (key t) (contents_of at) ≡ None) text (member_lacking at m is c.as_str.result.now c.in-None-get_mut.ensures.value))) },
+      record { writes_back = tt; value = (tt, (refl, (key k, named, subst (λ (t : Text). child (key t) (contents_of at) ≡ None) text (member_lacking at m is c.as_str.result.now c.in-None-get_mut.ensures.value)))) },
     )
 
 pub returns-in-None-as_object_mut : goal.returns-in-None-as_object_mut
@@ -68,4 +68,4 @@ returns-in-None-as_object_mut c =
     let inside : i < length ps.items = omega (arith, c.if-i-len.false, c.len.ensures, ps.ok.0) in
     let k = string_bytes c.in-Key.key in
     let named : nth i (path_of c.args.location.now) ≡ Some (key k) = nth_at ps.items i c.index.result.now inside c.index.ensures ∙ ap (λ (p : Part). Some (step_of p)) c.in-Key.is in
-    ((refl, (λ w. tt), refl), record { writes_back = tt; value = (tt, (key k, named, no_member c.args.at.now k c.in-None-as_object_mut.ensures.value)) })
+    ((refl, (λ w. tt), refl), record { writes_back = tt; value = (tt, (refl, (key k, named, no_member c.args.at.now k c.in-None-as_object_mut.ensures.value))) })

@@ -1,6 +1,6 @@
 -- `node_mut` walks down a tree, and the document follows the reference that it holds at each turn.
 use Rattle.jsonptr_walk.proofs.WalkSteps.{◌≡◌, ℕ, List, [], ◌∷◌, refl, lit<, MutBor, arith, proved, id⊢, fres, named, Val, vint, vptr, tables, ‵, raw, ◌⊛◌, some, later, Sq, ◌$◌, ◌∵◌, !, qed, done, move, drop, use0, use1, use2, split, join, pick, await, rewrite, suffices, frame, by, enter, of_opd, lit, addr, stop, no_more, and_then, first, blocks, branches, skips, exec, alloc_all, pass_all, free_all, look_at, get, through, sets, lands_as, env, no, yes, uint_Makes, uint_vals, MutRef, mut_vals, mut_Tells, ShrRef, shr_vals, shr_Tells, shr_copy, plain, nothing, owned, heard, calls_at, lasts, triple_of, Stays, walk_of, says, stay_dropped, Goes-dropped, Goes-spent_ref, ends_at, framed}
-use Rattle.std.proofs.Common.{◌<◌, ◌-◌, ◌^◌, length, get_or, sym, subst, Ok, Err, IsOk, IfOk, w64, true≢false}
+use Rattle.std.proofs.Common.{◌<◌, ◌-◌, ◌^◌, length, get_or, sym, subst, Ok, Err, IsOk, IfOk, IfErr, w64, true≢false}
 use seplogic.Ra.Ura.{Ura}
 use mathlib.Core.WellFounded.InvImage
 use lib.WfN.{lt-wf_rel}
@@ -45,11 +45,11 @@ use Rattle.jsonptr_journal.proofs.location.Location.TheLaws as guide_laws
 use Rattle.jsonptr_tree.specs.Node.{Path}
 use Rattle.jsonptr_tree.specs.Content.{content_at}
 use Rattle.std.proofs.Common.{suc, Some, None}
-use Rattle.jsonptr_journal.specs.Location.{path_of, contents_of}
+use Rattle.jsonptr_journal.specs.Location.{path_of, contents_of, LeadsNowhereAt}
 use Rattle.jsonptr_journal.specs.PrivateNodeMut.{MovesTo, MovesBack, IsLost, LendsMove}
 use Rattle.jsonptr_journal.specs.Writing.{write_at}
 use Rattle.jsonptr_journal.specs.PrivateNodeMut.{nth}
-use Rattle.jsonptr_journal.proofs.WritingLemmas.{Kept, move_fits, kept_none, kept_within, kept_more, kept_here, kept_leads, kept_puts, kept_lost, kept_same}
+use Rattle.jsonptr_journal.proofs.WritingLemmas.{Kept, move_fits, kept_none, kept_within, kept_more, kept_here, kept_leads, kept_lost, kept_nowhere, kept_puts, kept_same}
 use Rattle.jsonptr_journal.proofs.node_mut.step.Met.{met}
 use Rattle.jsonptr_journal.specs.contracts.node_mut.step as g
 use Rattle.jsonptr_journal.specs.contracts.node_mut.ValueNodeMut.node_mut as f
@@ -138,7 +138,7 @@ module _ {M : Type 1} {𝓤 : Ura M} (𝓛 : Logic 𝓤) (𝓜 : Model 𝓤 𝓛
         (λ w n. IsOk r → contents_of n ≡ write_at all (contents_of w) (contents_of doc.now)) (λ n. OnErr r (contents_of n ≡ contents_of doc.now))
 
     abbrev Stopped : Ro.Denot → Type 0
-    Stopped r = IfOk r (λ v. content_at all (contents_of doc.now) ≡ Some (contents_of v.now)) × OnErr r (content_at all (contents_of doc.now) ≡ None)
+    Stopped r = IfOk r (λ v. content_at all (contents_of doc.now) ≡ Some (contents_of v.now)) × OnErr r (content_at all (contents_of doc.now) ≡ None) × IfErr r (λ e. LeadsNowhereAt all (contents_of doc.now) e.position)
 
     exits : (r : Ro.Denot) (v : Val) → Stopped r → ent 𝓤 (sep 𝓤 (sem 𝓛 (Ro.own_val r (v ∷ []))) (sep 𝓤 (sem 𝓛 (Lent r)) Alive)) (Post v)
     exits r v value =
@@ -156,7 +156,7 @@ module _ {M : Type 1} {𝓤 : Ura M} (𝓛 : Logic 𝓤) (𝓜 : Model 𝓤 𝓛
         qed 𝓛 (‵ (Ref x) ∷ ‵ (follows R R doc.ghost_name x.ghost_name F) ∷ raw Alive ∷ []) ∵
         use1 𝓛 (‵ (Ro.own_val r (v ∷ []))) (ok_of 𝓛 MR Why x (vptr x.ref_ptr.0 x.ref_ptr.1)) $ move ! (1 ∷ []) $
         fpack ! (Says r) (Follows r) ((F, x.now), (λ w ok. kept_puts all doc.now x.now F i kept none w), tt) $
-        move ! (1 ∷ 0 ∷ []) $ by ! (exits r v (kept_leads all doc.now x.now F i kept none, tt))
+        move ! (1 ∷ 0 ∷ []) $ by ! (exits r v (kept_leads all doc.now x.now F i kept none, tt, tt))
 
     failed : (x : MutBor D) (F : D → D) (e : NoSuchNode) (ev : Val) (t : D) → contents_of (F t) ≡ contents_of doc.now → Stopped (Err e)
         → ent 𝓤 (sep 𝓤 (sem 𝓛 (Why.own_val e (ev ∷ []))) (sep 𝓤 (A.res x.ghost_name (R.coded.code t)) (sep 𝓤 (sem 𝓛 (follows R R doc.ghost_name x.ghost_name F)) Alive))) (Post (live 1 (of_list (ev ∷ []))))
@@ -179,7 +179,7 @@ module _ {M : Type 1} {𝓤 : Ura M} (𝓛 : Logic 𝓤) (𝓜 : Model 𝓤 𝓛
     Lends x i r = LendsMove R (λ v. v) x all i r
 
     abbrev Gives : MutBor D → ℕ → Rt.Denot → Type 0
-    Gives x i r = IfOk r (λ t. MovesTo all i t.down x.now t.next t.node.now) × OnErr r (IsLost all i x.now)
+    Gives x i r = IfOk r (λ t. MovesTo all i t.down x.now t.next t.node.now) × IfErr r (λ e. (e.position ≡ i) × IsLost all i x.now)
 
     module _ (l : ℕ → ℕ) where
       abbrev En : Env 𝓤 H
@@ -249,7 +249,9 @@ module _ {M : Type 1} {𝓤 : Ura M} (𝓛 : Logic 𝓤) (𝓜 : Model 𝓤 𝓛
           again ! Nearer Now t (lent.next, lent.node, K, fn, kept') (omega (arith, farther, within))))))
           (λ e is. rewrite ! 0 (λ (u : Rt.Denot). ‵ (Rt.own_val u (v ∷ []))) is refl $ rewrite ! 1 (λ (u : Rt.Denot). ‵ (Lends x i u)) is refl $
           let told : Gives x i (Err e) = subst (Gives x i) is gives in
-          let stopped : Stopped (Err e) = (tt, kept_lost all doc.now x.now F i kept told.1) in
+          let lost : IsLost all i x.now = told.1.1 in
+          let nowhere = subst (λ (n : ℕ). LeadsNowhereAt all (contents_of doc.now) n) (sym told.1.0) (kept_nowhere all doc.now x.now F i kept lost) in
+          let stopped : Stopped (Err e) = (tt, kept_lost all doc.now x.now F i kept lost, nowhere) in
           use1 𝓛 (some (λ (ev : Val). given ((v ≡ live 1 (vcons ev vnil)) × (T (has_ty Whyτ ev) × WT ev)) (‵ (Why.own_val e (ev ∷ []))))) (err_out 𝓛 LR Why Whyτ refl (error_laws.the_row_laws.lawful 𝓛) e v) $ pick ! (λ ev. learn ! (λ told. move ! (1 ∷ []) $ fpick ! (λ s. move ! (1 ∷ []) $
           -- [the fault; the last value of x; what the document follows; the tokens; the way]
           lands_as ! told.0 refl (and_tt _ told.1.0, (record { fits = lit< tt }, (told.1.1, tt))) $
