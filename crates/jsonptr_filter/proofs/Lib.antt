@@ -4,3 +4,4 @@ mod ReplacementLemmas
 mod DifferenceLemmas
 mod InverseLemmas
 mod CuttingLemmas
+mod OrderLemmas

@@ -1,8 +1,7 @@
 -- What is printed for a task on one document.
-use Rattle.std.specs.Prelude.{◌≡◌, ◌≢◌, ◌⊎◌, ℕ, List, [], ◌∷◌, ◌++◌, Option, None, ⊤}
+use Rattle.std.specs.Prelude.{◌≡◌, ◌≢◌, ◌⊎◌, ℕ, List, [], ◌∷◌, ◌++◌, Option, ⊤}
 use Rattle.std.specs.Io.KnownBytes.{Appends, Keeps}
 use Rattle.std.specs.Str.{IsUtf8}
-use Rattle.serde_json.specs.Read.{read}
 use Rattle.jsonptr_grammar.specs.Text.{Text}
 use Rattle.jsonptr_lines.specs.Streams.{ForInput, AppendsPrefix}
 use Rattle.jsonptr_filter.specs.Results.{Yields, Fails}
@@ -27,9 +26,10 @@ Prints task layout bytes out =
     × ((EndsInBreak task layout × ((new : Text) × Yields task layout bytes new × (out ≡ new ++ 10 ∷ [])))
     ⊎ ((EndsInBreak task layout → ⊥) × Yields task layout bytes out))
 
--- `FailsOn task layout bytes e`: `e` is why the task has no result on the document `bytes`, if it is not for memory
+-- `FailsOn task layout bytes e`: `e` is why the task has no result on the document `bytes`, if it is not for memory. Bytes that
+-- are not UTF-8 are not JSON
 abbrev pub FailsOn : Task → Layout → List ℕ → Failure → Type 0
-FailsOn task layout bytes NotJson = IsUtf8 bytes → read bytes ≡ None
+FailsOn task layout bytes NotJson = IsUtf8 bytes → Fails task layout bytes NotJson
 FailsOn task layout bytes (Memory e) = ⊤
 FailsOn task layout bytes e = IsUtf8 bytes × Fails task layout bytes e
 

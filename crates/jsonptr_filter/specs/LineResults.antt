@@ -2,7 +2,6 @@
 use Rattle.std.specs.Prelude.{◌≡◌, ◌⊎◌, ℕ, ◌+◌, List, [], ◌∷◌, ◌++◌, String, Option, Some, None, codes, decimal, string_bytes, ⊤}
 use Rattle.std.specs.Str.{IsUtf8}
 use Rattle.std.specs.declared.alloc.Global.{Global}
-use Rattle.serde_json.specs.Read.{read}
 use Rattle.jsonptr_grammar.specs.Text.{Text}
 use Rattle.jsonptr_lines.specs.Lines.{IsOneLine}
 use Rattle.jsonptr_filter.specs.Layouts.{CanBreak}
@@ -21,9 +20,9 @@ YieldsLine task layout l out = IsUtf8 l × Yields task layout l out × IsOneLine
 -- line. If the line `l` is one, as each line of an input is, that takes a layout that can break. A failed allocation is not a
 -- fault of the line
 abbrev pub IsLineFault : Task → Layout → Text → Failure → Type 0
-IsLineFault task layout l NotJson = IsUtf8 l → read l ≡ None
+IsLineFault task layout l NotJson = IsUtf8 l → Fails task layout l NotJson
 IsLineFault task layout l LineBreak =
-    (IsOneLine l → CanBreak layout) × ((out : Text) × Yields task layout l out × (IsOneLine out → ⊥))
+    IsUtf8 l × (IsOneLine l → CanBreak layout) × ((out : Text) × Yields task layout l out × (IsOneLine out → ⊥))
 IsLineFault task layout l (Memory e) = ⊥
 IsLineFault task layout l e = IsUtf8 l × Fails task layout l e
 

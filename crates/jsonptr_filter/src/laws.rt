@@ -1,15 +1,21 @@
 //! Laws of what the commands print. Each law is the contract of a function that does nothing.
 ghost use Rattle.std.specs.Prelude.{◌≡◌, ◌≢◌, ◌⊎◌, ◌↔◌, ℕ, List, [], ◌∷◌, ◌++◌, length, Some, string_bytes};
+ghost use Rattle.std.specs.Str.{IsUtf8};
 ghost use Rattle.std.specs.declared.alloc.AllocError.{AllocError};
 ghost use Rattle.serde_json.specs.Data.{Data};
 ghost use Rattle.serde_json.specs.Read.{read};
+ghost use Rattle.serde_json.specs.View.{view};
+ghost use Rattle.serde_json.specs.declared.value.Value.{Value};
 ghost use Rattle.jsonptr_grammar.specs.Text.{Text};
 ghost use Rattle.jsonptr_tree.specs.Json.{nodes};
 ghost use Rattle.jsonptr_lines.specs.Lines.{AreLines};
+ghost use Rattle.jsonptr_patch_document.specs.Document.{IsNoPatch};
+ghost use Rattle.jsonptr_patch_document.specs.declared.error.PatchDocumentError.{PatchDocumentError};
 ghost use Rattle.jsonptr_paths.specs.declared.listing.Listed.TheVariants.{AllNodes};
 ghost use Rattle.jsonptr_paths.specs.declared.reading.LineError.{LineError};
 ghost use Rattle.jsonptr_filter.specs.Cutting.{EndsInLineFeed, InputGives, IsShifted};
-ghost use Rattle.jsonptr_filter.specs.LineResults.{LinesGive};
+ghost use Rattle.jsonptr_filter.specs.Documents.{FailsOn};
+ghost use Rattle.jsonptr_filter.specs.LineResults.{IsLineFault, LinesGive, StopsRun};
 ghost use Rattle.jsonptr_filter.specs.Differences.{IsDifference};
 ghost use Rattle.jsonptr_filter.specs.Inverting.{IsInverse};
 ghost use Rattle.jsonptr_filter.specs.Layouts.{Shows, ReadsBack};
@@ -17,9 +23,11 @@ ghost use Rattle.jsonptr_filter.specs.Paths.{ListsText, BuildsText, FailsToBuild
 ghost use Rattle.jsonptr_filter.specs.Results.{PatchesBy, FailsToPatch};
 ghost use Rattle.jsonptr_filter.specs.declared.difference.Difference.{Difference};
 ghost use Rattle.jsonptr_filter.specs.declared.failure.Failure.{Failure};
-ghost use Rattle.jsonptr_filter.specs.declared.failure.Failure.TheVariants.{BadLine, NotInPlace, Memory};
+ghost use Rattle.jsonptr_filter.specs.declared.failure.Failure.TheVariants.{BadLine, NotInPlace, NotJson, Memory};
 ghost use Rattle.jsonptr_filter.specs.declared.layout.Layout.{Layout};
 ghost use Rattle.jsonptr_filter.specs.declared.line.LineTask.{LineTask};
+ghost use Rattle.jsonptr_filter.specs.declared.task.Task.{Task};
+ghost use Rattle.jsonptr_filter.specs.declared.task.Task.TheVariants.{Patch};
 ghost use Rattle.jsonptr_filter.specs.declared.layout.Layout.TheVariants.{Kept, Raw};
 
 use jsonptr_patch::laws::patch::patch_law;
@@ -121,3 +129,25 @@ pub fn cut_law()
     ensures quiet { (name : Text) (k : ℕ) (err later : Text)
         → IsShifted name k err later → (err ≡ []) ↔ (later ≡ []) }
 {}
+
+/// States in which order a call looks for errors that a text and a patch document both have.
+///
+/// Bytes that are not UTF-8 are not JSON, whatever else is wrong (`bytes`, `line`). Of a text, the patch
+/// document is looked at first: if it is not a patch, no error says that the text is not JSON.
+pub fn order_law()
+    ensures bytes { (task : Task) (layout : Layout) (bytes : List ℕ) (e : Failure)
+        → (IsUtf8 bytes → ⊥) → (StopsRun e → ⊥) → FailsOn task layout bytes e → e ≡ NotJson }
+    ensures line { (task : Task) (layout : Layout) (l : Text) (e : Failure)
+        → (IsUtf8 l → ⊥) → IsLineFault task layout l e → e ≡ NotJson }
+    ensures patch { (text : Text) (patch : Data) (layout : Layout) (e : PatchDocumentError)
+        → IsNoPatch patch e → FailsToPatch text patch layout NotJson → ⊥ }
+    ensures patch_of_line { (patch : Value) (layout : Layout) (l : Text)
+        (e : PatchDocumentError)
+        → IsUtf8 l → IsNoPatch (view patch) e → IsLineFault (Patch patch) layout l NotJson → ⊥ }
+    ensures patch_of_bytes { (patch : Value) (layout : Layout) (bytes : List ℕ)
+        (e : PatchDocumentError)
+        → IsUtf8 bytes → IsNoPatch (view patch) e → FailsOn (Patch patch) layout bytes NotJson
+        → ⊥ }
+{
+    patch_document_law();
+}

@@ -1,5 +1,6 @@
 use Rattle.std.proofs.Common.{string_bytes, rules, arith}
 use Rattle.std.proofs.lemmas.Grind.{common_steps}
+use Rattle.std.specs.Str.{IsUtf8}
 use Rattle.jsonptr_lines.specs.Lines.{IsOneLine}
 use Rattle.jsonptr_filter.specs.Results.{Yields}
 use Rattle.jsonptr_filter.proofs.ResultLemmas.{can_break}
@@ -10,4 +11,5 @@ returns-then-contains-clause-failed c =
     let new = string_bytes c.in_ok-new.new in
     let yields : Yields c.args.task.now c.args.layout c.args.line.now new = first_of (search rules, grind (arith, common_steps)) in
     let several : IsOneLine new → ⊥ = first_of (search rules, grind (arith, common_steps)) in
-    (can_break c.args.task.now c.args.layout c.args.line.now new yields several, (new, yields, several))
+    let utf8 : IsUtf8 c.args.line.now = first_of (search rules, grind (arith, common_steps)) in
+    (utf8, can_break c.args.task.now c.args.layout c.args.line.now new yields several, (new, yields, several))
