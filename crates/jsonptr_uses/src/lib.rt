@@ -14,6 +14,9 @@
 //! - [`sessions`]: calls on a document that is read from a text.
 //! - [`in_text`]: numbers and texts in the text of a document.
 //! - [`edits_in_text`]: two edits in the text of a document.
+//! - [`edits_in_place`]: edits of a text that change only their own bytes.
+//! - [`streams`]: a document from a reader to a writer.
+//! - [`toml_files`]: a TOML file of settings.
 //! - [`handles`]: a document in a handle, as a program in C uses it.
 //! - [`commands`]: a command on the text of a document.
 //! - [`tabled`]: a look-up by a pointer with a table.
@@ -28,6 +31,7 @@ pub mod cursor_editor;
 pub mod differences;
 pub mod editor;
 pub mod edits;
+pub mod edits_in_place;
 pub mod edits_in_text;
 pub mod handles;
 pub mod in_text;
@@ -41,5 +45,7 @@ pub mod patches;
 pub mod references;
 pub mod sessions;
 pub mod settings;
+pub mod streams;
 pub mod tabled;
+pub mod toml_files;
 pub mod writes;

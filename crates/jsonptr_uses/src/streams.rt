@@ -1,0 +1,47 @@
+//! A program over a reader and a writer.
+ghost use Rattle.std.specs.Prelude.{IfOk, IfErr};
+ghost use Rattle.std.specs.Io.KnownBytes.{Appends};
+ghost use Rattle.serde_json.specs.View.{view};
+ghost use Rattle.jsonptr.specs.Json.{nodes};
+ghost use Rattle.jsonptr.specs.Pointer.{tokens};
+ghost use Rattle.jsonptr.specs.Text.{Text};
+ghost use Rattle.jsonptr_edit_in_text.specs.Bytes.{AssignsBytes};
+ghost use Rattle.jsonptr_edit_in_text.specs.EditInText.{AssignsInText};
+ghost use Rattle.jsonptr_lines.specs.Streams.{ForInput};
+ghost use Rattle.jsonptr_filter.specs.Documents.{StopsDocument};
+ghost use Rattle.jsonptr_filter.specs.declared.layout.Layout.TheVariants.{Kept};
+ghost use Rattle.jsonptr_filter.specs.declared.task.Task.TheVariants.{Set};
+
+use jsonptr::Pointer;
+use jsonptr_filter::document::run_document;
+use jsonptr_filter::failure::Failure;
+use jsonptr_filter::layout::Layout;
+use jsonptr_filter::task::Task;
+use serde_json::Value;
+use std::alloc::Global;
+use std::io;
+
+/// Reads a document, and writes it with the value assigned at the pointer. Only the bytes of the
+/// assignment change.
+///
+/// # Errors
+///
+/// Those of [`run_document`].
+pub fn set_in_stream<R: io::Read, W: io::Write>(
+    alloc: Global,
+    pointer: Pointer<'_>,
+    value: Value,
+    input: &mut R,
+    output: &mut W,
+) -> Result<(), Failure>
+    ensures set { IfOk result (λ _. ForInput (R.remaining input.old) (λ bytes. (out : Text)
+        × AssignsInText bytes (tokens pointer.entry) (nodes (view value)) out
+        × AssignsBytes bytes (tokens pointer.entry) (view value) out
+        × Appends (W.contents output.old) (W.contents output.new) out)) }
+    ensures failed { IfErr result (StopsDocument (Set pointer.entry value) Kept
+        (R.remaining input.old) (W.contents output.old) (W.contents output.new)) }
+{
+    let task = Task::Set(pointer, value);
+    let mut bytes = Vec::new(alloc);
+    run_document(alloc, &task, Layout::Kept, input, &mut bytes, output)
+}
