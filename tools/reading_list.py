@@ -30,10 +30,14 @@ OTHERS = {
         ("jsonptr_patch_document/src/error.rt", ["pointer_text"]),
     ],
     "differences": [("jsonptr_diff/src/diffing.rt", ["diff", "change"])],
-    "resolving in text": [("jsonptr_in_text/src/resolve.rt", ["resolve_in_text", "resolve_in_slice", "exists_in_text"])],
+    "resolving in text": [
+        ("jsonptr_in_text/src/resolve.rt", ["resolve_in_text", "resolve_in_slice", "exists_in_text"]),
+        ("jsonptr_in_text/src/format.rt", ["format_text"]),
+    ],
     "edits in text": [
         *((f"jsonptr_edit_in_text/src/{it}.rt", [f"{it}_in_text"]) for it in EDITS),
         ("jsonptr_edit_in_text/src/in_place.rt", [f"{it}_in_place" for it in EDITS]),
+        ("jsonptr_edit_in_text/src/locate.rt", ["locate_in_text"]),
     ],
     "documents as lines": [
         ("jsonptr_paths/src/listing.rt", ["list"]),
