@@ -12,11 +12,11 @@ _jp() {
     done
     local words
     case $command in
-        get) words="--toml --raw --pretty --compact --default --lines --strict --help" ;;
-        set | delete) words="--toml --reformat --pretty --compact --in-place --lines --strict --help" ;;
+        get) words="--toml --raw --pretty --compact --sort-keys --default --lines --strict --help" ;;
+        set | delete) words="--toml --reformat --pretty --compact --sort-keys --in-place --lines --strict --help" ;;
         paths) words="--toml --all --help" ;;
         from-paths) words="--pretty --compact --help" ;;
-        patch) words="--check --inverse --reformat --pretty --compact --in-place --lines --strict --help" ;;
+        patch) words="--check --inverse --reformat --pretty --compact --sort-keys --in-place --lines --strict --help" ;;
         diff) words="--pretty --compact --help" ;;
         tokens) words="--raw --help" ;;
         escape | unescape) words="--help" ;;

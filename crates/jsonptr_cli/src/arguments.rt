@@ -37,9 +37,13 @@ fn get<'a>(alloc: Global) -> Result<Command<'a>, AllocError> {
                 true,
             ),
         )?
-        .arg(arg!(in alloc; --raw "Prints a string without quotes").conflicts_with("pretty")?)?
+        .arg(
+            arg!(in alloc; --raw "Prints a string without quotes")
+                .conflicts_with("pretty")?
+                .conflicts_with("sort-keys")?,
+        )?
         .arg(toml_flag(alloc))?;
-    with_lines(alloc, with_layout(alloc, command)?)
+    with_lines(alloc, with_order(alloc, command)?)
 }
 
 /// Returns the command `set`.
@@ -51,7 +55,7 @@ fn set<'a>(alloc: Global) -> Result<Command<'a>, AllocError> {
         .arg(file(alloc))?
         .arg(toml_flag(alloc))?
         .arg(reformat(alloc)?)?;
-    with_lines(alloc, with_in_place(alloc, with_layout(alloc, command)?)?)
+    with_lines(alloc, with_in_place(alloc, with_order(alloc, command)?)?)
 }
 
 /// Returns the command `delete`.
@@ -62,7 +66,7 @@ fn delete<'a>(alloc: Global) -> Result<Command<'a>, AllocError> {
         .arg(file(alloc))?
         .arg(toml_flag(alloc))?
         .arg(reformat(alloc)?)?;
-    with_lines(alloc, with_in_place(alloc, with_layout(alloc, command)?)?)
+    with_lines(alloc, with_in_place(alloc, with_order(alloc, command)?)?)
 }
 
 /// Returns the command `paths`.
@@ -103,7 +107,7 @@ fn patch<'a>(alloc: Global) -> Result<Command<'a>, AllocError> {
                 .conflicts_with("lines")?,
         )?
         .arg(reformat(alloc)?)?;
-    with_lines(alloc, with_in_place(alloc, with_layout(alloc, command)?)?)
+    with_lines(alloc, with_in_place(alloc, with_order(alloc, command)?)?)
 }
 
 /// Returns the command `diff`.
@@ -170,6 +174,16 @@ fn with_layout<'a>(alloc: Global, command: Command<'a>) -> Result<Command<'a>, A
             )?,
         )?
         .arg(arg!(in alloc; --compact "Prints without white space"))
+}
+
+/// Adds the flags for the layout of a text, and for the order of its members.
+fn with_order<'a>(alloc: Global, command: Command<'a>) -> Result<Command<'a>, AllocError> {
+    with_layout(alloc, command)?.arg(
+        Arg::new(alloc, "sort-keys")
+            .long("sort-keys")
+            .help("Sorts the members; prints without white space, or as --pretty does")
+            .action(ArgAction::SetTrue),
+    )
 }
 
 /// Adds the flags for one document a line.

@@ -21,12 +21,23 @@ const BLOCK: usize = 65_536;
 pub fn layout_of(matches: &ArgMatches<'_>) -> Layout {
     if matches.get_flag("raw") {
         Layout::Raw
+    } else if matches.get_flag("sort-keys") {
+        sorted(matches)
     } else if matches.get_flag("pretty") {
         Layout::Pretty
     } else if matches.get_flag("compact") {
         Layout::Compact
     } else {
         Layout::Kept
+    }
+}
+
+/// Returns how results with sorted members are printed.
+fn sorted(matches: &ArgMatches<'_>) -> Layout {
+    if matches.get_flag("pretty") {
+        Layout::SortedPretty
+    } else {
+        Layout::Sorted
     }
 }
 

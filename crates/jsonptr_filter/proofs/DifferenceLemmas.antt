@@ -1,5 +1,5 @@
 -- What is printed can be read again, and a patch that is printed applies.
-use Rattle.std.proofs.Common.{◌≡◌, ◌≢◌, ◌≤◌, ◌⊎◌, inl, inr, List, Option, Some, None, MatchOption, refl, sym, ◌∙◌, subst}
+use Rattle.std.proofs.Common.{◌≡◌, ◌≢◌, ◌≤◌, ◌⊎◌, inl, inr, List, Option, Some, None, MatchOption, refl, sym, ap, ◌∙◌, subst}
 use Rattle.std.specs.declared.alloc.AllocError.{AllocError}
 use Rattle.serde_json.specs.Data.{Data, depth}
 use Rattle.serde_json.specs.Find.{as_str}
@@ -21,13 +21,16 @@ use Rattle.jsonptr_edit_in_text.specs.declared.edited.EditError.TheVariants as e
 use Rattle.jsonptr_filter.specs.Differences.{IsDifference, FailsToDiffer}
 use Rattle.jsonptr_filter.specs.Inverting.{IsInverse}
 use Rattle.jsonptr_filter.specs.PrivateResults.{IsPatchTextFault}
-use Rattle.jsonptr_filter.specs.Layouts.{IsCompact, Shows, ReadsBack}
-use Rattle.jsonptr_filter.specs.Results.{Restyles, FailsToPatch}
+use Rattle.jsonptr_in_text.specs.Format.{IsFormatted}
+use Rattle.jsonptr_in_text.specs.declared.format.Format.{Format}
+use Rattle.jsonptr_in_text.specs.declared.format.Format.TheVariants as format
+use Rattle.jsonptr_filter.specs.Layouts.{IsCompact, Shows, Lays, ReadsBack}
+use Rattle.jsonptr_filter.specs.Results.{FailsToPatch}
 use Rattle.jsonptr_filter.specs.declared.difference.Difference.{Difference}
 use Rattle.jsonptr_filter.specs.declared.failure.Failure.{Failure}
-use Rattle.jsonptr_filter.specs.declared.failure.Failure.TheVariants.{BadPointer, NotPatch, NoValue, BadPlace, NotThere, BadPatch, TooDeep, NotInPlace, PatchTooDeep, LineBreak, BadLine, NotUtf8, NotJson, ArgumentNotJson, Memory, Read, Write}
+use Rattle.jsonptr_filter.specs.declared.failure.Failure.TheVariants.{BadPointer, NotPatch, NoValue, BadPlace, NotThere, BadPatch, TooDeep, NotInPlace, NotLocated, PatchTooDeep, LineBreak, BadLine, NotUtf8, NotJson, ArgumentNotJson, Memory, Read, Write}
 use Rattle.jsonptr_filter.specs.declared.layout.Layout.{Layout}
-use Rattle.jsonptr_filter.specs.declared.layout.Layout.TheVariants.{Kept, Compact, Pretty, Raw}
+use Rattle.jsonptr_filter.specs.declared.layout.Layout.TheVariants.{Kept, Compact, Pretty, Sorted, SortedPretty, Raw}
 
 raw_reads : (value : Data) (text : Text) (o : Option Text) → depth value ≤ max_depth → MatchOption o (IsCompact value text) (λ s. text ≡ s) → MatchOption o (read text ≡ Some value) (λ s. text ≡ s)
 raw_reads value text None le h = h.reads_back le
@@ -37,12 +40,16 @@ pub reads_back : (layout : Layout) (value : Data) (text : Text) → depth value 
 reads_back Kept value text le h = h.reads_back le
 reads_back Compact value text le h = h.reads_back le
 reads_back Pretty value text le h = h.reads_back le
+reads_back Sorted value text le h = h.reads_back le
+reads_back SortedPretty value text le h = h.reads_back le
 reads_back Raw value text le h = raw_reads value text (as_str value) le h
 
 pub patch_reads : (layout : Layout) (os : List Operation) (text : Text) → depth (document_of os) ≤ max_depth → Shows layout (document_of os) text → read text ≡ Some (document_of os)
 patch_reads Kept os text le h = h.reads_back le
 patch_reads Compact os text le h = h.reads_back le
 patch_reads Pretty os text le h = h.reads_back le
+patch_reads Sorted os text le h = h.reads_back le
+patch_reads SortedPretty os text le h = h.reads_back le
 patch_reads Raw os text le h = h.reads_back le
 
 pub patch_fault : (n m : NodeMap) (os : List Operation) (e : Failure) → Patches n os m → IsPatchTextFault os e → FailsToDiffer n m e
@@ -54,6 +61,7 @@ patch_fault n m os NotThere turns h = absurd h
 patch_fault n m os (BadPatch f) turns h = absurd h
 patch_fault n m os TooDeep turns h = absurd h
 patch_fault n m os NotInPlace turns h = absurd h
+patch_fault n m os NotLocated turns h = absurd h
 patch_fault n m os PatchTooDeep turns h = (os, turns, h)
 patch_fault n m os LineBreak turns h = absurd h
 patch_fault n m os (BadLine number f) turns h = absurd h
@@ -70,12 +78,25 @@ shown_reads layout text out d e reads again h =
     let same : e ≡ d = cc in
     subst (λ (v : Data). ReadsBack layout v out) same (reads_back layout e out (depth-read text e again) h)
 
+-- a text whose tokens are laid out anew is read as the same document
+formatted_reads : (format : Format) (text out : Text) (d : Data) → read text ≡ Some d → IsFormatted format text out → read out ≡ Some d
+formatted_reads format text out d reads h = h.reads ∙ sym h.from ∙ reads
+
+unquoted : (text out : Text) (d : Data) (o : Option Text) → read text ≡ Some d → MatchOption o (out ≡ text) (λ s. out ≡ s) → MatchOption o (read out ≡ Some d) (λ s. out ≡ s)
+unquoted text out d None reads h = ap read h ∙ reads
+unquoted text out d (Some s) reads h = h
+
 -- the text of a document that is printed in another layout is read as that document
-pub restyled : (layout : Layout) (text out : Text) (d : Data) → read text ≡ Some d → Restyles layout text out → ReadsBack layout d out
+pub restyled : (layout : Layout) (text out : Text) (d : Data) → read text ≡ Some d → Lays layout text out → ReadsBack layout d out
 restyled Kept text out d reads h = subst (λ (t : Text). read t ≡ Some d) (sym h) reads
-restyled Compact text out d reads h = shown_reads Compact text out d h.0 reads h.1 h.2
-restyled Pretty text out d reads h = shown_reads Pretty text out d h.0 reads h.1 h.2
-restyled Raw text out d reads h = shown_reads Raw text out d h.0 reads h.1 h.2
+restyled Compact text out d reads h = formatted_reads format.Compact text out d reads h
+restyled Pretty text out d reads h = formatted_reads format.Pretty text out d reads h
+restyled Sorted text out d reads h = shown_reads Sorted text out d h.0 reads h.1 h.2
+restyled SortedPretty text out d reads h = shown_reads SortedPretty text out d h.0 reads h.1 h.2
+restyled Raw text out d reads h =
+    let whole : Some h.0 ≡ Some d = sym h.1 ∙ reads in
+    let same : h.0 ≡ d = cc in
+    unquoted text out d (as_str d) reads (subst (λ (v : Data). MatchOption (as_str v) (out ≡ text) (λ s. out ≡ s)) same h.2)
 
 -- without these four reasons, only a failed allocation is left, and that the edit is not made in place
 pub no_fault : (a : Text) (p : Data) (layout : Layout) (e : Failure) → ((f : PatchDocumentError) → IsNoPatch p f → ⊥) → (read a ≡ None → ⊥) → ((os : List Operation) (d : Data) (f : PatchError) → IsPatch p os → read a ≡ Some d → RefusesPatch (nodes d) os f → ⊥) → ((os : List Operation) → IsPatch p os → IsPatchFault a os edit.TooDeep → ⊥) → FailsToPatch a p layout e → ((f : AllocError) × (e ≡ Memory f)) ⊎ ((layout ≡ Kept) × (e ≡ NotInPlace))
@@ -87,6 +108,7 @@ no_fault a p layout NotThere patch json refused deep h = absurd h
 no_fault a p layout (BadPatch f) patch json refused deep h = absurd (refused h.0 h.1 f h.2 h.3 h.4)
 no_fault a p layout TooDeep patch json refused deep h = absurd (deep h.0 h.1 h.2)
 no_fault a p layout NotInPlace patch json refused deep h = inr (h.0, refl)
+no_fault a p layout NotLocated patch json refused deep h = absurd h
 no_fault a p layout PatchTooDeep patch json refused deep h = absurd h
 no_fault a p layout LineBreak patch json refused deep h = absurd h
 no_fault a p layout (BadLine number f) patch json refused deep h = absurd h
@@ -109,10 +131,12 @@ pub is_document : (d : Data) → IsDocument (nodes d)
 is_document d = (map_of-IsTree (content d), map_of-finite (content d))
 
 -- what is printed is read as that document, in each layout but that of a string without quotes
-pub printed : (layout : Layout) (text out : Text) (d : Data) → read text ≡ Some d → layout ≢ Raw → Restyles layout text out → read out ≡ Some d
+pub printed : (layout : Layout) (text out : Text) (d : Data) → read text ≡ Some d → layout ≢ Raw → Lays layout text out → read out ≡ Some d
 printed Kept text out d reads other h = restyled Kept text out d reads h
 printed Compact text out d reads other h = restyled Compact text out d reads h
 printed Pretty text out d reads other h = restyled Pretty text out d reads h
+printed Sorted text out d reads other h = restyled Sorted text out d reads h
+printed SortedPretty text out d reads other h = restyled SortedPretty text out d reads h
 printed Raw text out d reads other h = absurd (other refl)
 
 -- the inverse of a patch turns the one document that the patch makes into the one before

@@ -1,5 +1,5 @@
 -- The errors of the calls that make the patch that takes a patch back.
-use Rattle.std.proofs.Common.{◌≡◌, List, Some, None}
+use Rattle.std.proofs.Common.{◌≡◌, List, Some}
 use Rattle.serde_json.specs.Data.{Data}
 use Rattle.serde_json.specs.Read.{read}
 use Rattle.jsonptr_grammar.specs.Text.{Text}
@@ -11,7 +11,7 @@ use Rattle.jsonptr_patch_document.specs.Document.{IsPatch}
 use Rattle.jsonptr_filter.specs.Inverting.{FailsToInvert}
 use Rattle.jsonptr_filter.specs.PrivateResults.{IsRestyleError, IsNotPatch, IsPatchTextFault, IsApplyFault}
 use Rattle.jsonptr_filter.specs.declared.failure.Failure.{Failure}
-use Rattle.jsonptr_filter.specs.declared.failure.Failure.TheVariants.{BadPointer, NotPatch, NoValue, BadPlace, NotThere, BadPatch, TooDeep, NotInPlace, PatchTooDeep, LineBreak, BadLine, NotUtf8, NotJson, ArgumentNotJson, Memory, Read, Write}
+use Rattle.jsonptr_filter.specs.declared.failure.Failure.TheVariants.{BadPointer, NotPatch, NoValue, BadPlace, NotThere, BadPatch, TooDeep, NotInPlace, NotLocated, PatchTooDeep, LineBreak, BadLine, NotUtf8, NotJson, ArgumentNotJson, Memory, Read, Write}
 
 -- the document is not a patch
 pub not_patch : (text : Text) (p : Data) (e : Failure) → IsNotPatch p e → FailsToInvert text p e
@@ -23,6 +23,7 @@ not_patch text p NotThere h = absurd h
 not_patch text p (BadPatch f) h = absurd h
 not_patch text p TooDeep h = absurd h
 not_patch text p NotInPlace h = absurd h
+not_patch text p NotLocated h = absurd h
 not_patch text p PatchTooDeep h = absurd h
 not_patch text p LineBreak h = absurd h
 not_patch text p (BadLine number f) h = absurd h
@@ -43,6 +44,7 @@ not_json text p os NotThere is h = absurd h
 not_json text p os (BadPatch f) is h = absurd h
 not_json text p os TooDeep is h = absurd h
 not_json text p os NotInPlace is h = absurd h
+not_json text p os NotLocated is h = absurd h
 not_json text p os PatchTooDeep is h = absurd h
 not_json text p os LineBreak is h = absurd h
 not_json text p os (BadLine number f) is h = absurd h
@@ -63,6 +65,7 @@ not_applied text p d os NotThere is reads h = absurd h
 not_applied text p d os (BadPatch f) is reads h = (os, d, is, reads, h)
 not_applied text p d os TooDeep is reads h = absurd h
 not_applied text p d os NotInPlace is reads h = absurd h
+not_applied text p d os NotLocated is reads h = absurd h
 not_applied text p d os PatchTooDeep is reads h = absurd h
 not_applied text p d os LineBreak is reads h = absurd h
 not_applied text p d os (BadLine number f) is reads h = absurd h
@@ -83,6 +86,7 @@ not_printed text p d os back m NotThere is reads made undone h = absurd h
 not_printed text p d os back m (BadPatch f) is reads made undone h = absurd h
 not_printed text p d os back m TooDeep is reads made undone h = absurd h
 not_printed text p d os back m NotInPlace is reads made undone h = absurd h
+not_printed text p d os back m NotLocated is reads made undone h = absurd h
 not_printed text p d os back m PatchTooDeep is reads made undone h = (os, back, d, m, is, reads, made, undone, h)
 not_printed text p d os back m LineBreak is reads made undone h = absurd h
 not_printed text p d os back m (BadLine number f) is reads made undone h = absurd h

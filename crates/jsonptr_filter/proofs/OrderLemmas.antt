@@ -5,7 +5,7 @@ use Rattle.jsonptr_grammar.specs.Text.{Text}
 use Rattle.jsonptr_filter.specs.Documents.{FailsOn}
 use Rattle.jsonptr_filter.specs.LineResults.{IsLineFault, StopsRun}
 use Rattle.jsonptr_filter.specs.declared.failure.Failure.{Failure}
-use Rattle.jsonptr_filter.specs.declared.failure.Failure.TheVariants.{BadPointer, NotPatch, NoValue, BadPlace, NotThere, BadPatch, TooDeep, NotInPlace, PatchTooDeep, LineBreak, BadLine, NotUtf8, NotJson, ArgumentNotJson, Memory, Read, Write}
+use Rattle.jsonptr_filter.specs.declared.failure.Failure.TheVariants.{BadPointer, NotPatch, NoValue, BadPlace, NotThere, BadPatch, TooDeep, NotInPlace, NotLocated, PatchTooDeep, LineBreak, BadLine, NotUtf8, NotJson, ArgumentNotJson, Memory, Read, Write}
 use Rattle.jsonptr_filter.specs.declared.layout.Layout.{Layout}
 use Rattle.jsonptr_filter.specs.declared.task.Task.{Task}
 
@@ -18,6 +18,7 @@ not_utf8 task layout l NotThere other h = absurd (other h.0)
 not_utf8 task layout l (BadPatch f) other h = absurd (other h.0)
 not_utf8 task layout l TooDeep other h = absurd (other h.0)
 not_utf8 task layout l NotInPlace other h = absurd (other h.0)
+not_utf8 task layout l NotLocated other h = absurd (other h.0)
 not_utf8 task layout l PatchTooDeep other h = absurd (other h.0)
 not_utf8 task layout l LineBreak other h = absurd (other h.0)
 not_utf8 task layout l (BadLine number f) other h = absurd (other h.0)
@@ -37,6 +38,7 @@ not_utf8_document task layout bytes NotThere other stops h = absurd (other h.0)
 not_utf8_document task layout bytes (BadPatch f) other stops h = absurd (other h.0)
 not_utf8_document task layout bytes TooDeep other stops h = absurd (other h.0)
 not_utf8_document task layout bytes NotInPlace other stops h = absurd (other h.0)
+not_utf8_document task layout bytes NotLocated other stops h = absurd (other h.0)
 not_utf8_document task layout bytes PatchTooDeep other stops h = absurd (other h.0)
 not_utf8_document task layout bytes LineBreak other stops h = absurd (other h.0)
 not_utf8_document task layout bytes (BadLine number f) other stops h = absurd (other h.0)

@@ -1,6 +1,6 @@
 -- What a replacement leaves, step by step.
-use Rattle.std.proofs.Common.{◌≡◌, ◌⊎◌, inl, inr, ⊎_elim, List, [], ◌∷◌, Bool, true, false, Contains, Result, Ok, Err, OnErr, refl, sym, subst, arith}
-use Rattle.jsonptr_filter.specs.Replacement.{Text, AtEachMoment, HasText, IsGuarded, IsUnchanged, Leaves, LeavesEither, Reads, Tries}
+use Rattle.std.proofs.Common.{◌≡◌, ◌⊎◌, inl, inr, ⊎_elim, List, [], ◌∷◌, true, false, Result, Ok, Err, OnErr, refl, sym, subst, arith}
+use Rattle.jsonptr_filter.specs.Replacement.{Text, AtEachMoment, IsGuarded, LeavesEither, Tries}
 use Rattle.jsonptr_filter.specs.PrivateReplacement.{IsSafe, all_calls}
 use Rattle.jsonptr_filter.specs.declared.replacement.Event.{Event}
 use Rattle.jsonptr_filter.specs.declared.replacement.Event.TheVariants.{Create, Write, TakeRights, Sync, Look, Rename, SyncFolder, Remove}

@@ -14,7 +14,7 @@ use Rattle.jsonptr_paths.specs.declared.reading.LineError.TheVariants as line
 use Rattle.jsonptr_paths.specs.declared.reading.BuildError.{BuildError}
 use Rattle.jsonptr_paths.specs.declared.reading.BuildError.TheVariants as build
 use Rattle.jsonptr_filter.specs.declared.failure.Failure.{Failure}
-use Rattle.jsonptr_filter.specs.declared.failure.Failure.TheVariants.{BadPointer, NotPatch, NoValue, BadPlace, NotThere, BadPatch, TooDeep, NotInPlace, PatchTooDeep, LineBreak, BadLine, NotUtf8, NotJson, ArgumentNotJson, Memory, Read, Write}
+use Rattle.jsonptr_filter.specs.declared.failure.Failure.TheVariants.{BadPointer, NotPatch, NoValue, BadPlace, NotThere, BadPatch, TooDeep, NotInPlace, NotLocated, PatchTooDeep, LineBreak, BadLine, NotUtf8, NotJson, ArgumentNotJson, Memory, Read, Write}
 
 -- `status_of_line e`: the exit status if a line adds no value, for the reason `e`
 abbrev pub status_of_line : LineError → ℕ
@@ -34,6 +34,7 @@ status_of NotThere = 1
 status_of (BadPatch e) = 1
 status_of TooDeep = 1
 status_of NotInPlace = 1
+status_of NotLocated = 1
 status_of PatchTooDeep = 3
 status_of LineBreak = 1
 status_of (BadLine number e) = status_of_line e

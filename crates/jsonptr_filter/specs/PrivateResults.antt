@@ -12,7 +12,7 @@ use Rattle.jsonptr_patch_document.specs.Document.{IsNoPatch}
 use Rattle.jsonptr_patch_document.specs.Writing.{document_of}
 use Rattle.jsonptr_edit_in_text.specs.PatchInText.{PatchesInText, IsPatchFault}
 use Rattle.jsonptr_edit_in_text.specs.declared.edited.EditError.TheVariants as edit
-use Rattle.jsonptr_filter.specs.Results.{Restyles}
+use Rattle.jsonptr_filter.specs.Layouts.{Lays}
 use Rattle.jsonptr_filter.specs.declared.failure.Failure.{Failure}
 use Rattle.jsonptr_filter.specs.declared.failure.Failure.TheVariants.{NotPatch, BadPatch, TooDeep, NotInPlace, PatchTooDeep, NotJson, Memory}
 use Rattle.jsonptr_filter.specs.declared.layout.Layout.{Layout}
@@ -20,7 +20,7 @@ use Rattle.jsonptr_filter.specs.declared.layout.Layout.TheVariants.{Kept}
 
 -- `Remakes P layout out`: `out` is the document of a text that meets `P`, in this layout
 abbrev pub Remakes : (Text → Type 0) → Layout → Text → Type 0
-Remakes P layout out = (new : Text) × P new × Restyles layout new out
+Remakes P layout out = (new : Text) × P new × Lays layout new out
 
 -- `IsRestyleError text e`: `e` is why the document of `text` is not printed, if it is not for memory
 abbrev pub IsRestyleError : Text → Failure → Type 0

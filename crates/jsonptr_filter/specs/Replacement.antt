@@ -1,7 +1,7 @@
 -- Replacing the text of a file on a system that can stop at any moment.
 use Rattle.std.specs.Prelude.{◌≡◌, ◌⊎◌, ℕ, List, [], ◌∷◌, Bool, true, false, Result, Ok, Err, Contains, ⊤}
 use Rattle.jsonptr_filter.specs.declared.replacement.Event.{Event}
-use Rattle.jsonptr_filter.specs.declared.replacement.Event.TheVariants.{Create, Write, TakeRights, Sync, Look, Rename, SyncFolder, Remove}
+use Rattle.jsonptr_filter.specs.declared.replacement.Event.TheVariants.{Create, Write, TakeRights, Sync, Look, Rename, SyncFolder}
 
 abbrev pub Text : Type 0
 Text = List ℕ

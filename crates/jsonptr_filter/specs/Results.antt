@@ -14,47 +14,39 @@ use Rattle.jsonptr_patch_document.specs.Document.{IsPatch, IsNoPatch}
 use Rattle.jsonptr_in_text.specs.InText.{FindsInText, RefusesInText}
 use Rattle.jsonptr_edit_in_text.specs.Bytes.{AssignsBytes, DeletesBytes}
 use Rattle.jsonptr_edit_in_text.specs.InPlace.{StaysOneLine}
+use Rattle.jsonptr_edit_in_text.specs.Locating.{IsLocated}
 use Rattle.jsonptr_edit_in_text.specs.EditInText.{AssignsInText, IsAssignError, DeletesInText, LacksInText}
 use Rattle.jsonptr_edit_in_text.specs.PatchInText.{PatchesInText, PatchBytes, IsPatchFault}
 use Rattle.jsonptr_edit_in_text.specs.declared.edited.EditError.TheVariants as edit
-use Rattle.jsonptr_filter.specs.Layouts.{Shows}
+use Rattle.jsonptr_filter.specs.Layouts.{Shows, Lays}
 use Rattle.jsonptr_filter.specs.declared.failure.Failure.{Failure}
-use Rattle.jsonptr_filter.specs.declared.failure.Failure.TheVariants.{NotPatch, NoValue, BadPlace, NotThere, BadPatch, TooDeep, NotInPlace, NotJson, Memory}
+use Rattle.jsonptr_filter.specs.declared.failure.Failure.TheVariants.{NotPatch, NoValue, BadPlace, NotThere, BadPatch, TooDeep, NotInPlace, NotLocated, NotJson, Memory}
 use Rattle.jsonptr_filter.specs.declared.layout.Layout.{Layout}
-use Rattle.jsonptr_filter.specs.declared.layout.Layout.TheVariants.{Kept, Compact, Pretty, Raw}
+use Rattle.jsonptr_filter.specs.declared.layout.Layout.TheVariants.{Kept}
 use Rattle.jsonptr_filter.specs.declared.task.Task.{Task}
 use Rattle.jsonptr_filter.specs.declared.task.Task.TheVariants.{Get, Set, Delete, Patch}
 
--- `Restyles layout text out`: `out` is the document of `text` in this layout
-abbrev pub Restyles : Layout → Text → Text → Type 0
-Restyles Kept text out = out ≡ text
-Restyles Compact text out = (d : Data) × (read text ≡ Some d) × Shows Compact d out
-Restyles Pretty text out = (d : Data) × (read text ≡ Some d) × Shows Pretty d out
-Restyles Raw text out = (d : Data) × (read text ≡ Some d) × Shows Raw d out
-
--- `Finds text ts fallback v`: `v` is the value that the tokens identify in the document of `text`. If they identify none,
--- `v` is the value in `fallback`
-abbrev pub Finds : Text → List Text → Option Value → Data → Type 0
-Finds text ts fallback v =
-    FindsInText text ts v
-    ⊎ ((other : Value) × (e : Error) × (fallback ≡ Some other) × (v ≡ view other) × RefusesInText text ts e)
-
--- `Gets text ts fallback layout out`: `out` is the text of that value in this layout
+-- `Gets text ts fallback layout out`: `out` is the text of the value that the tokens identify in the document of `text`, in
+-- this layout: as it is written there, or with its tokens laid out anew. If they identify none, it is what is printed for the
+-- value in `fallback`
 abbrev pub Gets : Text → List Text → Option Value → Layout → Text → Type 0
-Gets text ts fallback layout out = (v : Data) × Finds text ts fallback v × Shows layout v out
+Gets text ts fallback layout out =
+    ((before piece after : Text) × IsLocated text ts before piece after × Lays layout piece out)
+    ⊎ ((other : Value) × (e : Error)
+    × (fallback ≡ Some other) × RefusesInText text ts e × Shows layout (view other) out)
 
 -- `Sets text ts v layout out`: `out` is the document of `text` with `v` assigned at the tokens, in this layout. In the layout
 -- `Kept` only the bytes of the assignment change, and a text of one line stays one line
 abbrev pub Sets : Text → List Text → Data → Layout → Text → Type 0
 Sets text ts v layout out =
-    (new : Text) × AssignsInText text ts (nodes v) new × Restyles layout new out
+    (new : Text) × AssignsInText text ts (nodes v) new × Lays layout new out
     × (layout ≡ Kept → AssignsBytes text ts v new × StaysOneLine text new)
 
 -- `Deletes text ts layout out`: `out` is the document of `text` without the value at the tokens, in this layout. In the
 -- layout `Kept` only the bytes of the deletion change, and a text of one line stays one line
 abbrev pub Deletes : Text → List Text → Layout → Text → Type 0
 Deletes text ts layout out =
-    (new : Text) × DeletesInText text ts new × Restyles layout new out
+    (new : Text) × DeletesInText text ts new × Lays layout new out
     × (layout ≡ Kept → DeletesBytes text ts new × StaysOneLine text new)
 
 -- `PatchesBy text patch layout out`: `out` is the document of `text` after the operations that the document `patch` is,
@@ -62,7 +54,7 @@ Deletes text ts layout out =
 abbrev pub PatchesBy : Text → Data → Layout → Text → Type 0
 PatchesBy text patch layout out =
     (os : List Operation) × (new : Text)
-    × IsPatch patch os × PatchesInText text os new × Restyles layout new out
+    × IsPatch patch os × PatchesInText text os new × Lays layout new out
     × (layout ≡ Kept → PatchBytes text os new × StaysOneLine text new)
 
 -- `Yields task layout text out`: `out` is the result of the task on `text`, in this layout
@@ -72,10 +64,11 @@ Yields (Set p v) layout text out = Sets text (tokens p) (view v) layout out
 Yields (Delete p) layout text out = Deletes text (tokens p) layout out
 Yields (Patch d) layout text out = PatchesBy text (view d) layout out
 
--- `FailsToGet text ts fallback e`: `e` is why no value is found, if it is not for memory
+-- `FailsToGet text ts fallback e`: `e` is why no value is found, if it is not for memory. With `NotLocated` the value is there
 abbrev pub FailsToGet : Text → List Text → Option Value → Failure → Type 0
 FailsToGet text ts fallback NotJson = read text ≡ None
 FailsToGet text ts fallback (NoValue f) = (fallback ≡ None) × RefusesInText text ts f
+FailsToGet text ts fallback NotLocated = (v : Data) × FindsInText text ts v
 FailsToGet text ts fallback (Memory f) = ⊤
 FailsToGet text ts fallback e = ⊥
 

@@ -1,21 +1,20 @@
 //! Changing a document in its text: in place, or by printing it anew where that is wanted.
-ghost use Rattle.std.specs.Prelude.{◌≡◌, Some, IfOk, IfErr, string_bytes};
-ghost use Rattle.serde_json.specs.Read.{read};
+ghost use Rattle.std.specs.Prelude.{IfOk, IfErr, string_bytes};
 ghost use Rattle.serde_json.specs.View.{view};
 ghost use Rattle.jsonptr.specs.Pointer.{tokens};
 ghost use Rattle.jsonptr_tree.specs.Json.{nodes};
 ghost use Rattle.jsonptr_edit_in_text.specs.EditInText.{AssignsInText, DeletesInText};
-ghost use Rattle.jsonptr_filter.specs.Results.{Restyles, Sets, Deletes, FailsToSet, FailsToDelete};
-ghost use Rattle.jsonptr_filter.specs.PrivateResults.{Remakes, IsRestyleError};
+ghost use Rattle.jsonptr_filter.specs.Results.{Sets, Deletes, FailsToSet, FailsToDelete};
+ghost use Rattle.jsonptr_filter.specs.PrivateResults.{Remakes};
 
 use crate::failure::Failure;
-use crate::layout::{Layout, show};
+use crate::layout::{Layout, lay_out};
 use jsonptr::Pointer;
 use jsonptr_edit_in_text::{
     Buffers, assign_in_place, assign_in_text_with, delete_in_place, delete_in_text_with,
 };
 use serde_json::Value;
-use std::alloc::{AllocError, Global};
+use std::alloc::Global;
 
 /// Assigns the value at the pointer in the text, and returns the new document in this layout.
 ///
@@ -80,7 +79,7 @@ fn set_anew(
         (FailsToSet text.now (tokens pointer.entry) (view value.now) layout) }
 {
     let edited = assign_in_text_with(alloc, buffers, text, pointer, value.clone()?)?;
-    restyle(alloc, edited.into_string(), layout)
+    lay_out(alloc, &mut buffers.old, edited.as_str(), layout)
 }
 
 /// Deletes the value that the pointer resolves to in the text, and returns the new document in this
@@ -141,43 +140,7 @@ fn delete_anew(
     ensures failed { IfErr result (FailsToDelete text.now (tokens pointer.entry) layout) }
 {
     match delete_in_text_with(alloc, buffers, text, pointer)? {
-        Some(edited) => restyle(alloc, edited.into_string(), layout),
+        Some(edited) => lay_out(alloc, &mut buffers.old, edited.as_str(), layout),
         None => Err(Failure::NotThere),
-    }
-}
-
-/// Returns the document of the text in this layout.
-///
-/// # Errors
-///
-/// [`Failure::NotJson`] if the text is not JSON, and [`Failure::Memory`] if an allocation fails. With
-/// [`Layout::Kept`] the text is returned as it is.
-pub fn restyle(alloc: Global, text: String, layout: Layout) -> Result<String, Failure>
-    ensures done { IfOk result
-        (λ s. Restyles layout (string_bytes text) (string_bytes s)) }
-    ensures failed { IfErr result (IsRestyleError (string_bytes text)) }
-{
-    match layout {
-        Layout::Kept => Ok(text),
-        layout => {
-            let document = read_text(alloc, text.as_str())?;
-            Ok(show(alloc, &document, layout)?)
-        }
-    }
-}
-
-/// Reads the document that the text is.
-///
-/// # Errors
-///
-/// [`Failure::NotJson`] if the text is not JSON, and [`Failure::Memory`] if an allocation fails.
-pub fn read_text(alloc: Global, text: &str) -> Result<Value, Failure>
-    ensures done { IfOk result (λ v. read text.now ≡ Some (view v)) }
-    ensures failed { IfErr result (IsRestyleError text.now) }
-{
-    match Value::from_str(alloc, text) {
-        Ok(value) => Ok(value),
-        Err(error) if error.is_memory() => Err(Failure::Memory(AllocError)),
-        Err(_) => Err(Failure::NotJson),
     }
 }

@@ -40,6 +40,9 @@ pub enum Failure {
     /// The edit is possible, but not in place: the document would have to be printed anew.
     #[error("the edit cannot be made in place")]
     NotInPlace,
+    /// The value is there, but the check of where its text is failed.
+    #[error("the value cannot be located in the text")]
+    NotLocated,
     /// The patch that turns one document into another nests deeper than 127.
     #[error("the patch would nest deeper than 127")]
     PatchTooDeep,
@@ -86,6 +89,7 @@ impl Failure {
             | Failure::BadPatch(_)
             | Failure::TooDeep
             | Failure::NotInPlace
+            | Failure::NotLocated
             | Failure::LineBreak => 1,
             Failure::BadLine(_, error) => line_status(error),
             Failure::PatchTooDeep

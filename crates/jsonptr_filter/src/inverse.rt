@@ -7,9 +7,8 @@ ghost use Rattle.jsonptr_filter.specs.Inverting.{IsInverse, FailsToInvert};
 ghost use Rattle.jsonptr_filter.specs.PrivateResults.{IsApplyFault};
 
 use crate::difference::{Difference, patch_text};
-use crate::edit::read_text;
 use crate::failure::Failure;
-use crate::layout::Layout;
+use crate::layout::{Layout, read_text};
 use crate::patching::operations_of;
 use jsonptr::Fault;
 use jsonptr_patch::{Operation, apply_with_inverse};

@@ -72,7 +72,8 @@ pub fn put_line<W: io::Write, E: io::Write>(
 /// # Errors
 ///
 /// Those of [`result_in_text`](crate::result::result_in_text), and [`Failure::LineBreak`] if the
-/// result contains a line break: that of a line in [`Layout::Raw`] or [`Layout::Pretty`].
+/// result contains a line break: that of a line in [`Layout::Raw`], [`Layout::Pretty`] or
+/// [`Layout::SortedPretty`].
 fn line_result(
     alloc: Global,
     buffers: &mut Buffers,

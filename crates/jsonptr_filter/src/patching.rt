@@ -7,9 +7,8 @@ ghost use Rattle.jsonptr_edit_in_text.specs.InPlace.{StaysOneLine};
 ghost use Rattle.jsonptr_filter.specs.Results.{PatchesBy, FailsToPatch};
 ghost use Rattle.jsonptr_filter.specs.PrivateResults.{Remakes, FailsToApply, IsNotPatch};
 
-use crate::edit::restyle;
 use crate::failure::Failure;
-use crate::layout::Layout;
+use crate::layout::{Layout, lay_out};
 use jsonptr::Fault;
 use jsonptr_edit_in_text::{Buffers, apply_in_place, apply_in_text_with};
 use jsonptr_patch::Operation;
@@ -89,5 +88,5 @@ fn patch_anew(
     ensures failed { IfErr result (FailsToApply text.now operations.items layout) }
 {
     let edited = apply_in_text_with(alloc, buffers, text, operations)?;
-    restyle(alloc, edited.into_string(), layout)
+    lay_out(alloc, &mut buffers.old, edited.as_str(), layout)
 }

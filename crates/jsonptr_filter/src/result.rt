@@ -5,21 +5,21 @@ ghost use Rattle.jsonptr_filter.specs.Results.{Yields, Fails, Gets, FailsToGet};
 
 use crate::edit::{delete, set};
 use crate::failure::Failure;
-use crate::layout::{Layout, show};
+use crate::layout::{Layout, lay_out, show};
 use crate::patching::patch;
 use crate::task::Task;
 use jsonptr::Pointer;
-use jsonptr_edit_in_text::Buffers;
-use jsonptr_in_text::{InTextError, Scratch, resolve_in_text_with};
+use jsonptr_edit_in_text::{Buffers, LocateError, locate_in_text_with};
+use jsonptr_in_text::InTextError;
 use serde_json::Value;
 use std::alloc::Global;
 
 /// Returns the text that the task makes of the text of a document.
 ///
-/// [`Task::Get`] finds its value in the text, and reads no document. [`Task::Set`],
+/// [`Task::Get`] returns the text of its value as it is written, and reads no document. [`Task::Set`],
 /// [`Task::Delete`] and [`Task::Patch`] edit the text in place, as `assign_in_place` and the like of
 /// `jsonptr_edit_in_text` do: only the bytes of the edit change, and a text of one line stays one line.
-/// In a layout other than [`Layout::Kept`] the new document is printed anew.
+/// In a layout other than [`Layout::Kept`] the tokens of the new document are laid out anew.
 ///
 /// # Errors
 ///
@@ -31,6 +31,8 @@ use std::alloc::Global;
 /// - [`Failure::TooDeep`] if the new document nests deeper than 127.
 /// - [`Failure::NotInPlace`] if the edit is possible, but not in place. In a layout other than
 ///   [`Layout::Kept`] that is no error.
+/// - [`Failure::NotLocated`] if the check of where the text of a value is fails. No text is known for
+///   which it does.
 /// - [`Failure::Memory`] if an allocation fails.
 ///
 /// # Examples
@@ -87,14 +89,7 @@ pub fn result_in_text_with(
     ensures failed { IfErr result (Fails task.now layout text.now) }
 {
     match task {
-        Task::Get(pointer, fallback) => get(
-            alloc,
-            &mut buffers.old,
-            text,
-            *pointer,
-            fallback,
-            layout,
-        ),
+        Task::Get(pointer, fallback) => get(alloc, buffers, text, *pointer, fallback, layout),
         Task::Set(pointer, value) => set(alloc, buffers, text, *pointer, value, layout),
         Task::Delete(pointer) => delete(alloc, buffers, text, *pointer, layout),
         Task::Patch(document) => patch(alloc, buffers, text, document, layout),
@@ -109,7 +104,7 @@ pub fn result_in_text_with(
 /// Those of [`Task::Get`].
 fn get(
     alloc: Global,
-    scratch: &mut Scratch,
+    buffers: &mut Buffers,
     text: &str,
     pointer: Pointer<'_>,
     fallback: &Option<Value>,
@@ -119,13 +114,14 @@ fn get(
         (string_bytes s)) }
     ensures failed { IfErr result (FailsToGet text.now (tokens pointer.entry) fallback.now) }
 {
-    match resolve_in_text_with(alloc, scratch, text, pointer) {
-        Ok(value) => Ok(show(alloc, &value, layout)?),
-        Err(InTextError::Resolve(error)) => match fallback {
+    match locate_in_text_with(alloc, buffers, text, pointer) {
+        Ok(located) => lay_out(alloc, &mut buffers.old, located.value, layout),
+        Err(LocateError::NotLocated) => Err(Failure::NotLocated),
+        Err(LocateError::Failed(InTextError::Resolve(error))) => match fallback {
             Some(value) => Ok(show(alloc, value, layout)?),
             None => Err(Failure::NoValue(error)),
         },
-        Err(InTextError::NotJson) => Err(Failure::NotJson),
-        Err(InTextError::Memory(error)) => Err(Failure::Memory(error)),
+        Err(LocateError::Failed(InTextError::NotJson)) => Err(Failure::NotJson),
+        Err(LocateError::Failed(InTextError::Memory(error))) => Err(Failure::Memory(error)),
     }
 }

@@ -2,7 +2,6 @@ use Rattle.std.proofs.Common.{◌≤◌, subst, string_bytes}
 use Rattle.serde_json.specs.Data.{Data, depth}
 use Rattle.serde_json.specs.Read.{max_depth}
 use Rattle.serde_json.specs.View.{view}
-use Rattle.jsonptr_patch_document.specs.Writing.{document_of}
 use Rattle.jsonptr_filter.specs.Layouts.{Shows}
 use Rattle.jsonptr_filter.proofs.DifferenceLemmas.{patch_reads}
 use Rattle.jsonptr_filter.proofs.difference.patch_text.Goals as goal

@@ -6,4 +6,4 @@ use Rattle.jsonptr_filter.proofs.edit.delete_anew.Goals as goal
 pub returns-in-Some-clause-done : goal.returns-in-Some-clause-done
 returns-in-Some-clause-done c =
     let deleted = rw c.in-Some.is at c.in_ok-edited.ensures.deleted in
-    remade (DeletesInText c.args.text.now (tokens c.args.pointer)) c.args.layout (text_of c.in-Some.edited) _ c.restyle.result deleted c.into_string.ensures c.restyle.ensures.done
+    remade (DeletesInText c.args.text.now (tokens c.args.pointer)) c.args.layout (text_of c.in-Some.edited) _ c.lay_out.result deleted c.as_str.ensures c.lay_out.ensures.done

@@ -11,6 +11,6 @@ pub returns-clause-done : goal.returns-clause-done
 returns-clause-done c =
     let ts = tokens c.args.pointer in
     let t = text_of c.in_ok-edited.edited in
-    remade (AssignsInText c.args.text.now ts (nodes (view c.args.value.now))) c.args.layout t _ c.restyle.result
+    remade (AssignsInText c.args.text.now ts (nodes (view c.args.value.now))) c.args.layout t _ c.lay_out.result
     (subst (λ (x : Data). AssignsInText c.args.text.now ts (nodes x) t) c.in_ok-clone.ensures.cases c.in_ok-edited.ensures.assigned)
-    c.into_string.ensures c.restyle.ensures.done
+    c.as_str.ensures c.lay_out.ensures.done

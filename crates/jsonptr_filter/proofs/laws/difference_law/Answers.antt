@@ -1,10 +1,9 @@
-use Rattle.std.proofs.Common.{◌≡◌, ◌≤◌, List, Some, None, sym, ◌∙◌, subst, string_bytes}
+use Rattle.std.proofs.Common.{◌≡◌, List, Some, None, sym, ◌∙◌, subst, string_bytes}
 use Rattle.serde_json.specs.Data.{Data, depth}
 use Rattle.serde_json.specs.Read.{read, max_depth}
 use Rattle.serde_json.proofs.Nesting.{depth-read}
 use Rattle.jsonptr.proofs.Calling.{ascends_read}
 use Rattle.jsonptr_tree.specs.Json.{nodes}
-use Rattle.jsonptr_tree.specs.Node.{NodeMap}
 use Rattle.jsonptr_value.specs.Nesting.{NestsWithin}
 use Rattle.jsonptr_value.proofs.LevelLemmas.{NestsWithin-depth}
 use Rattle.jsonptr_value.proofs.NestingLemmas.{NestsWithin-more}
