@@ -1194,7 +1194,7 @@ def differences():
     yield from changed('{"a":1,"b":2}', '{"b":3,"c":4}', "remove /a", "replace /b 3", "add /c 4")
     yield from changed('{"a":[{"b":1},{"c":2}]}', '{"a":[{"b":1},{"c":3}]}', "replace /a/1/c 3")
     yield from changed('{"a/b":{"~":1}}', '{"a/b":{"~":[1]}}', "replace /a~1b/~0 [1]")
-    yield from changed("[1.5,2]", "[1.5,2]", "replace /0 1.5")
+    yield from changed("[1.5,2]", "[1.5,2]")
     yield from changed('{"a":[1,2,{"b":[3,4,5]}],"c":6}', '{"a":[2,{"b":[3,5]},7],"c":{}}',
                        "remove /a/0", "remove /a/1/b/1", "add /a/2 7", "replace /c {}")
     deep = '{"x":' * 20

@@ -451,7 +451,7 @@ def check_inverse(folder, shim):
             leave(undo, old)
             check_result(Case((), "", new), run(("patch", patch, "--inverse", undo), BEFORE))
             expect_files(folder, {patch: json.dumps(operations), undo: written})
-            check_result(Case((), "", BEFORE.replace("1.50", "1.5").replace(" ", "")), run(("patch", undo, "--compact"), new))
+            check_result(Case((), "", BEFORE.replace("1.50", "1.5").replace(" ", "")), run(("patch", undo, "--sort-keys"), new))
             leave(undo, old)
             write(path, BEFORE)
             check_result(Case((), "", ""), run(("patch", patch, path, "-i", "--inverse", undo)))
