@@ -80,7 +80,7 @@ fn ends_in_break(task: &Task<'_>, layout: Layout) -> bool
 /// let mut output = Vec::new(alloc);
 /// let mut bytes = Vec::new(alloc);
 /// run_document(alloc, &task, Layout::Kept, &mut input, &mut bytes, &mut output)?;
-/// assert_eq!(rt; output.as_slice(), b"[1,2]\n".as_slice());
+/// assert_eq!(rt; output.as_slice(), b"[1, 2]\n".as_slice());
 /// ```
 pub fn run_document<R: io::Read, W: io::Write>(
     alloc: Global,
