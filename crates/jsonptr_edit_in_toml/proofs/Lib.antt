@@ -1,0 +1,2 @@
+-- Lemmas on values that are the same.
+pub mod SameLemmas

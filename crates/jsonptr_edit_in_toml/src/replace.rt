@@ -1,0 +1,149 @@
+//! Where the text of a value is, to replace it. These are hints: no contract says that they are right.
+use crate::inline::container_of;
+use crate::items::Kind;
+use crate::keys::push_keys;
+use crate::outline::{Outline, Role, indent_of, outline_of};
+use crate::piece::{has_headers, section_text};
+use crate::plan::{Keys, Replacement};
+use crate::span::{Span, newline_of, slice};
+use jsonptr::{Pointer, PointerBuf};
+use std::alloc::{AllocError, Global};
+use toml::Value;
+
+/// Returns how the text of the value that the pointer resolves to is replaced.
+pub fn plan_replacement(
+    alloc: Global,
+    text: &str,
+    pointer: Pointer<'_>,
+    value: &Value,
+) -> Result<Option<Replacement>, AllocError> {
+    let outline = outline_of(alloc, text, pointer)?;
+    if outline.count() == 0 {
+        return Ok(None);
+    }
+    if let Some(span) = value_span(alloc, text, &outline)? {
+        return Ok(Some(Replacement {
+            span,
+            keys: Keys::None,
+            piece: value.to_string(alloc)?,
+            new_keys: Keys::None,
+        }));
+    }
+    match outline.run() {
+        Some(run) => replace_run(alloc, text, &outline, run, value),
+        None => Ok(None),
+    }
+}
+
+/// Returns where the text of the value is, if it is written as a value.
+fn value_span(alloc: Global, text: &str, outline: &Outline) -> Result<Option<Span>, AllocError> {
+    if let Some(index) = outline.first_with(Role::Exact) {
+        return Ok(outline.items.get(index).map(|item| item.value));
+    }
+    let Some(index) = outline.first_with(Role::Through) else {
+        return Ok(None);
+    };
+    let (Some(item), Some(trace)) = (outline.items.get(index), outline.traces.get(index)) else {
+        return Ok(None);
+    };
+    let Some(container) = container_of(alloc, text, item.value, &outline.route, trace.shared)? else {
+        return Ok(None);
+    };
+    match container.found {
+        Some(found) if found.count == outline.count() => Ok(Some(found.part.value)),
+        _ => Ok(None),
+    }
+}
+
+/// Returns how the items of a table or an array of tables are replaced.
+fn replace_run(
+    alloc: Global,
+    text: &str,
+    outline: &Outline,
+    run: Span,
+    value: &Value,
+) -> Result<Option<Replacement>, AllocError> {
+    let (Some(first), Some(last)) = (outline.items.get(run.from), outline.items.get(run.to)) else {
+        return Ok(None);
+    };
+    let span = Span {
+        from: first.line,
+        to: last.end,
+    };
+    let is_pair = first.kind == Kind::Pair;
+    let keys = if is_pair {
+        outline.last_keys(alloc, outline.table_of(run.from))?
+    } else {
+        outline.header_keys(alloc, outline.count())?
+    };
+    let Some(written) = (if !is_pair && (value.is_table() || has_headers(value)) {
+        section_of(alloc, text, outline, value)?
+    } else {
+        Some(pair_of(alloc, text, outline, run.from, value)?)
+    }) else {
+        return Ok(None);
+    };
+    let is_last = !slice(text, span).ends_with('\n');
+    Ok(Some(Replacement {
+        span,
+        keys: Keys::Some(keys),
+        piece: if is_last {
+            without_newline(alloc, written.piece.as_str())?
+        } else {
+            written.piece
+        },
+        new_keys: Keys::Some(written.keys),
+    }))
+}
+
+/// Headers and pairs, and the keys at which they hold a value.
+#[derive(Debug, Drop)]
+struct Written {
+    keys: PointerBuf,
+    piece: String,
+}
+
+/// Returns headers and pairs that hold the value.
+fn section_of(
+    alloc: Global,
+    text: &str,
+    outline: &Outline,
+    value: &Value,
+) -> Result<Option<Written>, AllocError> {
+    let keys = outline.header_keys(alloc, outline.count())?;
+    match section_text(alloc, keys.as_ptr(), value, newline_of(text))? {
+        Some(piece) => Ok(Some(Written { keys, piece })),
+        None => Ok(None),
+    }
+}
+
+/// Returns the line of a pair that holds the value, instead of the item: with the tokens from its table
+/// on, or with the last one instead of a header.
+fn pair_of(
+    alloc: Global,
+    text: &str,
+    outline: &Outline,
+    index: usize,
+    value: &Value,
+) -> Result<Written, AllocError> {
+    let mut piece = String::new(alloc);
+    let mut from = outline.count().saturating_sub(1);
+    if let Some(item) = outline.items.get(index) {
+        piece.push_str(indent_of(text, item))?;
+        if item.kind == Kind::Pair {
+            from = outline.table_of(index);
+        }
+    }
+    push_keys(alloc, &mut piece, &outline.route.tokens, from, outline.count())?;
+    piece.push_str(" = ")?;
+    piece.push_str(value.to_string(alloc)?.as_str())?;
+    piece.push_str(newline_of(text))?;
+    let keys = outline.last_keys(alloc, from)?;
+    Ok(Written { keys, piece })
+}
+
+/// Returns the text without a line break at its end.
+fn without_newline(alloc: Global, text: &str) -> Result<String, AllocError> {
+    let line = text.strip_suffix('\n').unwrap_or(text);
+    String::from_str(alloc, line.strip_suffix('\r').unwrap_or(line))
+}
