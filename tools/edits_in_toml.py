@@ -28,6 +28,10 @@ LIMITS = {"scalar by scalar": 2, "new key": 2, "new key two below": 2, "appended
 LIMITS |= {"table by table": 10, "deleted table": 10, "new table": 10}
 
 
+KINDS = ("scalar by scalar", "new key", "appended", "deleted key") * 3
+KINDS += (*LIMITS, "array by array", "deleted array", "table by scalar", "appended table")
+
+
 class Wrong(Exception):
     """A new text that is not the expected one."""
 
@@ -80,20 +84,25 @@ class Cases:
 
     def case(self):
         """Returns an edit, or None if there is none of the kind."""
-        kind = self.random.choice((*LIMITS, "array by array", "deleted array", "table by scalar", "appended table"))
+        kind = self.random.choice(KINDS)
         text, document = self.text()
-        wanted = {"key": dict, "appended": list, "table": dict, "array": list}
+        wanted = {"appended": list, "table": dict, "array": list}
         word = kind.split()[1] if kind.split()[0] in ("new", "deleted") else kind.split()[0]
         if kind.startswith("new"):
             word = "table"
-        chosen = [tokens for tokens, it in places(document) if self.fits(it, wanted.get(word)) or (kind == "deleted key" and self.fits(it, None))]
-        if kind == "deleted key":
-            chosen = [tokens for tokens in chosen if not isinstance(value_at(document, tokens), (dict, list))]
+        chosen = [tokens for tokens, it in places(document) if self.fits(it, wanted.get(word))]
+        if kind.startswith("appended"):
+            chosen = [it for it in chosen if self.has_tables(value_at(document, it)) == (kind == "appended table")]
         if not kind.startswith(("new", "appended")):
             chosen = [it for it in chosen if it]
         if not chosen:
             return None
         return kind, text, document, *self.edit(kind, self.random.choice(chosen))
+
+    @staticmethod
+    def has_tables(elements):
+        """Returns whether the elements are tables."""
+        return bool(elements) and all(isinstance(it, dict) for it in elements)
 
     @staticmethod
     def fits(value, kind):
@@ -137,15 +146,10 @@ def check(case, kind, new):
         got = tomllib.loads(new.removeprefix("\ufeff"))
     except tomllib.TOMLDecodeError as error:
         raise Wrong(f"{error}") from None
-    if plain(got) != plain(unified(old, after(document, tokens, value))):
+    if plain(got) != plain(after(document, tokens, value)):
         raise Wrong("another document")
     if kind == "in place":
         check_bytes(name, old, new, document, tokens)
-
-
-def unified(old, document):
-    """Returns the document with the line breaks of its text, as `tomllib` reads them."""
-    return document
 
 
 def check_bytes(name, old, new, document, tokens):

@@ -6,7 +6,7 @@ use crate::part::add_part;
 use crate::piece::{has_headers, section_text};
 use crate::plan::{Addition, Child, Keys};
 use crate::span::{
-    Span, is_blank_line, line_start, newline_of, skip_blank_lines, skip_comment_lines, skip_own_comments, slice, text_start,
+    Span, comments_above, is_blank_line, line_start, newline_of, skip_blank_lines, skip_comment_lines, skip_own_comments, slice, text_start,
 };
 use jsonptr::{Pointer, PointerBuf};
 use std::alloc::{AllocError, Global};
@@ -36,7 +36,7 @@ pub fn plan_addition(
     } else if count.saturating_add(1) == outline.count() && value.is_table() {
         let mut keys = outline.header_keys(alloc, count)?;
         push_token(alloc, &mut keys, "-")?;
-        add_section(alloc, text, section_end(text, &outline, count), keys, value)
+        add_section(alloc, text, gap_of(text, &outline, count), keys, value)
     } else {
         Ok(None)
     }
@@ -78,7 +78,7 @@ fn add_member(
     value: &Value,
 ) -> Result<Option<Addition>, AllocError> {
     let is_deep = count.saturating_add(1) < outline.count();
-    let is_home = count == 0 || has_header(outline, count);
+    let is_home = count == 0 || outline.has_header(count);
     let is_section = (is_deep || has_headers(value)) && prefers_headers(text, outline, count);
     let sibling = if is_home {
         last_pair(outline, count)
@@ -87,7 +87,7 @@ fn add_member(
     };
     if is_section || !(is_home || sibling.is_some()) {
         let keys = outline.header_keys(alloc, outline.count())?;
-        return add_section(alloc, text, section_end(text, outline, count), keys, value);
+        return add_section(alloc, text, gap_of(text, outline, count), keys, value);
     }
     let from = match sibling {
         Some(index) if !is_home => outline.table_of(index),
@@ -99,11 +99,6 @@ fn add_member(
         count,
     };
     add_line(alloc, text, outline, &line, value)
-}
-
-/// Returns whether the table that so many tokens lead to has a header.
-fn has_header(outline: &Outline, count: usize) -> bool {
-    outline.traces.iter().any(|trace| trace.role == Role::Above && trace.shared == count)
 }
 
 /// Returns whether tables in the table that so many tokens lead to have headers.
@@ -266,27 +261,61 @@ fn is_tight(text: &str, item: &Item) -> bool {
     slice(text, equals) == "="
 }
 
+/// Where headers and pairs are added.
+#[derive(Clone, Copy, Debug)]
+struct Gap {
+    /// The offset.
+    at: usize,
+    /// Whether blank lines are wanted around them.
+    is_spaced: bool,
+}
+
+/// Returns where headers and pairs are added to the table that so many tokens lead to.
+fn gap_of(text: &str, outline: &Outline, count: usize) -> Gap {
+    Gap {
+        at: section_end(text, outline, count),
+        is_spaced: is_spaced(text, outline),
+    }
+}
+
 /// Returns how headers and pairs are added that hold the value at the keys.
 fn add_section(
     alloc: Global,
     text: &str,
-    at: usize,
+    gap: Gap,
     keys: PointerBuf,
     value: &Value,
 ) -> Result<Option<Addition>, AllocError> {
+    let Gap { at, is_spaced } = gap;
     let newline = newline_of(text);
     let Some(section) = section_text(alloc, keys.as_ptr(), value, newline)? else {
         return Ok(None);
     };
     let mut piece = String::new(alloc);
-    if at > text_start(text) && !is_blank_line(text, line_start(text, at.saturating_sub(1))) {
+    let above = line_start(text, at.saturating_sub(1));
+    if is_spaced && at > text_start(text) && !is_blank_line(text, above) {
         piece.push_str(newline)?;
     }
     piece.push_str(section.as_str())?;
-    if at < text.len() && !is_blank_line(text, at) {
+    if is_spaced && at < text.len() && !is_blank_line(text, at) {
         piece.push_str(newline)?;
     }
     Ok(Some(whole_lines(alloc, text, at, piece, keys)?))
+}
+
+/// Returns whether the last header has a blank line above it, with the comment there. Without headers
+/// that is wanted.
+fn is_spaced(text: &str, outline: &Outline) -> bool {
+    match outline.items.iter().rposition(|item| item.kind != Kind::Pair) {
+        Some(index) => match outline.items.get(index) {
+            Some(item) if index > 0 => {
+                let line = comments_above(text, item.line);
+                is_blank_line(text, line_start(text, line.saturating_sub(1)))
+            }
+            _ => true,
+        },
+        None => true,
+    }
 }
 
 /// Returns the offset at which a table is added to the table that so many tokens lead to.

@@ -66,7 +66,7 @@ fn ends_as(pointer: Pointer<'_>, keys: Pointer<'_>) -> bool
 }
 
 /// Returns whether the text holds the value at the keys, and nothing else.
-fn holds(
+pub fn holds(
     alloc: Global,
     text: &str,
     keys: Pointer<'_>,

@@ -1,11 +1,12 @@
 //! Assigning in a text.
 ghost use Rattle.std.specs.Prelude.{◌≡◌, IsTrue, IfOk, IfErr, IfSome, string_bytes};
+ghost use Rattle.toml.specs.Data.{Data};
 ghost use Rattle.toml.specs.View.{view};
 ghost use Rattle.jsonptr.specs.Pointer.{tokens};
 ghost use Rattle.jsonptr_tree.specs.TomlValue.{FindsValue};
 ghost use Rattle.jsonptr_in_toml.specs.InToml.{ReadsAs, AssignsInToml, FailsToAssign, IsPrintFault, PrintsAs};
 ghost use Rattle.jsonptr_edit_in_toml.specs.EditInToml.{text_of, AssignsInText, KeepsBytes, IsPrinted};
-ghost use Rattle.jsonptr_edit_in_toml.specs.Bytes.{AssignsBytes};
+ghost use Rattle.jsonptr_edit_in_toml.specs.Bytes.{AssignsBytes, IsAlone};
 
 use crate::add::plan_addition;
 use crate::alone::{is_alone, is_filler, is_one_child};
@@ -111,7 +112,12 @@ fn candidate_of(
     }
     match document.resolve(alloc, pointer) {
         Ok(found) => match plan_replacement(alloc, text, pointer, value)? {
-            Some(plan) => replaced(alloc, text, pointer, found, value, &plan),
+            Some(plan) => {
+                if !is_alone(alloc, plan.piece.as_str(), pointer, &plan.new_keys, value)? {
+                    return Ok(None);
+                }
+                replaced(alloc, text, pointer, found, &plan)
+            }
             None => Ok(None),
         },
         Err(Fault::Refused(_)) => match plan_addition(alloc, text, pointer, document, value)? {
@@ -128,20 +134,17 @@ fn replaced(
     text: &str,
     pointer: Pointer<'_>,
     found: &Value,
-    value: &Value,
     plan: &Replacement,
 ) -> Result<Option<String>, AllocError>
-    ensures { (d : Data) → ReadsAs text.now d → FindsValue d (tokens pointer.entry) (view found.now)
+    ensures { (d v : Data) → ReadsAs text.now d → FindsValue d (tokens pointer.entry) (view found.now)
+        → IsAlone (tokens pointer.entry) v (string_bytes plan.now.piece)
         → IfOk result (λ new. IfSome new
-        (λ s. AssignsBytes text.now (tokens pointer.entry) (view value.now) (string_bytes s))) }
+        (λ s. AssignsBytes text.now (tokens pointer.entry) v (string_bytes s))) }
 {
     let Some(cut) = cut_at(text, plan.span.from, plan.span.to) else {
         return Ok(None);
     };
     if !is_alone(alloc, cut.was, pointer, &plan.keys, found)? {
-        return Ok(None);
-    }
-    if !is_alone(alloc, plan.piece.as_str(), pointer, &plan.new_keys, value)? {
         return Ok(None);
     }
     Ok(Some(splice(alloc, &cut, plan.piece.as_str())?))

@@ -1,7 +1,9 @@
 //! Deleting in a text.
 ghost use Rattle.std.specs.Prelude.{◌≡◌, [], ◌⊎◌, IsTrue, IfOk, IfErr, IfSome, string_bytes};
+ghost use Rattle.toml.specs.Data.{Data};
 ghost use Rattle.toml.specs.View.{view};
 ghost use Rattle.jsonptr.specs.Pointer.{tokens};
+ghost use Rattle.jsonptr_tree.specs.TomlValue.{FindsValue};
 ghost use Rattle.jsonptr_in_toml.specs.InToml.{ReadsAs, DeletesInToml, FailsToDelete};
 ghost use Rattle.jsonptr_edit_in_toml.specs.EditInToml.{text_of, DeletesInText, KeepsBytes, IsPrinted};
 ghost use Rattle.jsonptr_edit_in_toml.specs.Bytes.{DeletesBytes, IsEmpty, Empties};

@@ -173,6 +173,13 @@ impl Outline {
         })
     }
 
+    /// Returns whether the table that so many tokens lead to has a header.
+    pub fn has_header(&self, count: usize) -> bool {
+        self.traces
+            .iter()
+            .any(|trace| trace.role == Role::Above && trace.shared == count)
+    }
+
     /// Returns whether the token is an index of an array of tables.
     pub fn is_element(&self, index: usize) -> bool {
         self.route.counts.get(index).copied().unwrap_or(0) > 0

@@ -92,17 +92,38 @@ fn addition_of(added: Added, part: &str, keys: Keys) -> Result<Addition, AllocEr
     })
 }
 
-/// Returns the first part of an array or inline table.
+/// Returns the first part of an array or inline table: on a line of its own, if the brackets are on
+/// several lines.
 fn first_part(
     alloc: Global,
     text: &str,
     container: Span,
     is_member: bool,
 ) -> Result<Added, AllocError> {
-    let at = container.from.saturating_add(1);
-    let is_tight = byte_at(text, at) == b'}';
+    let after = container.from.saturating_add(1);
+    let is_tight = byte_at(text, after) == b'}';
+    if !is_member && ends_line(text, after) {
+        let at = line_end(text, after);
+        let line = line_start(text, container.from);
+        let indent = Span {
+            from: line,
+            to: skip_blanks(text, line),
+        };
+        let mut gap = String::from_str(alloc, newline_of(text))?;
+        gap.push_str(slice(text, indent))?;
+        gap.push_str("    ")?;
+        return Ok(Added {
+            span: Span { from: at, to: at },
+            lead: String::new(alloc),
+            gap,
+            tail: ",",
+        });
+    }
     Ok(Added {
-        span: Span { from: at, to: at },
+        span: Span {
+            from: after,
+            to: after,
+        },
         lead: String::new(alloc),
         gap: String::from_str(alloc, if is_member { " " } else { "" })?,
         tail: if is_member && is_tight { " " } else { "" },

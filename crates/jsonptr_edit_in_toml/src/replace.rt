@@ -1,7 +1,8 @@
 //! Where the text of a value is, to replace it. These are hints: no contract says that they are right.
+use crate::alone::{empty_table, holds};
 use crate::inline::container_of;
-use crate::items::Kind;
-use crate::keys::push_keys;
+use crate::items::{Item, Kind};
+use crate::keys::{push_keys, push_pointer};
 use crate::outline::{Outline, Role, indent_of, outline_of};
 use crate::piece::{has_headers, section_text};
 use crate::plan::{Keys, Replacement};
@@ -76,8 +77,8 @@ fn replace_run(
     } else {
         outline.header_keys(alloc, outline.count())?
     };
-    let Some(written) = (if !is_pair && (value.is_table() || has_headers(value)) {
-        section_of(alloc, text, outline, value)?
+    let Some(written) = (if !is_pair && needs_header(outline, value) {
+        section_of(alloc, text, outline, first, value)?
     } else {
         Some(pair_of(alloc, text, outline, run.from, value)?)
     }) else {
@@ -96,6 +97,13 @@ fn replace_run(
     }))
 }
 
+/// Returns whether the value is written below a header: if it is a table or an array of tables, or if
+/// the table that it is in has no header to put a pair below.
+fn needs_header(outline: &Outline, value: &Value) -> bool {
+    let above = outline.count().saturating_sub(1);
+    value.is_table() || has_headers(value) || (above > 0 && !outline.has_header(above))
+}
+
 /// Headers and pairs, and the keys at which they hold a value.
 #[derive(Debug, Drop)]
 struct Written {
@@ -103,18 +111,38 @@ struct Written {
     piece: String,
 }
 
-/// Returns headers and pairs that hold the value.
+/// Returns headers and pairs that hold the value, below the header of the item if that is its own.
 fn section_of(
     alloc: Global,
     text: &str,
     outline: &Outline,
+    first: &Item,
     value: &Value,
 ) -> Result<Option<Written>, AllocError> {
     let keys = outline.header_keys(alloc, outline.count())?;
-    match section_text(alloc, keys.as_ptr(), value, newline_of(text))? {
-        Some(piece) => Ok(Some(Written { keys, piece })),
-        None => Ok(None),
-    }
+    let Some(section) = section_text(alloc, keys.as_ptr(), value, newline_of(text))? else {
+        return Ok(None);
+    };
+    let line = Span {
+        from: first.line,
+        to: first.end,
+    };
+    let mut header = String::from_str(alloc, "[")?;
+    push_pointer(alloc, &mut header, keys.as_ptr())?;
+    header.push(']')?;
+    header.push_str(newline_of(text))?;
+    let body = match section.as_str().strip_prefix(header.as_str()) {
+        Some(body) if holds(alloc, slice(text, line), keys.as_ptr(), &empty_table(alloc))? => body,
+        _ => {
+            return Ok(Some(Written {
+                keys,
+                piece: section,
+            }));
+        }
+    };
+    let mut piece = String::from_str(alloc, slice(text, line))?;
+    piece.push_str(body)?;
+    Ok(Some(Written { keys, piece }))
 }
 
 /// Returns the line of a pair that holds the value, instead of the item: with the tokens from its table
