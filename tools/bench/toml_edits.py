@@ -14,13 +14,13 @@ import time
 
 import tomlkit
 
-SIZES = {"1 KB": (8, 2_000, 20), "10 KB": (80, 200, 4), "100 KB": (800, 40, 1), "1 MB": (8_000, 5, 1)}
+SIZES = {"1 KB": (7, 2_000, 20), "10 KB": (70, 200, 4), "100 KB": (700, 40, 1)}
 
 
 def text_of(count):
     """Returns a text of so many tables, some 130 bytes each, with comments."""
     tables = (
-        f'# number {it}\n[package.name{it}]\nversion = "1.{it}.0" # pinned\nfeatures = ["std", "alloc"]\n'
+        f'# number {it}\n[[package]]\nname = "package-{it}"\nversion = "1.{it}.0" # pinned\nfeatures = ["std", "alloc"]\n'
         f"source = {{ git = \"https://example.com/{it}\", rev = 'abc' }}\n"
         for it in range(count)
     )
@@ -29,7 +29,7 @@ def text_of(count):
 
 def edits_of(count):
     """Returns the edits: the name, the command, the pointer and the value."""
-    middle = f"/package/name{count // 2}"
+    middle = f"/package/{count // 2}"
     yield "replace a value", "assign", f"{middle}/version", '"2"'
     yield "add a key", "assign", f"{middle}/new", "true"
     yield "append an element", "assign", f"{middle}/features/-", '"x"'
@@ -55,7 +55,7 @@ def theirs(text, edit, count):
         document = tomlkit.parse(text)
         here = document
         for token in front:
-            here = here[token]
+            here = here[int(token) if token.isdigit() else token]
         if command == "delete":
             del here[last]
         elif last == "-":

@@ -2,7 +2,7 @@
 //! says that they are right.
 use crate::items::{Item, Kind, items_of};
 use crate::keys::{Ending, Route, enter_element, follow, pointer_of, push_token, route_of};
-use crate::span::{Span, slice};
+use crate::span::{Span, skip_blanks, slice};
 use jsonptr::{Pointer, PointerBuf};
 use std::alloc::{AllocError, Global};
 
@@ -217,12 +217,9 @@ impl Outline {
 
 /// Returns the white space before an item on its line.
 pub fn indent_of<'t>(text: &'t str, item: &Item) -> &'t str {
-    let key = slice(
-        text,
-        Span {
-            from: item.line,
-            to: item.key.from,
-        },
-    );
-    key.trim_end_matches('[')
+    let indent = Span {
+        from: item.line,
+        to: skip_blanks(text, item.line),
+    };
+    slice(text, indent)
 }
