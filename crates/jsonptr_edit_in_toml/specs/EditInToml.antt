@@ -15,7 +15,8 @@ abbrev pub text_of : Edited → Text
 text_of (InPlace s) = string_bytes s
 text_of (Rewritten s) = string_bytes s
 
--- `AssignsInText old ts v new`: the texts read as documents, and assigning v at the tokens turns the first into the second
+-- `AssignsInText old ts v new`: the texts read as documents, and assigning `v` at the tokens turns the first into the
+-- second
 abbrev pub AssignsInText : Text → List Text → Data → Text → Type 0
 AssignsInText old ts v new =
     (d d2 : Data) × ReadsAs old d × ReadsAs new d2
@@ -28,12 +29,12 @@ DeletesInText old ts new =
     (d d2 : Data) × ReadsAs old d × ReadsAs new d2
     × ((v : Data) × FindsValue d ts v) × Deletes (nodes d) ts (nodes (table no_members)) (nodes d2)
 
--- `KeepsBytes P e`: if e was edited in place, its text meets P
+-- `KeepsBytes P e`: if `e` was edited in place, its text meets P
 abbrev pub KeepsBytes : (Text → Type 0) → Edited → Type 0
 KeepsBytes P (InPlace s) = P (string_bytes s)
 KeepsBytes P (Rewritten s) = ⊤
 
--- `IsPrinted P e`: if e was printed anew, its text meets P
+-- `IsPrinted P e`: if `e` was printed anew, its text meets P
 abbrev pub IsPrinted : (Text → Type 0) → Edited → Type 0
 IsPrinted P (InPlace s) = ⊤
 IsPrinted P (Rewritten s) = P (string_bytes s)
