@@ -1,5 +1,5 @@
 //! Assigning in a text.
-ghost use Rattle.std.specs.Prelude.{◌≡◌, IsTrue, IfOk, IfErr, IfSome, string_bytes};
+ghost use Rattle.std.specs.Prelude.{◌≡◌, ◌++◌, IfOk, IfErr, IfSome, IsSome, string_bytes};
 ghost use Rattle.toml.specs.Data.{Data};
 ghost use Rattle.toml.specs.View.{view};
 ghost use Rattle.jsonptr.specs.Pointer.{tokens};
@@ -83,7 +83,8 @@ pub fn choose(
     document: Value,
 ) -> Result<Edited, InTomlError>
     ensures document { IfOk result (λ e. ReadsAs (text_of e) (view document)) }
-    ensures place { IfOk result (KeepsBytes (λ s. candidate ≡ Some s)) }
+    ensures place { IfOk result (KeepsBytes (λ s. IfSome candidate (λ c. s ≡ string_bytes c))) }
+    ensures there { IfOk result (KeepsBytes (λ s. IsSome candidate)) }
     ensures printed { IfOk result (IsPrinted (PrintsAs (view document))) }
     ensures failed { IfErr result (IsPrintFault (view document)) }
 {

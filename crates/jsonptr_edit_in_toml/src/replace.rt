@@ -84,16 +84,13 @@ fn replace_run(
     }) else {
         return Ok(None);
     };
+    let Written { keys: new_keys, piece } = written;
     let is_last = !slice(text, span).ends_with('\n');
     Ok(Some(Replacement {
         span,
         keys: Keys::Some(keys),
-        piece: if is_last {
-            without_newline(alloc, written.piece.as_str())?
-        } else {
-            written.piece
-        },
-        new_keys: Keys::Some(written.keys),
+        piece: ended(alloc, piece, is_last)?,
+        new_keys: Keys::Some(new_keys),
     }))
 }
 
@@ -170,8 +167,11 @@ fn pair_of(
     Ok(Written { keys, piece })
 }
 
-/// Returns the text without a line break at its end.
-fn without_newline(alloc: Global, text: &str) -> Result<String, AllocError> {
-    let line = text.strip_suffix('\n').unwrap_or(text);
+/// Returns the text, at the end of a text without a line break at its end.
+fn ended(alloc: Global, text: String, is_last: bool) -> Result<String, AllocError> {
+    if !is_last {
+        return Ok(text);
+    }
+    let line = text.as_str().strip_suffix('\n').unwrap_or(text.as_str());
     String::from_str(alloc, line.strip_suffix('\r').unwrap_or(line))
 }

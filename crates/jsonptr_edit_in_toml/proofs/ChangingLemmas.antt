@@ -1,0 +1,72 @@
+-- From a change of a document to the text that is chosen, and to the error if none is.
+use Rattle.std.proofs.Common.{◌≡◌, ◌⊎◌, inl, inr, List, Option, Some, None, Result, Ok, Err, IfOk, IfErr, String, string_bytes, sym, subst}
+use Rattle.std.specs.Prelude.{IfSome, IsSome}
+use Rattle.std.specs.declared.alloc.Global.{Global}
+use Rattle.toml.specs.Data.{Data, table, no_members}
+use Rattle.jsonptr_grammar.specs.Text.{Text}
+use Rattle.jsonptr_tree.specs.Node.{NodeMap}
+use Rattle.jsonptr_tree.specs.TomlValue.{nodes, FindsValue}
+use Rattle.jsonptr_tree.specs.Assigning.{Assigns}
+use Rattle.jsonptr_tree.specs.Removing.{Deletes}
+use Rattle.jsonptr_in_toml.specs.InToml.{ReadsAs, AssignsTo, DeletesTo, PrintsAs, AssignsInToml, DeletesInToml, FailsToAssign, FailsToDelete, IsPrintFault}
+use Rattle.jsonptr_in_toml.specs.declared.error.InTomlError.{InTomlError}
+use Rattle.jsonptr_in_toml.specs.declared.error.InTomlError.TheVariants.{NotToml, DocumentTooDeep, NoValue, BadPlace, NotThere, TooDeep, NoText, Memory}
+use Rattle.jsonptr_edit_in_toml.specs.EditInToml.{text_of, AssignsInText, DeletesInText, KeepsBytes, IsPrinted}
+use Rattle.jsonptr_edit_in_toml.specs.declared.edited.Edited.{Edited}
+use Rattle.jsonptr_edit_in_toml.specs.declared.edited.Edited.TheVariants.{InPlace, Rewritten}
+
+pub assigns_then : (text : Text) (ts : List Text) (v d2 : Data) (r : Result Edited InTomlError) → AssignsTo text ts v d2 → IfOk r (λ e. ReadsAs (text_of e) d2) → IfOk r (λ e. AssignsInText text ts v (text_of e))
+assigns_then text ts v d2 (Ok e) made h = (made.0, d2, made.1.0, h, made.1.1)
+assigns_then text ts v d2 (Err f) made h = tt
+
+pub deletes_then : (text : Text) (ts : List Text) (d2 : Data) (r : Result Edited InTomlError) → DeletesTo text ts d2 → IfOk r (λ e. ReadsAs (text_of e) d2) → IfOk r (λ e. DeletesInText text ts (text_of e))
+deletes_then text ts d2 (Ok e) made h = (made.0, d2, made.1.0, h, made.1.1.0, made.1.1.1)
+deletes_then text ts d2 (Err f) made h = tt
+
+pub assigned_print : (text : Text) (ts : List Text) (v d2 : Data) (r : Result Edited InTomlError) → AssignsTo text ts v d2 → IfOk r (IsPrinted (PrintsAs d2)) → IfOk r (IsPrinted (AssignsInToml text ts v))
+assigned_print text ts v d2 (Ok (InPlace s)) made h = tt
+assigned_print text ts v d2 (Ok (Rewritten s)) made h = (d2, made, h)
+assigned_print text ts v d2 (Err f) made h = tt
+
+pub deleted_print : (text : Text) (ts : List Text) (d2 : Data) (r : Result Edited InTomlError) → DeletesTo text ts d2 → IfOk r (IsPrinted (PrintsAs d2)) → IfOk r (IsPrinted (DeletesInToml text ts))
+deleted_print text ts d2 (Ok (InPlace s)) made h = tt
+deleted_print text ts d2 (Ok (Rewritten s)) made h = (d2, made, h)
+deleted_print text ts d2 (Err f) made h = tt
+
+assign_fault : (text : Text) (ts : List Text) (v d2 : Data) (e : InTomlError) → AssignsTo text ts v d2 → IsPrintFault d2 e → FailsToAssign text ts v e
+assign_fault text ts v d2 NotToml made h = absurd h
+assign_fault text ts v d2 DocumentTooDeep made h = absurd h
+assign_fault text ts v d2 (NoValue f) made h = absurd h
+assign_fault text ts v d2 (BadPlace f) made h = absurd h
+assign_fault text ts v d2 NotThere made h = absurd h
+assign_fault text ts v d2 TooDeep made h = inr (d2, made, h)
+assign_fault text ts v d2 NoText made h = (d2, made, h)
+assign_fault text ts v d2 (Memory f) made h = tt
+
+pub assign_fails_then : (text : Text) (ts : List Text) (v d2 : Data) (r : Result Edited InTomlError) → AssignsTo text ts v d2 → IfErr r (IsPrintFault d2) → IfErr r (FailsToAssign text ts v)
+assign_fails_then text ts v d2 (Ok s) made h = tt
+assign_fails_then text ts v d2 (Err e) made h = assign_fault text ts v d2 e made h
+
+delete_fault : (text : Text) (ts : List Text) (d2 : Data) (e : InTomlError) → DeletesTo text ts d2 → IsPrintFault d2 e → FailsToDelete text ts e
+delete_fault text ts d2 NotToml made h = absurd h
+delete_fault text ts d2 DocumentTooDeep made h = absurd h
+delete_fault text ts d2 (NoValue f) made h = absurd h
+delete_fault text ts d2 (BadPlace f) made h = absurd h
+delete_fault text ts d2 NotThere made h = absurd h
+delete_fault text ts d2 TooDeep made h = (d2, made, h)
+delete_fault text ts d2 NoText made h = (d2, made, h)
+delete_fault text ts d2 (Memory f) made h = tt
+
+pub delete_fails_then : (text : Text) (ts : List Text) (d2 : Data) (r : Result Edited InTomlError) → DeletesTo text ts d2 → IfErr r (IsPrintFault d2) → IfErr r (FailsToDelete text ts)
+delete_fails_then text ts d2 (Ok s) made h = tt
+delete_fails_then text ts d2 (Err e) made h = delete_fault text ts d2 e made h
+
+-- a candidate that was chosen meets what each candidate meets
+pub bytes_then : (P : Text → Type 0) (candidate : Option (String Global)) (r : Result Edited InTomlError)
+    → IfSome candidate (λ c. P (string_bytes c))
+    → IfOk r (KeepsBytes (λ s. IfSome candidate (λ c. s ≡ string_bytes c))) → IfOk r (KeepsBytes (λ s. IsSome candidate))
+    → IfOk r (KeepsBytes P)
+bytes_then P (Some c) (Ok (InPlace s)) holds same there = subst P (sym same) holds
+bytes_then P None (Ok (InPlace s)) holds same there = absurd there
+bytes_then P candidate (Ok (Rewritten s)) holds same there = tt
+bytes_then P candidate (Err f) holds same there = tt
