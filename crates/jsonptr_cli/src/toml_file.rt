@@ -125,12 +125,7 @@ fn source_of(rt: &HostRuntime, matches: &ArgMatches<'_>) -> Result<Source, Probl
 
 /// Prints the new document, or replaces the text of the file by it. If it is printed anew, says so; in
 /// place that is done only if it is wanted.
-fn put(
-    rt: &HostRuntime,
-    source: &Source,
-    edited: Edited,
-    reformats: bool,
-) -> Result<u8, Problem> {
+fn put(rt: &HostRuntime, source: &Source, edited: Edited, reformats: bool) -> Result<u8, Problem> {
     let name = source.name.as_str();
     if let Edited::Rewritten(_) = &edited {
         if source.target.is_some() && !reformats {
@@ -186,12 +181,7 @@ fn value_of(alloc: Global, name: &str, text: &str) -> Result<Value, Problem> {
 }
 
 /// Returns the problem of an error.
-fn problem(
-    alloc: Global,
-    source: &Source,
-    pointer: Pointer<'_>,
-    error: InTomlError,
-) -> Problem {
+fn problem(alloc: Global, source: &Source, pointer: Pointer<'_>, error: InTomlError) -> Problem {
     let status = match error {
         InTomlError::NotToml | InTomlError::DocumentTooDeep => NOT_JSON,
         InTomlError::Memory(_) => return Problem::Memory,

@@ -6,7 +6,8 @@ use crate::part::add_part;
 use crate::piece::{has_headers, section_text};
 use crate::plan::{Addition, Child, Keys};
 use crate::span::{
-    Span, comments_above, is_blank_line, line_start, newline_of, skip_blank_lines, skip_comment_lines, skip_own_comments, slice, text_start,
+    Span, comments_above, is_blank_line, line_start, newline_of, skip_blank_lines,
+    skip_comment_lines, skip_own_comments, slice, text_start,
 };
 use jsonptr::{Pointer, PointerBuf};
 use std::alloc::{AllocError, Global};
@@ -130,7 +131,9 @@ fn last_pair(outline: &Outline, count: usize) -> Option<usize> {
     if pair.is_some() || count == 0 {
         return pair;
     }
-    traces.iter().rposition(|trace| trace.role == Role::Above && trace.shared == count)
+    traces
+        .iter()
+        .rposition(|trace| trace.role == Role::Above && trace.shared == count)
 }
 
 /// Returns the last pair whose dotted key leads along at least so many tokens.
@@ -197,7 +200,13 @@ fn lines_of(
     if let Some(item) = sibling {
         start.push_str(indent_of(text, item))?;
     }
-    push_keys(alloc, &mut start, &outline.route.tokens, line.from, outline.count())?;
+    push_keys(
+        alloc,
+        &mut start,
+        &outline.route.tokens,
+        line.from,
+        outline.count(),
+    )?;
     let equals = equals_of(text, sibling);
     match value {
         Value::Table(table) if !table.is_empty() && is_spread(text, outline, line) => {
@@ -306,7 +315,11 @@ fn add_section(
 /// Returns whether the last header has a blank line above it, with the comment there. Without headers
 /// that is wanted.
 fn is_spaced(text: &str, outline: &Outline) -> bool {
-    match outline.items.iter().rposition(|item| item.kind != Kind::Pair) {
+    match outline
+        .items
+        .iter()
+        .rposition(|item| item.kind != Kind::Pair)
+    {
         Some(index) => match outline.items.get(index) {
             Some(item) if index > 0 => {
                 let line = comments_above(text, item.line);
@@ -323,7 +336,10 @@ fn section_end(text: &str, outline: &Outline, count: usize) -> usize {
     if count == 0 {
         return text.len();
     }
-    match outline.last_sharing(count).and_then(|index| outline.items.get(index)) {
+    match outline
+        .last_sharing(count)
+        .and_then(|index| outline.items.get(index))
+    {
         Some(item) => skip_own_comments(text, item.end),
         None => text.len(),
     }

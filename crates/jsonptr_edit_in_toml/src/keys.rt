@@ -54,7 +54,12 @@ pub fn route_of(alloc: Global, pointer: Pointer<'_>) -> Result<Route, AllocError
 /// Returns whether the key, as it is written, is the token.
 fn is_key(alloc: Global, written: &str, token: &str) -> Result<bool, AllocError> {
     if written.starts_with('\'') {
-        return Ok(written.strip_prefix('\'').and_then(|key| key.strip_suffix('\'')) == Some(token));
+        return Ok(
+            written
+                .strip_prefix('\'')
+                .and_then(|key| key.strip_suffix('\''))
+                == Some(token),
+        );
     }
     if !written.starts_with('"') {
         return Ok(written == token);
@@ -86,7 +91,12 @@ pub fn follow(
     let mut next = key.from;
     for _key in key.from..=key.to {
         let to = key_end(text, next);
-        reach = step(alloc, slice(text, Span { from: next, to }), route, reach.count)?;
+        reach = step(
+            alloc,
+            slice(text, Span { from: next, to }),
+            route,
+            reach.count,
+        )?;
         if reach.ending != Ending::Whole {
             break;
         }

@@ -44,11 +44,7 @@ pub struct Outline {
 }
 
 /// Returns the outline of the text for the pointer.
-pub fn outline_of(
-    alloc: Global,
-    text: &str,
-    pointer: Pointer<'_>,
-) -> Result<Outline, AllocError> {
+pub fn outline_of(alloc: Global, text: &str, pointer: Pointer<'_>) -> Result<Outline, AllocError> {
     let mut route = route_of(alloc, pointer)?;
     let items = items_of(alloc, text)?;
     let mut traces = Vec::with_capacity(alloc, items.len())?;

@@ -4,7 +4,9 @@ use crate::inline::{Container, Part, container_of};
 use crate::keys::push_keys;
 use crate::outline::{Outline, Role};
 use crate::plan::{Addition, Child, Keys};
-use crate::span::{Span, ends_line, is_comment_line, line_end, line_start, newline_of, skip_blanks, slice};
+use crate::span::{
+    Span, ends_line, is_comment_line, line_end, line_start, newline_of, skip_blanks, slice,
+};
 use std::alloc::{AllocError, Global};
 use toml::Value;
 use toml_parser::text::byte_at;
@@ -41,7 +43,13 @@ pub fn add_part(
     let mut part = String::new(alloc);
     let mut keys = Keys::None;
     if is_member {
-        push_keys(alloc, &mut part, &outline.route.tokens, container.count, outline.count())?;
+        push_keys(
+            alloc,
+            &mut part,
+            &outline.route.tokens,
+            container.count,
+            outline.count(),
+        )?;
         part.push_str(" = ")?;
         keys = Keys::Some(outline.last_keys(alloc, container.count)?);
     }

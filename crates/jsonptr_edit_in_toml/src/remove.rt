@@ -5,8 +5,8 @@ use crate::keys::{push_keys, push_pointer};
 use crate::outline::{Outline, Role, indent_of, outline_of};
 use crate::plan::{Child, Keys, Left, Removal};
 use crate::span::{
-    Span, blank_lines_above, comments_above, ends_line, line_start, newline_of, next_line, skip_blank_lines,
-    skip_blanks, skip_own_comments, slice,
+    Span, blank_lines_above, comments_above, ends_line, line_start, newline_of, next_line,
+    skip_blank_lines, skip_blanks, skip_own_comments, slice,
 };
 use jsonptr::{Pointer, PointerBuf};
 use std::alloc::{AllocError, Global};
@@ -66,7 +66,9 @@ fn remove_pair(
         from: item.line,
         to: item.end,
     };
-    if outline.is_mentioned(outline.count().saturating_sub(1), run) || from.saturating_add(1) >= outline.count() {
+    if outline.is_mentioned(outline.count().saturating_sub(1), run)
+        || from.saturating_add(1) >= outline.count()
+    {
         return Ok(Some(lines(with_comment(text, span), keys, None)));
     }
     let left = left_pair(alloc, text, outline, from, index)?;
@@ -192,7 +194,8 @@ fn remove_part(
     let (Some(item), Some(trace)) = (outline.items.get(index), outline.traces.get(index)) else {
         return Ok(None);
     };
-    let Some(container) = container_of(alloc, text, item.value, &outline.route, trace.shared)? else {
+    let Some(container) = container_of(alloc, text, item.value, &outline.route, trace.shared)?
+    else {
         return Ok(None);
     };
     let Some(found) = container.found else {

@@ -47,7 +47,8 @@ fn value_span(alloc: Global, text: &str, outline: &Outline) -> Result<Option<Spa
     let (Some(item), Some(trace)) = (outline.items.get(index), outline.traces.get(index)) else {
         return Ok(None);
     };
-    let Some(container) = container_of(alloc, text, item.value, &outline.route, trace.shared)? else {
+    let Some(container) = container_of(alloc, text, item.value, &outline.route, trace.shared)?
+    else {
         return Ok(None);
     };
     match container.found {
@@ -84,7 +85,10 @@ fn replace_run(
     }) else {
         return Ok(None);
     };
-    let Written { keys: new_keys, piece } = written;
+    let Written {
+        keys: new_keys,
+        piece,
+    } = written;
     let is_last = !slice(text, span).ends_with('\n');
     Ok(Some(Replacement {
         span,
@@ -159,7 +163,13 @@ fn pair_of(
             from = outline.table_of(index);
         }
     }
-    push_keys(alloc, &mut piece, &outline.route.tokens, from, outline.count())?;
+    push_keys(
+        alloc,
+        &mut piece,
+        &outline.route.tokens,
+        from,
+        outline.count(),
+    )?;
     piece.push_str(" = ")?;
     piece.push_str(value.to_string(alloc)?.as_str())?;
     piece.push_str(newline_of(text))?;
