@@ -1,5 +1,6 @@
 -- From a change of a document to the text that is chosen, and to the error if none is.
 use Rattle.std.proofs.Common.{◌≡◌, ◌⊎◌, inl, inr, List, Option, Some, None, Result, Ok, Err, IfOk, IfErr, String, string_bytes, sym, subst}
+use Rattle.std.proofs.lemmas.Bool.{false≢true}
 use Rattle.std.specs.Prelude.{IfSome, IsSome}
 use Rattle.std.specs.declared.alloc.Global.{Global}
 use Rattle.toml.specs.Data.{Data, table, no_members}
@@ -16,11 +17,11 @@ use Rattle.jsonptr_edit_in_toml.specs.declared.edited.Edited.{Edited}
 use Rattle.jsonptr_edit_in_toml.specs.declared.edited.Edited.TheVariants.{InPlace, Rewritten}
 
 pub assigns_then : (text : Text) (ts : List Text) (v d2 : Data) (r : Result Edited InTomlError) → AssignsTo text ts v d2 → IfOk r (λ e. ReadsAs (text_of e) d2) → IfOk r (λ e. AssignsInText text ts v (text_of e))
-assigns_then text ts v d2 (Ok e) made h = (made.0, d2, made.1.0, h, made.1.1)
+assigns_then text ts v d2 (Ok e) made h = (made.0, d2, made.1, h, made.2)
 assigns_then text ts v d2 (Err f) made h = tt
 
 pub deletes_then : (text : Text) (ts : List Text) (d2 : Data) (r : Result Edited InTomlError) → DeletesTo text ts d2 → IfOk r (λ e. ReadsAs (text_of e) d2) → IfOk r (λ e. DeletesInText text ts (text_of e))
-deletes_then text ts d2 (Ok e) made h = (made.0, d2, made.1.0, h, made.1.1.0, made.1.1.1)
+deletes_then text ts d2 (Ok e) made h = (made.0, d2, made.1, h, made.2, made.3)
 deletes_then text ts d2 (Err f) made h = tt
 
 pub assigned_print : (text : Text) (ts : List Text) (v d2 : Data) (r : Result Edited InTomlError) → AssignsTo text ts v d2 → IfOk r (IsPrinted (PrintsAs d2)) → IfOk r (IsPrinted (AssignsInToml text ts v))
@@ -67,6 +68,6 @@ pub bytes_then : (P : Text → Type 0) (candidate : Option (String Global)) (r :
     → IfOk r (KeepsBytes (λ s. IfSome candidate (λ c. s ≡ string_bytes c))) → IfOk r (KeepsBytes (λ s. IsSome candidate))
     → IfOk r (KeepsBytes P)
 bytes_then P (Some c) (Ok (InPlace s)) holds same there = subst P (sym same) holds
-bytes_then P None (Ok (InPlace s)) holds same there = absurd there
+bytes_then P None (Ok (InPlace s)) holds same there = absurd (false≢true there)
 bytes_then P candidate (Ok (Rewritten s)) holds same there = tt
 bytes_then P candidate (Err f) holds same there = tt
