@@ -1,24 +1,13 @@
 -- From a change of a document to the text that is chosen, and to the error if none is.
-use Rattle.std.proofs.Common.{◌≡◌, ◌⊎◌, inl, inr, List, Option, Some, None, Result, Ok, Err, IfOk, IfErr, String, string_bytes, sym, subst}
-use Rattle.std.proofs.lemmas.Bool.{false≢true}
-use Rattle.std.specs.Prelude.{IfSome, IsSome}
-use Rattle.std.specs.declared.alloc.Global.{Global}
-use Rattle.toml.specs.Data.{Data, table, no_members}
+use Rattle.std.proofs.Common.{inr, List, Result, Ok, Err, IfOk, IfErr}
+use Rattle.toml.specs.Data.{Data}
 use Rattle.jsonptr_grammar.specs.Text.{Text}
-use Rattle.jsonptr_tree.specs.Node.{NodeMap}
-use Rattle.jsonptr_tree.specs.TomlValue.{nodes, FindsValue}
-use Rattle.jsonptr_tree.specs.Assigning.{Assigns}
-use Rattle.jsonptr_tree.specs.Removing.{Deletes}
 use Rattle.jsonptr_in_toml.specs.InToml.{ReadsAs, AssignsTo, DeletesTo, PrintsAs, AssignsInToml, DeletesInToml, FailsToAssign, FailsToDelete, IsPrintFault}
 use Rattle.jsonptr_in_toml.specs.declared.error.InTomlError.{InTomlError}
 use Rattle.jsonptr_in_toml.specs.declared.error.InTomlError.TheVariants.{NotToml, DocumentTooDeep, NoValue, BadPlace, NotThere, TooDeep, NoText, Memory}
-use Rattle.jsonptr_edit_in_toml.specs.EditInToml.{text_of, AssignsInText, DeletesInText, KeepsBytes, IsPrinted}
+use Rattle.jsonptr_edit_in_toml.specs.EditInToml.{text_of, DeletesInText, IsPrinted}
 use Rattle.jsonptr_edit_in_toml.specs.declared.edited.Edited.{Edited}
 use Rattle.jsonptr_edit_in_toml.specs.declared.edited.Edited.TheVariants.{InPlace, Rewritten}
-
-pub assigns_then : (text : Text) (ts : List Text) (v d2 : Data) (r : Result Edited InTomlError) → AssignsTo text ts v d2 → IfOk r (λ e. ReadsAs (text_of e) d2) → IfOk r (λ e. AssignsInText text ts v (text_of e))
-assigns_then text ts v d2 (Ok e) made h = (made.0, d2, made.1, h, made.2)
-assigns_then text ts v d2 (Err f) made h = tt
 
 pub deletes_then : (text : Text) (ts : List Text) (d2 : Data) (r : Result Edited InTomlError) → DeletesTo text ts d2 → IfOk r (λ e. ReadsAs (text_of e) d2) → IfOk r (λ e. DeletesInText text ts (text_of e))
 deletes_then text ts d2 (Ok e) made h = (made.0, d2, made.1, h, made.2, made.3)
@@ -61,13 +50,3 @@ delete_fault text ts d2 (Memory f) made h = tt
 pub delete_fails_then : (text : Text) (ts : List Text) (d2 : Data) (r : Result Edited InTomlError) → DeletesTo text ts d2 → IfErr r (IsPrintFault d2) → IfErr r (FailsToDelete text ts)
 delete_fails_then text ts d2 (Ok s) made h = tt
 delete_fails_then text ts d2 (Err e) made h = delete_fault text ts d2 e made h
-
--- a candidate that was chosen meets what each candidate meets
-pub bytes_then : (P : Text → Type 0) (candidate : Option (String Global)) (r : Result Edited InTomlError)
-    → IfSome candidate (λ c. P (string_bytes c))
-    → IfOk r (KeepsBytes (λ s. IfSome candidate (λ c. s ≡ string_bytes c))) → IfOk r (KeepsBytes (λ s. IsSome candidate))
-    → IfOk r (KeepsBytes P)
-bytes_then P (Some c) (Ok (InPlace s)) holds same there = subst P (sym same) holds
-bytes_then P None (Ok (InPlace s)) holds same there = absurd (false≢true there)
-bytes_then P candidate (Ok (Rewritten s)) holds same there = tt
-bytes_then P candidate (Err f) holds same there = tt

@@ -1,5 +1,5 @@
 -- What the pieces of a text are that an edit puts in or cuts out.
-use Rattle.std.proofs.Common.{◌≡◌, ◌++◌, [], ◌∷◌, inl, inr, List, Bool, Result, Ok, Err, IfOk, IsTrue, sym, subst}
+use Rattle.std.proofs.Common.{◌≡◌, ◌++◌, [], ◌∷◌, inr, List, Bool, Result, Ok, Err, IfOk, IsTrue, sym, subst}
 use Rattle.std.specs.declared.alloc.AllocError.{AllocError}
 use Rattle.toml.specs.Data.{Data}
 use Rattle.jsonptr_grammar.specs.Text.{Text}

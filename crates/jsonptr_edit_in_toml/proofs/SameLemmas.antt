@@ -1,5 +1,5 @@
 -- Values that are the same, part by part.
-use Rattle.std.proofs.Common.{◌≡◌, ℕ, zero, suc, ◌+◌, ◌<◌, ◌≤◌, Bool, true, false, not, bytes_eq, length-append, append-nil, List, [], ◌∷◌, ◌++◌, length, get_or, map, BTreeMap, String, Global, string_bytes, refl, sym, ap, ◌∙◌, subst, arith, true≢false, IsTrue, nat_eq, Vec, rules}
+use Rattle.std.proofs.Common.{◌≡◌, ℕ, suc, ◌<◌, Bool, true, false, not, bytes_eq, length-append, append-nil, List, [], ◌∷◌, ◌++◌, length, get_or, BTreeMap, String, Global, string_bytes, refl, sym, ap, ◌∙◌, arith, true≢false, IsTrue, nat_eq, Vec, rules}
 use Rattle.std.specs.Vec.{vec_len}
 use Rattle.std.specs.Prelude.{⊤, is_nan}
 use Rattle.std.proofs.lemmas.Bool.Decides.{nat_tests}

@@ -1,7 +1,7 @@
 -- Which bytes of a TOML text an edit changes.
 use Rattle.std.specs.Prelude.{◌≡◌, ◌⊎◌, List, [], ◌∷◌, ◌++◌, Option, Some}
 use Rattle.toml.specs.Data.{Data, table, array, no_members, no_items}
-use Rattle.toml.specs.Parse.{parse_document, parse_value}
+use Rattle.toml.specs.Parse.{parse_value}
 use Rattle.jsonptr_grammar.specs.Text.{Text}
 use Rattle.jsonptr_tree.specs.Node.{NodeMap}
 use Rattle.jsonptr_tree.specs.TomlValue.{nodes}

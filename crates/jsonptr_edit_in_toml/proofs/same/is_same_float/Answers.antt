@@ -1,7 +1,6 @@
-use Rattle.std.proofs.Common.{◌≡◌, IsTrue, Bool, true, false, nat_eq, sym, ap, ◌∙◌, T, rules, arith}
-use lib.Ieee.{fits, Float, binary64, to_bits, of_bits}
+use Rattle.std.proofs.Common.{sym, ap, ◌∙◌, T}
+use lib.Ieee.{fits, binary64, of_bits}
 use lib.Ieee.Bits.{of_bits-to_bits}
-use Rattle.std.proofs.lemmas.Bool.Decides.{nat_tests}
 use Rattle.std.proofs.lemmas.Float.{T_from_true}
 use Rattle.jsonptr_edit_in_toml.proofs.SameLemmas.{both_nan, same_nat}
 use Rattle.jsonptr_edit_in_toml.proofs.same.is_same_float.Goals as goal
