@@ -16,8 +16,8 @@
 #![tactic(auto)]
 
 mod change;
-pub mod depth;
-pub mod document;
+mod depth;
+mod document;
 mod error;
 mod listing;
 

@@ -13,4 +13,3 @@ mod NextLemmas
 mod SessionsLemmas
 pub mod InTextLemmas
 mod EditsInTextLemmas
-mod EditsInTomlLemmas

@@ -1,4 +1,0 @@
--- Edits of a TOML document in its text.
-pub mod Bytes
-pub mod EditInToml
-pub mod InPlace
