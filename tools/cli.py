@@ -56,6 +56,8 @@ def cases():
     yield Case(("get", "--sort-keys", "--pretty", ""), TEXT, '{\n  "a/b": [\n    1,\n    2\n  ],\n  "b": 1.0\n}\n')
     yield Case(("get", "/n"), '{"n": [1.10, 1e5, 18446744073709551616]}', "[1.10, 1e5, 18446744073709551616]\n")
     yield Case(("get", "--pretty", "/n"), '{"n": [1.10, 1e5]}', "[\n  1.10,\n  1e5\n]\n")
+    for pointer, own in [("/a", "1.0"), ("/b/0", "1.00"), ("/b/1", "1e0"), ("/c", "10e-1")]:
+        yield Case(("get", pointer), '{"a": 1.0, "b": [1.00, 1e0], "c": 5, "c": 10e-1}', f"{own}\n")
     yield Case(("get", "--pretty", "/a~1b"), TEXT, "[\n  1,\n  2\n]\n")
     yield Case(("get", "--compact", "/a~1b"), TEXT, "[1,2]\n")
     yield Case(("get", "/s"), '{"s":"x\\n\\u00e9"}', '"x\\n\\u00e9"\n')
