@@ -578,6 +578,36 @@ def edits_in_text():
     yield from patches_in_text(pretty)
 
 
+def edits_in_toml():
+    """Edits in a TOML text."""
+    text = "# c\na = 1 # one\n\n[t]\n\"b\" = [\n  1, # x\n  2\n]\n"
+    assigned = [
+        ("/a", "[2]", text.replace("= 1", "= [2]")),
+        ("/t/b/1", "'y'", text.replace("2\n", '"y"\n')),
+        ("/t/b/-", "3", text.replace("2\n", "2,\n  3\n")),
+        ("/t/c", "true", text + "c = true\n"),
+        ("/d", "1.5", text.replace("# one\n", "# one\nd = 1.5\n")),
+        ("/e/f", "1", text + "\n[e]\nf = 1\n"),
+        ("/t", "{ b = 0 }", text[: text.index('"b"')] + "b = 0\n"),
+    ]
+    for pointer, value, new in assigned:
+        yield edited("assign in toml", text, pointer, value, answer=f"in place {new}")
+    yield edited("assign in toml", text, "/t/b/3", "0", answer=ASSIGN_OUT_OF_BOUNDS.format(4))
+    yield edited("assign in toml", text, "/a/b", "0", answer='rewritten [a]\nb = 0\n\n[t]\nb = [1, 2]\n')
+    yield edited("assign in toml", "", "/a" * 82, "0", answer="the values of the new document nest deeper than 80")
+    deleted = [
+        ("/a", text[text.index("\n[t]") :]), ("/t/b/0", text.replace("  1, # x\n", "")), ("/t", "# c\na = 1 # one\n"),
+    ]
+    for pointer, new in deleted:
+        yield edited("delete in toml", text, pointer, answer=f"in place {new}")
+    yield edited("delete in toml", "[a.b]\nc = 1\n", "/a/b", answer="in place [a]\n")
+    yield edited("delete in toml", text, "/x", answer="delete failed: json pointer does not resolve")
+    for call in ("assign in toml", "delete in toml"):
+        yield edited(call, "a = ", "/a", "1", answer="not TOML")
+        deep = "a = " + "[" * 80 + "]" * 80 + "\nb = 1\n"
+        yield edited(call, f"[c]\n{deep}", "/b", "1", answer="the values of the document nest deeper than 80")
+
+
 def patches_in_text(pretty):
     """Patches in a text."""
     added = '{ "b" : 1.50, "a" : [ 2 ,\t"x",\t{"c":"\\u0041"} ] }'
@@ -1768,7 +1798,7 @@ def values_of_errors():
 TABLES = [
     texts, pointers_of_texts, cut, indices, tokens, numbers, measures, pairs, ranges, copies, edits, owned,
     found, assigned, in_tables, labelled, undos, undos_told, patches, applied, refused, journaled, patch_documents,
-    differences_of_objects, differences_of_arrays, differences, in_text, edits_in_text,
+    differences_of_objects, differences_of_arrays, differences, in_text, edits_in_text, edits_in_toml,
     sessions, single_calls, refused_calls, reports, bounds, shown,
     large_documents, large_undos_and_patches, few_requests, values_of_errors,
 ]

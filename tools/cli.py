@@ -120,7 +120,15 @@ def on_paths():
     nodes = "\t{}\n/a\t[]\n/a/0\t{}\n/a/0/b\t-inf\n"
     yield Case(("paths", "--toml", "--all"), "[[a]]\nb = -inf\n", nodes)
     yield Case(("paths", "--toml"), "", "\t{}\n")
-    yield Case(("paths", "--toml"), "a = ", "", "jp: standard input: not TOML\n", 3)
+    message = "invalid value, expected a string, number, boolean, date-time, array or inline table"
+    yield Case(("paths", "--toml"), "b = 1\na = ", "", f"jp: standard input: not TOML: {message} at line 2 column 5\n", 3)
+    commented = "# c\na = 1 # one\n"
+    yield Case(("set", "--toml", "/a", "2"), commented, "# c\na = 2 # one\n")
+    yield Case(("set", "--toml", "/b/c", "[1]"), commented, commented + "\n[b]\nc = [1]\n")
+    yield Case(("delete", "--toml", "/a"), commented + "b = 2\n", "# c\nb = 2\n")
+    anew = "jp: standard input: printed anew, without its comments and layout\n"
+    yield Case(("set", "--toml", "/a/b", "2"), commented, "[a]\nb = 2\n", anew)
+    yield Case(("patch", "/dev/null", "x.toml"), "", "", "jp: patch: not on TOML: use set and delete\n", 2)
 
 
 def failing():

@@ -46,6 +46,11 @@ OTHERS = {
         ("jsonptr_paths/src/reading.rt", ["build"]),
     ],
     "TOML text": [("jsonptr_in_toml/src/change.rt", ["find_in_toml", "assign_in_toml", "delete_in_toml"])],
+    "edits in TOML text": [
+        ("jsonptr_edit_in_toml/src/assign.rt", ["assign_in_toml_text"]),
+        ("jsonptr_edit_in_toml/src/delete.rt", ["delete_in_toml_text"]),
+        ("jsonptr_edit_in_toml/src/in_place.rt", ["assign_in_place", "delete_in_place"]),
+    ],
     "commands on texts and lines": [
         ("jsonptr_filter/src/result.rt", ["result_in_text"]),
         ("jsonptr_filter/src/document.rt", ["run_document"]),

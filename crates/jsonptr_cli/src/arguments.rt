@@ -155,12 +155,12 @@ fn file<'a>(alloc: Global) -> Arg<'a> {
 
 /// Returns the flag for TOML.
 fn toml_flag<'a>(alloc: Global) -> Arg<'a> {
-    arg!(in alloc; --toml "Takes TOML, as for a file whose name ends in .toml; comments and layout go")
+    arg!(in alloc; --toml "Takes TOML, as for a file whose name ends in .toml")
 }
 
 /// Returns the flag that allows a document to lose its layout.
 fn reformat<'a>(alloc: Global) -> Result<Arg<'a>, AllocError> {
-    arg!(in alloc; --reformat "Prints a document anew that cannot be edited in its text, and lets --in-place print TOML anew").conflicts_with(
+    arg!(in alloc; --reformat "Prints a document anew that cannot be edited in its text; on TOML, lets --in-place do so").conflicts_with(
         "lines",
     )
 }

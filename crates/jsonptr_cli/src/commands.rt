@@ -119,6 +119,11 @@ fn patch(rt: &HostRuntime, matches: &ArgMatches<'_>) -> Result<u8, Problem> {
         let message = "standard input cannot be the patch and the document";
         return Err(Problem::new(alloc, USAGE, "PATCHFILE", message));
     }
+    if let Some(file) = matches.get_str("FILE") {
+        if file.ends_with(".toml") {
+            return Err(Problem::new(alloc, USAGE, "patch", "not on TOML: use set and delete"));
+        }
+    }
     let document = document_of(rt, name)?;
     match operations_of(alloc, &document) {
         Ok(_) => match matches.get_str("inverse") {

@@ -4,8 +4,7 @@ use Rattle.std.specs.declared.alloc.Global.{Global}
 use Rattle.toml.specs.Data.{Data}
 use Rattle.jsonptr_grammar.specs.Text.{Text}
 use Rattle.jsonptr_tree.specs.Node.{NodeMap}
-use Rattle.jsonptr_in_toml.specs.InToml.{AssignsTo, DeletesTo, PrintsAs, AssignsInToml, DeletesInToml, FailsToAssign, FailsToDelete}
-use Rattle.jsonptr_in_toml.specs.PrivateInToml.{IsPrintFault}
+use Rattle.jsonptr_in_toml.specs.InToml.{AssignsTo, DeletesTo, PrintsAs, AssignsInToml, DeletesInToml, FailsToAssign, FailsToDelete, IsPrintFault}
 use Rattle.jsonptr_in_toml.specs.declared.error.InTomlError.{InTomlError}
 use Rattle.jsonptr_in_toml.specs.declared.error.InTomlError.TheVariants.{NotToml, DocumentTooDeep, NoValue, BadPlace, NotThere, TooDeep, NoText, Memory}
 

@@ -103,3 +103,17 @@ FailsToList text NotToml = parse_document text ≡ None
 FailsToList text DocumentTooDeep = IsDeep text
 FailsToList text (Memory f) = ⊤
 FailsToList text e = ⊥
+
+-- `IsReadFault text e`: `e` is why `text` is not read, if it is not for memory
+abbrev pub IsReadFault : Text → InTomlError → Type 0
+IsReadFault text NotToml = parse_document text ≡ None
+IsReadFault text DocumentTooDeep = IsDeep text
+IsReadFault text (Memory f) = ⊤
+IsReadFault text e = ⊥
+
+-- `IsPrintFault d e`: `e` is why the value `d` is not printed as a document
+abbrev pub IsPrintFault : Data → InTomlError → Type 0
+IsPrintFault d TooDeep = HasDeepValues d
+IsPrintFault d NoText = HasNoText d
+IsPrintFault d (Memory f) = ⊤
+IsPrintFault d e = ⊥

@@ -1,3 +1,2 @@
 -- Finding, changing and listing values in the text of a TOML document.
 pub mod InToml
-pub mod PrivateInToml

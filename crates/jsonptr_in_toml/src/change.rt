@@ -1,11 +1,10 @@
 //! Finding, assigning and deleting in a TOML text.
-ghost use Rattle.std.specs.Prelude.{◌<◌, ◌↔◌, suc, length, IsTrue, IfOk, IfErr, string_bytes};
+ghost use Rattle.std.specs.Prelude.{IfOk, IfErr, string_bytes};
 ghost use Rattle.toml.specs.View.{view};
-ghost use Rattle.toml_parser.specs.Strings.{recursion_limit as max_depth};
 ghost use Rattle.jsonptr.specs.Pointer.{tokens};
 ghost use Rattle.jsonptr_in_toml.specs.InToml.{FindsInToml, AssignsInToml, DeletesInToml, FailsToFind, FailsToAssign, FailsToDelete};
 
-use crate::depth::MAX_DEPTH;
+use crate::depth::is_long;
 use crate::document::{print_toml, read_toml};
 use crate::error::InTomlError;
 use jsonptr::{Assign, Delete, Fault, Pointer, Resolve};
@@ -79,14 +78,6 @@ pub fn assign_in_toml(
         Err(Fault::Refused(error)) => Err(InTomlError::BadPlace(error)),
         Err(Fault::Memory(error)) => Err(InTomlError::Memory(error)),
     }
-}
-
-/// Returns whether the pointer has more than 81 tokens: no value at it is in a table whose values nest
-/// at most 80 deep.
-fn is_long(pointer: Pointer<'_>) -> bool
-    ensures { IsTrue result ↔ (suc max_depth < length (tokens pointer.entry)) }
-{
-    pointer.count() > MAX_DEPTH + 1
 }
 
 /// Deletes the value that the pointer resolves to, and returns the text of the new document. Deleting

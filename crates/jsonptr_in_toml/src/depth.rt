@@ -1,8 +1,11 @@
 //! How deep the values of a TOML document nest.
-ghost use Rattle.std.specs.Prelude.{◌≤◌, ◌↔◌, IsTrue};
+ghost use Rattle.std.specs.Prelude.{◌<◌, ◌≤◌, ◌↔◌, suc, length, IsTrue};
 ghost use Rattle.toml.specs.Data.{depth, items_depth, members_depth};
 ghost use Rattle.toml.specs.View.{view, items_view, table_view};
+ghost use Rattle.toml_parser.specs.Strings.{recursion_limit as max_depth};
+ghost use Rattle.jsonptr.specs.Pointer.{tokens};
 
+use jsonptr::Pointer;
 use toml::{Table, Value};
 
 /// How deep the values of a document may nest. The kit's reader takes no deeper array.
@@ -10,8 +13,10 @@ pub const MAX_DEPTH: usize = 80;
 
 /// Returns whether the value nests at most so many levels deep. A string nests 0 levels deep, and an
 /// array of strings 1.
+///
+/// Time is linear in the value. The stack is in proportion to the smaller of its depth and `levels`.
 #[cycle(nests)]
-fn value_within(value: &Value, levels: usize) -> bool
+pub fn value_within(value: &Value, levels: usize) -> bool
     ensures { IsTrue result ↔ (depth (view value.now) ≤ levels) }
 {
     match value {
@@ -47,4 +52,12 @@ pub fn table_within(table: &Table, levels: usize) -> bool
         }
     }
     true
+}
+
+/// Returns whether the pointer has more than 81 tokens: no value at it is in a table whose values nest
+/// at most 80 deep.
+pub fn is_long(pointer: Pointer<'_>) -> bool
+    ensures { IsTrue result ↔ (suc max_depth < length (tokens pointer.entry)) }
+{
+    pointer.count() > MAX_DEPTH + 1
 }

@@ -4,8 +4,7 @@ ghost use Rattle.toml.specs.Data.{members_depth, table as a_table};
 ghost use Rattle.toml.specs.View.{view, table_view};
 ghost use Rattle.toml_parser.specs.Strings.{recursion_limit as max_depth};
 ghost use Rattle.jsonptr_in_toml.specs.declared.error.InTomlError.TheVariants.{DocumentTooDeep};
-ghost use Rattle.jsonptr_in_toml.specs.InToml.{ReadsAs, PrintsAs};
-ghost use Rattle.jsonptr_in_toml.specs.PrivateInToml.{IsReadFault, IsPrintFault};
+ghost use Rattle.jsonptr_in_toml.specs.InToml.{ReadsAs, PrintsAs, IsReadFault, IsPrintFault};
 
 use crate::depth::{MAX_DEPTH, table_within};
 use crate::error::InTomlError;
@@ -15,6 +14,12 @@ use toml::ser::Error;
 use toml::{Table, Value, table_from_str, table_to_string};
 
 /// Reads the text as a table.
+///
+/// # Errors
+///
+/// - [`InTomlError::NotToml`] if the text is not TOML.
+/// - [`InTomlError::DocumentTooDeep`] if the values of the document nest deeper than 80.
+/// - [`InTomlError::Memory`] if an allocation fails.
 pub fn read_toml(alloc: Global, text: &str) -> Result<Value, InTomlError>
     ensures done { IfOk result (λ v. ReadsAs text.now (view v)) }
     ensures failed { IfErr result (IsReadFault text.now) }
@@ -47,6 +52,12 @@ fn shallow(table: Table) -> Result<Value, InTomlError>
 }
 
 /// Prints the value as a document, and drops it.
+///
+/// # Errors
+///
+/// - [`InTomlError::TooDeep`] if the values of the table nest deeper than 80.
+/// - [`InTomlError::NoText`] if the value is not a table, or has a date-time that TOML has no text for.
+/// - [`InTomlError::Memory`] if an allocation fails.
 pub fn print_toml(alloc: Global, value: Value) -> Result<String, InTomlError>
     ensures done { IfOk result (λ s. PrintsAs (view value) (string_bytes s)) }
     ensures failed { IfErr result (IsPrintFault (view value)) }

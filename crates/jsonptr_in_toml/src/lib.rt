@@ -16,8 +16,8 @@
 #![tactic(auto)]
 
 mod change;
-mod depth;
-mod document;
+pub mod depth;
+pub mod document;
 mod error;
 mod listing;
 

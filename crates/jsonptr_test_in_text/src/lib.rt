@@ -1,4 +1,4 @@
-//! Tests of resolving pointers and of edits in JSON text, over public items alone: each call beside
+//! Tests of resolving pointers and of edits in JSON text, and of edits in TOML text, over public items alone: each call beside
 //! the one on a document.
 #![tactic(auto)]
 
@@ -14,3 +14,5 @@ mod errors;
 mod reused;
 #[cfg(test)]
 mod said;
+#[cfg(test)]
+mod toml_edits;

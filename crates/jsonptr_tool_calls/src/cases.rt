@@ -3,7 +3,7 @@ use crate::out::Out;
 use crate::words::Words;
 use crate::{
     documents, edits, errors, in_text, patches, pointers, programs, sessions, shows, tabled,
-    text_edits, texts, tokens, undos,
+    text_edits, texts, tokens, toml_edits, undos,
 };
 use jsonptr::{EncodingError, InvalidEncoding, ParseError, Pointer, Token};
 use serde_json::Value as Json;
@@ -40,6 +40,7 @@ fn in_text_or_patch(out: &mut Out<'_>, group: &str, words: Words<'_>) {
         "diff" | "change" => patches::run(out, group, words),
         _ if group.starts_with("patch") => patches::run(out, group, words),
         _ if group.contains("in text") => text_edits::run(out, group, words),
+        _ if group.contains("in toml") => toml_edits::run(out, group, words),
         _ => on_document(out, group, words),
     }
 }

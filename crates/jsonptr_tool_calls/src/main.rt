@@ -8,11 +8,12 @@
 //! | `case` | a case of `tools/call_cases.py`: one call, between two marks |
 //! | `find` | a case of `tools/in_text.py`: a pointer, and the bytes of a text, as hexadecimal digits |
 //! | `change` | a case of `tools/edits_in_text.py`: an edit, a text, a pointer, and an argument |
+//! | `toml` | a case of `tools/edits_in_toml.py`: an edit, a text, a pointer, and a value |
 //! | `patch` | a case of `tools/patches.py`: a document and a patch document |
 //! | another | a request of `docs/COMPARING.md` |
 //!
 //! With five arguments it makes one edit of the text that is its input again and again, for
-//! `tools/bench/edits.py`.
+//! `tools/bench/edits.py` and `tools/bench/toml_edits.py`.
 #![tactic(auto)]
 
 mod cases;
@@ -34,6 +35,7 @@ mod tabled;
 mod text_edits;
 mod texts;
 mod tokens;
+mod toml_edits;
 mod toml_text;
 mod undos;
 mod words;
@@ -91,6 +93,7 @@ fn answer(out: &mut Out<'_>, buffers: &mut Buffers, scratch: &mut Scratch, mut w
         }
         "find" => in_text::request(out, scratch, words),
         "change" => text_edits::compare(out, buffers, words),
+        "toml" => toml_edits::request(out, words),
         "patch" => patches::round(out, words),
         request => requests::run(out, request, words),
     }

@@ -1,6 +1,7 @@
 //! One edit, made again and again, for `tools/bench/edits.py`.
 use crate::out::Out;
 use crate::text_edits::{Request, change, edit};
+use crate::toml_edits;
 use crate::words::Words;
 use jsonptr_edit_in_text::Buffers;
 use serde_json::Value;
@@ -30,7 +31,7 @@ pub fn run(out: &mut Out<'_>, text: &str, mut words: Words<'_>) {
 }
 
 /// Makes the edit, and returns how long the new text is. The way `text` uses these buffers, and
-/// `own` makes some for the edit alone.
+/// `own` makes some for the edit alone. The way `toml` edits a TOML text.
 fn len(out: &mut Out<'_>, buffers: &mut Buffers, way: &str, request: Request<'_>) -> Option<usize> {
     match way {
         "text" => Some(edit(out, buffers, request)?.len()),
@@ -38,6 +39,7 @@ fn len(out: &mut Out<'_>, buffers: &mut Buffers, way: &str, request: Request<'_>
             let mut buffers = Buffers::new(out.alloc());
             Some(edit(out, &mut buffers, request)?.len())
         }
+        "toml" => Some(toml_edits::edit(out, request)?.ok()?.as_str().len()),
         "document" => Some(change(out, request)?.to_string(out.alloc()).ok()?.len()),
         _ => match Value::from_str(out.alloc(), request.text).ok()? {
             Value::Array(_) | Value::Object(_) => Some(1),

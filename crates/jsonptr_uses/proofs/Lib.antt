@@ -13,3 +13,4 @@ mod NextLemmas
 mod SessionsLemmas
 pub mod InTextLemmas
 mod EditsInTextLemmas
+mod EditsInTomlLemmas

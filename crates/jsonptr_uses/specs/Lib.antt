@@ -8,5 +8,6 @@ pub mod InText
 pub mod Overlay
 pub mod Editing
 pub mod EditsInText
+pub mod EditsInToml
 pub mod Sessions
 pub mod PatchDocuments

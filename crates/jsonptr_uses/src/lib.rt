@@ -17,6 +17,7 @@
 //! - [`edits_in_place`]: edits of a text that change only their own bytes.
 //! - [`streams`]: a document from a reader to a writer.
 //! - [`toml_files`]: a TOML file of settings.
+//! - [`edits_in_toml`]: two edits in a TOML text, in place.
 //! - [`handles`]: a document in a handle, as a program in C uses it.
 //! - [`commands`]: a command on the text of a document.
 //! - [`tabled`]: a look-up by a pointer with a table.
@@ -33,6 +34,7 @@ pub mod editor;
 pub mod edits;
 pub mod edits_in_place;
 pub mod edits_in_text;
+pub mod edits_in_toml;
 pub mod handles;
 pub mod in_text;
 pub mod merging;

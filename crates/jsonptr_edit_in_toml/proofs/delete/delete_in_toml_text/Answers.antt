@@ -1,0 +1,28 @@
+use Rattle.toml.specs.View.{view}
+use Rattle.jsonptr.specs.Pointer.{tokens}
+use Rattle.jsonptr_in_toml.specs.InToml.{DeletesTo}
+use Rattle.jsonptr_edit_in_toml.proofs.ChangingLemmas.{deletes_then, deleted_print, delete_fails_then}
+use Rattle.jsonptr_edit_in_toml.proofs.delete.delete_in_toml_text.Goals as goal
+
+pub returns-in-Some-clause-deleted : goal.returns-in-Some-clause-deleted
+returns-in-Some-clause-deleted c =
+    let found = rw c.in-Some.is at c.in_ok-delete.ensures.found in
+    let made : DeletesTo c.args.text.now (tokens c.args.pointer) (view c.delete.new.self) = (view c.in_ok-document.document, c.in_ok-document.ensures.done, (view c.in-Some.field-0, found), c.in_ok-delete.ensures.deleted) in
+    deletes_then c.args.text.now (tokens c.args.pointer) (view c.delete.new.self) c.choose.result made c.choose.ensures.document
+
+pub returns-in-Some-clause-printed : goal.returns-in-Some-clause-printed
+returns-in-Some-clause-printed c =
+    let found = rw c.in-Some.is at c.in_ok-delete.ensures.found in
+    let made : DeletesTo c.args.text.now (tokens c.args.pointer) (view c.delete.new.self) = (view c.in_ok-document.document, c.in_ok-document.ensures.done, (view c.in-Some.field-0, found), c.in_ok-delete.ensures.deleted) in
+    deleted_print c.args.text.now (tokens c.args.pointer) (view c.delete.new.self) c.choose.result made c.choose.ensures.printed
+
+pub returns-in-Some-clause-failed : goal.returns-in-Some-clause-failed
+returns-in-Some-clause-failed c =
+    let found = rw c.in-Some.is at c.in_ok-delete.ensures.found in
+    let made : DeletesTo c.args.text.now (tokens c.args.pointer) (view c.delete.new.self) = (view c.in_ok-document.document, c.in_ok-document.ensures.done, (view c.in-Some.field-0, found), c.in_ok-delete.ensures.deleted) in
+    delete_fails_then c.args.text.now (tokens c.args.pointer) (view c.delete.new.self) c.choose.result made c.choose.ensures.failed
+
+pub returns-in-None-clause-failed : goal.returns-in-None-clause-failed
+returns-in-None-clause-failed c =
+    let none = rw c.in-None.is at c.in_ok-delete.ensures.found in
+    (view c.in_ok-document.document, c.in_ok-document.ensures.done, none.0)

@@ -1,0 +1,4 @@
+-- Edits of a TOML document in its text.
+pub mod Bytes
+pub mod EditInToml
+pub mod InPlace

@@ -1,0 +1,126 @@
+//! Whether a piece of a text reads, alone, as one value.
+ghost use Rattle.std.specs.Prelude.{◌≡◌, IsTrue, IfOk};
+ghost use Rattle.toml.specs.Data.{table, no_members};
+ghost use Rattle.toml.specs.View.{view};
+ghost use Rattle.jsonptr.specs.Pointer.{tokens};
+ghost use Rattle.jsonptr_edit_in_toml.specs.Bytes.{IsFiller, IsComma, HaveOneComma, EndsAs, Holds, IsAlone, IsOneChild};
+
+use crate::check::{is_document_of, is_text_of};
+use crate::cut::cut_at;
+use crate::plan::{Child, Keys};
+use jsonptr::{Assign, Fault, Pointer};
+use std::alloc::{AllocError, Global};
+use toml::{Table, Value};
+use toml_parser::text::skip_blank;
+
+/// Returns an empty table.
+pub fn empty_table(alloc: Global) -> Value
+    ensures { view result ≡ table no_members }
+{
+    Value::Table(Table::new(alloc))
+}
+
+/// Returns whether the text is white space, line breaks and comments alone.
+pub fn is_filler(alloc: Global, text: &str) -> Result<bool, AllocError>
+    ensures { IfOk result (λ is. IsTrue is → IsFiller text.now) }
+{
+    let empty = empty_table(alloc);
+    is_document_of(alloc, text, &empty)
+}
+
+/// Returns whether the text is a comma with white space, line breaks and comments around it.
+fn is_comma(alloc: Global, text: &str) -> Result<bool, AllocError>
+    ensures { IfOk result (λ is. IsTrue is → IsComma text.now) }
+{
+    let from = text.len().saturating_sub(skip_blank(text, true).len());
+    let Some(cut) = cut_at(text, from, from.saturating_add(1)) else {
+        return Ok(false);
+    };
+    if cut.was != "," || !is_filler(alloc, cut.before)? {
+        return Ok(false);
+    }
+    is_filler(alloc, cut.after)
+}
+
+/// Returns whether both texts are white space, line breaks and comments, and at most one of them has a
+/// comma.
+fn have_one_comma(alloc: Global, lead: &str, trail: &str) -> Result<bool, AllocError>
+    ensures { IfOk result (λ have. IsTrue have → HaveOneComma lead.now trail.now) }
+{
+    if !is_filler(alloc, lead)? {
+        return Ok(is_comma(alloc, lead)? && is_filler(alloc, trail)?);
+    }
+    Ok(is_filler(alloc, trail)? || is_comma(alloc, trail)?)
+}
+
+/// Returns whether both pointers are the root, or the keys end in the last token of the pointer or in
+/// `-`.
+fn ends_as(pointer: Pointer<'_>, keys: Pointer<'_>) -> bool
+    ensures { IsTrue result → EndsAs (tokens pointer.entry) (tokens keys.entry) }
+{
+    match (pointer.split_back(), keys.split_back()) {
+        (Some((_front, last)), Some((_back, key))) => key == last || key.is_next(),
+        (None, None) => true,
+        _ => false,
+    }
+}
+
+/// Returns whether the text holds the value at the keys, and nothing else.
+pub fn holds(
+    alloc: Global,
+    text: &str,
+    keys: Pointer<'_>,
+    value: &Value,
+) -> Result<bool, AllocError>
+    ensures { IfOk result (λ holds. IsTrue holds → Holds (tokens keys.entry) (view value.now) text.now) }
+{
+    let mut want = empty_table(alloc);
+    let value = value.clone()?;
+    match want.assign(alloc, keys, value) {
+        Ok(_) => is_document_of(alloc, text, &want),
+        Err(Fault::Refused(_)) => Ok(false),
+        Err(Fault::Memory(error)) => Err(error),
+    }
+}
+
+/// Returns whether the text is one of the value, or, if there are keys, holds the value at them and
+/// nothing else.
+pub fn is_alone(
+    alloc: Global,
+    text: &str,
+    pointer: Pointer<'_>,
+    keys: &Keys,
+    value: &Value,
+) -> Result<bool, AllocError>
+    ensures { IfOk result (λ is. IsTrue is
+        → IsAlone (tokens pointer.entry) (view value.now) text.now) }
+{
+    match keys {
+        Keys::None => is_text_of(alloc, text, value),
+        Keys::Some(keys) => {
+            let keys = keys.as_ptr();
+            Ok(ends_as(pointer, keys) && holds(alloc, text, keys, value)?)
+        }
+    }
+}
+
+/// Returns whether the text is one member or element with the value, with at most one comma and white
+/// space, line breaks and comments beside it.
+pub fn is_one_child(
+    alloc: Global,
+    text: &str,
+    pointer: Pointer<'_>,
+    child: &Child,
+    value: &Value,
+) -> Result<bool, AllocError>
+    ensures { IfOk result (λ is. IsTrue is
+        → IsOneChild (tokens pointer.entry) (view value.now) text.now) }
+{
+    let Some(cut) = cut_at(text, child.span.from, child.span.to) else {
+        return Ok(false);
+    };
+    if !is_alone(alloc, cut.was, pointer, &child.keys, value)? {
+        return Ok(false);
+    }
+    have_one_comma(alloc, cut.before, cut.after)
+}

@@ -1,0 +1,187 @@
+//! Assigning in a text.
+ghost use Rattle.std.specs.Prelude.{◌≡◌, ◌++◌, IfOk, IfErr, IfSome, IsSome, string_bytes};
+ghost use Rattle.toml.specs.Data.{Data};
+ghost use Rattle.toml.specs.View.{view};
+ghost use Rattle.jsonptr.specs.Pointer.{tokens};
+ghost use Rattle.jsonptr_tree.specs.TomlValue.{FindsValue};
+ghost use Rattle.jsonptr_in_toml.specs.InToml.{ReadsAs, AssignsInToml, FailsToAssign, IsPrintFault, PrintsAs};
+ghost use Rattle.jsonptr_edit_in_toml.specs.EditInToml.{text_of, AssignsInText, KeepsBytes, IsPrinted};
+ghost use Rattle.jsonptr_edit_in_toml.specs.Bytes.{AssignsBytes, IsAlone};
+
+use crate::add::plan_addition;
+use crate::alone::{is_alone, is_filler, is_one_child};
+use crate::check::is_document_of;
+use crate::cut::{cut_at, splice};
+use crate::edited::Edited;
+use crate::plan::{Addition, Replacement};
+use crate::replace::plan_replacement;
+use jsonptr::{Assign, Fault, Pointer, Resolve};
+use jsonptr_in_toml::InTomlError;
+use jsonptr_in_toml::depth::{MAX_DEPTH, is_long, value_within};
+use jsonptr_in_toml::document::{print_toml, read_toml};
+use std::alloc::{AllocError, Global};
+use toml::Value;
+
+/// Assigns the value at the pointer in the document that the text contains, as
+/// [`Assign::assign`](jsonptr::assign::Assign) does.
+///
+/// One piece of the text changes: the text of a value is replaced, or a member or an element is put in
+/// as its siblings are. All other bytes stay. If that is not possible, the document is printed anew.
+///
+/// Reads the old and the new text once each, and allocates for both documents.
+///
+/// # Errors
+///
+/// - [`InTomlError::NotToml`] if the text is not TOML.
+/// - [`InTomlError::DocumentTooDeep`] if the values of the document nest deeper than 80.
+/// - [`InTomlError::TooDeep`] if the pointer has more than 81 tokens.
+/// - [`InTomlError::BadPlace`] if no value can be assigned at the pointer.
+/// - [`InTomlError::TooDeep`] if the values of the new document nest deeper than 80.
+/// - [`InTomlError::NoText`] if the new document is not a table, or has a date-time that TOML has no
+///   text for.
+/// - [`InTomlError::Memory`] if an allocation fails.
+///
+/// # Examples
+///
+/// ```rust
+/// let text = "[server]\nport = 80 # as ever\n";
+/// let port = Pointer::parse("/server/port")?;
+/// let edited = assign_in_toml_text(alloc, text, port, 8080.into())?;
+/// assert_eq!(rt; edited.as_str(), "[server]\nport = 8080 # as ever\n");
+/// ```
+pub fn assign_in_toml_text(
+    alloc: Global,
+    text: &str,
+    pointer: Pointer<'_>,
+    value: Value,
+) -> Result<Edited, InTomlError>
+    ensures assigned { IfOk result (λ e. AssignsInText text.now (tokens pointer.entry) (view value)
+        (text_of e)) }
+    ensures bytes { IfOk result (KeepsBytes
+        (AssignsBytes text.now (tokens pointer.entry) (view value))) }
+    ensures printed { IfOk result (IsPrinted
+        (AssignsInToml text.now (tokens pointer.entry) (view value))) }
+    ensures failed { IfErr result (FailsToAssign text.now (tokens pointer.entry) (view value)) }
+{
+    let mut document = read_toml(alloc, text)?;
+    if is_long(pointer) {
+        return Err(InTomlError::TooDeep);
+    }
+    let candidate = candidate_of(alloc, text, pointer, &document, &value)?;
+    match document.assign(alloc, pointer, value) {
+        Ok(_) => choose(alloc, candidate, document),
+        Err(Fault::Refused(error)) => Err(InTomlError::BadPlace(error)),
+        Err(Fault::Memory(error)) => Err(InTomlError::Memory(error)),
+    }
+}
+
+/// Returns the candidate if it is a text of the document, and the document printed anew if not. Drops
+/// the document.
+pub fn choose(
+    alloc: Global,
+    candidate: Option<String>,
+    document: Value,
+) -> Result<Edited, InTomlError>
+    ensures document { IfOk result (λ e. ReadsAs (text_of e) (view document)) }
+    ensures place { IfOk result (KeepsBytes (λ s. IfSome candidate (λ c. s ≡ string_bytes c))) }
+    ensures there { IfOk result (KeepsBytes (λ s. IsSome candidate)) }
+    ensures printed { IfOk result (IsPrinted (PrintsAs (view document))) }
+    ensures failed { IfErr result (IsPrintFault (view document)) }
+{
+    if let Some(new) = candidate {
+        if is_document_of(alloc, new.as_str(), &document)? {
+            return Ok(Edited::InPlace(new));
+        }
+    }
+    Ok(Edited::Rewritten(print_toml(alloc, document)?))
+}
+
+/// Returns the text with one piece changed, if there is a plan for it.
+fn candidate_of(
+    alloc: Global,
+    text: &str,
+    pointer: Pointer<'_>,
+    document: &Value,
+    value: &Value,
+) -> Result<Option<String>, AllocError>
+    ensures { ReadsAs text.now (view document.now) → IfOk result (λ new. IfSome new
+        (λ s. AssignsBytes text.now (tokens pointer.entry) (view value.now) (string_bytes s))) }
+{
+    // a deeper value makes the document too deep
+    if !value_within(value, MAX_DEPTH) {
+        return Ok(None);
+    }
+    match document.resolve(alloc, pointer) {
+        Ok(found) => match plan_replacement(alloc, text, pointer, value)? {
+            Some(plan) => {
+                if !is_alone(alloc, plan.piece.as_str(), pointer, &plan.new_keys, value)? {
+                    return Ok(None);
+                }
+                replaced(alloc, text, pointer, found, &plan)
+            }
+            None => Ok(None),
+        },
+        Err(Fault::Refused(_)) => match plan_addition(alloc, text, pointer, document, value)? {
+            Some(plan) => added(alloc, text, pointer, value, &plan),
+            None => Ok(None),
+        },
+        Err(Fault::Memory(error)) => Err(error),
+    }
+}
+
+/// Returns the text with the text of the value that was found replaced, if the plan is right.
+fn replaced(
+    alloc: Global,
+    text: &str,
+    pointer: Pointer<'_>,
+    found: &Value,
+    plan: &Replacement,
+) -> Result<Option<String>, AllocError>
+    ensures { (d v : Data) → ReadsAs text.now d → FindsValue d (tokens pointer.entry) (view found.now)
+        → IsAlone (tokens pointer.entry) v (string_bytes plan.now.piece)
+        → IfOk result (λ new. IfSome new
+        (λ s. AssignsBytes text.now (tokens pointer.entry) v (string_bytes s))) }
+{
+    let Some(cut) = cut_at(text, plan.span.from, plan.span.to) else {
+        return Ok(None);
+    };
+    if !is_alone(alloc, cut.was, pointer, &plan.keys, found)? {
+        return Ok(None);
+    }
+    Ok(Some(splice(alloc, &cut, plan.piece.as_str())?))
+}
+
+/// Returns the text with a member or an element added, if the plan is right.
+fn added(
+    alloc: Global,
+    text: &str,
+    pointer: Pointer<'_>,
+    value: &Value,
+    plan: &Addition,
+) -> Result<Option<String>, AllocError>
+    ensures { IfOk result (λ new. IfSome new
+        (λ s. AssignsBytes text.now (tokens pointer.entry) (view value.now) (string_bytes s))) }
+{
+    let Some(cut) = cut_at(text, plan.span.from, plan.span.to) else {
+        return Ok(None);
+    };
+    let piece = joined(alloc, plan.lead.as_str(), cut.was, plan.rest.as_str())?;
+    if !is_one_child(alloc, piece.as_str(), pointer, &plan.child, value)? {
+        return Ok(None);
+    }
+    if !is_filler(alloc, cut.was)? {
+        return Ok(None);
+    }
+    Ok(Some(splice(alloc, &cut, piece.as_str())?))
+}
+
+/// Returns the three texts, one after the other.
+fn joined(alloc: Global, lead: &str, was: &str, rest: &str) -> Result<String, AllocError>
+    ensures { IfOk result (λ s. string_bytes s ≡ lead.now ++ (was.now ++ rest.now)) }
+{
+    let mut piece = String::new(alloc);
+    piece.push_str(lead)?;
+    piece.push_str(was)?;
+    piece.push_str(rest)?;
+    Ok(piece)
+}

@@ -1,0 +1,131 @@
+//! Deleting in a text.
+ghost use Rattle.std.specs.Prelude.{◌≡◌, [], ◌⊎◌, IsTrue, IfOk, IfErr, IfSome, string_bytes};
+ghost use Rattle.toml.specs.Data.{Data};
+ghost use Rattle.toml.specs.View.{view};
+ghost use Rattle.jsonptr.specs.Pointer.{tokens};
+ghost use Rattle.jsonptr_tree.specs.TomlValue.{FindsValue};
+ghost use Rattle.jsonptr_in_toml.specs.InToml.{ReadsAs, DeletesInToml, FailsToDelete};
+ghost use Rattle.jsonptr_edit_in_toml.specs.EditInToml.{text_of, DeletesInText, KeepsBytes, IsPrinted};
+ghost use Rattle.jsonptr_edit_in_toml.specs.Bytes.{DeletesBytes, IsEmpty, Empties};
+
+use crate::alone::{empty_table, is_alone, is_one_child};
+use crate::assign::choose;
+use crate::cut::{cut_at, splice};
+use crate::edited::Edited;
+use crate::plan::{Left, Removal};
+use crate::remove::plan_removal;
+use jsonptr::{Delete, Fault, Pointer, Resolve};
+use jsonptr_in_toml::InTomlError;
+use jsonptr_in_toml::document::read_toml;
+use std::alloc::{AllocError, Global};
+use toml::Value;
+
+/// Deletes the value that the pointer resolves to in the document that the text contains, as
+/// [`Delete::delete`](jsonptr::delete::Delete) does. Deleting the root leaves an empty document.
+///
+/// A key goes with its line and the comment on it, a table with its header and its lines, and an
+/// element with its comma. All other bytes stay. If that is not possible, the document is printed anew.
+///
+/// Reads the old and the new text once each, and allocates for both documents.
+///
+/// # Errors
+///
+/// - [`InTomlError::NotToml`] if the text is not TOML.
+/// - [`InTomlError::DocumentTooDeep`] if the values of the document nest deeper than 80.
+/// - [`InTomlError::NotThere`] if the pointer does not resolve to a value.
+/// - [`InTomlError::Memory`] if an allocation fails.
+///
+/// # Examples
+///
+/// ```rust
+/// let text = "# The server\nport = 80 # as ever\nname = 'a'\n";
+/// let edited = delete_in_toml_text(alloc, text, Pointer::parse("/port")?)?;
+/// assert_eq!(rt; edited.as_str(), "# The server\nname = 'a'\n");
+/// ```
+pub fn delete_in_toml_text(
+    alloc: Global,
+    text: &str,
+    pointer: Pointer<'_>,
+) -> Result<Edited, InTomlError>
+    ensures deleted { IfOk result (λ e. DeletesInText text.now (tokens pointer.entry) (text_of e)) }
+    ensures bytes { IfOk result (KeepsBytes (DeletesBytes text.now (tokens pointer.entry))) }
+    ensures printed { IfOk result (IsPrinted (DeletesInToml text.now (tokens pointer.entry))) }
+    ensures failed { IfErr result (FailsToDelete text.now (tokens pointer.entry)) }
+{
+    let mut document = read_toml(alloc, text)?;
+    let candidate = candidate_of(alloc, text, pointer, &document)?;
+    match document.delete(alloc, pointer)? {
+        Some(_) => choose(alloc, candidate, document),
+        None => Err(InTomlError::NotThere),
+    }
+}
+
+/// Returns the text with one piece cut out, if there is a plan for it.
+fn candidate_of(
+    alloc: Global,
+    text: &str,
+    pointer: Pointer<'_>,
+    document: &Value,
+) -> Result<Option<String>, AllocError>
+    ensures { ReadsAs text.now (view document.now) → IfOk result (λ new. IfSome new
+        (λ s. DeletesBytes text.now (tokens pointer.entry) (string_bytes s))) }
+{
+    match document.resolve(alloc, pointer) {
+        Ok(found) => match plan_removal(alloc, text, pointer)? {
+            Some(plan) => removed(alloc, text, pointer, found, &plan),
+            None => Ok(None),
+        },
+        Err(Fault::Refused(_)) => Ok(None),
+        Err(Fault::Memory(error)) => Err(error),
+    }
+}
+
+/// Returns the text without the member or element that was found, if the plan is right.
+fn removed(
+    alloc: Global,
+    text: &str,
+    pointer: Pointer<'_>,
+    found: &Value,
+    plan: &Removal,
+) -> Result<Option<String>, AllocError>
+    ensures { (d : Data) → ReadsAs text.now d → FindsValue d (tokens pointer.entry) (view found.now)
+        → IfOk result (λ new. IfSome new
+        (λ s. DeletesBytes text.now (tokens pointer.entry) (string_bytes s))) }
+{
+    let Some(cut) = cut_at(text, plan.span.from, plan.span.to) else {
+        return Ok(None);
+    };
+    if !is_one_child(alloc, cut.was, pointer, &plan.child, found)? {
+        return Ok(None);
+    }
+    let Some(left) = &plan.left else {
+        return Ok(Some(splice(alloc, &cut, "")?));
+    };
+    if !is_left(alloc, pointer, left)? {
+        return Ok(None);
+    }
+    Ok(Some(splice(alloc, &cut, left.piece.as_str())?))
+}
+
+/// Returns whether the text is that of an empty table or array above the value.
+fn is_left(alloc: Global, pointer: Pointer<'_>, left: &Left) -> Result<bool, AllocError>
+    ensures { IfOk result (λ is. IsTrue is
+        → Empties (tokens pointer.entry) (string_bytes left.now.piece)) }
+{
+    let Some((front, _last)) = pointer.split_back() else {
+        return Ok(false);
+    };
+    let empty = empty_value(alloc, left.is_array);
+    is_alone(alloc, left.piece.as_str(), front, &left.keys, &empty)
+}
+
+/// Returns an empty array or table.
+fn empty_value(alloc: Global, is_array: bool) -> Value
+    ensures { IsEmpty (view result) }
+{
+    if is_array {
+        Value::Array(Vec::new(alloc))
+    } else {
+        empty_table(alloc)
+    }
+}

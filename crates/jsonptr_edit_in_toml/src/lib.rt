@@ -1,0 +1,45 @@
+//! Edits a TOML document in its text, so that its comments and its layout stay.
+//!
+//! ```rust
+//! let text = "# The size\nsize = 3 # as ever\n";
+//! let edited = assign_in_toml_text(alloc, text, Pointer::parse("/size")?, 5.into())?;
+//! assert_eq!(rt; edited.as_str(), "# The size\nsize = 5 # as ever\n");
+//! ```
+//!
+//! - [`assign_in_toml_text`] and [`delete_in_toml_text`] edit at a pointer, as `assign` and `delete` do.
+//!   A document that cannot be edited in place is printed anew.
+//! - [`assign_in_place`] and [`delete_in_place`] do the same, in place or not at all.
+//!
+//! Each call makes two promises. *Meaning*: the new text reads as the document that the call on
+//! documents makes of the document that the old text reads as. *Bytes*: one piece of the text
+//! changes. What is replaced, put in or cut out reads, alone, as exactly the value.
+//!
+//! In the examples `rt` is the runtime that `main` and each test receive, and `alloc` is
+//! `rt.alloc()`, the allocator.
+#![tactic(auto)]
+
+mod add;
+mod alone;
+mod assign;
+mod check;
+mod cut;
+mod delete;
+mod edited;
+mod in_place;
+mod inline;
+mod items;
+mod keys;
+mod outline;
+mod part;
+mod piece;
+mod plan;
+mod remove;
+mod replace;
+mod same;
+mod skip;
+mod span;
+
+pub use assign::assign_in_toml_text;
+pub use delete::delete_in_toml_text;
+pub use edited::Edited;
+pub use in_place::{InPlaceError, assign_in_place, delete_in_place};

@@ -1,0 +1,221 @@
+//! How the headers and pairs of a text lie beside the tokens of a pointer. These are hints: no contract
+//! says that they are right.
+use crate::items::{Item, Kind, items_of};
+use crate::keys::{Ending, Route, enter_element, follow, pointer_of, push_token, route_of};
+use crate::span::{Span, skip_blanks, slice};
+use jsonptr::{Pointer, PointerBuf};
+use std::alloc::{AllocError, Global};
+
+/// How an item lies beside the tokens.
+#[derive(Clone, Copy, Debug, PartialEq, Eq)]
+pub enum Role {
+    /// It leads elsewhere.
+    Outside,
+    /// It is the header of a table that the tokens lead through.
+    Above,
+    /// It is the pair whose value the tokens lead into.
+    Through,
+    /// It is the pair whose value the tokens lead to.
+    Exact,
+    /// It is in the table or array that the tokens lead to.
+    Inside,
+}
+
+/// How an item lies beside the tokens.
+#[derive(Clone, Copy, Debug)]
+pub struct Trace {
+    /// How it lies.
+    pub role: Role,
+    /// How many tokens lead to the table of a pair, if they lead there.
+    pub table: Option<usize>,
+    /// How many tokens its keys lead along, with those of the header.
+    pub shared: usize,
+}
+
+/// The items of a text, and how each lies beside the tokens.
+#[derive(Debug, Drop)]
+pub struct Outline {
+    /// The tokens.
+    pub route: Route,
+    /// The items.
+    pub items: Vec<Item>,
+    /// How each of them lies.
+    pub traces: Vec<Trace>,
+}
+
+/// Returns the outline of the text for the pointer.
+pub fn outline_of(alloc: Global, text: &str, pointer: Pointer<'_>) -> Result<Outline, AllocError> {
+    let mut route = route_of(alloc, pointer)?;
+    let items = items_of(alloc, text)?;
+    let mut traces = Vec::with_capacity(alloc, items.len())?;
+    let mut header = Trace {
+        role: Role::Above,
+        table: None,
+        shared: 0,
+    };
+    for item in &items {
+        let trace = if item.kind == Kind::Pair {
+            trace_pair(alloc, text, item, &route, header)?
+        } else {
+            header = trace_header(alloc, text, item, &mut route)?;
+            header
+        };
+        traces.push(trace)?;
+    }
+    Ok(Outline {
+        route,
+        items,
+        traces,
+    })
+}
+
+/// Returns how a pair lies, below a header.
+fn trace_pair(
+    alloc: Global,
+    text: &str,
+    item: &Item,
+    route: &Route,
+    header: Trace,
+) -> Result<Trace, AllocError> {
+    if header.role != Role::Above {
+        return Ok(header);
+    }
+    let reach = follow(alloc, text, item.key, route, header.shared)?;
+    let role = match reach.ending {
+        Ending::Whole if reach.count == route.tokens.len() => Role::Exact,
+        Ending::Whole => Role::Through,
+        Ending::Deeper => Role::Inside,
+        Ending::Beside => Role::Outside,
+    };
+    Ok(Trace {
+        role,
+        table: Some(header.shared),
+        shared: reach.count,
+    })
+}
+
+/// Returns how a header lies. Counts the table if it is one of an array.
+fn trace_header(
+    alloc: Global,
+    text: &str,
+    item: &Item,
+    route: &mut Route,
+) -> Result<Trace, AllocError> {
+    let mut reach = follow(alloc, text, item.key, route, 0)?;
+    if reach.ending == Ending::Whole {
+        if item.kind == Kind::Element {
+            if let Some(tables) = route.counts.get_mut(reach.count) {
+                *tables = tables.saturating_add(1);
+            }
+        }
+        reach = enter_element(route, reach.count);
+    }
+    let role = match reach.ending {
+        Ending::Whole if reach.count < route.tokens.len() => Role::Above,
+        Ending::Beside => Role::Outside,
+        _ => Role::Inside,
+    };
+    Ok(Trace {
+        role,
+        table: None,
+        shared: reach.count,
+    })
+}
+
+impl Outline {
+    /// Returns how many tokens there are.
+    pub fn count(&self) -> usize {
+        self.route.tokens.len()
+    }
+
+    /// Returns how many tokens lead to the table of the item.
+    pub fn table_of(&self, index: usize) -> usize {
+        match self.traces.get(index) {
+            Some(trace) => trace.table.unwrap_or(0),
+            None => 0,
+        }
+    }
+
+    /// Returns the first item with the role.
+    pub fn first_with(&self, role: Role) -> Option<usize> {
+        self.traces.iter().position(|trace| trace.role == role)
+    }
+
+    /// Returns the numbers of the first and the last item in the value that the tokens lead to, if there
+    /// are such items and no others are between them.
+    pub fn run(&self) -> Option<Span> {
+        let from = self.first_with(Role::Inside)?;
+        let mut to = from;
+        for (index, trace) in self.traces.iter().enumerate() {
+            if trace.role == Role::Inside {
+                if index > to.saturating_add(1) {
+                    return None;
+                }
+                to = index;
+            }
+        }
+        Some(Span { from, to })
+    }
+
+    /// Returns the last item that leads along at least so many tokens.
+    pub fn last_sharing(&self, count: usize) -> Option<usize> {
+        self.traces.iter().rposition(|trace| trace.shared >= count)
+    }
+
+    /// Returns whether an item that is not between the two numbers leads along at least so many tokens.
+    pub fn is_mentioned(&self, count: usize, run: Span) -> bool {
+        self.traces.iter().enumerate().any(|(index, trace)| {
+            trace.shared >= count && (index < run.from || index > run.to)
+        })
+    }
+
+    /// Returns whether the table that so many tokens lead to has a header.
+    pub fn has_header(&self, count: usize) -> bool {
+        self.traces
+            .iter()
+            .any(|trace| trace.role == Role::Above && trace.shared == count)
+    }
+
+    /// Returns whether the token is an index of an array of tables.
+    pub fn is_element(&self, index: usize) -> bool {
+        self.route.counts.get(index).copied().unwrap_or(0) > 0
+    }
+
+    /// Returns the keys that lead along the first tokens in headers: an index of an array of tables is left out,
+    /// and is `-` at the end.
+    pub fn header_keys(&self, alloc: Global, count: usize) -> Result<PointerBuf, AllocError> {
+        let mut keys = PointerBuf::new(alloc);
+        for (index, token) in self.route.tokens.iter().take(count).enumerate() {
+            if !self.is_element(index) {
+                push_token(alloc, &mut keys, token.as_str())?;
+            } else if index.saturating_add(1) == count {
+                push_token(alloc, &mut keys, "-")?;
+            }
+        }
+        Ok(keys)
+    }
+
+    /// Returns a pointer of the tokens from the number on.
+    pub fn last_keys(&self, alloc: Global, from: usize) -> Result<PointerBuf, AllocError> {
+        self.keys_between(alloc, from, self.count())
+    }
+
+    /// Returns a pointer of the tokens between the two numbers.
+    pub fn keys_between(
+        &self,
+        alloc: Global,
+        from: usize,
+        to: usize,
+    ) -> Result<PointerBuf, AllocError> {
+        pointer_of(alloc, &self.route.tokens, from, to)
+    }
+}
+
+/// Returns the white space before an item on its line.
+pub fn indent_of<'t>(text: &'t str, item: &Item) -> &'t str {
+    let indent = Span {
+        from: item.line,
+        to: skip_blanks(text, item.line),
+    };
+    slice(text, indent)
+}

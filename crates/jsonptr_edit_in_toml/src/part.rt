@@ -1,0 +1,185 @@
+//! Where an element of an array or a member of an inline table is put in. These are hints: no contract
+//! says that they are right.
+use crate::inline::{Container, Part, container_of};
+use crate::keys::push_keys;
+use crate::outline::{Outline, Role};
+use crate::plan::{Addition, Child, Keys};
+use crate::span::{
+    Span, ends_line, is_comment_line, line_end, line_start, newline_of, skip_blanks, slice,
+};
+use std::alloc::{AllocError, Global};
+use toml::Value;
+use toml_parser::text::byte_at;
+
+/// A part that is added. It owns the texts.
+#[derive(Debug, Drop)]
+struct Added {
+    /// What stays between the two texts.
+    span: Span,
+    /// The text before that.
+    lead: String,
+    /// The text after that, up to the part.
+    gap: String,
+    /// The text after the part.
+    tail: &'static str,
+}
+
+/// Returns how a part is added to the array or inline table that so many tokens lead to.
+pub fn add_part(
+    alloc: Global,
+    text: &str,
+    outline: &Outline,
+    count: usize,
+    value: &Value,
+) -> Result<Option<Addition>, AllocError> {
+    let Some(container) = innermost(alloc, text, outline)? else {
+        return Ok(None);
+    };
+    let is_member = byte_at(text, container.span.from) == b'{';
+    let is_element = container.count == count && count.saturating_add(1) == outline.count();
+    if container.found.is_some() || !(is_member || is_element) {
+        return Ok(None);
+    }
+    let mut part = String::new(alloc);
+    let mut keys = Keys::None;
+    if is_member {
+        push_keys(
+            alloc,
+            &mut part,
+            &outline.route.tokens,
+            container.count,
+            outline.count(),
+        )?;
+        part.push_str(" = ")?;
+        keys = Keys::Some(outline.last_keys(alloc, container.count)?);
+    }
+    part.push_str(value.to_string(alloc)?.as_str())?;
+    let added = match container.parts.last() {
+        Some(last) => after_part(alloc, text, &container, last)?,
+        None => first_part(alloc, text, container.span, is_member)?,
+    };
+    Ok(Some(addition_of(added, part.as_str(), keys)?))
+}
+
+/// Returns the innermost array or inline table that the tokens lead to.
+fn innermost(
+    alloc: Global,
+    text: &str,
+    outline: &Outline,
+) -> Result<Option<Container>, AllocError> {
+    let Some(index) = outline.first_with(Role::Through) else {
+        return Ok(None);
+    };
+    match (outline.items.get(index), outline.traces.get(index)) {
+        (Some(item), Some(trace)) => {
+            container_of(alloc, text, item.value, &outline.route, trace.shared)
+        }
+        _ => Ok(None),
+    }
+}
+
+/// Returns the addition of the part, at the keys.
+fn addition_of(added: Added, part: &str, keys: Keys) -> Result<Addition, AllocError> {
+    let kept = added.span.to.saturating_sub(added.span.from);
+    let before = added.lead.len().saturating_add(kept);
+    let from = before.saturating_add(added.gap.len());
+    let mut rest = added.gap;
+    rest.push_str(part)?;
+    rest.push_str(added.tail)?;
+    Ok(Addition {
+        span: added.span,
+        lead: added.lead,
+        rest,
+        child: Child {
+            span: Span {
+                from,
+                to: from.saturating_add(part.len()),
+            },
+            keys,
+        },
+    })
+}
+
+/// Returns the first part of an array or inline table: on a line of its own, if the brackets are on
+/// several lines.
+fn first_part(
+    alloc: Global,
+    text: &str,
+    container: Span,
+    is_member: bool,
+) -> Result<Added, AllocError> {
+    let after = container.from.saturating_add(1);
+    let is_tight = byte_at(text, after) == b'}';
+    if !is_member && ends_line(text, after) {
+        let at = line_end(text, after);
+        let line = line_start(text, container.from);
+        let indent = Span {
+            from: line,
+            to: skip_blanks(text, line),
+        };
+        let mut gap = String::from_str(alloc, newline_of(text))?;
+        gap.push_str(slice(text, indent))?;
+        gap.push_str("    ")?;
+        return Ok(Added {
+            span: Span { from: at, to: at },
+            lead: String::new(alloc),
+            gap,
+            tail: ",",
+        });
+    }
+    Ok(Added {
+        span: Span {
+            from: after,
+            to: after,
+        },
+        lead: String::new(alloc),
+        gap: String::from_str(alloc, if is_member { " " } else { "" })?,
+        tail: if is_member && is_tight { " " } else { "" },
+    })
+}
+
+/// Returns a part after another one: on a line of its own, if that has one, or on the same line.
+fn after_part(
+    alloc: Global,
+    text: &str,
+    container: &Container,
+    last: &Part,
+) -> Result<Added, AllocError> {
+    let line = line_start(text, last.whole.from);
+    let after = last.comma.unwrap_or(last.whole.to);
+    let is_own_line = line > container.span.from && skip_blanks(text, line) == last.whole.from;
+    if !is_own_line || !ends_line(text, after) {
+        return beside_part(alloc, last);
+    }
+    let mut gap = String::from_str(alloc, newline_of(text))?;
+    let indent = Span {
+        from: line,
+        to: last.whole.from,
+    };
+    gap.push_str(slice(text, indent))?;
+    let end = line_end(text, after);
+    let (from, to) = if last.comma.is_some() {
+        (end, end)
+    } else if is_comment_line(text, after) {
+        (after, end)
+    } else {
+        (after, after)
+    };
+    Ok(Added {
+        span: Span { from, to },
+        lead: String::from_str(alloc, if last.comma.is_some() { "" } else { "," })?,
+        gap,
+        tail: if last.comma.is_some() { "," } else { "" },
+    })
+}
+
+/// Returns a part on the line of another one.
+fn beside_part(alloc: Global, last: &Part) -> Result<Added, AllocError> {
+    let at = last.comma.unwrap_or(last.whole.to);
+    Ok(Added {
+        span: Span { from: at, to: at },
+        lead: String::new(alloc),
+        gap: String::from_str(alloc, if last.comma.is_some() { " " } else { ", " })?,
+        tail: if last.comma.is_some() { "," } else { "" },
+    })
+}

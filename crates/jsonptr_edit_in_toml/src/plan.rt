@@ -1,0 +1,69 @@
+//! What an edit does to a text. These are hints: no contract says that they are right.
+use crate::span::Span;
+use jsonptr::PointerBuf;
+
+/// The keys at which a piece of a text holds a value.
+#[derive(Debug, Drop)]
+pub enum Keys {
+    /// The piece is a value alone.
+    None,
+    /// The piece is pairs and headers.
+    Some(PointerBuf),
+}
+
+/// A member or an element within a piece of a text.
+#[derive(Debug, Drop)]
+pub struct Child {
+    /// Where it is in the piece, without the comma beside it.
+    pub span: Span,
+    /// The keys that it is at.
+    pub keys: Keys,
+}
+
+/// The text of a value that is replaced.
+#[derive(Debug, Drop)]
+pub struct Replacement {
+    /// What is replaced.
+    pub span: Span,
+    /// The keys of the old value.
+    pub keys: Keys,
+    /// The new text.
+    pub piece: String,
+    /// The keys of the new value.
+    pub new_keys: Keys,
+}
+
+/// The text of a member or an element that is added.
+#[derive(Debug, Drop)]
+pub struct Addition {
+    /// White space and comments that stay, and come between the parts of the new text.
+    pub span: Span,
+    /// The first part of the new text.
+    pub lead: String,
+    /// The second part of the new text.
+    pub rest: String,
+    /// The child in the new text.
+    pub child: Child,
+}
+
+/// The text of a member or an element that is cut out.
+#[derive(Debug, Drop)]
+pub struct Removal {
+    /// What is cut out.
+    pub span: Span,
+    /// The child in it.
+    pub child: Child,
+    /// The text of the table or array that is left, if nothing else mentions it.
+    pub left: Option<Left>,
+}
+
+/// The text of a table or array that becomes empty.
+#[derive(Debug, Drop)]
+pub struct Left {
+    /// The text.
+    pub piece: String,
+    /// The keys that it is at.
+    pub keys: Keys,
+    /// Whether it is an array.
+    pub is_array: bool,
+}

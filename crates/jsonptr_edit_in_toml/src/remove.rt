@@ -1,0 +1,256 @@
+//! What is cut out to delete a value. These are hints: no contract says that they are right.
+use crate::inline::{Container, Part, container_of};
+use crate::items::Kind;
+use crate::keys::{push_keys, push_pointer};
+use crate::outline::{Outline, Role, indent_of, outline_of};
+use crate::plan::{Child, Keys, Left, Removal};
+use crate::span::{
+    Span, blank_lines_above, comments_above, ends_line, line_start, newline_of, next_line,
+    skip_blank_lines, skip_blanks, skip_own_comments, slice,
+};
+use jsonptr::{Pointer, PointerBuf};
+use std::alloc::{AllocError, Global};
+use toml_parser::text::byte_at;
+
+/// Returns what is cut out to delete the value that the pointer resolves to.
+pub fn plan_removal(
+    alloc: Global,
+    text: &str,
+    pointer: Pointer<'_>,
+) -> Result<Option<Removal>, AllocError> {
+    let outline = outline_of(alloc, text, pointer)?;
+    if outline.count() == 0 {
+        return Ok(None);
+    }
+    if let Some(index) = outline.first_with(Role::Exact) {
+        return remove_pair(alloc, text, &outline, index);
+    }
+    if let Some(index) = outline.first_with(Role::Through) {
+        return remove_part(alloc, text, &outline, index);
+    }
+    match outline.run() {
+        Some(run) => remove_run(alloc, text, &outline, run),
+        None => Ok(None),
+    }
+}
+
+/// Returns the removal of whole lines.
+fn lines(span: Span, keys: PointerBuf, left: Option<Left>) -> Removal {
+    let child = Child {
+        span: Span {
+            from: 0,
+            to: span.to.saturating_sub(span.from),
+        },
+        keys: Keys::Some(keys),
+    };
+    Removal { span, child, left }
+}
+
+/// Returns the removal of a pair, with its line.
+fn remove_pair(
+    alloc: Global,
+    text: &str,
+    outline: &Outline,
+    index: usize,
+) -> Result<Option<Removal>, AllocError> {
+    let Some(item) = outline.items.get(index) else {
+        return Ok(None);
+    };
+    let from = outline.table_of(index);
+    let keys = outline.last_keys(alloc, from)?;
+    let run = Span {
+        from: index,
+        to: index,
+    };
+    let span = Span {
+        from: item.line,
+        to: item.end,
+    };
+    if outline.is_mentioned(outline.count().saturating_sub(1), run)
+        || from.saturating_add(1) >= outline.count()
+    {
+        return Ok(Some(lines(with_comment(text, span), keys, None)));
+    }
+    let left = left_pair(alloc, text, outline, from, index)?;
+    Ok(Some(lines(span, keys, Some(left))))
+}
+
+/// Returns the lines with the comment directly above them, if no key follows it directly once they are
+/// cut out.
+fn with_comment(text: &str, span: Span) -> Span {
+    match byte_at(text, skip_blanks(text, span.to)) {
+        0 | b'\n' | b'\r' | b'#' | b'[' | b']' | b'}' => Span {
+            from: comments_above(text, span.from),
+            to: span.to,
+        },
+        _ => span,
+    }
+}
+
+/// Returns the pair of the table above the item, which is left empty.
+fn left_pair(
+    alloc: Global,
+    text: &str,
+    outline: &Outline,
+    from: usize,
+    index: usize,
+) -> Result<Left, AllocError> {
+    let count = outline.count().saturating_sub(1);
+    let is_array = outline.is_element(count);
+    let mut piece = String::new(alloc);
+    if let Some(item) = outline.items.get(index) {
+        piece.push_str(indent_of(text, item))?;
+    }
+    push_keys(alloc, &mut piece, &outline.route.tokens, from, count)?;
+    piece.push_str(if is_array { " = []" } else { " = {}" })?;
+    piece.push_str(newline_of(text))?;
+    Ok(Left {
+        piece,
+        keys: Keys::Some(outline.keys_between(alloc, from, count)?),
+        is_array,
+    })
+}
+
+/// Returns the header of the table above the item, which is left empty.
+fn left_header(
+    alloc: Global,
+    text: &str,
+    outline: &Outline,
+    index: usize,
+) -> Result<Left, AllocError> {
+    let count = outline.count().saturating_sub(1);
+    let mut piece = String::new(alloc);
+    if let Some(item) = outline.items.get(index) {
+        piece.push_str(indent_of(text, item))?;
+    }
+    let keys = outline.header_keys(alloc, count)?;
+    piece.push('[')?;
+    push_pointer(alloc, &mut piece, keys.as_ptr())?;
+    piece.push(']')?;
+    piece.push_str(newline_of(text))?;
+    Ok(Left {
+        piece,
+        keys: Keys::Some(keys),
+        is_array: false,
+    })
+}
+
+/// Returns the removal of the items of a table or an array of tables.
+fn remove_run(
+    alloc: Global,
+    text: &str,
+    outline: &Outline,
+    run: Span,
+) -> Result<Option<Removal>, AllocError> {
+    let (Some(first), Some(last)) = (outline.items.get(run.from), outline.items.get(run.to)) else {
+        return Ok(None);
+    };
+    let above = outline.count().saturating_sub(1);
+    let from = outline.table_of(run.from);
+    let is_pair = first.kind == Kind::Pair;
+    let keys = if is_pair {
+        outline.last_keys(alloc, from)?
+    } else {
+        outline.header_keys(alloc, outline.count())?
+    };
+    if above <= from || outline.is_mentioned(above, run) {
+        let span = section(text, first.line, last.end);
+        return Ok(Some(lines(span, keys, None)));
+    }
+    let left = if is_pair || outline.is_element(above) {
+        left_pair(alloc, text, outline, from, run.from)?
+    } else {
+        left_header(alloc, text, outline, run.from)?
+    };
+    let span = Span {
+        from: first.line,
+        to: last.end,
+    };
+    Ok(Some(lines(span, keys, Some(left))))
+}
+
+/// Returns the lines of a section, with the comment above it, and the blank lines after it or, at the end
+/// of the text, before it.
+fn section(text: &str, line: usize, end: usize) -> Span {
+    let from = comments_above(text, line);
+    let to = skip_blank_lines(text, skip_own_comments(text, end));
+    if to >= text.len() {
+        Span {
+            from: blank_lines_above(text, from),
+            to,
+        }
+    } else {
+        Span { from, to }
+    }
+}
+
+/// Returns the removal of an element of an array or a member of an inline table.
+fn remove_part(
+    alloc: Global,
+    text: &str,
+    outline: &Outline,
+    index: usize,
+) -> Result<Option<Removal>, AllocError> {
+    let (Some(item), Some(trace)) = (outline.items.get(index), outline.traces.get(index)) else {
+        return Ok(None);
+    };
+    let Some(container) = container_of(alloc, text, item.value, &outline.route, trace.shared)?
+    else {
+        return Ok(None);
+    };
+    let Some(found) = container.found else {
+        return Ok(None);
+    };
+    if found.count != outline.count() {
+        return Ok(None);
+    }
+    let span = part_span(text, &container, &found.part);
+    let is_element = found.part.key.from == found.part.key.to;
+    let child = Child {
+        span: Span {
+            from: found.part.whole.from.saturating_sub(span.from),
+            to: found.part.whole.to.saturating_sub(span.from),
+        },
+        keys: if is_element {
+            Keys::None
+        } else {
+            Keys::Some(outline.last_keys(alloc, container.count)?)
+        },
+    };
+    Ok(Some(Removal {
+        span,
+        child,
+        left: None,
+    }))
+}
+
+/// Returns what is cut out with a part: its line, if it has one of its own, or its comma.
+fn part_span(text: &str, container: &Container, part: &Part) -> Span {
+    let whole = part.whole;
+    let line = line_start(text, whole.from);
+    let after = part.comma.unwrap_or(whole.to);
+    let is_own_line = line > container.span.from && skip_blanks(text, line) == whole.from;
+    if is_own_line && ends_line(text, after) {
+        let span = Span {
+            from: line,
+            to: next_line(text, after),
+        };
+        return with_comment(text, span);
+    }
+    match container.parts.get(part.index.saturating_add(1)) {
+        Some(next) => Span {
+            from: whole.from,
+            to: after.max(skip_blanks(text, after).min(next.whole.from)),
+        },
+        None => match container.parts.get(part.index.saturating_sub(1)) {
+            Some(last) if part.index > 0 => Span {
+                from: last.whole.to,
+                to: whole.to,
+            },
+            _ => Span {
+                from: whole.from,
+                to: skip_blanks(text, after),
+            },
+        },
+    }
+}
