@@ -1,5 +1,5 @@
 pub mod AddingLemmas
+pub mod AlikeLemmas
 pub mod ChildLemmas
-pub mod LexLemmas
-pub mod LexSplit
+pub mod LeadingLemmas
 pub mod SideLemmas

@@ -1,4 +1,7 @@
+pub mod Alike
 pub mod Child
 pub mod Editing
+pub mod Leading
 pub mod PrivateEditing
+pub mod PrivateLeading
 pub mod Spacing

@@ -1,7 +1,9 @@
 //! The text of one child of an array or an object.
 ghost use Rattle.std.specs.Prelude.{◌≡◌, Some, OnOk, IfOk, IsTrue, option_map};
+ghost use Rattle.json.specs.Lex.{tokens};
 ghost use Rattle.serde_json.specs.Data.{Data, string};
 ghost use Rattle.serde_json.specs.Read.{read};
+ghost use Rattle.jsonptr_splice.specs.Alike.{Holds, HoldsIf};
 ghost use Rattle.jsonptr_splice.specs.Child.{IsValueText, IsMemberText, HaveOneComma, IsOneChild, IsReadAs};
 
 use crate::buffers::Buffers;
@@ -29,9 +31,11 @@ pub fn is_one_child(
     key: Option<&str>,
     value: Option<&str>,
 ) -> Result<bool, AllocError>
-    ensures { IfOk result (λ b. IsTrue b → (e : Data)
+    ensures child { IfOk result (λ b. IsTrue b → (e : Data)
         × IsReadAs (option_map (λ v. v.now) value.entry) e
         × IsOneChild (option_map (λ k. k.now) key.entry) e text.now) }
+    ensures holds { IfOk result
+        (λ b. IsTrue b → HoldsIf (option_map (λ v. v.now) value.entry) text.now) }
 {
     let Some(parts) = cut_at(text, extent.child.from, extent.child.to) else {
         return Ok(false);
@@ -68,8 +72,10 @@ fn is_member(
     key: &str,
     value: Option<&str>,
 ) -> Result<bool, AllocError>
-    ensures { IfOk result (λ b. IsTrue b → (e : Data)
+    ensures member { IfOk result (λ b. IsTrue b → (e : Data)
         × IsReadAs (option_map (λ v. v.now) value.entry) e × IsMemberText key.now e text.now) }
+    ensures holds { IfOk result
+        (λ b. IsTrue b → HoldsIf (option_map (λ v. v.now) value.entry) text.now) }
 {
     let bytes = text.as_bytes();
     let colon = trimmed_end(bytes, from).saturating_sub(1);
@@ -106,8 +112,10 @@ fn is_string(scratch: &mut Scratch, text: &str, content: &str) -> Result<bool, A
 /// Returns whether the text is that of a value, without white space around it: of the value of the
 /// other text, if one is given.
 fn is_value(buffers: &mut Buffers, text: &str, value: Option<&str>) -> Result<bool, AllocError>
-    ensures { IfOk result (λ b. IsTrue b → (e : Data)
+    ensures value { IfOk result (λ b. IsTrue b → (e : Data)
         × IsReadAs (option_map (λ v. v.now) value.entry) e × IsValueText e text.now) }
+    ensures holds { IfOk result
+        (λ b. IsTrue b → HoldsIf (option_map (λ v. v.now) value.entry) text.now) }
 {
     match value {
         Some(value) => is_value_of(buffers, text, value),
@@ -126,14 +134,17 @@ fn is_some_value(scratch: &mut Scratch, text: &str) -> Result<bool, AllocError>
     }
 }
 
-/// Returns whether the text is that of the same value as the other one, without white space around it.
+/// Returns whether the text has the same tokens as the other one, which is that of a value, and no
+/// white space around them.
 ///
 /// # Errors
 ///
 /// [`AllocError`] if there is no memory for the unescaped strings of a text.
 pub fn is_value_of(buffers: &mut Buffers, text: &str, other: &str) -> Result<bool, AllocError>
-    ensures { IfOk result (λ b. IsTrue b → (e : Data) × (read other.now ≡ Some e)
+    ensures value { IfOk result (λ b. IsTrue b → (e : Data) × (read other.now ≡ Some e)
         × IsValueText e text.now) }
+    ensures holds { IfOk result (λ b. IsTrue b → Holds other.now text.now) }
+    ensures same { IfOk result (λ b. IsTrue b → tokens text.now ≡ tokens other.now) }
 {
     match pass_both(buffers, text, other) {
         Ok(()) => Ok(is_trimmed(text)),
@@ -165,7 +176,8 @@ fn pass(scratch: &mut Scratch, text: &str) -> Result<(), CheckError>
 ///
 /// As [`pass`], and [`CheckError::Mismatch`] if the texts are not of one value.
 fn pass_both(buffers: &mut Buffers, text: &str, other: &str) -> Result<(), CheckError>
-    ensures { OnOk result ((d : Data) × (read text.now ≡ Some d) × (read other.now ≡ Some d)) }
+    ensures read { OnOk result ((d : Data) × (read text.now ≡ Some d) × (read other.now ≡ Some d)) }
+    ensures same { OnOk result (tokens text.now ≡ tokens other.now) }
 {
     let mut reader = Reader::new(text, &mut buffers.old)?;
     same_text(&mut buffers.value, other, &mut reader, MAX_DEPTH)?;

@@ -13,6 +13,7 @@ pub mod cut;
 mod decide;
 pub mod edit;
 pub mod layout;
+pub mod lead;
 pub mod locate;
 mod same;
 pub mod spacing;

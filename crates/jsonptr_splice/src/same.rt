@@ -1,10 +1,12 @@
 //! Reading the same value in two texts.
-ghost use Rattle.std.specs.Prelude.{◌≡◌, ◌<◌, ◌∷◌, length, Some, OnOk, IfOk, IsTrue};
+ghost use Rattle.std.specs.Prelude.{◌≡◌, ◌<◌, ◌∷◌, ◌++◌, length, Some, OnOk, IfOk, IsTrue};
 ghost use Rattle.json.specs.Json.{read_key};
+ghost use Rattle.json.specs.Lex.{tokens};
 ghost use Rattle.json.specs.Reads.{token_of};
 ghost use Rattle.serde_json.specs.Data.{Data, Items, Members};
 ghost use Rattle.serde_json.specs.Read.{read};
 ghost use Rattle.jsonptr_skim.specs.Reading.{Reads, ReadsItems, ReadsMembers};
+ghost use Rattle.jsonptr_splice.specs.Alike.{AreAlike};
 
 use crate::edit::CheckError;
 use json::{Invalid, Reader, Scratch, Token};
@@ -28,6 +30,7 @@ pub fn same(
 ) -> Result<(), Invalid>
     ensures ok { OnOk result ((d : Data) × Reads one_depth one.old d one.new
         × Reads two_depth two.old d two.new) }
+    ensures alike { OnOk result (AreAlike one.old one.new two.old two.new) }
     ensures one_shorter { OnOk result (length one.new < length one.old) }
     ensures two_shorter { OnOk result (length two.new < length two.old) }
 {
@@ -70,6 +73,7 @@ fn same_items(
 ) -> Result<(), Invalid>
     ensures ok { OnOk result ((ds : Items) × ReadsItems one_depth one.old ds one.new
         × ReadsItems two_depth two.old ds two.new) }
+    ensures alike { OnOk result (AreAlike one.old one.new two.old two.new) }
     ensures one_shorter { OnOk result (length one.new < length one.old) }
     ensures two_shorter { OnOk result (length two.new < length two.old) }
 {
@@ -100,6 +104,7 @@ fn same_members(
 ) -> Result<(), Invalid>
     ensures ok { OnOk result ((ms : Members) × ReadsMembers one_depth one.old ms one.new
         × ReadsMembers two_depth two.old ms two.new) }
+    ensures alike { OnOk result (AreAlike one.old one.new two.old two.new) }
     ensures one_shorter { OnOk result (length one.new < length one.old) }
     ensures two_shorter { OnOk result (length two.new < length two.old) }
 {
@@ -127,6 +132,7 @@ pub fn same_text(
 ) -> Result<(), CheckError>
     ensures ok { OnOk result ((d : Data) × (read text.now ≡ Some d)
         × Reads depth reader.old d reader.new) }
+    ensures same { OnOk result (reader.old ≡ tokens text.now ++ reader.new) }
     ensures shorter { OnOk result (length reader.new < length reader.old) }
 {
     let mut value = Reader::new(text, scratch)?;

@@ -5,6 +5,8 @@ use Rattle.json.proofs.Grammar.{read_key-shorter}
 use Rattle.serde_json.specs.Data.{array, object, no_items, no_members, put}
 use Rattle.jsonptr_skim.specs.PrivateReading.{with_items_before}
 use Rattle.jsonptr_skim.proofs.ReadingLemmas.{items_begin, items_go_on, items_close, members_begin, members_go_on, members_close, reads_array, reads_object, a_key, no_key}
+use Rattle.jsonptr_splice.specs.Alike.{AreAlike}
+use Rattle.jsonptr_splice.proofs.AlikeLemmas.{alike_begin, alike_token, alike_more, alike_opened, alike_items_closed, alike_key, alike_members_closed}
 use Rattle.jsonptr_splice.proofs.SideLemmas.{both_scalar, no_name}
 use Rattle.jsonptr_splice.proofs.same.+same.Goals as goal
 
@@ -28,7 +30,7 @@ pub same-returns-then-is_scalar-clause-ok : goal.same-returns-then-is_scalar-cla
 same-returns-then-is_scalar-clause-ok t c = both_scalar c.args.one_depth c.args.two_depth c.args.one.now c.same_token.new.one c.args.two.now c.same_token.new.two c.in_ok-token.token c.in_ok-token.ensures.one c.in_ok-token.ensures.two c.in_default.not-BeginArray c.in_default.not-BeginObject (sym c.is_scalar.ensures ∙ c.if-is_scalar.true)
 
 pub same_items-items-init : goal.same_items-items-init
-same_items-items-init t c = ([], items_begin c.args.one_depth c.args.one.now, items_begin c.args.two_depth c.args.two.now, omega arith, omega arith)
+same_items-items-init t c = ([], items_begin c.args.one_depth c.args.one.now, items_begin c.args.two_depth c.args.two.now, omega arith, omega arith, alike_begin c.args.one.now c.args.two.now)
 
 pub same_items-items-preserved : goal.same_items-items-preserved
 same_items-items-preserved t c =
@@ -45,6 +47,9 @@ same_items-items-preserved t c =
       items_go_on c.args.two_depth c.args.two.now c.items.two c.take_end_array-in-items.new.self c.same.new.two i.0 r.0 i.2 also r.2 less_too,
       omega (arith, i.3),
       omega (arith, i.4),
+      alike_more c.args.one.now c.items.one c.same.new.one c.args.two.now c.items.two c.same.new.two i.5
+          (subst (λ (ts : List Token). AreAlike ts c.same.new.one c.items.two c.same.new.two) more.1
+          (subst (λ (ts : List Token). AreAlike c.take_end_array.new.self c.same.new.one ts c.same.new.two) also.1 c.in_ok-same.ensures.alike)),
     )
 
 pub same_items-returns-clause-ok : goal.same_items-returns-clause-ok
@@ -56,7 +61,7 @@ same_items-returns-clause-ok t c =
     )
 
 pub same_members-members-init : goal.same_members-members-init
-same_members-members-init t c = (no_members, members_begin c.args.one_depth c.args.one.now, members_begin c.args.two_depth c.args.two.now, omega arith, omega arith)
+same_members-members-init t c = (no_members, members_begin c.args.one_depth c.args.one.now, members_begin c.args.two_depth c.args.two.now, omega arith, omega arith, alike_begin c.args.one.now c.args.two.now)
 
 pub same_members-members-preserved : goal.same_members-members-preserved
 same_members-members-preserved t c =
@@ -73,6 +78,8 @@ same_members-members-preserved t c =
       members_go_on c.args.two_depth c.args.two.now c.members.two c.same_key.new.reader c.same.new.two c.in-Some.name.now r.0 i.0 i.2 twin r.2 (omega (arith, less_too, passed_too)),
       omega (arith, i.3, less, passed),
       omega (arith, i.4, less_too, passed_too),
+      alike_more c.args.one.now c.members.one c.same.new.one c.args.two.now c.members.two c.same.new.two i.5
+          (alike_more c.members.one c.next_key.new.self c.same.new.one c.members.two c.same_key.new.reader c.same.new.two (alike_key c.in-Some.name.now c.members.one c.next_key.new.self c.members.two c.same_key.new.reader named twin) c.in_ok-same.ensures.alike),
     )
 
 pub same_members-returns-clause-ok : goal.same_members-returns-clause-ok
@@ -82,3 +89,30 @@ same_members-returns-clause-ok t c =
       members_close c.args.one_depth c.args.one.now c.members.one c.next_key.new.self i.0 i.1 (no_key c.in_ok-name.field-0 c.members.one c.next_key.new.self c.in_ok-name.ensures.value c.in_default.not-Some),
       members_close c.args.two_depth c.args.two.now c.members.two c.next_key-2.new.self i.0 i.2 (no_name c.in_ok-next_key.field-0 c.members.two c.next_key-2.new.self c.is_some.result c.in_ok-next_key.ensures.value c.is_some.ensures c.if-is_some.false),
     )
+
+pub same-returns-in_ok-same_items-in-BeginArray-clause-alike : goal.same-returns-in_ok-same_items-in-BeginArray-clause-alike
+same-returns-in_ok-same_items-in-BeginArray-clause-alike t c =
+    alike_opened Token.begin_array c.args.one.now c.same_token.new.one c.same_items.new.one c.args.two.now c.same_token.new.two c.same_items.new.two
+    (c.in_ok-token.ensures.one ∙ ap (λ k. token_of k ∷ c.same_token.new.one) c.in-BeginArray.is) (c.in_ok-token.ensures.two ∙ ap (λ k. token_of k ∷ c.same_token.new.two) c.in-BeginArray.is) c.in_ok-same_items-in-BeginArray.ensures.alike
+
+pub same-returns-in_ok-same_members-in-BeginObject-clause-alike : goal.same-returns-in_ok-same_members-in-BeginObject-clause-alike
+same-returns-in_ok-same_members-in-BeginObject-clause-alike t c =
+    alike_opened Token.begin_object c.args.one.now c.same_token.new.one c.same_members.new.one c.args.two.now c.same_token.new.two c.same_members.new.two
+    (c.in_ok-token.ensures.one ∙ ap (λ k. token_of k ∷ c.same_token.new.one) c.in-BeginObject.is) (c.in_ok-token.ensures.two ∙ ap (λ k. token_of k ∷ c.same_token.new.two) c.in-BeginObject.is) c.in_ok-same_members-in-BeginObject.ensures.alike
+
+pub same-returns-then-is_scalar-clause-alike : goal.same-returns-then-is_scalar-clause-alike
+same-returns-then-is_scalar-clause-alike t c = alike_token (token_of c.in_ok-token.token) c.args.one.now c.same_token.new.one c.args.two.now c.same_token.new.two c.in_ok-token.ensures.one c.in_ok-token.ensures.two
+
+pub same_items-returns-clause-alike : goal.same_items-returns-clause-alike
+same_items-returns-clause-alike t c =
+    let i = c.items.invariant in
+    alike_more c.args.one.now c.items.one c.take_end_array.new.self c.args.two.now c.items.two c.take_end_array-2.new.self i.5
+    (alike_items_closed c.items.one c.take_end_array.new.self c.items.two c.take_end_array-2.new.self c.items-test.ensures c.if-not-take_end_array.ensures)
+
+pub same_members-returns-clause-alike : goal.same_members-returns-clause-alike
+same_members-returns-clause-alike t c =
+    let i = c.members.invariant in
+    alike_more c.args.one.now c.members.one c.next_key.new.self c.args.two.now c.members.two c.next_key-2.new.self i.5
+    (alike_members_closed c.members.one c.next_key.new.self c.members.two c.next_key-2.new.self
+    (no_key c.in_ok-name.field-0 c.members.one c.next_key.new.self c.in_ok-name.ensures.value c.in_default.not-Some)
+    (no_name c.in_ok-next_key.field-0 c.members.two c.next_key-2.new.self c.is_some.result c.in_ok-next_key.ensures.value c.is_some.ensures c.if-is_some.false))

@@ -1,6 +1,7 @@
 use Rattle.std.proofs.Common.{◌+◌, ◌*◌, ◌≤◌, List, length}
 use Rattle.serde_json.specs.Data.{Data, Members}
 use Rattle.jsonptr_skim.specs.PrivateReading.{ItemsSoFar, MembersSoFar}
+use Rattle.jsonptr_splice.specs.Alike.{AreAlike}
 use Rattle.jsonptr_splice.proofs.same.+same.Given as goal
 
 abbrev pub decreases-same : goal.decreases-same
@@ -19,6 +20,7 @@ invariant-same_items-items l =
     × ItemsSoFar l.two_depth l.initial.two l.two before
     × (length l.one ≤ length l.initial.one)
     × (length l.two ≤ length l.initial.two)
+    × AreAlike l.initial.one l.one l.initial.two l.two
 
 abbrev pub decreases-same_items-items : goal.decreases-same_items-items
 decreases-same_items-items l = length l.one
@@ -30,6 +32,7 @@ invariant-same_members-members l =
     × MembersSoFar l.two_depth l.initial.two l.two found
     × (length l.one ≤ length l.initial.one)
     × (length l.two ≤ length l.initial.two)
+    × AreAlike l.initial.one l.one l.initial.two l.two
 
 abbrev pub decreases-same_members-members : goal.decreases-same_members-members
 decreases-same_members-members l = length l.one
