@@ -74,6 +74,8 @@ def cases():
     yield Case(("set", "--compact", "/c", "null"), TEXT, '{"b":1.0,"a/b":[1,2],"c":null}\n')
     yield Case(("set", "--sort-keys", "/a", "1.10"), TEXT, '{"a":1.1,"a/b":[1,2],"b":1.0}\n')
     yield Case(("set", "--pretty", "", "[[]]"), "1", "[\n  []\n]\n")
+    yield from own_texts()
+    yield from formats()
     yield Case(("delete", "/b"), TEXT, '{\n  "a/b": [1, 2]\n}\n')
     yield Case(("delete", "--compact", "/a~1b/0"), TEXT, '{"b":1.0,"a/b":[2]}\n')
     yield from on_paths()
@@ -91,6 +93,46 @@ def cases():
     yield Case(("escape", "--", "-x"), "", "-x\n")
     yield Case(("unescape", "a~1b~0c"), "", "a/b~c\n")
     yield from failing()
+
+
+def own_texts():
+    """A value that is given keeps its text: its order, its numbers, and its repeated members."""
+    given = '{ "z": 1.10, "a": [1e5, 123456789012345678901234], "z": -0 }'
+    flat = '{"z":1.10,"a":[1e5,123456789012345678901234],"z":-0}'
+    yield Case(("set", "/b", given), '{"b": 1}', f'{{"b": {flat}}}')
+    yield Case(("set", "/b", given), "{}", f'{{"b":{flat}}}')
+    yield Case(("set", "/b/0/c", given), "{}", f'{{"b":[{{"c":{flat}}}]}}')
+    yield Case(("set", "/b/c/-", given), '{"b": 1}', f'{{"b": {{"c":[{flat}]}}}}')
+    yield Case(("set", "/-", given), "[0, 1]", f"[0, 1, {flat}]")
+    yield Case(("set", "", given), "[0, 1]\n", f"{flat}\n")
+    lines = '{\n    "z": 1.10,\n    "a": [\n      1e5,\n      123456789012345678901234\n    ],\n    "z": -0\n  }'
+    yield Case(("set", "/c", given), TEXT, TEXT.replace("2]", f'2],\n  "c": {lines}'))
+    yield Case(("set", "--compact", "/c", given), '{"b": 1.0}', f'{{"b":1.0,"c":{flat}}}\n')
+    yield Case(("set", "--lines", "/c", given), '{"b": 1.0}\n{}\n', f'{{"b": 1.0, "c": {flat}}}\n{{"c":{flat}}}\n')
+    deep = "[" * 126 + "1.10" + "]" * 126
+    yield Case(("set", "/a", deep), "{}", f'{{"a":{deep}}}')
+    failed = "jp: standard input: the document would nest deeper than 127\n"
+    yield Case(("set", "/a/b", deep), "{}", "", f"{failed}/a/b\n", 1)
+
+
+def formats():
+    """A document that is laid out anew."""
+    text = '{"b": 1.10,"a":[1e5, {}],"b":"\\u00e9"}'
+    yield Case(("format",), text, '{\n  "b": 1.10,\n  "a": [\n    1e5,\n    {}\n  ],\n  "b": "é"\n}\n')
+    yield Case(("format", "--pretty"), "[[ ]]", "[\n  []\n]\n")
+    yield Case(("format", "--compact"), text, '{"b":1.10,"a":[1e5,{}],"b":"é"}\n')
+    yield Case(("format", "--sort-keys"), '{"b": 1.10,"a":[]}', '{\n  "a": [],\n  "b": 1.1\n}\n')
+    yield Case(("format", "--sort-keys", "--compact"), '{"b": 1.10,"a":[]}', '{"a":[],"b":1.1}\n')
+    yield Case(("format", "--indent", "4"), '{"a":[1.10]}', '{\n    "a": [\n        1.10\n    ]\n}\n')
+    yield Case(("format", "--indent", "1"), '["  \\n  "]', '[\n "  \\n  "\n]\n')
+    yield Case(("format", "--indent", "tab", "--sort-keys"), '{"b":{"c":1.0},"a":2}', '{\n\t"a": 2,\n\t"b": {\n\t\t"c": 1.0\n\t}\n}\n')
+    yield Case(("format", "--lines"), "[ 1.10 ]\n{ }\n", "[1.10]\n{}\n")
+    yield Case(("get", "--indent", "3", "/a"), '{"a":[1.10]}', "[\n   1.10\n]\n")
+    yield Case(("set", "--indent", "tab", "/b", "1e5"), '{"a":[1.10]}', '{\n\t"a": [\n\t\t1.10\n\t],\n\t"b": 1e5\n}\n')
+    yield Case(("delete", "--indent", "1", "/b"), '{"a":1.10,"b":2}', '{\n "a": 1.10\n}\n')
+    yield Case(("get", "--indent", "16", "--default", "[1]", "/b"), "{}", f"[\n{' ' * 16}1\n]\n")
+    yield Case(("format",), "{", "", "jp: standard input: not JSON: EOF while parsing at line 1 column 1\n", 3)
+    yield Case(("format", "/dev/null.toml"), "", "", "jp: format: not on TOML\n", 2)
 
 
 def on_paths():
@@ -151,6 +193,12 @@ def usage():
     yield ("get", "/a", "b", "c")
     yield ("get", "--raw", "--pretty", "/a")
     yield ("get", "--raw", "--sort-keys", "/a")
+    yield ("get", "--raw", "--indent", "2", "/a")
+    yield ("get", "--compact", "--indent", "2", "/a")
+    yield ("get", "--lines", "--indent", "2", "/a")
+    for indent in ["0", "17", "-1", "x", "", "Tab"]:
+        yield ("format", "--indent", indent)
+    yield ("format", "f", "g")
     yield ("get", "--strict", "/a")
     yield ("get", "--in-place", "/a", "f")
     yield ("set", "/a")

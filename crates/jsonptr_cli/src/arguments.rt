@@ -20,6 +20,7 @@ pub fn command<'a>(alloc: Global) -> Result<Command<'a>, AllocError> {
         .subcommand(paths(alloc)?)?
         .subcommand(from_paths(alloc)?)?
         .subcommand(patch(alloc)?)?
+        .subcommand(format(alloc)?)?
         .subcommand(diff(alloc)?)?
         .subcommand(tokens(alloc)?)?
         .subcommand(escape(alloc)?)?
@@ -40,6 +41,7 @@ fn get<'a>(alloc: Global) -> Result<Command<'a>, AllocError> {
         .arg(
             arg!(in alloc; --raw "Prints a string without quotes")
                 .conflicts_with("pretty")?
+                .conflicts_with("indent")?
                 .conflicts_with("sort-keys")?,
         )?
         .arg(toml_flag(alloc))?;
@@ -107,6 +109,14 @@ fn patch<'a>(alloc: Global) -> Result<Command<'a>, AllocError> {
                 .conflicts_with("lines")?,
         )?
         .arg(reformat(alloc)?)?;
+    with_lines(alloc, with_in_place(alloc, with_order(alloc, command)?)?)
+}
+
+/// Returns the command `format`.
+fn format<'a>(alloc: Global) -> Result<Command<'a>, AllocError> {
+    let command = Command::new(alloc, "format")
+        .about("Prints the document with a line for each member and element")
+        .arg(file(alloc))?;
     with_lines(alloc, with_in_place(alloc, with_order(alloc, command)?)?)
 }
 
@@ -178,21 +188,27 @@ fn with_layout<'a>(alloc: Global, command: Command<'a>) -> Result<Command<'a>, A
 
 /// Adds the flags for the layout of a text, and for the order of its members.
 fn with_order<'a>(alloc: Global, command: Command<'a>) -> Result<Command<'a>, AllocError> {
-    with_layout(alloc, command)?.arg(
-        Arg::new(alloc, "sort-keys")
-            .long("sort-keys")
-            .help("Sorts the members; prints without white space, or as --pretty does")
-            .action(ArgAction::SetTrue),
-    )
+    with_layout(alloc, command)?
+        .arg(
+            Arg::new(alloc, "sort-keys")
+                .long("sort-keys")
+                .help("Sorts the members; prints without white space, or as --pretty does")
+                .action(ArgAction::SetTrue),
+        )?
+        .arg(
+            arg!(in alloc; --indent <N> "Prints as --pretty does, and indents by N spaces, 1 to 16, or by tab").conflicts_with(
+                "compact",
+            )?,
+        )
 }
 
 /// Adds the flags for one document a line.
 fn with_lines<'a>(alloc: Global, command: Command<'a>) -> Result<Command<'a>, AllocError> {
     command
         .arg(
-            arg!(in alloc; --lines "Takes each line as a document, and prints each result as a line").conflicts_with(
-                "pretty",
-            )?,
+            arg!(in alloc; --lines "Takes each line as a document, and prints each result as a line")
+                .conflicts_with("pretty")?
+                .conflicts_with("indent")?,
         )?
         .arg(
             arg!(in alloc; --strict "Stops at the first line at fault; needs --lines").requires_arg(

@@ -5,16 +5,19 @@ use crate::inverse::patch_with_inverse;
 use crate::output::{print_line, print_text};
 use crate::paths::{from_paths, paths};
 use crate::problem::{FILE, NOT_APPLIED, NOT_JSON, Problem, USAGE};
-use crate::task::{layout_of, run_task};
+use crate::style::{layout_of, style_of};
+use crate::task::{run_styled, run_task};
 use crate::toml_file::is_toml;
 use crate::{arguments, toml_file};
 use clap::error::ErrorKind;
 use clap::{ArgMatches, Error};
 use jsonptr::{Pointer, Token};
+use jsonptr_edit_in_text::RawValue;
 use jsonptr_filter::difference::difference_of;
 use jsonptr_filter::layout::{Layout, show};
 use jsonptr_filter::patching::operations_of;
 use jsonptr_filter::task::Task;
+use jsonptr_in_text::InTextError;
 use serde_json::Value;
 use std::alloc::Global;
 use std::borrow::CowStr;
@@ -66,6 +69,7 @@ fn run_command(rt: &HostRuntime, name: &str, matches: &ArgMatches<'_>) -> Result
         "paths" => paths(rt, matches),
         "from-paths" => from_paths(rt, matches),
         "patch" => patch(rt, matches),
+        "format" => format(rt, matches),
         "diff" => diff(rt, matches),
         "tokens" => tokens(rt, matches),
         "escape" => escape(rt, matches),
@@ -97,7 +101,7 @@ fn set(rt: &HostRuntime, matches: &ArgMatches<'_>) -> Result<u8, Problem> {
     if is_toml(matches) {
         return toml_file::set(rt, matches, pointer, argument(matches, "JSON"));
     }
-    let value = value_of(alloc, "JSON", argument(matches, "JSON"))?;
+    let value = raw_value_of(alloc, "JSON", argument(matches, "JSON"))?;
     run_task(rt, matches, Task::Set(pointer, value), text)
 }
 
@@ -131,6 +135,37 @@ fn patch(rt: &HostRuntime, matches: &ArgMatches<'_>) -> Result<u8, Problem> {
             None => run_task(rt, matches, Task::Patch(document), ""),
         },
         Err(failure) => Err(Problem::of_patch(alloc, name_of(Some(name)), &document, failure)),
+    }
+}
+
+/// Lays a document out anew.
+fn format(rt: &HostRuntime, matches: &ArgMatches<'_>) -> Result<u8, Problem> {
+    let alloc = rt.alloc();
+    if let Some(file) = matches.get_str("FILE") {
+        if file.ends_with(".toml") {
+            return Err(Problem::new(alloc, USAGE, "format", "not on TOML"));
+        }
+    }
+    let mut style = style_of(alloc, matches)?;
+    style.layout = format_layout(style.layout, matches);
+    run_styled(rt, matches, Task::Get(Pointer::root(), None), style, "")
+}
+
+/// Returns how a document is laid out anew: on lines, if no flag says otherwise.
+fn format_layout(layout: Layout, matches: &ArgMatches<'_>) -> Layout {
+    let is_flat = matches.get_flag("lines") || matches.get_flag("compact");
+    match layout {
+        Layout::Kept => if is_flat {
+            Layout::Compact
+        } else {
+            Layout::Pretty
+        },
+        Layout::Sorted => if is_flat {
+            Layout::Sorted
+        } else {
+            Layout::SortedPretty
+        },
+        layout => layout,
     }
 }
 
@@ -215,6 +250,15 @@ fn pointer_of<'a>(alloc: Global, text: &'a str) -> Result<Pointer<'a>, Problem> 
     match Pointer::parse(text) {
         Ok(pointer) => Ok(pointer),
         Err(error) => Err(Problem::of_pointer(alloc, text, error)),
+    }
+}
+
+/// Parses an argument as a JSON text, and keeps the text.
+fn raw_value_of(alloc: Global, name: &str, text: &str) -> Result<RawValue, Problem> {
+    match RawValue::parse(alloc, text) {
+        Ok(value) => Ok(value),
+        Err(InTextError::Memory(_)) => Err(Problem::Memory),
+        Err(_) => Err(Problem::of_bytes(alloc, name, text.as_bytes())),
     }
 }
 

@@ -4,7 +4,8 @@ use crate::in_place::{open_file, replace_text};
 use crate::input::{is_standard, name_of, read_all};
 use crate::output::print_text;
 use crate::problem::{Problem, USAGE};
-use crate::task::{Style, document_problem, edited, style_of};
+use crate::style::{Style, style_of};
+use crate::task::{document_problem, edited};
 use crate::written::Written;
 use clap::ArgMatches;
 use jsonptr_filter::failure::Failure;
@@ -46,7 +47,7 @@ pub fn patch_with_inverse(
     let patching = Patching {
         name: name_of(file),
         patch,
-        style: style_of(matches),
+        style: style_of(rt.alloc(), matches)?,
         undo,
     };
     match file {

@@ -12,6 +12,7 @@ mod inverse;
 mod output;
 mod paths;
 mod problem;
+mod style;
 mod task;
 mod toml_file;
 mod written;

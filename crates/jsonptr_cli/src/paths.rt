@@ -3,7 +3,7 @@
 use crate::input::{name_of, open};
 use crate::output::Output;
 use crate::problem::Problem;
-use crate::task::layout_of;
+use crate::style::layout_of;
 use crate::toml_file::{self, is_toml};
 use clap::ArgMatches;
 use jsonptr_filter::failure::Failure;

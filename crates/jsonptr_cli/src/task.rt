@@ -4,6 +4,7 @@ use crate::in_place::{open_file, replace_text};
 use crate::input::{is_standard, name_of, open, problem, read_all};
 use crate::output::{Output, print_text};
 use crate::problem::{NOT_APPLIED, Problem, USAGE};
+use crate::style::{Style, indented, style_of};
 use clap::ArgMatches;
 use jsonptr_filter::document::{document_result, run_document};
 use jsonptr_filter::failure::Failure;
@@ -17,46 +18,6 @@ use std::io::{BufReader, BufWriter};
 /// The bytes that are read or written at once where each line is a document.
 const BLOCK: usize = 65_536;
 
-/// Returns how results are printed.
-pub fn layout_of(matches: &ArgMatches<'_>) -> Layout {
-    if matches.get_flag("raw") {
-        Layout::Raw
-    } else if matches.get_flag("sort-keys") {
-        sorted(matches)
-    } else if matches.get_flag("pretty") {
-        Layout::Pretty
-    } else if matches.get_flag("compact") {
-        Layout::Compact
-    } else {
-        Layout::Kept
-    }
-}
-
-/// Returns how results with sorted members are printed.
-fn sorted(matches: &ArgMatches<'_>) -> Layout {
-    if matches.get_flag("pretty") {
-        Layout::SortedPretty
-    } else {
-        Layout::Sorted
-    }
-}
-
-/// How the document is edited.
-#[derive(Clone, Copy)]
-pub struct Style {
-    /// How the result is printed.
-    pub layout: Layout,
-    /// Whether the document is printed anew if it cannot be edited in place.
-    pub reformats: bool,
-}
-
-/// Returns how the document is edited.
-pub fn style_of(matches: &ArgMatches<'_>) -> Style {
-    let layout = layout_of(matches);
-    let reformats = matches.get_flag("reformat");
-    Style { layout, reformats }
-}
-
 /// Runs the task as the flags say, and returns the exit status.
 pub fn run_task(
     rt: &HostRuntime,
@@ -64,8 +25,19 @@ pub fn run_task(
     task: Task<'_>,
     pointer: &str,
 ) -> Result<u8, Problem> {
+    let style = style_of(rt.alloc(), matches)?;
+    run_styled(rt, matches, task, style, pointer)
+}
+
+/// Runs the task as the flags say, with results in this style, and returns the exit status.
+pub fn run_styled(
+    rt: &HostRuntime,
+    matches: &ArgMatches<'_>,
+    task: Task<'_>,
+    style: Style,
+    pointer: &str,
+) -> Result<u8, Problem> {
     let file = matches.get_str("FILE");
-    let style = style_of(matches);
     if matches.get_flag("check") {
         check(rt, file, &task)
     } else if matches.get_flag("lines") {
@@ -97,6 +69,9 @@ fn on_document(
     pointer: &str,
 ) -> Result<u8, Problem> {
     let alloc = rt.alloc();
+    if style.indent.is_some() {
+        return print_indented(rt, file, task, style, pointer);
+    }
     let mut input = open(rt, file)?;
     let mut output = Output::new(rt);
     let mut bytes = Vec::new(alloc);
@@ -113,6 +88,25 @@ fn on_document(
         Err(Failure::Write) => Err(output.problem(alloc)),
         Err(Failure::NotInPlace) if style.reformats => {
             print_anew(rt, name_of(file), task, &bytes, pointer)
+        }
+        Err(failure) => Err(document_problem(alloc, name_of(file), pointer, &bytes, failure)),
+    }
+}
+
+/// Runs the task on one document, and prints the result with the indentation of the style.
+fn print_indented(
+    rt: &HostRuntime,
+    file: Option<&str>,
+    task: &Task<'_>,
+    style: Style,
+    pointer: &str,
+) -> Result<u8, Problem> {
+    let alloc = rt.alloc();
+    let bytes = read_all(rt, file)?;
+    match edited(alloc, task, style, &bytes) {
+        Ok(new) => {
+            print_text(rt, new.as_str())?;
+            Ok(0)
         }
         Err(failure) => Err(document_problem(alloc, name_of(file), pointer, &bytes, failure)),
     }
@@ -171,10 +165,11 @@ pub fn edited(
     bytes: &[u8],
 ) -> Result<String, Failure> {
     match document_result(alloc, task, style.layout, bytes) {
+        Ok(new) => indented(alloc, style, new),
         Err(Failure::NotInPlace) if style.reformats => {
             document_result(alloc, task, Layout::Compact, bytes)
         }
-        result => result,
+        Err(failure) => Err(failure),
     }
 }
 

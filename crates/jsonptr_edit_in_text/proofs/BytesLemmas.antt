@@ -18,6 +18,8 @@ use Rattle.jsonptr_skim.specs.Search as skim
 use Rattle.jsonptr_skim.specs.Search.{Choice}
 use Rattle.jsonptr_in_text.specs.InText.{FindsInText}
 use Rattle.jsonptr_in_text.specs.Selecting.{IsChoiceOf}
+use Rattle.jsonptr_splice.specs.Alike.{Holds}
+use Rattle.jsonptr_splice.proofs.AlikeLemmas.{holds_within}
 use Rattle.jsonptr_splice.specs.Editing.{InsertsItem, AddsMember, AddsElement, ChangesChild, Makes}
 use Rattle.jsonptr_splice.specs.declared.edit.Child.{Child}
 use Rattle.jsonptr_splice.specs.declared.edit.Edit.TheVariants as edit
@@ -49,27 +51,33 @@ found_is t tokens d e same h = subst (FindsInText t tokens) same h
 
 -- ---- a value replaced
 
-pub replaced : (old new was piece flat : Text) (tokens : List Text) → Splices old new was piece → ReachedInText old new tokens (Trades was flat) → IsTrimmed was → ((e : Data) × (read flat ≡ Some e) × IsValueText e piece) → ReplacesByText old new tokens flat
-replaced old new was piece flat tokens splices h trimmed p = (
+-- what the piece holds, the new text holds
+holds_new : (old new was piece flat : Text) → Splices old new was piece → Holds flat piece → Holds flat new
+holds_new old new was piece flat splices h = holds_within flat piece new splices.before splices.after splices.new_is h
+
+pub replaced : (old new was piece flat : Text) (tokens : List Text) → Splices old new was piece → ReachedInText old new tokens (Trades was flat) → IsTrimmed was → ((e : Data) × (read flat ≡ Some e) × IsValueText e piece) → Holds flat piece → ReplacesByText old new tokens flat
+replaced old new was piece flat tokens splices h trimmed p holds = (
   p.0,
   p.1,
   record { was = was; piece = piece; value = h.4.at; splices = splices; found = found_old old new tokens (Trades was flat) h; whole = record { reads = h.4.changes.0; trimmed = trimmed }; made = p.2 },
+  holds_new old new was piece flat splices holds,
 )
 
-pub replaced_scalar : (old new was piece flat : Text) (tokens : List Text) (d : Data) → Splices old new was piece → ReachedInText old new tokens (Trades was flat) → IsTrimmed was → ((e : Data) × (read flat ≡ Some e) × IsValueText e piece) → read was ≡ Some d → IsScalar d
+pub replaced_scalar : (old new was piece flat : Text) (tokens : List Text) (d : Data) → Splices old new was piece → ReachedInText old new tokens (Trades was flat) → IsTrimmed was → ((e : Data) × (read flat ≡ Some e) × IsValueText e piece) → Holds flat piece → read was ≡ Some d → IsScalar d
     → ReplacesScalarByText old new tokens flat
-replaced_scalar old new was piece flat tokens d splices h trimmed p reads scalar = (
+replaced_scalar old new was piece flat tokens d splices h trimmed p holds reads scalar = (
   p.0,
   p.1,
   (
     record { was = was; piece = piece; value = h.4.at; splices = splices; found = found_old old new tokens (Trades was flat) h; whole = record { reads = h.4.changes.0; trimmed = trimmed }; made = p.2 },
     subst IsScalar (one_value was d h.4.at reads h.4.changes.0) scalar,
   ),
+  holds_new old new was piece flat splices holds,
 )
 
-pub replaced_member : (old new : Text) (front : List Text) (x was piece flat : Text) → Splices old new was piece → ReachedInText old new front (ChangesChild (x, None) (Trades was flat)) → IsTrimmed was → ((e : Data) × (read flat ≡ Some e) × IsValueText e piece)
+pub replaced_member : (old new : Text) (front : List Text) (x was piece flat : Text) → Splices old new was piece → ReachedInText old new front (ChangesChild (x, None) (Trades was flat)) → IsTrimmed was → ((e : Data) × (read flat ≡ Some e) × IsValueText e piece) → Holds flat piece
     → ReplacesByText old new (front ++ x ∷ []) flat
-replaced_member old new front x was piece flat splices h trimmed p = at h.4.changes
+replaced_member old new front x was piece flat splices h trimmed p holds = at h.4.changes
   where
     at : ChangesChild (x, None) (Trades was flat) h.4.at h.4.at2 → ReplacesByText old new (front ++ x ∷ []) flat
     at (inl m) = absurd (cc)
@@ -96,6 +104,7 @@ replaced_member old new front x was piece flat splices h trimmed p = at h.4.chan
             whole = record { reads = m.changes.0; trimmed = trimmed };
             made = p.2;
           },
+          holds_new old new was piece flat splices holds,
         )
 
 pub replaces_value : (old new : Text) (tokens : List Text) (flat : Text) (v : Data) → read flat ≡ Some v → ReplacesByText old new tokens flat → ReplacesBytes old new tokens v
@@ -107,18 +116,18 @@ expands old new front more flat v e reads is h =
 
 -- ---- a child added
 
-pub piece_added : (old new was piece flat : Text) (k : Option Text) → Splices old new was piece → IsBlank was → ((e : Data) × (read flat ≡ Some e) × IsOneChild k e piece) → AddsPieceByText old new k flat
-piece_added old new was piece flat k splices blank p = (p.0, p.1, record { was = was; piece = piece; splices = splices; blank = blank; child = p.2 })
+pub piece_added : (old new was piece flat : Text) (k : Option Text) → Splices old new was piece → IsBlank was → ((e : Data) × (read flat ≡ Some e) × IsOneChild k e piece) → Holds flat piece → AddsPieceByText old new k flat
+piece_added old new was piece flat k splices blank p holds = (p.0, p.1, record { was = was; piece = piece; splices = splices; blank = blank; child = p.2 }, holds_new old new was piece flat splices holds)
 
 pub adds_new_member : (old new : Text) (front : List Text) (x flat : Text) → ReachedInText old new front (MemberAdded x flat) → AddsPieceByText old new (Some x) flat → AddsByText old new front x flat
 adds_new_member old new front x flat h p =
     let m = h.4.changes.2 in
-    (p.0, p.1, inl ((m.ms, found_is old front h.4.at (json.object m.ms) m.old (found_old old new front (MemberAdded x flat) h), m.inserts.none), p.2))
+    (p.0, p.1, inl ((m.ms, found_is old front h.4.at (json.object m.ms) m.old (found_old old new front (MemberAdded x flat) h), m.inserts.none), p.2), p.3)
 
 pub adds_last_element : (old new : Text) (front : List Text) (x flat : Text) → ReachedInText old new front (ElementAppended x flat) → AddsPieceByText old new None flat → AddsByText old new front x flat
 adds_last_element old new front x flat h p =
     let m = h.4.changes in
-    (p.0, p.1, inr ((m.ds, found_is old front h.4.at (json.array m.ds) m.old (found_old old new front (ElementAppended x flat) h), place m.ds m.refers), p.2))
+    (p.0, p.1, inr ((m.ds, found_is old front h.4.at (json.array m.ds) m.old (found_old old new front (ElementAppended x flat) h), place m.ds m.refers), p.2), p.3)
   where
     place : (ds : json.Items) → (x ≡ codes "-") ⊎ (x ≡ dec (skim.items_len ds)) → (i : ℕ) × ((i ≤ skim.items_len ds) × ((x ≡ dec i) ⊎ ((x ≡ codes "-") × (i ≡ skim.items_len ds))))
     place ds (inl dash) = (skim.items_len ds, (omega arith, inr (dash, refl)))
@@ -127,7 +136,7 @@ adds_last_element old new front x flat h p =
 pub adds_new_element : (old new : Text) (front : List Text) (x flat : Text) → ReachedInText old new front (ElementInserted x flat) → AddsPieceByText old new None flat → AddsByText old new front x flat
 adds_new_element old new front x flat h p =
     let m = h.4.changes.4 in
-    (p.0, p.1, inr ((m.ds, found_is old front h.4.at (json.array m.ds) m.old (found_old old new front (ElementInserted x flat) h), (m.i, (m.inserts.within, inl (h.4.changes.3.index_is m.i m.selects)))), p.2))
+    (p.0, p.1, inr ((m.ds, found_is old front h.4.at (json.array m.ds) m.old (found_old old new front (ElementInserted x flat) h), (m.i, (m.inserts.within, inl (h.4.changes.3.index_is m.i m.selects)))), p.2), p.3)
 
 pub element_appended : (child : Child) (x flat : Text) (i : ℕ) (d d2 : Data) → child.selector.index ≡ Some i → (x ≡ codes "-") ⊎ (x ≡ dec i) → string_bytes child.value ≡ flat → Makes (edit.Append child) d d2 → ElementAppended x flat d d2
 element_appended child x flat i d d2 index refers value m =
@@ -153,7 +162,7 @@ pub grows_bytes : (old new : Text) (front : List Text) (x : Text) (rest : List T
 grows_bytes old new front x rest flat v e reads is h = (h.0, ap nodes (one_value flat h.0 e h.1 reads) ∙ is, h.2)
 
 pub adds_child_at : (old new : Text) (front : List Text) (x flat : Text) → AddsByText old new front x flat → AddsAtByText old (front ++ x ∷ []) flat new
-adds_child_at old new front x flat h = (h.0, h.1, inr (front, x, refl, h.2))
+adds_child_at old new front x flat h = (h.0, h.1, inr (front, x, refl, h.2), h.3)
 
 pub adds_value_at : (old new : Text) (path : List Text) (flat : Text) (v : Data) → read flat ≡ Some v → AddsAtByText old path flat new → AddsAtBytes old path v new
 adds_value_at old new path flat v reads h = subst (λ (e : Data). AddsAtBytes old path e new) (one_value flat h.0 v h.1 reads) h.2

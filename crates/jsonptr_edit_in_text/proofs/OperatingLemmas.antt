@@ -20,7 +20,7 @@ use Rattle.jsonptr_tree.proofs.PutLemmas.{same_by_step, put_below}
 use Rattle.jsonptr_skim.specs.Search as skim
 use Rattle.jsonptr_skim.specs.Search.{Choice}
 use Rattle.jsonptr_in_text.specs.Selecting.{AreChoicesOf}
-use Rattle.jsonptr_in_text.proofs.SearchLemmas.{len_same}
+use Rattle.jsonptr_in_text.proofs.SearchLemmas.{len_same, found}
 use Rattle.jsonptr_patch.specs.Adding.{MeansPlace, AddsUnder, AddsBelow, Adds}
 use Rattle.jsonptr_patch.specs.Inserting.{with_place}
 use Rattle.jsonptr_patch.specs.Operating.{IsProperFront, Takes, Passes, Applies}
@@ -31,6 +31,7 @@ use Rattle.jsonptr_patch.proofs.AddingLemmas.{taken}
 use Rattle.jsonptr_patch.proofs.InsertingLemmas.{cases_place, with_place-same, with_place-below, with_place-above, with_place-root}
 use Rattle.jsonptr_patch.proofs.OperatingLemmas.{patches_push}
 use Rattle.jsonptr_splice.specs.Editing.{InsertsItem, ChangesChild, ChangesAt, IsEdited}
+use Rattle.jsonptr_splice.specs.Leading.{LeadsInText}
 use Rattle.jsonptr_splice.specs.declared.edit.Edit.TheVariants.{Replace}
 use Rattle.jsonptr_edit_in_text.specs.EditInText.{DeletesInText}
 use Rattle.jsonptr_edit_in_text.specs.PatchInText.{OperationBytes, PatchBytes, PatchesInText}
@@ -189,10 +190,8 @@ adds_in_place_of old new front x was flat h = at h.4.changes
 
 -- ---- a value moved or copied
 
-pub finds_text : (text : Text) (tokens : List Text) (cs : List Choice) (before after : String Global) (flat : Text) → AreChoicesOf tokens cs → string_bytes before ≡ flat → IsEdited text text cs (Replace before after) → FindsText text tokens flat
-finds_text text tokens cs before after flat are is h =
-    let r = reached tokens cs (Trades (string_bytes before) (string_bytes after)) h.0 h.1 are h.4 in
-    (r.at, subst (λ (f : Text). read f ≡ Some r.at) is r.changes.0, (h.0, h.2, record { path = r.path; named = r.named; there = r.there }))
+pub finds_text : (text : Text) (tokens : List Text) (cs : List Choice) (flat : Text) → AreChoicesOf tokens cs → LeadsInText text cs flat → FindsText text tokens flat
+finds_text text tokens cs flat are h = (h.2.0, h.2.1, (h.0, h.1, found tokens cs h.0 h.2.0 are h.2.2))
 
 pub copies : (old new : Text) (from path : List Text) (flat : Text) → FindsText old from flat → AddsInText old path flat new → CopiesInText old from path new
 copies old new from path flat found added =

@@ -1,8 +1,11 @@
 pub mod Bytes
+pub mod Carrying
 pub mod EditInText
 pub mod InPlace
+pub mod Indenting
 pub mod Locating
 pub mod PatchInText
 pub mod PrivateOperating
 pub mod PrivateReaching
 pub mod PrivateRewriting
+pub mod PrivateWrapping

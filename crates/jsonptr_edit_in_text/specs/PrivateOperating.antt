@@ -9,6 +9,7 @@ use Rattle.jsonptr_walk.specs.Follow.{PutsAt}
 use Rattle.jsonptr_skim.specs.Search.{Choice}
 use Rattle.jsonptr_in_text.specs.InText.{FindsInText}
 use Rattle.jsonptr_in_text.specs.Selecting.{IsChoiceOf, AreChoicesOf}
+use Rattle.jsonptr_splice.specs.Alike.{Holds}
 use Rattle.jsonptr_splice.specs.Editing.{AddsElement}
 use Rattle.jsonptr_patch.specs.Adding.{Adds}
 use Rattle.jsonptr_patch.specs.Operating.{Applies, Moves, Copies, Passes}
@@ -60,7 +61,7 @@ ElementInserted x piece d d2 =
 
 -- `AddsAtByText old tokens flat new`: which bytes change where the value of the text `flat` is added
 abbrev pub AddsAtByText : Text → List Text → Text → Text → Type 0
-AddsAtByText old tokens flat new = (e : Data) × (read flat ≡ Some e) × AddsAtBytes old tokens e new
+AddsAtByText old tokens flat new = (e : Data) × (read flat ≡ Some e) × AddsAtBytes old tokens e new × Holds flat new
 
 -- `AreMemberChoices tokens x cs`: `cs` are the selectors of `tokens`, and one of the member with the key `x`
 abbrev pub AreMemberChoices : List Text → Text → List Choice → Type 0

@@ -3,6 +3,7 @@ use Rattle.std.specs.Prelude.{◌≡◌, ◌⊎◌, List, Option, Some, None, co
 use Rattle.serde_json.specs.Data.{Data, array, Items}
 use Rattle.serde_json.specs.Read.{read}
 use Rattle.jsonptr_skim.specs.Search.{items_len}
+use Rattle.jsonptr_splice.specs.Alike.{Holds}
 use Rattle.jsonptr_splice.specs.Editing.{AddsMember, InsertsItem}
 use Rattle.jsonptr_grammar.specs.Text.{Text, dec}
 use Rattle.jsonptr_tree.specs.Node.{Path, NodeMap, Names}
@@ -75,21 +76,22 @@ pub record ElementAppended (x piece : Text) (d d2 : Data) : Type 0 where
 abbrev pub IsExpanded : List Text → NodeMap → ValueText → Type 0
 IsExpanded tokens v t = (e : Data) × (read (string_bytes t.flat) ≡ Some e) × (nodes e ≡ grown tokens v)
 
--- ---- which bytes change, by the text of the value that an edit brings
+-- ---- which bytes change, by the text of the value that an edit brings. The new text holds the tokens of that text
 
--- `ReplacesByText old new tokens flat`: the value that `tokens` identify is replaced by that of the text `flat`
+-- `ReplacesByText old new tokens flat`: the value that `tokens` identify is replaced by that of the text `flat`, with its
+-- tokens
 abbrev pub ReplacesByText : Text → Text → List Text → Text → Type 0
-ReplacesByText old new tokens flat = (e : Data) × (read flat ≡ Some e) × ReplacesBytes old new tokens e
+ReplacesByText old new tokens flat = (e : Data) × (read flat ≡ Some e) × ReplacesBytes old new tokens e × Holds flat new
 
 -- `ReplacesScalarByText old new tokens flat`: the same of a scalar
 abbrev pub ReplacesScalarByText : Text → Text → List Text → Text → Type 0
 ReplacesScalarByText old new tokens flat =
-    (e : Data) × (read flat ≡ Some e) × ((h : ReplacesBytes old new tokens e) × IsScalar h.value)
+    (e : Data) × (read flat ≡ Some e) × ((h : ReplacesBytes old new tokens e) × IsScalar h.value) × Holds flat new
 
 -- `AddsPieceByText old new key flat`: one child is added, with the value of the text `flat`
 abbrev pub AddsPieceByText : Text → Text → Option Text → Text → Type 0
-AddsPieceByText old new key flat = (e : Data) × (read flat ≡ Some e) × AddsPiece old new key e
+AddsPieceByText old new key flat = (e : Data) × (read flat ≡ Some e) × AddsPiece old new key e × Holds flat new
 
 -- `AddsByText old new front x flat`: the same of a child that `x` refers to
 abbrev pub AddsByText : Text → Text → List Text → Text → Text → Type 0
-AddsByText old new front x flat = (e : Data) × (read flat ≡ Some e) × AddsBytes old new front x e
+AddsByText old new front x flat = (e : Data) × (read flat ≡ Some e) × AddsBytes old new front x e × Holds flat new

@@ -4,19 +4,22 @@ ghost use Rattle.serde_json.specs.View.{view};
 ghost use Rattle.jsonptr.specs.Pointer.{tokens};
 ghost use Rattle.jsonptr_tree.specs.Json.{nodes};
 ghost use Rattle.jsonptr_edit_in_text.specs.Bytes.{KeepsBytes, AssignsBytes, ReplacesBytes, ExpandsBytes, GrowsBytes};
+ghost use Rattle.jsonptr_edit_in_text.specs.Carrying.{value_of, Carries};
 ghost use Rattle.jsonptr_edit_in_text.specs.EditInText.{text_of, AssignsInText, IsAssignError};
 
 use crate::edited::{EditError, Edited};
 use crate::insert::{add_member, append};
 use crate::place::place_of;
+use crate::raw::expanded_text;
+use crate::raw_value::RawValue;
 use crate::replace::{replace, replace_scalar};
 use crate::rewrite::assign_and_print;
-use crate::value_text::{expanded_text, value_text};
 use jsonptr::{Pointer, Token, assign};
 use jsonptr_in_text::selectors::selectors_of;
 use jsonptr_splice::buffers::Buffers;
 use jsonptr_splice::layout::slice;
 use jsonptr_splice::locate::Place;
+use jsonptr_value::{MAX_DEPTH, nests_within};
 use serde_json::Value;
 use std::alloc::{AllocError, Global};
 
@@ -99,10 +102,56 @@ pub fn assign_in_text_with(
     ensures refused { IfErr result (IsAssignError text.now (tokens pointer.entry)
         (view value)) }
 {
-    if let Some(new) = assign_in_place(alloc, buffers, text, pointer, &value)? {
+    if !nests_within(&value, MAX_DEPTH) {
+        let new = assign_and_print(alloc, text, pointer, value)?;
+        return Ok(Edited::Rewritten(new));
+    }
+    let raw = RawValue::print(alloc, &value)?;
+    assign_raw_in_text_with(alloc, buffers, text, pointer, &raw)
+}
+
+/// Assigns the value at the pointer in the document that the text contains, as
+/// [`assign_in_text_with`] does, with the value's own text.
+///
+/// What is put into the text has the tokens of the value's text, one for one: its members in their
+/// order, and its numbers as they are written. Where the value is expanded by tokens that name nothing
+/// yet, the arrays and objects that are made are around them. Only a document that is
+/// [`Rewritten`](Edited::Rewritten) has the value printed.
+///
+/// # Errors
+///
+/// Those of [`assign_in_text`].
+///
+/// # Examples
+///
+/// ```rust
+/// let price = RawValue::parse(alloc, "{ \"price\": 1.10, \"currency\": \"EUR\" }")?;
+/// let mut buffers = Buffers::new(alloc);
+/// let path = Pointer::parse("/goods/-")?;
+/// let text = "{\"goods\": []}";
+/// let edited = assign_raw_in_text_with(alloc, &mut buffers, text, path, &price)?;
+/// let new = "{\"goods\": [{\"price\":1.10,\"currency\":\"EUR\"}]}";
+/// assert_eq!(rt; edited.as_str(), new);
+/// ```
+pub fn assign_raw_in_text_with(
+    alloc: Global,
+    buffers: &mut Buffers,
+    text: &str,
+    pointer: Pointer<'_>,
+    value: &RawValue,
+) -> Result<Edited, EditError<assign::Error>>
+    ensures assigned { IfOk result (λ e. AssignsInText text.now (tokens pointer.entry)
+        (nodes (value_of value.now)) (text_of e)) }
+    ensures bytes { IfOk result
+        (KeepsBytes (AssignsBytes text.now (tokens pointer.entry) (value_of value.now))) }
+    ensures carries { IfOk result (KeepsBytes (Carries (string_bytes value.now.text.flat))) }
+    ensures refused { IfErr result (IsAssignError text.now (tokens pointer.entry)
+        (value_of value.now)) }
+{
+    if let Some(new) = try_assign(alloc, buffers, text, pointer, value)? {
         return Ok(Edited::InPlace(new));
     }
-    let new = assign_and_print(alloc, text, pointer, value)?;
+    let new = assign_and_print(alloc, text, pointer, value.to_value(alloc)?)?;
     Ok(Edited::Rewritten(new))
 }
 
@@ -112,17 +161,19 @@ pub fn assign_in_text_with(
 /// # Errors
 ///
 /// [`AllocError`] if an allocation fails.
-fn assign_in_place(
+pub(crate) fn try_assign(
     alloc: Global,
     buffers: &mut Buffers,
     text: &str,
     pointer: Pointer<'_>,
-    value: &Value,
+    value: &RawValue,
 ) -> Result<Option<String>, AllocError>
     ensures assigned { IfOk result (λ new. IfSome new (λ s.
-        AssignsInText text.now (tokens pointer.entry) (nodes (view value.now)) (string_bytes s))) }
+        AssignsInText text.now (tokens pointer.entry) (nodes (value_of value.now)) (string_bytes s))) }
+    ensures carries { IfOk result (λ new. IfSome new (λ s.
+        Carries (string_bytes value.now.text.flat) (string_bytes s))) }
     ensures bytes { IfOk result (λ new. IfSome new (λ s.
-        AssignsBytes text.now (tokens pointer.entry) (view value.now) (string_bytes s))) }
+        AssignsBytes text.now (tokens pointer.entry) (value_of value.now) (string_bytes s))) }
 {
     let selectors = selectors_of(alloc, pointer)?;
     let Some(place) = place_of(alloc, buffers, text, &selectors)? else {
@@ -143,12 +194,14 @@ fn assign_from(
     front: Pointer<'_>,
     rest: Pointer<'_>,
     place: &Place,
-    value: &Value,
+    value: &RawValue,
 ) -> Result<Option<String>, AllocError>
     ensures assigned { IfOk result (λ new. IfSome new (λ s. AssignsInText text.now
-        (tokens front.entry ++ tokens rest.entry) (nodes (view value.now)) (string_bytes s))) }
+        (tokens front.entry ++ tokens rest.entry) (nodes (value_of value.now)) (string_bytes s))) }
+    ensures carries { IfOk result (λ new. IfSome new (λ s.
+        Carries (string_bytes value.now.text.flat) (string_bytes s))) }
     ensures bytes { IfOk result (λ new. IfSome new (λ s. AssignsBytes text.now
-        (tokens front.entry ++ tokens rest.entry) (view value.now) (string_bytes s))) }
+        (tokens front.entry ++ tokens rest.entry) (value_of value.now) (string_bytes s))) }
 {
     let Some((token, after)) = rest.split_front() else {
         return assign_there(alloc, buffers, text, front, place, value);
@@ -170,17 +223,16 @@ fn assign_there(
     text: &str,
     pointer: Pointer<'_>,
     place: &Place,
-    value: &Value,
+    value: &RawValue,
 ) -> Result<Option<String>, AllocError>
     ensures assigned { IfOk result (λ new. IfSome new (λ s.
-        AssignsInText text.now (tokens pointer.entry) (nodes (view value.now)) (string_bytes s))) }
+        AssignsInText text.now (tokens pointer.entry) (nodes (value_of value.now)) (string_bytes s))) }
+    ensures carries { IfOk result (λ new. IfSome new (λ s.
+        Carries (string_bytes value.now.text.flat) (string_bytes s))) }
     ensures bytes { IfOk result (λ new. IfSome new (λ s.
-        ReplacesBytes text.now (string_bytes s) (tokens pointer.entry) (view value.now))) }
+        ReplacesBytes text.now (string_bytes s) (tokens pointer.entry) (value_of value.now))) }
 {
-    let Some(value) = value_text(alloc, value)? else {
-        return Ok(None);
-    };
-    replace(alloc, buffers, text, pointer, place, &value)
+    replace(alloc, buffers, text, pointer, place, &value.text)
 }
 
 /// Adds a member to the object that the pointer resolves to, with the key of the token and the value
@@ -193,15 +245,17 @@ fn assign_member(
     token: &Token<'_>,
     after: Pointer<'_>,
     place: &Place,
-    value: &Value,
+    value: &RawValue,
 ) -> Result<Option<String>, AllocError>
     ensures assigned { IfOk result (λ new. IfSome new (λ s. AssignsInText text.now
-        (tokens pointer.entry ++ token.now ∷ tokens after.entry) (nodes (view value.now))
+        (tokens pointer.entry ++ token.now ∷ tokens after.entry) (nodes (value_of value.now))
         (string_bytes s))) }
+    ensures carries { IfOk result (λ new. IfSome new (λ s.
+        Carries (string_bytes value.now.text.flat) (string_bytes s))) }
     ensures bytes { IfOk result (λ new. IfSome new (λ s. GrowsBytes text.now (string_bytes s)
-        (tokens pointer.entry) token.now (tokens after.entry) (view value.now))) }
+        (tokens pointer.entry) token.now (tokens after.entry) (value_of value.now))) }
 {
-    let Some(value) = expanded_text(alloc, after, value)? else {
+    let Some(value) = expanded_text(alloc, &mut buffers.value, after, value)? else {
         return Ok(None);
     };
     add_member(alloc, buffers, text, pointer, place, token, &value)
@@ -217,15 +271,17 @@ fn assign_element(
     token: &Token<'_>,
     after: Pointer<'_>,
     place: &Place,
-    value: &Value,
+    value: &RawValue,
 ) -> Result<Option<String>, AllocError>
     ensures assigned { IfOk result (λ new. IfSome new (λ s. AssignsInText text.now
-        (tokens pointer.entry ++ token.now ∷ tokens after.entry) (nodes (view value.now))
+        (tokens pointer.entry ++ token.now ∷ tokens after.entry) (nodes (value_of value.now))
         (string_bytes s))) }
+    ensures carries { IfOk result (λ new. IfSome new (λ s.
+        Carries (string_bytes value.now.text.flat) (string_bytes s))) }
     ensures bytes { IfOk result (λ new. IfSome new (λ s. GrowsBytes text.now (string_bytes s)
-        (tokens pointer.entry) token.now (tokens after.entry) (view value.now))) }
+        (tokens pointer.entry) token.now (tokens after.entry) (value_of value.now))) }
 {
-    let Some(value) = expanded_text(alloc, after, value)? else {
+    let Some(value) = expanded_text(alloc, &mut buffers.value, after, value)? else {
         return Ok(None);
     };
     append(alloc, buffers, text, pointer, place, token, &value)
@@ -239,15 +295,17 @@ fn assign_scalar(
     pointer: Pointer<'_>,
     rest: Pointer<'_>,
     place: &Place,
-    value: &Value,
+    value: &RawValue,
 ) -> Result<Option<String>, AllocError>
     ensures assigned { (x : List ℕ) (after : List (List ℕ)) → tokens rest.entry ≡ x ∷ after
         → IfOk result (λ new. IfSome new (λ s. AssignsInText text.now
-        (tokens pointer.entry ++ x ∷ after) (nodes (view value.now)) (string_bytes s))) }
+        (tokens pointer.entry ++ x ∷ after) (nodes (value_of value.now)) (string_bytes s))) }
+    ensures carries { IfOk result (λ new. IfSome new (λ s.
+        Carries (string_bytes value.now.text.flat) (string_bytes s))) }
     ensures bytes { IfOk result (λ new. IfSome new (λ s. ExpandsBytes text.now (string_bytes s)
-        (tokens pointer.entry) (tokens rest.entry) (view value.now))) }
+        (tokens pointer.entry) (tokens rest.entry) (value_of value.now))) }
 {
-    let Some(value) = expanded_text(alloc, rest, value)? else {
+    let Some(value) = expanded_text(alloc, &mut buffers.value, rest, value)? else {
         return Ok(None);
     };
     replace_scalar(alloc, buffers, text, pointer, place, &value)

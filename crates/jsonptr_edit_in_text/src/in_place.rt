@@ -4,15 +4,17 @@ ghost use Rattle.serde_json.specs.View.{view};
 ghost use Rattle.jsonptr.specs.Pointer.{tokens};
 ghost use Rattle.jsonptr_tree.specs.Json.{nodes};
 ghost use Rattle.jsonptr_edit_in_text.specs.Bytes.{AssignsBytes, DeletesBytes};
+ghost use Rattle.jsonptr_edit_in_text.specs.Carrying.{value_of, Carries};
 ghost use Rattle.jsonptr_edit_in_text.specs.EditInText.{AssignsInText, DeletesInText, LacksInText, IsAssignError, IsReadFault};
 ghost use Rattle.jsonptr_edit_in_text.specs.PatchInText.{PatchesInText, PatchBytes, IsPatchFault};
 ghost use Rattle.jsonptr_edit_in_text.specs.InPlace.{IsInPlaceError, StaysOneLine};
 
 use crate::apply::apply_in_text_with;
-use crate::assign::assign_in_text_with;
+use crate::assign::{assign_in_text_with, assign_raw_in_text_with};
 use crate::delete::delete_in_text_with;
 use crate::edited::{EditError, Edited};
 use crate::one_line::stays_one_line;
+use crate::raw_value::RawValue;
 use jsonptr::{Pointer, assign};
 use jsonptr_patch::{Operation, PatchError};
 use jsonptr_splice::buffers::Buffers;
@@ -58,6 +60,54 @@ pub fn assign_in_place(
         (view value))) }
 {
     match assign_in_text_with(alloc, buffers, text, pointer, value) {
+        Ok(Edited::InPlace(new)) => {
+            if stays_one_line(text, new.as_str()) {
+                Ok(new)
+            } else {
+                Err(InPlaceError::NotInPlace)
+            }
+        }
+        Ok(Edited::Rewritten(_new)) => Err(InPlaceError::NotInPlace),
+        Err(error) => Err(InPlaceError::Failed(error)),
+    }
+}
+
+/// Assigns as [`assign_raw_in_text_with`] does, and never prints the
+/// document anew.
+///
+/// # Errors
+///
+/// [`InPlaceError::NotInPlace`] where `assign_raw_in_text_with` prints the document anew, and
+/// [`InPlaceError::Failed`] with its error.
+///
+/// # Examples
+///
+/// ```rust
+/// let mut buffers = Buffers::new(alloc);
+/// let path = Pointer::parse("/price")?;
+/// let price = RawValue::parse(alloc, "1.10")?;
+/// let new = assign_raw_in_place(alloc, &mut buffers, "{\"price\": 1.00}", path, &price)?;
+/// assert_eq!(rt; new.as_str(), "{\"price\": 1.10}");
+/// ```
+pub fn assign_raw_in_place(
+    alloc: Global,
+    buffers: &mut Buffers,
+    text: &str,
+    pointer: Pointer<'_>,
+    value: &RawValue,
+) -> Result<String, InPlaceError<assign::Error>>
+    ensures assigned { IfOk result (λ s. AssignsInText text.now (tokens pointer.entry)
+        (nodes (value_of value.now)) (string_bytes s)) }
+    ensures bytes { IfOk result (λ s.
+        AssignsBytes text.now (tokens pointer.entry) (value_of value.now) (string_bytes s)) }
+    ensures carries { IfOk result (λ s. Carries (string_bytes value.now.text.flat) (string_bytes s)) }
+    ensures line { IfOk result (λ s. StaysOneLine text.now (string_bytes s)) }
+    ensures refused { IfErr result (IsInPlaceError
+        (AssignsInText text.now (tokens pointer.entry) (nodes (value_of value.now)))
+        (IsAssignError text.now (tokens pointer.entry)
+        (value_of value.now))) }
+{
+    match assign_raw_in_text_with(alloc, buffers, text, pointer, value) {
         Ok(Edited::InPlace(new)) => {
             if stays_one_line(text, new.as_str()) {
                 Ok(new)

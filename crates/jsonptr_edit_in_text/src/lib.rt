@@ -10,6 +10,8 @@
 //!
 //! - [`assign_in_text`] and [`delete_in_text`] edit at a pointer, as `assign` and `delete` do.
 //! - [`apply_in_text`] applies a JSON Patch (RFC 6902), all of its operations or none.
+//! - [`assign_raw_in_place`] assigns a [`RawValue`], which keeps its own text: the order of its members
+//!   and the form of its numbers.
 //! - [`locate_in_text`] returns where a value is, and its own text.
 //!
 //! Each call makes two promises. *Meaning*: the new text reads as the document that the call on
@@ -30,23 +32,30 @@ mod assign;
 mod delete;
 mod edit;
 mod edited;
-mod expand;
 mod in_place;
+mod indent;
 mod insert;
 mod locate;
 mod one_line;
 mod operate;
 mod place;
+mod raw;
+mod raw_value;
 mod remove;
 mod replace;
 mod rewrite;
 mod value_at;
 mod value_text;
+mod wrap;
 
 pub use apply::{apply_in_text, apply_in_text_with};
-pub use assign::{assign_in_text, assign_in_text_with};
+pub use assign::{assign_in_text, assign_in_text_with, assign_raw_in_text_with};
 pub use delete::{delete_in_text, delete_in_text_with};
 pub use edited::{EditError, Edited};
-pub use in_place::{InPlaceError, apply_in_place, assign_in_place, delete_in_place};
+pub use in_place::{
+    InPlaceError, apply_in_place, assign_in_place, assign_raw_in_place, delete_in_place,
+};
+pub use indent::{IndentError, indent_text};
 pub use jsonptr_splice::buffers::Buffers;
 pub use locate::{LocateError, Located, locate_in_text, locate_in_text_with};
+pub use raw_value::RawValue;

@@ -1,22 +1,15 @@
 //! Where a value is in a text.
-ghost use Rattle.std.specs.Prelude.{List, IfOk, IfErr, IfSome, IsTrue};
+ghost use Rattle.std.specs.Prelude.{IfOk, IfErr, IfSome};
 ghost use Rattle.jsonptr.specs.Pointer.{tokens};
-ghost use Rattle.jsonptr_grammar.specs.Text.{Text};
-ghost use Rattle.jsonptr_skim.specs.Search.{choices};
-ghost use Rattle.jsonptr_in_text.specs.Selecting.{AreChoicesOf};
 ghost use Rattle.jsonptr_edit_in_text.specs.Locating.{IsLocated, IsLocateError};
-ghost use Rattle.jsonptr_edit_in_text.specs.PrivateOperating.{FindsText};
 
 use crate::place::place_of;
 use jsonptr::Pointer;
 use jsonptr_in_text::selectors::selectors_of;
 use jsonptr_in_text::{InTextError, resolve_in_text_with};
-use jsonptr_skim::selector::Selector;
 use jsonptr_splice::buffers::Buffers;
-use jsonptr_splice::check::is_edited_with;
 use jsonptr_splice::cut::{Cut, cut_at};
-use jsonptr_splice::edit::Edit;
-use jsonptr_splice::locate::Place;
+use jsonptr_splice::lead::{Target, leads_to};
 use jsonptr_splice::spacing::is_trimmed;
 use std::alloc::{AllocError, Global};
 use thiserror::Error;
@@ -49,7 +42,8 @@ pub enum LocateError {
 /// value, with its members in their order, its numbers and escapes as they are written, and the white
 /// space within it. Of a repeated key the last member counts.
 ///
-/// Reads the text three times, and copies the text of the value twice. Builds no document.
+/// Reads the text twice, and builds no document. Of two equal values with other texts, as `1.0` and
+/// `1.00`, the contract does not say that it is the text of the right one.
 ///
 /// # Errors
 ///
@@ -138,35 +132,14 @@ fn cut_around<'t>(
     let Some(cut) = cut_at(text, place.value.from, place.value.to) else {
         return Ok(None);
     };
-    if is_trimmed(cut.was) && is_value_there(alloc, buffers, &cut, &selectors, &place)? {
+    let target = Target {
+        selectors: &selectors,
+        positions: &place.positions,
+        value: cut.was,
+    };
+    if is_trimmed(cut.was) && leads_to(buffers, text, target)? {
         Ok(Some(cut))
     } else {
         Ok(None)
     }
-}
-
-/// Returns whether what is between the cuts is a text of the value that the selectors lead to.
-fn is_value_there(
-    alloc: Global,
-    buffers: &mut Buffers,
-    cut: &Cut<'_>,
-    selectors: &[Selector],
-    place: &Place,
-) -> Result<bool, AllocError>
-    ensures { IfOk result (λ b. IsTrue b → (ts : List Text) → AreChoicesOf ts (choices selectors.now)
-        → FindsText cut.now.text.now ts cut.now.was.now) }
-{
-    let edit = Edit::Replace {
-        old: String::from_str(alloc, cut.was)?,
-        new: String::from_str(alloc, cut.was)?,
-    };
-    // Nothing is edited: the two readings show that the value there is that of the text between.
-    is_edited_with(
-        buffers,
-        cut.text,
-        cut.text,
-        selectors,
-        &place.positions,
-        &edit,
-    )
 }

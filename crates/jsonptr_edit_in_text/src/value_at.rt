@@ -7,9 +7,8 @@ use crate::place::place_of;
 use jsonptr::Pointer;
 use jsonptr_in_text::selectors::selectors_of;
 use jsonptr_splice::buffers::Buffers;
-use jsonptr_splice::check::is_edited_with;
-use jsonptr_splice::edit::Edit;
 use jsonptr_splice::layout::{ValueText, text_at};
+use jsonptr_splice::lead::{Target, leads_to};
 use std::alloc::{AllocError, Global};
 
 /// Returns the text of the value that the pointer resolves to, with its numbers and strings as they
@@ -35,12 +34,12 @@ pub fn value_at(
         return Ok(None);
     }
     let value = text_at(alloc, text, place.value)?;
-    let edit = Edit::Replace {
-        old: value.flat.clone()?,
-        new: value.flat.clone()?,
+    let target = Target {
+        selectors: &selectors,
+        positions: &place.positions,
+        value: value.flat.as_str(),
     };
-    // Nothing is edited: the two readings show that the value there is that of the flat text.
-    if is_edited_with(buffers, text, text, &selectors, &place.positions, &edit)? {
+    if leads_to(buffers, text, target)? {
         Ok(Some(value))
     } else {
         Ok(None)

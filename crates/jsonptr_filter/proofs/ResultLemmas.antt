@@ -26,7 +26,9 @@ use Rattle.jsonptr.specs.declared.assign.Error as assign
 use Rattle.jsonptr_patch.specs.declared.operation.Operation.{Operation}
 use Rattle.jsonptr_patch.specs.declared.operation.PatchError.{PatchError}
 use Rattle.jsonptr_patch_document.specs.Document.{IsPatch}
+use Rattle.jsonptr_edit_in_text.specs.Carrying.{value_of, Carries}
 use Rattle.jsonptr_edit_in_text.specs.PatchInText.{PatchesInText, PatchBytes, IsPatchFault}
+use Rattle.jsonptr_edit_in_text.specs.declared.raw_value.RawValue.{RawValue}
 use Rattle.jsonptr_filter.specs.Layouts.{IsCompact, Lays, CanBreak}
 use Rattle.jsonptr_filter.specs.Failures.{of_strict_assign_error, of_strict_patch_error}
 use Rattle.jsonptr_filter.specs.Results.{Gets, Sets, Deletes, PatchesBy, Yields, FailsToGet, FailsToSet, FailsToPatch}
@@ -43,10 +45,9 @@ use Rattle.jsonptr_filter.specs.declared.task.Task.TheVariants.{Get, Set, Delete
 
 -- ---- edits in place
 
-pub set_kept : (text : Text) (ts : List Text) (v w : Data) (out : Text)
-    → w ≡ v → AssignsInText text ts (nodes w) out → AssignsBytes text ts w out → StaysOneLine text out → Sets text ts v Kept out
-set_kept text ts v w out clone meaning bytes line =
-    (out, subst (λ (x : Data). AssignsInText text ts (nodes x) out) clone meaning, refl, λ e. (subst (λ (x : Data). AssignsBytes text ts x out) clone bytes, line))
+pub set_kept : (text : Text) (ts : List Text) (raw : RawValue) (out : Text)
+    → AssignsInText text ts (nodes (value_of raw)) out → AssignsBytes text ts (value_of raw) out → Carries (string_bytes raw.text.flat) out → StaysOneLine text out → Sets text ts raw Kept out
+set_kept text ts raw out meaning bytes carries line = (out, meaning, refl, λ e. (bytes, carries, line))
 
 pub patch_kept : (text : Text) (patch : Data) (os : List Operation) (r : Result (String Global) Failure)
     → IsPatch patch os → IfOk r (λ s. PatchesInText text os (string_bytes s)) → IfOk r (λ s. PatchBytes text os (string_bytes s)) → IfOk r (λ s. StaysOneLine text (string_bytes s)) → IfOk r (λ s. PatchesBy text patch Kept (string_bytes s))
@@ -60,10 +61,10 @@ pub remade : (P : Text → Type 0) (layout : Layout) (t new : Text) (r : Result 
 remade P layout t new (Ok s) p same h = (new, subst P (sym same) p, h)
 remade P layout t new (Err f) p same h = tt
 
-pub set_anew : (text : Text) (ts : List Text) (v : Data) (layout : Layout) (r : Result (String Global) Failure)
-    → (layout ≡ Kept → ⊥) → IfOk r (λ s. Remakes (AssignsInText text ts (nodes v)) layout (string_bytes s)) → IfOk r (λ s. Sets text ts v layout (string_bytes s))
-set_anew text ts v layout (Ok s) other h = (h.0, h.1, h.2, λ e. absurd (other e))
-set_anew text ts v layout (Err f) other h = tt
+pub set_anew : (text : Text) (ts : List Text) (raw : RawValue) (layout : Layout) (r : Result (String Global) Failure)
+    → (layout ≡ Kept → ⊥) → IfOk r (λ s. Remakes (AssignsInText text ts (nodes (value_of raw))) layout (string_bytes s)) → IfOk r (λ s. Sets text ts raw layout (string_bytes s))
+set_anew text ts raw layout (Ok s) other h = (h.0, h.1, h.2, λ e. absurd (other e))
+set_anew text ts raw layout (Err f) other h = tt
 
 pub delete_anew : (text : Text) (ts : List Text) (layout : Layout) (r : Result (String Global) Failure)
     → (layout ≡ Kept → ⊥) → IfOk r (λ s. Remakes (DeletesInText text ts) layout (string_bytes s)) → IfOk r (λ s. Deletes text ts layout (string_bytes s))
@@ -77,17 +78,13 @@ patch_anew text patch layout os (Err f) other is h = tt
 
 -- ---- edits that are not made
 
-set_fails : (text : Text) (ts : List Text) (v : Data) (e : InPlaceError assign.Error)
+pub set_fails : (text : Text) (ts : List Text) (v : Data) (e : InPlaceError assign.Error)
     → IsInPlaceError (AssignsInText text ts (nodes v)) (IsAssignError text ts v) e → FailsToSet text ts v Kept (of_strict_assign_error e)
 set_fails text ts v in_place.NotInPlace h = (refl, h)
 set_fails text ts v (in_place.Failed edit.NotJson) h = h
 set_fails text ts v (in_place.Failed (edit.Refused f)) h = h
 set_fails text ts v (in_place.Failed edit.TooDeep) h = h
 set_fails text ts v (in_place.Failed (edit.Memory f)) h = tt
-
-pub copy_fails : (text : Text) (ts : List Text) (v w : Data) (e : InPlaceError assign.Error)
-    → w ≡ v → IsInPlaceError (AssignsInText text ts (nodes w)) (IsAssignError text ts w) e → FailsToSet text ts v Kept (of_strict_assign_error e)
-copy_fails text ts v w e clone h = subst (λ (x : Data). FailsToSet text ts x Kept (of_strict_assign_error e)) clone (set_fails text ts w e h)
 
 pub apply_fails : (text : Text) (os : List Operation) (e : InPlaceError PatchError)
     → IsInPlaceError (PatchesInText text os) (IsPatchFault text os) e → FailsToApply text os Kept (of_strict_patch_error e)
@@ -160,7 +157,7 @@ get_sorted l out ts fallback h = elim h [
 
 kept_result : (task : Task) (l out : Text) → IsOneLine l → Yields task Kept l out → IsOneLine out
 kept_result (Get p fallback) l out one h = get_kept l out (tokens p) fallback one h
-kept_result (Set p v) l out one h = subst IsOneLine (sym h.2) ((h.3 refl).1 one)
+kept_result (Set p v) l out one h = subst IsOneLine (sym h.2) ((h.3 refl).2 one)
 kept_result (Delete p) l out one h = subst IsOneLine (sym h.2) ((h.3 refl).1 one)
 kept_result (Patch d) l out one h = subst IsOneLine (sym h.4) ((h.5 refl).1 one)
 

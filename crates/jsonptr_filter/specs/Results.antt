@@ -1,5 +1,5 @@
 -- The text that a task makes of the text of a document, and why it makes none.
-use Rattle.std.specs.Prelude.{◌≡◌, ◌⊎◌, List, Option, Some, None, ⊤}
+use Rattle.std.specs.Prelude.{◌≡◌, ◌⊎◌, List, Option, Some, None, string_bytes, ⊤}
 use Rattle.serde_json.specs.Data.{Data}
 use Rattle.serde_json.specs.Read.{read}
 use Rattle.serde_json.specs.View.{view}
@@ -13,11 +13,13 @@ use Rattle.jsonptr_patch.specs.declared.operation.Operation.{Operation}
 use Rattle.jsonptr_patch_document.specs.Document.{IsPatch, IsNoPatch}
 use Rattle.jsonptr_in_text.specs.InText.{FindsInText, RefusesInText}
 use Rattle.jsonptr_edit_in_text.specs.Bytes.{AssignsBytes, DeletesBytes}
+use Rattle.jsonptr_edit_in_text.specs.Carrying.{value_of, Carries}
 use Rattle.jsonptr_edit_in_text.specs.InPlace.{StaysOneLine}
 use Rattle.jsonptr_edit_in_text.specs.Locating.{IsLocated}
 use Rattle.jsonptr_edit_in_text.specs.EditInText.{AssignsInText, IsAssignError, DeletesInText, LacksInText}
 use Rattle.jsonptr_edit_in_text.specs.PatchInText.{PatchesInText, PatchBytes, IsPatchFault}
 use Rattle.jsonptr_edit_in_text.specs.declared.edited.EditError.TheVariants as edit
+use Rattle.jsonptr_edit_in_text.specs.declared.raw_value.RawValue.{RawValue}
 use Rattle.jsonptr_filter.specs.Layouts.{Shows, Lays}
 use Rattle.jsonptr_filter.specs.declared.failure.Failure.{Failure}
 use Rattle.jsonptr_filter.specs.declared.failure.Failure.TheVariants.{NotPatch, NoValue, BadPlace, NotThere, BadPatch, TooDeep, NotInPlace, NotLocated, NotJson, Memory}
@@ -35,12 +37,14 @@ Gets text ts fallback layout out =
     ⊎ ((other : Value) × (e : Error)
     × (fallback ≡ Some other) × RefusesInText text ts e × Shows layout (view other) out)
 
--- `Sets text ts v layout out`: `out` is the document of `text` with `v` assigned at the tokens, in this layout. In the layout
--- `Kept` only the bytes of the assignment change, and a text of one line stays one line
-abbrev pub Sets : Text → List Text → Data → Layout → Text → Type 0
-Sets text ts v layout out =
-    (new : Text) × AssignsInText text ts (nodes v) new × Lays layout new out
-    × (layout ≡ Kept → AssignsBytes text ts v new × StaysOneLine text new)
+-- `Sets text ts raw layout out`: `out` is the document of `text` with the value `raw` assigned at the tokens, in this layout. In
+-- the layout `Kept` only the bytes of the assignment change, the new text carries the tokens of the value's own text, and a
+-- text of one line stays one line
+abbrev pub Sets : Text → List Text → RawValue → Layout → Text → Type 0
+Sets text ts raw layout out =
+    (new : Text) × AssignsInText text ts (nodes (value_of raw)) new × Lays layout new out
+    × (layout ≡ Kept
+    → AssignsBytes text ts (value_of raw) new × Carries (string_bytes raw.text.flat) new × StaysOneLine text new)
 
 -- `Deletes text ts layout out`: `out` is the document of `text` without the value at the tokens, in this layout. In the
 -- layout `Kept` only the bytes of the deletion change, and a text of one line stays one line
@@ -60,7 +64,7 @@ PatchesBy text patch layout out =
 -- `Yields task layout text out`: `out` is the result of the task on `text`, in this layout
 abbrev pub Yields : Task → Layout → Text → Text → Type 0
 Yields (Get p fallback) layout text out = Gets text (tokens p) fallback layout out
-Yields (Set p v) layout text out = Sets text (tokens p) (view v) layout out
+Yields (Set p v) layout text out = Sets text (tokens p) v layout out
 Yields (Delete p) layout text out = Deletes text (tokens p) layout out
 Yields (Patch d) layout text out = PatchesBy text (view d) layout out
 
@@ -109,6 +113,6 @@ FailsToPatch text patch layout e = ⊥
 -- `Fails task layout text e`: `e` is why the task has no result on `text`, if it is not for memory
 abbrev pub Fails : Task → Layout → Text → Failure → Type 0
 Fails (Get p fallback) layout text e = FailsToGet text (tokens p) fallback e
-Fails (Set p v) layout text e = FailsToSet text (tokens p) (view v) layout e
+Fails (Set p v) layout text e = FailsToSet text (tokens p) (value_of v) layout e
 Fails (Delete p) layout text e = FailsToDelete text (tokens p) layout e
 Fails (Patch d) layout text e = FailsToPatch text (view d) layout e

@@ -1,8 +1,8 @@
 //! Changing a document in its text: in place, or by printing it anew where that is wanted.
 ghost use Rattle.std.specs.Prelude.{IfOk, IfErr, string_bytes};
-ghost use Rattle.serde_json.specs.View.{view};
 ghost use Rattle.jsonptr.specs.Pointer.{tokens};
 ghost use Rattle.jsonptr_tree.specs.Json.{nodes};
+ghost use Rattle.jsonptr_edit_in_text.specs.Carrying.{value_of};
 ghost use Rattle.jsonptr_edit_in_text.specs.EditInText.{AssignsInText, DeletesInText};
 ghost use Rattle.jsonptr_filter.specs.Results.{Sets, Deletes, FailsToSet, FailsToDelete};
 ghost use Rattle.jsonptr_filter.specs.PrivateResults.{Remakes};
@@ -11,9 +11,9 @@ use crate::failure::Failure;
 use crate::layout::{Layout, lay_out};
 use jsonptr::Pointer;
 use jsonptr_edit_in_text::{
-    Buffers, assign_in_place, assign_in_text_with, delete_in_place, delete_in_text_with,
+    Buffers, RawValue, assign_raw_in_place, assign_raw_in_text_with, delete_in_place,
+    delete_in_text_with,
 };
-use serde_json::Value;
 use std::alloc::Global;
 
 /// Assigns the value at the pointer in the text, and returns the new document in this layout.
@@ -29,13 +29,13 @@ pub fn set(
     buffers: &mut Buffers,
     text: &str,
     pointer: Pointer<'_>,
-    value: &Value,
+    value: &RawValue,
     layout: Layout,
 ) -> Result<String, Failure>
-    ensures done { IfOk result (λ s. Sets text.now (tokens pointer.entry) (view value.now) layout
+    ensures done { IfOk result (λ s. Sets text.now (tokens pointer.entry) value.now layout
         (string_bytes s)) }
     ensures failed { IfErr result
-        (FailsToSet text.now (tokens pointer.entry) (view value.now) layout) }
+        (FailsToSet text.now (tokens pointer.entry) (value_of value.now) layout) }
 {
     match layout {
         Layout::Kept => set_in_place(alloc, buffers, text, pointer, value),
@@ -49,15 +49,14 @@ fn set_in_place(
     buffers: &mut Buffers,
     text: &str,
     pointer: Pointer<'_>,
-    value: &Value,
+    value: &RawValue,
 ) -> Result<String, Failure>
-    ensures done { IfOk result (λ s. Sets text.now (tokens pointer.entry) (view value.now)
+    ensures done { IfOk result (λ s. Sets text.now (tokens pointer.entry) value.now
         Layout.Kept (string_bytes s)) }
     ensures failed { IfErr result
-        (FailsToSet text.now (tokens pointer.entry) (view value.now) Layout.Kept) }
+        (FailsToSet text.now (tokens pointer.entry) (value_of value.now) Layout.Kept) }
 {
-    let copy = value.clone()?;
-    match assign_in_place(alloc, buffers, text, pointer, copy) {
+    match assign_raw_in_place(alloc, buffers, text, pointer, value) {
         Ok(new) => Ok(new),
         Err(error) => Err(Failure::from(error)),
     }
@@ -69,16 +68,16 @@ fn set_anew(
     buffers: &mut Buffers,
     text: &str,
     pointer: Pointer<'_>,
-    value: &Value,
+    value: &RawValue,
     layout: Layout,
 ) -> Result<String, Failure>
     ensures done { IfOk result (λ s. Remakes
-        (AssignsInText text.now (tokens pointer.entry) (nodes (view value.now))) layout
+        (AssignsInText text.now (tokens pointer.entry) (nodes (value_of value.now))) layout
         (string_bytes s)) }
     ensures failed { IfErr result
-        (FailsToSet text.now (tokens pointer.entry) (view value.now) layout) }
+        (FailsToSet text.now (tokens pointer.entry) (value_of value.now) layout) }
 {
-    let edited = assign_in_text_with(alloc, buffers, text, pointer, value.clone()?)?;
+    let edited = assign_raw_in_text_with(alloc, buffers, text, pointer, value)?;
     lay_out(alloc, &mut buffers.old, edited.as_str(), layout)
 }
 

@@ -38,7 +38,7 @@ use std::alloc::Global;
 /// # Examples
 ///
 /// ```rust
-/// let task = Task::Set(Pointer::parse("/b")?, Value::from(2));
+/// let task = Task::Set(Pointer::parse("/b")?, RawValue::parse(alloc, "2")?);
 /// let new = result_in_text(alloc, &task, Layout::Kept, "{\"a\": 1, \"b\": 1}")?;
 /// assert_eq!(rt; new.as_str(), "{\"a\": 1, \"b\": 2}");
 /// let get = Task::Get(Pointer::parse("/c")?, Some(Value::Null));

@@ -1,6 +1,7 @@
 //! What to do with a document.
 
 use jsonptr::Pointer;
+use jsonptr_edit_in_text::RawValue;
 use serde_json::Value;
 
 /// What to do with a document.
@@ -9,8 +10,8 @@ pub enum Task<'a> {
     /// Finds the value that the pointer resolves to. If there is none, the other value is the
     /// result, if there is one.
     Get(Pointer<'a>, Option<Value>),
-    /// Assigns the value at the pointer.
-    Set(Pointer<'a>, Value),
+    /// Assigns the value at the pointer, with its own text.
+    Set(Pointer<'a>, RawValue),
     /// Deletes the value that the pointer resolves to.
     Delete(Pointer<'a>),
     /// Applies the patch that this document is (RFC 6902).

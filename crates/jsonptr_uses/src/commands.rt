@@ -6,6 +6,7 @@ ghost use Rattle.jsonptr.specs.Pointer.{tokens};
 ghost use Rattle.jsonptr_edit_in_text.specs.EditInText.{AssignsInText};
 
 use jsonptr::Pointer;
+use jsonptr_edit_in_text::RawValue;
 use jsonptr_filter::failure::Failure;
 use jsonptr_filter::layout::Layout;
 use jsonptr_filter::result::result_in_text;
@@ -29,6 +30,9 @@ pub fn with_string(
         (nodes (string value.now)) (string_bytes s)) }
 {
     let value = Value::String(String::from_str(alloc, value)?);
+    let Some(value) = RawValue::from_value(alloc, &value)? else {
+        return Err(Failure::TooDeep);
+    };
     let task = Task::Set(pointer, value);
     result_in_text(alloc, &task, Layout::Kept, text)
 }

@@ -1,11 +1,11 @@
 //! A program over a reader and a writer.
 ghost use Rattle.std.specs.Prelude.{IfOk, IfErr};
 ghost use Rattle.std.specs.Io.KnownBytes.{Appends};
-ghost use Rattle.serde_json.specs.View.{view};
 ghost use Rattle.jsonptr.specs.Json.{nodes};
 ghost use Rattle.jsonptr.specs.Pointer.{tokens};
 ghost use Rattle.jsonptr.specs.Text.{Text};
 ghost use Rattle.jsonptr_edit_in_text.specs.Bytes.{AssignsBytes};
+ghost use Rattle.jsonptr_edit_in_text.specs.Carrying.{value_of};
 ghost use Rattle.jsonptr_edit_in_text.specs.EditInText.{AssignsInText};
 ghost use Rattle.jsonptr_lines.specs.Streams.{ForInput};
 ghost use Rattle.jsonptr_filter.specs.Documents.{StopsDocument};
@@ -13,11 +13,11 @@ ghost use Rattle.jsonptr_filter.specs.declared.layout.Layout.TheVariants.{Kept};
 ghost use Rattle.jsonptr_filter.specs.declared.task.Task.TheVariants.{Set};
 
 use jsonptr::Pointer;
+use jsonptr_edit_in_text::RawValue;
 use jsonptr_filter::document::run_document;
 use jsonptr_filter::failure::Failure;
 use jsonptr_filter::layout::Layout;
 use jsonptr_filter::task::Task;
-use serde_json::Value;
 use std::alloc::Global;
 use std::io;
 
@@ -30,13 +30,13 @@ use std::io;
 pub fn set_in_stream<R: io::Read, W: io::Write>(
     alloc: Global,
     pointer: Pointer<'_>,
-    value: Value,
+    value: RawValue,
     input: &mut R,
     output: &mut W,
 ) -> Result<(), Failure>
     ensures set { IfOk result (λ _. ForInput (R.remaining input.old) (λ bytes. (out : Text)
-        × AssignsInText bytes (tokens pointer.entry) (nodes (view value)) out
-        × AssignsBytes bytes (tokens pointer.entry) (view value) out
+        × AssignsInText bytes (tokens pointer.entry) (nodes (value_of value)) out
+        × AssignsBytes bytes (tokens pointer.entry) (value_of value) out
         × Appends (W.contents output.old) (W.contents output.new) out)) }
     ensures failed { IfErr result (StopsDocument (Set pointer.entry value) Kept
         (R.remaining input.old) (W.contents output.old) (W.contents output.new)) }

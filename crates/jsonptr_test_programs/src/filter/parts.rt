@@ -1,10 +1,10 @@
 //! Runs over the parts of an input that is cut after a line feed.
 use jsonptr::Pointer;
+use jsonptr_edit_in_text::RawValue;
 use jsonptr_filter::layout::Layout;
 use jsonptr_filter::line::LineTask;
 use jsonptr_filter::lines::run_lines;
 use jsonptr_filter::task::Task;
-use serde_json::Value;
 use std::alloc::Global;
 use std::test::Fail;
 
@@ -18,7 +18,7 @@ struct Given {
 /// Assigns 0 at `/a` of each line of the input.
 fn run(alloc: Global, input: &[u8]) -> Result<Given, Fail> {
     let run = LineTask {
-        task: Task::Set(Pointer::parse("/a")?, Value::from(0)),
+        task: Task::Set(Pointer::parse("/a")?, RawValue::parse(alloc, "0")?),
         layout: Layout::Kept,
         fallback: None,
         name: String::from_str(alloc, "in")?,

@@ -7,6 +7,7 @@ use Rattle.jsonptr_skim.specs.Search.{choices}
 use Rattle.jsonptr_splice.specs.Editing.{IsEdited}
 use Rattle.jsonptr_splice.specs.Spacing.{Splices}
 use Rattle.jsonptr_splice.specs.declared.edit.Edit.TheVariants.{Replace}
+use Rattle.jsonptr_splice.specs.Alike.{Holds}
 use Rattle.jsonptr_splice.specs.Child.{IsValueText}
 use Rattle.jsonptr_edit_in_text.specs.PrivateReaching.{ReplacesByText}
 use Rattle.jsonptr_edit_in_text.specs.PrivateOperating.{AddsInText}
@@ -42,12 +43,13 @@ returns-clause-bytes c =
     let after = c.in_ok-clone.field-0 in
     let flat = string_bytes c.args.value.now.flat in
     let piece = c.as_str-piece.result.now in
-    let made = subst (λ (f : Text). (e : Data) × (read f ≡ Some e) × IsValueText e piece) c.as_str.ensures.value (c.in_ok-is_value_of.ensures c.if-not-branch.false) in
+    let made = subst (λ (f : Text). (e : Data) × (read f ≡ Some e) × IsValueText e piece) c.as_str.ensures.value (c.in_ok-is_value_of.ensures.value c.if-not-branch.false) in
+    let holds = subst (λ (f : Text). Holds f piece) c.as_str.ensures.value (c.in_ok-is_value_of.ensures.holds c.if-not-branch.false) in
     if_new c.edit_by.result
     (λ s. IsEdited cut.text.now (string_bytes s) cs (Replace before after) × Splices cut.text.now (string_bytes s) cut.was.now piece)
     (λ s. ReplacesByText old (string_bytes s) (front ++ x ∷ []) flat)
     (λ s h. replaced_member old (string_bytes s) front x cut.was.now piece flat (subst (λ (t : Text). Splices t (string_bytes s) cut.was.now piece) c.in-Some.ensures h.1)
-    (traded old cut.text.now (string_bytes s) front x cs before after cut.was.now flat c.in-Some.ensures c.requires c.in_ok-from_str.ensures.ok c.in_ok-clone.ensures.cases h.0) (c.is_trimmed.ensures c.if-not-is_trimmed.false) made)
+    (traded old cut.text.now (string_bytes s) front x cs before after cut.was.now flat c.in-Some.ensures c.requires c.in_ok-from_str.ensures.ok c.in_ok-clone.ensures.cases h.0) (c.is_trimmed.ensures c.if-not-is_trimmed.false) made holds)
     (if_both c.edit_by.result
     (λ s. IsEdited cut.text.now (string_bytes s) cs (Replace before after))
     (λ s. Splices cut.text.now (string_bytes s) cut.was.now piece)

@@ -1,5 +1,4 @@
-use Rattle.std.proofs.Common.{◌∷◌, ◌++◌, List, Option, IfSome, string_bytes, refl, subst, ap, ◌∙◌}
-use Rattle.serde_json.specs.View.{view}
+use Rattle.std.proofs.Common.{◌≡◌, ◌∷◌, ◌++◌, List, Option, IfSome, string_bytes, refl, subst, ap, ◌∙◌}
 use Rattle.jsonptr_grammar.specs.Text.{Text}
 use Rattle.jsonptr.specs.Pointer.{tokens}
 use Rattle.jsonptr_tree.specs.Growing.{grown}
@@ -10,30 +9,45 @@ use Rattle.jsonptr_edit_in_text.specs.PrivateReaching.{IsExpanded, ReachedInText
 use Rattle.jsonptr_edit_in_text.proofs.EditLemmas.{if_new, of_scalar, assigns_scalar}
 use Rattle.jsonptr_edit_in_text.specs.Bytes.{ExpandsBytes}
 use Rattle.jsonptr_edit_in_text.specs.PrivateReaching.{ReplacesScalarByText}
+use Rattle.json.specs.Lex.{tokens as lexed}
+use Rattle.jsonptr_edit_in_text.specs.Carrying.{value_of, Carries}
+use Rattle.jsonptr_edit_in_text.specs.PrivateWrapping.{wrapped}
 use Rattle.jsonptr_edit_in_text.proofs.BytesLemmas.{expands}
+use Rattle.jsonptr_edit_in_text.proofs.WrappingLemmas.{carries_wrapped}
 use Rattle.jsonptr_edit_in_text.proofs.assign.assign_scalar.Goals as goal
 
 pub returns-clause-assigned : goal.returns-clause-assigned
 returns-clause-assigned c = λ x after rest.
     let flat = string_bytes c.in-Some.value.flat in
-    let e = subst (λ (o : Option ValueText). IfSome o (IsExpanded (tokens c.args.rest) (nodes (view c.args.value.now)))) c.in-Some.is c.in_ok-value.ensures in
+    let e = subst (λ (o : Option ValueText). IfSome o (IsExpanded (tokens c.args.rest) (nodes (value_of c.args.value.now)))) c.in-Some.is c.in_ok-value.ensures.value in
     let front = tokens c.args.pointer in
     if_new c.replace_scalar.result
     (λ s. ReachedInText c.args.text.now (string_bytes s) front (ScalarBecomes flat))
-    (λ s. AssignsInText c.args.text.now (front ++ x ∷ after) (nodes (view c.args.value.now)) (string_bytes s))
-    (λ s h. assigns_scalar c.args.text.now (string_bytes s) (front ++ x ∷ after) front x after e.0 (nodes (view c.args.value.now)) refl (e.2 ∙ ap (λ (ts : List Text). grown ts (nodes (view c.args.value.now))) rest) (of_scalar c.args.text.now (string_bytes s) front flat e.0 e.1 h))
+    (λ s. AssignsInText c.args.text.now (front ++ x ∷ after) (nodes (value_of c.args.value.now)) (string_bytes s))
+    (λ s h. assigns_scalar c.args.text.now (string_bytes s) (front ++ x ∷ after) front x after e.0 (nodes (value_of c.args.value.now)) refl (e.2 ∙ ap (λ (ts : List Text). grown ts (nodes (value_of c.args.value.now))) rest) (of_scalar c.args.text.now (string_bytes s) front flat e.0 e.1 h))
     c.replace_scalar.ensures.reached
 
 pub returns-clause-bytes : goal.returns-clause-bytes
 returns-clause-bytes c =
     let old = c.args.text.now in
     let flat = string_bytes c.in-Some.value.flat in
-    let v = view c.args.value.now in
+    let v = value_of c.args.value.now in
     let more = tokens c.args.rest in
-    let e = subst (λ (o : Option ValueText). IfSome o (IsExpanded more (nodes v))) c.in-Some.is c.in_ok-value.ensures in
+    let e = subst (λ (o : Option ValueText). IfSome o (IsExpanded more (nodes v))) c.in-Some.is c.in_ok-value.ensures.value in
     let front = tokens c.args.pointer in
     if_new c.replace_scalar.result
     (λ s. ReplacesScalarByText old (string_bytes s) front flat)
     (λ s. ExpandsBytes old (string_bytes s) front more v)
     (λ s h. expands old (string_bytes s) front more flat v e.0 e.1 e.2 h)
+    c.replace_scalar.ensures.bytes
+
+pub returns-clause-carries : goal.returns-clause-carries
+returns-clause-carries c =
+    let flat = string_bytes c.in-Some.value.flat in
+    let given = string_bytes c.args.value.now.text.flat in
+    let same = subst (λ (o : Option ValueText). IfSome o (λ t. lexed (string_bytes t.flat) ≡ wrapped (tokens c.args.rest) (lexed given))) c.in-Some.is c.in_ok-value.ensures.same in
+    if_new c.replace_scalar.result
+    (λ s. ReplacesScalarByText c.args.text.now (string_bytes s) (tokens c.args.pointer) flat)
+    (λ s. Carries given (string_bytes s))
+    (λ s h. carries_wrapped (tokens c.args.rest) given flat (string_bytes s) same h.3)
     c.replace_scalar.ensures.bytes

@@ -4,6 +4,7 @@ use Rattle.serde_json.specs.Read.{read}
 use Rattle.jsonptr_grammar.specs.Text.{Text}
 use Rattle.jsonptr.specs.Pointer.{tokens}
 use Rattle.jsonptr_splice.specs.Spacing.{Splices}
+use Rattle.jsonptr_splice.specs.Alike.{Holds}
 use Rattle.jsonptr_splice.specs.Child.{IsValueText}
 use Rattle.jsonptr_edit_in_text.specs.PrivateReaching.{ReachedInText, Trades, ReplacesByText, ReplacesScalarByText}
 use Rattle.jsonptr_edit_in_text.proofs.EditLemmas.{if_new, if_both}
@@ -17,11 +18,12 @@ returns-clause-bytes c =
     let piece = c.as_str-piece.result.now in
     let flat = string_bytes c.args.value.now.flat in
     let ts = tokens c.args.pointer in
-    let made = subst (λ (f : Text). (e : Data) × (read f ≡ Some e) × IsValueText e piece) c.as_str.ensures.value (c.in_ok-is_value_of.ensures c.if-not-branch.false) in
+    let made = subst (λ (f : Text). (e : Data) × (read f ≡ Some e) × IsValueText e piece) c.as_str.ensures.value (c.in_ok-is_value_of.ensures.value c.if-not-branch.false) in
+    let holds = subst (λ (f : Text). Holds f piece) c.as_str.ensures.value (c.in_ok-is_value_of.ensures.holds c.if-not-branch.false) in
     if_new c.edit_at.result
     (λ s. Splices old (string_bytes s) was piece × ReachedInText old (string_bytes s) ts (Trades was flat))
     (λ s. ReplacesByText old (string_bytes s) ts flat)
-    (λ s h. replaced old (string_bytes s) was piece flat ts h.0 h.1 (c.is_trimmed.ensures c.if-not-is_trimmed.false) made)
+    (λ s h. replaced old (string_bytes s) was piece flat ts h.0 h.1 (c.is_trimmed.ensures c.if-not-is_trimmed.false) made holds)
     (if_both c.edit_at.result
     (λ s. Splices old (string_bytes s) was piece)
     (λ s. ReachedInText old (string_bytes s) ts (Trades was flat))
@@ -36,11 +38,12 @@ returns-clause-scalar c = λ d reads scalar.
     let piece = c.as_str-piece.result.now in
     let flat = string_bytes c.args.value.now.flat in
     let ts = tokens c.args.pointer in
-    let made = subst (λ (f : Text). (e : Data) × (read f ≡ Some e) × IsValueText e piece) c.as_str.ensures.value (c.in_ok-is_value_of.ensures c.if-not-branch.false) in
+    let made = subst (λ (f : Text). (e : Data) × (read f ≡ Some e) × IsValueText e piece) c.as_str.ensures.value (c.in_ok-is_value_of.ensures.value c.if-not-branch.false) in
+    let holds = subst (λ (f : Text). Holds f piece) c.as_str.ensures.value (c.in_ok-is_value_of.ensures.holds c.if-not-branch.false) in
     if_new c.edit_at.result
     (λ s. Splices old (string_bytes s) was piece × ReachedInText old (string_bytes s) ts (Trades was flat))
     (λ s. ReplacesScalarByText old (string_bytes s) ts flat)
-    (λ s h. replaced_scalar old (string_bytes s) was piece flat ts d h.0 h.1 (c.is_trimmed.ensures c.if-not-is_trimmed.false) made reads scalar)
+    (λ s h. replaced_scalar old (string_bytes s) was piece flat ts d h.0 h.1 (c.is_trimmed.ensures c.if-not-is_trimmed.false) made holds reads scalar)
     (if_both c.edit_at.result
     (λ s. Splices old (string_bytes s) was piece)
     (λ s. ReachedInText old (string_bytes s) ts (Trades was flat))

@@ -1,4 +1,3 @@
-use Rattle.serde_json.specs.View.{view}
 use Rattle.jsonptr.specs.Pointer.{tokens}
 use Rattle.jsonptr_filter.proofs.ResultLemmas.{set_anew}
 use Rattle.jsonptr_filter.proofs.edit.set.Goals as goal
@@ -8,6 +7,6 @@ returns-in-Kept-clause-done c = rw c.in-Kept.is c.set_in_place.ensures.done
 
 pub returns-in_default : goal.returns-in_default
 returns-in_default c = record {
-  done = set_anew c.args.text.now (tokens c.args.pointer) (view c.args.value.now) c.args.layout c.set_anew.result c.in_default.not-Kept c.set_anew.ensures.done;
+  done = set_anew c.args.text.now (tokens c.args.pointer) c.args.value.now c.args.layout c.set_anew.result c.in_default.not-Kept c.set_anew.ensures.done;
   failed = c.set_anew.ensures.failed;
 }

@@ -1,0 +1,22 @@
+-- The text of a document with its tokens on lines.
+use Rattle.std.specs.Prelude.{◌≡◌, Some, None, ⊤}
+use Rattle.json.specs.Lex.{tokens}
+use Rattle.serde_json.specs.Data.{Data}
+use Rattle.serde_json.specs.Read.{read}
+use Rattle.jsonptr_grammar.specs.Text.{Text}
+use Rattle.jsonptr_edit_in_text.specs.declared.indent.IndentError.{IndentError}
+use Rattle.jsonptr_edit_in_text.specs.declared.indent.IndentError.TheVariants.{NotJson, NotWhiteSpace, Memory}
+
+-- `IsIndented text new`: `text` is the text of a document, and `new` has the same tokens, one for one. So it is read as the same
+-- document
+pub record IsIndented (text new : Text) : Type 0 where
+  pub document : Data
+  pub from : read text ≡ Some document
+  pub same : tokens new ≡ tokens text
+  pub reads : read new ≡ Some document
+
+-- `IsIndentError text e`: `e` is why `text` is not laid out, if it is not for memory or for the indentation
+abbrev pub IsIndentError : Text → IndentError → Type 0
+IsIndentError text NotJson = read text ≡ None
+IsIndentError text NotWhiteSpace = ⊤
+IsIndentError text (Memory e) = ⊤

@@ -1,0 +1,148 @@
+//! Reading and printing the text of a value, and expanding it.
+ghost use Rattle.std.specs.Prelude.{◌≡◌, ◌≤◌, ◌<◌, Some, IfOk, IfErr, IfSome, MatchOption, string_bytes};
+ghost use Rattle.json.specs.Lex.{tokens as lexed};
+ghost use Rattle.serde_json.specs.Data.{Data, depth};
+ghost use Rattle.serde_json.specs.Read.{read, max_depth};
+ghost use Rattle.serde_json.specs.View.{view};
+ghost use Rattle.jsonptr.specs.Pointer.{tokens};
+ghost use Rattle.jsonptr_tree.specs.Json.{nodes};
+ghost use Rattle.jsonptr_in_text.specs.InText.{IsReadError};
+ghost use Rattle.jsonptr_edit_in_text.specs.Carrying.{value_of};
+ghost use Rattle.jsonptr_edit_in_text.specs.PrivateReaching.{IsExpanded};
+ghost use Rattle.jsonptr_edit_in_text.specs.PrivateWrapping.{wrapped};
+
+use crate::raw_value::RawValue;
+use crate::wrap::expanded;
+use jsonptr::Pointer;
+use jsonptr_in_text::{Format, InTextError, Scratch, format_text};
+use jsonptr_splice::layout::{ValueText, text_of_value};
+use jsonptr_value::{MAX_DEPTH, nests_within};
+use serde_json::Value;
+use std::alloc::{AllocError, Global};
+
+impl RawValue {
+    /// Reads a JSON text.
+    ///
+    /// # Errors
+    ///
+    /// - [`InTextError::NotJson`] if `serde_json` does not read the text.
+    /// - [`InTextError::Memory`] if an allocation fails.
+    ///
+    /// # Examples
+    ///
+    /// ```rust
+    /// let price = RawValue::parse(alloc, "{\"price\": 1.10, \"currency\": \"EUR\"}")?;
+    /// assert_eq!(rt; price.text.flat.as_str(), "{\"price\":1.10,\"currency\":\"EUR\"}");
+    /// ```
+    pub fn parse(alloc: Global, text: &str) -> Result<RawValue, InTextError>
+        ensures value { IfOk result (λ r. read text.now ≡ Some (value_of r)) }
+        ensures same { IfOk result (λ r. lexed (string_bytes r.text.flat) ≡ lexed text.now) }
+        ensures refused { IfErr result (IsReadError text.now) }
+    {
+        let mut scratch = Scratch::new(alloc);
+        let flat = format_text(alloc, &mut scratch, text, Format::Compact)?;
+        let lines = format_text(alloc, &mut scratch, text, Format::Pretty)?;
+        let text = ValueText { flat, lines };
+        Ok(RawValue { text })
+    }
+
+    /// Returns the value.
+    ///
+    /// # Errors
+    ///
+    /// [`AllocError`] if an allocation fails.
+    ///
+    /// # Examples
+    ///
+    /// ```rust
+    /// let value = RawValue::parse(alloc, "[1.10, 2]")?.to_value(alloc)?;
+    /// assert_eq!(rt; value.to_string(alloc)?.as_str(), "[1.1,2]");
+    /// ```
+    pub fn to_value(&self, alloc: Global) -> Result<Value, AllocError>
+        ensures { IfOk result (λ v. view v ≡ value_of self.now) }
+    {
+        match Value::from_str(alloc, self.text.flat.as_str()) {
+            Ok(value) => Ok(value),
+            // The text is JSON, so an allocation failed.
+            Err(_error) => Err(AllocError),
+        }
+    }
+
+    /// Prints a value. Returns `None` if it nests deeper than 127, so that no text of it is read.
+    ///
+    /// # Errors
+    ///
+    /// [`AllocError`] if an allocation fails.
+    ///
+    /// # Examples
+    ///
+    /// ```rust
+    /// let name = Value::String(String::from_str(alloc, "Ada \"L\"")?);
+    /// let raw = RawValue::from_value(alloc, &name)?;
+    /// assert!(rt; raw.is_some_and(|raw| raw.text.flat.as_str() == "\"Ada \\\"L\\\"\""));
+    /// ```
+    pub fn from_value(alloc: Global, value: &Value) -> Result<Option<RawValue>, AllocError>
+        ensures { IfOk result (λ o. MatchOption o (max_depth < depth (view value.now))
+            (λ r. value_of r ≡ view value.now)) }
+    {
+        if nests_within(value, MAX_DEPTH) {
+            Ok(Some(RawValue::print(alloc, value)?))
+        } else {
+            Ok(None)
+        }
+    }
+
+    /// Prints a value.
+    pub(crate) fn print(alloc: Global, value: &Value) -> Result<RawValue, AllocError>
+        requires { depth (view value.now) ≤ max_depth }
+        ensures { IfOk result (λ r. value_of r ≡ view value.now) }
+    {
+        let text = text_of_value(alloc, value)?;
+        Ok(RawValue { text })
+    }
+}
+
+/// Returns the text of the value, expanded by the tokens of the pointer, or `None` if that nests too
+/// deep to be read.
+///
+/// # Errors
+///
+/// [`AllocError`] if an allocation fails.
+pub fn expanded_text(
+    alloc: Global,
+    scratch: &mut Scratch,
+    pointer: Pointer<'_>,
+    value: &RawValue,
+) -> Result<Option<ValueText>, AllocError>
+    ensures value { IfOk result (λ text. IfSome text
+        (IsExpanded (tokens pointer.entry) (nodes (value_of value.now)))) }
+    ensures same { IfOk result (λ text. IfSome text (λ t. lexed (string_bytes t.flat)
+        ≡ wrapped (tokens pointer.entry) (lexed (string_bytes value.now.text.flat)))) }
+{
+    if pointer.count() > MAX_DEPTH {
+        return Ok(None);
+    }
+    let Some(flat) = expanded(alloc, scratch, pointer, value.text.flat.as_str())? else {
+        return Ok(None);
+    };
+    lay_out(alloc, scratch, flat)
+}
+
+/// Returns the text in both layouts, or `None` if it is not JSON.
+fn lay_out(
+    alloc: Global,
+    scratch: &mut Scratch,
+    flat: String,
+) -> Result<Option<ValueText>, AllocError>
+    ensures flat { IfOk result (λ text. IfSome text
+        (λ t. string_bytes t.flat ≡ string_bytes flat)) }
+    ensures reads { IfOk result (λ text. IfSome text
+        (λ t. (e : Data) × (read (string_bytes flat) ≡ Some e))) }
+{
+    match format_text(alloc, scratch, flat.as_str(), Format::Pretty) {
+        Ok(lines) => Ok(Some(ValueText { flat, lines })),
+        Err(InTextError::Memory(error)) => Err(error),
+        Err(InTextError::NotJson) => Ok(None),
+        Err(InTextError::Resolve(_error)) => Ok(None),
+    }
+}
