@@ -1,4 +1,5 @@
 -- Lemmas on values that are the same, on the pieces of a text, and on what a change of a document leads to.
 pub mod SameLemmas
 pub mod ChangingLemmas
+pub mod FailingLemmas
 pub mod PieceLemmas

@@ -1,9 +1,7 @@
 -- Values that are the same, part by part.
-use Rattle.std.proofs.Common.{◌≡◌, ℕ, suc, ◌<◌, Bool, true, false, not, bytes_eq, length-append, append-nil, List, [], ◌∷◌, ◌++◌, length, get_or, BTreeMap, String, Global, string_bytes, refl, sym, ap, ◌∙◌, arith, true≢false, IsTrue, nat_eq, Vec, rules}
+use Rattle.std.proofs.Common.{◌≡◌, ℕ, suc, ◌<◌, Bool, true, false, not, bytes_eq, length-append, append-nil, List, [], ◌∷◌, ◌++◌, length, get_or, BTreeMap, String, Global, string_bytes, refl, sym, ap, ◌∙◌, arith, true≢false, Vec, rules}
 use Rattle.std.specs.Vec.{vec_len}
-use Rattle.std.specs.Prelude.{⊤, is_nan}
-use Rattle.std.proofs.lemmas.Bool.Decides.{nat_tests}
-use lib.Ieee.{Float, nan, inf, fin}
+use Rattle.std.specs.Bool.{⊤}
 use Rattle.std.proofs.lemmas.Slice.Eq.{bytes_eq-Decides}
 use Rattle.toml.specs.Data.{Data, member, item}
 use Rattle.toml.specs.View.{view, items_view, members_view}
@@ -64,18 +62,6 @@ equal_texts x y k l b left right is h = sym left ∙ (bytes_eq-Decides x y).0 (b
     by_value : (c : Bool) → not c ≡ false → c ≡ true
     by_value true e = refl
     by_value false e = absurd (true≢false e)
-
--- there is one NaN
-pub both_nan : (x y : Float) → is_nan x ≡ true → is_nan y ≡ true → x ≡ y
-unfolding lib.Ieee.is_nan
-both_nan nan nan h g = refl
-both_nan nan (inf s) h g = absurd (true≢false (sym g))
-both_nan nan (fin s m e) h g = absurd (true≢false (sym g))
-both_nan (inf s) y h g = absurd (true≢false (sym h))
-both_nan (fin s m e) y h g = absurd (true≢false (sym h))
-
-pub same_nat : (n m : ℕ) → IsTrue (nat_eq n m) → n ≡ m
-same_nat n m h = grind (arith, nat_tests, h)
 
 pub same_len : (v w : Vec Value Global) → vec_len v ≡ vec_len w → length v.items ≡ length w.items
 same_len v w h = search (rules, h)

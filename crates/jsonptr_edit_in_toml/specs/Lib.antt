@@ -1,4 +1,5 @@
 -- Edits of a TOML document in its text.
 pub mod Bytes
 pub mod EditInToml
+pub mod Failing
 pub mod InPlace

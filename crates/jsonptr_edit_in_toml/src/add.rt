@@ -6,7 +6,7 @@ use crate::part::add_part;
 use crate::piece::{has_headers, section_text};
 use crate::plan::{Addition, Child, Keys};
 use crate::span::{
-    Span, comments_above, is_blank_line, line_start, newline_of, skip_blank_lines,
+    Span, comments_above, is_blank_line, is_tight, line_start, newline_of, skip_blank_lines,
     skip_comment_lines, skip_own_comments, slice, text_start,
 };
 use jsonptr::{Pointer, PointerBuf};
@@ -256,18 +256,9 @@ fn is_spread(text: &str, outline: &Outline, line: &Line) -> bool {
 /// Returns the equals sign of the item, with the white space that is usual there.
 fn equals_of(text: &str, sibling: Option<&Item>) -> &'static str {
     match sibling {
-        Some(item) if item.kind == Kind::Pair && is_tight(text, item) => "=",
+        Some(item) if item.kind == Kind::Pair && is_tight(text, item.key, item.value) => "=",
         _ => " = ",
     }
-}
-
-/// Returns whether the equals sign of the pair has no white space beside it.
-fn is_tight(text: &str, item: &Item) -> bool {
-    let equals = Span {
-        from: item.key.to,
-        to: item.value.from,
-    };
-    slice(text, equals) == "="
 }
 
 /// Where headers and pairs are added.

@@ -4,13 +4,14 @@ ghost use Rattle.toml.specs.Data.{Data};
 ghost use Rattle.toml.specs.View.{view};
 ghost use Rattle.jsonptr.specs.Pointer.{tokens};
 ghost use Rattle.jsonptr_tree.specs.TomlValue.{FindsValue};
-ghost use Rattle.jsonptr_in_toml.specs.InToml.{ReadsAs, AssignsInToml, FailsToAssign, IsPrintFault, PrintsAs};
+ghost use Rattle.jsonptr_in_toml.specs.InToml.{ReadsAs, AssignsInToml, PrintsAs};
 ghost use Rattle.jsonptr_edit_in_toml.specs.EditInToml.{text_of, AssignsInText, KeepsBytes, IsPrinted};
 ghost use Rattle.jsonptr_edit_in_toml.specs.Bytes.{AssignsBytes, IsAlone};
+ghost use Rattle.jsonptr_edit_in_toml.specs.Failing.{FailsToAssignInText, IsEditFault};
 
 use crate::add::plan_addition;
 use crate::alone::{is_alone, is_filler, is_one_child};
-use crate::check::is_document_of;
+use crate::check::{has_deep_values, is_document_of};
 use crate::cut::{cut_at, splice};
 use crate::edited::Edited;
 use crate::plan::{Addition, Replacement};
@@ -19,6 +20,7 @@ use jsonptr::{Assign, Fault, Pointer, Resolve};
 use jsonptr_in_toml::InTomlError;
 use jsonptr_in_toml::depth::{MAX_DEPTH, is_long, value_within};
 use jsonptr_in_toml::document::{print_toml, read_toml};
+use jsonptr_value::discard;
 use std::alloc::{AllocError, Global};
 use toml::Value;
 
@@ -61,7 +63,8 @@ pub fn assign_in_toml_text(
         (AssignsBytes text.now (tokens pointer.entry) (view value))) }
     ensures printed { IfOk result (IsPrinted
         (AssignsInToml text.now (tokens pointer.entry) (view value))) }
-    ensures failed { IfErr result (FailsToAssign text.now (tokens pointer.entry) (view value)) }
+    ensures failed { IfErr result
+        (FailsToAssignInText text.now (tokens pointer.entry) (view value)) }
 {
     let mut document = read_toml(alloc, text)?;
     if is_long(pointer) {
@@ -86,8 +89,12 @@ pub fn choose(
     ensures place { IfOk result (KeepsBytes (λ s. IfSome candidate (λ c. s ≡ string_bytes c))) }
     ensures there { IfOk result (KeepsBytes (λ s. IsSome candidate)) }
     ensures printed { IfOk result (IsPrinted (PrintsAs (view document))) }
-    ensures failed { IfErr result (IsPrintFault (view document)) }
+    ensures failed { IfErr result (IsEditFault (view document)) }
 {
+    if has_deep_values(&document) {
+        discard(document);
+        return Err(InTomlError::TooDeep);
+    }
     if let Some(new) = candidate {
         if is_document_of(alloc, new.as_str(), &document)? {
             return Ok(Edited::InPlace(new));

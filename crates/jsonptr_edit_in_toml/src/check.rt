@@ -1,11 +1,12 @@
 //! Reading a text, and comparing what it contains with a value.
-ghost use Rattle.std.specs.Prelude.{◌≡◌, Some, IsTrue, IfOk};
+ghost use Rattle.std.specs.Prelude.{◌≡◌, ◌↔◌, Some, IsTrue, IfOk};
 ghost use Rattle.toml.specs.View.{view};
 ghost use Rattle.toml.specs.Parse.{parse_value};
-ghost use Rattle.jsonptr_in_toml.specs.InToml.{ReadsAs};
+ghost use Rattle.jsonptr_in_toml.specs.InToml.{ReadsAs, HasDeepValues};
 
 use crate::same::is_same;
 use jsonptr_in_toml::InTomlError;
+use jsonptr_in_toml::depth::{MAX_DEPTH, table_within};
 use jsonptr_in_toml::document::read_toml;
 use std::alloc::{AllocError, Global};
 use toml::Value;
@@ -29,5 +30,15 @@ pub fn is_text_of(alloc: Global, text: &str, want: &Value) -> Result<bool, Alloc
         Ok(value) => Ok(is_same(&value, want)),
         Err(error) if error.is_memory() => Err(AllocError),
         Err(_) => Ok(false),
+    }
+}
+
+/// Returns whether the value is a table whose values nest deeper than 80.
+pub fn has_deep_values(value: &Value) -> bool
+    ensures { IsTrue result ↔ HasDeepValues (view value.now) }
+{
+    match value {
+        Value::Table(table) => !table_within(table, MAX_DEPTH),
+        _ => false,
     }
 }

@@ -4,9 +4,10 @@ ghost use Rattle.toml.specs.Data.{Data};
 ghost use Rattle.toml.specs.View.{view};
 ghost use Rattle.jsonptr.specs.Pointer.{tokens};
 ghost use Rattle.jsonptr_tree.specs.TomlValue.{FindsValue};
-ghost use Rattle.jsonptr_in_toml.specs.InToml.{ReadsAs, DeletesInToml, FailsToDelete};
+ghost use Rattle.jsonptr_in_toml.specs.InToml.{ReadsAs, DeletesInToml};
 ghost use Rattle.jsonptr_edit_in_toml.specs.EditInToml.{text_of, DeletesInText, KeepsBytes, IsPrinted};
 ghost use Rattle.jsonptr_edit_in_toml.specs.Bytes.{DeletesBytes, IsEmpty, Empties};
+ghost use Rattle.jsonptr_edit_in_toml.specs.Failing.{FailsToDeleteInText};
 
 use crate::alone::{empty_table, is_alone, is_one_child};
 use crate::assign::choose;
@@ -50,7 +51,7 @@ pub fn delete_in_toml_text(
     ensures deleted { IfOk result (λ e. DeletesInText text.now (tokens pointer.entry) (text_of e)) }
     ensures bytes { IfOk result (KeepsBytes (DeletesBytes text.now (tokens pointer.entry))) }
     ensures printed { IfOk result (IsPrinted (DeletesInToml text.now (tokens pointer.entry))) }
-    ensures failed { IfErr result (FailsToDelete text.now (tokens pointer.entry)) }
+    ensures failed { IfErr result (FailsToDeleteInText text.now (tokens pointer.entry)) }
 {
     let mut document = read_toml(alloc, text)?;
     let candidate = candidate_of(alloc, text, pointer, &document)?;

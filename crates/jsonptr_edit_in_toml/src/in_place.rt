@@ -2,9 +2,9 @@
 ghost use Rattle.std.specs.Prelude.{IfOk, IfErr, string_bytes};
 ghost use Rattle.toml.specs.View.{view};
 ghost use Rattle.jsonptr.specs.Pointer.{tokens};
-ghost use Rattle.jsonptr_in_toml.specs.InToml.{FailsToAssign, FailsToDelete};
 ghost use Rattle.jsonptr_edit_in_toml.specs.EditInToml.{AssignsInText, DeletesInText};
 ghost use Rattle.jsonptr_edit_in_toml.specs.Bytes.{AssignsBytes, DeletesBytes};
+ghost use Rattle.jsonptr_edit_in_toml.specs.Failing.{FailsToAssignInText, FailsToDeleteInText};
 ghost use Rattle.jsonptr_edit_in_toml.specs.InPlace.{IsInPlaceError};
 
 use crate::assign::assign_in_toml_text;
@@ -53,7 +53,7 @@ pub fn assign_in_place(
         AssignsBytes text.now (tokens pointer.entry) (view value) (string_bytes s)) }
     ensures refused { IfErr result (IsInPlaceError
         (AssignsInText text.now (tokens pointer.entry) (view value))
-        (FailsToAssign text.now (tokens pointer.entry) (view value))) }
+        (FailsToAssignInText text.now (tokens pointer.entry) (view value))) }
 {
     match assign_in_toml_text(alloc, text, pointer, value) {
         Ok(Edited::InPlace(new)) => Ok(new),
@@ -86,7 +86,7 @@ pub fn delete_in_place(
         (λ s. DeletesBytes text.now (tokens pointer.entry) (string_bytes s)) }
     ensures refused { IfErr result (IsInPlaceError
         (DeletesInText text.now (tokens pointer.entry))
-        (FailsToDelete text.now (tokens pointer.entry))) }
+        (FailsToDeleteInText text.now (tokens pointer.entry))) }
 {
     match delete_in_toml_text(alloc, text, pointer) {
         Ok(Edited::InPlace(new)) => Ok(new),

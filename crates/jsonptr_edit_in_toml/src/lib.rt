@@ -29,6 +29,7 @@ mod in_place;
 mod inline;
 mod items;
 mod keys;
+pub mod laws;
 mod outline;
 mod part;
 mod piece;

@@ -176,6 +176,13 @@ impl Outline {
             .any(|trace| trace.role == Role::Above && trace.shared == count)
     }
 
+    /// Returns how many tokens lead to the table with a header that the last of so many tokens is a key in,
+    /// or 0 if it has none.
+    pub fn table_above(&self, count: usize) -> usize {
+        let above = count.saturating_sub(1);
+        if self.has_header(above) { above } else { 0 }
+    }
+
     /// Returns whether the token is an index of an array of tables.
     pub fn is_element(&self, index: usize) -> bool {
         self.route.counts.get(index).copied().unwrap_or(0) > 0

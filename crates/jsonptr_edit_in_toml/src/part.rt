@@ -5,7 +5,8 @@ use crate::keys::push_keys;
 use crate::outline::{Outline, Role};
 use crate::plan::{Addition, Child, Keys};
 use crate::span::{
-    Span, ends_line, is_comment_line, line_end, line_start, newline_of, skip_blanks, slice,
+    Span, ends_line, is_comment_line, is_tight, line_end, line_start, newline_of, skip_blanks,
+    slice,
 };
 use std::alloc::{AllocError, Global};
 use toml::Value;
@@ -50,7 +51,7 @@ pub fn add_part(
             container.count,
             outline.count(),
         )?;
-        part.push_str(" = ")?;
+        part.push_str(equals_in(text, &container))?;
         keys = Keys::Some(outline.last_keys(alloc, container.count)?);
     }
     part.push_str(value.to_string(alloc)?.as_str())?;
@@ -59,6 +60,14 @@ pub fn add_part(
         None => first_part(alloc, text, container.span, is_member)?,
     };
     Ok(Some(addition_of(added, part.as_str(), keys)?))
+}
+
+/// Returns the equals sign of the last member, with the white space that is usual there.
+fn equals_in(text: &str, container: &Container) -> &'static str {
+    match container.parts.last() {
+        Some(last) if is_tight(text, last.key, last.value) => "=",
+        _ => " = ",
+    }
 }
 
 /// Returns the innermost array or inline table that the tokens lead to.
@@ -109,7 +118,8 @@ fn first_part(
     is_member: bool,
 ) -> Result<Added, AllocError> {
     let after = container.from.saturating_add(1);
-    let is_tight = byte_at(text, after) == b'}';
+    let is_closed = byte_at(text, after) == b'}';
+    let is_blank = skip_blanks(text, after) > after;
     if !is_member && ends_line(text, after) {
         let at = line_end(text, after);
         let line = line_start(text, container.from);
@@ -133,8 +143,8 @@ fn first_part(
             to: after,
         },
         lead: String::new(alloc),
-        gap: String::from_str(alloc, if is_member { " " } else { "" })?,
-        tail: if is_member && is_tight { " " } else { "" },
+        gap: String::from_str(alloc, if is_member || is_blank { " " } else { "" })?,
+        tail: if is_member && is_closed { " " } else { "" },
     })
 }
 
@@ -149,7 +159,7 @@ fn after_part(
     let after = last.comma.unwrap_or(last.whole.to);
     let is_own_line = line > container.span.from && skip_blanks(text, line) == last.whole.from;
     if !is_own_line || !ends_line(text, after) {
-        return beside_part(alloc, last);
+        return beside_part(alloc, text, container, last);
     }
     let mut gap = String::from_str(alloc, newline_of(text))?;
     let indent = Span {
@@ -174,12 +184,37 @@ fn after_part(
 }
 
 /// Returns a part on the line of another one.
-fn beside_part(alloc: Global, last: &Part) -> Result<Added, AllocError> {
+fn beside_part(
+    alloc: Global,
+    text: &str,
+    container: &Container,
+    last: &Part,
+) -> Result<Added, AllocError> {
     let at = last.comma.unwrap_or(last.whole.to);
+    let mut gap = String::from_str(alloc, if last.comma.is_some() { "" } else { "," })?;
+    gap.push_str(space_before(text, container, last))?;
     Ok(Added {
         span: Span { from: at, to: at },
         lead: String::new(alloc),
-        gap: String::from_str(alloc, if last.comma.is_some() { " " } else { ", " })?,
+        gap,
         tail: if last.comma.is_some() { "," } else { "" },
     })
+}
+
+/// Returns the white space before the part, after a comma on the same line. Returns a space where no comma
+/// is there.
+fn space_before<'t>(text: &'t str, container: &Container, part: &Part) -> &'t str {
+    let Some(before) = part.index.checked_sub(1) else {
+        return " ";
+    };
+    match container.parts.get(before).and_then(|it| it.comma) {
+        Some(comma) if skip_blanks(text, comma) == part.whole.from => slice(
+            text,
+            Span {
+                from: comma,
+                to: part.whole.from,
+            },
+        ),
+        _ => " ",
+    }
 }

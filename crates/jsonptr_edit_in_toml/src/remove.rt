@@ -6,7 +6,7 @@ use crate::outline::{Outline, Role, indent_of, outline_of};
 use crate::plan::{Child, Keys, Left, Removal};
 use crate::span::{
     Span, blank_lines_above, comments_above, ends_line, line_start, newline_of, next_line,
-    skip_blank_lines, skip_blanks, skip_own_comments, slice,
+    skip_blank_lines, skip_blanks, skip_own_comments, text_start,
 };
 use jsonptr::{Pointer, PointerBuf};
 use std::alloc::{AllocError, Global};
@@ -158,7 +158,12 @@ fn remove_run(
         return Ok(Some(lines(span, keys, None)));
     }
     let left = if is_pair || outline.is_element(above) {
-        left_pair(alloc, text, outline, from, run.from)?
+        let table = if is_pair {
+            from
+        } else {
+            outline.table_above(above)
+        };
+        left_pair(alloc, text, outline, table, run.from)?
     } else {
         left_header(alloc, text, outline, run.from)?
     };
@@ -170,9 +175,14 @@ fn remove_run(
 }
 
 /// Returns the lines of a section, with the comment above it, and the blank lines after it or, at the end
-/// of the text, before it.
+/// of the text, before it. A comment at the start of the text is about the whole text, and stays.
 fn section(text: &str, line: usize, end: usize) -> Span {
-    let from = comments_above(text, line);
+    let above = comments_above(text, line);
+    let from = if above <= text_start(text) {
+        line
+    } else {
+        above
+    };
     let to = skip_blank_lines(text, skip_own_comments(text, end));
     if to >= text.len() {
         Span {

@@ -2,11 +2,11 @@
 ghost use Rattle.std.specs.Prelude.{◌≡◌, IsTrue};
 ghost use Rattle.toml.specs.View.{view, array_view, table_view};
 
+use jsonptr_value::is_same_float;
 use toml::value::{Array, Date, Datetime, Offset, Time};
 use toml::{Table, Value};
 
-/// Returns whether the two values are the same. Floats are compared bit by bit, except that all
-/// NaNs are the same.
+/// Returns whether the two values are the same. Floats are so if both are NaN, or have the same bits.
 #[cycle(same)]
 pub fn is_same(left: &Value, right: &Value) -> bool
     ensures { IsTrue result → view left.now ≡ view right.now }
@@ -41,19 +41,6 @@ pub fn is_same(left: &Value, right: &Value) -> bool
             _ => false,
         },
     }
-}
-
-/// Returns whether both floats are NaN, or have the same bits.
-fn is_same_float(left: f64, right: f64) -> bool
-    ensures { IsTrue result → left ≡ right }
-{
-    if left.is_nan() {
-        return right.is_nan();
-    }
-    if right.is_nan() {
-        return false;
-    }
-    left.to_bits() == right.to_bits()
 }
 
 /// Returns whether the two date-times are the same.

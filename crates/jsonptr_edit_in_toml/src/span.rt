@@ -22,6 +22,15 @@ pub fn slice(text: &str, span: Span) -> &str {
     }
 }
 
+/// Returns whether the equals sign between the key and the value has no white space beside it.
+pub fn is_tight(text: &str, key: Span, value: Span) -> bool {
+    let equals = Span {
+        from: key.to,
+        to: value.from,
+    };
+    slice(text, equals) == "="
+}
+
 /// Returns the offset after a byte order mark.
 pub fn text_start(text: &str) -> usize {
     if text.starts_with('\u{feff}') { 3 } else { 0 }

@@ -1,0 +1,8 @@
+use Rattle.jsonptr_edit_in_toml.proofs.FailingLemmas.{one_assign_error, one_delete_error}
+use Rattle.jsonptr_edit_in_toml.proofs.laws.one_error_law.Goals as goal
+
+pub returns-clause-assign : goal.returns-clause-assign
+returns-clause-assign c = one_assign_error c.assign_law.ensures.not_both c.assign_law.ensures.one_made c.assign_law.ensures.one
+
+pub returns-clause-delete : goal.returns-clause-delete
+returns-clause-delete c = one_delete_error
