@@ -110,6 +110,7 @@ fn a_key_is_added(rt: HostRuntime) -> Result<(), Fail> {
             ("t.b = 1\nc = 2\n", "/t/a", "1", "t.b = 1\nt.a = 1\nc = 2\n"),
             ("t = { b = 1 }\n", "/t/a", "1", "t = { b = 1, a = 1 }\n"),
             ("t = {}\n", "/t/a", "1", "t = { a = 1 }\n"),
+            ("t = {b=1}\n", "/t/a", "1", "t = {b=1, a=1}\n"),
             ("t = { b = 1 }\n", "/t/a/c", "1", "t = { b = 1, a.c = 1 }\n"),
         ],
     )
@@ -156,7 +157,9 @@ fn an_element_is_added(rt: HostRuntime) -> Result<(), Fail> {
         &[
             ("a = [1, 2]\n", "/a/-", "3", "a = [1, 2, 3]\n"),
             ("a = [1, 2,]\n", "/a/2", "3", "a = [1, 2, 3,]\n"),
+            ("a = [1,2]\n", "/a/-", "3", "a = [1,2,3]\n"),
             ("a = []\n", "/a/-", "3", "a = [3]\n"),
+            ("a = [ ]\n", "/a/-", "3", "a = [ 3 ]\n"),
             (
                 "a = [\n  1, # x\n]\n",
                 "/a/-",
@@ -199,6 +202,8 @@ fn a_table_is_deleted(rt: HostRuntime) -> Result<(), Fail> {
             ("a = 1\n\n[t]\nb = 1\n[t.u]\n", "/t", "a = 1\n"),
             ("[t.u]\nb = 1\n", "/t/u", "[t]\n"),
             ("[[x]]\na = 1\n[[x]]\na = 2\n", "/x/0", "[[x]]\na = 2\n"),
+            ("[t]\nb = 1\n[[t.x]]\n", "/t/x/0", "[t]\nb = 1\nx = []\n"),
+            ("# L\n[t]\nb = 1\n[u]\n", "/t", "# L\n[u]\n"),
         ],
     )
 }
