@@ -1,6 +1,10 @@
-//! Laws of lines.
+//! Laws of lines. Each law is the contract of a function that does nothing.
+//!
+//! - [`whole`]: lines as a whole text, and one after another.
 ghost use Rattle.std.specs.Prelude.{◌≡◌, ℕ, List};
 ghost use Rattle.jsonptr_lines.specs.Lines.{AreLines};
+
+pub mod whole;
 
 /// States that each input is exactly one list of lines.
 pub fn lines_law()
