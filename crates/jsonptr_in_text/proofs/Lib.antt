@@ -3,3 +3,4 @@ pub mod ErrorLemmas
 mod FormatLemmas
 pub mod SearchLemmas
 pub mod SelectorLemmas
+mod FormatLaws

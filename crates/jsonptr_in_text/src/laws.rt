@@ -1,4 +1,6 @@
-//! Laws of resolving in text.
+//! Laws of resolving in text. Each law is the contract of a function that does nothing.
+//!
+//! - [`format`]: texts that are laid out anew, and the outcomes of a pointer in a text.
 ghost use Rattle.std.specs.Prelude.{◌≡◌, ◌↔◌, ℕ, ◌<◌, ◌^◌, List, Some};
 ghost use Rattle.serde_json.specs.Data.{Data};
 ghost use Rattle.serde_json.specs.Read.{read};
@@ -11,6 +13,8 @@ ghost use Rattle.jsonptr.specs.Resolve.{Refuses};
 ghost use Rattle.jsonptr.specs.declared.resolve.Error.{Error};
 ghost use Rattle.jsonptr_in_text.specs.InText.{FindsInText, RefusesInText};
 ghost use Rattle.jsonptr_in_text.specs.Selecting.{AreChoicesOf, StopsLeft};
+
+pub mod format;
 
 /// States that a pointer is resolved in a text as in the document that `serde_json` reads from it.
 ///
