@@ -3,3 +3,4 @@ pub mod AlikeLemmas
 pub mod ChildLemmas
 pub mod LeadingLemmas
 pub mod SideLemmas
+mod PieceLaws

@@ -12,6 +12,7 @@ pub mod child;
 pub mod cut;
 mod decide;
 pub mod edit;
+pub mod laws;
 pub mod layout;
 pub mod lead;
 pub mod locate;
