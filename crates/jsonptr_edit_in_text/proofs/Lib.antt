@@ -1,3 +1,4 @@
+mod BytesLaws
 mod OperatingLemmas
 mod RewritingLemmas
 mod WrappingLemmas

@@ -13,6 +13,7 @@
 //! - [`assign_raw_in_place`] assigns a [`RawValue`], which keeps its own text: the order of its members
 //!   and the form of its numbers.
 //! - [`locate_in_text`] returns where a value is, and its own text.
+//! - [`laws`] states that the bytes of an edit can be put back.
 //!
 //! Each call makes two promises. *Meaning*: the new text reads as the document that the call on
 //! documents makes of the document that the old text reads as. *Bytes*: a value that is replaced
@@ -35,6 +36,7 @@ mod edited;
 mod in_place;
 mod indent;
 mod insert;
+pub mod laws;
 mod locate;
 mod one_line;
 mod operate;

@@ -1,0 +1,63 @@
+-- The bytes of an edit, put back.
+use Rattle.std.proofs.Common.{◌≢◌, List, [], ◌∷◌, ◌++◌, Option, refl, sym, subst, arith}
+use Rattle.std.specs.Prelude.{◌↔◌, All}
+use Rattle.std.proofs.lemmas.List.Elements.{All-nil, All-cons, All-head, All-tail, All-append}
+use Rattle.serde_json.specs.Data.{Data}
+use Rattle.jsonptr_grammar.specs.Text.{Text}
+use Rattle.jsonptr_in_text.specs.InText.{FindsInText}
+use Rattle.jsonptr_lines.specs.Lines.{IsOneLine}
+use Rattle.jsonptr_splice.specs.Spacing.{IsBlank, Splices}
+use Rattle.jsonptr_edit_in_text.specs.Bytes.{AddsPiece, CutsBytes, ReplacesBytes}
+
+turned : (old new was piece : Text) → Splices old new was piece → Splices new old piece was
+turned old new was piece h = record { before = h.before; after = h.after; old_is = h.new_is; new_is = h.old_is }
+
+pub put_back : (old new : Text) (tokens : List Text) (e : Data) (h : ReplacesBytes old new tokens e) → FindsInText new tokens e → ReplacesBytes new old tokens h.value
+put_back old new tokens e h found = record {
+  was = h.piece;
+  piece = h.was;
+  value = e;
+  splices = turned old new h.was h.piece h.splices;
+  found = found;
+  whole = h.made;
+  made = h.whole;
+}
+
+pub cut_again : (old new : Text) (key : Option Text) (e : Data) → AddsPiece old new key e → (left blank : Text) × CutsBytes new left key e × IsBlank blank × Splices old left blank []
+cut_again old new key e h = (
+  h.splices.before ++ h.splices.after,
+  h.was,
+  record {
+    was = h.piece;
+    splices = record { before = h.splices.before; after = h.splices.after; old_is = h.splices.new_is; new_is = refl };
+    child = h.child;
+  },
+  h.blank,
+  record { before = h.splices.before; after = h.splices.after; old_is = h.splices.old_is; new_is = refl },
+)
+
+pub added_again : (old new : Text) (key : Option Text) (v : Data) → CutsBytes old new key v → AddsPiece new old key v
+added_again old new key v h = record {
+  was = [];
+  piece = h.was;
+  splices = turned old new h.was [] h.splices;
+  blank = λ k d low. absurd (omega (arith, low));
+  child = h.child;
+}
+
+-- ---- one line
+
+line_parts : (xs ys : Text) → IsOneLine (xs ++ ys) → IsOneLine xs × IsOneLine ys
+line_parts [] ys h = (All-nil (λ b. b ≢ 10), h)
+line_parts (x ∷ xs) ys h =
+    let rest = line_parts xs ys (All-tail (λ b. b ≢ 10) x (xs ++ ys) h) in
+    (All-cons (λ b. b ≢ 10) x xs (All-head (λ b. b ≢ 10) x (xs ++ ys) h) rest.0, rest.1)
+
+pub one_line_if : (old new was piece : Text) → Splices old new was piece → IsOneLine old → (IsOneLine new ↔ IsOneLine piece)
+one_line_if old new was piece h one =
+    let outer = line_parts h.before (was ++ h.after) (subst IsOneLine h.old_is one) in
+    let inner = line_parts was h.after outer.1 in (
+      λ k. (line_parts piece h.after (line_parts h.before (piece ++ h.after) (subst IsOneLine h.new_is k)).1).0,
+      λ k. subst IsOneLine (sym h.new_is)
+          (All-append (λ b. b ≢ 10) h.before (piece ++ h.after) outer.0 (All-append (λ b. b ≢ 10) piece h.after k inner.1)),
+    )

@@ -1,0 +1,33 @@
+//! Laws of the bytes of an edit. Each law is the contract of a function that does nothing.
+ghost use Rattle.std.specs.Prelude.{◌↔◌, List, [], Option};
+ghost use Rattle.serde_json.specs.Data.{Data};
+ghost use Rattle.jsonptr_grammar.specs.Text.{Text};
+ghost use Rattle.jsonptr_in_text.specs.InText.{FindsInText};
+ghost use Rattle.jsonptr_lines.specs.Lines.{IsOneLine};
+ghost use Rattle.jsonptr_splice.specs.Spacing.{IsBlank, Splices};
+ghost use Rattle.jsonptr_edit_in_text.specs.Bytes.{AddsPiece, CutsBytes, ReplacesBytes};
+
+/// States that the bytes of an edit can be put back.
+///
+/// - If a value is replaced, the old value and its old text can replace the new one: that is the old
+///   text again, byte for byte (`replaced`).
+/// - The text of a child that was added can be cut out. What is left is the old text, except for white
+///   space (`added`).
+/// - The text of a child that was cut out can be added: that is the old text again (`cut`).
+pub fn undo_law()
+    ensures replaced { (old new : Text) (tokens : List Text) (e : Data)
+        (h : ReplacesBytes old new tokens e)
+        → FindsInText new tokens e → ReplacesBytes new old tokens h.value }
+    ensures added { (old new : Text) (key : Option Text) (e : Data)
+        → AddsPiece old new key e
+        → (left blank : Text) × CutsBytes new left key e × IsBlank blank × Splices old left blank [] }
+    ensures cut { (old new : Text) (key : Option Text) (v : Data)
+        → CutsBytes old new key v → AddsPiece new old key v }
+{}
+
+/// States that a text of one line in which a piece is replaced is one line exactly if the new piece
+/// has no line feed.
+pub fn line_law()
+    ensures { (old new was piece : Text)
+        → Splices old new was piece → IsOneLine old → (IsOneLine new ↔ IsOneLine piece) }
+{}
