@@ -14,7 +14,7 @@ use Rattle.jsonptr_patch.specs.PrivateTesting.{Object as Object'}
 use Rattle.jsonptr_patch.proofs.TestingLemmas.{object_label, array_label}
 use Rattle.jsonptr_patch.specs.declared.operation.Operation.{Operation}
 use Rattle.jsonptr_patch.specs.declared.operation.Operation.TheVariants.{Add, Remove, Replace, Move, Copy, Test}
-use Rattle.jsonptr_diff.specs.Differing.{keys, DifferAlong, AreOfOneKind, IsChange}
+use Rattle.jsonptr_diff.specs.Differing.{keys, DifferAlong, AreOfOneKind, GoesThrough, IsChange}
 use Rattle.jsonptr_diff.specs.PrivateDiff.{AppendsReplace, AppendsRemove, AppendsAdd, Appends, IsChangeBelow, AppendsChanges, IsPartBelow, AppendsParts, IsArray}
 use Rattle.jsonptr_diff.specs.PrivateSame.{IsSame}
 use Rattle.jsonptr_diff.proofs.SameLemmas.{twin_same, twin_made}
@@ -88,21 +88,78 @@ differ_under c d v w k ts first second there h = by_front
         h xs rest same.1 (subst (λ (n : NodeMap). IsSome (n (keys xs))) first some_of)
         (subst (λ (n : NodeMap). sub n (keys xs) ≡ sub w (keys xs)) first (subst (λ (n : NodeMap). sub (sub c (key k ∷ [])) (keys xs) ≡ sub n (keys xs)) second none_of))
 
+-- ---- containers on the way
+
+-- no value is on the way to the root
+through_none : (c d : NodeMap) → GoesThrough c d []
+through_none c d = by_front
+  where
+    by_front : (front : List Text) (x : Text) (rest : List Text) → [] ≡ front ++ x ∷ rest → IsSome (c (keys front)) → AreOfOneKind (c (keys front)) (d (keys front))
+    by_front [] x rest is some = let bad : ⊥ = cc in absurd bad
+    by_front (y ∷ ys) x rest is some = let bad : ⊥ = cc in absurd bad
+
+-- the root is on the way to a child, and then what is on the way from the child on
+through_under : (c d v w : NodeMap) (k : Text) (ts : List Text) → sub c (key k ∷ []) ≡ v → sub d (key k ∷ []) ≡ w → AreOfOneKind (c []) (d []) → GoesThrough v w ts → GoesThrough c d (k ∷ ts)
+through_under c d v w k ts first second both h = by_front
+  where
+    by_front : (front : List Text) (x : Text) (rest : List Text) → k ∷ ts ≡ front ++ x ∷ rest → IsSome (c (keys front)) → AreOfOneKind (c (keys front)) (d (keys front))
+    by_front [] x rest is some = both
+    by_front (y ∷ ys) x rest is some =
+        let same = cons_same k y ts (ys ++ x ∷ rest) is in
+        let some_of : IsSome (c (key k ∷ keys ys)) = subst (λ (t : Text). IsSome (c (key t ∷ keys ys))) (sym same.0) some in
+        let below : AreOfOneKind (v (keys ys)) (w (keys ys)) = h ys x rest same.1 (subst (λ (n : NodeMap). IsSome (n (keys ys))) first some_of) in
+        let one : AreOfOneKind (c (key k ∷ keys ys)) (w (keys ys)) = subst (λ (n : NodeMap). AreOfOneKind (n (keys ys)) (w (keys ys))) (sym first) below in
+        let two : AreOfOneKind (c (key k ∷ keys ys)) (d (key k ∷ keys ys)) = subst (λ (n : NodeMap). AreOfOneKind (c (key k ∷ keys ys)) (n (keys ys))) (sym second) one in
+        subst (λ (t : Text). AreOfOneKind (c (key t ∷ keys ys)) (d (key t ∷ keys ys))) same.0 two
+
+-- the root alone is on the way, if nothing of the first is under a key
+through_inside : (c d : NodeMap) (x : Text) (rest : List Text) → ((y : Text) (front : List Text) → x ∷ rest ≡ y ∷ front → (ys : List Text) (z : Text) (more : List Text) → front ≡ ys ++ z ∷ more → IsSome (c (key y ∷ keys ys)) → ⊥) → AreOfOneKind (c []) (d []) → GoesThrough c d (x ∷ rest)
+through_inside c d x rest none both = by_front
+  where
+    by_front : (front : List Text) (z : Text) (more : List Text) → x ∷ rest ≡ front ++ z ∷ more → IsSome (c (keys front)) → AreOfOneKind (c (keys front)) (d (keys front))
+    by_front [] z more is some = both
+    by_front (y ∷ ys) z more is some = absurd (none y (ys ++ z ∷ more) is ys z more refl some)
+
+-- the root alone is on the way to a member
+through_one : (c d : NodeMap) (k : Text) → AreOfOneKind (c []) (d []) → GoesThrough c d (k ∷ [])
+through_one c d k = through_inside c d k [] (λ y front is ys z more split some. no_more y front is ys z more split)
+  where
+    no_more : (y : Text) (front : List Text) → k ∷ [] ≡ y ∷ front → (ys : List Text) (z : Text) (more : List Text) → front ≡ ys ++ z ∷ more → ⊥
+    no_more y front is [] z more split = let bad : ⊥ = cc in bad
+    no_more y front is (t ∷ ts) z more split = let bad : ⊥ = cc in bad
+
 -- ---- changes of a member
 
-module _ (base : List Text) (c d v w : NodeMap) (k : Text) (first : sub c (key k ∷ []) ≡ v) (second : sub d (key k ∷ []) ≡ w) (there : IsSome (v [])) where
+module _ (base : List Text) (c d v w : NodeMap) (k : Text) (both : AreOfOneKind (c []) (d [])) (first : sub c (key k ∷ []) ≡ v) (second : sub d (key k ∷ []) ≡ w) (there : IsSome (v [])) where
   longer : (path rest : List Text) → path ≡ (base ++ k ∷ []) ++ rest → path ≡ base ++ k ∷ rest
   longer path rest is = is ∙ append_assoc base (k ∷ []) rest
 
   change_under : (o : Operation) → IsChangeBelow (base ++ k ∷ []) v w o → IsChangeBelow base c d o
-  change_under (Add path value) h = (k ∷ h.0, longer path h.0 h.1, (differ_under c d v w k h.0 first second there h.2.0, ap (λ (n : NodeMap). n (keys h.0)) first ∙ h.2.1))
-  change_under (Remove path) h = (k ∷ h.0, longer path h.0 h.1, (differ_under c d v w k h.0 first second there h.2.0, ap (λ (n : NodeMap). n (keys h.0)) second ∙ h.2.1))
+  change_under (Add path value) h = (
+    k ∷ h.0,
+    longer path h.0 h.1,
+    (
+      differ_under c d v w k h.0 first second there h.2.0,
+      ap (λ (n : NodeMap). n (keys h.0)) first ∙ h.2.1,
+      through_under c d v w k h.0 first second both h.2.2,
+    ),
+  )
+  change_under (Remove path) h = (
+    k ∷ h.0,
+    longer path h.0 h.1,
+    (
+      differ_under c d v w k h.0 first second there h.2.0,
+      ap (λ (n : NodeMap). n (keys h.0)) second ∙ h.2.1,
+      through_under c d v w k h.0 first second both h.2.2,
+    ),
+  )
   change_under (Replace path value) h = (
     k ∷ h.0,
     longer path h.0 h.1,
     (
       differ_under c d v w k h.0 first second there h.2.0,
       λ one. h.2.1 (subst (λ (n : NodeMap). AreOfOneKind (n (keys h.0)) (w (keys h.0))) first (subst (λ (n : NodeMap). AreOfOneKind (c (key k ∷ keys h.0)) (n (keys h.0))) second one)),
+      through_under c d v w k h.0 first second both h.2.2,
     ),
   )
   change_under (Move from path) h = absurd h
@@ -116,19 +173,19 @@ some_none : (l : Option Label) → IsSome l → l ≡ None → ⊥
 some_none l some none = true≢false (sym some ∙ ap is_some none)
 
 -- a member that the second lacks is removed
-pub changes_remove : (base : List Text) (c d : NodeMap) (k : Text) (before after : List Operation) → IsSome (c (key k ∷ [])) → d (key k ∷ []) ≡ None → AppendsRemove before after (base ++ k ∷ []) → AppendsChanges base c d before after
-changes_remove base c d k before after some none h = appends_one (IsChangeBelow base c d) before after (Remove h.path) h.appended
-    (k ∷ [], h.at, (differ_at c d (k ∷ []) (λ same. some_none (c (key k ∷ [])) some (same ∙ none)), none))
+pub changes_remove : (base : List Text) (c d : NodeMap) (k : Text) (before after : List Operation) → AreOfOneKind (c []) (d []) → IsSome (c (key k ∷ [])) → d (key k ∷ []) ≡ None → AppendsRemove before after (base ++ k ∷ []) → AppendsChanges base c d before after
+changes_remove base c d k before after both some none h = appends_one (IsChangeBelow base c d) before after (Remove h.path) h.appended
+    (k ∷ [], h.at, (differ_at c d (k ∷ []) (λ same. some_none (c (key k ∷ [])) some (same ∙ none)), none, through_one c d k both))
 
 -- a member that the first lacks is added
-pub changes_add : (base : List Text) (c d : NodeMap) (k : Text) (e : Data) (before after : List Operation) → c (key k ∷ []) ≡ None → IsSome (d (key k ∷ [])) → AppendsAdd before after (base ++ k ∷ []) e → AppendsChanges base c d before after
-changes_add base c d k e before after none some h = appends_one (IsChangeBelow base c d) before after (Add h.path h.value) h.appended
-    (k ∷ [], h.at, (differ_at c d (k ∷ []) (λ same. some_none (d (key k ∷ [])) some (sym same ∙ none)), none))
+pub changes_add : (base : List Text) (c d : NodeMap) (k : Text) (e : Data) (before after : List Operation) → AreOfOneKind (c []) (d []) → c (key k ∷ []) ≡ None → IsSome (d (key k ∷ [])) → AppendsAdd before after (base ++ k ∷ []) e → AppendsChanges base c d before after
+changes_add base c d k e before after both none some h = appends_one (IsChangeBelow base c d) before after (Add h.path h.value) h.appended
+    (k ∷ [], h.at, (differ_at c d (k ∷ []) (λ same. some_none (d (key k ∷ [])) some (sym same ∙ none)), none, through_one c d k both))
 
 -- a value is replaced
 pub changes_replace : (base : List Text) (c : NodeMap) (d : Data) (before after : List Operation) → (c ≡ nodes d → ⊥) → (AreOfOneKind (c []) (nodes d []) → ⊥) → AppendsReplace before after base d → AppendsChanges base c (nodes d) before after
 changes_replace base c d before after apart other h = appends_one (IsChangeBelow base c (nodes d)) before after (Replace h.path h.value) h.appended
-    ([], h.at ∙ sym (append-nil base), (differ_here c (nodes d) apart, other))
+    ([], h.at ∙ sym (append-nil base), (differ_here c (nodes d) apart, other, through_none c (nodes d)))
 
 -- ---- kinds
 
@@ -162,10 +219,13 @@ differ_inside c d x rest none apart = by_front
     by_front [] more is some same = apart same
     by_front (y ∷ ys) more is some same = some_none (c (key y ∷ keys ys)) some (none y (keys ys))
 
-part_change : (base : List Text) (c d : NodeMap) → ((k : Text) (p : Path) → c (key k ∷ p) ≡ None) → ((k : Text) (p : Path) → d (key k ∷ p) ≡ None) → (c ≡ d → ⊥) → (o : Operation) → IsPartBelow base o → IsChangeBelow base c d o
-part_change base c d first second apart (Add path value) h = (h.0 ∷ h.1, h.2, (differ_inside c d h.0 h.1 first apart, first h.0 (keys h.1)))
-part_change base c d first second apart (Remove path) h = (h.0 ∷ h.1, h.2, (differ_inside c d h.0 h.1 first apart, second h.0 (keys h.1)))
-part_change base c d first second apart (Replace path value) h = (
+through_array : (c d : NodeMap) (x : Text) (rest : List Text) → ((k : Text) (p : Path) → c (key k ∷ p) ≡ None) → AreOfOneKind (c []) (d []) → GoesThrough c d (x ∷ rest)
+through_array c d x rest none both = through_inside c d x rest (λ y front is ys z more split some. some_none (c (key y ∷ keys ys)) some (none y (keys ys))) both
+
+part_change : (base : List Text) (c d : NodeMap) → AreOfOneKind (c []) (d []) → ((k : Text) (p : Path) → c (key k ∷ p) ≡ None) → ((k : Text) (p : Path) → d (key k ∷ p) ≡ None) → (c ≡ d → ⊥) → (o : Operation) → IsPartBelow base o → IsChangeBelow base c d o
+part_change base c d both first second apart (Add path value) h = (h.0 ∷ h.1, h.2, (differ_inside c d h.0 h.1 first apart, first h.0 (keys h.1), through_array c d h.0 h.1 first both))
+part_change base c d both first second apart (Remove path) h = (h.0 ∷ h.1, h.2, (differ_inside c d h.0 h.1 first apart, second h.0 (keys h.1), through_array c d h.0 h.1 first both))
+part_change base c d both first second apart (Replace path value) h = (
   h.0 ∷ h.1,
   h.2,
   (
@@ -173,18 +233,19 @@ part_change base c d first second apart (Replace path value) h = (
     other_kind (c (key h.0 ∷ keys h.1)) (d (key h.0 ∷ keys h.1))
         (λ a b. let gone = first h.0 (keys h.1) in let bad : ⊥ = cc in bad)
         (λ i j a b. let gone = first h.0 (keys h.1) in let bad : ⊥ = cc in bad),
+    through_array c d h.0 h.1 first both,
   ),
 )
-part_change base c d first second apart (Move from path) h = absurd h
-part_change base c d first second apart (Copy from path) h = absurd h
-part_change base c d first second apart (Test path value) h = absurd h
+part_change base c d both first second apart (Move from path) h = absurd h
+part_change base c d both first second apart (Copy from path) h = absurd h
+part_change base c d both first second apart (Test path value) h = absurd h
 
 -- where arrays that are the same append nothing
 pub parts_changes : (base : List Text) (c d : NodeMap) (len other : ℕ) (before after : List Operation) → IsArray c len → IsArray d other → (c ≡ d → after ≡ before) → AppendsParts base before after → AppendsChanges base c d before after
 parts_changes base c d len other before after one two kept h = record {
   further = h.further;
   appended = h.appended;
-  all = λ i x low. part_change base c d one.keys two.keys (apart i low) (get_or h.further i x) (h.all i x low);
+  all = λ i x low. part_change base c d (inr (len, other, one.root, two.root)) one.keys two.keys (apart i low) (get_or h.further i x) (h.all i x low);
 }
   where
     apart : (i : ℕ) → i < length h.further → c ≡ d → ⊥

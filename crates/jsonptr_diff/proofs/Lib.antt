@@ -6,3 +6,4 @@ pub mod ChangeLemmas
 pub mod MixedLemmas
 pub mod MemberLemmas
 pub mod ElementLemmas
+mod ChangeLaws

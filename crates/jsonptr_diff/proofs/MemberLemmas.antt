@@ -1,5 +1,5 @@
 -- The operations that turn one object into another, member by member.
-use Rattle.std.proofs.Common.{◌≡◌, Bool, false, List, ℕ, [], ◌∷◌, ◌++◌, Option, Some, None, is_some, option_map, IsSome, true≢false, string_bytes, string_cmp, refl, sym, ap, ◌∙◌, subst}
+use Rattle.std.proofs.Common.{◌≡◌, Bool, false, List, ℕ, [], ◌∷◌, ◌++◌, Option, Some, None, inl, is_some, option_map, IsSome, true≢false, string_bytes, string_cmp, refl, sym, ap, ◌∙◌, subst}
 use Rattle.std.specs.BTreeMap.{get_by_text}
 use Rattle.std.specs.List.Sorted.{IsStrictlySortedBy}
 use Rattle.std.specs.Map.{keys_of}
@@ -18,6 +18,7 @@ use Rattle.jsonptr_document.proofs.JsonLevel.{object_at}
 use Rattle.jsonptr_patch.specs.PrivateTesting as tested
 use Rattle.jsonptr_patch.specs.declared.operation.Operation.{Operation}
 use Rattle.jsonptr_patch.proofs.TestingLemmas.{object_label}
+use Rattle.jsonptr_diff.specs.Differing.{AreOfOneKind}
 use Rattle.jsonptr_diff.specs.PrivateSame.{IsSame, SameMember, SameMembers}
 use Rattle.jsonptr_diff.specs.PrivateDiff.{AppendsRemove, AppendsAdd, AppendsChanges, Turns, object_map, mixed}
 use Rattle.jsonptr_diff.proofs.TurningLemmas.{turns_nowhere, turns_further, turns_as, turns_part, turns_below, turns_remove_member, turns_add_member}
@@ -104,17 +105,20 @@ module _ (m n : tested.Object) (before after : List Operation) (base : List Text
   none_under : (o : tested.Object) → get_by_text o (string_bytes e.0) ≡ None → object_map o (key k ∷ []) ≡ None
   none_under o lacks = ap (λ (q : NodeMap). q []) (ap (λ (t : Text). sub (object_map o) (key t ∷ [])) name ∙ no_member_map o (string_bytes e.0) lacks)
 
+  both_objects : AreOfOneKind (object_map m []) (object_map n [])
+  both_objects = inl (object_label m, object_label n)
+
   -- a member that both have
   pub member_changes : (w : Value) → m.entries ≡ done ++ e ∷ more → IsStrictlySortedBy string_cmp (keys_of m.entries) → get_by_text n (string_bytes e.0) ≡ Some w → AppendsChanges (base ++ k ∷ []) (nodes (view e.1)) (nodes (view w)) before after → AppendsChanges base (object_map m) (object_map n) before after
-  member_changes w is ordered found child = changes_under base (object_map m) (object_map n) (nodes (view e.1)) (nodes (view w)) k (map_under m e.1 (entry_found m done e more is ordered)) (map_under n w found) refl before after child
+  member_changes w is ordered found child = changes_under base (object_map m) (object_map n) (nodes (view e.1)) (nodes (view w)) k both_objects (map_under m e.1 (entry_found m done e more is ordered)) (map_under n w found) refl before after child
 
   -- a member that the second lacks
   pub member_gone : m.entries ≡ done ++ e ∷ more → IsStrictlySortedBy string_cmp (keys_of m.entries) → get_by_text n (string_bytes e.0) ≡ None → AppendsRemove before after (base ++ k ∷ []) → AppendsChanges base (object_map m) (object_map n) before after
-  member_gone is ordered lacks removed = changes_remove base (object_map m) (object_map n) k before after (there_under m e.1 (entry_found m done e more is ordered)) (none_under n lacks) removed
+  member_gone is ordered lacks removed = changes_remove base (object_map m) (object_map n) k before after both_objects (there_under m e.1 (entry_found m done e more is ordered)) (none_under n lacks) removed
 
   -- a member that the first lacks
   pub member_come : n.entries ≡ done ++ e ∷ more → IsStrictlySortedBy string_cmp (keys_of n.entries) → get_by_text m (string_bytes e.0) ≡ None → AppendsAdd before after (base ++ k ∷ []) (view e.1) → AppendsChanges base (object_map m) (object_map n) before after
-  member_come is ordered lacks added = changes_add base (object_map m) (object_map n) k (view e.1) before after (none_under m lacks) (there_under n e.1 (entry_found n done e more is ordered)) added
+  member_come is ordered lacks added = changes_add base (object_map m) (object_map n) k (view e.1) before after both_objects (none_under m lacks) (there_under n e.1 (entry_found n done e more is ordered)) added
 
 no_value : {T : Type 0} (o : Option T) → is_some o ≡ false → o ≡ None
 no_value None h = refl

@@ -3,7 +3,7 @@ use Rattle.std.specs.Prelude.{◌≡◌, ℕ, ◌⊎◌, List, [], ◌∷◌, �
 use Rattle.jsonptr.specs.Text.{Text}
 use Rattle.jsonptr.specs.Node.{key, Path, Label, an_object, an_array, NodeMap, sub}
 use Rattle.jsonptr_patch.specs.declared.operation.Operation.{Operation}
-use Rattle.jsonptr_patch.specs.declared.operation.Operation.TheVariants.{Add, Remove, Replace}
+use Rattle.jsonptr_patch.specs.declared.operation.Operation.TheVariants.{Add, Remove, Replace, Move, Copy, Test}
 
 -- `keys ts`: the path on which each of the tokens `ts` is the key of a member
 abbrev pub keys : List Text → Path
@@ -22,12 +22,28 @@ AreOfOneKind k l =
     ((k ≡ Some an_object) × (l ≡ Some an_object))
     ⊎ ((i j : ℕ) × (k ≡ Some (an_array i)) × (l ≡ Some (an_array j)))
 
--- `IsChange n m o`: the operation `o` adds, removes or replaces a value, and all that its pointer leads through differs in
--- the maps `n` and `m`. What it adds is no member of an object of `n`, and what it removes none of one of `m`. What it
--- replaces is not an object in both, and not an array in both
+-- `GoesThrough n m ts`: each value of `n` that a proper prefix of the tokens `ts` leads to through objects is an object in
+-- both maps, or an array in both
+abbrev pub GoesThrough : NodeMap → NodeMap → List Text → Type 0
+GoesThrough n m ts =
+    (front : List Text) (x : Text) (rest : List Text) → ts ≡ front ++ x ∷ rest → IsSome (n (keys front))
+    → AreOfOneKind (n (keys front)) (m (keys front))
+
+-- `IsChange n m o`: the operation `o` adds, removes or replaces a value. All that its pointer leads through differs in the
+-- maps `n` and `m`, and is an object or an array in both. What it adds is no member of an object of `n`, and what it removes
+-- none of one of `m`. What it replaces is not an object in both, and not an array in both
 abbrev pub IsChange : NodeMap → NodeMap → Operation → Type 0
-IsChange n m (Add path value) = DifferAlong n m path × (n (keys path) ≡ None)
-IsChange n m (Remove path) = DifferAlong n m path × (m (keys path) ≡ None)
+IsChange n m (Add path value) = DifferAlong n m path × (n (keys path) ≡ None) × GoesThrough n m path
+IsChange n m (Remove path) = DifferAlong n m path × (m (keys path) ≡ None) × GoesThrough n m path
 IsChange n m (Replace path value) =
-    DifferAlong n m path × (AreOfOneKind (n (keys path)) (m (keys path)) → ⊥)
+    DifferAlong n m path × (AreOfOneKind (n (keys path)) (m (keys path)) → ⊥) × GoesThrough n m path
 IsChange n m o = ⊥
+
+-- `path_of o`: the tokens of the pointer of the operation `o`
+abbrev pub path_of : Operation → List Text
+path_of (Add path value) = path
+path_of (Remove path) = path
+path_of (Replace path value) = path
+path_of (Move from path) = path
+path_of (Copy from path) = path
+path_of (Test path value) = path

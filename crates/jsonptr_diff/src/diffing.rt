@@ -27,7 +27,9 @@ use std::alloc::{AllocError, Global};
 ///
 /// The patch has additions, removals and replacements only. A member of an object that is the same in
 /// both is in no pointer. Nothing is added that `old` has, and nothing removed that `new` has. An
-/// object is not replaced by an object, nor an array by an array.
+/// object is not replaced by an object, nor an array by an array. As far as objects lead, a pointer
+/// leads through values that are an object in both, or an array in both
+/// ([`change_law`](crate::laws::change::change_law)).
 ///
 /// - Members that both objects have are followed. The others are removed or added.
 /// - The common suffix of two arrays is left alone. Before it, elements that match are aligned:
@@ -342,19 +344,19 @@ fn follow_elements(
 /// [`AllocError`] if an allocation fails.
 fn replace_other(
     alloc: Global,
-    old: &Value,
+    value: &Value,
     new: &Value,
     at: &Location<'_>,
     patch: &mut Vec<Operation>,
 ) -> Result<(), AllocError>
     ensures turns { IfOk result (λ _. Turns (view new.now) patch.old.items patch.new.items
-        (tokens_of at.now) (nodes (view old.now)) (nodes (view new.now))) }
+        (tokens_of at.now) (nodes (view value.now)) (nodes (view new.now))) }
     ensures changes { IfOk result (λ _.
-        (AreOfOneKind (nodes (view old.now) []) (nodes (view new.now) []) → ⊥)
-        → AppendsChanges (tokens_of at.now) (nodes (view old.now)) (nodes (view new.now))
+        (AreOfOneKind (nodes (view value.now) []) (nodes (view new.now) []) → ⊥)
+        → AppendsChanges (tokens_of at.now) (nodes (view value.now)) (nodes (view new.now))
         patch.old.items patch.new.items) }
 {
-    if is_same(old, new) {
+    if is_same(value, new) {
         return Ok(());
     }
     replace(alloc, new, at, patch)

@@ -1,10 +1,14 @@
 //! Laws of differences. Each law is the contract of a function that does nothing.
+//!
+//! - [`change`]: where the changes of one document into another are.
 ghost use Rattle.std.specs.Prelude.{◌≡◌, List};
 ghost use Rattle.serde_json.specs.Data.{Data};
 ghost use Rattle.jsonptr.specs.Json.{nodes, HasSortedKeys};
 ghost use Rattle.jsonptr_patch.specs.Patching.{Patches, RefusesPatch};
 ghost use Rattle.jsonptr_patch.specs.declared.operation.Operation.{Operation};
 ghost use Rattle.jsonptr_patch.specs.declared.operation.PatchError.{PatchError};
+
+pub mod change;
 
 use jsonptr_patch::laws::patch::patch_law;
 
