@@ -5,3 +5,5 @@ mod DifferenceLemmas
 mod InverseLemmas
 mod CuttingLemmas
 mod OrderLemmas
+mod SameLemmas
+mod OneErrorLemmas

@@ -7,6 +7,7 @@ pub mod Inverting
 pub mod Documents
 pub mod Paths
 pub mod LineResults
+pub mod OneError
 pub mod Runs
 pub mod Cutting
 -- Replacing the text of a file.

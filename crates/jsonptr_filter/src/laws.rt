@@ -1,4 +1,6 @@
 //! Laws of what the commands print. Each law is the contract of a function that does nothing.
+//!
+//! - [`one_error`]: a task has at most one error on a text.
 ghost use Rattle.std.specs.Prelude.{◌≡◌, ◌≢◌, ◌⊎◌, ◌↔◌, ℕ, List, [], ◌∷◌, ◌++◌, length, Some, string_bytes};
 ghost use Rattle.std.specs.Str.{IsUtf8};
 ghost use Rattle.std.specs.declared.alloc.AllocError.{AllocError};
@@ -29,6 +31,8 @@ ghost use Rattle.jsonptr_filter.specs.declared.line.LineTask.{LineTask};
 ghost use Rattle.jsonptr_filter.specs.declared.task.Task.{Task};
 ghost use Rattle.jsonptr_filter.specs.declared.task.Task.TheVariants.{Patch};
 ghost use Rattle.jsonptr_filter.specs.declared.layout.Layout.TheVariants.{Kept, Raw};
+
+pub mod one_error;
 
 use jsonptr_patch::laws::patch::patch_law;
 use jsonptr_patch_document::laws::{patch_document_law, writing_law};
