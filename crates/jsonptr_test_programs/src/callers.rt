@@ -5,4 +5,5 @@ mod in_texts;
 mod patch_documents;
 mod readers;
 mod sessions;
+mod streams;
 mod writers;

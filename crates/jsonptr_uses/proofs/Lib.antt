@@ -14,3 +14,4 @@ mod SessionsLemmas
 pub mod InTextLemmas
 mod EditsInTextLemmas
 mod EditsInTomlLemmas
+mod JsonLinesLemmas

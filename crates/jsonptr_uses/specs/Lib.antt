@@ -9,5 +9,6 @@ pub mod Overlay
 pub mod Editing
 pub mod EditsInText
 pub mod EditsInToml
+pub mod JsonLines
 pub mod Sessions
 pub mod PatchDocuments

@@ -19,7 +19,10 @@
 //! - [`toml_files`]: a TOML file of settings.
 //! - [`edits_in_toml`]: two edits in a TOML text, in place.
 //! - [`handles`]: a document in a handle, as a program in C uses it.
+//! - [`handle_values`]: values of handles and of texts, as a program in C asks for them.
 //! - [`commands`]: a command on the text of a document.
+//! - [`json_lines`]: a document on each line of a stream, and a document as lines.
+//! - [`program`]: the program, run in memory.
 //! - [`tabled`]: a look-up by a pointer with a table.
 //! - [`own_text`]: the text of a value as it is written, and where it is.
 //! - [`overlay`]: a document type of one's own.
@@ -35,8 +38,10 @@ pub mod edits;
 pub mod edits_in_place;
 pub mod edits_in_text;
 pub mod edits_in_toml;
+pub mod handle_values;
 pub mod handles;
 pub mod in_text;
+pub mod json_lines;
 pub mod merging;
 pub mod nodes;
 pub mod overlay;
@@ -44,6 +49,7 @@ pub mod own_text;
 pub mod patch_documents;
 pub mod patched_texts;
 pub mod patches;
+pub mod program;
 pub mod references;
 pub mod sessions;
 pub mod settings;

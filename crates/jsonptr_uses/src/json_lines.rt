@@ -1,0 +1,107 @@
+//! A stream with a document on each line, and a document as lines of pointers and values.
+ghost use Rattle.std.specs.Prelude.{◌≡◌, ◌≢◌, ◌∷◌, ◌++◌, [], List, Some, IfOk, IfErr, IsTrue, IsFalse, Err, ℕ};
+ghost use Rattle.std.specs.Io.KnownBytes.{Appends};
+ghost use Rattle.serde_json.specs.Data.{Data};
+ghost use Rattle.serde_json.specs.Read.{read};
+ghost use Rattle.serde_json.specs.View.{view};
+ghost use Rattle.jsonptr.specs.Pointer.{tokens};
+ghost use Rattle.jsonptr.specs.Text.{Text};
+ghost use Rattle.jsonptr_lines.specs.Lines.{AreLines};
+ghost use Rattle.jsonptr_lines.specs.Streams.{ForInput};
+ghost use Rattle.jsonptr_paths.specs.Listing.{Lists};
+ghost use Rattle.jsonptr_paths.specs.declared.listing.Listed.TheVariants.{Leaves};
+ghost use Rattle.jsonptr_paths.specs.declared.reading.LineError.{LineError};
+ghost use Rattle.jsonptr_filter.specs.Layouts.{ReadsBack};
+ghost use Rattle.jsonptr_filter.specs.LineResults.{StopsRun};
+ghost use Rattle.jsonptr_filter.specs.declared.failure.Failure.TheVariants.{BadLine};
+ghost use Rattle.jsonptr_filter.specs.declared.layout.Layout.TheVariants.{Compact};
+ghost use Rattle.jsonptr_uses.specs.JsonLines.{TagsEach};
+
+use jsonptr::Pointer;
+use jsonptr_filter::failure::Failure;
+use jsonptr_filter::laws::paths_law;
+use jsonptr_filter::layout::Layout;
+use jsonptr_filter::line::LineTask;
+use jsonptr_filter::lines::{Ended, run_lines};
+use jsonptr_filter::paths::{run_build, run_list};
+use jsonptr_filter::task::Task;
+use jsonptr_paths::listing::Listed;
+use jsonptr_paths::text_listing::list_text;
+use jsonptr_skim::outcome::ReadError;
+use serde_json::Value;
+use std::alloc::Global;
+use std::io;
+
+/// Assigns the value at the pointer in the document on each line, as a log is tagged with its source.
+/// Returns whether each line has a result. If not, the others are on `errors`, with their numbers.
+///
+/// # Errors
+///
+/// Those of [`run_lines`].
+pub fn tag_each_line<R: io::BufRead, W: io::Write, E: io::Write>(
+    alloc: Global,
+    pointer: Pointer<'_>,
+    value: Value,
+    input: &mut R,
+    output: &mut W,
+    errors: &mut E,
+) -> Result<bool, Failure>
+    ensures tagged { IfOk result (λ all. IsTrue all → ForInput (R.remaining input.old)
+        (λ bytes. (ls : List Text) × (out : Text) × AreLines bytes ls
+        × TagsEach (tokens pointer.entry) (view value) ls out
+        × Appends (W.contents output.old) (W.contents output.new) out)) }
+    ensures reported { IfOk result (λ all. IsFalse all → (report : Text) × (report ≢ [])
+        × Appends (E.contents errors.old) (E.contents errors.new) report) }
+    ensures failed { IfErr result StopsRun }
+{
+    let run = LineTask {
+        task: Task::Set(pointer, value),
+        layout: Layout::Kept,
+        fallback: None,
+        name: String::from_str(alloc, "log")?,
+        is_strict: false,
+    };
+    match run_lines(alloc, &run, input, output, errors)? {
+        Ended::Fine => Ok(true),
+        Ended::Faults | Ended::Stopped => Ok(false),
+    }
+}
+
+/// Reads a document, lists its nodes as lines, and writes the document that these lines build, in one
+/// line. So a document is stored as lines between two programs.
+///
+/// # Errors
+///
+/// Those of [`run_list`] and [`run_build`], except that no line is at fault.
+pub fn copy_through_lines<R: io::Read, W: io::Write>(
+    alloc: Global,
+    input: &mut R,
+    output: &mut W,
+) -> Result<(), Failure>
+    ensures copied { IfOk result (λ _. ForInput (R.remaining input.old)
+        (λ bytes. (d : Data) × (shown : Text)
+        × (read bytes ≡ Some d) × ReadsBack Compact d shown
+        × Appends (W.contents output.old) (W.contents output.new) (shown ++ 10 ∷ []))) }
+    ensures no_line { (number : ℕ) (e : LineError) → result ≡ Err (BadLine number e) → ⊥ }
+{
+    paths_law();
+    let mut bytes = Vec::new(alloc);
+    let mut lines = Vec::new(alloc);
+    run_list(alloc, Listed::AllNodes, input, &mut bytes, &mut lines)?;
+    let mut stored = lines.as_slice();
+    run_build(alloc, Layout::Compact, &mut stored, output)
+}
+
+/// Returns whether the leaves of the document of the text are these lines, as a test of a JSON file
+/// asks.
+///
+/// # Errors
+///
+/// Those of [`list_text`].
+pub fn has_leaves(alloc: Global, text: &str, lines: &str) -> Result<bool, ReadError>
+    ensures leaves { IfOk result (λ same. IsTrue same
+        → (d : Data) × (read text.now ≡ Some d) × Lists Leaves d lines.now) }
+{
+    let listed = list_text(alloc, text, Listed::Leaves)?;
+    Ok(listed.as_str() == lines)
+}
