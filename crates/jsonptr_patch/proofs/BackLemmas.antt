@@ -14,9 +14,9 @@ use Rattle.jsonptr_tree.proofs.RemovingLemmas.{Deletes_child}
 use Rattle.jsonptr_patch.specs.Apart.{Diverges, AllDiverge, pointers}
 use Rattle.jsonptr.specs.Delete.{NamesNothing}
 use Rattle.jsonptr_patch.specs.Inverse.{HasObject, TakesAddBack, IsReverse, TakesMoveBack, TakesBack}
-use Rattle.jsonptr_patch.specs.Operating.{IsProperFront, Takes, Applies, RestoresAt, RefusesAdd, RefusesMove, RefusesCopy}
+use Rattle.jsonptr_patch.specs.Operating.{IsProperFront, Takes, RestoresAt, RefusesAdd, RefusesMove, RefusesCopy, AppliesBy, RefusesOperationBy}
 use Rattle.jsonptr_patch.specs.Patching.{Patches}
-use Rattle.jsonptr_patch.specs.PrivateInverse.{AppendsBack, TakesAllBackFrom, IsPlaceBack}
+use Rattle.jsonptr_patch.specs.PrivateInverse.{AppendsBack, TakesAllBackFrom, IsPlaceBack, RefusesChange}
 use Rattle.jsonptr_patch.specs.PrivateLater.{paths_of, removals, IsPending, TakesPlace, Frees}
 use Rattle.jsonptr_patch.specs.declared.later.Later.{Later}
 use Rattle.jsonptr_patch.specs.declared.operation.Operation.{Operation}
@@ -31,6 +31,8 @@ use Rattle.jsonptr_patch.proofs.OneLemmas.{takes_tree}
 use Rattle.jsonptr_patch.proofs.RefusalLemmas.{IsSeen, cases_prefix, no_end, seen_refuses_add, seen_finds, seen_has_object, seen_is_element, seen_names_nothing, seen_after}
 use Rattle.jsonptr_patch.proofs.RestoringLemmas.{cases_token}
 use Rattle.jsonptr_patch.proofs.WaitingLemmas.{tree_later}
+use Rattle.jsonptr_patch.specs.declared.comparison.Comparison.{Comparison}
+use Rattle.jsonptr_patch.specs.declared.comparison.Comparison.TheVariants.{Strict}
 
 -- what takes an addition back is seen at its pointer
 
@@ -66,8 +68,8 @@ back_later d n (Remove path) back ls h a b = (b.0, b.1, restores_later d n path 
 back_later d n (Replace path value) back ls h a b = (b.0, b.1, seen_later (λ n ts. Finds n ts (nodes (view b.0))) (seen_finds (nodes (view b.0))) d n path (path ∷ []) ls (first_in path []) h b.2 a)
 back_later d n (Move from path) back ls h a b =
     let xss : List (List Text) = from ∷ path ∷ [] in
-    let r = removed_after d b.2 n (Remove from) xss ls (λ xs i. Contains-append_left (from ∷ []) (path ∷ []) xs i) h (b.1, b.3) a in
-    let still : AllDiverge b.2 xss (paths_of ls) = after_applied d b.2 (Remove from) xss (paths_of ls) (λ xs i. Contains-append_left (from ∷ []) (path ∷ []) xs i) h (b.1, b.3) in (
+    let r = removed_after Strict d b.2 n (Remove from) xss ls (λ xs i. Contains-append_left (from ∷ []) (path ∷ []) xs i) h (b.1, b.3) a in
+    let still : AllDiverge b.2 xss (paths_of ls) = after_applied Strict d b.2 (Remove from) xss (paths_of ls) (λ xs i. Contains-append_left (from ∷ []) (path ∷ []) xs i) h (b.1, b.3) in (
       b.0,
       r.1.0,
       r.0,
@@ -81,11 +83,20 @@ back_later d n (Move from path) back ls h a b =
 back_later d n (Copy from path) back ls h a b = (b.0, b.1, seen_later (λ n ts. TakesAddBack n ts b.0) (seen_takes_add_back b.0) d n path (from ∷ path ∷ []) ls (second_in from path) h b.2 a)
 back_later d n (Test path value) back ls h a b = b
 
+-- an operation that fails, and is no test, fails however tests compare
+pub change_refused : (by : Comparison) (n : NodeMap) (i : ℕ) (o : Operation) (e : PatchError) → RefusesChange n i o e → RefusesOperationBy by n i o e
+change_refused by n i (Add path value) e r = r
+change_refused by n i (Remove path) e r = r
+change_refused by n i (Replace path value) e r = r
+change_refused by n i (Move from path) e r = r
+change_refused by n i (Copy from path) e r = r
+change_refused by n i (Test path value) e r = absurd r
+
 -- one operation, and what takes it back
-pub later_back : (c : Value) (n m : NodeMap) (o : Operation) (back os qs : List Operation) (ls : List Later) → AllDiverge (nodes (view c)) (pointers o) (paths_of ls) → TakesBack (nodes (view c)) o back → AppendsBack os back qs → IsPending (nodes (view c)) ls n → Applies n o m → TakesAllBackFrom m qs n os
-later_back c n m o back os qs ls h b appended p a =
+pub later_back : (by : Comparison) (c : Value) (n m : NodeMap) (o : Operation) (back os qs : List Operation) (ls : List Later) → AllDiverge (nodes (view c)) (pointers o) (paths_of ls) → TakesBack (nodes (view c)) o back → AppendsBack os back qs → IsPending (nodes (view c)) ls n → AppliesBy by n o m → TakesAllBackFrom m qs n os
+later_back by c n m o back os qs ls h b appended p a =
     let tree : IsTree n = tree_later (nodes (view c)) n ls (map_of-IsTree (content (view c))) p.removed in
-    all_back n m os back qs (taken_back n m o back tree a (back_later (nodes (view c)) n o back ls h p.removed b)) appended
+    all_back n m os back qs (taken_back by n m o back tree a (back_later (nodes (view c)) n o back ls h p.removed b)) appended
 
 -- a value can be removed
 
@@ -165,22 +176,22 @@ object_back k n v path tokens is tree t h =
     let r = gone_nothing k n v tokens tree t h in
     inl (refl, subst (λ (ts : List Text). HasObject n ts) (sym is) r.0, subst (λ (ts : List Text). NamesNothing n ts) (sym is) r.1)
 
-place_back : (k n v m : NodeMap) (o : Operation) (tokens : List Text) (back : List Operation) → IsTree k → Takes k tokens v n → HasObject k tokens → TakesPlace k o tokens → IsPlaceBack o back → Applies n o m → TakesBack n o back
-place_back k n v m (Add path value) tokens back tree t h p is a = (Remove path, is, object_back k n v path tokens p tree t h)
-place_back k n v m (Remove path) tokens back tree t h p is a = absurd p
-place_back k n v m (Replace path value) tokens back tree t h p is a = absurd p
-place_back k n v m (Move from path) tokens back tree t h p is a =
+place_back : (by : Comparison) (k n v m : NodeMap) (o : Operation) (tokens : List Text) (back : List Operation) → IsTree k → Takes k tokens v n → HasObject k tokens → TakesPlace k o tokens → IsPlaceBack o back → AppliesBy by n o m → TakesBack n o back
+place_back by k n v m (Add path value) tokens back tree t h p is a = (Remove path, is, object_back k n v path tokens p tree t h)
+place_back by k n v m (Remove path) tokens back tree t h p is a = absurd p
+place_back by k n v m (Replace path value) tokens back tree t h p is a = absurd p
+place_back by k n v m (Move from path) tokens back tree t h p is a =
     let b : TakesAddBack n path (Remove path) = object_back k n v path tokens p.0 tree t h in
     let away : Diverges k tokens from = diverges_turned k from tokens p.1 in
     let after : Diverges n tokens from = diverges_after (λ n ts m. Takes n ts v m) (local_take v) k n tokens tokens from away away t in
     let way : Diverges n from path = subst (λ (ts : List Text). Diverges n from ts) (sym p.0) (diverges_turned n tokens from after) in
     subst (λ (l : List Operation). TakesBack n (Move from path) l) (sym is)
     (way_taken_back n from path a.taken.found.path (Remove path) (Move path from ∷ []) way a.taken.found.named b (way_removed n from path path from refl way b))
-place_back k n v m (Copy from path) tokens back tree t h p is a = (Remove path, is, object_back k n v path tokens p.0 tree t h)
-place_back k n v m (Test path value) tokens back tree t h p is a = absurd p
+place_back by k n v m (Copy from path) tokens back tree t h p is a = (Remove path, is, object_back k n v path tokens p.0 tree t h)
+place_back by k n v m (Test path value) tokens back tree t h p is a = absurd p
 
-pub freed_back : (c : Value) (k n m : NodeMap) (o : Operation) (back os qs : List Operation) (ls : List Later) → IsPending (nodes (view c)) ls k → Frees k n o → IsPlaceBack o back → AppendsBack os back qs → Applies n o m → TakesAllBackFrom m qs n os
-freed_back c k n m o back os qs ls p f is appended a =
+pub freed_back : (by : Comparison) (c : Value) (k n m : NodeMap) (o : Operation) (back os qs : List Operation) (ls : List Later) → IsPending (nodes (view c)) ls k → Frees k n o → IsPlaceBack o back → AppendsBack os back qs → AppliesBy by n o m → TakesAllBackFrom m qs n os
+freed_back by c k n m o back os qs ls p f is appended a =
     let tree : IsTree k = tree_later (nodes (view c)) k ls (map_of-IsTree (content (view c))) p.removed in
     let tree_n : IsTree n = (takes_tree k f.tokens f.value n tree f.taken).1 in
-    all_back n m os back qs (taken_back n m o back tree_n a (place_back k n f.value m o f.tokens back tree f.taken f.object f.place is a)) appended
+    all_back n m os back qs (taken_back by n m o back tree_n a (place_back by k n f.value m o f.tokens back tree f.taken f.object f.place is a)) appended

@@ -28,7 +28,7 @@ use Rattle.jsonptr_patch.specs.Inserting.{with_place}
 use Rattle.jsonptr_patch.specs.Adding.{AddsUnder, Adds}
 use Rattle.jsonptr_patch.specs.Inverse.{HasObject, IsElementAt, TakesAddBack, IsReverse, TakesBack, TakesAllBack}
 use Rattle.jsonptr_patch.specs.Apart.{Diverges}
-use Rattle.jsonptr_patch.specs.Operating.{Takes, Moves, Applies, RestoresAt}
+use Rattle.jsonptr_patch.specs.Operating.{Takes, Moves, Applies, RestoresAt, AppliesBy}
 use Rattle.jsonptr_patch.specs.Patching.{Patches}
 use Rattle.jsonptr_patch.specs.PrivateAdding.{IsPlace}
 use Rattle.jsonptr_patch.specs.PrivateInverse.{AppendsBack, TakesAllBackFrom}
@@ -41,6 +41,8 @@ use Rattle.jsonptr_patch.proofs.OneLemmas.{adds_one, takes_tree}
 use Rattle.jsonptr_patch.proofs.PartLemmas.{restoring}
 use Rattle.jsonptr_patch.proofs.PatchLemmas.{patches_both}
 use Rattle.jsonptr_patch.proofs.RestoringLemmas.{restored}
+use Rattle.jsonptr_patch.specs.declared.comparison.Comparison.{Comparison}
+use Rattle.jsonptr_patch.specs.declared.comparison.Comparison.TheVariants.{Strict}
 
 -- a value has a root
 pub value_root : (value : Value) → IsSome (nodes (view value) [])
@@ -345,11 +347,11 @@ one_operation : (n m : NodeMap) (o : Operation) (back : List Operation) → back
 one_operation n m o back is h = subst (λ (os : List Operation). Patches m os n) (sym is) (n, h, refl)
 
 -- what takes an operation back does
-pub taken_back : (n m : NodeMap) (o : Operation) (back : List Operation) → IsTree n → Applies n o m → TakesBack n o back → Patches m back n
-taken_back n m (Add path value) back tree a b = one_operation n m b.0 back b.1 (adds_back n m (nodes (view value)) path b.0 tree (value_root value) a b.2)
-taken_back n m (Remove path) back tree a b = one_operation n m b.0 back b.1 (restoring n m path b.0 b.2 a.1.left)
-taken_back n m (Replace path value) back tree a b = one_operation n m (Replace path b.0) back b.1 (puts_back n m (nodes (view value)) (nodes (view b.0)) path (value_root value) a b.2)
-taken_back n m (Move from path) back tree a b =
+pub taken_back : (by : Comparison) (n m : NodeMap) (o : Operation) (back : List Operation) → IsTree n → AppliesBy by n o m → TakesBack n o back → Patches m back n
+taken_back by n m (Add path value) back tree a b = one_operation n m b.0 back b.1 (adds_back n m (nodes (view value)) path b.0 tree (value_root value) a b.2)
+taken_back by n m (Remove path) back tree a b = one_operation n m b.0 back b.1 (restoring n m path b.0 b.2 a.1.left)
+taken_back by n m (Replace path value) back tree a b = one_operation n m (Replace path b.0) back b.1 (puts_back n m (nodes (view value)) (nodes (view b.0)) path (value_root value) a b.2)
+taken_back by n m (Move from path) back tree a b =
     let left : b.2 ≡ a.left = Deletes_one n (nodes null) from b.2 a.left tree b.3.left a.taken.left in
     let tree_left : IsTree a.left = (takes_tree n from a.node a.left tree a.taken).1 in
     let root : IsSome (a.node []) = subst (λ (v : NodeMap). IsSome (v [])) (sym a.taken.found.below) (subst (λ (l : Option Label). IsSome l) (sym (sub-root n a.taken.found.path)) (Names-here n from a.taken.found.path a.taken.found.named)) in
@@ -361,10 +363,10 @@ taken_back n m (Move from path) back tree a b =
     let second : Applies a.left r.0 n = restoring n a.left from r.0 r.2 a.taken.left in
     subst (λ (os : List Operation). Patches m os n) (sym r.1) (a.left, first, (n, second, refl)))
     b.5
-taken_back n m (Copy from path) back tree a b =
+taken_back by n m (Copy from path) back tree a b =
     let root : IsSome (a.node []) = subst (λ (v : NodeMap). IsSome (v [])) (sym a.found.below) (subst (λ (l : Option Label). IsSome l) (sym (sub-root n a.found.path)) (Names-here n from a.found.path a.found.named)) in
     one_operation n m b.0 back b.1 (adds_back n m a.node path b.0 tree root a.added b.2)
-taken_back n m (Test path value) back tree a b = subst (λ (os : List Operation). Patches m os n) (sym b) (sym a.1)
+taken_back by n m (Test path value) back tree a b = subst (λ (os : List Operation). Patches m os n) (sym b) (sym a.1)
 
 -- what takes a list of operations back does
 pub all_taken_back : ((n m : NodeMap) (o : Operation) → IsDocument n → Applies n o m → IsDocument m) → ((n m l : NodeMap) (o : Operation) → IsTree n → Applies n o m → Applies n o l → m ≡ l) → (n m : NodeMap) (os back : List Operation) → IsDocument n → Patches n os m → TakesAllBack n os back → Patches m back n
@@ -372,8 +374,8 @@ all_taken_back document one n m [] back doc a b = subst (λ (os : List Operation
 all_taken_back document one n m (o ∷ os) back doc a b =
     let same : a.0 ≡ b.0 = one n a.0 b.0 o doc.0 a.1 b.3 in
     let rest : Patches m b.2 a.0 = all_taken_back document one a.0 m os b.2 (document n a.0 o doc a.1) a.2 (subst (λ (z : NodeMap). TakesAllBack z os b.2) (sym same) b.5) in
-    let first : Patches a.0 b.1 n = taken_back n a.0 o b.1 doc.0 a.1 b.4 in
-    subst (λ (l : List Operation). Patches m l n) (sym b.6) (patches_both m a.0 n b.2 b.1 rest first)
+    let first : Patches a.0 b.1 n = taken_back Strict n a.0 o b.1 doc.0 a.1 b.4 in
+    subst (λ (l : List Operation). Patches m l n) (sym b.6) (patches_both Strict m a.0 n b.2 b.1 rest first)
 
 -- operations that take changes back, the last one first
 
@@ -389,7 +391,7 @@ none_back os ps is = is ∙ sym (append-nil os)
 pub all_back : (n m : NodeMap) (os back ps : List Operation) → Patches m back n → AppendsBack os back ps → TakesAllBackFrom m ps n os
 all_back n m os back ps a is k h =
     let whole : reverse ps ≡ back ++ reverse os = ap (λ (l : List Operation). reverse l) is ∙ reverse-append os (reverse back) ∙ ap (λ (l : List Operation). l ++ reverse os) (reverse-reverse back) in
-    subst (λ (l : List Operation). Patches m l k) (sym whole) (patches_both m n k back (reverse os) a h)
+    subst (λ (l : List Operation). Patches m l k) (sym whole) (patches_both Strict m n k back (reverse os) a h)
 
 -- what place says of the parent
 

@@ -31,8 +31,8 @@ use Rattle.jsonptr_journal.specs.Changes.{IsThere, Replaces, TakesAt}
 use Rattle.jsonptr_journal.specs.declared.location.Location.{Location}
 use Rattle.jsonptr_patch.specs.Adding.{Adds}
 use Rattle.jsonptr_patch.specs.Apart.{Diverges, AllDiverge, pointers}
-use Rattle.jsonptr_patch.specs.Operating.{Takes, Moves, Applies, RefusesTarget, RefusesAdd, RefusesMove, RefusesOperation}
-use Rattle.jsonptr_patch.specs.Patching.{Patches, RefusesPatch}
+use Rattle.jsonptr_patch.specs.Operating.{Takes, Moves, Applies, RefusesTarget, RefusesAdd, RefusesMove, RefusesOperation, AppliesBy, RefusesOperationBy}
+use Rattle.jsonptr_patch.specs.Patching.{Patches, PatchesBy, RefusesPatchBy}
 use Rattle.jsonptr_patch.specs.PrivateRecording.{Records}
 use Rattle.jsonptr_patch.specs.Memory.{TestNeedsNoMemory}
 use Rattle.jsonptr_patch.specs.PrivateLater.{paths_of, removals, IsKept, IsReached, AreScattered, IsPending, IsObjectAt, IsMemberAt, Forks, CanWait}
@@ -50,6 +50,8 @@ use Rattle.jsonptr_patch.proofs.InverseLemmas.{value_root}
 use Rattle.jsonptr_patch.proofs.PlaceLemmas.{named_there}
 use Rattle.jsonptr_patch.proofs.OperatingLemmas.{patches_push, refused_all, refused_next}
 use Rattle.jsonptr_patch.proofs.RefusalLemmas.{IsSeen, seen_finds, seen_names, seen_refuses_add, seen_after}
+use Rattle.jsonptr_patch.specs.declared.comparison.Comparison.{Comparison}
+use Rattle.jsonptr_patch.specs.declared.comparison.Comparison.TheVariants.{Strict}
 
 -- parts of lists that diverge
 
@@ -86,22 +88,22 @@ removes_own p yss ys i = Contains-append_left (p ∷ []) yss ys i
 
 -- the operation's pointers still diverge after one of the removals
 after_removal : (d next : NodeMap) (p : List Text) (xss yss : List (List Text)) → AllDiverge d xss (p ∷ yss) → Applies d (Remove p) next → AllDiverge next xss yss
-after_removal d next p xss yss h a = rest_diverges next xss p yss (all_turned next (p ∷ yss) xss (after_applied d next (Remove p) (p ∷ yss) xss (removes_own p yss) (all_turned d xss (p ∷ yss) h) a))
+after_removal d next p xss yss h a = rest_diverges next xss p yss (all_turned next (p ∷ yss) xss (after_applied Strict d next (Remove p) (p ∷ yss) xss (removes_own p yss) (all_turned d xss (p ∷ yss) h) a))
 
-pub removed_after : (d e n : NodeMap) (o : Operation) (xss : List (List Text)) (ls : List Later) → AmongAll xss o → AllDiverge d xss (paths_of ls) → Applies d o e → Patches d (removals ls) n → (m : NodeMap) × Applies n o m × Patches e (removals ls) m
-removed_after d e n o xss [] among h a r = (e, subst (λ (z : NodeMap). Applies z o e) (sym r) a, refl)
-removed_after d e n o xss (l ∷ ls) among h a r =
-    let m = diamond_applied d e r.0 o (Remove l.path) xss (l.path ∷ paths_of ls) among (removes_own l.path (paths_of ls)) h a r.1 in
-    let rest = removed_after r.0 m.0 n o xss ls among (after_removal d r.0 l.path xss (paths_of ls) h r.1) m.2 r.2 in
+pub removed_after : (by : Comparison) (d e n : NodeMap) (o : Operation) (xss : List (List Text)) (ls : List Later) → AmongAll xss o → AllDiverge d xss (paths_of ls) → AppliesBy by d o e → Patches d (removals ls) n → (m : NodeMap) × AppliesBy by n o m × Patches e (removals ls) m
+removed_after by d e n o xss [] among h a r = (e, subst (λ (z : NodeMap). AppliesBy by z o e) (sym r) a, refl)
+removed_after by d e n o xss (l ∷ ls) among h a r =
+    let m = diamond_applied by d e r.0 o (Remove l.path) xss (l.path ∷ paths_of ls) among (removes_own l.path (paths_of ls)) h a r.1 in
+    let rest = removed_after by r.0 m.0 n o xss ls among (after_removal d r.0 l.path xss (paths_of ls) h r.1) m.2 r.2 in
     (rest.0, rest.1, (m.0, m.1, rest.2))
 
-pub refused_later : (d n : NodeMap) (i : ℕ) (o : Operation) (e : PatchError) (xss : List (List Text)) (ls : List Later) → AmongAll xss o → AllDiverge d xss (paths_of ls) → RefusesOperation d i o e → Patches d (removals ls) n → RefusesOperation n i o e
-refused_later d n i o e xss [] among h a r = subst (λ (z : NodeMap). RefusesOperation z i o e) (sym r) a
-refused_later d n i o e xss (l ∷ ls) among h a r = refused_later r.0 n i o e xss ls among (after_removal d r.0 l.path xss (paths_of ls) h r.1) (refused_applied d r.0 i o (Remove l.path) e xss (l.path ∷ paths_of ls) among (removes_own l.path (paths_of ls)) h r.1 a) r.2
+pub refused_later : (by : Comparison) (d n : NodeMap) (i : ℕ) (o : Operation) (e : PatchError) (xss : List (List Text)) (ls : List Later) → AmongAll xss o → AllDiverge d xss (paths_of ls) → RefusesOperationBy by d i o e → Patches d (removals ls) n → RefusesOperationBy by n i o e
+refused_later by d n i o e xss [] among h a r = subst (λ (z : NodeMap). RefusesOperationBy by z i o e) (sym r) a
+refused_later by d n i o e xss (l ∷ ls) among h a r = refused_later by r.0 n i o e xss ls among (after_removal d r.0 l.path xss (paths_of ls) h r.1) (refused_applied by d r.0 i o (Remove l.path) e xss (l.path ∷ paths_of ls) among (removes_own l.path (paths_of ls)) h r.1 a) r.2
 
 pub seen_later : (P : NodeMap → List Text → Type 0) → IsSeen P → (d n : NodeMap) (xs : List Text) (xss : List (List Text)) (ls : List Later) → Contains xss xs → AllDiverge d xss (paths_of ls) → P d xs → Patches d (removals ls) n → P n xs
 seen_later P seen d n xs xss [] at h a r = subst (λ (z : NodeMap). P z xs) (sym r) a
-seen_later P seen d n xs xss (l ∷ ls) at h a r = seen_later P seen r.0 n xs xss ls at (after_removal d r.0 l.path xss (paths_of ls) h r.1) (seen_applied P seen d r.0 (Remove l.path) xss (l.path ∷ paths_of ls) xs at (removes_own l.path (paths_of ls)) h r.1 a) r.2
+seen_later P seen d n xs xss (l ∷ ls) at h a r = seen_later P seen r.0 n xs xss ls at (after_removal d r.0 l.path xss (paths_of ls) h r.1) (seen_applied Strict P seen d r.0 (Remove l.path) xss (l.path ∷ paths_of ls) xs at (removes_own l.path (paths_of ls)) h r.1 a) r.2
 
 pub diverges_later : (d n : NodeMap) (zs ys : List Text) (xss : List (List Text)) (ls : List Later) → Contains xss ys → AllDiverge d xss (paths_of ls) → Diverges d zs ys → Patches d (removals ls) n → Diverges n zs ys
 diverges_later d n zs ys xss [] at h a r = subst (λ (z : NodeMap). Diverges z zs ys) (sym r) a
@@ -114,27 +116,27 @@ seen_kept None n k front u x more r h = (h.0, h.1, seen_names h.1 n k front u x 
 seen_kept (Some here) n k front u x more r h = seen_names (path_of here) n k front u x more r h
 
 -- the nodes are still apart from one another, and where they were
-pub scattered_after : (d e : NodeMap) (o : Operation) (xss : List (List Text)) (ls : List Later) → AmongAll xss o → AllDiverge d xss (paths_of ls) → Applies d o e → AreScattered d ls → AreScattered e ls
-scattered_after d e o xss [] among h a s = tt
-scattered_after d e o xss (l ∷ ls) among h a s =
+pub scattered_after : (by : Comparison) (d e : NodeMap) (o : Operation) (xss : List (List Text)) (ls : List Later) → AmongAll xss o → AllDiverge d xss (paths_of ls) → AppliesBy by d o e → AreScattered d ls → AreScattered e ls
+scattered_after by d e o xss [] among h a s = tt
+scattered_after by d e o xss (l ∷ ls) among h a s =
     let more : List (List Text) = xss ++ l.path ∷ [] in
     let both : AllDiverge d more (paths_of ls) = λ xs ys i j. ⊎_elim
     (λ (k : Contains xss xs). rest_diverges d xss l.path (paths_of ls) h xs ys k j)
     (λ (k : Contains (l.path ∷ []) xs). s.1 xs ys k j)
     (in_parts xss (l.path ∷ []) xs i) in
-    let after : AllDiverge e more (paths_of ls) = after_applied d e o more (paths_of ls) (λ xs i. Contains-append_left xss (l.path ∷ []) xs (among xs i)) both a in (
-      seen_applied (IsKept l.location) (seen_kept l.location) d e o (l.path ∷ paths_of ls) xss l.path (first_in l.path (paths_of ls)) among (all_turned d xss (l.path ∷ paths_of ls) h) a s.0,
+    let after : AllDiverge e more (paths_of ls) = after_applied by d e o more (paths_of ls) (λ xs i. Contains-append_left xss (l.path ∷ []) xs (among xs i)) both a in (
+      seen_applied by (IsKept l.location) (seen_kept l.location) d e o (l.path ∷ paths_of ls) xss l.path (first_in l.path (paths_of ls)) among (all_turned d xss (l.path ∷ paths_of ls) h) a s.0,
       λ xs ys i j. after xs ys (Contains-append_right xss (l.path ∷ []) xs i) j,
-      scattered_after d e o xss ls among (rest_diverges d xss l.path (paths_of ls) h) a s.2,
+      scattered_after by d e o xss ls among (rest_diverges d xss l.path (paths_of ls) h) a s.2,
     )
 
-pub pending_after : (d e n : NodeMap) (o : Operation) (ls : List Later) → AllDiverge d (pointers o) (paths_of ls) → Applies d o e → IsPending d ls n → (m : NodeMap) × Applies n o m × IsPending e ls m
-pending_after d e n o ls h a p =
-    let r = removed_after d e n o (pointers o) ls (λ xs i. i) h a p.removed in
-    (r.0, r.1, record { removed = r.2; scattered = scattered_after d e o (pointers o) ls (λ xs i. i) h a p.scattered })
+pub pending_after : (by : Comparison) (d e n : NodeMap) (o : Operation) (ls : List Later) → AllDiverge d (pointers o) (paths_of ls) → AppliesBy by d o e → IsPending d ls n → (m : NodeMap) × AppliesBy by n o m × IsPending e ls m
+pending_after by d e n o ls h a p =
+    let r = removed_after by d e n o (pointers o) ls (λ xs i. i) h a p.removed in
+    (r.0, r.1, record { removed = r.2; scattered = scattered_after by d e o (pointers o) ls (λ xs i. i) h a p.scattered })
 
-pub pending_refused : (d n : NodeMap) (i : ℕ) (o : Operation) (e : PatchError) (ls : List Later) → AllDiverge d (pointers o) (paths_of ls) → IsPending d ls n → RefusesOperation d i o e → RefusesOperation n i o e
-pending_refused d n i o e ls h p a = refused_later d n i o e (pointers o) ls (λ xs i. i) h a p.removed
+pub pending_refused : (by : Comparison) (d n : NodeMap) (i : ℕ) (o : Operation) (e : PatchError) (ls : List Later) → AllDiverge d (pointers o) (paths_of ls) → IsPending d ls n → RefusesOperationBy by d i o e → RefusesOperationBy by n i o e
+pending_refused by d n i o e ls h p a = refused_later by d n i o e (pointers o) ls (λ xs i. i) h a p.removed
 
 -- one more node
 
@@ -186,7 +188,7 @@ pending_pop d e n v l ls tree p taken =
     let same : e ≡ r.0 = Deletes_one d (nodes null) l.path e r.0 tree taken.left r.1.1.left in
     record {
       removed = subst (λ (z : NodeMap). Patches z (removals ls) n) (sym same) r.2;
-      scattered = scattered_after d e (Remove l.path) (l.path ∷ []) ls (λ xs i. i) s.1 (v, taken) s.2;
+      scattered = scattered_after Strict d e (Remove l.path) (l.path ∷ []) ls (λ xs i. i) s.1 (v, taken) s.2;
     }
 
 -- null, and then its removal
@@ -295,13 +297,13 @@ pub pending_remove : (d e n : NodeMap) (front : List Text) (x : Text) (ls : List
 pending_remove d e n front x ls l is named h puts p =
     let o : Operation = Replace l.path Null in
     let xss : List (List Text) = l.path ∷ [] in
-    let r = removed_after d e n o xss ls (λ xs i. i) h puts p.removed in
+    let r = removed_after Strict d e n o xss ls (λ xs i. i) h puts p.removed in
     let gone = null_removed n r.0 (nodes (view Null)) front x (value_root Null) (subst (λ (ts : List Text). PutsAt n ts (nodes (view Null)) r.0) is r.1) in
     let taken : Takes r.0 l.path (nodes (view Null)) gone.1 = subst (λ (ts : List Text). Takes r.0 ts (nodes (view Null)) gone.1) (sym is) gone.3 in (
       gone.1,
       gone.0,
       subst (λ (ts : List Text). Takes n ts gone.0 gone.1) (sym is) gone.2,
-      pending_push e r.0 gone.1 (nodes (view Null)) ls l r.2 taken (scattered_after d e o xss ls (λ xs i. i) h puts p.scattered) (kept_put d e l.location l.path (nodes (view Null)) named puts (value_root Null)) (after_applied d e o xss (paths_of ls) (λ xs i. i) h puts),
+      pending_push e r.0 gone.1 (nodes (view Null)) ls l r.2 taken (scattered_after Strict d e o xss ls (λ xs i. i) h puts p.scattered) (kept_put d e l.location l.path (nodes (view Null)) named puts (value_root Null)) (after_applied Strict d e o xss (paths_of ls) (λ xs i. i) h puts),
     )
 
 -- a move whose removal is made later: the source is null now, in what is left too
@@ -320,7 +322,7 @@ null_at d e n from path front x ls is h apart puts p =
     let o : Operation = Replace from Null in
     let xss : List (List Text) = from ∷ path ∷ [] in
     let among : AmongAll (from ∷ path ∷ []) (Replace from Null) = λ xs i. Contains-append_left (from ∷ []) (path ∷ []) xs i in
-    let r = removed_after d e n o xss ls among h puts p.removed in
+    let r = removed_after Strict d e n o xss ls among h puts p.removed in
     let gone = null_removed n r.0 (nodes (view Null)) front x (value_root Null) (subst (λ (ts : List Text). PutsAt n ts (nodes (view Null)) r.0) is r.1) in
     let in_n : Diverges n from path = diverges_later d n from path xss ls (second_in from path) h apart p.removed in
     record {
@@ -331,7 +333,7 @@ null_at d e n from path front x ls is h apart puts p =
       blank = subst (λ (ts : List Text). Takes r.0 ts (nodes (view Null)) gone.1) (sym is) gone.3;
       removed = r.2;
       diverge = diverges_turned r.0 from path (diverges_after (λ n tokens m. PutsAt n tokens (nodes (view Null)) m) (local_put (nodes (view Null))) n r.0 from from path in_n in_n r.1);
-      after = after_applied d e o xss (paths_of ls) among h puts;
+      after = after_applied Strict d e o xss (paths_of ls) among h puts;
     }
 
 pub pending_move : (d e f n : NodeMap) (value : Value) (path front : List Text) (x : Text) (ls : List Later) (l : Later) → l.path ≡ front ++ x ∷ [] → IsReached d l → AllDiverge d (l.path ∷ path ∷ []) (paths_of ls) → Diverges d l.path path → Finds d l.path (nodes (view value)) → PutsAt d l.path (nodes (view Null)) e → Adds e path (nodes (view value)) f → IsPending d ls n → (m : NodeMap) × Moves n l.path path m × IsPending f (ls ++ l ∷ []) m
@@ -341,14 +343,14 @@ pending_move d e f n value path front x ls l is named h apart found puts added p
     let o : Operation = Add path value in
     let among : AmongAll (l.path ∷ path ∷ []) (Add path value) = λ xs i. Contains-append_right (l.path ∷ []) (path ∷ []) xs i in
     let first : AmongAll (l.path ∷ path ∷ []) (Replace l.path Null) = λ xs i. Contains-append_left (l.path ∷ []) (path ∷ []) xs i in
-    let r = removed_after e f s.next o xss ls among s.after added s.removed in
+    let r = removed_after Strict e f s.next o xss ls among s.after added s.removed in
     let both = local_diamond (λ n tokens m. Takes n tokens (nodes (view Null)) m) (λ n tokens m. Adds n tokens (nodes (view value)) m) (local_take (nodes (view Null))) (local_add (nodes (view value))) s.next s.left r.0 l.path path (diverges_turned s.next path l.path s.diverge) s.blank r.1 in
     let found_n : Finds n l.path (nodes (view value)) = seen_later (λ n tokens. Finds n tokens (nodes (view value))) (seen_finds (nodes (view value))) d n l.path xss ls (first_in l.path (path ∷ [])) h found p.removed in
     let value_is : s.value ≡ nodes (view value) = Finds_one n l.path s.value (nodes (view value)) s.taken.found found_n in
     let named_e : IsReached e l = kept_put d e l.location l.path (nodes (view Null)) named puts (value_root Null) in
     let apart_e : Diverges e l.path path = diverges_after (λ n tokens m. PutsAt n tokens (nodes (view Null)) m) (local_put (nodes (view Null))) d e l.path l.path path apart apart puts in
     let named_f : IsReached f l = seen_after (λ n tokens m. Adds n tokens (nodes (view value)) m) (local_add (nodes (view value))) (IsKept l.location) (seen_kept l.location) e f l.path path apart_e added named_e in
-    let after : AllDiverge f xss (paths_of ls) = after_applied e f o xss (paths_of ls) among s.after added in (
+    let after : AllDiverge f xss (paths_of ls) = after_applied Strict e f o xss (paths_of ls) among s.after added in (
       both.0,
       record {
         node = nodes (view value);
@@ -358,7 +360,7 @@ pending_move d e f n value path front x ls l is named h apart found puts added p
         added = both.1;
       },
       pending_push f r.0 both.0 (nodes (view Null)) ls l r.2 both.2
-          (scattered_after e f o xss ls among s.after added (scattered_after d e (Replace l.path Null) xss ls first h puts p.scattered))
+          (scattered_after Strict e f o xss ls among s.after added (scattered_after Strict d e (Replace l.path Null) xss ls first h puts p.scattered))
           named_f
           (λ xs ys i j. after xs ys (Contains-append_left (l.path ∷ []) (path ∷ []) xs i) j),
     )
@@ -461,24 +463,24 @@ any_default (l ∷ ls) (suc i) x y low = any_default ls i x y (omega (arith, low
 
 pub now_removed : (c d : Value) (tokens : List Text) (ls : List Later) → AllDiverge (nodes (view c)) (tokens ∷ []) (paths_of ls) → (v : NodeMap) × Takes (nodes (view c)) tokens v (nodes (view d)) → (n : NodeMap) → IsPending (nodes (view c)) ls n → (m v : NodeMap) × Takes n tokens v m × IsPending (nodes (view d)) ls m
 now_removed c d tokens ls h a n p =
-    let r = pending_after (nodes (view c)) (nodes (view d)) n (Remove tokens) ls h a p in
+    let r = pending_after Strict (nodes (view c)) (nodes (view d)) n (Remove tokens) ls h a p in
     (r.0, r.1.0, r.1.1, r.2)
 
 pub now_moved : (c d : Value) (from path : List Text) (ls : List Later) → AllDiverge (nodes (view c)) (from ∷ path ∷ []) (paths_of ls) → Moves (nodes (view c)) from path (nodes (view d)) → (n : NodeMap) → IsPending (nodes (view c)) ls n → (m : NodeMap) × Moves n from path m × IsPending (nodes (view d)) ls m
-now_moved c d from path ls h a n p = pending_after (nodes (view c)) (nodes (view d)) n (Move from path) ls h a p
+now_moved c d from path ls h a n p = pending_after Strict (nodes (view c)) (nodes (view d)) n (Move from path) ls h a p
 
 pub now_move_refused : (c : Value) (i : ℕ) (from path : List Text) (ls : List Later) → AllDiverge (nodes (view c)) (from ∷ path ∷ []) (paths_of ls) → (e : PatchError) → RefusesMove (nodes (view c)) i from path e → (n : NodeMap) → IsPending (nodes (view c)) ls n → RefusesMove n i from path e
-now_move_refused c i from path ls h e a n p = pending_refused (nodes (view c)) n i (Move from path) e ls h p a
+now_move_refused c i from path ls h e a n p = pending_refused Strict (nodes (view c)) n i (Move from path) e ls h p a
 
-pub now_applied : (c d : Value) (o : Operation) (ls : List Later) → AllDiverge (nodes (view c)) (pointers o) (paths_of ls) → Applies (nodes (view c)) o (nodes (view d)) → (n : NodeMap) → IsPending (nodes (view c)) ls n → (m : NodeMap) × Applies n o m × IsPending (nodes (view d)) ls m
-now_applied c d o ls h a n p = pending_after (nodes (view c)) (nodes (view d)) n o ls h a p
+pub now_applied : (by : Comparison) (c d : Value) (o : Operation) (ls : List Later) → AllDiverge (nodes (view c)) (pointers o) (paths_of ls) → AppliesBy by (nodes (view c)) o (nodes (view d)) → (n : NodeMap) → IsPending (nodes (view c)) ls n → (m : NodeMap) × AppliesBy by n o m × IsPending (nodes (view d)) ls m
+now_applied by c d o ls h a n p = pending_after by (nodes (view c)) (nodes (view d)) n o ls h a p
 
-pub now_refused : (c : Value) (i : ℕ) (o : Operation) (ls : List Later) → AllDiverge (nodes (view c)) (pointers o) (paths_of ls) → (e : PatchError) → RefusesOperation (nodes (view c)) i o e → (n : NodeMap) → IsPending (nodes (view c)) ls n → RefusesOperation n i o e
-now_refused c i o ls h e a n p = pending_refused (nodes (view c)) n i o e ls h p a
+pub now_refused : (by : Comparison) (c : Value) (i : ℕ) (o : Operation) (ls : List Later) → AllDiverge (nodes (view c)) (pointers o) (paths_of ls) → (e : PatchError) → RefusesOperationBy by (nodes (view c)) i o e → (n : NodeMap) → IsPending (nodes (view c)) ls n → RefusesOperationBy by n i o e
+now_refused by c i o ls h e a n p = pending_refused by (nodes (view c)) n i o e ls h p a
 
 pub removed_refused : {T : Type 0} (c : Value) (i : ℕ) (tokens path : List Text) (ls : List Later) (r : Result T (Fault PatchError)) → tokens ≡ path → AllDiverge (nodes (view c)) (path ∷ []) (paths_of ls) → IfRefused r (RefusesTarget (nodes (view c)) i tokens) → IfRefused r (λ e. (n : NodeMap) → IsPending (nodes (view c)) ls n → RefusesOperation n i (Remove path) e)
 removed_refused c i tokens path ls r is h a = refused_all r (RefusesTarget (nodes (view c)) i path) (λ e. (n : NodeMap) → IsPending (nodes (view c)) ls n → RefusesOperation n i (Remove path) e)
-    (λ e q n p. pending_refused (nodes (view c)) n i (Remove path) e ls h p q)
+    (λ e q n p. pending_refused Strict (nodes (view c)) n i (Remove path) e ls h p q)
     (subst (λ (ts : List Text). IfRefused r (RefusesTarget (nodes (view c)) i ts)) is a)
 
 pub moved_refused : {T : Type 0} (c : Value) (i : ℕ) (f p from path : List Text) (ls : List Later) (r : Result T (Fault PatchError)) → f ≡ from → p ≡ path → IfRefused r (λ e. (n : NodeMap) → IsPending (nodes (view c)) ls n → RefusesMove n i f p e) → IfRefused r (λ e. (n : NodeMap) → IsPending (nodes (view c)) ls n → RefusesOperation n i (Move from path) e)
@@ -496,11 +498,11 @@ pub unchanged_records : {T E : Type 0} (d e : Value) (j : Journal) (r : Result T
 unchanged_records d e j (Ok t) h = tt
 unchanged_records d e j (Err t) h = λ k u. subst (λ (x : Data). Undone j k (content x)) (sym h) u
 
-pub refused_last : (n m : NodeMap) (os : List Operation) (o : Operation) (i : ℕ) (e : PatchError) → i ≡ length os → Patches n os m → RefusesOperation m i o e → RefusesPatch n (os ++ o ∷ []) e
-refused_last n m os o i e is done refused = refused_next n m (os ++ o ∷ []) os [] o e refl done (subst (λ (k : ℕ). RefusesOperation m k o e) is refused)
+pub refused_last : (by : Comparison) (n m : NodeMap) (os : List Operation) (o : Operation) (i : ℕ) (e : PatchError) → i ≡ length os → PatchesBy by n os m → RefusesOperationBy by m i o e → RefusesPatchBy by n (os ++ o ∷ []) e
+refused_last by n m os o i e is done refused = refused_next by n m (os ++ o ∷ []) os [] o e refl done (subst (λ (k : ℕ). RefusesOperationBy by m k o e) is refused)
 
-pub refused_here : (n m : NodeMap) (all os rest : List Operation) (o : Operation) (i : ℕ) (e : PatchError) → os ++ o ∷ rest ≡ all → i ≡ length os → Patches n os m → RefusesOperation m i o e → RefusesPatch n all e
-refused_here n m all os rest o i e split is done refused = refused_next n m all os rest o e (sym split) done (subst (λ (k : ℕ). RefusesOperation m k o e) is refused)
+pub refused_here : (by : Comparison) (n m : NodeMap) (all os rest : List Operation) (o : Operation) (i : ℕ) (e : PatchError) → os ++ o ∷ rest ≡ all → i ≡ length os → PatchesBy by n os m → RefusesOperationBy by m i o e → RefusesPatchBy by n all e
+refused_here by n m all os rest o i e split is done refused = refused_next by n m all os rest o e (sym split) done (subst (λ (k : ℕ). RefusesOperationBy by m k o e) is refused)
 
 -- one pointer
 
@@ -544,3 +546,20 @@ waits_no_test n (Replace path value) p w t = absurd w
 waits_no_test n (Move from path) p w t = t
 waits_no_test n (Copy from path) p w t = absurd w
 waits_no_test n (Test path value) p w t = absurd w
+
+-- an operation whose removal waits is no test
+pub waits_applied : (by : Comparison) (c : Value) (n m : NodeMap) (o : Operation) (p : Path) → CanWait (nodes (view c)) o p → Applies n o m → AppliesBy by n o m
+waits_applied by c n m (Add path value) p w a = absurd w
+waits_applied by c n m (Remove path) p w a = a
+waits_applied by c n m (Replace path value) p w a = absurd w
+waits_applied by c n m (Move from path) p w a = a
+waits_applied by c n m (Copy from path) p w a = absurd w
+waits_applied by c n m (Test path value) p w a = absurd w
+
+pub waits_refused : (by : Comparison) (c : Value) (n : NodeMap) (i : ℕ) (o : Operation) (p : Path) (e : PatchError) → CanWait (nodes (view c)) o p → RefusesOperation n i o e → RefusesOperationBy by n i o e
+waits_refused by c n i (Add path value) p e w r = absurd w
+waits_refused by c n i (Remove path) p e w r = r
+waits_refused by c n i (Replace path value) p e w r = absurd w
+waits_refused by c n i (Move from path) p e w r = r
+waits_refused by c n i (Copy from path) p e w r = absurd w
+waits_refused by c n i (Test path value) p e w r = absurd w

@@ -13,10 +13,12 @@ use Rattle.jsonptr_tree.proofs.PutLemmas.{cases_same, rest_after-step, same_by_f
 use Rattle.jsonptr_tree.proofs.RemovingLemmas.{Deletes_child, without_key-same, without_key-other}
 use Rattle.jsonptr_patch.specs.Inserting.{with_place}
 use Rattle.jsonptr_patch.specs.Adding.{AddsUnder, Adds}
-use Rattle.jsonptr_patch.specs.Operating.{Takes, Passes}
+use Rattle.jsonptr_patch.specs.Operating.{Takes, PassesBy}
 use Rattle.jsonptr_patch.proofs.OneLemmas.{last_one}
 use Rattle.jsonptr_patch.proofs.RestoringLemmas.{cases_token}
 use Rattle.jsonptr_patch.proofs.MemberLemmas.{IsLocal, first_step, object_step, at_object}
+use Rattle.jsonptr_patch.specs.declared.comparison.Comparison.{Comparison}
+use Rattle.jsonptr_patch.specs.declared.comparison.Comparison.TheVariants.{Strict, Numeric}
 
 no_last : (front : List Text) (x : Text) (more : List Text) → front ++ x ∷ more ≡ [] → ⊥
 no_last [] x more e = cc
@@ -341,8 +343,12 @@ pub local_find : (v : NodeMap) → IsLocal (λ n tokens m. Finds n tokens v × (
 local_find v = local_by (λ n tokens m. Finds n tokens v × (m ≡ n)) (AtParent (at_child (find_child v))) (find_there v) (find_back v) (local_parent (at_child (find_child v)) (child_inside (find_child v) (find_inside v)))
 
 -- testing
-pub local_test : (v : NodeMap) → IsLocal (λ n tokens m. Passes n tokens v × (m ≡ n))
-local_test v n k m front u x more named object named_too object_too same h =
+pub local_test : (by : Comparison) (v : NodeMap) → IsLocal (λ n tokens m. PassesBy by n tokens v × (m ≡ n))
+local_test Strict v n k m front u x more named object named_too object_too same h =
     let p = h.0 in
     let r = local_find p.0 n k m front u x more named object named_too object_too same (p.1.found, h.1) in
     (r.0, r.1, ((p.0, record { found = r.2.0; target_plain = p.1.target_plain; value_plain = p.1.value_plain }, p.2), r.2.1))
+local_test Numeric v n k m front u x more named object named_too object_too same h =
+    let p = h.0 in
+    let r = local_find p.0 n k m front u x more named object named_too object_too same (p.1, h.1) in
+    (r.0, r.1, ((p.0, r.2.0, p.2), r.2.1))

@@ -1,6 +1,7 @@
 -- Lemmas on insertions, additions, tests, whole patches, and the laws of patches.
 pub mod InsertingLemmas
 pub mod AddingLemmas
+pub mod NumberLemmas
 pub mod TestingLemmas
 pub mod OperatingLemmas
 pub mod RestoringLemmas
@@ -23,3 +24,4 @@ pub mod WaitingLemmas
 pub mod BackLemmas
 mod BackOrderLemmas
 pub mod ApartnessLemmas
+pub mod ComparisonLemmas

@@ -23,8 +23,8 @@ use Rattle.jsonptr_tree.proofs.ContentLemmas.{map_of-IsTree, map_of-finite}
 use Rattle.jsonptr_tree.proofs.RemovingLemmas.{Deletes_one, Deletes-tree, Deletes-finite}
 use Rattle.jsonptr_patch.specs.Inserting.{with_place}
 use Rattle.jsonptr_patch.specs.Adding.{MeansPlace, AddsUnder, Adds, LacksParent, HasArray, LacksPlace}
-use Rattle.jsonptr_patch.specs.Operating.{Takes, Moves, Compares, Passes, Applies, RefusesTarget, RefusesAdd, RefusesMove, RefusesCopy, RefusesTest, RefusesOperation}
-use Rattle.jsonptr_patch.specs.Testing.{IsEqual, HasFloat}
+use Rattle.jsonptr_patch.specs.Operating.{Takes, Moves, Compares, RefusesTarget, RefusesAdd, RefusesMove, RefusesCopy, AppliesBy, PassesBy, RefusesOperationBy, RefusesTestBy}
+use Rattle.jsonptr_patch.specs.Testing.{IsEqualBy, IsEqual, HasFloat}
 use Rattle.jsonptr_patch.specs.declared.operation.Operation.{Operation}
 use Rattle.jsonptr_patch.specs.declared.operation.Operation.TheVariants.{Add, Remove, Replace, Move, Copy, Test}
 use Rattle.jsonptr_patch.specs.declared.operation.PatchError.{PatchError}
@@ -32,6 +32,8 @@ use Rattle.jsonptr_patch.specs.declared.operation.PatchError.TheVariants.{NoTarg
 use Rattle.jsonptr_patch.proofs.InsertingLemmas.{IsTree-with_place, IsListed-with_place}
 use Rattle.jsonptr_tree.proofs.AssigningLemmas.{Assigns_named, Assigns_object, Assigns-tree}
 use Rattle.jsonptr_patch.proofs.AddingLemmas.{named_refused, cases_member}
+use Rattle.jsonptr_patch.specs.declared.comparison.Comparison.{Comparison}
+use Rattle.jsonptr_patch.specs.declared.comparison.Comparison.TheVariants.{Strict, Numeric}
 
 -- the last token of a list
 
@@ -197,26 +199,30 @@ takes_listed n tokens v m tree listed a = (found_listed n tokens v listed a.foun
 puts_one : (n : NodeMap) (tokens : List Text) (v m k : NodeMap) → PutsAt n tokens v m → PutsAt n tokens v k → m ≡ k
 puts_one n tokens v m k a b = a.made ∙ ap (λ (w : Path). put n w v) (Names_one_path n tokens a.path b.path a.named b.named) ∙ sym b.made
 
-pub applies_one : (n m l : NodeMap) (o : Operation) → IsTree n → Applies n o m → Applies n o l → m ≡ l
-applies_one n m l (Add path value) tree a b = adds_one n path (nodes (view value)) m l a b
-applies_one n m l (Remove path) tree a b = (takes_one n path a.0 b.0 m l tree a.1 b.1).1
-applies_one n m l (Replace path value) tree a b = puts_one n path (nodes (view value)) m l a b
-applies_one n m l (Move from path) tree a b =
+pub applies_one : (by : Comparison) (n m l : NodeMap) (o : Operation) → IsTree n → AppliesBy by n o m → AppliesBy by n o l → m ≡ l
+applies_one by n m l (Add path value) tree a b = adds_one n path (nodes (view value)) m l a b
+applies_one by n m l (Remove path) tree a b = (takes_one n path a.0 b.0 m l tree a.1 b.1).1
+applies_one by n m l (Replace path value) tree a b = puts_one n path (nodes (view value)) m l a b
+applies_one by n m l (Move from path) tree a b =
     let same = takes_one n from a.node b.node a.left b.left tree a.taken b.taken in
     adds_one b.left path b.node m l (subst (λ (q : NodeMap). Adds q path b.node m) same.1 (subst (λ (q : NodeMap). Adds a.left path q m) same.0 a.added)) b.added
-applies_one n m l (Copy from path) tree a b =
+applies_one by n m l (Copy from path) tree a b =
     let same = Finds_one n from a.node b.node a.found b.found in
     adds_one n path b.node m l (subst (λ (q : NodeMap). Adds n path q m) same a.added) b.added
-applies_one n m l (Test path value) tree a b = a.1 ∙ sym b.1
+applies_one by n m l (Test path value) tree a b = a.1 ∙ sym b.1
 
-test_refused : (n : NodeMap) (k : ℕ) (tokens : List Text) (v : NodeMap) (e : PatchError) → Passes n tokens v → RefusesTest n k tokens v e → ⊥
-test_refused n k tokens v e a (inl h) = named_refused n tokens a.1.found.path h.0 a.1.found.named h.2
-test_refused n k tokens v e a (inr (inl h)) =
+test_refused : (by : Comparison) (n : NodeMap) (k : ℕ) (tokens : List Text) (v : NodeMap) (e : PatchError) → PassesBy by n tokens v → RefusesTestBy by n k tokens v e → ⊥
+test_refused Strict n k tokens v e a (inl h) = named_refused n tokens a.1.found.path h.0 a.1.found.named h.2
+test_refused Strict n k tokens v e a (inr (inl h)) =
     let same = Finds_one n tokens h.1 a.0 h.2 a.1.found in
     ⊎_elim (λ (f : HasFloat h.1). a.1.target_plain (subst HasFloat same f)) (λ (f : HasFloat v). a.1.value_plain f) h.3
-test_refused n k tokens v e a (inr (inr h)) =
+test_refused Strict n k tokens v e a (inr (inr h)) =
     let same = Finds_one n tokens h.1 a.0 h.2.found a.1.found in
     h.3 (subst (λ (q : NodeMap). IsEqual q v) (sym same) a.2)
+test_refused Numeric n k tokens v e a (inl h) = named_refused n tokens a.1.path h.0 a.1.named h.2
+test_refused Numeric n k tokens v e a (inr h) =
+    let same = Finds_one n tokens h.1 a.0 h.2 a.1 in
+    h.3 (subst (λ (q : NodeMap). IsEqualBy Numeric q v) (sym same) a.2)
 
 move_refused : (n m : NodeMap) (k : ℕ) (from path : List Text) (e : PatchError) → IsTree n → Moves n from path m → RefusesMove n k from path e → ⊥
 move_refused n m k from path e tree a (inl h) = a.apart h.1
@@ -229,14 +235,14 @@ move_refused n m k from path e tree a (inr h) = go h.1
         let left_tree = (takes_tree n from i.0 i.1 tree i.2).1 in
         adds_refused i.1 k path a.node m e left_tree (subst (λ (q : NodeMap). Adds q path a.node m) same.1 a.added) i.3
 
-pub applies_refused : (n m : NodeMap) (k : ℕ) (o : Operation) (e : PatchError) → IsTree n → Applies n o m → RefusesOperation n k o e → ⊥
-applies_refused n m k (Add path value) e tree a h = adds_refused n k path (nodes (view value)) m e tree a h
-applies_refused n m k (Remove path) e tree a h = found_refused n path a.0 k e a.1.found h
-applies_refused n m k (Replace path value) e tree a h = named_refused n path a.path h.0 a.named h.2
-applies_refused n m k (Move from path) e tree a h = move_refused n m k from path e tree a h
-applies_refused n m k (Copy from path) e tree a (inl h) = found_refused n from a.node k e a.found h
-applies_refused n m k (Copy from path) e tree a (inr h) = adds_refused n k path a.node m e tree a.added h.2
-applies_refused n m k (Test path value) e tree a h = test_refused n k path (nodes (view value)) e a.0 h
+pub applies_refused : (by : Comparison) (n m : NodeMap) (k : ℕ) (o : Operation) (e : PatchError) → IsTree n → AppliesBy by n o m → RefusesOperationBy by n k o e → ⊥
+applies_refused by n m k (Add path value) e tree a h = adds_refused n k path (nodes (view value)) m e tree a h
+applies_refused by n m k (Remove path) e tree a h = found_refused n path a.0 k e a.1.found h
+applies_refused by n m k (Replace path value) e tree a h = named_refused n path a.path h.0 a.named h.2
+applies_refused by n m k (Move from path) e tree a h = move_refused n m k from path e tree a h
+applies_refused by n m k (Copy from path) e tree a (inl h) = found_refused n from a.node k e a.found h
+applies_refused by n m k (Copy from path) e tree a (inr h) = adds_refused n k path a.node m e tree a.added h.2
+applies_refused by n m k (Test path value) e tree a h = test_refused by n k path (nodes (view value)) e a.0 h
 
 -- the error is unique
 
@@ -246,16 +252,20 @@ float_and_plain n tokens v t u f h c =
     ⊎_elim (λ (g : HasFloat t). c.target_plain (subst HasFloat same g)) (λ (g : HasFloat v). c.value_plain g) h
 
 module _ (resolve_one : (n : NodeMap) (tokens : List Text) (e f : ResolveError) → Refuses n tokens e → Refuses n tokens f → e ≡ f) (assign_one : (n : NodeMap) (tokens : List Text) (e f : AssignError) → RefusesAssign n tokens e → RefusesAssign n tokens f → e ≡ f) where
-  test_one : (n : NodeMap) (k : ℕ) (tokens : List Text) (v : NodeMap) (e f : PatchError) → RefusesTest n k tokens v e → RefusesTest n k tokens v f → e ≡ f
-  test_one n k tokens v e f (inl a) (inl b) = target_one resolve_one assign_one n k tokens e f a b
-  test_one n k tokens v e f (inl a) (inr (inl b)) = absurd (found_refused n tokens b.1 k e b.2 a)
-  test_one n k tokens v e f (inl a) (inr (inr b)) = absurd (found_refused n tokens b.1 k e b.2.found a)
-  test_one n k tokens v e f (inr (inl a)) (inl b) = absurd (found_refused n tokens a.1 k f a.2 b)
-  test_one n k tokens v e f (inr (inl a)) (inr (inl b)) = a.0 ∙ sym b.0
-  test_one n k tokens v e f (inr (inl a)) (inr (inr b)) = absurd (float_and_plain n tokens v a.1 b.1 a.2 a.3 b.2)
-  test_one n k tokens v e f (inr (inr a)) (inl b) = absurd (found_refused n tokens a.1 k f a.2.found b)
-  test_one n k tokens v e f (inr (inr a)) (inr (inl b)) = absurd (float_and_plain n tokens v b.1 a.1 b.2 b.3 a.2)
-  test_one n k tokens v e f (inr (inr a)) (inr (inr b)) = a.0 ∙ sym b.0
+  test_one : (by : Comparison) (n : NodeMap) (k : ℕ) (tokens : List Text) (v : NodeMap) (e f : PatchError) → RefusesTestBy by n k tokens v e → RefusesTestBy by n k tokens v f → e ≡ f
+  test_one Strict n k tokens v e f (inl a) (inl b) = target_one resolve_one assign_one n k tokens e f a b
+  test_one Strict n k tokens v e f (inl a) (inr (inl b)) = absurd (found_refused n tokens b.1 k e b.2 a)
+  test_one Strict n k tokens v e f (inl a) (inr (inr b)) = absurd (found_refused n tokens b.1 k e b.2.found a)
+  test_one Strict n k tokens v e f (inr (inl a)) (inl b) = absurd (found_refused n tokens a.1 k f a.2 b)
+  test_one Strict n k tokens v e f (inr (inl a)) (inr (inl b)) = a.0 ∙ sym b.0
+  test_one Strict n k tokens v e f (inr (inl a)) (inr (inr b)) = absurd (float_and_plain n tokens v a.1 b.1 a.2 a.3 b.2)
+  test_one Strict n k tokens v e f (inr (inr a)) (inl b) = absurd (found_refused n tokens a.1 k f a.2.found b)
+  test_one Strict n k tokens v e f (inr (inr a)) (inr (inl b)) = absurd (float_and_plain n tokens v b.1 a.1 b.2 b.3 a.2)
+  test_one Strict n k tokens v e f (inr (inr a)) (inr (inr b)) = a.0 ∙ sym b.0
+  test_one Numeric n k tokens v e f (inl a) (inl b) = target_one resolve_one assign_one n k tokens e f a b
+  test_one Numeric n k tokens v e f (inl a) (inr b) = absurd (found_refused n tokens b.1 k e b.2 a)
+  test_one Numeric n k tokens v e f (inr a) (inl b) = absurd (found_refused n tokens a.1 k f a.2 b)
+  test_one Numeric n k tokens v e f (inr a) (inr b) = a.0 ∙ sym b.0
 
   move_one : (n : NodeMap) (k : ℕ) (from path : List Text) (e f : PatchError) → IsTree n → RefusesMove n k from path e → RefusesMove n k from path f → e ≡ f
   move_one n k from path e f tree (inl h) (inl i) = h.0 ∙ sym i.0
@@ -277,13 +287,13 @@ module _ (resolve_one : (n : NodeMap) (tokens : List Text) (e f : ResolveError) 
   copy_one n k from path e f (inr a) (inl b) = absurd (found_refused n from a.0 k f a.1 b)
   copy_one n k from path e f (inr a) (inr b) = add_one resolve_one assign_one n k path e f a.2 b.2
 
-  pub refused_one : (n : NodeMap) (k : ℕ) (o : Operation) (e f : PatchError) → IsTree n → RefusesOperation n k o e → RefusesOperation n k o f → e ≡ f
-  refused_one n k (Add path value) e f tree h i = add_one resolve_one assign_one n k path e f h i
-  refused_one n k (Remove path) e f tree h i = target_one resolve_one assign_one n k path e f h i
-  refused_one n k (Replace path value) e f tree h i = target_one resolve_one assign_one n k path e f h i
-  refused_one n k (Move from path) e f tree h i = move_one n k from path e f tree h i
-  refused_one n k (Copy from path) e f tree h i = copy_one n k from path e f h i
-  refused_one n k (Test path value) e f tree h i = test_one n k path (nodes (view value)) e f h i
+  pub refused_one : (by : Comparison) (n : NodeMap) (k : ℕ) (o : Operation) (e f : PatchError) → IsTree n → RefusesOperationBy by n k o e → RefusesOperationBy by n k o f → e ≡ f
+  refused_one by n k (Add path value) e f tree h i = add_one resolve_one assign_one n k path e f h i
+  refused_one by n k (Remove path) e f tree h i = target_one resolve_one assign_one n k path e f h i
+  refused_one by n k (Replace path value) e f tree h i = target_one resolve_one assign_one n k path e f h i
+  refused_one by n k (Move from path) e f tree h i = move_one n k from path e f tree h i
+  refused_one by n k (Copy from path) e f tree h i = copy_one n k from path e f h i
+  refused_one by n k (Test path value) e f tree h i = test_one by n k path (nodes (view value)) e f h i
 
 -- the result is a document
 
@@ -321,22 +331,22 @@ value_tree v = map_of-IsTree (content (view v))
 value_listed : (v : Value) → IsListed (nodes (view v))
 value_listed v = map_of-finite (content (view v))
 
-pub applies_tree : (n m : NodeMap) (o : Operation) → IsTree n → Applies n o m → IsTree m
-applies_tree n m (Add path value) tree a = adds_tree n path (nodes (view value)) m tree (value_tree value) a
-applies_tree n m (Remove path) tree a = (takes_tree n path a.0 m tree a.1).1
-applies_tree n m (Replace path value) tree a = subst IsTree (sym a.made) (IsTree-put n a.path (nodes (view value)) tree (Names-here n path a.path a.named) (value_tree value))
-applies_tree n m (Move from path) tree a =
+pub applies_tree : (by : Comparison) (n m : NodeMap) (o : Operation) → IsTree n → AppliesBy by n o m → IsTree m
+applies_tree by n m (Add path value) tree a = adds_tree n path (nodes (view value)) m tree (value_tree value) a
+applies_tree by n m (Remove path) tree a = (takes_tree n path a.0 m tree a.1).1
+applies_tree by n m (Replace path value) tree a = subst IsTree (sym a.made) (IsTree-put n a.path (nodes (view value)) tree (Names-here n path a.path a.named) (value_tree value))
+applies_tree by n m (Move from path) tree a =
     let r = takes_tree n from a.node a.left tree a.taken in
     adds_tree a.left path a.node m r.1 r.0 a.added
-applies_tree n m (Copy from path) tree a = adds_tree n path a.node m tree (found_tree n from a.node tree a.found) a.added
-applies_tree n m (Test path value) tree a = subst IsTree (sym a.1) tree
+applies_tree by n m (Copy from path) tree a = adds_tree n path a.node m tree (found_tree n from a.node tree a.found) a.added
+applies_tree by n m (Test path value) tree a = subst IsTree (sym a.1) tree
 
-pub applies_listed : (n m : NodeMap) (o : Operation) → IsTree n → IsListed n → Applies n o m → IsListed m
-applies_listed n m (Add path value) tree listed a = adds_listed n path (nodes (view value)) m listed (value_listed value) a
-applies_listed n m (Remove path) tree listed a = (takes_listed n path a.0 m tree listed a.1).1
-applies_listed n m (Replace path value) tree listed a = subst IsListed (sym a.made) (IsListed-put n a.path (nodes (view value)) listed (value_listed value))
-applies_listed n m (Move from path) tree listed a =
+pub applies_listed : (by : Comparison) (n m : NodeMap) (o : Operation) → IsTree n → IsListed n → AppliesBy by n o m → IsListed m
+applies_listed by n m (Add path value) tree listed a = adds_listed n path (nodes (view value)) m listed (value_listed value) a
+applies_listed by n m (Remove path) tree listed a = (takes_listed n path a.0 m tree listed a.1).1
+applies_listed by n m (Replace path value) tree listed a = subst IsListed (sym a.made) (IsListed-put n a.path (nodes (view value)) listed (value_listed value))
+applies_listed by n m (Move from path) tree listed a =
     let r = takes_listed n from a.node a.left tree listed a.taken in
     adds_listed a.left path a.node m r.1 r.0 a.added
-applies_listed n m (Copy from path) tree listed a = adds_listed n path a.node m listed (found_listed n from a.node listed a.found) a.added
-applies_listed n m (Test path value) tree listed a = subst IsListed (sym a.1) listed
+applies_listed by n m (Copy from path) tree listed a = adds_listed n path a.node m listed (found_listed n from a.node listed a.found) a.added
+applies_listed by n m (Test path value) tree listed a = subst IsListed (sym a.1) listed

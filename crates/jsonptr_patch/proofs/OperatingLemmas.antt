@@ -13,11 +13,13 @@ use Rattle.jsonptr.specs.Types.Fault.TheVariants.{Refused, Memory}
 use Rattle.jsonptr_tree.specs.Node.{NodeMap}
 use Rattle.jsonptr_tree.specs.Json.{nodes, FindsValue}
 use Rattle.jsonptr_tree.proofs.JsonLemmas.{FindsValue-Finds}
-use Rattle.jsonptr_patch.specs.Operating.{Takes, IsProperFront, Passes, Applies, RefusesAdd, RefusesMove, RefusesTest, RefusesOperation}
-use Rattle.jsonptr_patch.specs.Patching.{Patches, RefusesPatch}
-use Rattle.jsonptr_patch.specs.PrivateTesting.{IsPlain, RefusesCompare, SameValue}
+use Rattle.jsonptr_patch.specs.Operating.{Takes, IsProperFront, Passes, PassesBy, Applies, AppliesBy, RefusesAdd, RefusesMove, RefusesTest, RefusesTestBy, RefusesOperationBy}
+use Rattle.jsonptr_patch.specs.Patching.{Patches, PatchesBy, RefusesPatchBy}
+use Rattle.jsonptr_patch.specs.PrivateTesting.{IsPlain, RefusesCompare, SameValue, SameValueBy, DiffersNumerically}
 use Rattle.jsonptr_patch.specs.declared.operation.Operation.{Operation}
 use Rattle.jsonptr_patch.specs.declared.operation.PatchError.{PatchError}
+use Rattle.jsonptr_patch.specs.declared.comparison.Comparison.{Comparison}
+use Rattle.jsonptr_patch.specs.declared.comparison.Comparison.TheVariants.{Strict, Numeric}
 
 -- tests
 
@@ -31,16 +33,28 @@ test_refused d k tokens v w (Err (Memory e)) found h = tt
 test_refused d k tokens v w (Err (Refused e)) found (inl h) = inr (inl (h.0, nodes (view v), FindsValue-Finds d tokens (view v) found, h.1))
 test_refused d k tokens v w (Err (Refused e)) found (inr h) = inr (inr (h.0, nodes (view v), record { found = FindsValue-Finds d tokens (view v) found; target_plain = h.1; value_plain = h.2 }, h.3))
 
+pub test_passes_numerically : {T : Type 0} (d : Data) (tokens : List Text) (v w : Value) (r : Result T (Fault PatchError)) → FindsValue d tokens (view v) → IfOk r (λ _. SameValueBy Numeric v w) → IfOk r (λ _. PassesBy Numeric (nodes d) tokens (nodes (view w)))
+test_passes_numerically d tokens v w (Ok t) found h = (nodes (view v), FindsValue-Finds d tokens (view v) found, h)
+test_passes_numerically d tokens v w (Err e) found h = tt
+
+pub test_refused_numerically : {T : Type 0} (d : Data) (k : ℕ) (tokens : List Text) (v w : Value) (r : Result T (Fault PatchError)) → FindsValue d tokens (view v) → IfRefused r (DiffersNumerically k v w) → IfRefused r (RefusesTestBy Numeric (nodes d) k tokens (nodes (view w)))
+test_refused_numerically d k tokens v w (Ok t) found h = tt
+test_refused_numerically d k tokens v w (Err (Memory e)) found h = tt
+test_refused_numerically d k tokens v w (Err (Refused e)) found h = inr (h.0, nodes (view v), FindsValue-Finds d tokens (view v) found, h.1)
+
 -- lists
 
 -- one operation more
+pub patches_push_by : (by : Comparison) (n m k : NodeMap) (os : List Operation) (o : Operation) → PatchesBy by n os m → AppliesBy by m o k → PatchesBy by n (os ++ o ∷ []) k
+patches_push_by by n m k [] o h a = (k, subst (λ (l : NodeMap). AppliesBy by l o k) h a, refl)
+patches_push_by by n m k (p ∷ os) o h a = (h.0, h.1, patches_push_by by h.0 m k os o h.2 a)
+
 pub patches_push : (n m k : NodeMap) (os : List Operation) (o : Operation) → Patches n os m → Applies m o k → Patches n (os ++ o ∷ []) k
-patches_push n m k [] o h a = (k, subst (λ (l : NodeMap). Applies l o k) h a, refl)
-patches_push n m k (p ∷ os) o h a = (h.0, h.1, patches_push h.0 m k os o h.2 a)
+patches_push n m k os o h a = patches_push_by Strict n m k os o h a
 
 -- the next operation fails
-pub refused_next : (n m : NodeMap) (all os rest : List Operation) (o : Operation) (e : PatchError) → all ≡ os ++ o ∷ rest → Patches n os m → RefusesOperation m (length os) o e → RefusesPatch n all e
-refused_next n m all os rest o e split done refused = record {
+pub refused_next : (by : Comparison) (n m : NodeMap) (all os rest : List Operation) (o : Operation) (e : PatchError) → all ≡ os ++ o ∷ rest → PatchesBy by n os m → RefusesOperationBy by m (length os) o e → RefusesPatchBy by n all e
+refused_next by n m all os rest o e split done refused = record {
   done = os;
   fails = o;
   rest = rest;
@@ -64,8 +78,8 @@ all_but_last P all os o h is = λ i d low.
     subst P same (h i d more)
 
 -- a list that fails also fails with more operations after it
-pub refused_longer : (n : NodeMap) (os more : List Operation) (e : PatchError) → RefusesPatch n os e → RefusesPatch n (os ++ more) e
-refused_longer n os more e r = record {
+pub refused_longer : (by : Comparison) (n : NodeMap) (os more : List Operation) (e : PatchError) → RefusesPatchBy by n os e → RefusesPatchBy by n (os ++ more) e
+refused_longer by n os more e r = record {
   done = r.done;
   fails = r.fails;
   rest = r.rest ++ more;

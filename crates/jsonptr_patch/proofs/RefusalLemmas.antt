@@ -14,10 +14,12 @@ use Rattle.jsonptr_tree.proofs.NodeLemmas.{sub-root, sub-sub, Names-append, Name
 use Rattle.jsonptr_patch.specs.Adding.{LacksParent, HasArray}
 use Rattle.jsonptr_patch.specs.Apart.{Diverges}
 use Rattle.jsonptr_patch.specs.Inverse.{HasObject, IsElementAt}
-use Rattle.jsonptr_patch.specs.Operating.{RefusesTarget, RefusesAdd, RefusesTest}
+use Rattle.jsonptr_patch.specs.Operating.{RefusesTarget, RefusesAdd, RefusesTestBy}
 use Rattle.jsonptr_patch.specs.declared.operation.PatchError.{PatchError}
 use Rattle.jsonptr_patch.proofs.MemberLemmas.{IsLocal, put-other_member, Names-above, object-above, first_step, at_object, other_change}
 use Rattle.jsonptr_patch.proofs.LevelLemmas.{local_find}
+use Rattle.jsonptr_patch.specs.declared.comparison.Comparison.{Comparison}
+use Rattle.jsonptr_patch.specs.declared.comparison.Comparison.TheVariants.{Strict, Numeric}
 
 -- two maps in which tokens lead to the same member `x` of an object at the path `u`
 
@@ -301,10 +303,11 @@ seen_names w n k front u x more r h =
     let below = named_below n k front u x r more w h in
     subst (λ (p : Path). Names k (front ++ x ∷ more) p) (sym below.1) below.2
 
-pub seen_refuses_test : (i : ℕ) (v : NodeMap) (e : PatchError) → IsSeen (λ n tokens. RefusesTest n i tokens v e)
-seen_refuses_test i v e n k front u x more r (inl h) = inl (seen_refuses_target i e n k front u x more r h)
-seen_refuses_test i v e n k front u x more r (inr (inl h)) = inr (inl (h.0, h.1, seen_finds h.1 n k front u x more r h.2, h.3))
-seen_refuses_test i v e n k front u x more r (inr (inr h)) = inr (inr (h.0, h.1, record { found = seen_finds h.1 n k front u x more r h.2.found; target_plain = h.2.target_plain; value_plain = h.2.value_plain }, h.3))
+pub seen_refuses_test : (by : Comparison) (i : ℕ) (v : NodeMap) (e : PatchError) → IsSeen (λ n tokens. RefusesTestBy by n i tokens v e)
+seen_refuses_test by i v e n k front u x more r (inl h) = inl (seen_refuses_target i e n k front u x more r h)
+seen_refuses_test Strict i v e n k front u x more r (inr (inl h)) = inr (inl (h.0, h.1, seen_finds h.1 n k front u x more r h.2, h.3))
+seen_refuses_test Strict i v e n k front u x more r (inr (inr h)) = inr (inr (h.0, h.1, record { found = seen_finds h.1 n k front u x more r h.2.found; target_plain = h.2.target_plain; value_plain = h.2.value_plain }, h.3))
+seen_refuses_test Numeric i v e n k front u x more r (inr h) = inr (h.0, h.1, seen_finds h.1 n k front u x more r h.2, h.3)
 
 -- what is seen is not changed where tokens diverge
 

@@ -1,6 +1,7 @@
 -- An operation makes a map of a document, or fails.
 use Rattle.std.proofs.Common.{◌≡◌, ℕ, zero, suc, ◌<◌, ◌⊎◌, inl, inr, ⊎_elim, ℤ, Float, Bool, true, false, List, [], ◌∷◌, ◌++◌, length, get_or, codes, Contains, Option, Some, None, IsSome, refl, sym, ap, ◌∙◌, subst, arith, true≢false, length-append}
-use Rattle.std.specs.Prelude.{All, IsUtf8}
+use Rattle.std.specs.Prelude.{T, All, IsUtf8}
+use Rattle.std.specs.Float.Ieee
 use Rattle.std.proofs.lemmas.Bool.{cases_eq}
 use Rattle.std.proofs.lemmas.Bool.Decides.{Decides-int_eq}
 use Rattle.std.proofs.lemmas.Slice.Eq.{bytes_eq-Decides}
@@ -16,7 +17,7 @@ use Rattle.jsonptr.specs.declared.resolve.Error.{Error as ResolveError}
 use Rattle.jsonptr.specs.declared.resolve.Error.TheVariants.{Unreachable}
 use Rattle.jsonptr.specs.declared.assign.Error.{Error as AssignError}
 use Rattle.jsonptr.specs.Documents.{IsDocument}
-use Rattle.jsonptr_tree.specs.Node.{key, Path, of_json, of_toml, Label, an_object, an_array, a_leaf, NodeMap, sub, Names, IsTree, IsListed}
+use Rattle.jsonptr_tree.specs.Node.{key, Path, Scalar, of_json, of_toml, Label, an_object, an_array, a_leaf, NodeMap, sub, Names, IsTree, IsListed}
 use Rattle.jsonptr_tree.specs.Following.{Finds}
 use Rattle.jsonptr_tree.specs.Assigning.{Assigns}
 use Rattle.jsonptr_tree.specs.Json.{nodes, content}
@@ -30,8 +31,8 @@ use Rattle.jsonptr_tree.proofs.RemovingLemmas.{Deletes-some}
 use Rattle.jsonptr_walk.specs.PrivatePutting.{HasNoIndex}
 use Rattle.jsonptr_patch.specs.Inserting.{with_place}
 use Rattle.jsonptr_patch.specs.Adding.{MeansPlace, AddsUnder, Adds}
-use Rattle.jsonptr_patch.specs.Operating.{Takes, IsProperFront, Passes, Applies, RefusesTarget, RefusesAdd, RefusesTest, RefusesOperation}
-use Rattle.jsonptr_patch.specs.Testing.{Reading, nothing, truth, words, whole, reading, SameNode, IsEqual, HasFloat}
+use Rattle.jsonptr_patch.specs.Operating.{Takes, IsProperFront, PassesBy, AppliesBy, RefusesTarget, RefusesAdd, RefusesTestBy, RefusesOperationBy}
+use Rattle.jsonptr_patch.specs.Testing.{Reading, nothing, truth, words, whole, reading, SameReading, exact, NumericallyEqual, SameNumbers, SameScalarBy, SameNodeBy, IsEqualBy, IsEqual, HasFloat}
 use Rattle.jsonptr_patch.specs.declared.operation.Operation.{Operation}
 use Rattle.jsonptr_patch.specs.declared.operation.Operation.TheVariants.{Add, Remove, Replace, Move, Copy, Test}
 use Rattle.jsonptr_patch.specs.declared.operation.PatchError.{PatchError}
@@ -40,6 +41,8 @@ use Rattle.jsonptr_patch.proofs.AddingLemmas.{nowhere, scalar_lacks, parent_lack
 use Rattle.jsonptr_patch.proofs.RestoringLemmas.{cases_token}
 use Rattle.jsonptr_patch.proofs.OneLemmas.{takes_tree}
 use Rattle.jsonptr_patch.specs.Operations.{IsOperation}
+use Rattle.jsonptr_patch.specs.declared.comparison.Comparison.{Comparison}
+use Rattle.jsonptr_patch.specs.declared.comparison.Comparison.TheVariants.{Strict, Numeric}
 
 -- ---- decidable properties
 
@@ -90,21 +93,64 @@ cases_readings (Some r) (Some q) = ⊎_elim
     (λ (d : r ≡ q → ⊥). inr (λ h. let a : Some r ≡ Some h.0 = h.1 in let b : Some q ≡ Some h.0 = h.2 in let same : r ≡ q = cc in d same))
     (cases_reading r q)
 
-cases_node : (a b : Option Label) → SameNode a b ⊎ (SameNode a b → ⊥)
-cases_node None None = inl tt
-cases_node None (Some l) = inr (λ h. h)
-cases_node (Some an_object) None = inr (λ h. h)
-cases_node (Some (an_array len)) None = inr (λ h. h)
-cases_node (Some (a_leaf s)) None = inr (λ h. h)
-cases_node (Some an_object) (Some an_object) = inl tt
-cases_node (Some an_object) (Some (an_array k)) = inr (λ h. h)
-cases_node (Some an_object) (Some (a_leaf t)) = inr (λ h. h)
-cases_node (Some (an_array len)) (Some an_object) = inr (λ h. h)
-cases_node (Some (an_array len)) (Some (an_array k)) = cases_eq len k
-cases_node (Some (an_array len)) (Some (a_leaf t)) = inr (λ h. h)
-cases_node (Some (a_leaf s)) (Some an_object) = inr (λ h. h)
-cases_node (Some (a_leaf s)) (Some (an_array k)) = inr (λ h. h)
-cases_node (Some (a_leaf s)) (Some (a_leaf t)) = cases_readings (reading s) (reading t)
+-- a scalar is a number, or it is not
+
+number_in : (a : Scalar) → ((n : json.Num) × (a ≡ of_json (json.number n))) ⊎ ((n : json.Num) → a ≡ of_json (json.number n) → ⊥)
+number_in (of_toml d) = inr (λ n e. cc)
+number_in (of_json json.null) = inr (λ n e. cc)
+number_in (of_json (json.boolean b)) = inr (λ n e. cc)
+number_in (of_json (json.number n)) = inl (n, refl)
+number_in (of_json (json.string s)) = inr (λ n e. cc)
+number_in (of_json (json.array ds)) = inr (λ n e. cc)
+number_in (of_json (json.object ms)) = inr (λ n e. cc)
+
+number_of : (n m : json.Num) → of_json (json.number n) ≡ of_json (json.number m) → n ≡ m
+number_of n m e = cc
+
+cases_holds : (b : Bool) → T b ⊎ (T b → ⊥)
+cases_holds true = inl tt
+cases_holds false = inr (λ h. h)
+
+cases_numbers : (a b : Scalar) → SameNumbers a b ⊎ (SameNumbers a b → ⊥)
+cases_numbers a b = ⊎_elim
+    (λ (l : (n : json.Num) × (a ≡ of_json (json.number n))). ⊎_elim
+    (λ (r : (n : json.Num) × (b ≡ of_json (json.number n))). ⊎_elim
+    (λ (same : NumericallyEqual l.0 r.0). inl (l.0, r.0, l.1, r.1, same))
+    (λ (other : NumericallyEqual l.0 r.0 → ⊥). inr (λ h.
+    let left = number_of h.0 l.0 (sym h.2 ∙ l.1) in
+    let right = number_of h.1 r.0 (sym h.3 ∙ r.1) in
+    other (subst (λ (n : json.Num). NumericallyEqual n r.0) left (subst (NumericallyEqual h.0) right h.4))))
+    (cases_holds (Ieee.eq (exact l.0) (exact r.0))))
+    (λ (none : (n : json.Num) → b ≡ of_json (json.number n) → ⊥). inr (λ h. none h.1 h.3))
+    (number_in b))
+    (λ (none : (n : json.Num) → a ≡ of_json (json.number n) → ⊥). inr (λ h. none h.0 h.2))
+    (number_in a)
+
+cases_scalar : (by : Comparison) (a b : Scalar) → SameScalarBy by a b ⊎ (SameScalarBy by a b → ⊥)
+cases_scalar Strict a b = cases_readings (reading a) (reading b)
+cases_scalar Numeric a b = ⊎_elim
+    (λ (r : SameReading a b). inl (inl r))
+    (λ (none : SameReading a b → ⊥). ⊎_elim
+    (λ (r : SameNumbers a b). inl (inr r))
+    (λ (neither : SameNumbers a b → ⊥). inr (λ h. ⊎_elim none neither h))
+    (cases_numbers a b))
+    (cases_readings (reading a) (reading b))
+
+cases_node : (by : Comparison) (a b : Option Label) → SameNodeBy by a b ⊎ (SameNodeBy by a b → ⊥)
+cases_node by None None = inl tt
+cases_node by None (Some l) = inr (λ h. h)
+cases_node by (Some an_object) None = inr (λ h. h)
+cases_node by (Some (an_array len)) None = inr (λ h. h)
+cases_node by (Some (a_leaf s)) None = inr (λ h. h)
+cases_node by (Some an_object) (Some an_object) = inl tt
+cases_node by (Some an_object) (Some (an_array k)) = inr (λ h. h)
+cases_node by (Some an_object) (Some (a_leaf t)) = inr (λ h. h)
+cases_node by (Some (an_array len)) (Some an_object) = inr (λ h. h)
+cases_node by (Some (an_array len)) (Some (an_array k)) = cases_eq len k
+cases_node by (Some (an_array len)) (Some (a_leaf t)) = inr (λ h. h)
+cases_node by (Some (a_leaf s)) (Some an_object) = inr (λ h. h)
+cases_node by (Some (a_leaf s)) (Some (an_array k)) = inr (λ h. h)
+cases_node by (Some (a_leaf s)) (Some (a_leaf t)) = cases_scalar by s t
 
 -- there is a float at a node, or there is none
 abbrev FloatAt : Option Label → Type 0
@@ -152,20 +198,20 @@ cases_has_float n h = ⊎_elim
     (λ (none : (w : Path) → Contains h.0 w → FloatAt (n w) → ⊥). inr (λ f. none f.0 (h.1 f.0 (some_label (n f.0) (a_leaf (of_json (json.number (json.float f.1)))) f.2)) (f.1, f.2)))
     (any_path (λ (w : Path). FloatAt (n w)) (λ w. cases_float (n w)) h.0)
 
-cases_equal : (n m : NodeMap) → IsListed n → IsListed m → IsEqual n m ⊎ (IsEqual n m → ⊥)
-cases_equal n m h k = ⊎_elim
-    (λ (r : (w : Path) × (SameNode (n w) (m w) → ⊥)). inr (λ all. r.1 (all r.0)))
-    (λ (none : (w : Path) → Contains (h.0 ++ k.0) w → (SameNode (n w) (m w) → ⊥) → ⊥). inl (λ w. at none w (cases_node (n w) (m w))))
-    (any_path (λ (w : Path). SameNode (n w) (m w) → ⊥) (λ w. flip (n w) (m w) (cases_node (n w) (m w))) (h.0 ++ k.0))
+cases_equal : (by : Comparison) (n m : NodeMap) → IsListed n → IsListed m → IsEqualBy by n m ⊎ (IsEqualBy by n m → ⊥)
+cases_equal by n m h k = ⊎_elim
+    (λ (r : (w : Path) × (SameNodeBy by (n w) (m w) → ⊥)). inr (λ all. r.1 (all r.0)))
+    (λ (none : (w : Path) → Contains (h.0 ++ k.0) w → (SameNodeBy by (n w) (m w) → ⊥) → ⊥). inl (λ w. at none w (cases_node by (n w) (m w))))
+    (any_path (λ (w : Path). SameNodeBy by (n w) (m w) → ⊥) (λ w. flip (n w) (m w) (cases_node by (n w) (m w))) (h.0 ++ k.0))
   where
-    flip : (a b : Option Label) → SameNode a b ⊎ (SameNode a b → ⊥) → (SameNode a b → ⊥) ⊎ ((SameNode a b → ⊥) → ⊥)
+    flip : (a b : Option Label) → SameNodeBy by a b ⊎ (SameNodeBy by a b → ⊥) → (SameNodeBy by a b → ⊥) ⊎ ((SameNodeBy by a b → ⊥) → ⊥)
     flip a b (inl s) = inr (λ d. d s)
     flip a b (inr d) = inl d
 
-    neither : (a b : Option Label) → a ≡ None → b ≡ None → SameNode a b
-    neither a b e f = subst (λ (o : Option Label). SameNode o b) (sym e) (subst (λ (o : Option Label). SameNode None o) (sym f) tt)
+    neither : (a b : Option Label) → a ≡ None → b ≡ None → SameNodeBy by a b
+    neither a b e f = subst (λ (o : Option Label). SameNodeBy by o b) (sym e) (subst (λ (o : Option Label). SameNodeBy by None o) (sym f) tt)
 
-    at : ((w : Path) → Contains (h.0 ++ k.0) w → (SameNode (n w) (m w) → ⊥) → ⊥) → (w : Path) → SameNode (n w) (m w) ⊎ (SameNode (n w) (m w) → ⊥) → SameNode (n w) (m w)
+    at : ((w : Path) → Contains (h.0 ++ k.0) w → (SameNodeBy by (n w) (m w) → ⊥) → ⊥) → (w : Path) → SameNodeBy by (n w) (m w) ⊎ (SameNodeBy by (n w) (m w) → ⊥) → SameNodeBy by (n w) (m w)
     at none w (inl s) = s
     at none w (inr d) = ⊎_elim
         (λ (i : IsSome (n w)). absurd (none w (Contains-append_left h.0 k.0 w (h.1 w i)) d))
@@ -250,35 +296,39 @@ module _ (resolve_some : ResolveSome) (assign_some : AssignSome) where
       (λ (r : (e : ResolveError) × Refuses n tokens e). inr (NoTarget k r.0, (r.0, refl, r.1)))
       (resolve_some n tokens tree utf8)
 
-  tests_some : (n : NodeMap) (k : ℕ) (tokens : List Text) (v : NodeMap) → IsDocument n → IsListed v → All IsUtf8 tokens → Passes n tokens v ⊎ ((e : PatchError) × RefusesTest n k tokens v e)
-  tests_some n k tokens v document listed utf8 = ⊎_elim
-      (λ (r : (m : NodeMap) × Finds n tokens m). found r.0 r.1 (subst IsListed (sym r.1.below) (IsListed-sub n r.1.path document.1)))
+  tests_some : (by : Comparison) (n : NodeMap) (k : ℕ) (tokens : List Text) (v : NodeMap) → IsDocument n → IsListed v → All IsUtf8 tokens → PassesBy by n tokens v ⊎ ((e : PatchError) × RefusesTestBy by n k tokens v e)
+  tests_some by n k tokens v document listed utf8 = ⊎_elim
+      (λ (r : (m : NodeMap) × Finds n tokens m). found by r.0 r.1 (subst IsListed (sym r.1.below) (IsListed-sub n r.1.path document.1)))
       (λ (r : (e : ResolveError) × Refuses n tokens e). inr (NoTarget k r.0, inl (r.0, refl, r.1)))
       (resolve_some n tokens document.0 utf8)
     where
-      found : (t : NodeMap) → Finds n tokens t → IsListed t → Passes n tokens v ⊎ ((e : PatchError) × RefusesTest n k tokens v e)
-      found t f finite = ⊎_elim
+      found : (by : Comparison) (t : NodeMap) → Finds n tokens t → IsListed t → PassesBy by n tokens v ⊎ ((e : PatchError) × RefusesTestBy by n k tokens v e)
+      found Strict t f finite = ⊎_elim
           (λ (a : HasFloat t). inr (TestFloat k, inr (inl (refl, t, f, inl a))))
           (λ (a : HasFloat t → ⊥). ⊎_elim
           (λ (b : HasFloat v). inr (TestFloat k, inr (inl (refl, t, f, inr b))))
           (λ (b : HasFloat v → ⊥). ⊎_elim
           (λ (s : IsEqual t v). inl (t, record { found = f; target_plain = a; value_plain = b }, s))
           (λ (d : IsEqual t v → ⊥). inr (TestFailed k, inr (inr (refl, t, record { found = f; target_plain = a; value_plain = b }, d))))
-          (cases_equal t v finite listed))
+          (cases_equal Strict t v finite listed))
           (cases_has_float v listed))
           (cases_has_float t finite)
+      found Numeric t f finite = ⊎_elim
+          (λ (s : IsEqualBy Numeric t v). inl (t, f, s))
+          (λ (d : IsEqualBy Numeric t v → ⊥). inr (TestFailed k, inr (refl, t, f, d)))
+          (cases_equal Numeric t v finite listed)
 
-  pub applies_some : (n : NodeMap) (k : ℕ) (o : Operation) → IsDocument n → IsOperation o → ((m : NodeMap) × Applies n o m) ⊎ ((e : PatchError) × RefusesOperation n k o e)
-  applies_some n k (Add path value) document utf8 = adds_some n k path (nodes (view value)) document.0 utf8
-  applies_some n k (Remove path) document utf8 = ⊎_elim
+  pub applies_some : (by : Comparison) (n : NodeMap) (k : ℕ) (o : Operation) → IsDocument n → IsOperation o → ((m : NodeMap) × AppliesBy by n o m) ⊎ ((e : PatchError) × RefusesOperationBy by n k o e)
+  applies_some by n k (Add path value) document utf8 = adds_some n k path (nodes (view value)) document.0 utf8
+  applies_some by n k (Remove path) document utf8 = ⊎_elim
       (λ (r : (v m : NodeMap) × Takes n path v m). inl (r.1, (r.0, r.2)))
       (λ (r : (e : PatchError) × RefusesTarget n k path e). inr r)
       (takes_some n k path document.0 utf8)
-  applies_some n k (Replace path value) document utf8 = ⊎_elim
+  applies_some by n k (Replace path value) document utf8 = ⊎_elim
       (λ (r : (m : NodeMap) × Finds n path m). inl (put n r.1.path (nodes (view value)), record { path = r.1.path; named = r.1.named; made = refl }))
       (λ (r : (e : ResolveError) × Refuses n path e). inr (NoTarget k r.0, (r.0, refl, r.1)))
       (resolve_some n path document.0 utf8)
-  applies_some n k (Move from path) document utf8 = ⊎_elim
+  applies_some by n k (Move from path) document utf8 = ⊎_elim
       (λ (f : IsProperFront from path). inr (MoveIntoSelf k, inl (refl, f)))
       (λ (apart : IsProperFront from path → ⊥). ⊎_elim
       (λ (r : (v m : NodeMap) × Takes n from v m). ⊎_elim
@@ -288,14 +338,14 @@ module _ (resolve_some : ResolveSome) (assign_some : AssignSome) where
       (λ (r : (e : PatchError) × RefusesTarget n k from e). inr (r.0, inr (apart, inl r.1)))
       (takes_some n k from document.0 utf8.0))
       (cases_proper from path)
-  applies_some n k (Copy from path) document utf8 = ⊎_elim
+  applies_some by n k (Copy from path) document utf8 = ⊎_elim
       (λ (r : (m : NodeMap) × Finds n from m). ⊎_elim
       (λ (a : (m : NodeMap) × Adds n path r.0 m). inl (a.0, record { node = r.0; found = r.1; added = a.1 }))
       (λ (a : (e : PatchError) × RefusesAdd n k path e). inr (a.0, inr (r.0, r.1, a.1)))
       (adds_some n k path r.0 document.0 utf8.1))
       (λ (r : (e : ResolveError) × Refuses n from e). inr (NoTarget k r.0, inl (r.0, refl, r.1)))
       (resolve_some n from document.0 utf8.0)
-  applies_some n k (Test path value) document utf8 = ⊎_elim
-      (λ (p : Passes n path (nodes (view value))). inl (n, (p, refl)))
-      (λ (r : (e : PatchError) × RefusesTest n k path (nodes (view value)) e). inr r)
-      (tests_some n k path (nodes (view value)) document (map_of-finite (content (view value))) utf8)
+  applies_some by n k (Test path value) document utf8 = ⊎_elim
+      (λ (p : PassesBy by n path (nodes (view value))). inl (n, (p, refl)))
+      (λ (r : (e : PatchError) × RefusesTestBy by n k path (nodes (view value)) e). inr r)
+      (tests_some by n k path (nodes (view value)) document (map_of-finite (content (view value))) utf8)

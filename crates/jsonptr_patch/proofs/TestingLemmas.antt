@@ -1,5 +1,5 @@
 -- Tests of values, part by part.
-use Rattle.std.proofs.Common.{◌≡◌, ℕ, zero, suc, ◌+◌, ◌<◌, ◌≤◌, ℤ, Float, Bool, true, false, is_some, cond, is_eq, List, [], ◌∷◌, ◌++◌, length, get_or, Option, Some, None, option_map, option_and_then, IsSome, IsTrue, ◌↔◌, ⊎_elim, Vec, Global, string_bytes, nat_cmp, refl, sym, ap, ◌∙◌, subst, arith, true≢false, Ordering, Less, Greater, string_cmp}
+use Rattle.std.proofs.Common.{◌≡◌, ℕ, zero, suc, ◌+◌, ◌<◌, ◌≤◌, ℤ, Float, Bool, true, false, is_some, cond, is_eq, List, [], ◌∷◌, ◌++◌, length, get_or, Option, Some, None, option_map, option_and_then, IsSome, IsTrue, ◌↔◌, inl, inr, ⊎_elim, Vec, Global, string_bytes, nat_cmp, refl, sym, ap, ◌∙◌, subst, arith, true≢false, Ordering, Less, Greater, string_cmp}
 use Rattle.std.specs.Prelude.{⊤}
 use mathlib.Core.Bool.{beq}
 use Rattle.std.proofs.lemmas.Bool.{cases_lt}
@@ -23,8 +23,11 @@ use Rattle.jsonptr_tree.specs.Json.{content, nodes}
 use Rattle.jsonptr_tree.proofs.JsonLemmas.{content_of, array_is, object_is}
 use Rattle.jsonptr_tree.proofs.LevelLemmas.{items_by, items_len-by, get_item-by, get_member-by}
 use Rattle.jsonptr_document.proofs.JsonLevel.{array_at, object_at}
-use Rattle.jsonptr_patch.specs.Testing.{Reading, nothing, truth, words, whole, reading, SameNode, IsEqual, HasFloat}
-use Rattle.jsonptr_patch.specs.PrivateTesting.{SameValue, FloatIn, FloatAmong, FloatUnder, SameNumber, SameElements, SameMember, SameMembers, HasKeys}
+use Rattle.jsonptr_patch.specs.Testing.{Reading, nothing, truth, words, whole, reading, SameReading, NumericallyEqual, SameScalarBy, SameNodeBy, IsEqualBy, HasFloat}
+use Rattle.jsonptr_patch.specs.PrivateTesting.{SameValueBy, FloatIn, FloatAmong, FloatUnder, SameNumber, SameNumberBy, SameElements, SameMember, SameMembers, HasKeys}
+use Rattle.jsonptr_patch.specs.declared.comparison.Comparison.{Comparison}
+use Rattle.jsonptr_patch.specs.declared.comparison.Comparison.TheVariants.{Strict, Numeric}
+use Rattle.jsonptr_patch.proofs.NumberLemmas.{integers_equal}
 use Rattle.jsonptr_patch.specs.PrivateTesting as tested
 
 -- ---- entries of an object, in order
@@ -35,9 +38,9 @@ NoFloats [] = ⊤
 NoFloats (e ∷ es) = (FloatIn e.1 → ⊥) × NoFloats es
 
 -- each of these entries has its equal in the object
-abbrev pub AllSame : tested.Object → List Entry → Type 0
-AllSame n [] = ⊤
-AllSame n (e ∷ es) = SameMember (Some e.1) (get_by_text n (string_bytes e.0)) × AllSame n es
+abbrev pub AllSame : Comparison → tested.Object → List Entry → Type 0
+AllSame rule n [] = ⊤
+AllSame rule n (e ∷ es) = SameMember rule (Some e.1) (get_by_text n (string_bytes e.0)) × AllSame rule n es
 
 -- the object has the key of each of these entries
 abbrev pub AllKeysIn : tested.Object → List Entry → Type 0
@@ -77,9 +80,9 @@ pub found_float : (es : List Entry) → NoFloats es → (k : List ℕ) (v : Valu
 found_float [] none k v e = no_none v e
 found_float (x ∷ es) none k v e = found_among (λ _ u. FloatIn u → ⊥) (is_eq (slice_cmp nat_cmp k (string_bytes x.0))) k (string_bytes x.0) x.1 v (found_under k es) refl none.0 (found_float es none.1 k v) e
 
-pub found_same : (n : tested.Object) (es : List Entry) → AllSame n es → (k : List ℕ) (v : Value) → found_under k es ≡ Some v → SameMember (Some v) (get_by_text n k)
-found_same n [] all k v e = no_none v e
-found_same n (x ∷ es) all k v e = found_among (λ l u. SameMember (Some u) (get_by_text n l)) (is_eq (slice_cmp nat_cmp k (string_bytes x.0))) k (string_bytes x.0) x.1 v (found_under k es) refl all.0 (found_same n es all.1 k v) e
+pub found_same : (rule : Comparison) (n : tested.Object) (es : List Entry) → AllSame rule n es → (k : List ℕ) (v : Value) → found_under k es ≡ Some v → SameMember rule (Some v) (get_by_text n k)
+found_same rule n [] all k v e = no_none v e
+found_same rule n (x ∷ es) all k v e = found_among (λ l u. SameMember rule (Some u) (get_by_text n l)) (is_eq (slice_cmp nat_cmp k (string_bytes x.0))) k (string_bytes x.0) x.1 v (found_under k es) refl all.0 (found_same rule n es all.1 k v) e
 
 pub found_key : (m : tested.Object) (es : List Entry) → AllKeysIn m es → (k : List ℕ) (v : Value) → found_under k es ≡ Some v → IsSome (get_by_text m k)
 found_key m [] all k v e = no_none v e
@@ -90,9 +93,9 @@ pub floats_push : (es : List Entry) (e : Entry) → NoFloats es → (FloatIn e.1
 floats_push [] e none new = (new, tt)
 floats_push (x ∷ es) e none new = (none.0, floats_push es e none.1 new)
 
-pub same_push : (n : tested.Object) (es : List Entry) (e : Entry) → AllSame n es → SameMember (Some e.1) (get_by_text n (string_bytes e.0)) → AllSame n (es ++ e ∷ [])
-same_push n [] e all one = (one, tt)
-same_push n (x ∷ es) e all one = (all.0, same_push n es e all.1 one)
+pub same_push : (rule : Comparison) (n : tested.Object) (es : List Entry) (e : Entry) → AllSame rule n es → SameMember rule (Some e.1) (get_by_text n (string_bytes e.0)) → AllSame rule n (es ++ e ∷ [])
+same_push rule n [] e all one = (one, tt)
+same_push rule n (x ∷ es) e all one = (all.0, same_push rule n es e all.1 one)
 
 pub keys_push : (m : tested.Object) (es : List Entry) (e : Entry) → AllKeysIn m es → IsSome (get_by_text m (string_bytes e.0)) → AllKeysIn m (es ++ e ∷ [])
 keys_push m [] e all one = (one, tt)
@@ -109,18 +112,18 @@ keys_found m n all k some =
     let v = some_value (get_by_text n k) some in
     found_key m n.entries all k v.0 v.1
 
-pub members_same : (m n : tested.Object) → AllSame n m.entries → HasKeys m n → SameMembers m n
-members_same m n all keys k = by_value (get_by_text m k) (get_by_text n k) refl refl
+pub members_same : (rule : Comparison) (m n : tested.Object) → AllSame rule n m.entries → HasKeys m n → SameMembers rule m n
+members_same rule m n all keys k = by_value (get_by_text m k) (get_by_text n k) refl refl
   where
-    by_value : (o q : Option Value) → get_by_text m k ≡ o → get_by_text n k ≡ q → SameMember o q
-    by_value (Some v) q is other = subst (SameMember (Some v)) other (found_same n m.entries all k v is)
+    by_value : (o q : Option Value) → get_by_text m k ≡ o → get_by_text n k ≡ q → SameMember rule o q
+    by_value (Some v) q is other = subst (SameMember rule (Some v)) other (found_same rule n m.entries all k v is)
     by_value None None is other = tt
     by_value None (Some w) is other = absurd (true≢false (sym (keys k (subst (λ (o : Option Value). IsSome o) (sym other) refl)) ∙ ap (λ (o : Option Value). is_some o) is))
 
-pub same_keys : (m n : tested.Object) → SameMembers m n → HasKeys m n
-same_keys m n same k some = by_value (get_by_text m k) (get_by_text n k) (same k) some
+pub same_keys : (rule : Comparison) (m n : tested.Object) → SameMembers rule m n → HasKeys m n
+same_keys rule m n same k some = by_value (get_by_text m k) (get_by_text n k) (same k) some
   where
-    by_value : (o q : Option Value) → SameMember o q → IsSome q → IsSome o
+    by_value : (o q : Option Value) → SameMember rule o q → IsSome q → IsSome o
     by_value (Some v) q h i = refl
     by_value None None h i = i
     by_value None (Some w) h i = absurd h
@@ -159,60 +162,60 @@ no_place_label m i p = ap (λ (d : Content). map_of d (place i ∷ p)) (object_i
 
 -- ---- equal values
 
-both : (a b c d : Option Label) → a ≡ c → b ≡ d → SameNode c d → SameNode a b
-both a b c d e f h = subst (λ (l : Option Label). SameNode l b) (sym e) (subst (SameNode c) (sym f) h)
+both : (rule : Comparison) (a b c d : Option Label) → a ≡ c → b ≡ d → SameNodeBy rule c d → SameNodeBy rule a b
+both rule a b c d e f h = subst (λ (l : Option Label). SameNodeBy rule l b) (sym e) (subst (SameNodeBy rule c) (sym f) h)
 
-pub elements_equal : (v w : Vec Value Global) → SameElements v.items w.items ↔ SameValue (Array v) (Array w)
-elements_equal v w = (to, from)
+pub elements_equal : (rule : Comparison) (v w : Vec Value Global) → SameElements rule v.items w.items ↔ SameValueBy rule (Array v) (Array w)
+elements_equal rule v w = (to, from)
   where
-    to : SameElements v.items w.items → SameValue (Array v) (Array w)
-    to h [] = both _ _ _ _ (array_label v) (array_label w) h.0
-    to h (key k ∷ p) = both _ _ _ _ (no_key_label v k p) (no_key_label w k p) tt
+    to : SameElements rule v.items w.items → SameValueBy rule (Array v) (Array w)
+    to h [] = both rule _ _ _ _ (array_label v) (array_label w) h.0
+    to h (key k ∷ p) = both rule _ _ _ _ (no_key_label v k p) (no_key_label w k p) tt
     to h (place i ∷ p) = ⊎_elim
         (λ (b : i < length v.items).
         let c : i < length w.items = omega (arith, h.0) in
-        both _ _ _ _ (element_label v i p Null b) (element_label w i p Null c) (h.1 i Null b p))
+        both rule _ _ _ _ (element_label v i p Null b) (element_label w i p Null c) (h.1 i Null b p))
         (λ (b : length v.items ≤ i).
         let c : length w.items ≤ i = omega (arith, h.0) in
-        both _ _ _ _ (past_label v i p b) (past_label w i p c) tt)
+        both rule _ _ _ _ (past_label v i p b) (past_label w i p c) tt)
         (cases_lt i (length v.items))
 
-    from : SameValue (Array v) (Array w) → SameElements v.items w.items
+    from : SameValueBy rule (Array v) (Array w) → SameElements rule v.items w.items
     from h =
-        let long : length v.items ≡ length w.items = both _ _ _ _ (sym (array_label v)) (sym (array_label w)) (h []) in (
+        let long : length v.items ≡ length w.items = both rule _ _ _ _ (sym (array_label v)) (sym (array_label w)) (h []) in (
           long,
           λ i x b p.
               let c : i < length w.items = omega (arith, long) in
-              both _ _ _ _ (sym (element_label v i p x b)) (sym (element_label w i p x c)) (h (place i ∷ p)),
+              both rule _ _ _ _ (sym (element_label v i p x b)) (sym (element_label w i p x c)) (h (place i ∷ p)),
         )
 
-to_members : (o q : Option Value) → SameMember o q → (p : Path) → SameNode (label_in p o) (label_in p q)
-to_members None None h p = tt
-to_members (Some v) (Some w) h p = h p
-to_members None (Some w) h p = absurd h
-to_members (Some v) None h p = absurd h
+to_members : (rule : Comparison) (o q : Option Value) → SameMember rule o q → (p : Path) → SameNodeBy rule (label_in p o) (label_in p q)
+to_members rule None None h p = tt
+to_members rule (Some v) (Some w) h p = h p
+to_members rule None (Some w) h p = absurd h
+to_members rule (Some v) None h p = absurd h
 
-from_members : (o q : Option Value) → ((p : Path) → SameNode (label_in p o) (label_in p q)) → SameMember o q
-from_members None None h = tt
-from_members (Some v) (Some w) h = h
-from_members None (Some w) h = h []
-from_members (Some v) None h = by_label (label_of (content_of v)) (h [])
+from_members : (rule : Comparison) (o q : Option Value) → ((p : Path) → SameNodeBy rule (label_in p o) (label_in p q)) → SameMember rule o q
+from_members rule None None h = tt
+from_members rule (Some v) (Some w) h = h
+from_members rule None (Some w) h = h []
+from_members rule (Some v) None h = by_label (label_of (content_of v)) (h [])
   where
-    by_label : (l : Label) → SameNode (Some l) None → ⊥
+    by_label : (l : Label) → SameNodeBy rule (Some l) None → ⊥
     by_label an_object i = i
     by_label (an_array len) i = i
     by_label (a_leaf a) i = i
 
-pub members_equal : (m n : tested.Object) → SameMembers m n ↔ SameValue (Object m) (Object n)
-members_equal m n = (to, from)
+pub members_equal : (rule : Comparison) (m n : tested.Object) → SameMembers rule m n ↔ SameValueBy rule (Object m) (Object n)
+members_equal rule m n = (to, from)
   where
-    to : SameMembers m n → SameValue (Object m) (Object n)
-    to h [] = both _ _ _ _ (object_label m) (object_label n) tt
-    to h (key k ∷ p) = both _ _ _ _ (member_label m k p) (member_label n k p) (to_members (get_by_text m k) (get_by_text n k) (h k) p)
-    to h (place i ∷ p) = both _ _ _ _ (no_place_label m i p) (no_place_label n i p) tt
+    to : SameMembers rule m n → SameValueBy rule (Object m) (Object n)
+    to h [] = both rule _ _ _ _ (object_label m) (object_label n) tt
+    to h (key k ∷ p) = both rule _ _ _ _ (member_label m k p) (member_label n k p) (to_members rule (get_by_text m k) (get_by_text n k) (h k) p)
+    to h (place i ∷ p) = both rule _ _ _ _ (no_place_label m i p) (no_place_label n i p) tt
 
-    from : SameValue (Object m) (Object n) → SameMembers m n
-    from h k = from_members (get_by_text m k) (get_by_text n k) (λ p. both _ _ _ _ (sym (member_label m k p)) (sym (member_label n k p)) (h (key k ∷ p)))
+    from : SameValueBy rule (Object m) (Object n) → SameMembers rule m n
+    from h k = from_members rule (get_by_text m k) (get_by_text n k) (λ p. both rule _ _ _ _ (sym (member_label m k p)) (sym (member_label n k p)) (h (key k ∷ p)))
 
 -- ---- floats
 
@@ -282,48 +285,70 @@ reading_of (json.string s) = Some (words s)
 reading_of (json.array ds) = None
 reading_of (json.object ms) = None
 
-leaves_same : (a b : Scalar) → ((r : Reading) × (reading a ≡ Some r) × (reading b ≡ Some r)) → IsEqual (map_of (scalar a)) (map_of (scalar b))
-leaves_same a b h [] = h
-leaves_same a b h (key k ∷ p) = tt
-leaves_same a b h (place i ∷ p) = tt
+-- an integer reads as itself, and a float has no reading
+whole_of : (n : json.Num) (r : Reading) → option_map whole (as_integer n) ≡ Some r → (z : ℤ) × (as_integer n ≡ Some z) × (r ≡ whole z)
+whole_of n r e = by_value (as_integer n) e
+  where
+    by_value : (o : Option ℤ) → option_map whole o ≡ Some r → (z : ℤ) × (o ≡ Some z) × (r ≡ whole z)
+    by_value None f = no_none r f
+    by_value (Some z) f = (z, refl, cc)
 
--- a scalar that has a reading equals the values that have it
-pub reading_equal : (a : Scalar) (r : Reading) (e : json.Data) → reading a ≡ Some r → IsEqual (map_of (scalar a)) (nodes e) ↔ (reading_of e ≡ Some r)
-reading_equal a r e is = (to e, from e)
+-- no number has a reading that is not an integer
+no_whole : (n : json.Num) (r : Reading) → ((z : ℤ) → r ≡ whole z → ⊥) → option_map whole (as_integer n) ≡ Some r → ⊥
+no_whole n r apart e = let w = whole_of n r e in apart w.0 w.2
+
+nothing_whole : (z : ℤ) → nothing ≡ whole z → ⊥
+nothing_whole z e = cc
+
+truth_whole : (b : Bool) (z : ℤ) → truth b ≡ whole z → ⊥
+truth_whole b z e = cc
+
+words_whole : (s : List ℕ) (z : ℤ) → words s ≡ whole z → ⊥
+words_whole s z e = cc
+
+-- what has a reading that is no integer is no number
+read_only : (rule : Comparison) (a b : Scalar) (r : Reading) → reading a ≡ Some r → ((z : ℤ) → r ≡ whole z → ⊥) → SameScalarBy rule a b → SameReading a b
+read_only Strict a b r is other h = h
+read_only Numeric a b r is other (inl h) = h
+read_only Numeric a b r is other (inr h) = absurd (no_whole h.0 r other (subst (λ (x : Scalar). reading x ≡ Some r) h.2 is))
+
+reads_same : (rule : Comparison) (a b : Scalar) → SameReading a b → SameScalarBy rule a b
+reads_same Strict a b h = h
+reads_same Numeric a b h = inl h
+
+leaves_same : (rule : Comparison) (a b : Scalar) → SameScalarBy rule a b → IsEqualBy rule (map_of (scalar a)) (map_of (scalar b))
+leaves_same rule a b h [] = h
+leaves_same rule a b h (key k ∷ p) = tt
+leaves_same rule a b h (place i ∷ p) = tt
+
+-- a scalar that has a reading, and is no integer, equals the values that have it
+pub reading_equal : (rule : Comparison) (a : Scalar) (r : Reading) (e : json.Data) → reading a ≡ Some r → ((z : ℤ) → r ≡ whole z → ⊥) → IsEqualBy rule (map_of (scalar a)) (nodes e) ↔ (reading_of e ≡ Some r)
+reading_equal rule a r e is other = (to e, from e)
   where
     one : (q : Reading) (o : Option Reading) → reading a ≡ Some q → o ≡ Some q → o ≡ Some r
     one q o f g = cc
 
-    to : (e : json.Data) → IsEqual (map_of (scalar a)) (nodes e) → reading_of e ≡ Some r
-    to json.null h = one (h []).0 _ (h []).1 (h []).2
-    to (json.boolean b) h = one (h []).0 _ (h []).1 (h []).2
-    to (json.number n) h = one (h []).0 _ (h []).1 (h []).2
-    to (json.string s) h = one (h []).0 _ (h []).1 (h []).2
+    read : (b : Scalar) → SameScalarBy rule a b → reading b ≡ Some r
+    read b h = let s = read_only rule a b r is other h in one s.0 (reading b) s.1 s.2
+
+    same : (b : Scalar) → reading b ≡ Some r → IsEqualBy rule (map_of (scalar a)) (map_of (scalar b))
+    same b g = leaves_same rule a b (reads_same rule a b (r, is, g))
+
+    to : (e : json.Data) → IsEqualBy rule (map_of (scalar a)) (nodes e) → reading_of e ≡ Some r
+    to json.null h = read (of_json json.null) (h [])
+    to (json.boolean b) h = read (of_json (json.boolean b)) (h [])
+    to (json.number n) h = read (of_json (json.number n)) (h [])
+    to (json.string s) h = read (of_json (json.string s)) (h [])
     to (json.array ds) h = absurd (h [])
     to (json.object ms) h = absurd (h [])
 
-    from : (e : json.Data) → reading_of e ≡ Some r → IsEqual (map_of (scalar a)) (nodes e)
-    from json.null g = leaves_same a (of_json json.null) (r, is, g)
-    from (json.boolean b) g = leaves_same a (of_json (json.boolean b)) (r, is, g)
-    from (json.number n) g = leaves_same a (of_json (json.number n)) (r, is, g)
-    from (json.string s) g = leaves_same a (of_json (json.string s)) (r, is, g)
+    from : (e : json.Data) → reading_of e ≡ Some r → IsEqualBy rule (map_of (scalar a)) (nodes e)
+    from json.null g = same (of_json json.null) g
+    from (json.boolean b) g = same (of_json (json.boolean b)) g
+    from (json.number n) g = same (of_json (json.number n)) g
+    from (json.string s) g = same (of_json (json.string s)) g
     from (json.array ds) g = no_none r g
     from (json.object ms) g = no_none r g
-
--- a scalar without a reading equals no value
-pub unread_equal : (a : Scalar) (e : json.Data) → reading a ≡ None → IsEqual (map_of (scalar a)) (nodes e) → ⊥
-unread_equal a e is h = by_value e (h [])
-  where
-    none : (r : Reading) → reading a ≡ Some r → ⊥
-    none r f = no_none r (sym is ∙ f)
-
-    by_value : (e : json.Data) → SameNode (Some (a_leaf a)) (nodes e []) → ⊥
-    by_value json.null i = none i.0 i.1
-    by_value (json.boolean b) i = none i.0 i.1
-    by_value (json.number n) i = none i.0 i.1
-    by_value (json.string s) i = none i.0 i.1
-    by_value (json.array ds) i = i
-    by_value (json.object ms) i = i
 
 -- ---- the match arms of the code
 
@@ -346,38 +371,17 @@ pub float_part : (P : Type 0) (v w : Value) (b : Bool) → v ≡ w → IsTrue b 
 float_part P v w b is here there = (λ h. subst FloatIn (sym is) (there.0 (here.0 h)), λ h. here.1 (there.1 (subst FloatIn is h)))
 
 -- two values of these contents
-pub same_as : (P : Type 0) (v w : Value) (d e : Content) (b : Bool) → content_of v ≡ d → content_of w ≡ e → IsTrue b ↔ P → P ↔ IsEqual (map_of d) (map_of e) → IsTrue b ↔ SameValue v w
-same_as P v w d e b is other here there = (λ h. back (there.0 (here.0 h)), λ h. here.1 (there.1 (forth h)))
+pub same_as : (rule : Comparison) (P : Type 0) (v w : Value) (d e : Content) (b : Bool) → content_of v ≡ d → content_of w ≡ e → IsTrue b ↔ P → P ↔ IsEqualBy rule (map_of d) (map_of e) → IsTrue b ↔ SameValueBy rule v w
+same_as rule P v w d e b is other here there = (λ h. back (there.0 (here.0 h)), λ h. here.1 (there.1 (forth h)))
   where
-    back : IsEqual (map_of d) (map_of e) → SameValue v w
-    back h = subst (λ (c : Content). IsEqual (map_of c) (map_of (content_of w))) (sym is) (subst (λ (c : Content). IsEqual (map_of d) (map_of c)) (sym other) h)
+    back : IsEqualBy rule (map_of d) (map_of e) → SameValueBy rule v w
+    back h = subst (λ (c : Content). IsEqualBy rule (map_of c) (map_of (content_of w))) (sym is) (subst (λ (c : Content). IsEqualBy rule (map_of d) (map_of c)) (sym other) h)
 
-    forth : SameValue v w → IsEqual (map_of d) (map_of e)
-    forth h = subst (λ (c : Content). IsEqual (map_of d) (map_of c)) other (subst (λ (c : Content). IsEqual (map_of c) (map_of (content_of w))) is h)
+    forth : SameValueBy rule v w → IsEqualBy rule (map_of d) (map_of e)
+    forth h = subst (λ (c : Content). IsEqualBy rule (map_of d) (map_of c)) other (subst (λ (c : Content). IsEqualBy rule (map_of c) (map_of (content_of w))) is h)
 
 iff_flip : {A B : Type 0} → A ↔ B → B ↔ A
 iff_flip h = (h.1, h.0)
-
--- an integer reads as itself, and a float has no reading
-whole_of : (n : json.Num) (r : Reading) → option_map whole (as_integer n) ≡ Some r → (z : ℤ) × (as_integer n ≡ Some z) × (r ≡ whole z)
-whole_of n r e = by_value (as_integer n) e
-  where
-    by_value : (o : Option ℤ) → option_map whole o ≡ Some r → (z : ℤ) × (o ≡ Some z) × (r ≡ whole z)
-    by_value None f = no_none r f
-    by_value (Some z) f = (z, refl, cc)
-
--- no number has a reading that is not an integer
-no_whole : (n : json.Num) (r : Reading) → ((z : ℤ) → r ≡ whole z → ⊥) → option_map whole (as_integer n) ≡ Some r → ⊥
-no_whole n r apart e = let w = whole_of n r e in apart w.0 w.2
-
-nothing_whole : (z : ℤ) → nothing ≡ whole z → ⊥
-nothing_whole z e = cc
-
-truth_whole : (b : Bool) (z : ℤ) → truth b ≡ whole z → ⊥
-truth_whole b z e = cc
-
-words_whole : (s : List ℕ) (z : ℤ) → words s ≡ whole z → ⊥
-words_whole s z e = cc
 
 -- null
 null_reads : (e : json.Data) (b : Bool) → b ≡ is_some (as_null e) → IsTrue b ↔ (reading_of e ≡ Some nothing)
@@ -388,8 +392,8 @@ null_reads (json.string s) b is = (λ h. absurd (true≢false (sym h ∙ is)), �
 null_reads (json.array ds) b is = (λ h. absurd (true≢false (sym h ∙ is)), λ h. no_none nothing h)
 null_reads (json.object ms) b is = (λ h. absurd (true≢false (sym h ∙ is)), λ h. no_none nothing h)
 
-pub null_same : (v w : Value) (b : Bool) → content_of v ≡ scalar (of_json json.null) → b ≡ is_some (as_null (view w)) → IsTrue b ↔ SameValue v w
-null_same v w b is by = same_as (reading_of (view w) ≡ Some nothing) v w (scalar (of_json json.null)) (content_of w) b is refl (null_reads (view w) b by) (iff_flip (reading_equal (of_json json.null) nothing (view w) refl))
+pub null_same : (rule : Comparison) (v w : Value) (b : Bool) → content_of v ≡ scalar (of_json json.null) → b ≡ is_some (as_null (view w)) → IsTrue b ↔ SameValueBy rule v w
+null_same rule v w b is by = same_as rule (reading_of (view w) ≡ Some nothing) v w (scalar (of_json json.null)) (content_of w) b is refl (null_reads (view w) b by) (iff_flip (reading_equal rule (of_json json.null) nothing (view w) refl nothing_whole))
 
 -- a boolean
 truth_reads : (e : json.Data) (t o : Bool) → Some o ≡ as_bool e → IsTrue (beq t o) ↔ (reading_of e ≡ Some (truth t))
@@ -414,11 +418,11 @@ truth_unread (json.string s) t e h = cc
 truth_unread (json.array ds) t e h = no_none (truth t) h
 truth_unread (json.object ms) t e h = no_none (truth t) h
 
-pub truth_same : (v w : Value) (t o : Bool) → content_of v ≡ scalar (of_json (json.boolean t)) → Some o ≡ as_bool (view w) → IsTrue (beq t o) ↔ SameValue v w
-truth_same v w t o is by = same_as (reading_of (view w) ≡ Some (truth t)) v w (scalar (of_json (json.boolean t))) (content_of w) (beq t o) is refl (truth_reads (view w) t o by) (iff_flip (reading_equal (of_json (json.boolean t)) (truth t) (view w) refl))
+pub truth_same : (rule : Comparison) (v w : Value) (t o : Bool) → content_of v ≡ scalar (of_json (json.boolean t)) → Some o ≡ as_bool (view w) → IsTrue (beq t o) ↔ SameValueBy rule v w
+truth_same rule v w t o is by = same_as rule (reading_of (view w) ≡ Some (truth t)) v w (scalar (of_json (json.boolean t))) (content_of w) (beq t o) is refl (truth_reads (view w) t o by) (iff_flip (reading_equal rule (of_json (json.boolean t)) (truth t) (view w) refl (truth_whole t)))
 
-pub truth_differs : (v w : Value) (t : Bool) → content_of v ≡ scalar (of_json (json.boolean t)) → None ≡ as_bool (view w) → IsTrue false ↔ SameValue v w
-truth_differs v w t is by = same_as (reading_of (view w) ≡ Some (truth t)) v w (scalar (of_json (json.boolean t))) (content_of w) false is refl (never (reading_of (view w) ≡ Some (truth t)) (truth_unread (view w) t by)) (iff_flip (reading_equal (of_json (json.boolean t)) (truth t) (view w) refl))
+pub truth_differs : (rule : Comparison) (v w : Value) (t : Bool) → content_of v ≡ scalar (of_json (json.boolean t)) → None ≡ as_bool (view w) → IsTrue false ↔ SameValueBy rule v w
+truth_differs rule v w t is by = same_as rule (reading_of (view w) ≡ Some (truth t)) v w (scalar (of_json (json.boolean t))) (content_of w) false is refl (never (reading_of (view w) ≡ Some (truth t)) (truth_unread (view w) t by)) (iff_flip (reading_equal rule (of_json (json.boolean t)) (truth t) (view w) refl (truth_whole t)))
 
 -- a text
 text_reads : (e : json.Data) (s o : List ℕ) (b : Bool) → Some o ≡ as_str e → IsTrue b ↔ (s ≡ o) → IsTrue b ↔ (reading_of e ≡ Some (words s))
@@ -439,11 +443,11 @@ text_unread (json.string x) s e h = cc
 text_unread (json.array ds) s e h = no_none (words s) h
 text_unread (json.object ms) s e h = no_none (words s) h
 
-pub text_same : (v w : Value) (s o : List ℕ) (b : Bool) → content_of v ≡ scalar (of_json (json.string s)) → Some o ≡ as_str (view w) → IsTrue b ↔ (s ≡ o) → IsTrue b ↔ SameValue v w
-text_same v w s o b is by h = same_as (reading_of (view w) ≡ Some (words s)) v w (scalar (of_json (json.string s))) (content_of w) b is refl (text_reads (view w) s o b by h) (iff_flip (reading_equal (of_json (json.string s)) (words s) (view w) refl))
+pub text_same : (rule : Comparison) (v w : Value) (s o : List ℕ) (b : Bool) → content_of v ≡ scalar (of_json (json.string s)) → Some o ≡ as_str (view w) → IsTrue b ↔ (s ≡ o) → IsTrue b ↔ SameValueBy rule v w
+text_same rule v w s o b is by h = same_as rule (reading_of (view w) ≡ Some (words s)) v w (scalar (of_json (json.string s))) (content_of w) b is refl (text_reads (view w) s o b by h) (iff_flip (reading_equal rule (of_json (json.string s)) (words s) (view w) refl (words_whole s)))
 
-pub text_differs : (v w : Value) (s : List ℕ) → content_of v ≡ scalar (of_json (json.string s)) → None ≡ as_str (view w) → IsTrue false ↔ SameValue v w
-text_differs v w s is by = same_as (reading_of (view w) ≡ Some (words s)) v w (scalar (of_json (json.string s))) (content_of w) false is refl (never (reading_of (view w) ≡ Some (words s)) (text_unread (view w) s by)) (iff_flip (reading_equal (of_json (json.string s)) (words s) (view w) refl))
+pub text_differs : (rule : Comparison) (v w : Value) (s : List ℕ) → content_of v ≡ scalar (of_json (json.string s)) → None ≡ as_str (view w) → IsTrue false ↔ SameValueBy rule v w
+text_differs rule v w s is by = same_as rule (reading_of (view w) ≡ Some (words s)) v w (scalar (of_json (json.string s))) (content_of w) false is refl (never (reading_of (view w) ≡ Some (words s)) (text_unread (view w) s by)) (iff_flip (reading_equal rule (of_json (json.string s)) (words s) (view w) refl (words_whole s)))
 
 -- a number
 number_seen : (e : json.Data) (m : json.Num) → Some m ≡ as_number e → e ≡ json.number m
@@ -454,66 +458,85 @@ number_seen (json.string s) m e = let none : ⊥ = cc in absurd none
 number_seen (json.array ds) m e = let none : ⊥ = cc in absurd none
 number_seen (json.object ms) m e = let none : ⊥ = cc in absurd none
 
-numbers_equal : (n m : json.Num) → SameNumber n m ↔ IsEqual (map_of (scalar (of_json (json.number n)))) (map_of (scalar (of_json (json.number m))))
-numbers_equal n m = (to, from)
+pub numbers_equal : (rule : Comparison) (n m : json.Num) → SameNumberBy rule n m ↔ IsEqualBy rule (map_of (scalar (of_json (json.number n)))) (map_of (scalar (of_json (json.number m))))
+numbers_equal rule n m = (λ h. leaves_same rule (of_json (json.number n)) (of_json (json.number m)) (to rule h), λ h. from rule (h []))
   where
-    to : SameNumber n m → IsEqual (map_of (scalar (of_json (json.number n)))) (map_of (scalar (of_json (json.number m))))
-    to h = leaves_same (of_json (json.number n)) (of_json (json.number m)) (whole h.0, ap (option_map whole) h.1, ap (option_map whole) h.2)
+    one : (x y : ℤ) → whole x ≡ whole y → x ≡ y
+    one x y e = cc
 
-    from : IsEqual (map_of (scalar (of_json (json.number n)))) (map_of (scalar (of_json (json.number m)))) → SameNumber n m
-    from h =
-        let root = h [] in
-        let a = whole_of n root.0 root.1 in
-        let b = whole_of m root.0 root.2 in
+    integers : SameReading (of_json (json.number n)) (of_json (json.number m)) → SameNumber n m
+    integers h =
+        let a = whole_of n h.0 h.1 in
+        let b = whole_of m h.0 h.2 in
         let same : a.0 ≡ b.0 = one a.0 b.0 (sym a.2 ∙ b.2) in
         (a.0, a.1, b.1 ∙ ap (λ (z : ℤ). Some z) (sym same))
-      where
-        one : (x y : ℤ) → whole x ≡ whole y → x ≡ y
-        one x y e = cc
 
-pub number_same : (v w : Value) (n m : json.Num) (b : Bool) → content_of v ≡ scalar (of_json (json.number n)) → Some m ≡ as_number (view w) → IsTrue b ↔ SameNumber n m → IsTrue b ↔ SameValue v w
-number_same v w n m b is by h = same_as (SameNumber n m) v w (scalar (of_json (json.number n))) (scalar (of_json (json.number m))) b is (ap content (number_seen (view w) m by)) h (numbers_equal n m)
+    number_of : (x y : json.Num) → of_json (json.number x) ≡ of_json (json.number y) → x ≡ y
+    number_of x y e = cc
 
-number_only : (n : json.Num) (e : json.Data) → None ≡ as_number e → IsEqual (map_of (scalar (of_json (json.number n)))) (nodes e) → ⊥
-number_only n json.null e h = let root = h [] in let same : root.0 ≡ nothing = cc in no_whole n root.0 (λ z f. nothing_whole z (sym same ∙ f)) root.1
-number_only n (json.boolean x) e h = let root = h [] in let same : root.0 ≡ truth x = cc in no_whole n root.0 (λ z f. truth_whole x z (sym same ∙ f)) root.1
-number_only n (json.number m) e h = cc
-number_only n (json.string s) e h = let root = h [] in let same : root.0 ≡ words s = cc in no_whole n root.0 (λ z f. words_whole s z (sym same ∙ f)) root.1
-number_only n (json.array ds) e h = h []
-number_only n (json.object ms) e h = h []
+    to : (rule : Comparison) → SameNumberBy rule n m → SameScalarBy rule (of_json (json.number n)) (of_json (json.number m))
+    to Strict h = (whole h.0, ap (option_map whole) h.1, ap (option_map whole) h.2)
+    to Numeric h = inr (n, m, refl, refl, h)
 
-pub number_differs : (v w : Value) (n : json.Num) → content_of v ≡ scalar (of_json (json.number n)) → None ≡ as_number (view w) → IsTrue false ↔ SameValue v w
-number_differs v w n is by = never (SameValue v w) (λ h. number_only n (view w) by (subst (λ (c : Content). IsEqual (map_of c) (map_of (content_of w))) is h))
+    from : (rule : Comparison) → SameScalarBy rule (of_json (json.number n)) (of_json (json.number m)) → SameNumberBy rule n m
+    from Strict h = integers h
+    from Numeric (inl h) =
+        let same = integers h in
+        integers_equal n m same.0 same.1 same.2
+    from Numeric (inr h) =
+        let left = number_of n h.0 h.2 in
+        let right = number_of m h.1 h.3 in
+        subst (λ (x : json.Num). NumericallyEqual x m) (sym left) (subst (NumericallyEqual h.0) (sym right) h.4)
+
+pub number_same : (rule : Comparison) (v w : Value) (n m : json.Num) (b : Bool) → content_of v ≡ scalar (of_json (json.number n)) → Some m ≡ as_number (view w) → IsTrue b ↔ SameNumberBy rule n m → IsTrue b ↔ SameValueBy rule v w
+number_same rule v w n m b is by h = same_as rule (SameNumberBy rule n m) v w (scalar (of_json (json.number n))) (scalar (of_json (json.number m))) b is (ap content (number_seen (view w) m by)) h (numbers_equal rule n m)
+
+-- what is no number equals one only by its reading
+not_number : (rule : Comparison) (n : json.Num) (b : Scalar) → ((m : json.Num) → b ≡ of_json (json.number m) → ⊥) → SameScalarBy rule (of_json (json.number n)) b → SameReading (of_json (json.number n)) b
+not_number Strict n b other h = h
+not_number Numeric n b other (inl h) = h
+not_number Numeric n b other (inr h) = absurd (other h.1 h.3)
+
+number_only : (rule : Comparison) (n : json.Num) (e : json.Data) → None ≡ as_number e → IsEqualBy rule (map_of (scalar (of_json (json.number n)))) (nodes e) → ⊥
+number_only rule n json.null e h = let root = not_number rule n (of_json json.null) (λ m f. cc) (h []) in let same : root.0 ≡ nothing = cc in no_whole n root.0 (λ z f. nothing_whole z (sym same ∙ f)) root.1
+number_only rule n (json.boolean x) e h = let root = not_number rule n (of_json (json.boolean x)) (λ m f. cc) (h []) in let same : root.0 ≡ truth x = cc in no_whole n root.0 (λ z f. truth_whole x z (sym same ∙ f)) root.1
+number_only rule n (json.number m) e h = cc
+number_only rule n (json.string s) e h = let root = not_number rule n (of_json (json.string s)) (λ m f. cc) (h []) in let same : root.0 ≡ words s = cc in no_whole n root.0 (λ z f. words_whole s z (sym same ∙ f)) root.1
+number_only rule n (json.array ds) e h = h []
+number_only rule n (json.object ms) e h = h []
+
+pub number_differs : (rule : Comparison) (v w : Value) (n : json.Num) → content_of v ≡ scalar (of_json (json.number n)) → None ≡ as_number (view w) → IsTrue false ↔ SameValueBy rule v w
+number_differs rule v w n is by = never (SameValueBy rule v w) (λ h. number_only rule n (view w) by (subst (λ (c : Content). IsEqualBy rule (map_of c) (map_of (content_of w))) is h))
 
 -- an array
-pub array_same : (v w : Value) (a o : Vec Value Global) (b : Bool) → v ≡ Array a → Some (items_view o.items) ≡ as_array (view w) → IsTrue b ↔ SameElements a.items o.items → IsTrue b ↔ SameValue v w
-array_same v w a o b is by h = same_as (SameElements a.items o.items) v w (content_of (Array a)) (content_of (Array o)) b (ap content_of is) (array_at w o by) h (elements_equal a o)
+pub array_same : (rule : Comparison) (v w : Value) (a o : Vec Value Global) (b : Bool) → v ≡ Array a → Some (items_view o.items) ≡ as_array (view w) → IsTrue b ↔ SameElements rule a.items o.items → IsTrue b ↔ SameValueBy rule v w
+array_same rule v w a o b is by h = same_as rule (SameElements rule a.items o.items) v w (content_of (Array a)) (content_of (Array o)) b (ap content_of is) (array_at w o by) h (elements_equal rule a o)
 
-array_only : (len : ℕ) (e : json.Data) → None ≡ as_array e → SameNode (Some (an_array len)) (nodes e []) → ⊥
-array_only len json.null e h = h
-array_only len (json.boolean x) e h = h
-array_only len (json.number n) e h = h
-array_only len (json.string s) e h = h
-array_only len (json.array ds) e h = cc
-array_only len (json.object ms) e h = h
+array_only : (rule : Comparison) (len : ℕ) (e : json.Data) → None ≡ as_array e → SameNodeBy rule (Some (an_array len)) (nodes e []) → ⊥
+array_only rule len json.null e h = h
+array_only rule len (json.boolean x) e h = h
+array_only rule len (json.number n) e h = h
+array_only rule len (json.string s) e h = h
+array_only rule len (json.array ds) e h = cc
+array_only rule len (json.object ms) e h = h
 
-pub array_differs : (v w : Value) (a : Vec Value Global) → v ≡ Array a → None ≡ as_array (view w) → IsTrue false ↔ SameValue v w
-array_differs v w a is by = never (SameValue v w) (λ h. array_only (length a.items) (view w) by (subst (λ (l : Option Label). SameNode l (nodes (view w) [])) (ap (λ (u : Value). map_of (content_of u) []) is ∙ array_label a) (h [])))
+pub array_differs : (rule : Comparison) (v w : Value) (a : Vec Value Global) → v ≡ Array a → None ≡ as_array (view w) → IsTrue false ↔ SameValueBy rule v w
+array_differs rule v w a is by = never (SameValueBy rule v w) (λ h. array_only rule (length a.items) (view w) by (subst (λ (l : Option Label). SameNodeBy rule l (nodes (view w) [])) (ap (λ (u : Value). map_of (content_of u) []) is ∙ array_label a) (h [])))
 
 -- an object
-pub object_same : (v w : Value) (m o : tested.Object) (b : Bool) → v ≡ Object m → Some (members_view o.entries) ≡ as_object (view w) → IsTrue b ↔ SameMembers m o → IsTrue b ↔ SameValue v w
-object_same v w m o b is by h = same_as (SameMembers m o) v w (content_of (Object m)) (content_of (Object o)) b (ap content_of is) (object_at w o by) h (members_equal m o)
+pub object_same : (rule : Comparison) (v w : Value) (m o : tested.Object) (b : Bool) → v ≡ Object m → Some (members_view o.entries) ≡ as_object (view w) → IsTrue b ↔ SameMembers rule m o → IsTrue b ↔ SameValueBy rule v w
+object_same rule v w m o b is by h = same_as rule (SameMembers rule m o) v w (content_of (Object m)) (content_of (Object o)) b (ap content_of is) (object_at w o by) h (members_equal rule m o)
 
-object_only : (e : json.Data) → None ≡ as_object e → SameNode (Some an_object) (nodes e []) → ⊥
-object_only json.null e h = h
-object_only (json.boolean x) e h = h
-object_only (json.number n) e h = h
-object_only (json.string s) e h = h
-object_only (json.array ds) e h = h
-object_only (json.object ms) e h = cc
+object_only : (rule : Comparison) (e : json.Data) → None ≡ as_object e → SameNodeBy rule (Some an_object) (nodes e []) → ⊥
+object_only rule json.null e h = h
+object_only rule (json.boolean x) e h = h
+object_only rule (json.number n) e h = h
+object_only rule (json.string s) e h = h
+object_only rule (json.array ds) e h = h
+object_only rule (json.object ms) e h = cc
 
-pub object_differs : (v w : Value) (m : tested.Object) → v ≡ Object m → None ≡ as_object (view w) → IsTrue false ↔ SameValue v w
-object_differs v w m is by = never (SameValue v w) (λ h. object_only (view w) by (subst (λ (l : Option Label). SameNode l (nodes (view w) [])) (ap (λ (u : Value). map_of (content_of u) []) is ∙ object_label m) (h [])))
+pub object_differs : (rule : Comparison) (v w : Value) (m : tested.Object) → v ≡ Object m → None ≡ as_object (view w) → IsTrue false ↔ SameValueBy rule v w
+object_differs rule v w m is by = never (SameValueBy rule v w) (λ h. object_only rule (view w) by (subst (λ (l : Option Label). SameNodeBy rule l (nodes (view w) [])) (ap (λ (u : Value). map_of (content_of u) []) is ∙ object_label m) (h [])))
 
 -- ---- the loops of the code
 
@@ -554,20 +577,20 @@ key_lacks m n done e more s b is ordered same by lacks = never (HasKeys m n) (λ
 pub keys_all : (m n : tested.Object) (done : List Entry) → n.entries ≡ done → AllKeysIn m done → IsTrue true ↔ HasKeys m n
 keys_all m n done is all = always (HasKeys m n) (keys_found m n (subst (AllKeysIn m) (sym is) all))
 
-pub member_differs : (m n : tested.Object) (done : List Entry) (e : Entry) (more : List Entry) → m.entries ≡ done ++ e ∷ more → IsStrictlySortedBy string_cmp (keys_of m.entries) → (SameMember (Some e.1) (get_by_text n (string_bytes e.0)) → ⊥) → IsTrue false ↔ SameMembers m n
-member_differs m n done e more is ordered differs = never (SameMembers m n) (λ h.
+pub member_differs : (rule : Comparison) (m n : tested.Object) (done : List Entry) (e : Entry) (more : List Entry) → m.entries ≡ done ++ e ∷ more → IsStrictlySortedBy string_cmp (keys_of m.entries) → (SameMember rule (Some e.1) (get_by_text n (string_bytes e.0)) → ⊥) → IsTrue false ↔ SameMembers rule m n
+member_differs rule m n done e more is ordered differs = never (SameMembers rule m n) (λ h.
     let there : get_by_text m (string_bytes e.0) ≡ Some e.1 = ap (found_under (string_bytes e.0)) is ∙ found_middle done e more (subst (λ (es : List Entry). IsStrictlySortedBy string_cmp (keys_of es)) is ordered) in
-    differs (subst (λ (o : Option Value). SameMember o (get_by_text n (string_bytes e.0))) there (h (string_bytes e.0))))
+    differs (subst (λ (o : Option Value). SameMember rule o (get_by_text n (string_bytes e.0))) there (h (string_bytes e.0))))
 
-pub members_all : (m n : tested.Object) (done : List Entry) (b : Bool) → m.entries ≡ done → AllSame n done → IsTrue b ↔ HasKeys m n → IsTrue b ↔ SameMembers m n
-members_all m n done b is all keys = (λ h. members_same m n (subst (AllSame n) (sym is) all) (keys.0 h), λ h. keys.1 (same_keys m n h))
+pub members_all : (rule : Comparison) (m n : tested.Object) (done : List Entry) (b : Bool) → m.entries ≡ done → AllSame rule n done → IsTrue b ↔ HasKeys m n → IsTrue b ↔ SameMembers rule m n
+members_all rule m n done b is all keys = (λ h. members_same rule m n (subst (AllSame rule n) (sym is) all) (keys.0 h), λ h. keys.1 (same_keys rule m n h))
 
-pub equal_there : (n : tested.Object) (k s : List ℕ) (m o : Value) (b : Bool) → s ≡ k → Some o ≡ get_by_text n s → IsTrue b ↔ SameValue m o → IsTrue b ↔ SameMember (Some m) (get_by_text n k)
-equal_there n k s m o b same is h =
+pub equal_there : (rule : Comparison) (n : tested.Object) (k s : List ℕ) (m o : Value) (b : Bool) → s ≡ k → Some o ≡ get_by_text n s → IsTrue b ↔ SameValueBy rule m o → IsTrue b ↔ SameMember rule (Some m) (get_by_text n k)
+equal_there rule n k s m o b same is h =
     let there : Some o ≡ get_by_text n k = is ∙ ap (get_by_text n) same in
-    subst (λ (q : Option Value). IsTrue b ↔ SameMember (Some m) q) there h
+    subst (λ (q : Option Value). IsTrue b ↔ SameMember rule (Some m) q) there h
 
-pub none_there : (n : tested.Object) (k s : List ℕ) (m : Value) → s ≡ k → None ≡ get_by_text n s → SameMember (Some m) (get_by_text n k) → ⊥
-none_there n k s m same is h =
+pub none_there : (rule : Comparison) (n : tested.Object) (k s : List ℕ) (m : Value) → s ≡ k → None ≡ get_by_text n s → SameMember rule (Some m) (get_by_text n k) → ⊥
+none_there rule n k s m same is h =
     let there : None ≡ get_by_text n k = is ∙ ap (get_by_text n) same in
-    subst (λ (q : Option Value). SameMember (Some m) q) (sym there) h
+    subst (λ (q : Option Value). SameMember rule (Some m) q) (sym there) h

@@ -28,6 +28,7 @@ use Rattle.jsonptr_patch.proofs.MemberLemmas.{diverges_turned, local_diamond}
 use Rattle.jsonptr_patch.proofs.OneLemmas.{adds_refused, takes_tree}
 use Rattle.jsonptr_patch.proofs.PatchLemmas.{patches_behind, patches_both}
 use Rattle.jsonptr_patch.proofs.RefusalLemmas.{seen_finds, seen_has_object, seen_refuses_target, seen_after}
+use Rattle.jsonptr_patch.specs.declared.comparison.Comparison.TheVariants.{Strict}
 
 -- two lists of nodes
 
@@ -67,7 +68,7 @@ node_in xs ys l w i = subst (λ (ps : List (List Text)). Contains ps w) (sym (pa
 
 scattered_behind : (d e : NodeMap) (xs ls : List Later) → AreScattered d (xs ++ ls) → Patches d (removals xs) e → AreScattered e ls
 scattered_behind d e [] ls s a = subst (λ (z : NodeMap). AreScattered z ls) (sym a) s
-scattered_behind d e (x ∷ xs) ls s a = scattered_behind a.0 e xs ls (scattered_after d a.0 (Remove x.path) (x.path ∷ []) (xs ++ ls) (λ ts i. i) s.1 a.1 s.2) a.2
+scattered_behind d e (x ∷ xs) ls s a = scattered_behind a.0 e xs ls (scattered_after Strict d a.0 (Remove x.path) (x.path ∷ []) (xs ++ ls) (λ ts i. i) s.1 a.1 s.2) a.2
 
 scattered_without : (d : NodeMap) (xs ys : List Later) (l : Later) → AreScattered d (xs ++ l ∷ ys) → AreScattered d (xs ++ ys)
 scattered_without d [] ys l s = s.2
@@ -84,10 +85,10 @@ others_diverge d (x ∷ xs) ys l s zs ws i j = ⊎_elim
 kept_waiting : (d n : NodeMap) (xs ys : List Later) (l : Later) → IsPending d (xs ++ l ∷ ys) n → (k v : NodeMap) × IsPending d (xs ++ ys) k × Takes k l.path v n
 kept_waiting d n xs ys l p =
     let all : Patches d (removals xs ++ Remove l.path ∷ removals ys) n = subst (λ (os : List Operation). Patches d os n) (removals_append xs (l ∷ ys)) p.removed in
-    let parts = patches_behind d n (removals xs) (Remove l.path ∷ removals ys) all in
+    let parts = patches_behind Strict d n (removals xs) (Remove l.path ∷ removals ys) all in
     let s : AreScattered parts.0 (l ∷ ys) = scattered_behind d parts.0 xs (l ∷ ys) p.scattered parts.1 in
     let r = swap_one parts.0 parts.2.0 n (Remove l.path) (removals ys) (l.path ∷ []) (paths_of ys) (λ ts i. i) (removals_among ys) s.1 parts.2.1 parts.2.2 in
-    let whole : Patches d (removals (xs ++ ys)) r.0 = subst (λ (os : List Operation). Patches d os r.0) (sym (removals_append xs ys)) (patches_both d parts.0 r.0 (removals xs) (removals ys) parts.1 r.1) in (
+    let whole : Patches d (removals (xs ++ ys)) r.0 = subst (λ (os : List Operation). Patches d os r.0) (sym (removals_append xs ys)) (patches_both Strict d parts.0 r.0 (removals xs) (removals ys) parts.1 r.1) in (
       r.0,
       r.2.0,
       record { removed = whole; scattered = scattered_without d xs ys l p.scattered },
@@ -115,13 +116,13 @@ never_refused n i tokens e tree h r = adds_refused n i tokens n (put n (h.path +
 
 in_place : (k n v : NodeMap) (o : Operation) (tokens : List Text) → IsTree k → Takes k tokens v n → HasObject k tokens → TakesPlace k o tokens → StandsFor k n o
 in_place k n v (Add path value) tokens tree t h p = record {
-  applied = λ m a. subst (λ (ts : List Text). Adds n ts (nodes (view value)) m) (sym p) (adds_where_gone k n v (nodes (view value)) m tokens tree t h (subst (λ (ts : List Text). Adds k ts (nodes (view value)) m) p a));
-  refused = λ i e r. absurd (never_refused k i tokens e tree h (subst (λ (ts : List Text). RefusesAdd k i ts e) p r));
+  applied = λ by m a. subst (λ (ts : List Text). Adds n ts (nodes (view value)) m) (sym p) (adds_where_gone k n v (nodes (view value)) m tokens tree t h (subst (λ (ts : List Text). Adds k ts (nodes (view value)) m) p a));
+  refused = λ by i e r. absurd (never_refused k i tokens e tree h (subst (λ (ts : List Text). RefusesAdd k i ts e) p r));
 }
 in_place k n v (Remove path) tokens tree t h p = absurd p
 in_place k n v (Replace path value) tokens tree t h p = absurd p
 in_place k n v (Move from path) tokens tree t h p = record {
-  applied = λ m a.
+  applied = λ by m a.
       let both = local_diamond (λ n ts m. Takes n ts a.node m) (λ n ts m. Takes n ts v m) (local_take a.node) (local_take v) k a.left n from tokens p.1 a.taken t in
       let object : HasObject a.left tokens = seen_after (λ n ts m. Takes n ts a.node m) (local_take a.node) HasObject seen_has_object k a.left tokens from (diverges_turned k from tokens p.1) a.taken h in
       let grown : IsTree a.left = (takes_tree k from a.node a.left tree a.taken).1 in
@@ -132,7 +133,7 @@ in_place k n v (Move from path) tokens tree t h p = record {
         taken = both.2;
         added = subst (λ (ts : List Text). Adds both.0 ts a.node m) (sym p.0) (adds_where_gone a.left both.0 v a.node m tokens grown both.1 object (subst (λ (ts : List Text). Adds a.left ts a.node m) p.0 a.added));
       };
-  refused = refused;
+  refused = λ by. refused;
 }
   where
     source : (i : ℕ) (e : PatchError) → RefusesTarget k i from e → RefusesTarget n i from e
@@ -148,12 +149,12 @@ in_place k n v (Move from path) tokens tree t h p = record {
     refused i e (inr (way, inl r)) = inr (way, inl (source i e r))
     refused i e (inr (way, inr r)) = absurd (added i e r.0 r.1 r.2 r.3)
 in_place k n v (Copy from path) tokens tree t h p = record {
-  applied = λ m a. record {
+  applied = λ by m a. record {
     node = a.node;
     found = seen_after (λ n ts m. Takes n ts v m) (local_take v) (λ n ts. Finds n ts a.node) (seen_finds a.node) k n from tokens p.1 t a.found;
     added = subst (λ (ts : List Text). Adds n ts a.node m) (sym p.0) (adds_where_gone k n v a.node m tokens tree t h (subst (λ (ts : List Text). Adds k ts a.node m) p.0 a.added));
   };
-  refused = refused;
+  refused = λ by. refused;
 }
   where
     refused : (i : ℕ) (e : PatchError) → RefusesCopy k i from path e → RefusesCopy n i from path e
@@ -204,4 +205,4 @@ place_taken c n o ls i x tokens w h p pending =
     (subst (λ (ks : List Later). IsPending (nodes (view c)) ks n) (split_node ls i x w.0) pending)
 
 pub itself : (n : NodeMap) (o : Operation) → StandsFor n n o
-itself n o = record { applied = λ m a. a; refused = λ i e r. r }
+itself n o = record { applied = λ by m a. a; refused = λ by i e r. r }

@@ -12,7 +12,9 @@ use Rattle.jsonptr.specs.Resolve.{Refuses, PutsAt}
 use Rattle.jsonptr.specs.declared.resolve.Error.{Error as ResolveError}
 use Rattle.jsonptr.specs.declared.assign.Error.{Error as AssignError}
 use Rattle.jsonptr_patch.specs.Adding.{Adds, LacksTarget, LacksPlace}
-use Rattle.jsonptr_patch.specs.Testing.{IsEqual, HasFloat}
+use Rattle.jsonptr_patch.specs.Testing.{IsEqualBy, IsEqual, HasFloat}
+use Rattle.jsonptr_patch.specs.declared.comparison.Comparison.{Comparison}
+use Rattle.jsonptr_patch.specs.declared.comparison.Comparison.TheVariants.{Strict, Numeric}
 use Rattle.jsonptr_patch.specs.declared.operation.Operation.{Operation}
 use Rattle.jsonptr_patch.specs.declared.operation.Operation.TheVariants.{Add, Remove, Replace, Move, Copy, Test}
 use Rattle.jsonptr_patch.specs.declared.operation.PatchError.{PatchError}
@@ -49,18 +51,28 @@ pub record Compares (n : NodeMap) (tokens : List Text) (v target : NodeMap) : Ty
   pub target_plain : HasFloat target → ⊥
   pub value_plain : HasFloat v → ⊥
 
--- `Passes n tokens v`: the test that the node at `tokens` equals `v` passes (RFC 6902, section 4.6).
-abbrev pub Passes : NodeMap → List Text → NodeMap → Type 0
-Passes n tokens v = (target : NodeMap) × Compares n tokens v target × IsEqual target v
+-- `PassesBy c n tokens v`: the test that the node at `tokens` equals `v`, compared as `c`, passes (RFC 6902, section 4.6).
+-- Strictly, neither contains a float.
+abbrev pub PassesBy : Comparison → NodeMap → List Text → NodeMap → Type 0
+PassesBy Strict n tokens v = (target : NodeMap) × Compares n tokens v target × IsEqual target v
+PassesBy Numeric n tokens v = (target : NodeMap) × Finds n tokens target × IsEqualBy Numeric target v
 
--- `Applies n o m`: operation `o` turns `n` into `m`.
+-- `Passes n tokens v`: the strict test passes.
+abbrev pub Passes : NodeMap → List Text → NodeMap → Type 0
+Passes n tokens v = PassesBy Strict n tokens v
+
+-- `AppliesBy c n o m`: operation `o` turns `n` into `m`, where a test compares as `c`.
+abbrev pub AppliesBy : Comparison → NodeMap → Operation → NodeMap → Type 0
+AppliesBy c n (Add path value) m = Adds n path (nodes (view value)) m
+AppliesBy c n (Remove path) m = (v : NodeMap) × Takes n path v m
+AppliesBy c n (Replace path value) m = PutsAt n path (nodes (view value)) m
+AppliesBy c n (Move from path) m = Moves n from path m
+AppliesBy c n (Copy from path) m = Copies n from path m
+AppliesBy c n (Test path value) m = PassesBy c n path (nodes (view value)) × (m ≡ n)
+
+-- `Applies n o m`: operation `o` turns `n` into `m`, where a test is strict.
 abbrev pub Applies : NodeMap → Operation → NodeMap → Type 0
-Applies n (Add path value) m = Adds n path (nodes (view value)) m
-Applies n (Remove path) m = (v : NodeMap) × Takes n path v m
-Applies n (Replace path value) m = PutsAt n path (nodes (view value)) m
-Applies n (Move from path) m = Moves n from path m
-Applies n (Copy from path) m = Copies n from path m
-Applies n (Test path value) m = Passes n path (nodes (view value)) × (m ≡ n)
+Applies n o m = AppliesBy Strict n o m
 
 -- `RefusesTarget n k tokens e`: evaluating `tokens` fails, and `e` reports why, for operation number `k`.
 abbrev pub RefusesTarget : NodeMap → ℕ → List Text → PatchError → Type 0
@@ -91,22 +103,35 @@ abbrev pub RefusesCopy : NodeMap → ℕ → List Text → List Text → PatchEr
 RefusesCopy n k from path e =
     RefusesTarget n k from e ⊎ ((node : NodeMap) × Finds n from node × RefusesAdd n k path e)
 
--- `RefusesTest n k tokens v e`: the test fails with `e`. There is no node at `tokens`, or it or `v` contains a float,
--- or the two differ; the first of these is reported.
-abbrev pub RefusesTest : NodeMap → ℕ → List Text → NodeMap → PatchError → Type 0
-RefusesTest n k tokens v e =
-    RefusesTarget n k tokens e
-    ⊎ (((e ≡ TestFloat k) × (target : NodeMap) × Finds n tokens target × (HasFloat target ⊎ HasFloat v))
-    ⊎ ((e ≡ TestFailed k) × (target : NodeMap) × Compares n tokens v target × (IsEqual target v → ⊥)))
+-- `RefusesComparing c n k tokens v e`: the node at `tokens` does not equal `v`, compared as `c`, and `e` reports that. A
+-- strict test first reports a float in one of the two.
+abbrev pub RefusesComparing : Comparison → NodeMap → ℕ → List Text → NodeMap → PatchError → Type 0
+RefusesComparing Strict n k tokens v e =
+    ((e ≡ TestFloat k) × (target : NodeMap) × Finds n tokens target × (HasFloat target ⊎ HasFloat v))
+    ⊎ ((e ≡ TestFailed k) × (target : NodeMap) × Compares n tokens v target × (IsEqual target v → ⊥))
+RefusesComparing Numeric n k tokens v e =
+    (e ≡ TestFailed k) × (target : NodeMap) × Finds n tokens target × (IsEqualBy Numeric target v → ⊥)
 
--- `RefusesOperation n k o e`: operation `o`, with number `k`, fails on `n` with `e`.
+-- `RefusesTestBy c n k tokens v e`: the test fails with `e`. There is no node at `tokens`, or it does not equal `v`.
+abbrev pub RefusesTestBy : Comparison → NodeMap → ℕ → List Text → NodeMap → PatchError → Type 0
+RefusesTestBy c n k tokens v e = RefusesTarget n k tokens e ⊎ RefusesComparing c n k tokens v e
+
+-- `RefusesTest n k tokens v e`: the strict test fails with `e`.
+abbrev pub RefusesTest : NodeMap → ℕ → List Text → NodeMap → PatchError → Type 0
+RefusesTest n k tokens v e = RefusesTestBy Strict n k tokens v e
+
+-- `RefusesOperationBy c n k o e`: operation `o`, with number `k`, fails on `n` with `e`, where a test compares as `c`.
+abbrev pub RefusesOperationBy : Comparison → NodeMap → ℕ → Operation → PatchError → Type 0
+RefusesOperationBy c n k (Add path value) e = RefusesAdd n k path e
+RefusesOperationBy c n k (Remove path) e = RefusesTarget n k path e
+RefusesOperationBy c n k (Replace path value) e = RefusesTarget n k path e
+RefusesOperationBy c n k (Move from path) e = RefusesMove n k from path e
+RefusesOperationBy c n k (Copy from path) e = RefusesCopy n k from path e
+RefusesOperationBy c n k (Test path value) e = RefusesTestBy c n k path (nodes (view value)) e
+
+-- `RefusesOperation n k o e`: operation `o`, with number `k`, fails on `n` with `e`, where a test is strict.
 abbrev pub RefusesOperation : NodeMap → ℕ → Operation → PatchError → Type 0
-RefusesOperation n k (Add path value) e = RefusesAdd n k path e
-RefusesOperation n k (Remove path) e = RefusesTarget n k path e
-RefusesOperation n k (Replace path value) e = RefusesTarget n k path e
-RefusesOperation n k (Move from path) e = RefusesMove n k from path e
-RefusesOperation n k (Copy from path) e = RefusesCopy n k from path e
-RefusesOperation n k (Test path value) e = RefusesTest n k path (nodes (view value)) e
+RefusesOperation n k o e = RefusesOperationBy Strict n k o e
 
 -- `RestoresAt n tokens o`: operation `o` adds at `tokens` the value that is there in `n`.
 abbrev pub RestoresAt : NodeMap → List Text → Operation → Type 0

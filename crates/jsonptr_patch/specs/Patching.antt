@@ -1,22 +1,33 @@
 -- What a list of operations makes of a document, and how it fails (RFC 6902, section 5).
 use Rattle.std.specs.Prelude.{◌≡◌, List, [], ◌∷◌, ◌++◌, length}
 use Rattle.jsonptr.specs.Node.{NodeMap}
-use Rattle.jsonptr_patch.specs.Operating.{Applies, RefusesOperation}
+use Rattle.jsonptr_patch.specs.Operating.{AppliesBy, RefusesOperationBy}
+use Rattle.jsonptr_patch.specs.declared.comparison.Comparison.{Comparison}
+use Rattle.jsonptr_patch.specs.declared.comparison.Comparison.TheVariants.{Strict}
 use Rattle.jsonptr_patch.specs.declared.operation.Operation.{Operation}
 use Rattle.jsonptr_patch.specs.declared.operation.PatchError.{PatchError}
 
--- `Patches n os m`: the operations `os` turn `n` into `m`, each on the map that the previous one left.
-abbrev pub Patches : NodeMap → List Operation → NodeMap → Type 0
-Patches n [] m = m ≡ n
-Patches n (o ∷ os) m = (next : NodeMap) × Applies n o next × Patches next os m
+-- `PatchesBy c n os m`: the operations `os` turn `n` into `m`, each on the map that the previous one left. Tests compare
+-- as `c`.
+abbrev pub PatchesBy : Comparison → NodeMap → List Operation → NodeMap → Type 0
+PatchesBy c n [] m = m ≡ n
+PatchesBy c n (o ∷ os) m = (next : NodeMap) × AppliesBy c n o next × PatchesBy c next os m
 
--- `RefusesPatch n os e`: some operations of `os` can be applied, and the next one fails with `e` on the map that they
--- leave. Its number counts from 0.
-pub record RefusesPatch (n : NodeMap) (os : List Operation) (e : PatchError) : Type 0 where
+-- `Patches n os m`: the operations `os` turn `n` into `m`, where tests are strict.
+abbrev pub Patches : NodeMap → List Operation → NodeMap → Type 0
+Patches n os m = PatchesBy Strict n os m
+
+-- `RefusesPatchBy c n os e`: some operations of `os` can be applied, and the next one fails with `e` on the map that they
+-- leave. Its number counts from 0. Tests compare as `c`.
+pub record RefusesPatchBy (c : Comparison) (n : NodeMap) (os : List Operation) (e : PatchError) : Type 0 where
   pub done : List Operation
   pub fails : Operation
   pub rest : List Operation
   pub left : NodeMap
   pub split : os ≡ done ++ fails ∷ rest
-  pub applied : Patches n done left
-  pub refused : RefusesOperation left (length done) fails e
+  pub applied : PatchesBy c n done left
+  pub refused : RefusesOperationBy c left (length done) fails e
+
+-- `RefusesPatch n os e`: the operations `os` fail so with `e`, where tests are strict.
+abbrev pub RefusesPatch : NodeMap → List Operation → PatchError → Type 0
+RefusesPatch n os e = RefusesPatchBy Strict n os e

@@ -6,8 +6,9 @@ use Rattle.jsonptr_journal.specs.Location.{path_of}
 use Rattle.jsonptr_journal.specs.declared.location.Location.{Location}
 use Rattle.jsonptr_patch.specs.Apart.{Diverges, AllDiverge}
 use Rattle.jsonptr_patch.specs.Inverse.{HasObject}
-use Rattle.jsonptr_patch.specs.Operating.{Takes, Applies, RefusesOperation}
+use Rattle.jsonptr_patch.specs.Operating.{Takes, AppliesBy, RefusesOperationBy}
 use Rattle.jsonptr_patch.specs.Patching.{Patches}
+use Rattle.jsonptr_patch.specs.declared.comparison.Comparison.{Comparison}
 use Rattle.jsonptr_patch.specs.declared.later.Later.{Later}
 use Rattle.jsonptr_patch.specs.declared.operation.Operation.{Operation}
 use Rattle.jsonptr_patch.specs.declared.operation.Operation.TheVariants.{Add, Remove, Replace, Move, Copy, Test}
@@ -101,5 +102,5 @@ CanWait n (Test path value) w = ⊥
 
 -- `StandsFor k n o`: what operation `o` makes of `k` it makes of `n`, and it fails on `n` as on `k`.
 pub record StandsFor (k n : NodeMap) (o : Operation) : Type 0 where
-  pub applied : (m : NodeMap) → Applies k o m → Applies n o m
-  pub refused : (i : ℕ) (e : PatchError) → RefusesOperation k i o e → RefusesOperation n i o e
+  pub applied : (c : Comparison) (m : NodeMap) → AppliesBy c k o m → AppliesBy c n o m
+  pub refused : (c : Comparison) (i : ℕ) (e : PatchError) → RefusesOperationBy c k i o e → RefusesOperationBy c n i o e

@@ -8,13 +8,19 @@ use Rattle.serde_json.specs.View.{view}
 use Rattle.serde_json.specs.declared.value.Value.{Value}
 use Rattle.jsonptr.specs.Json.{nodes}
 use Rattle.jsonptr.specs.Text.{Text}
-use Rattle.jsonptr_patch.specs.Testing.{IsEqual, HasFloat}
+use Rattle.jsonptr_patch.specs.Testing.{NumericallyEqual, IsEqualBy, HasFloat}
+use Rattle.jsonptr_patch.specs.declared.comparison.Comparison.{Comparison}
+use Rattle.jsonptr_patch.specs.declared.comparison.Comparison.TheVariants.{Strict, Numeric}
 use Rattle.jsonptr_patch.specs.declared.operation.PatchError.{PatchError}
 use Rattle.jsonptr_patch.specs.declared.operation.PatchError.TheVariants.{TestFloat, TestFailed}
 
--- `SameValue v w`: the two values are equal for a test.
+-- `SameValueBy c v w`: the two values are equal for a test that compares as `c`.
+abbrev pub SameValueBy : Comparison → Value → Value → Type 0
+SameValueBy c v w = IsEqualBy c (nodes (view v)) (nodes (view w))
+
+-- `SameValue v w`: the two values are equal for a strict test.
 abbrev pub SameValue : Value → Value → Type 0
-SameValue v w = IsEqual (nodes (view v)) (nodes (view w))
+SameValue v w = SameValueBy Strict v w
 
 -- `FloatIn v`: value `v` contains a float.
 abbrev pub FloatIn : Value → Type 0
@@ -35,22 +41,27 @@ FloatUnder m = (k : Text) × (v : Value) × (get_by_text m k ≡ Some v) × Floa
 abbrev pub SameNumber : Num → Num → Type 0
 SameNumber n m = (z : ℤ) × (as_integer n ≡ Some z) × (as_integer m ≡ Some z)
 
--- `SameElements vs ws`: there are as many elements in `vs` as in `ws`, and they are equal.
-abbrev pub SameElements : List Value → List Value → Type 0
-SameElements vs ws =
+-- `SameNumberBy c n m`: both numbers are equal for a test that compares as `c`.
+abbrev pub SameNumberBy : Comparison → Num → Num → Type 0
+SameNumberBy Strict n m = SameNumber n m
+SameNumberBy Numeric n m = NumericallyEqual n m
+
+-- `SameElements c vs ws`: there are as many elements in `vs` as in `ws`, and they are equal.
+abbrev pub SameElements : Comparison → List Value → List Value → Type 0
+SameElements c vs ws =
     (length vs ≡ length ws)
     × ((i : ℕ) (x : Value) → i < length vs
-    → SameValue (slice_index_or vs i x) (slice_index_or ws i x))
+    → SameValueBy c (slice_index_or vs i x) (slice_index_or ws i x))
 
--- `SameMember o p`: neither value exists, or they are equal.
-abbrev pub SameMember : Option Value → Option Value → Type 0
-SameMember None None = ⊤
-SameMember (Some v) (Some w) = SameValue v w
-SameMember o p = ⊥
+-- `SameMember c o p`: neither value exists, or they are equal.
+abbrev pub SameMember : Comparison → Option Value → Option Value → Type 0
+SameMember c None None = ⊤
+SameMember c (Some v) (Some w) = SameValueBy c v w
+SameMember c o p = ⊥
 
--- `SameMembers m n`: the objects have equal members under each key.
-abbrev pub SameMembers : Object → Object → Type 0
-SameMembers m n = (k : Text) → SameMember (get_by_text m k) (get_by_text n k)
+-- `SameMembers c m n`: the objects have equal members under each key.
+abbrev pub SameMembers : Comparison → Object → Object → Type 0
+SameMembers c m n = (k : Text) → SameMember c (get_by_text m k) (get_by_text n k)
 
 -- `HasKeys m n`: `m` has a member under each key of `n`.
 abbrev pub HasKeys : Object → Object → Type 0
@@ -65,3 +76,7 @@ abbrev pub RefusesCompare : ℕ → Value → Value → PatchError → Type 0
 RefusesCompare k v w e =
     ((e ≡ TestFloat k) × (FloatIn v ⊎ FloatIn w))
     ⊎ ((e ≡ TestFailed k) × IsPlain v × IsPlain w × (SameValue v w → ⊥))
+
+-- `DiffersNumerically k v w e`: `v` and `w` are not numerically equal, and `e` reports that, for operation number `k`.
+abbrev pub DiffersNumerically : ℕ → Value → Value → PatchError → Type 0
+DiffersNumerically k v w e = (e ≡ TestFailed k) × (SameValueBy Numeric v w → ⊥)

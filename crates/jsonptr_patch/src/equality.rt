@@ -2,8 +2,10 @@
 ghost use Rattle.std.specs.Prelude.{◌≡◌, ◌↔◌, Some, IsTrue};
 ghost use Rattle.std.specs.BTreeMap.{get_by_text};
 ghost use Rattle.serde_json.specs.View.{number_view};
-ghost use Rattle.jsonptr_patch.specs.PrivateTesting.{SameValue, FloatIn, FloatAmong, FloatUnder, SameNumber, SameElements, SameMember, SameMembers, HasKeys};
+ghost use Rattle.jsonptr_patch.specs.PrivateTesting.{SameValueBy, FloatIn, FloatAmong, FloatUnder, SameNumberBy, SameElements, SameMembers, HasKeys};
 
+use crate::comparison::Comparison;
+use crate::number::{is_equal_number, is_same_integer};
 use serde_json::{Map, Number, Value};
 
 /// Returns whether the value is a float or contains one at any depth.
@@ -50,12 +52,12 @@ fn members_have_float(members: &Map<String, Value>) -> bool
     false
 }
 
-/// Returns whether two values are equal. A float equals nothing.
+/// Returns whether two values are equal for a test.
 ///
 /// The stack is in proportion to the depth of the shallower value, since it goes no deeper than both.
 #[cycle(equal)]
-pub fn is_equal(left: &Value, right: &Value) -> bool
-    ensures { IsTrue result ↔ SameValue left.now right.now }
+pub fn is_equal(comparison: Comparison, left: &Value, right: &Value) -> bool
+    ensures { IsTrue result ↔ SameValueBy comparison left.now right.now }
 {
     match left {
         Value::Null => right.is_null(),
@@ -64,7 +66,7 @@ pub fn is_equal(left: &Value, right: &Value) -> bool
             None => false,
         },
         Value::Number(number) => match right.as_number() {
-            Some(other) => same_number(number, other),
+            Some(other) => same_number(comparison, number, other),
             None => false,
         },
         Value::String(text) => match right.as_str() {
@@ -72,36 +74,37 @@ pub fn is_equal(left: &Value, right: &Value) -> bool
             None => false,
         },
         Value::Array(elements) => match right.as_array() {
-            Some(others) => same_elements(elements, others),
+            Some(others) => same_elements(comparison, elements, others),
             None => false,
         },
         Value::Object(members) => match right.as_object() {
-            Some(others) => same_members(members, others),
+            Some(others) => same_members(comparison, members, others),
             None => false,
         },
     }
 }
 
-/// Returns whether two numbers are the same integer, however each is stored.
-fn same_number(left: &Number, right: &Number) -> bool
-    ensures { IsTrue result ↔ SameNumber (number_view left.now) (number_view right.now) }
+/// Returns whether two numbers are equal for a test.
+fn same_number(comparison: Comparison, left: &Number, right: &Number) -> bool
+    ensures { IsTrue result
+        ↔ SameNumberBy comparison (number_view left.now) (number_view right.now) }
 {
-    match (left.as_i128(), right.as_i128()) {
-        (Some(whole), Some(other)) => whole == other,
-        _ => false,
+    match comparison {
+        Comparison::Strict => is_same_integer(left, right),
+        Comparison::Numeric => is_equal_number(left, right),
     }
 }
 
 /// Returns whether two arrays have the same length and equal elements.
 #[cycle(equal)]
-fn same_elements(left: &Vec<Value>, right: &Vec<Value>) -> bool
-    ensures { IsTrue result ↔ SameElements left.now.items right.now.items }
+fn same_elements(comparison: Comparison, left: &Vec<Value>, right: &Vec<Value>) -> bool
+    ensures { IsTrue result ↔ SameElements comparison left.now.items right.now.items }
 {
     if left.len() != right.len() {
         return false;
     }
     for (place, element) in left.iter().enumerate() {
-        if !is_equal(element, &right[place]) {
+        if !is_equal(comparison, element, &right[place]) {
             return false;
         }
     }
@@ -110,12 +113,16 @@ fn same_elements(left: &Vec<Value>, right: &Vec<Value>) -> bool
 
 /// Returns whether two objects have the same keys, and equal members.
 #[cycle(equal)]
-fn same_members(left: &Map<String, Value>, right: &Map<String, Value>) -> bool
-    ensures { IsTrue result ↔ SameMembers left.now right.now }
+fn same_members(
+    comparison: Comparison,
+    left: &Map<String, Value>,
+    right: &Map<String, Value>,
+) -> bool
+    ensures { IsTrue result ↔ SameMembers comparison left.now right.now }
 {
     for (key, member) in left.iter() {
         let same = match right.get(key.as_str()) {
-            Some(other) => is_equal(member, other),
+            Some(other) => is_equal(comparison, member, other),
             None => false,
         };
         if !same {

@@ -10,16 +10,18 @@ ghost use Rattle.jsonptr.specs.Pointer.{tokens};
 ghost use Rattle.jsonptr.specs.Text.{Text, dec};
 ghost use Rattle.jsonptr_patch.specs.Apart.{Diverges, AllDiverge, pointers};
 ghost use Rattle.jsonptr_patch.specs.Inverse.{TakesAddBack, TakesBack, TakesMoveBack};
-ghost use Rattle.jsonptr_patch.specs.Operating.{IsProperFront, Applies, RefusesAdd, RefusesMove, RefusesOperation};
+ghost use Rattle.jsonptr_patch.specs.Operating.{IsProperFront, AppliesBy, RefusesAdd, RefusesMove, RefusesOperationBy};
 ghost use Rattle.jsonptr_patch.specs.Order.{OperationHasSortedKeys};
-ghost use Rattle.jsonptr_patch.specs.Patching.{Patches, RefusesPatch};
-ghost use Rattle.jsonptr_patch.specs.PrivateInverse.{AppendsBack, TakesAllBackFrom, IsPlaceBack, StaySorted};
+ghost use Rattle.jsonptr_patch.specs.Patching.{Patches, PatchesBy, RefusesPatch, RefusesPatchBy};
+ghost use Rattle.jsonptr_patch.specs.PrivateInverse.{AppendsBack, TakesAllBackFrom, IsPlaceBack, StaySorted, RefusesChange};
 ghost use Rattle.jsonptr_patch.specs.PrivateLater.{paths_of, IsPending, TakesPlace, StandsFor};
 ghost use Rattle.jsonptr_patch.specs.PrivateRecording.{CanUndo, Records};
+ghost use Rattle.jsonptr_patch.specs.declared.comparison.Comparison.{Comparison as SpecComparison};
 ghost use Rattle.jsonptr_patch.specs.declared.operation.Operation.{Operation as SpecOperation};
 ghost use Rattle.jsonptr_patch.specs.declared.operation.Operation.TheVariants as variant;
 
 use crate::add::place;
+use crate::comparison::Comparison;
 use crate::copy::copy_of;
 use crate::later::{Later, diverges, make_apart, record_apart, take_place, unlink};
 use crate::move_value::is_proper_front;
@@ -84,11 +86,41 @@ pub fn apply_with_inverse(
     ensures refused { IfRefused result (RefusesPatch (nodes (view doc.old)) patch.items) }
     ensures unchanged { OnErr result (view doc.new ≡ view doc.old) }
 {
+    apply_comparing_with_inverse(alloc, doc, patch, Comparison::Strict)
+}
+
+/// Applies the operations in order, as [`apply_comparing`](crate::apply_comparing) does, and returns the
+/// operations that take them back, as [`apply_with_inverse`] does.
+///
+/// They contain no test. So [`apply`](crate::apply) takes the patch back, however its tests compare
+/// numbers.
+///
+/// # Errors
+///
+/// Those of [`apply_comparing`](crate::apply_comparing). The document is unchanged.
+pub fn apply_comparing_with_inverse(
+    alloc: Global,
+    doc: &mut Value,
+    patch: Vec<Operation>,
+    comparison: Comparison,
+) -> Result<Vec<Operation>, Fault<PatchError>>
+    ensures applied { IfOk result (λ _.
+        PatchesBy comparison (nodes (view doc.old)) patch.items (nodes (view doc.new))) }
+    ensures sorted { IfOk result (λ _. All OperationHasSortedKeys patch.items
+        → HasSortedKeys (view doc.old) → HasSortedKeys (view doc.new)) }
+    ensures inverse { IfOk result (λ back.
+        Patches (nodes (view doc.new)) back.items (nodes (view doc.old))) }
+    ensures inverse_sorted { IfOk result (λ back. All OperationHasSortedKeys patch.items
+        → HasSortedKeys (view doc.old) → All OperationHasSortedKeys back.items) }
+    ensures empty { patch.items ≡ [] → IsOk result }
+    ensures refused { IfRefused result (RefusesPatchBy comparison (nodes (view doc.old)) patch.items) }
+    ensures unchanged { OnErr result (view doc.new ≡ view doc.old) }
+{
     if patch.is_empty() {
         return Ok(Vec::new(alloc));
     }
     let mut journal = Journal::new(alloc);
-    match record_with_inverse(alloc, doc, &mut journal, patch) {
+    match record_with_inverse(alloc, doc, &mut journal, comparison, patch) {
         Ok(back) => {
             journal.discard();
             Ok(back)
@@ -111,23 +143,32 @@ fn record_with_inverse(
     alloc: Global,
     doc: &mut Value,
     journal: &mut Journal,
+    comparison: Comparison,
     operations: Vec<Operation>,
 ) -> Result<Vec<Operation>, Fault<PatchError>>
     requires { CanUndo journal.old doc.old }
     ensures applied { IfOk result (λ _.
-        Patches (nodes (view doc.old)) operations.items (nodes (view doc.new))) }
+        PatchesBy comparison (nodes (view doc.old)) operations.items (nodes (view doc.new))) }
     ensures sorted { IfOk result (λ _. All OperationHasSortedKeys operations.items
         → HasSortedKeys (view doc.old) → HasSortedKeys (view doc.new)) }
     ensures inverse { IfOk result (λ back.
         Patches (nodes (view doc.new)) back.items (nodes (view doc.old))) }
     ensures inverse_sorted { IfOk result (λ back. All OperationHasSortedKeys operations.items
         → HasSortedKeys (view doc.old) → All OperationHasSortedKeys back.items) }
-    ensures refused { IfRefused result (RefusesPatch (nodes (view doc.old)) operations.items) }
+    ensures refused { IfRefused result (RefusesPatchBy comparison (nodes (view doc.old)) operations.items) }
     ensures undone { OnErr result (Records journal.old doc.old journal.new doc.new) }
 {
     let mut later = Vec::new(alloc);
     let mut inverse = Vec::new(alloc);
-    match record_each(alloc, doc, journal, &mut later, &mut inverse, operations) {
+    match record_each(
+        alloc,
+        doc,
+        journal,
+        &mut later,
+        &mut inverse,
+        comparison,
+        operations,
+    ) {
         Ok(()) => {
             unlink(alloc, doc, later);
             inverse.reverse();
@@ -152,25 +193,28 @@ fn record_each(
     journal: &mut Journal,
     later: &mut Vec<Later>,
     inverse: &mut Vec<Operation>,
+    comparison: Comparison,
     operations: Vec<Operation>,
 ) -> Result<(), Fault<PatchError>>
     requires undone { CanUndo journal.old doc.old }
     requires none { later.old.items ≡ [] }
     requires first { inverse.old.items ≡ [] }
     ensures applied { IfOk result (λ _. (n : NodeMap)
-        × Patches (nodes (view doc.old)) operations.items n
+        × PatchesBy comparison (nodes (view doc.old)) operations.items n
         × IsPending (nodes (view doc.new)) later.new.items n
         × Patches n (reverse inverse.new.items) (nodes (view doc.old))) }
     ensures sorted { IfOk result (λ _. All OperationHasSortedKeys operations.items
         → HasSortedKeys (view doc.old) → HasSortedKeys (view doc.new)) }
     ensures inverse_sorted { IfOk result (λ _. All OperationHasSortedKeys operations.items
         → HasSortedKeys (view doc.old) → All OperationHasSortedKeys inverse.new.items) }
-    ensures refused { IfRefused result (RefusesPatch (nodes (view doc.old)) operations.items) }
+    ensures refused { IfRefused result (RefusesPatchBy comparison (nodes (view doc.old)) operations.items) }
     ensures undone { Records journal.old doc.old journal.new doc.new }
 {
     let mut number = 0;
     for operation in operations {
-        step(alloc, doc, journal, later, inverse, number, operation)?;
+        step(
+            alloc, doc, journal, later, inverse, comparison, number, operation,
+        )?;
         number += 1;
     }
     Ok(())
@@ -189,6 +233,7 @@ fn step(
     journal: &mut Journal,
     later: &mut Vec<Later>,
     inverse: &mut Vec<Operation>,
+    comparison: Comparison,
     number: usize,
     operation: Operation,
 ) -> Result<(), Fault<PatchError>>
@@ -196,7 +241,7 @@ fn step(
     requires pending { (n : NodeMap) × IsPending (nodes (view doc.old)) later.old.items n }
     ensures applied { IfOk result (λ _. (n : NodeMap)
         → IsPending (nodes (view doc.old)) later.old.items n
-        → (m : NodeMap) × Applies n operation m × IsPending (nodes (view doc.new)) later.new.items m
+        → (m : NodeMap) × AppliesBy comparison n operation m × IsPending (nodes (view doc.new)) later.new.items m
         × TakesAllBackFrom m inverse.new.items n inverse.old.items) }
     ensures sorted { IfOk result (λ _. OperationHasSortedKeys operation
         → HasSortedKeys (view doc.old) → HasSortedKeys (view doc.new)) }
@@ -204,11 +249,11 @@ fn step(
         StaySorted (view doc.old) inverse.old.items inverse.new.items) }
     ensures refused { IfRefused result (λ e. (n : NodeMap)
         → IsPending (nodes (view doc.old)) later.old.items n
-        → RefusesOperation n number operation e) }
+        → RefusesOperationBy comparison n number operation e) }
     ensures undone { Records journal.old doc.old journal.new doc.new }
 {
     settle_with_back(alloc, doc, journal, later, inverse, number, &operation)?;
-    record_apart(alloc, doc, journal, later, number, operation)
+    record_apart(alloc, doc, journal, later, comparison, number, operation)
 }
 
 /// Makes the operation apart from the nodes that are removed later, as [`settle`](crate::later::settle)
@@ -235,16 +280,16 @@ fn settle_with_back(
         → IsPending (nodes (view doc.old)) later.old.items n
         → (k : NodeMap) × IsPending (nodes (view doc.new)) later.new.items k
         × StandsFor k n operation.now) }
-    ensures back { IfOk result (λ _. (n m : NodeMap)
-        → IsPending (nodes (view doc.old)) later.old.items n → Applies n operation.now m
+    ensures back { IfOk result (λ _. (c : SpecComparison) (n m : NodeMap)
+        → IsPending (nodes (view doc.old)) later.old.items n → AppliesBy c n operation.now m
         → TakesAllBackFrom m inverse.new.items n inverse.old.items) }
     ensures sorted { IfOk result (λ _.
         HasSortedKeys (view doc.old) → HasSortedKeys (view doc.new)) }
     ensures kept { IfOk result (λ _.
         StaySorted (view doc.old) inverse.old.items inverse.new.items) }
-    ensures refused { IfRefused result (λ e. (n : NodeMap)
+    ensures refused { IfRefused result (λ e. (c : SpecComparison) (n : NodeMap)
         → IsPending (nodes (view doc.old)) later.old.items n
-        → RefusesOperation n number operation.now e) }
+        → RefusesOperationBy c n number operation.now e) }
     ensures undone { Records journal.old doc.old journal.new doc.new }
 {
     if take_place(alloc, doc, later, operation) {
@@ -310,7 +355,7 @@ fn back_of(
         × AppendsBack inverse.old.items back inverse.new.items) }
     ensures kept { IfOk result (λ _.
         StaySorted (view doc.old) inverse.old.items inverse.new.items) }
-    ensures refused { IfRefused result (RefusesOperation (nodes (view doc.old)) number operation.now) }
+    ensures refused { IfRefused result (RefusesChange (nodes (view doc.old)) number operation.now) }
     ensures same { view doc.new ≡ view doc.old }
 {
     match operation {

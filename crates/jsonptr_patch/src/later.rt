@@ -13,7 +13,7 @@ ghost use Rattle.jsonptr.specs.Text.{Text, HasNoTilde, text};
 ghost use Rattle.jsonptr_journal.specs.Location.{path_of};
 ghost use Rattle.jsonptr_patch.specs.Apart.{Diverges, AllDiverge, pointers};
 ghost use Rattle.jsonptr_patch.specs.Memory.{TestNeedsNoMemory};
-ghost use Rattle.jsonptr_patch.specs.Operating.{Takes, Moves, Applies, RefusesTarget, RefusesMove, RefusesOperation};
+ghost use Rattle.jsonptr_patch.specs.Operating.{Takes, Moves, Applies, AppliesBy, RefusesTarget, RefusesMove, RefusesOperation, RefusesOperationBy};
 ghost use Rattle.jsonptr_patch.specs.Order.{OperationHasSortedKeys};
 ghost use Rattle.jsonptr_patch.specs.Inverse.{HasObject};
 ghost use Rattle.jsonptr_patch.specs.PrivateLater.{paths_of, IsReached, IsPending, IsObjectAt, IsMemberAt, Forks, IsWaitingAt, TakesPlace, Frees, CanWait, StandsFor};
@@ -21,6 +21,7 @@ ghost use Rattle.jsonptr_patch.specs.PrivateRecording.{CanUndo, Records};
 
 use crate::add::key_of;
 use crate::apart::fork;
+use crate::comparison::Comparison;
 use crate::move_value::{NotAdded, add_taken, move_value};
 use crate::operation::{Operation, PatchError};
 use crate::patch::record;
@@ -701,6 +702,7 @@ pub fn record_apart(
     doc: &mut Value,
     journal: &mut Journal,
     later: &mut Vec<Later>,
+    comparison: Comparison,
     number: usize,
     operation: Operation,
 ) -> Result<(), Fault<PatchError>>
@@ -709,19 +711,19 @@ pub fn record_apart(
         (paths_of later.old.items) }
     ensures applied { IfOk result (λ _. (n : NodeMap)
         → IsPending (nodes (view doc.old)) later.old.items n
-        → (m : NodeMap) × Applies n operation m × IsPending (nodes (view doc.new)) later.new.items m) }
+        → (m : NodeMap) × AppliesBy comparison n operation m × IsPending (nodes (view doc.new)) later.new.items m) }
     ensures sorted { IfOk result (λ _. OperationHasSortedKeys operation
         → HasSortedKeys (view doc.old) → HasSortedKeys (view doc.new)) }
     ensures refused { IfRefused result (λ e. (n : NodeMap)
         → IsPending (nodes (view doc.old)) later.old.items n
-        → RefusesOperation n number operation e) }
+        → RefusesOperationBy comparison n number operation e) }
     ensures undone { Records journal.old doc.old journal.new doc.new }
     ensures no_memory { TestNeedsNoMemory operation → HasMemory result }
     ensures none { TestNeedsNoMemory operation → later.new.items ≡ later.old.items }
 {
     match waiting_location(alloc, doc, &operation) {
         Some(location) => wait(alloc, doc, journal, later, number, operation, location),
-        None => record(alloc, doc, journal, number, operation),
+        None => record(alloc, doc, journal, comparison, number, operation),
     }
 }
 
@@ -737,6 +739,7 @@ pub fn record_or_wait(
     doc: &mut Value,
     journal: &mut Journal,
     later: &mut Vec<Later>,
+    comparison: Comparison,
     number: usize,
     operation: Operation,
 ) -> Result<(), Fault<PatchError>>
@@ -744,16 +747,16 @@ pub fn record_or_wait(
     requires pending { (n : NodeMap) × IsPending (nodes (view doc.old)) later.old.items n }
     ensures applied { IfOk result (λ _. (n : NodeMap)
         → IsPending (nodes (view doc.old)) later.old.items n
-        → (m : NodeMap) × Applies n operation m × IsPending (nodes (view doc.new)) later.new.items m) }
+        → (m : NodeMap) × AppliesBy comparison n operation m × IsPending (nodes (view doc.new)) later.new.items m) }
     ensures sorted { IfOk result (λ _. OperationHasSortedKeys operation
         → HasSortedKeys (view doc.old) → HasSortedKeys (view doc.new)) }
     ensures refused { IfRefused result (λ e. (n : NodeMap)
         → IsPending (nodes (view doc.old)) later.old.items n
-        → RefusesOperation n number operation e) }
+        → RefusesOperationBy comparison n number operation e) }
     ensures undone { Records journal.old doc.old journal.new doc.new }
     ensures no_memory { TestNeedsNoMemory operation → later.old.items ≡ [] → HasMemory result }
     ensures none { TestNeedsNoMemory operation → later.old.items ≡ [] → later.new.items ≡ [] }
 {
     settle(alloc, doc, journal, later, &operation)?;
-    record_apart(alloc, doc, journal, later, number, operation)
+    record_apart(alloc, doc, journal, later, comparison, number, operation)
 }

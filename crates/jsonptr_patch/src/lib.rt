@@ -27,19 +27,23 @@
 //! `rt.alloc()`, the allocator.
 //!
 //! - [`Operation`] is one operation of a patch, and [`apply`] applies a list of them.
+//! - [`apply_comparing`] applies them with the [`Comparison`] of numbers that its caller chooses.
 //! - [`PatchError`] identifies the operation that failed, and why.
-//! - [`apply_with_inverse`] applies a patch and returns the patch that takes it back.
+//! - [`apply_with_inverse`] applies a patch and returns the patch that takes it back, and
+//!   [`apply_comparing_with_inverse`] does so with a [`Comparison`].
 //! - [`are_apart`] returns whether two patches can be applied in either order.
 //! - [`delete_with_undo`] deletes a value and returns the operation that restores it.
 //! - [`laws`] states what holds of operations and patches, such as that each has exactly one
 //!   outcome.
 //!
-//! Two rules are not from the RFC. Removing the root leaves `null`. A `test` with a float on either
-//! side fails, since equality of floats is not claimed.
+//! Two rules are not from the RFC. Removing the root leaves `null`. A `test` of [`apply`] with a float
+//! on either side fails. With [`Comparison::Numeric`] a `test` compares numbers by their values, as
+//! the RFC has it (section 4.6).
 #![tactic(auto)]
 
 mod add;
 mod apart;
+mod comparison;
 mod copy;
 mod equality;
 mod float_search;
@@ -47,6 +51,7 @@ mod inverse;
 mod later;
 pub mod laws;
 mod move_value;
+mod number;
 mod operation;
 mod patch;
 mod remove;
@@ -56,7 +61,8 @@ mod test;
 mod undo;
 
 pub use apart::are_apart;
-pub use inverse::apply_with_inverse;
+pub use comparison::Comparison;
+pub use inverse::{apply_comparing_with_inverse, apply_with_inverse};
 pub use operation::{Operation, PatchError};
-pub use patch::apply;
+pub use patch::{apply, apply_comparing};
 pub use undo::delete_with_undo;

@@ -54,8 +54,8 @@ pub enum Operation {
         /// The target location.
         path: PointerBuf,
     },
-    /// Tests that the value at `path` equals another one (RFC 6902, section 4.6). Fails if either
-    /// contains a float.
+    /// Tests that the value at `path` equals another one (RFC 6902, section 4.6). How it compares
+    /// numbers is chosen where the patch is applied, as a [`Comparison`](crate::Comparison).
     Test {
         /// The target location.
         path: PointerBuf,

@@ -5,13 +5,14 @@ ghost use Rattle.jsonptr.specs.Fault.{IfRefused, HasMemory};
 ghost use Rattle.jsonptr.specs.Json.{nodes, HasSortedKeys};
 ghost use Rattle.jsonptr.specs.Node.{NodeMap};
 ghost use Rattle.jsonptr_patch.specs.Memory.{TestNeedsNoMemory, LastNeedsNoMemory, NeedsNoMemory};
-ghost use Rattle.jsonptr_patch.specs.Operating.{Applies, RefusesOperation};
+ghost use Rattle.jsonptr_patch.specs.Operating.{AppliesBy, RefusesOperationBy};
 ghost use Rattle.jsonptr_patch.specs.Order.{OperationHasSortedKeys};
-ghost use Rattle.jsonptr_patch.specs.Patching.{Patches, RefusesPatch};
+ghost use Rattle.jsonptr_patch.specs.Patching.{Patches, PatchesBy, RefusesPatch, RefusesPatchBy};
 ghost use Rattle.jsonptr_patch.specs.PrivateLater.{IsPending};
 ghost use Rattle.jsonptr_patch.specs.PrivateRecording.{CanUndo, Records};
 
 use crate::add::{add, add_last};
+use crate::comparison::Comparison;
 use crate::copy::{copy, copy_last};
 use crate::later::{Later, record_or_wait, settle, unlink};
 use crate::move_value::{move_last, move_value};
@@ -73,12 +74,56 @@ pub fn apply(alloc: Global, doc: &mut Value, patch: Vec<Operation>) -> Result<()
     ensures unchanged { OnErr result (view doc.new ≡ view doc.old) }
     ensures no_memory { NeedsNoMemory patch.items → HasMemory result }
 {
+    apply_comparing(alloc, doc, patch, Comparison::Strict)
+}
+
+/// Applies the operations in order, as [`apply`] does, and compares the numbers of its tests as
+/// `comparison` says.
+///
+/// With [`Comparison::Numeric`] a test is that of the RFC (section 4.6): two numbers are equal if they
+/// have the same value, whether each is stored as an integer or as a float. Nothing is rounded. The two
+/// comparisons differ only for patches in which [`apply`] fails with [`PatchError::TestFloat`]
+/// ([`laws::comparison`](crate::laws::comparison)).
+///
+/// ```rust
+/// let mut document = json!(in alloc; {"price": 1.5, "count": 2})?;
+/// let price = PointerBuf::from_text(alloc, "/price")?;
+/// let count = PointerBuf::from_text(alloc, "/count")?;
+/// let same = json!(in alloc; 1.5)?;
+/// let value = json!(in alloc; 2.0)?;
+/// let tests = vec![in alloc;
+///     Operation::Test { path: price, value: same },
+///     Operation::Test { path: count, value },
+/// ]?;
+/// apply_comparing(alloc, &mut document, tests, Comparison::Numeric)?;
+/// ```
+///
+/// # Errors
+///
+/// [`Fault::Refused`] with the error of the first operation that fails, and [`Fault::Memory`] if an
+/// allocation fails. The document is unchanged: it is the one before the first operation. It is never
+/// [`PatchError::TestFloat`] with [`Comparison::Numeric`].
+pub fn apply_comparing(
+    alloc: Global,
+    doc: &mut Value,
+    patch: Vec<Operation>,
+    comparison: Comparison,
+) -> Result<(), Fault<PatchError>>
+    ensures applied { IfOk result (λ _.
+        PatchesBy comparison (nodes (view doc.old)) patch.items (nodes (view doc.new))) }
+    ensures sorted { IfOk result (λ _. All OperationHasSortedKeys patch.items
+        → HasSortedKeys (view doc.old) → HasSortedKeys (view doc.new)) }
+    ensures empty { patch.items ≡ [] → IsOk result }
+    ensures refused { IfRefused result (RefusesPatchBy comparison (nodes (view doc.old)) patch.items) }
+    ensures unchanged { OnErr result (view doc.new ≡ view doc.old) }
+    ensures no_memory { NeedsNoMemory patch.items → HasMemory result }
+{
     let mut operations = patch;
     let Some(last) = operations.pop() else {
         return Ok(());
     };
     let mut journal = Journal::new(alloc);
-    match apply_all(alloc, doc, &mut journal, operations, last) {
+    match apply_all(alloc, doc, &mut journal, comparison, operations, last) {
         Ok(()) => {
             journal.discard();
             Ok(())
@@ -99,25 +144,26 @@ fn apply_all(
     alloc: Global,
     doc: &mut Value,
     journal: &mut Journal,
+    comparison: Comparison,
     operations: Vec<Operation>,
     last: Operation,
 ) -> Result<(), Fault<PatchError>>
     requires { CanUndo journal.old doc.old }
-    ensures applied { IfOk result (λ _. Patches (nodes (view doc.old))
+    ensures applied { IfOk result (λ _. PatchesBy comparison (nodes (view doc.old))
         (operations.items ++ last ∷ []) (nodes (view doc.new))) }
     ensures sorted { IfOk result (λ _.
         All OperationHasSortedKeys operations.items → OperationHasSortedKeys last
         → HasSortedKeys (view doc.old) → HasSortedKeys (view doc.new)) }
     ensures refused { IfRefused result
-        (RefusesPatch (nodes (view doc.old)) (operations.items ++ last ∷ [])) }
+        (RefusesPatchBy comparison (nodes (view doc.old)) (operations.items ++ last ∷ [])) }
     ensures undone { OnErr result (Records journal.old doc.old journal.new doc.new) }
     ensures no_memory { All TestNeedsNoMemory operations.items → LastNeedsNoMemory last
         → HasMemory result }
 {
     let number = operations.len();
     let mut later = Vec::new(alloc);
-    record_all(alloc, doc, journal, &mut later, operations)?;
-    finish(alloc, doc, journal, later, number, last)
+    record_all(alloc, doc, journal, &mut later, comparison, operations)?;
+    finish(alloc, doc, journal, later, comparison, number, last)
 }
 
 /// Applies the operations, and records in the journal what undoes them. Some nodes are left to be
@@ -131,16 +177,17 @@ fn record_all(
     doc: &mut Value,
     journal: &mut Journal,
     later: &mut Vec<Later>,
+    comparison: Comparison,
     operations: Vec<Operation>,
 ) -> Result<(), Fault<PatchError>>
     requires undone { CanUndo journal.old doc.old }
     requires none { later.old.items ≡ [] }
     ensures applied { IfOk result (λ _. (n : NodeMap)
-        × Patches (nodes (view doc.old)) operations.items n
+        × PatchesBy comparison (nodes (view doc.old)) operations.items n
         × IsPending (nodes (view doc.new)) later.new.items n) }
     ensures sorted { IfOk result (λ _. All OperationHasSortedKeys operations.items
         → HasSortedKeys (view doc.old) → HasSortedKeys (view doc.new)) }
-    ensures refused { IfRefused result (RefusesPatch (nodes (view doc.old)) operations.items) }
+    ensures refused { IfRefused result (RefusesPatchBy comparison (nodes (view doc.old)) operations.items) }
     ensures undone { Records journal.old doc.old journal.new doc.new }
     ensures no_memory { All TestNeedsNoMemory operations.items → HasMemory result }
     ensures none { IfOk result (λ _.
@@ -148,7 +195,7 @@ fn record_all(
 {
     let mut number = 0;
     for operation in operations {
-        record_or_wait(alloc, doc, journal, later, number, operation)?;
+        record_or_wait(alloc, doc, journal, later, comparison, number, operation)?;
         number += 1;
     }
     Ok(())
@@ -166,6 +213,7 @@ fn finish(
     doc: &mut Value,
     journal: &mut Journal,
     later: Vec<Later>,
+    comparison: Comparison,
     number: usize,
     last: Operation,
 ) -> Result<(), Fault<PatchError>>
@@ -173,18 +221,18 @@ fn finish(
     requires pending { (n : NodeMap) × IsPending (nodes (view doc.old)) later.items n }
     ensures applied { IfOk result (λ _. (n : NodeMap)
         → IsPending (nodes (view doc.old)) later.items n
-        → Applies n last (nodes (view doc.new))) }
+        → AppliesBy comparison n last (nodes (view doc.new))) }
     ensures sorted { IfOk result (λ _. OperationHasSortedKeys last
         → HasSortedKeys (view doc.old) → HasSortedKeys (view doc.new)) }
     ensures refused { IfRefused result (λ e. (n : NodeMap)
         → IsPending (nodes (view doc.old)) later.items n
-        → RefusesOperation n number last e) }
+        → RefusesOperationBy comparison n number last e) }
     ensures undone { OnErr result (Records journal.old doc.old journal.new doc.new) }
     ensures no_memory { LastNeedsNoMemory last → later.items ≡ [] → HasMemory result }
 {
     let mut later = later;
     settle(alloc, doc, journal, &mut later, &last)?;
-    apply_last(alloc, doc, number, last)?;
+    apply_last(alloc, doc, comparison, number, last)?;
     unlink(alloc, doc, later);
     Ok(())
 }
@@ -199,15 +247,16 @@ pub fn record(
     alloc: Global,
     doc: &mut Value,
     journal: &mut Journal,
+    comparison: Comparison,
     number: usize,
     operation: Operation,
 ) -> Result<(), Fault<PatchError>>
     requires { CanUndo journal.old doc.old }
     ensures applied { IfOk result (λ _.
-        Applies (nodes (view doc.old)) operation (nodes (view doc.new))) }
+        AppliesBy comparison (nodes (view doc.old)) operation (nodes (view doc.new))) }
     ensures sorted { IfOk result (λ _. OperationHasSortedKeys operation
         → HasSortedKeys (view doc.old) → HasSortedKeys (view doc.new)) }
-    ensures refused { IfRefused result (RefusesOperation (nodes (view doc.old)) number operation) }
+    ensures refused { IfRefused result (RefusesOperationBy comparison (nodes (view doc.old)) number operation) }
     ensures undone { Records journal.old doc.old journal.new doc.new }
     ensures no_memory { TestNeedsNoMemory operation → HasMemory result }
 {
@@ -223,7 +272,14 @@ pub fn record(
         Operation::Copy { from, path } => {
             copy(alloc, doc, journal, number, from.as_ptr(), path.as_ptr())
         }
-        Operation::Test { path, value } => test(alloc, doc, number, path.as_ptr(), &value),
+        Operation::Test { path, value } => test(
+            alloc,
+            doc,
+            comparison,
+            number,
+            path.as_ptr(),
+            &value,
+        ),
     }
 }
 
@@ -236,14 +292,15 @@ pub fn record(
 fn apply_last(
     alloc: Global,
     doc: &mut Value,
+    comparison: Comparison,
     number: usize,
     operation: Operation,
 ) -> Result<(), Fault<PatchError>>
     ensures applied { IfOk result (λ _.
-        Applies (nodes (view doc.old)) operation (nodes (view doc.new))) }
+        AppliesBy comparison (nodes (view doc.old)) operation (nodes (view doc.new))) }
     ensures sorted { IfOk result (λ _. OperationHasSortedKeys operation
         → HasSortedKeys (view doc.old) → HasSortedKeys (view doc.new)) }
-    ensures refused { IfRefused result (RefusesOperation (nodes (view doc.old)) number operation) }
+    ensures refused { IfRefused result (RefusesOperationBy comparison (nodes (view doc.old)) number operation) }
     ensures unchanged { OnErr result (view doc.new ≡ view doc.old) }
     ensures no_memory { LastNeedsNoMemory operation → HasMemory result }
 {
@@ -259,6 +316,13 @@ fn apply_last(
         Operation::Copy { from, path } => {
             copy_last(alloc, doc, number, from.as_ptr(), path.as_ptr())
         }
-        Operation::Test { path, value } => test(alloc, doc, number, path.as_ptr(), &value),
+        Operation::Test { path, value } => test(
+            alloc,
+            doc,
+            comparison,
+            number,
+            path.as_ptr(),
+            &value,
+        ),
     }
 }

@@ -5,9 +5,11 @@ ghost use Rattle.jsonptr.specs.Fault.{IfRefused, HasMemory};
 ghost use Rattle.jsonptr.specs.Json.{nodes};
 ghost use Rattle.jsonptr.specs.Pointer.{tokens};
 ghost use Rattle.jsonptr.specs.Text.{HasNoTilde, text};
-ghost use Rattle.jsonptr_patch.specs.Operating.{Passes, RefusesTest};
-ghost use Rattle.jsonptr_patch.specs.PrivateTesting.{IsPlain, RefusesCompare, SameValue};
+ghost use Rattle.jsonptr_patch.specs.Operating.{PassesBy, RefusesTestBy};
+ghost use Rattle.jsonptr_patch.specs.PrivateTesting.{IsPlain, RefusesCompare, SameValue, SameValueBy, DiffersNumerically};
+ghost use Rattle.jsonptr_patch.specs.declared.comparison.Comparison.TheVariants.{Numeric};
 
+use crate::comparison::Comparison;
 use crate::equality::is_equal;
 use crate::float_search::contains_float;
 use crate::operation::PatchError;
@@ -20,29 +22,33 @@ use std::alloc::Global;
 ///
 /// # Errors
 ///
-/// [`Fault::Refused`] if the pointer does not resolve to a value, if one of the two contains a
-/// float, or if they differ. [`Fault::Memory`] if an allocation fails.
+/// [`Fault::Refused`] if the pointer does not resolve to a value, or if the two differ. A strict test
+/// also fails if one of them contains a float. [`Fault::Memory`] if an allocation fails.
 pub fn test(
     alloc: Global,
     doc: &Value,
+    comparison: Comparison,
     number: usize,
     path: Pointer<'_>,
     value: &Value,
 ) -> Result<(), Fault<PatchError>>
-    ensures passes { IfOk result (λ _. Passes (nodes (view doc.now)) (tokens path.entry)
+    ensures passes { IfOk result (λ _. PassesBy comparison (nodes (view doc.now)) (tokens path.entry)
         (nodes (view value.now))) }
     ensures refused { IfRefused result
-        (RefusesTest (nodes (view doc.now)) number (tokens path.entry)
+        (RefusesTestBy comparison (nodes (view doc.now)) number (tokens path.entry)
         (nodes (view value.now))) }
     ensures no_memory { HasNoTilde (text (tokens path.entry)) → HasMemory result }
 {
     match path.resolve(alloc, doc) {
-        Ok(target) => compare(alloc, number, target, value),
+        Ok(target) => match comparison {
+            Comparison::Strict => compare(alloc, number, target, value),
+            Comparison::Numeric => compare_numerically(number, target, value),
+        },
         Err(fault) => Err(no_target(number, fault)),
     }
 }
 
-/// Compares the value at the target location with the one that it must equal.
+/// Compares the value at the target location strictly with the one that it must equal.
 ///
 /// # Errors
 ///
@@ -62,7 +68,28 @@ fn compare(
     if contains_float(alloc, target) || contains_float(alloc, value) {
         return Err(Fault::Refused(PatchError::TestFloat { operation: number }));
     }
-    if !is_equal(target, value) {
+    if !is_equal(Comparison::Strict, target, value) {
+        return Err(Fault::Refused(PatchError::TestFailed { operation: number }));
+    }
+    Ok(())
+}
+
+/// Compares the value at the target location with the one that it must equal, and numbers by their
+/// values.
+///
+/// # Errors
+///
+/// [`PatchError::TestFailed`] if they differ.
+fn compare_numerically(
+    number: usize,
+    target: &Value,
+    value: &Value,
+) -> Result<(), Fault<PatchError>>
+    ensures passes { IfOk result (λ _. SameValueBy Numeric target.now value.now) }
+    ensures refused { IfRefused result (DiffersNumerically number target.now value.now) }
+    ensures no_memory { HasMemory result }
+{
+    if !is_equal(Comparison::Numeric, target, value) {
         return Err(Fault::Refused(PatchError::TestFailed { operation: number }));
     }
     Ok(())

@@ -11,6 +11,8 @@ mod arrays;
 #[cfg(test)]
 mod changes;
 #[cfg(test)]
+mod comparisons;
+#[cfg(test)]
 mod damaged;
 #[cfg(test)]
 mod diffs;

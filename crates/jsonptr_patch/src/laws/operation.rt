@@ -9,7 +9,8 @@ ghost use Rattle.jsonptr.specs.Node.{NodeMap, IsTree};
 ghost use Rattle.jsonptr.specs.Removing.{Deletes};
 ghost use Rattle.jsonptr.specs.Text.{Text};
 ghost use Rattle.jsonptr.specs.Documents.{IsDocument};
-ghost use Rattle.jsonptr_patch.specs.Operating.{IsProperFront, Applies, RestoresAt, RefusesOperation};
+ghost use Rattle.jsonptr_patch.specs.Operating.{IsProperFront, Applies, AppliesBy, RestoresAt, RefusesOperation, RefusesOperationBy};
+ghost use Rattle.jsonptr_patch.specs.declared.comparison.Comparison.{Comparison};
 ghost use Rattle.jsonptr_patch.specs.declared.operation.Operation.{Operation};
 ghost use Rattle.jsonptr_patch.specs.declared.operation.Operation.TheVariants as operation;
 ghost use Rattle.jsonptr_patch.specs.declared.operation.PatchError.{PatchError};
@@ -31,6 +32,25 @@ pub fn operation_law()
         → IsTree n → RefusesOperation n k o e → RefusesOperation n k o f → e ≡ f }
     ensures document { (n m : NodeMap) (o : Operation)
         → IsDocument n → Applies n o m → IsDocument m }
+{
+    resolve_law();
+    assign_law();
+}
+
+/// States the same of each comparison of the tests: in each document each operation has exactly one
+/// outcome.
+pub fn comparing_operation_law()
+    ensures some { (c : Comparison) (n : NodeMap) (k : ℕ) (o : Operation)
+        → IsDocument n → IsOperation o
+        → ((m : NodeMap) × AppliesBy c n o m) ⊎ ((e : PatchError) × RefusesOperationBy c n k o e) }
+    ensures not_both { (c : Comparison) (n m : NodeMap) (k : ℕ) (o : Operation) (e : PatchError)
+        → IsTree n → AppliesBy c n o m → RefusesOperationBy c n k o e → ⊥ }
+    ensures one_map { (c : Comparison) (n m l : NodeMap) (o : Operation)
+        → IsTree n → AppliesBy c n o m → AppliesBy c n o l → m ≡ l }
+    ensures one_refusal { (c : Comparison) (n : NodeMap) (k : ℕ) (o : Operation) (e f : PatchError)
+        → IsTree n → RefusesOperationBy c n k o e → RefusesOperationBy c n k o f → e ≡ f }
+    ensures document { (c : Comparison) (n m : NodeMap) (o : Operation)
+        → IsDocument n → AppliesBy c n o m → IsDocument m }
 {
     resolve_law();
     assign_law();

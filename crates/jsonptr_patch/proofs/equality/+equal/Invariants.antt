@@ -1,13 +1,13 @@
 use Rattle.std.proofs.Common.{◌≡◌, ℕ, ◌<◌, List, ◌++◌, get_or}
 use Rattle.serde_json.specs.declared.value.Value.{Value}
 use Rattle.serde_json.proofs.Views.{Entry}
-use Rattle.jsonptr_patch.specs.PrivateTesting.{SameValue}
+use Rattle.jsonptr_patch.specs.PrivateTesting.{SameValueBy}
 use Rattle.jsonptr_patch.proofs.TestingLemmas.{AllSame}
 use Rattle.jsonptr_patch.proofs.equality.+equal.Given as goal
 
 abbrev pub invariant-same_elements-loop-place : goal.invariant-same_elements-loop-place
-invariant-same_elements-loop-place l = (i : ℕ) (x : Value) → i < l.place → SameValue (get_or l.left.items i x) (get_or l.right.items i x)
+invariant-same_elements-loop-place l = (i : ℕ) (x : Value) → i < l.place → SameValueBy l.comparison (get_or l.left.items i x) (get_or l.right.items i x)
 
 abbrev pub invariant-same_members-loop-key : goal.invariant-same_members-loop-key
 invariant-same_members-loop-key l =
-    (done : List Entry) × (l.left.entries ≡ done ++ l.key-iterator) × AllSame l.right done
+    (done : List Entry) × (l.left.entries ≡ done ++ l.key-iterator) × AllSame l.comparison l.right done

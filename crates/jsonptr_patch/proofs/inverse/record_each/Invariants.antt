@@ -5,7 +5,7 @@ use Rattle.serde_json.specs.View.{view}
 use Rattle.jsonptr.specs.Json.{nodes, HasSortedKeys}
 use Rattle.jsonptr.specs.Node.{NodeMap}
 use Rattle.jsonptr_patch.specs.Order.{OperationHasSortedKeys}
-use Rattle.jsonptr_patch.specs.Patching.{Patches}
+use Rattle.jsonptr_patch.specs.Patching.{Patches, PatchesBy}
 use Rattle.jsonptr_patch.specs.PrivateLater.{IsPending}
 use Rattle.jsonptr_patch.specs.PrivateRecording.{Records}
 use Rattle.jsonptr_patch.proofs.inverse.record_each.Given as goal
@@ -14,7 +14,7 @@ abbrev pub invariant-loop-operation : goal.invariant-loop-operation
 invariant-loop-operation l = record {
   rest : l.yielded ++ into_iter_items l.operation-iterator ≡ l.fn.operations.items;
   counted : l.number ≡ length l.yielded;
-  done : (n : NodeMap) × Patches (nodes (view l.initial.doc)) l.yielded n × IsPending (nodes (view l.doc)) l.later.items n × Patches n (reverse l.inverse.items) (nodes (view l.initial.doc));
+  done : (n : NodeMap) × PatchesBy l.fn.comparison (nodes (view l.initial.doc)) l.yielded n × IsPending (nodes (view l.doc)) l.later.items n × Patches n (reverse l.inverse.items) (nodes (view l.initial.doc));
   ordered : All OperationHasSortedKeys l.fn.operations.items → HasSortedKeys (view l.initial.doc) → HasSortedKeys (view l.doc);
   kept : All OperationHasSortedKeys l.fn.operations.items → HasSortedKeys (view l.initial.doc) → All OperationHasSortedKeys l.inverse.items;
   recorded : Records l.initial.journal l.initial.doc l.journal l.doc;

@@ -4,7 +4,7 @@ use Rattle.serde_json.specs.View.{view}
 use Rattle.jsonptr.specs.Json.{nodes}
 use Rattle.jsonptr_patch.specs.PrivateLater.{IsPending}
 use Rattle.jsonptr_patch.specs.declared.later.Later.{Later}
-use Rattle.jsonptr_patch.proofs.BackLemmas.{later_back, freed_back}
+use Rattle.jsonptr_patch.proofs.BackLemmas.{change_refused, later_back, freed_back}
 use Rattle.jsonptr_patch.proofs.LaterLemmas.{now_refused}
 use Rattle.jsonptr_patch.proofs.OperatingLemmas.{ok_all, refused_all}
 use Rattle.jsonptr_patch.proofs.WaitingLemmas.{freed_stands, itself}
@@ -19,10 +19,10 @@ returns-then-take_place-clause-stands c = λ n p.
     (r.0, r.1, freed_stands c.args.doc.now r.0 n c.args.operation.now c.take_place.new.later.items r.1 r.2)
 
 pub returns-then-take_place-clause-back : goal.returns-then-take_place-clause-back
-returns-then-take_place-clause-back c = λ n m p a.
+returns-then-take_place-clause-back c = λ by n m p a.
     let r = c.take_place.ensures.frees c.if-take_place.true n p in
     let b = c.in_ok-append_place_back.ensures.back r.0 r.2.tokens r.2.place in
-    freed_back c.args.doc.now r.0 n m c.args.operation.now b.0 c.args.inverse.now.items c.append_place_back.new.inverse.items c.take_place.new.later.items r.1 r.2 b.1 b.2 a
+    freed_back by c.args.doc.now r.0 n m c.args.operation.now b.0 c.args.inverse.now.items c.append_place_back.new.inverse.items c.take_place.new.later.items r.1 r.2 b.1 b.2 a
 
 pub returns-clause-stands : goal.returns-clause-stands
 returns-clause-stands c = ok_all c.back_of.result _ _
@@ -33,16 +33,16 @@ returns-clause-stands c = ok_all c.back_of.result _ _
 
 pub returns-clause-back : goal.returns-clause-back
 returns-clause-back c = ok_all c.back_of.result _ _
-    (λ h n m p a.
+    (λ h by n m p a.
     let q = subst (λ (ls : List Later). IsPending (nodes (view c.args.doc.now)) ls n) (sym (c.take_place.ensures.same c.if-take_place.false)) p in
-    later_back c.make_apart.new.doc n m c.args.operation.now h.0 c.args.inverse.now.items c.back_of.new.inverse.items c.make_apart.new.later.items c.in_ok-make_apart.ensures.apart h.1 h.2 (c.in_ok-make_apart.ensures.same n q) a)
+    later_back by c.make_apart.new.doc n m c.args.operation.now h.0 c.args.inverse.now.items c.back_of.new.inverse.items c.make_apart.new.later.items c.in_ok-make_apart.ensures.apart h.1 h.2 (c.in_ok-make_apart.ensures.same n q) a)
     c.back_of.ensures.back
 
 pub returns-clause-refused : goal.returns-clause-refused
 returns-clause-refused c = refused_all c.back_of.result _ _
-    (λ e r n p.
+    (λ e r by n p.
     let q = subst (λ (ls : List Later). IsPending (nodes (view c.args.doc.now)) ls n) (sym (c.take_place.ensures.same c.if-take_place.false)) p in
-    now_refused c.make_apart.new.doc c.args.number c.args.operation.now c.make_apart.new.later.items c.in_ok-make_apart.ensures.apart e r n (c.in_ok-make_apart.ensures.same n q))
+    now_refused by c.make_apart.new.doc c.args.number c.args.operation.now c.make_apart.new.later.items c.in_ok-make_apart.ensures.apart e (change_refused by (nodes (view c.make_apart.new.doc)) c.args.number c.args.operation.now e r) n (c.in_ok-make_apart.ensures.same n q))
     c.back_of.ensures.refused
 
 pub returns-then-take_place-clause-kept : goal.returns-then-take_place-clause-kept

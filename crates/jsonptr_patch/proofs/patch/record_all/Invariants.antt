@@ -6,7 +6,7 @@ use Rattle.jsonptr.specs.Json.{nodes, HasSortedKeys}
 use Rattle.jsonptr.specs.Node.{NodeMap}
 use Rattle.jsonptr_patch.specs.Memory.{TestNeedsNoMemory}
 use Rattle.jsonptr_patch.specs.Order.{OperationHasSortedKeys}
-use Rattle.jsonptr_patch.specs.Patching.{Patches}
+use Rattle.jsonptr_patch.specs.Patching.{PatchesBy}
 use Rattle.jsonptr_patch.specs.PrivateLater.{IsPending}
 use Rattle.jsonptr_patch.specs.PrivateRecording.{Records}
 use Rattle.jsonptr_patch.proofs.patch.record_all.Given as goal
@@ -15,7 +15,7 @@ abbrev pub invariant-loop-operation : goal.invariant-loop-operation
 invariant-loop-operation l = record {
   rest : l.yielded ++ into_iter_items l.operation-iterator ≡ l.fn.operations.items;
   counted : l.number ≡ length l.yielded;
-  done : (n : NodeMap) × Patches (nodes (view l.initial.doc)) l.yielded n × IsPending (nodes (view l.doc)) l.later.items n;
+  done : (n : NodeMap) × PatchesBy l.fn.comparison (nodes (view l.initial.doc)) l.yielded n × IsPending (nodes (view l.doc)) l.later.items n;
   ordered : All OperationHasSortedKeys l.fn.operations.items → HasSortedKeys (view l.initial.doc) → HasSortedKeys (view l.doc);
   recorded : Records l.initial.journal l.initial.doc l.journal l.doc;
   none : All TestNeedsNoMemory l.fn.operations.items → l.later.items ≡ [];

@@ -1,14 +1,15 @@
 use Rattle.jsonptr_patch.proofs.PatchLemmas.{patches_some, patches_refused, patches_one, one_refusal, patches_document, patches_behind, patches_both}
 use Rattle.jsonptr_patch.proofs.laws.patch.patch_law.Goals as goal
+use Rattle.jsonptr_patch.specs.declared.comparison.Comparison.TheVariants.{Strict}
 
 pub returns : goal.returns
 returns c =
     let law = c.operation_law.ensures in
     record {
-      some = patches_some law.some law.document;
-      not_both = patches_refused law.one_map law.document law.not_both;
-      one_map = patches_one law.one_map law.document;
-      one_refusal = one_refusal law.one_map law.document law.not_both law.one_refusal;
-      document = patches_document law.one_map law.document;
-      behind = λ n m os ps. (patches_behind n m os ps, λ h. patches_both n h.0 m os ps h.1 h.2);
+      some = patches_some Strict law.some law.document;
+      not_both = patches_refused Strict law.one_map law.document law.not_both;
+      one_map = patches_one Strict law.one_map law.document;
+      one_refusal = one_refusal Strict law.one_map law.document law.not_both law.one_refusal;
+      document = patches_document Strict law.one_map law.document;
+      behind = λ n m os ps. (patches_behind Strict n m os ps, λ h. patches_both Strict n h.0 m os ps h.1 h.2);
     }

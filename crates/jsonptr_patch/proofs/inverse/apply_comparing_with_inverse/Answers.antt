@@ -1,7 +1,7 @@
 use Rattle.serde_json.specs.View.{view}
 use Rattle.jsonptr_tree.proofs.JsonLemmas.{content_one}
 use Rattle.jsonptr_journal.specs.Location.{contents_of}
-use Rattle.jsonptr_patch.proofs.inverse.apply_with_inverse.Goals as goal
+use Rattle.jsonptr_patch.proofs.inverse.apply_comparing_with_inverse.Goals as goal
 
 pub record_with_inverse-requires : goal.record_with_inverse-requires
 record_with_inverse-requires c = (contents_of c.args.doc.now, c.new-journal.ensures (contents_of c.args.doc.now))

@@ -4,7 +4,7 @@ use Rattle.jsonptr_tree.proofs.JsonLemmas.{content_one}
 use Rattle.jsonptr_journal.specs.Location.{contents_of}
 use Rattle.jsonptr_patch.specs.Order.{OperationHasSortedKeys}
 use Rattle.jsonptr_patch.proofs.OperatingLemmas.{each_at, all_but_last}
-use Rattle.jsonptr_patch.proofs.patch.apply.Goals as goal
+use Rattle.jsonptr_patch.proofs.patch.apply_comparing.Goals as goal
 
 pub apply_all-requires : goal.apply_all-requires
 apply_all-requires c = (contents_of c.args.doc.now, c.new-journal.ensures (contents_of c.args.doc.now))
