@@ -7,8 +7,9 @@ use Rattle.jsonptr.specs.Node.{NodeMap}
 use Rattle.jsonptr.specs.Resolve.{PutsAt}
 use Rattle.jsonptr.specs.Text.{Text}
 use Rattle.jsonptr_patch.specs.Adding.{Adds}
-use Rattle.jsonptr_patch.specs.Operating.{Applies, Takes, Moves, Copies, Passes}
-use Rattle.jsonptr_patch.specs.Patching.{Patches}
+use Rattle.jsonptr_patch.specs.Operating.{AppliesBy, Takes, Moves, Copies, PassesBy}
+use Rattle.jsonptr_patch.specs.Patching.{PatchesBy}
+use Rattle.jsonptr_patch.specs.declared.comparison.Comparison.{Comparison}
 use Rattle.jsonptr_patch.specs.declared.operation.Operation.{Operation}
 use Rattle.jsonptr_patch.specs.declared.operation.Operation.TheVariants.{Add, Remove, Replace, Move, Copy, Test}
 use Rattle.jsonptr_patch_document.specs.Object.{HasPointer, IsOperationObject}
@@ -30,18 +31,18 @@ same_object d (Test path v) (Test other w) s h = (h.0, subst (HasPointer d Path)
 same_object d o p s h = absurd s
 
 -- the same operation makes the same map
-same_effect : (n m : NodeMap) (o p : Operation) → IsSameOperation o p → Applies n o m → Applies n p m
-same_effect n m (Add path v) (Add other w) s h = both (λ (ts : List Text) (d : json.Data). Adds n ts (nodes d) m) path other (view v) (view w) s.0 s.1 h
-same_effect n m (Remove path) (Remove other) s h = subst (λ (ts : List Text). (v : NodeMap) × Takes n ts v m) s h
-same_effect n m (Replace path v) (Replace other w) s h = both (λ (ts : List Text) (d : json.Data). PutsAt n ts (nodes d) m) path other (view v) (view w) s.0 s.1 h
-same_effect n m (Move from path) (Move source other) s h = both (λ (ts us : List Text). Moves n ts us m) from source path other s.0 s.1 h
-same_effect n m (Copy from path) (Copy source other) s h = both (λ (ts us : List Text). Copies n ts us m) from source path other s.0 s.1 h
-same_effect n m (Test path v) (Test other w) s h = (both (λ (ts : List Text) (d : json.Data). Passes n ts (nodes d)) path other (view v) (view w) s.0 s.1 h.0, h.1)
-same_effect n m o p s h = absurd s
+same_effect : (c : Comparison) (n m : NodeMap) (o p : Operation) → IsSameOperation o p → AppliesBy c n o m → AppliesBy c n p m
+same_effect c n m (Add path v) (Add other w) s h = both (λ (ts : List Text) (d : json.Data). Adds n ts (nodes d) m) path other (view v) (view w) s.0 s.1 h
+same_effect c n m (Remove path) (Remove other) s h = subst (λ (ts : List Text). (v : NodeMap) × Takes n ts v m) s h
+same_effect c n m (Replace path v) (Replace other w) s h = both (λ (ts : List Text) (d : json.Data). PutsAt n ts (nodes d) m) path other (view v) (view w) s.0 s.1 h
+same_effect c n m (Move from path) (Move source other) s h = both (λ (ts us : List Text). Moves n ts us m) from source path other s.0 s.1 h
+same_effect c n m (Copy from path) (Copy source other) s h = both (λ (ts us : List Text). Copies n ts us m) from source path other s.0 s.1 h
+same_effect c n m (Test path v) (Test other w) s h = (both (λ (ts : List Text) (d : json.Data). PassesBy c n ts (nodes d)) path other (view v) (view w) s.0 s.1 h.0, h.1)
+same_effect c n m o p s h = absurd s
 
 -- so do the same operations
-pub same_effects : (n m : NodeMap) (os ps : List Operation) → AreSameOperations os ps → Patches n os m → Patches n ps m
-same_effects n m [] [] s h = h
-same_effects n m [] (p ∷ ps) s h = absurd s
-same_effects n m (o ∷ os) [] s h = absurd s
-same_effects n m (o ∷ os) (p ∷ ps) s h = (h.0, same_effect n h.0 o p s.0 h.1, same_effects h.0 m os ps s.1 h.2)
+pub same_effects : (c : Comparison) (n m : NodeMap) (os ps : List Operation) → AreSameOperations os ps → PatchesBy c n os m → PatchesBy c n ps m
+same_effects c n m [] [] s h = h
+same_effects c n m [] (p ∷ ps) s h = absurd s
+same_effects c n m (o ∷ os) [] s h = absurd s
+same_effects c n m (o ∷ os) (p ∷ ps) s h = (h.0, same_effect c n h.0 o p s.0 h.1, same_effects c h.0 m os ps s.1 h.2)

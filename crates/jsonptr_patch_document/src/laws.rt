@@ -7,7 +7,8 @@ ghost use Rattle.jsonptr.specs.ParseError.{IsParseErrorOf};
 ghost use Rattle.jsonptr.specs.Text.{Text};
 ghost use Rattle.jsonptr.specs.Types.ParseError.{ParseError};
 ghost use Rattle.jsonptr_patch.specs.Order.{OperationHasSortedKeys};
-ghost use Rattle.jsonptr_patch.specs.Patching.{Patches};
+ghost use Rattle.jsonptr_patch.specs.Patching.{Patches, PatchesBy};
+ghost use Rattle.jsonptr_patch.specs.declared.comparison.Comparison.{Comparison};
 ghost use Rattle.jsonptr_patch.specs.declared.operation.Operation.{Operation};
 ghost use Rattle.jsonptr_patch_document.specs.Object.{IsOperationObject, IsNoOperationObject};
 ghost use Rattle.jsonptr_patch_document.specs.Document.{IsPatch, IsNoPatch};
@@ -38,7 +39,7 @@ pub fn operation_law()
 /// and that it never is a patch and also has such an error.
 ///
 /// The values of two lists of operations that a document is may be kept in different memory. Such
-/// lists make the same map of each document, and the keys of their values are sorted if those of the
+/// lists make the same map of each document, however their tests compare, and the keys of their values are sorted if those of the
 /// patch document are.
 pub fn patch_document_law()
     ensures one_patch { (d : Data) (os ps : List Operation)
@@ -49,6 +50,8 @@ pub fn patch_document_law()
         → IsPatch d os → IsNoPatch d e → ⊥ }
     ensures same_effect { (n m : NodeMap) (os ps : List Operation)
         → AreSameOperations os ps → Patches n os m → Patches n ps m }
+    ensures same_effect_comparing { (c : Comparison) (n m : NodeMap) (os ps : List Operation)
+        → AreSameOperations os ps → PatchesBy c n os m → PatchesBy c n ps m }
     ensures sorted { (d : Data) (os : List Operation)
         → HasSortedKeys d → IsPatch d os → All OperationHasSortedKeys os }
 {

@@ -1,3 +1,4 @@
+use Rattle.jsonptr_patch.specs.declared.comparison.Comparison.TheVariants.{Strict}
 use Rattle.jsonptr_patch_document.proofs.DocumentLemmas.{one_patch, one_patch_error, patch_or_not}
 use Rattle.jsonptr_patch_document.proofs.SameLemmas.{same_effects}
 use Rattle.jsonptr_patch_document.proofs.SortingLemmas.{patch_sorted}
@@ -13,7 +14,10 @@ pub returns-clause-not_both : goal.returns-clause-not_both
 returns-clause-not_both c = patch_or_not c.operation_law.ensures.not_both c.operation_law.ensures.one_error
 
 pub returns-clause-same_effect : goal.returns-clause-same_effect
-returns-clause-same_effect c = same_effects
+returns-clause-same_effect c = same_effects Strict
+
+pub returns-clause-same_effect_comparing : goal.returns-clause-same_effect_comparing
+returns-clause-same_effect_comparing c = same_effects
 
 pub returns-clause-sorted : goal.returns-clause-sorted
 returns-clause-sorted c = patch_sorted
