@@ -1,6 +1,6 @@
 -- The bytes of an edit, put back.
 use Rattle.std.proofs.Common.{◌≢◌, List, [], ◌∷◌, ◌++◌, Option, refl, sym, subst, arith}
-use Rattle.std.specs.Prelude.{◌↔◌, All}
+use Rattle.std.specs.Prelude.{◌↔◌}
 use Rattle.std.proofs.lemmas.List.Elements.{All-nil, All-cons, All-head, All-tail, All-append}
 use Rattle.serde_json.specs.Data.{Data}
 use Rattle.jsonptr_grammar.specs.Text.{Text}

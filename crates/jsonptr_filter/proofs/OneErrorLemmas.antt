@@ -12,7 +12,7 @@ use Rattle.jsonptr_lines.specs.Lines.{IsOneLine}
 use Rattle.jsonptr_tree.specs.Assigning.{Assigns}
 use Rattle.jsonptr_tree.specs.Following.{Finds}
 use Rattle.jsonptr_tree.specs.Json.{nodes, FindsValue, HasSortedKeys}
-use Rattle.jsonptr_tree.specs.Node.{NodeMap, Path, Names}
+use Rattle.jsonptr_tree.specs.Node.{NodeMap, Names}
 use Rattle.jsonptr_tree.proofs.JsonLemmas.{FindsValue-Finds}
 use Rattle.jsonptr.specs.Assign.{RefusesAssign}
 use Rattle.jsonptr.specs.Documents.{IsDocument}

@@ -6,7 +6,7 @@ use Rattle.jsonptr_grammar.specs.Text.{Text}
 use Rattle.jsonptr_tree.specs.Json.{nodes}
 use Rattle.jsonptr_tree.specs.Node.{NodeMap}
 use Rattle.jsonptr_patch.specs.Operating.{RefusesOperation, RefusesAdd, RefusesTarget, RefusesMove, RefusesCopy, RefusesTest}
-use Rattle.jsonptr_patch.specs.Patching.{Patches, RefusesPatch}
+use Rattle.jsonptr_patch.specs.Patching.{RefusesPatch}
 use Rattle.jsonptr_patch.specs.declared.operation.Operation.{Operation}
 use Rattle.jsonptr_patch.specs.declared.operation.Operation.TheVariants.{Add, Remove, Replace, Move, Copy, Test}
 use Rattle.jsonptr_patch.specs.declared.operation.PatchError.{PatchError}

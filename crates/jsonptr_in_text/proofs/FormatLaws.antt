@@ -6,7 +6,6 @@ use Rattle.serde_json.specs.Read.{read}
 use Rattle.jsonptr_grammar.specs.Text.{Text}
 use Rattle.jsonptr_tree.specs.Json.{nodes, FindsValue}
 use Rattle.jsonptr_tree.proofs.JsonLemmas.{FindsValue-Finds, FindsValue_one}
-use Rattle.jsonptr.specs.Resolve.{Refuses}
 use Rattle.jsonptr.specs.declared.resolve.Error.{Error}
 use Rattle.jsonptr.proofs.Calling.{Refuses-NamesNothing}
 use Rattle.jsonptr_in_text.specs.Format.{IsFormatted, laid_out}
