@@ -419,6 +419,49 @@ def check_round_trips():
     return 400
 
 
+def random_text(random, depth):
+    """Returns a random JSON text with numbers of every form, repeated members and white space."""
+    gap = random.choice(["", " ", "\n\t"])
+    kind = random.randrange(4 if depth else 2)
+    if kind == 0:
+        whole = random.choice(["0", "-0", "7", str(random.randrange(10**30)), f"-{random.randrange(10**25)}"])
+        digits = random.choice(["", ".0", ".10", f".{random.randrange(10**20):020}"])
+        return whole + digits + random.choice(["", "", "e5", "E-3", "e+10"])
+    if kind == 1:
+        return random.choice(["null", "true", '"x y"', '"é"', '""', '"[1, 2]"'])
+    children = [random_text(random, depth - 1) for _ in range(random.randrange(4))]
+    if kind == 2:
+        return "[" + gap + f"{gap},{gap}".join(children) + gap + "]"
+    members = [f'"{random.choice("zyxab")}"{gap}:{gap}{child}' for child in children]
+    return "{" + gap + f"{gap},{gap}".join(members) + gap + "}"
+
+
+def check_raw_values():
+    """Checks that a random text that is assigned, found and laid out stays as it is, except for white space between tokens."""
+    seeds = range(300)
+    for seed in seeds:
+        given = random_text(Random(seed), 4)
+        flat = compact(given)
+        for words, text, wanted in [
+            (("set", "/k", "--", given), '{"a": 1.0}', f'{{"a": 1.0, "k": {flat}}}'),
+            (("set", "/k/0/k", "--", given), "{}", f'{{"k":[{{"k":{flat}}}]}}'),
+            (("get", "/k/1"), f'{{"k":[0,{given}, 1]}}', f"{given}\n"),
+            (("format", "--compact"), given, f"{flat}\n"),
+        ]:
+            result = run(words, text)
+            if result.returncode or result.stdout.decode() != wanted:
+                raise CheckFailed(f"{words} on {text!r}: status {result.returncode}, {result.stdout!r}, and not {wanted!r}")
+        lines = run(("format", "--indent", "tab"), given).stdout.decode()
+        if compact(lines) != flat:
+            raise CheckFailed(f"format of {given!r}: {lines!r}")
+    return 5 * len(seeds)
+
+
+def compact(text):
+    """Returns the JSON text without the white space between its tokens."""
+    return "".join(re.findall(r'"[^"]*"|[^\s"]+', text))
+
+
 def check_in_place(folder):
     """Checks `--in-place`, also where the program is killed before it renames, and returns the number of runs."""
     shim = f"{folder}/killed_rename.so"
@@ -679,7 +722,7 @@ def main():
             os.mkdir(f"{folder}/{name}")
         runs += check_files(f"{folder}/files") + check_in_place(f"{folder}/in_place") + check_lines()
         runs += check_inverse(f"{folder}/inverse", shim)
-        runs += check_round_trips()
+        runs += check_round_trips() + check_raw_values()
         all_cases = list(cases())
         for case, given in zip(all_cases, pool.map(lambda case: run(case.words, case.input), all_cases)):
             check_result(case, given)

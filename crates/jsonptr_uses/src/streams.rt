@@ -1,11 +1,11 @@
 //! A program over a reader and a writer.
-ghost use Rattle.std.specs.Prelude.{IfOk, IfErr};
+ghost use Rattle.std.specs.Prelude.{IfOk, IfErr, string_bytes};
 ghost use Rattle.std.specs.Io.KnownBytes.{Appends};
 ghost use Rattle.jsonptr.specs.Json.{nodes};
 ghost use Rattle.jsonptr.specs.Pointer.{tokens};
 ghost use Rattle.jsonptr.specs.Text.{Text};
 ghost use Rattle.jsonptr_edit_in_text.specs.Bytes.{AssignsBytes};
-ghost use Rattle.jsonptr_edit_in_text.specs.Carrying.{value_of};
+ghost use Rattle.jsonptr_edit_in_text.specs.Carrying.{value_of, Carries};
 ghost use Rattle.jsonptr_edit_in_text.specs.EditInText.{AssignsInText};
 ghost use Rattle.jsonptr_lines.specs.Streams.{ForInput};
 ghost use Rattle.jsonptr_filter.specs.Documents.{StopsDocument};
@@ -37,6 +37,7 @@ pub fn set_in_stream<R: io::Read, W: io::Write>(
     ensures set { IfOk result (λ _. ForInput (R.remaining input.old) (λ bytes. (out : Text)
         × AssignsInText bytes (tokens pointer.entry) (nodes (value_of value)) out
         × AssignsBytes bytes (tokens pointer.entry) (value_of value) out
+        × Carries (string_bytes value.text.flat) out
         × Appends (W.contents output.old) (W.contents output.new) out)) }
     ensures failed { IfErr result (StopsDocument (Set pointer.entry value) Kept
         (R.remaining input.old) (W.contents output.old) (W.contents output.new)) }
