@@ -25,6 +25,7 @@ use Rattle.jsonptr_value.proofs.LevelLemmas.{NestsWithin-depth}
 use Rattle.jsonptr_value.proofs.NestingLemmas.{NestsWithin-more}
 use Rattle.jsonptr_patch.specs.Order.{OperationHasSortedKeys}
 use Rattle.jsonptr_patch.specs.Patching.{Patches, RefusesPatch}
+use Rattle.jsonptr_patch.specs.declared.comparison.Comparison.TheVariants.{Strict}
 use Rattle.jsonptr_patch.specs.declared.operation.Operation.{Operation}
 use Rattle.jsonptr_patch.specs.declared.operation.PatchError.{PatchError}
 use Rattle.jsonptr_patch_document.specs.Document.{IsPatch, IsNoPatch}
@@ -32,6 +33,7 @@ use Rattle.jsonptr_patch_document.specs.Same.{AreSameOperations}
 use Rattle.jsonptr_patch_document.proofs.SameLemmas.{same_effects}
 use Rattle.jsonptr_patch_document.specs.declared.error.PatchDocumentError.{PatchDocumentError}
 use Rattle.jsonptr_in_text.specs.InText.{FindsInText, RefusesInText}
+use Rattle.jsonptr_edit_in_text.specs.Carrying.{value_of}
 use Rattle.jsonptr_edit_in_text.specs.EditInText.{AssignsInText, DeletesInText, IsAssignError, LacksInText}
 use Rattle.jsonptr_edit_in_text.specs.PatchInText.{PatchesInText, IsPatchFault}
 use Rattle.jsonptr_edit_in_text.specs.declared.edited.EditError.TheVariants as edit
@@ -250,7 +252,7 @@ module _
 
   again_patched : (os ps : List Operation) (d c : Data) (m : NodeMap) → IsPatch patch os → IsPatch patch ps → read text ≡ Some d → read text ≡ Some c → Patches (nodes d) os m → Patches (nodes c) ps m
   again_patched os ps d c m is also reads again h =
-      same_effects (nodes c) m os ps (one_patch patch os ps is also) (subst (λ (x : Data). Patches (nodes x) os m) (one_read text d c reads again) h)
+      same_effects Strict (nodes c) m os ps (one_patch patch os ps is also) (subst (λ (x : Data). Patches (nodes x) os m) (one_read text d c reads again) h)
 
   stuck_deep : (e : PatchError) → Stuck e → IsDeepPatch → ⊥
   stuck_deep e h k =
@@ -341,13 +343,13 @@ module _
     (stuck_one : (n : NodeMap) (os : List Operation) (e f : PatchError) → IsDocument n → RefusesPatch n os e → RefusesPatch n os f → e ≡ f) where
   pub one_error : (task : Task) (layout : Layout) (text : Text) (e f : Failure) → TaskHasSortedKeys task → (StopsRun e → ⊥) → (StopsRun f → ⊥) → Fails task layout text e → Fails task layout text f → e ≡ f
   one_error (Get p fallback) layout text e f sorted = get_one found_both found_one text (tokens p) fallback e f
-  one_error (Set p v) layout text e f sorted = set_one made_both made_one place_one text (tokens p) (view v) layout sorted e f
+  one_error (Set p v) layout text e f sorted = set_one made_both made_one place_one text (tokens p) (value_of v) layout sorted e f
   one_error (Delete p) layout text e f sorted = delete_one text (tokens p) layout e f
   one_error (Patch d) layout text e f sorted = patch_one one_patch one_no no_both keys patched_both patched_one stuck_one text (view d) layout sorted e f
 
   pub no_error : (task : Task) (layout : Layout) (text out : Text) (e : Failure) → TaskHasSortedKeys task → Yields task layout text out → Fails task layout text e → StopsRun e ⊎ IsOfPlace task layout e
   no_error (Get p fallback) layout text out e sorted h = get_not_both found_both found_one text (tokens p) fallback layout out e h
-  no_error (Set p v) layout text out e sorted h = set_done made_both made_one place_one text (tokens p) (view v) layout sorted h.0 e h.1
+  no_error (Set p v) layout text out e sorted h = set_done made_both made_one place_one text (tokens p) (value_of v) layout sorted h.0 e h.1
   no_error (Delete p) layout text out e sorted h = delete_done text (tokens p) layout h.0 e h.1
   no_error (Patch d) layout text out e sorted h = patch_done one_patch one_no no_both keys patched_both patched_one stuck_one text (view d) layout sorted h.0 h.1 e h.2 h.3
 

@@ -7,6 +7,7 @@ use Rattle.jsonptr_tree.specs.Json.{nodes}
 use Rattle.jsonptr_tree.specs.Node.{NodeMap}
 use Rattle.jsonptr_patch.specs.Operating.{RefusesOperation, RefusesAdd, RefusesTarget, RefusesMove, RefusesCopy, RefusesTest}
 use Rattle.jsonptr_patch.specs.Patching.{RefusesPatch}
+use Rattle.jsonptr_patch.specs.declared.comparison.Comparison.TheVariants.{Strict}
 use Rattle.jsonptr_patch.specs.declared.operation.Operation.{Operation}
 use Rattle.jsonptr_patch.specs.declared.operation.Operation.TheVariants.{Add, Remove, Replace, Move, Copy, Test}
 use Rattle.jsonptr_patch.specs.declared.operation.PatchError.{PatchError}
@@ -50,6 +51,6 @@ patch_refused_same n os ps e s h =
       rest = r.2;
       left = h.left;
       split = r.3;
-      applied = same_effects n h.left h.done r.0 r.4 h.applied;
+      applied = same_effects Strict n h.left h.done r.0 r.4 h.applied;
       refused = refused_same h.left (length r.0) h.fails r.1 e r.5 (subst (λ (k : ℕ). RefusesOperation h.left k h.fails e) r.6 h.refused);
     }

@@ -2,6 +2,7 @@
 use Rattle.std.specs.Prelude.{◌≡◌, ⊤}
 use Rattle.serde_json.specs.View.{view}
 use Rattle.jsonptr_tree.specs.Json.{HasSortedKeys}
+use Rattle.jsonptr_edit_in_text.specs.Carrying.{value_of}
 use Rattle.jsonptr_filter.specs.declared.failure.Failure.{Failure}
 use Rattle.jsonptr_filter.specs.declared.failure.Failure.TheVariants.{NotInPlace, NotLocated}
 use Rattle.jsonptr_filter.specs.declared.layout.Layout.{Layout}
@@ -13,7 +14,7 @@ use Rattle.jsonptr_filter.specs.declared.task.Task.TheVariants.{Get, Set, Delete
 -- ascending order, as those of each value that is read
 abbrev pub TaskHasSortedKeys : Task → Type 0
 TaskHasSortedKeys (Get p fallback) = ⊤
-TaskHasSortedKeys (Set p v) = HasSortedKeys (view v)
+TaskHasSortedKeys (Set p v) = HasSortedKeys (value_of v)
 TaskHasSortedKeys (Delete p) = ⊤
 TaskHasSortedKeys (Patch d) = HasSortedKeys (view d)
 

@@ -3,11 +3,11 @@ use Rattle.std.proofs.Common.{◌≡◌, inl, inr, ℕ, ◌+◌, List, [], ◌�
 use Rattle.std.specs.Io.KnownBytes.{Appends}
 use Rattle.serde_json.specs.Data.{Data}
 use Rattle.serde_json.specs.Read.{read}
-use Rattle.serde_json.specs.View.{view}
-use Rattle.serde_json.specs.declared.value.Value.{Value}
 use Rattle.jsonptr.specs.Pointer.{tokens}
 use Rattle.jsonptr.specs.Text.{Text}
 use Rattle.jsonptr.specs.declared.pointer.Pointer.{Pointer}
+use Rattle.jsonptr_edit_in_text.specs.Carrying.{value_of}
+use Rattle.jsonptr_edit_in_text.specs.declared.raw_value.RawValue.{RawValue}
 use Rattle.jsonptr_lines.specs.Lines.{AreLines}
 use Rattle.jsonptr_lines.specs.Streams.{ForInput}
 use Rattle.jsonptr_paths.specs.declared.listing.Listed.TheVariants.{AllNodes}
@@ -43,8 +43,8 @@ nil_right (a ∷ x) y e = cc
 pub report_some : (name : Text) (n : ℕ) (r : Text) → IsReport name n r → r ≡ [] → ⊥
 report_some name n r h e = not_nil name 58 (decimal n ++ (codes ": " ++ (h.0 ++ 10 ∷ []))) (sym h.1 ∙ e)
 
-module _ (run : LineTask) (p : Pointer) (v : Value) (task : run.task ≡ Set p v) (layout : run.layout ≡ Kept) where
-  set_line : (n : ℕ) (l out err : Text) → LineGives run n l out err → err ≡ [] → (new : Text) × Sets l (tokens p) (view v) Kept new × (out ≡ new ++ 10 ∷ [])
+module _ (run : LineTask) (p : Pointer) (v : RawValue) (task : run.task ≡ Set p v) (layout : run.layout ≡ Kept) where
+  set_line : (n : ℕ) (l out err : Text) → LineGives run n l out err → err ≡ [] → (new : Text) × Sets l (tokens p) v Kept new × (out ≡ new ++ 10 ∷ [])
   set_line n l out err h none = elim h [
     | inl x ↦
         let one : Yields (Set p v) run.layout l x.0 = subst (λ (t : Task). Yields t run.layout l x.0) task x.1.1 in
@@ -53,7 +53,7 @@ module _ (run : LineTask) (p : Pointer) (v : Value) (task : run.task ≡ Set p v
     | inr x ↦ absurd (report_some (string_bytes run.name) n err x.3 none)
   ]
 
-  pub tags_each : (ls : List Text) (n : ℕ) (out err : Text) → LinesGive run n ls out err → err ≡ [] → TagsEach (tokens p) (view v) ls out
+  pub tags_each : (ls : List Text) (n : ℕ) (out err : Text) → LinesGive run n ls out err → err ≡ [] → TagsEach (tokens p) (value_of v) ls out
   tags_each [] n out err h none = h.0
   tags_each (l ∷ ls) n out err h none =
       let parts : h.1 ++ h.3 ≡ [] = sym h.7 ∙ none in
@@ -79,8 +79,8 @@ for_map : (known : Known) (P Q : List ℕ → Type 0) → ((bytes : List ℕ) �
 for_map None P Q f h = (h.0, f h.0 h.1)
 for_map (Some bytes) P Q f h = f bytes h
 
-pub all_tagged : (run : LineTask) (p : Pointer) (v : Value) (known w0 w1 e0 e1 : Known) (ended : Ended) → run.task ≡ Set p v → run.layout ≡ Kept → ended ≡ Fine → IsRun run known w0 w1 e0 e1 ended
-    → ForInput known (λ bytes. (ls : List Text) × (out : Text) × AreLines bytes ls × TagsEach (tokens p) (view v) ls out × Appends w0 w1 out)
+pub all_tagged : (run : LineTask) (p : Pointer) (v : RawValue) (known w0 w1 e0 e1 : Known) (ended : Ended) → run.task ≡ Set p v → run.layout ≡ Kept → ended ≡ Fine → IsRun run known w0 w1 e0 e1 ended
+    → ForInput known (λ bytes. (ls : List Text) × (out : Text) × AreLines bytes ls × TagsEach (tokens p) (value_of v) ls out × Appends w0 w1 out)
 all_tagged run p v known w0 w1 e0 e1 ended task layout is h = for_map known _ _
     (λ bytes x. (x.0, x.1, x.3.0, tags_each run p v task layout x.0 1 x.1 x.2 x.4 x.3.1, x.5))
     (subst (IsRun run known w0 w1 e0 e1) is h)

@@ -3,9 +3,9 @@ ghost use Rattle.std.specs.Prelude.{◌≡◌, ◌≢◌, ◌∷◌, ◌++◌, [
 ghost use Rattle.std.specs.Io.KnownBytes.{Appends};
 ghost use Rattle.serde_json.specs.Data.{Data};
 ghost use Rattle.serde_json.specs.Read.{read};
-ghost use Rattle.serde_json.specs.View.{view};
 ghost use Rattle.jsonptr.specs.Pointer.{tokens};
 ghost use Rattle.jsonptr.specs.Text.{Text};
+ghost use Rattle.jsonptr_edit_in_text.specs.Carrying.{value_of};
 ghost use Rattle.jsonptr_lines.specs.Lines.{AreLines};
 ghost use Rattle.jsonptr_lines.specs.Streams.{ForInput};
 ghost use Rattle.jsonptr_paths.specs.Listing.{Lists};
@@ -18,6 +18,7 @@ ghost use Rattle.jsonptr_filter.specs.declared.layout.Layout.TheVariants.{Compac
 ghost use Rattle.jsonptr_uses.specs.JsonLines.{TagsEach};
 
 use jsonptr::Pointer;
+use jsonptr_edit_in_text::RawValue;
 use jsonptr_filter::failure::Failure;
 use jsonptr_filter::laws::paths_law;
 use jsonptr_filter::layout::Layout;
@@ -28,7 +29,6 @@ use jsonptr_filter::task::Task;
 use jsonptr_paths::listing::Listed;
 use jsonptr_paths::text_listing::list_text;
 use jsonptr_skim::outcome::ReadError;
-use serde_json::Value;
 use std::alloc::Global;
 use std::io;
 
@@ -41,14 +41,14 @@ use std::io;
 pub fn tag_each_line<R: io::BufRead, W: io::Write, E: io::Write>(
     alloc: Global,
     pointer: Pointer<'_>,
-    value: Value,
+    value: RawValue,
     input: &mut R,
     output: &mut W,
     errors: &mut E,
 ) -> Result<bool, Failure>
     ensures tagged { IfOk result (λ all. IsTrue all → ForInput (R.remaining input.old)
         (λ bytes. (ls : List Text) × (out : Text) × AreLines bytes ls
-        × TagsEach (tokens pointer.entry) (view value) ls out
+        × TagsEach (tokens pointer.entry) (value_of value) ls out
         × Appends (W.contents output.old) (W.contents output.new) out)) }
     ensures reported { IfOk result (λ all. IsFalse all → (report : Text) × (report ≢ [])
         × Appends (E.contents errors.old) (E.contents errors.new) report) }

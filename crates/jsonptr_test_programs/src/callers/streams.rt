@@ -3,11 +3,11 @@ use jsonptr::Pointer;
 use jsonptr_calls::documents::{free, parse};
 use jsonptr_calls::failure::Failure;
 use jsonptr_calls::record::ErrorRecord;
+use jsonptr_edit_in_text::RawValue;
 use jsonptr_handle::document::Document;
 use jsonptr_uses::handle_values::{changes_between, field_in, is_string, string_in};
 use jsonptr_uses::json_lines::{copy_through_lines, has_leaves, tag_each_line};
 use jsonptr_uses::program::{document_after, printed_line, printed_value};
-use serde_json::Value;
 use std::alloc::Global;
 use std::test::Fail;
 
@@ -22,7 +22,7 @@ fn each_line_is_tagged(rt: HostRuntime) -> Result<(), Fail> {
         let mut input = lines.as_bytes();
         let mut output = Vec::new(alloc);
         let mut errors = Vec::new(alloc);
-        let value = Value::from(1);
+        let value = RawValue::parse(alloc, "1")?;
         let all = tag_each_line(alloc, pointer, value, &mut input, &mut output, &mut errors)?;
         assert_eq!(rt; output.as_slice(), want.as_bytes());
         assert_eq!(rt; all, is_fine);
