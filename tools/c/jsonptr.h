@@ -169,7 +169,7 @@ typedef uint32_t jsonptr_status;
 #define JSONPTR_KIND_INDEX_ABOVE_LENGTH 8u  /* the index is greater than the length of the array */
 /* JSONPTR_PATCH_FAILED */
 #define JSONPTR_KIND_MOVE_INTO_SELF     9u  /* `from` is a proper prefix of `path` */
-#define JSONPTR_KIND_TEST_FLOAT        10u  /* a test of a number that is not an integer */
+#define JSONPTR_KIND_TEST_FLOAT        10u  /* no longer given: a test compares such numbers */
 #define JSONPTR_KIND_TEST_FAILED       11u  /* the values of a test differ */
 /* JSONPTR_NOT_PATCH */
 #define JSONPTR_KIND_NOT_AN_ARRAY      12u  /* the patch is not an array */
@@ -481,10 +481,11 @@ jsonptr_status jsonptr_document_delete(jsonptr_document *document,
 /* Applies a patch document, all of it or nothing. The text is an array, such as
  * [{"op": "add", "path": "/sizes/-", "value": 8}].
  *
- * Unlike RFC 6902, a "test" fails with JSONPTR_KIND_TEST_FLOAT if either of its
- * values is or contains a number that is not an integer from -2^63 to 2^64-1.
- * 1.0 and -0 are such numbers. Where the RFC says nothing: "remove" of the path
- * "" leaves null.
+ * A "test" compares numbers by their values (RFC 6902, section 4.6): 1 equals
+ * 1.0, and 0 equals -0.0. Nothing is rounded: 2^53 + 1 and 9007199254740992.0
+ * differ. A number that is not an integer from -2^63 to 2^64-1 is the double that
+ * is nearest to its text. Where the RFC says nothing: "remove" of the path ""
+ * leaves null.
  *
  * JSONPTR_TOO_DEEP comes before any operation is applied. Let `down` be the sum,
  * over each "move" and "copy", of the tokens that its path has more than its from.

@@ -321,7 +321,7 @@ class Document:
     def apply(self, patch: Any) -> None:
         """Applies a patch, all of it or nothing: a `Patch`, JSON text, or a list of operations.
 
-        Unlike RFC 6902, a `test` fails if one of its values contains a float. `remove` of "" leaves None.
+        A `test` compares numbers by their values: 1 equals 1.0, and nothing is rounded. `remove` of "" leaves None.
         """
         self._call(_patch, *_text(patch.text if isinstance(patch, Patch) else Patch(patch).text))
 

@@ -160,7 +160,8 @@ APPLIED = [
     fails('{"a":1}', '[{"op":"move","from":"/a","path":"/a/b"}]',
           "patch failed at operation 0: from is a proper prefix of path\nMoveIntoSelf { operation: 0 }"),
     fails('{"a":1}', '[{"op":"test","path":"/a","value":1.5}]',
-          "patch failed at operation 0: a float cannot be tested\nTestFloat { operation: 0 }"),
+          "patch failed at operation 0: test failed\nTestFailed { operation: 0 }"),
+    applies('{"a":1}', '[{"op":"test","path":"/a","value":1.0},{"op":"add","path":"/b","value":2}]', '{"a":1,"b":2}'),
     fails(
         '{"a":[{"b":1}]}',
         '[{"op":"add","path":"/a/0/c","value":2},{"op":"remove","path":"/a/0/c"},{"op":"replace","path":"/a/0/c","value":3}]',

@@ -20,11 +20,12 @@ use Rattle.jsonptr_value.proofs.LevelLemmas.{NestsWithin-depth, depth-within}
 use Rattle.jsonptr_value.proofs.NestingLemmas.{NestsWithin-more, NestsWithin-sub, NestsWithin-put, Names-within, Finds-within, Deletes-within}
 use Rattle.jsonptr_patch.specs.Adding.{Adds, AddsUnder}
 use Rattle.jsonptr_patch.specs.Inserting.{one_more, place_of_old, below_element, with_place}
-use Rattle.jsonptr_patch.specs.Operating.{Applies, Takes}
+use Rattle.jsonptr_patch.specs.Operating.{AppliesBy, Takes}
 use Rattle.jsonptr_patch.specs.Order.{OperationHasSortedKeys}
-use Rattle.jsonptr_patch.specs.Patching.{Patches}
+use Rattle.jsonptr_patch.specs.Patching.{PatchesBy}
 use Rattle.jsonptr_patch.specs.declared.operation.Operation.{Operation}
 use Rattle.jsonptr_patch.specs.declared.operation.Operation.TheVariants.{Add, Remove, Replace, Move, Copy, Test}
+use Rattle.jsonptr_patch.specs.declared.comparison.Comparison.TheVariants.{Numeric}
 use Rattle.jsonptr_patch_document.specs.Object.{name_of, IsOperationObject}
 use Rattle.jsonptr_patch_document.specs.Document.{AreOperations, IsPatch}
 use Rattle.jsonptr_patch_document.specs.declared.member.Member.TheVariants.{Value}
@@ -87,7 +88,7 @@ lower-within k n left from path v m found added h rest =
 Takes-within : (k : ℕ) (n : NodeMap) (tokens : List Text) (v m : NodeMap) → Takes n tokens v m → NestsWithin k n → NestsWithin k m
 Takes-within k n tokens v m taken h = Deletes-within k n tokens (nodes null) m taken.found.path taken.left taken.found.named h (null-within k)
 
-Applies-within : (k : ℕ) (n : NodeMap) (o : Operation) (m : NodeMap) → Applies n o m → NestsWithin k n → AddsParsed o → level_of o + max_depth ≤ k → NestsWithin (k + descent_of o) m
+Applies-within : (k : ℕ) (n : NodeMap) (o : Operation) (m : NodeMap) → AppliesBy Numeric n o m → NestsWithin k n → AddsParsed o → level_of o + max_depth ≤ k → NestsWithin (k + descent_of o) m
 Applies-within k n (Add path value) m applied h parsed le =
     let value_depth : depth (view value) ≤ max_depth = parsed.1 in
     NestsWithin-more k (k + 0) m (omega arith)
@@ -111,7 +112,7 @@ levels_more k j os le h = λ i o low.
     let one : level_of (slice_index_or os i o) + max_depth ≤ k = h i o low in
     omega (arith, le, one)
 
-Patches-within : (k : ℕ) (n : NodeMap) (os : List Operation) (m : NodeMap) → Patches n os m → NestsWithin k n → All AddsParsed os → All (λ o. level_of o + max_depth ≤ k) os → NestsWithin (k + descent os) m
+Patches-within : (k : ℕ) (n : NodeMap) (os : List Operation) (m : NodeMap) → PatchesBy Numeric n os m → NestsWithin k n → All AddsParsed os → All (λ o. level_of o + max_depth ≤ k) os → NestsWithin (k + descent os) m
 Patches-within k n [] m patched h parsed le =
     NestsWithin-more k (k + descent []) m (omega arith) (subst (NestsWithin k) (sym patched) h)
 Patches-within k n (o ∷ os) m patched h parsed le =
@@ -134,7 +135,7 @@ left_levels d zero most held = omega (arith, most)
 left_levels d (suc down) most held = let low : depth d + suc down ≤ max_depth + max_levels = held (omega arith) in omega (arith, low)
 
 -- a document that may be patched nests at most 10,127 levels deep afterwards
-pub bounded-patch : (d n : Data) (os : List Operation) → Patches (nodes d) os (nodes n) → StaysShallow d os → All AddsParsed os → IsBounded d → HasSortedKeys n → IsBounded n
+pub bounded-patch : (d n : Data) (os : List Operation) → PatchesBy Numeric (nodes d) os (nodes n) → StaysShallow d os → All AddsParsed os → IsBounded d → HasSortedKeys n → IsBounded n
 bounded-patch d n os patched shallow parsed bounded sorted =
     let left = max_depth + max_levels - descent os in
     let before : NestsWithin left (nodes d) = NestsWithin-more (depth d) left (nodes d) (left_levels d (descent os) bounded.1 shallow.held) (NestsWithin-depth d) in

@@ -5,10 +5,11 @@ use Rattle.serde_json.specs.Read.{max_depth, read}
 use Rattle.serde_json.specs.View.{view}
 use Rattle.jsonptr.specs.Json.{nodes}
 use Rattle.jsonptr.specs.Node.{NodeMap}
-use Rattle.jsonptr_patch.specs.Patching.{Patches, RefusesPatch}
+use Rattle.jsonptr_patch.specs.Patching.{Patches, PatchesBy, RefusesPatchBy}
 use Rattle.jsonptr_patch.specs.declared.operation.Operation.{Operation}
 use Rattle.jsonptr_patch.specs.declared.operation.PatchError.{PatchError}
 use Rattle.jsonptr_patch.specs.declared.operation.PatchError.TheVariants as patch_error
+use Rattle.jsonptr_patch.specs.declared.comparison.Comparison.TheVariants.{Numeric}
 use Rattle.jsonptr_patch_document.specs.Document.{IsPatch, IsNoPatch}
 use Rattle.jsonptr_patch_document.specs.Writing.{document_of}
 use Rattle.jsonptr_patch_document.specs.declared.error.PatchDocumentError.{PatchDocumentError}
@@ -37,7 +38,7 @@ IsNotPatchText text e =
 -- `AppliesText text d n`: the operations of the patch document `text` turn the document `d` into `n`, and cannot nest it
 -- too deep
 abbrev pub AppliesText : List ℕ → Data → Data → Type 0
-AppliesText text d n = (os : List Operation) × IsPatchText text os × StaysShallow d os × Patches (nodes d) os (nodes n)
+AppliesText text d n = (os : List Operation) × IsPatchText text os × StaysShallow d os × PatchesBy Numeric (nodes d) os (nodes n)
 
 -- `Blames text n error m`: of the operation of the patch document `text` that fails on `n` with `error`, `m` is the member
 -- with the pointer at fault, if one is: `from` if that does not resolve in the map that the operations before it leave, and
@@ -55,7 +56,7 @@ Blames text n (patch_error.TestFailed k) m = m ≡ None
 -- which of its pointers
 abbrev pub FailsText : List ℕ → NodeMap → List Operation → Failure → Type 0
 FailsText text n os e =
-    (error : PatchError) × (m : Option Member) × RefusesPatch n os error × Blames text n error m
+    (error : PatchError) × (m : Option Member) × RefusesPatchBy Numeric n os error × Blames text n error m
     × (e ≡ PatchFailed error m)
 
 -- `IsNotAppliedList d text os e`: the operations `os` of the patch document `text` can nest the document `d` too deep, or one
@@ -104,14 +105,14 @@ LacksBack d n e = (back : List Operation) × Patches (nodes n) back (nodes d) ×
 abbrev pub IsNotPatched : Data → List ℕ → List Operation → Failure → Type 0
 IsNotPatched d text os e =
     IsNotAppliedList d text os e
-    ⊎ ((n : Data) × StaysShallow d os × Patches (nodes d) os (nodes n) × LacksBack d n e)
+    ⊎ ((n : Data) × StaysShallow d os × PatchesBy Numeric (nodes d) os (nodes n) × LacksBack d n e)
 
 -- `IsNotTakenBack layout d text os room e`: those operations are not applied, or the text of what takes them back does not
 -- come to `room` bytes, and `e` reports why
 abbrev pub IsNotTakenBack : Layout → Data → List ℕ → List Operation → ℕ → Failure → Type 0
 IsNotTakenBack layout d text os room e =
     IsNotPatched d text os e
-    ⊎ ((n : Data) × (out : List ℕ) × StaysShallow d os × Patches (nodes d) os (nodes n) × IsBackText layout n d out
+    ⊎ ((n : Data) × (out : List ℕ) × StaysShallow d os × PatchesBy Numeric (nodes d) os (nodes n) × IsBackText layout n d out
     × LacksRoom (length out) room e)
 
 -- `IsNotAppliedWithBack layout text d room e`: the same of the document in the handle `d`

@@ -5,9 +5,10 @@ use Rattle.jsonptr.specs.Node.{NodeMap}
 use Rattle.jsonptr.specs.Resolve.{Refuses}
 use Rattle.jsonptr.specs.Text.{Text}
 use Rattle.jsonptr.specs.declared.resolve.Error as resolve
-use Rattle.jsonptr_patch.specs.Patching.{Patches}
+use Rattle.jsonptr_patch.specs.Patching.{PatchesBy}
 use Rattle.jsonptr_patch.specs.declared.operation.Operation.{Operation}
 use Rattle.jsonptr_patch.specs.declared.operation.Operation.TheVariants.{Add, Remove, Replace, Move, Copy, Test}
+use Rattle.jsonptr_patch.specs.declared.comparison.Comparison.TheVariants.{Numeric}
 use Rattle.jsonptr_patch_document.specs.declared.member.Member.{Member}
 use Rattle.jsonptr_patch_document.specs.declared.member.Member.TheVariants.{Op, Path, From, Value}
 
@@ -36,4 +37,4 @@ SourceFault n from Value = ⊥
 -- `done` on `n`, where `source` is its pointer `from`, if it has one
 abbrev pub IsFaultOf : NodeMap → List Operation → Option (List Text) → Member → Type 0
 IsFaultOf n done None m = m ≡ Path
-IsFaultOf n done (Some from) m = (left : NodeMap) × Patches n done left × SourceFault left from m
+IsFaultOf n done (Some from) m = (left : NodeMap) × PatchesBy Numeric n done left × SourceFault left from m

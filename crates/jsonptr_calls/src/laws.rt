@@ -15,7 +15,7 @@ ghost use Rattle.jsonptr_calls.specs.declared.record.ErrorRecord.{ErrorRecord};
 ghost use Rattle.jsonptr_calls.specs.declared.values.Layout.{Layout};
 
 use jsonptr::laws::parse_law;
-use jsonptr_patch::laws::patch::patch_law;
+use jsonptr_patch::laws::patch::comparing_patch_law;
 
 /// States that the message of the record of an error is the text of the error, and that no message is
 /// longer than 200 bytes, also that of a record which is not of an error.
@@ -66,5 +66,5 @@ pub fn one_error_law()
         → SameStatus e f }
 {
     parse_law();
-    patch_law();
+    comparing_patch_law();
 }

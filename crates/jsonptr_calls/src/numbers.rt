@@ -50,7 +50,7 @@ pub const KIND_NOT_A_NEW_INDEX: u32 = 7;
 pub const KIND_INDEX_ABOVE_LENGTH: u32 = 8;
 /// `from` is a proper prefix of `path`.
 pub const KIND_MOVE_INTO_SELF: u32 = 9;
-/// A value of a test contains a float.
+/// A value of a strict test contains a float. The calls of this library make no such tests.
 pub const KIND_TEST_FLOAT: u32 = 10;
 /// The values of a test differ.
 pub const KIND_TEST_FAILED: u32 = 11;

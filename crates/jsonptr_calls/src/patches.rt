@@ -5,7 +5,8 @@ ghost use Rattle.serde_json.specs.Read.{max_depth};
 ghost use Rattle.serde_json.specs.View.{view};
 ghost use Rattle.jsonptr.specs.Json.{nodes, HasSortedKeys};
 ghost use Rattle.jsonptr_patch.specs.Order.{OperationHasSortedKeys};
-ghost use Rattle.jsonptr_patch.specs.Patching.{Patches};
+ghost use Rattle.jsonptr_patch.specs.Patching.{PatchesBy};
+ghost use Rattle.jsonptr_patch.specs.declared.comparison.Comparison.TheVariants.{Numeric};
 ghost use Rattle.jsonptr_calls.specs.Depths.{AddsParsed, StaysShallow};
 ghost use Rattle.jsonptr_patch_document.specs.Writing.{document_of};
 ghost use Rattle.jsonptr_calls.specs.Failures.{IsOutOfMemory, LacksRoom};
@@ -21,7 +22,7 @@ use crate::sources::failure_of;
 use crate::values::{Layout, json_text};
 use jsonptr::Fault;
 use jsonptr_diff::diff;
-use jsonptr_patch::{Operation, apply, apply_with_inverse};
+use jsonptr_patch::{Comparison, Operation, apply_comparing, apply_comparing_with_inverse};
 use jsonptr_patch_document::laws::{patch_document_law, writing_law};
 use jsonptr_patch_document::{read_patch, write_patch};
 use jsonptr_value::{MAX_DEPTH, copy, nests_within};
@@ -73,7 +74,7 @@ pub fn apply_all(
     requires utf8 { IsUtf8 text.now }
     requires read { IsPatchText text.now patch.items }
     ensures applied { IfOk result (λ _.
-        Patches (nodes (view document.old)) patch.items (nodes (view document.new))) }
+        PatchesBy Numeric (nodes (view document.old)) patch.items (nodes (view document.new))) }
     ensures shallow { OnOk result (StaysShallow (view document.old) patch.items) }
     ensures sorted { IfOk result (λ _. All OperationHasSortedKeys patch.items
         → HasSortedKeys (view document.old) → HasSortedKeys (view document.new)) }
@@ -84,7 +85,7 @@ pub fn apply_all(
     if !stays_shallow(document, &patch) {
         return Err(Failure::TooDeep);
     }
-    match apply(alloc, document, patch) {
+    match apply_comparing(alloc, document, patch, Comparison::Numeric) {
         Ok(()) => Ok(()),
         Err(fault) => Err(failure_of(alloc, document, text, fault)),
     }
@@ -121,7 +122,7 @@ pub fn patched_copy(
     requires utf8 { IsUtf8 text.now }
     requires read { IsPatchText text.now patch.items }
     ensures applied { IfOk result (λ made.
-        Patches (nodes (view document.old)) patch.items (nodes (view made.document))) }
+        PatchesBy Numeric (nodes (view document.old)) patch.items (nodes (view made.document))) }
     ensures shallow { OnOk result (StaysShallow (view document.old) patch.items) }
     ensures sorted { IfOk result (λ made. All OperationHasSortedKeys patch.items
         → HasSortedKeys (view document.old) → HasSortedKeys (view made.document)) }
@@ -134,7 +135,7 @@ pub fn patched_copy(
         return Err(Failure::TooDeep);
     }
     let mut changed = copy(alloc, document)?;
-    match apply_with_inverse(alloc, &mut changed, patch) {
+    match apply_comparing_with_inverse(alloc, &mut changed, patch, Comparison::Numeric) {
         Ok(back) => Ok(Patched {
             back: back_text(alloc, &back, layout)?,
             document: changed,

@@ -11,7 +11,8 @@ ghost use Rattle.jsonptr.specs.Json.{nodes};
 ghost use Rattle.jsonptr.specs.Node.{NodeMap};
 ghost use Rattle.jsonptr.specs.Text.{Text};
 ghost use Rattle.jsonptr.specs.Types.Fault.TheVariants.{Refused};
-ghost use Rattle.jsonptr_patch.specs.Patching.{Patches, RefusesPatch};
+ghost use Rattle.jsonptr_patch.specs.Patching.{PatchesBy, RefusesPatchBy};
+ghost use Rattle.jsonptr_patch.specs.declared.comparison.Comparison.TheVariants.{Numeric};
 ghost use Rattle.jsonptr_patch.specs.declared.operation.Operation.{Operation as SpecOperation};
 ghost use Rattle.jsonptr_patch.specs.declared.operation.Operation.TheVariants as variant;
 ghost use Rattle.jsonptr_patch.specs.declared.operation.PatchError.{PatchError as SpecError};
@@ -25,8 +26,8 @@ ghost use Rattle.jsonptr_calls.specs.declared.failure.Failure.TheVariants.{Patch
 use crate::failure::Failure;
 use crate::patches::read_text;
 use jsonptr::{Fault, PointerBuf, Token};
-use jsonptr_patch::laws::operation::operation_law;
-use jsonptr_patch::{Operation, PatchError, apply};
+use jsonptr_patch::laws::operation::comparing_operation_law;
+use jsonptr_patch::{Comparison, Operation, PatchError, apply_comparing};
 use jsonptr_patch_document::Member;
 use jsonptr_patch_document::laws::patch_document_law;
 use serde_json::Value;
@@ -43,7 +44,7 @@ pub(crate) fn failure_of(
 ) -> Failure
     requires utf8 { IsUtf8 text.now }
     requires read { (operations : List SpecOperation) × IsPatchText text.now operations
-        × ForRefused fault (RefusesPatch (nodes (view document.old)) operations) }
+        × ForRefused fault (RefusesPatchBy Numeric (nodes (view document.old)) operations) }
     ensures failed { IsOutOfMemory result
         ⊎ ((error : SpecError) × (member : Option SpecMember) × (fault ≡ Refused error)
         × Blames text.now (nodes (view document.old)) error member
@@ -72,7 +73,7 @@ fn at_fault(
 ) -> Result<Option<Member>, Failure>
     requires utf8 { IsUtf8 text.now }
     requires refused { (operations : List SpecOperation) × IsPatchText text.now operations
-        × RefusesPatch (nodes (view document.old)) operations error.now }
+        × RefusesPatchBy Numeric (nodes (view document.old)) operations error.now }
     ensures blamed { IfOk result (Blames text.now (nodes (view document.old)) error.now) }
     ensures memory { IfErr result IsOutOfMemory }
     ensures unchanged { view document.new ≡ view document.old }
@@ -102,7 +103,7 @@ fn pointer_at_fault(
     requires utf8 { IsUtf8 text.now }
     requires applied { (operations : List SpecOperation) × (left : NodeMap)
         × IsPatchText text.now operations
-        × Patches (nodes (view document.old)) (take number operations) left }
+        × PatchesBy Numeric (nodes (view document.old)) (take number operations) left }
     ensures fault { IfOk result (λ m. (operations : List SpecOperation)
         × IsPatchText text.now operations
         × IsFaultOf (nodes (view document.old)) (take number operations)
@@ -147,14 +148,19 @@ fn member_at_fault(
     operations: Vec<Operation>,
     from: PointerBuf,
 ) -> Result<Member, Failure>
-    requires { (left : NodeMap) × Patches (nodes (view document.old)) operations.items left }
+    requires { (left : NodeMap) × PatchesBy Numeric (nodes (view document.old)) operations.items left }
     ensures fault { IfOk result
         (IsFaultOf (nodes (view document.old)) operations.items (Option.Some from)) }
     ensures memory { IfErr result IsOutOfMemory }
     ensures unchanged { view document.new ≡ view document.old }
 {
-    operation_law();
-    match apply(alloc, document, telling(alloc, operations, from)?) {
+    comparing_operation_law();
+    match apply_comparing(
+        alloc,
+        document,
+        telling(alloc, operations, from)?,
+        Comparison::Numeric,
+    ) {
         Ok(()) => unreachable!(),
         Err(Fault::Refused(error)) => Ok(told_by(&error)),
         Err(Fault::Memory(error)) => Err(Failure::Memory(error)),

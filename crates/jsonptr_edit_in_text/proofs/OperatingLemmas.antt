@@ -23,13 +23,14 @@ use Rattle.jsonptr_in_text.specs.Selecting.{AreChoicesOf}
 use Rattle.jsonptr_in_text.proofs.SearchLemmas.{len_same, found}
 use Rattle.jsonptr_patch.specs.Adding.{MeansPlace, AddsUnder, AddsBelow, Adds}
 use Rattle.jsonptr_patch.specs.Inserting.{with_place}
-use Rattle.jsonptr_patch.specs.Operating.{IsProperFront, Takes, Passes, Applies}
-use Rattle.jsonptr_patch.specs.Patching.{Patches}
+use Rattle.jsonptr_patch.specs.Operating.{IsProperFront, Takes, PassesBy, AppliesBy}
+use Rattle.jsonptr_patch.specs.Patching.{PatchesBy}
 use Rattle.jsonptr_patch.specs.declared.operation.Operation.{Operation}
 use Rattle.jsonptr_patch.specs.declared.operation.Operation.TheVariants.{Test}
 use Rattle.jsonptr_patch.proofs.AddingLemmas.{taken}
 use Rattle.jsonptr_patch.proofs.InsertingLemmas.{cases_place, with_place-same, with_place-below, with_place-above, with_place-root}
-use Rattle.jsonptr_patch.proofs.OperatingLemmas.{patches_push}
+use Rattle.jsonptr_patch.proofs.OperatingLemmas.{patches_push_by}
+use Rattle.jsonptr_patch.specs.declared.comparison.Comparison.TheVariants.{Numeric}
 use Rattle.jsonptr_splice.specs.Editing.{InsertsItem, ChangesChild, ChangesAt, IsEdited}
 use Rattle.jsonptr_splice.specs.Leading.{LeadsInText}
 use Rattle.jsonptr_splice.specs.declared.edit.Edit.TheVariants.{Replace}
@@ -239,17 +240,10 @@ removes old new tokens h = (
 
 -- ---- a test
 
-pub passes_there : (d v : Data) (tokens : List Text) (w : NodeMap) → FindsValue d tokens v → Passes (nodes v) [] w → Passes (nodes d) tokens w
+pub passes_there : (d v : Data) (tokens : List Text) (w : NodeMap) → FindsValue d tokens v → PassesBy Numeric (nodes v) [] w → PassesBy Numeric (nodes d) tokens w
 passes_there d v tokens w found p =
-    let target : p.0 ≡ nodes v = p.1.found.below ∙ root (nodes v) p.1.found.path p.1.found.named in (
-      p.0,
-      record {
-        found = subst (λ (m : NodeMap). Finds (nodes d) tokens m) (sym target) (FindsValue-Finds d tokens v found);
-        target_plain = p.1.target_plain;
-        value_plain = p.1.value_plain;
-      },
-      p.2,
-    )
+    let target : p.0 ≡ nodes v = p.1.below ∙ root (nodes v) p.1.path p.1.named in
+    (p.0, subst (λ (m : NodeMap). Finds (nodes d) tokens m) (sym target) (FindsValue-Finds d tokens v found), p.2)
   where
     root : (n : NodeMap) (u : Path) → Names n [] u → sub n u ≡ n
     root n [] named = refl
@@ -269,9 +263,9 @@ bytes_push old mid new (p ∷ os) o h last = (h.0, h.1, bytes_push h.0 mid new o
 pub patches_more : (old mid new : Text) (os : List Operation) (o : Operation) → PatchesInText old os mid → OperatesInText mid o new → PatchesInText old (os ++ o ∷ []) new
 patches_more old mid new os o h last =
     let same : last.0 ≡ h.1 = one_reading mid last.0 h.1 last.2 h.3 in
-    (h.0, last.1, h.2, last.3, patches_push (nodes h.0) (nodes h.1) (nodes last.1) os o h.4 (subst (λ (y : Data). Applies (nodes y) o (nodes last.1)) same last.4))
+    (h.0, last.1, h.2, last.3, patches_push_by Numeric (nodes h.0) (nodes h.1) (nodes last.1) os o h.4 (subst (λ (y : Data). AppliesBy Numeric (nodes y) o (nodes last.1)) same last.4))
 
 pub patches_first : (old mid new : Text) (o : Operation) (os : List Operation) → OperatesInText old o mid → PatchesInText mid os new → PatchesInText old (o ∷ os) new
 patches_first old mid new o os first rest =
     let same : rest.0 ≡ first.1 = one_reading mid rest.0 first.1 rest.2 first.3 in
-    (first.0, rest.1, first.2, rest.3, (nodes first.1, first.4, subst (λ (y : Data). Patches (nodes y) os (nodes rest.1)) same rest.4))
+    (first.0, rest.1, first.2, rest.3, (nodes first.1, first.4, subst (λ (y : Data). PatchesBy Numeric (nodes y) os (nodes rest.1)) same rest.4))

@@ -8,19 +8,21 @@ use Rattle.jsonptr_tree.specs.Node.{NodeMap}
 use Rattle.jsonptr_tree.specs.Json.{nodes}
 use Rattle.jsonptr_in_text.specs.InText.{FindsInText}
 use Rattle.jsonptr_patch.specs.Order.{OperationHasSortedKeys}
-use Rattle.jsonptr_patch.specs.Patching.{Patches, RefusesPatch}
+use Rattle.jsonptr_patch.specs.Patching.{PatchesBy, RefusesPatchBy}
 use Rattle.jsonptr_patch.specs.declared.operation.Operation.{Operation}
 use Rattle.jsonptr_patch.specs.declared.operation.Operation.TheVariants.{Add, Remove, Replace, Move, Copy, Test}
 use Rattle.jsonptr_patch.specs.declared.operation.PatchError.{PatchError}
+use Rattle.jsonptr_patch.specs.declared.comparison.Comparison.TheVariants.{Numeric}
 use Rattle.jsonptr_edit_in_text.specs.Bytes.{ReplacesBytes, AddsBytes, DeletesBytes}
 use Rattle.jsonptr_edit_in_text.specs.EditInText.{IsTooDeep}
 use Rattle.jsonptr_edit_in_text.specs.declared.edited.EditError.{EditError}
 use Rattle.jsonptr_edit_in_text.specs.declared.edited.EditError.TheVariants.{NotJson, Refused, TooDeep, Memory}
 
--- `PatchesInText old os new`: the texts read as documents, and the operations `os` turn the first into the second
+-- `PatchesInText old os new`: the texts read as documents, and the operations `os` turn the first into the second. Tests
+-- compare numbers by their values
 abbrev pub PatchesInText : Text → List Operation → Text → Type 0
 PatchesInText old os new =
-    (d d2 : Data) × (read old ≡ Some d) × (read new ≡ Some d2) × Patches (nodes d) os (nodes d2)
+    (d d2 : Data) × (read old ≡ Some d) × (read new ≡ Some d2) × PatchesBy Numeric (nodes d) os (nodes d2)
 
 -- `AddsAtBytes old tokens e new`: the text of the value that `tokens` identify is replaced by a text of `e`, or one child with
 -- the value `e` is added, which the last token refers to
@@ -57,8 +59,8 @@ PatchBytes old (o ∷ os) new = (mid : Text) × OperationBytes old o mid × Patc
 -- that the new document is too deep, if the keys of their values are sorted
 abbrev pub IsPatchFault : Text → List Operation → EditError PatchError → Type 0
 IsPatchFault text os NotJson = read text ≡ None
-IsPatchFault text os (Refused e) = (d : Data) × (read text ≡ Some d) × RefusesPatch (nodes d) os e
+IsPatchFault text os (Refused e) = (d : Data) × (read text ≡ Some d) × RefusesPatchBy Numeric (nodes d) os e
 IsPatchFault text os TooDeep =
     (d : Data) × (m : NodeMap)
-    × (read text ≡ Some d) × Patches (nodes d) os m × (All OperationHasSortedKeys os → IsTooDeep m)
+    × (read text ≡ Some d) × PatchesBy Numeric (nodes d) os m × (All OperationHasSortedKeys os → IsTooDeep m)
 IsPatchFault text os (Memory e) = ⊤

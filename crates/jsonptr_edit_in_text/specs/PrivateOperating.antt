@@ -12,14 +12,15 @@ use Rattle.jsonptr_in_text.specs.Selecting.{IsChoiceOf, AreChoicesOf}
 use Rattle.jsonptr_splice.specs.Alike.{Holds}
 use Rattle.jsonptr_splice.specs.Editing.{AddsElement}
 use Rattle.jsonptr_patch.specs.Adding.{Adds}
-use Rattle.jsonptr_patch.specs.Operating.{Applies, Moves, Copies, Passes}
+use Rattle.jsonptr_patch.specs.Operating.{AppliesBy, Moves, Copies, PassesBy}
 use Rattle.jsonptr_patch.specs.declared.operation.Operation.{Operation}
+use Rattle.jsonptr_patch.specs.declared.comparison.Comparison.TheVariants.{Numeric}
 use Rattle.jsonptr_edit_in_text.specs.PatchInText.{AddsAtBytes}
 
 -- `OperatesInText old o new`: the texts read as documents, and the operation `o` turns the first into the second
 abbrev pub OperatesInText : Text → Operation → Text → Type 0
 OperatesInText old o new =
-    (d d2 : Data) × (read old ≡ Some d) × (read new ≡ Some d2) × Applies (nodes d) o (nodes d2)
+    (d d2 : Data) × (read old ≡ Some d) × (read new ≡ Some d2) × AppliesBy Numeric (nodes d) o (nodes d2)
 
 -- `PutsInText old tokens v new`: the same for a value that is replaced by `v`
 abbrev pub PutsInText : Text → List Text → NodeMap → Text → Type 0
@@ -52,7 +53,7 @@ CopiesInText old from path new =
 
 -- `PassesInText text tokens v`: the test that the value at `tokens` equals `v` passes
 abbrev pub PassesInText : Text → List Text → NodeMap → Type 0
-PassesInText text tokens v = (d : Data) × (read text ≡ Some d) × Passes (nodes d) tokens v
+PassesInText text tokens v = (d : Data) × (read text ≡ Some d) × PassesBy Numeric (nodes d) tokens v
 
 -- `ElementInserted x piece d d2`: `d2` is the array `d` with the value of the text `piece` as an element more, at the index `x`
 abbrev pub ElementInserted : Text → Text → Data → Data → Type 0

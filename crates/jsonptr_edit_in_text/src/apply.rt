@@ -16,13 +16,14 @@ use jsonptr_splice::buffers::Buffers;
 use std::alloc::{AllocError, Global};
 
 /// Applies the operations of a patch in order to the document that the text contains, all of them or
-/// none, as [`apply`](jsonptr_patch::apply) does (RFC 6902, section 5).
+/// none, as [`apply_comparing`](jsonptr_patch::apply_comparing) does with numerical tests (RFC 6902,
+/// section 5).
 ///
 /// Each operation changes one piece of the text that the one before left: `add` and `copy` as
 /// [`assign_in_text`](crate::assign_in_text) does, with an element before the one at its index,
 /// `remove` as [`delete_in_text`](crate::delete_in_text) does, and `replace` the bytes of one value.
 /// A `move` cuts its value out and then adds it. A value that is moved or copied keeps the form of
-/// its numbers and strings, and the order of its members. A `test` changes no byte.
+/// its numbers and strings, and the order of its members. A `test` changes no byte, and compares numbers by their values.
 ///
 /// Each new text is read side by side with the one before it. If that fails, the document is read,
 /// changed and printed, and the result is [`Edited::Rewritten`].
@@ -33,7 +34,7 @@ use std::alloc::{AllocError, Global};
 /// # Errors
 ///
 /// - [`EditError::NotJson`] if `serde_json` does not read the text.
-/// - [`EditError::Refused`] with the error of `apply`, if an operation fails.
+/// - [`EditError::Refused`] with the error of `apply_comparing`, if an operation fails.
 /// - [`EditError::TooDeep`] if the new document nests deeper than 127.
 /// - [`EditError::Memory`] if an allocation fails.
 ///

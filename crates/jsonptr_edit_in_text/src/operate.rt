@@ -17,7 +17,7 @@ use crate::value_text::value_text;
 use jsonptr::{Fault, Pointer, PointerBuf};
 use jsonptr_in_text::selectors::selectors_of;
 use jsonptr_in_text::{InTextError, resolve_in_text_with};
-use jsonptr_patch::{Operation, apply};
+use jsonptr_patch::{Comparison, Operation, apply_comparing};
 use jsonptr_splice::buffers::Buffers;
 use serde_json::Value;
 use std::alloc::{AllocError, Global};
@@ -173,8 +173,8 @@ fn copy_value(
     add_at(alloc, buffers, text, path, &value)
 }
 
-/// Returns whether the value at the pointer equals the other one. `false` also if there is no such
-/// value, or if one of the two has a float.
+/// Returns whether the value at the pointer equals the other one, with numbers compared by their
+/// values. `false` also if there is no such value.
 fn passes(
     alloc: Global,
     buffers: &mut Buffers,
@@ -194,7 +194,7 @@ fn passes(
     let path = PointerBuf::new(alloc);
     let value = jsonptr_value::copy(alloc, value)?;
     let test = vec![in alloc; Operation::Test { path, value }]?;
-    match apply(alloc, &mut found, test) {
+    match apply_comparing(alloc, &mut found, test, Comparison::Numeric) {
         Ok(()) => Ok(true),
         Err(Fault::Refused(_error)) => Ok(false),
         Err(Fault::Memory(error)) => Err(error),

@@ -10,7 +10,7 @@ ghost use Rattle.jsonptr_edit_in_text.specs.PatchInText.{PatchesInText, IsPatchF
 
 use crate::edited::EditError;
 use jsonptr::{Assign, Delete, Fault, Pointer, assign};
-use jsonptr_patch::{Operation, PatchError, apply};
+use jsonptr_patch::{Comparison, Operation, PatchError, apply_comparing};
 use jsonptr_value::{MAX_DEPTH, discard, nests_within};
 use serde_json::Value;
 use std::alloc::{AllocError, Global};
@@ -55,7 +55,7 @@ pub fn apply_and_print(
     ensures refused { IfErr result (IsPatchFault text.now operations.items) }
 {
     let mut document = read_document(alloc, text)?;
-    match apply(alloc, &mut document, operations) {
+    match apply_comparing(alloc, &mut document, operations, Comparison::Numeric) {
         Ok(()) => print_document(alloc, document),
         Err(Fault::Refused(error)) => Err(EditError::Refused(error)),
         Err(Fault::Memory(error)) => Err(EditError::Memory(error)),

@@ -10,7 +10,8 @@ use Rattle.jsonptr.specs.Documents.{IsDocument}
 use Rattle.jsonptr.proofs.Calling.{map_of-IsTree, map_of-finite}
 use Rattle.jsonptr_tree.specs.Node.{NodeMap}
 use Rattle.jsonptr_tree.specs.Json.{nodes, content}
-use Rattle.jsonptr_patch.specs.Patching.{Patches, RefusesPatch}
+use Rattle.jsonptr_patch.specs.Patching.{Patches, PatchesBy, RefusesPatchBy}
+use Rattle.jsonptr_patch.specs.declared.comparison.Comparison.TheVariants.{Numeric}
 use Rattle.jsonptr_patch.specs.declared.operation.Operation.{Operation}
 use Rattle.jsonptr_patch.specs.declared.operation.PatchError.{PatchError}
 use Rattle.jsonptr_patch_document.specs.Document.{IsPatch, IsNoPatch}
@@ -99,7 +100,7 @@ restyled Raw text out d reads h =
     unquoted text out d (as_str d) reads (subst (λ (v : Data). MatchOption (as_str v) (out ≡ text) (λ s. out ≡ s)) same h.2)
 
 -- without these four reasons, only a failed allocation is left, and that the edit is not made in place
-pub no_fault : (a : Text) (p : Data) (layout : Layout) (e : Failure) → ((f : PatchDocumentError) → IsNoPatch p f → ⊥) → (read a ≡ None → ⊥) → ((os : List Operation) (d : Data) (f : PatchError) → IsPatch p os → read a ≡ Some d → RefusesPatch (nodes d) os f → ⊥) → ((os : List Operation) → IsPatch p os → IsPatchFault a os edit.TooDeep → ⊥) → FailsToPatch a p layout e → ((f : AllocError) × (e ≡ Memory f)) ⊎ ((layout ≡ Kept) × (e ≡ NotInPlace))
+pub no_fault : (a : Text) (p : Data) (layout : Layout) (e : Failure) → ((f : PatchDocumentError) → IsNoPatch p f → ⊥) → (read a ≡ None → ⊥) → ((os : List Operation) (d : Data) (f : PatchError) → IsPatch p os → read a ≡ Some d → RefusesPatchBy Numeric (nodes d) os f → ⊥) → ((os : List Operation) → IsPatch p os → IsPatchFault a os edit.TooDeep → ⊥) → FailsToPatch a p layout e → ((f : AllocError) × (e ≡ Memory f)) ⊎ ((layout ≡ Kept) × (e ≡ NotInPlace))
 no_fault a p layout (BadPointer f) patch json refused deep h = absurd h
 no_fault a p layout (NotPatch f) patch json refused deep h = absurd (patch f h)
 no_fault a p layout (NoValue f) patch json refused deep h = absurd h
@@ -140,9 +141,9 @@ printed SortedPretty text out d reads other h = restyled SortedPretty text out d
 printed Raw text out d reads other h = absurd (other refl)
 
 -- the inverse of a patch turns the one document that the patch makes into the one before
-pub inverse_undoes : (a : Text) (d m patch : Data) (style : Layout) (u : Difference) → ((ps : List Operation) (l : NodeMap) → IsPatch patch ps → Patches (nodes d) ps l → l ≡ nodes m) → read a ≡ Some d → IsInverse a patch style u → IsDifference (nodes m) (nodes d) style u
+pub inverse_undoes : (a : Text) (d m patch : Data) (style : Layout) (u : Difference) → ((ps : List Operation) (l : NodeMap) → IsPatch patch ps → PatchesBy Numeric (nodes d) ps l → l ≡ nodes m) → read a ≡ Some d → IsInverse a patch style u → IsDifference (nodes m) (nodes d) style u
 inverse_undoes a d m patch style u one reads inverse =
     let same : inverse.0 ≡ d = one_read a inverse.0 d inverse.3 reads in
-    let again : Patches (nodes d) inverse.1 inverse.2 = subst (λ (q : Data). Patches (nodes q) inverse.1 inverse.2) same inverse.5 in
+    let again : PatchesBy Numeric (nodes d) inverse.1 inverse.2 = subst (λ (q : Data). PatchesBy Numeric (nodes q) inverse.1 inverse.2) same inverse.5 in
     let turned : IsDifference inverse.2 (nodes d) style u = subst (λ (q : Data). IsDifference inverse.2 (nodes q) style u) same inverse.6 in
     subst (λ (n : NodeMap). IsDifference n (nodes d) style u) (one inverse.1 inverse.2 inverse.4 again) turned

@@ -5,7 +5,8 @@ use Rattle.serde_json.specs.Read.{read}
 use Rattle.jsonptr_grammar.specs.Text.{Text}
 use Rattle.jsonptr_tree.specs.Json.{nodes}
 use Rattle.jsonptr_tree.specs.Node.{NodeMap}
-use Rattle.jsonptr_patch.specs.Patching.{Patches}
+use Rattle.jsonptr_patch.specs.Patching.{Patches, PatchesBy}
+use Rattle.jsonptr_patch.specs.declared.comparison.Comparison.TheVariants.{Numeric}
 use Rattle.jsonptr_patch.specs.declared.operation.Operation.{Operation}
 use Rattle.jsonptr_patch_document.specs.Document.{IsPatch}
 use Rattle.jsonptr_filter.specs.Inverting.{FailsToInvert}
@@ -77,7 +78,7 @@ not_applied text p d os Read is reads h = absurd h
 not_applied text p d os Write is reads h = absurd h
 
 -- what takes the patch back is not printed
-pub not_printed : (text : Text) (p d : Data) (os back : List Operation) (m : NodeMap) (e : Failure) → IsPatch p os → read text ≡ Some d → Patches (nodes d) os m → Patches m back (nodes d) → IsPatchTextFault back e → FailsToInvert text p e
+pub not_printed : (text : Text) (p d : Data) (os back : List Operation) (m : NodeMap) (e : Failure) → IsPatch p os → read text ≡ Some d → PatchesBy Numeric (nodes d) os m → Patches m back (nodes d) → IsPatchTextFault back e → FailsToInvert text p e
 not_printed text p d os back m (BadPointer f) is reads made undone h = absurd h
 not_printed text p d os back m (NotPatch f) is reads made undone h = absurd h
 not_printed text p d os back m (NoValue f) is reads made undone h = absurd h

@@ -6,7 +6,8 @@ use Rattle.serde_json.specs.Read.{read, max_depth}
 use Rattle.jsonptr_grammar.specs.Text.{Text}
 use Rattle.jsonptr_tree.specs.Node.{NodeMap}
 use Rattle.jsonptr_tree.specs.Json.{nodes}
-use Rattle.jsonptr_patch.specs.Patching.{RefusesPatch}
+use Rattle.jsonptr_patch.specs.Patching.{RefusesPatchBy}
+use Rattle.jsonptr_patch.specs.declared.comparison.Comparison.TheVariants.{Numeric}
 use Rattle.jsonptr_patch.specs.declared.operation.Operation.{Operation}
 use Rattle.jsonptr_patch_document.specs.Document.{IsNoPatch}
 use Rattle.jsonptr_patch_document.specs.Writing.{document_of}
@@ -38,7 +39,7 @@ IsNotPatch patch e = ⊥
 -- apply, but not in place
 abbrev pub FailsToApply : Text → List Operation → Layout → Failure → Type 0
 FailsToApply text os layout NotJson = read text ≡ None
-FailsToApply text os layout (BadPatch f) = (d : Data) × (read text ≡ Some d) × RefusesPatch (nodes d) os f
+FailsToApply text os layout (BadPatch f) = (d : Data) × (read text ≡ Some d) × RefusesPatchBy Numeric (nodes d) os f
 FailsToApply text os layout TooDeep = IsPatchFault text os edit.TooDeep
 FailsToApply text os layout NotInPlace = (layout ≡ Kept) × ((new : Text) × PatchesInText text os new)
 FailsToApply text os layout (Memory f) = ⊤
@@ -52,6 +53,6 @@ IsPatchTextFault os e = ⊥
 
 -- `IsApplyFault n os e`: `e` is why the operations `os` are not applied to `n`, if it is not for memory
 abbrev pub IsApplyFault : NodeMap → List Operation → Failure → Type 0
-IsApplyFault n os (BadPatch f) = RefusesPatch n os f
+IsApplyFault n os (BadPatch f) = RefusesPatchBy Numeric n os f
 IsApplyFault n os (Memory f) = ⊤
 IsApplyFault n os e = ⊥

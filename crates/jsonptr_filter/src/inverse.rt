@@ -2,7 +2,8 @@
 ghost use Rattle.std.specs.Prelude.{IfOk, IfErr};
 ghost use Rattle.serde_json.specs.View.{view};
 ghost use Rattle.jsonptr_tree.specs.Json.{nodes};
-ghost use Rattle.jsonptr_patch.specs.Patching.{Patches, RefusesPatch};
+ghost use Rattle.jsonptr_patch.specs.Patching.{Patches, PatchesBy};
+ghost use Rattle.jsonptr_patch.specs.declared.comparison.Comparison.TheVariants.{Numeric};
 ghost use Rattle.jsonptr_filter.specs.Inverting.{IsInverse, FailsToInvert};
 ghost use Rattle.jsonptr_filter.specs.PrivateResults.{IsApplyFault};
 
@@ -11,7 +12,7 @@ use crate::failure::Failure;
 use crate::layout::{Layout, read_text};
 use crate::patching::operations_of;
 use jsonptr::Fault;
-use jsonptr_patch::{Operation, apply_with_inverse};
+use jsonptr_patch::{Comparison, Operation, apply_comparing_with_inverse};
 use serde_json::Value;
 use std::alloc::Global;
 
@@ -66,12 +67,13 @@ fn take_back(
     operations: Vec<Operation>,
 ) -> Result<Vec<Operation>, Failure>
     ensures applied { IfOk result (λ _.
-        Patches (nodes (view document.old)) operations.items (nodes (view document.new))) }
+        PatchesBy Numeric (nodes (view document.old)) operations.items
+        (nodes (view document.new))) }
     ensures inverse { IfOk result (λ back.
         Patches (nodes (view document.new)) back.items (nodes (view document.old))) }
     ensures failed { IfErr result (IsApplyFault (nodes (view document.old)) operations.items) }
 {
-    match apply_with_inverse(alloc, document, operations) {
+    match apply_comparing_with_inverse(alloc, document, operations, Comparison::Numeric) {
         Ok(back) => Ok(back),
         Err(Fault::Refused(error)) => Err(Failure::BadPatch(error)),
         Err(Fault::Memory(error)) => Err(Failure::Memory(error)),

@@ -34,7 +34,8 @@ ghost use Rattle.jsonptr_filter.specs.declared.layout.Layout.TheVariants.{Kept, 
 
 pub mod one_error;
 
-use jsonptr_patch::laws::patch::patch_law;
+use jsonptr_patch::laws::comparison::comparison_law;
+use jsonptr_patch::laws::patch::comparing_patch_law;
 use jsonptr_patch_document::laws::{patch_document_law, writing_law};
 use jsonptr_paths::laws::round_trip_law;
 
@@ -79,7 +80,8 @@ pub fn difference_law()
     patch_document_law();
     writing_law();
     jsonptr_diff::laws::difference_law();
-    patch_law();
+    comparison_law();
+    comparing_patch_law();
 }
 
 /// States what `patch` does with the inverse of a patch, as texts.
@@ -104,7 +106,7 @@ pub fn inverse_law()
         → ((f : AllocError) × (e ≡ Memory f)) ⊎ ((layout ≡ Kept) × (e ≡ NotInPlace)) }
 {
     patch_document_law();
-    patch_law();
+    comparing_patch_law();
     difference_law();
 }
 

@@ -1,3 +1,4 @@
+use Rattle.jsonptr_patch.specs.declared.comparison.Comparison.TheVariants.{Numeric}
 use Rattle.jsonptr_calls.proofs.LawLemmas.{no_pointers, no_tokens, not_escaped, not_pushed, not_popped, not_parsed, not_printed_in, not_read_in, unfound_in, not_assigned_in, not_deleted_in, not_patch, not_applied, not_patched, not_printed_from}
 use Rattle.jsonptr_calls.proofs.laws.one_error_law.Goals as goal
 
@@ -41,7 +42,7 @@ pub returns-clause-apply : goal.returns-clause-apply
 returns-clause-apply c = not_applied c.parse_law.ensures.not_both
 
 pub returns-clause-take_back : goal.returns-clause-take_back
-returns-clause-take_back c = not_patched c.parse_law.ensures.not_both c.patch_law.ensures.not_both
+returns-clause-take_back c = not_patched c.parse_law.ensures.not_both (c.comparing_patch_law.ensures.not_both Numeric)
 
 pub returns-clause-print_in : goal.returns-clause-print_in
 returns-clause-print_in c = not_printed_from c.parse_law.ensures.not_both
