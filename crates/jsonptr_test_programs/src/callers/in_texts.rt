@@ -1,6 +1,6 @@
 //! Edits in place, TOML files and streams.
 use jsonptr::{Pointer, PointerBuf};
-use jsonptr_edit_in_text::{EditError, InPlaceError};
+use jsonptr_edit_in_text::{EditError, InPlaceError, RawValue};
 use jsonptr_patch::Operation;
 use jsonptr_uses::edits_in_place::{migrated, moved, published, set_existing, without};
 use jsonptr_uses::streams::set_in_stream;
@@ -99,7 +99,8 @@ fn a_document_from_a_reader_to_a_writer(rt: HostRuntime) -> Result<(), Fail> {
     let mut input = TEXT.as_bytes();
     let mut output = Vec::new(alloc);
     let pointer = Pointer::parse("/b/1")?;
-    set_in_stream(alloc, pointer, Value::from(3), &mut input, &mut output)?;
+    let value = RawValue::parse(alloc, "3")?;
+    set_in_stream(alloc, pointer, value, &mut input, &mut output)?;
     let want = "{\n  \"b\": [1.0, 3],\n  \"a\": \"x\"\n}\n";
     assert_eq!(rt; output.as_slice(), want.as_bytes());
     Ok(())
