@@ -24,8 +24,8 @@ use Rattle.jsonptr_value.specs.Nesting.{NestsWithin}
 use Rattle.jsonptr_value.proofs.LevelLemmas.{NestsWithin-depth}
 use Rattle.jsonptr_value.proofs.NestingLemmas.{NestsWithin-more}
 use Rattle.jsonptr_patch.specs.Order.{OperationHasSortedKeys}
-use Rattle.jsonptr_patch.specs.Patching.{Patches, RefusesPatch}
-use Rattle.jsonptr_patch.specs.declared.comparison.Comparison.TheVariants.{Strict}
+use Rattle.jsonptr_patch.specs.Patching.{PatchesBy, RefusesPatchBy}
+use Rattle.jsonptr_patch.specs.declared.comparison.Comparison.TheVariants.{Numeric}
 use Rattle.jsonptr_patch.specs.declared.operation.Operation.{Operation}
 use Rattle.jsonptr_patch.specs.declared.operation.PatchError.{PatchError}
 use Rattle.jsonptr_patch_document.specs.Document.{IsPatch, IsNoPatch}
@@ -236,23 +236,23 @@ module _
     (one_no : (d : Data) (e f : PatchDocumentError) → IsNoPatch d e → IsNoPatch d f → e ≡ f)
     (no_both : (d : Data) (os : List Operation) (e : PatchDocumentError) → IsPatch d os → IsNoPatch d e → ⊥)
     (keys : (d : Data) (os : List Operation) → HasSortedKeys d → IsPatch d os → All OperationHasSortedKeys os)
-    (not_both : (n m : NodeMap) (os : List Operation) (e : PatchError) → IsDocument n → Patches n os m → RefusesPatch n os e → ⊥)
-    (one_map : (n m l : NodeMap) (os : List Operation) → IsDocument n → Patches n os m → Patches n os l → m ≡ l)
-    (one : (n : NodeMap) (os : List Operation) (e f : PatchError) → IsDocument n → RefusesPatch n os e → RefusesPatch n os f → e ≡ f)
+    (not_both : (n m : NodeMap) (os : List Operation) (e : PatchError) → IsDocument n → PatchesBy Numeric n os m → RefusesPatchBy Numeric n os e → ⊥)
+    (one_map : (n m l : NodeMap) (os : List Operation) → IsDocument n → PatchesBy Numeric n os m → PatchesBy Numeric n os l → m ≡ l)
+    (one : (n : NodeMap) (os : List Operation) (e f : PatchError) → IsDocument n → RefusesPatchBy Numeric n os e → RefusesPatchBy Numeric n os f → e ≡ f)
     (text : Text) (patch : Data) (layout : Layout) (sorted : HasSortedKeys patch) where
   abbrev Stuck : PatchError → Type 0
-  Stuck e = (os : List Operation) × (d : Data) × IsPatch patch os × (read text ≡ Some d) × RefusesPatch (nodes d) os e
+  Stuck e = (os : List Operation) × (d : Data) × IsPatch patch os × (read text ≡ Some d) × RefusesPatchBy Numeric (nodes d) os e
 
   abbrev IsDeepPatch : Type 0
   IsDeepPatch = (os : List Operation) × IsPatch patch os × IsPatchFault text os edit.TooDeep
 
-  again_refused : (os ps : List Operation) (d c : Data) (e : PatchError) → IsPatch patch os → IsPatch patch ps → read text ≡ Some d → read text ≡ Some c → RefusesPatch (nodes d) os e → RefusesPatch (nodes c) ps e
+  again_refused : (os ps : List Operation) (d c : Data) (e : PatchError) → IsPatch patch os → IsPatch patch ps → read text ≡ Some d → read text ≡ Some c → RefusesPatchBy Numeric (nodes d) os e → RefusesPatchBy Numeric (nodes c) ps e
   again_refused os ps d c e is also reads again h =
-      patch_refused_same (nodes c) os ps e (one_patch patch os ps is also) (subst (λ (x : Data). RefusesPatch (nodes x) os e) (one_read text d c reads again) h)
+      patch_refused_same (nodes c) os ps e (one_patch patch os ps is also) (subst (λ (x : Data). RefusesPatchBy Numeric (nodes x) os e) (one_read text d c reads again) h)
 
-  again_patched : (os ps : List Operation) (d c : Data) (m : NodeMap) → IsPatch patch os → IsPatch patch ps → read text ≡ Some d → read text ≡ Some c → Patches (nodes d) os m → Patches (nodes c) ps m
+  again_patched : (os ps : List Operation) (d c : Data) (m : NodeMap) → IsPatch patch os → IsPatch patch ps → read text ≡ Some d → read text ≡ Some c → PatchesBy Numeric (nodes d) os m → PatchesBy Numeric (nodes c) ps m
   again_patched os ps d c m is also reads again h =
-      same_effects Strict (nodes c) m os ps (one_patch patch os ps is also) (subst (λ (x : Data). Patches (nodes x) os m) (one_read text d c reads again) h)
+      same_effects Numeric (nodes c) m os ps (one_patch patch os ps is also) (subst (λ (x : Data). PatchesBy Numeric (nodes x) os m) (one_read text d c reads again) h)
 
   stuck_deep : (e : PatchError) → Stuck e → IsDeepPatch → ⊥
   stuck_deep e h k =
@@ -338,9 +338,9 @@ module _
     (one_no : (d : Data) (e f : PatchDocumentError) → IsNoPatch d e → IsNoPatch d f → e ≡ f)
     (no_both : (d : Data) (os : List Operation) (e : PatchDocumentError) → IsPatch d os → IsNoPatch d e → ⊥)
     (keys : (d : Data) (os : List Operation) → HasSortedKeys d → IsPatch d os → All OperationHasSortedKeys os)
-    (patched_both : (n m : NodeMap) (os : List Operation) (e : PatchError) → IsDocument n → Patches n os m → RefusesPatch n os e → ⊥)
-    (patched_one : (n m l : NodeMap) (os : List Operation) → IsDocument n → Patches n os m → Patches n os l → m ≡ l)
-    (stuck_one : (n : NodeMap) (os : List Operation) (e f : PatchError) → IsDocument n → RefusesPatch n os e → RefusesPatch n os f → e ≡ f) where
+    (patched_both : (n m : NodeMap) (os : List Operation) (e : PatchError) → IsDocument n → PatchesBy Numeric n os m → RefusesPatchBy Numeric n os e → ⊥)
+    (patched_one : (n m l : NodeMap) (os : List Operation) → IsDocument n → PatchesBy Numeric n os m → PatchesBy Numeric n os l → m ≡ l)
+    (stuck_one : (n : NodeMap) (os : List Operation) (e f : PatchError) → IsDocument n → RefusesPatchBy Numeric n os e → RefusesPatchBy Numeric n os f → e ≡ f) where
   pub one_error : (task : Task) (layout : Layout) (text : Text) (e f : Failure) → TaskHasSortedKeys task → (StopsRun e → ⊥) → (StopsRun f → ⊥) → Fails task layout text e → Fails task layout text f → e ≡ f
   one_error (Get p fallback) layout text e f sorted = get_one found_both found_one text (tokens p) fallback e f
   one_error (Set p v) layout text e f sorted = set_one made_both made_one place_one text (tokens p) (value_of v) layout sorted e f

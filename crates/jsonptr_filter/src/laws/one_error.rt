@@ -13,7 +13,7 @@ ghost use Rattle.jsonptr_filter.specs.declared.task.Task.{Task};
 
 use jsonptr_laws::assign::assign_law;
 use jsonptr_laws::resolve::resolve_law;
-use jsonptr_patch::laws::patch::patch_law;
+use jsonptr_patch::laws::patch::comparing_patch_law;
 use jsonptr_patch_document::laws::patch_document_law;
 
 /// States that a task has at most one error on a text, with all its fields.
@@ -44,7 +44,7 @@ pub fn one_error_law()
         → (e ≡ f) ⊎ ((e ≡ NotLocated) ⊎ (f ≡ NotLocated)) }
 {
     patch_document_law();
-    patch_law();
+    comparing_patch_law();
     assign_law();
     resolve_law();
 }
