@@ -38,8 +38,8 @@ pub enum InPlaceError {
 ///
 /// ```rust
 /// let text = "[server]\nport = 80 # as ever\n";
-/// let new = assign_in_place(alloc, text, Pointer::parse("/server/host")?, "a".try_into()?)?;
-/// assert_eq!(rt; new.as_str(), "[server]\nport = 80 # as ever\nhost = \"a\"\n");
+/// let new = assign_in_place(alloc, text, Pointer::parse("/server/workers")?, 4.into())?;
+/// assert_eq!(rt; new.as_str(), "[server]\nport = 80 # as ever\nworkers = 4\n");
 /// ```
 pub fn assign_in_place(
     alloc: Global,
