@@ -15,3 +15,4 @@ pub mod InTextLemmas
 mod EditsInTextLemmas
 mod EditsInTomlLemmas
 mod JsonLinesLemmas
+mod StreamsLemmas

@@ -1,0 +1,43 @@
+-- What an assignment in a stream writes.
+use Rattle.std.proofs.Common.{◌≡◌, ℕ, List, [], ◌∷◌, ◌++◌, Option, Some, None, ◌⊎◌, inl, inr, Result, Ok, Err, IfOk, string_bytes, refl, sym, subst}
+use Rattle.std.specs.Io.KnownBytes.{Appends}
+use Rattle.jsonptr.specs.Json.{nodes}
+use Rattle.jsonptr.specs.Pointer.{tokens}
+use Rattle.jsonptr.specs.Text.{Text}
+use Rattle.jsonptr.specs.declared.pointer.Pointer.{Pointer}
+use Rattle.jsonptr_edit_in_text.specs.Bytes.{AssignsBytes}
+use Rattle.jsonptr_edit_in_text.specs.Carrying.{value_of, Carries}
+use Rattle.jsonptr_edit_in_text.specs.EditInText.{AssignsInText}
+use Rattle.jsonptr_edit_in_text.specs.declared.raw_value.RawValue.{RawValue}
+use Rattle.jsonptr_lines.specs.Streams.{ForInput}
+use Rattle.jsonptr_filter.specs.Documents.{Prints, PutsDocument, EndsInBreak}
+use Rattle.jsonptr_filter.specs.Results.{Yields}
+use Rattle.jsonptr_filter.specs.declared.failure.Failure.{Failure}
+use Rattle.jsonptr_filter.specs.declared.layout.Layout.TheVariants.{Kept}
+use Rattle.jsonptr_filter.specs.declared.task.Task.TheVariants.{Set}
+
+for_input : (known : Option (List ℕ)) (P Q : List ℕ → Type 0) → ((bytes : List ℕ) → P bytes → Q bytes) → ForInput known P → ForInput known Q
+for_input None P Q f h = (h.0, f h.0 h.1)
+for_input (Some bytes) P Q f h = f bytes h
+
+-- `Assigned p raw bytes out`: `out` is the text `bytes` with the raw value assigned
+abbrev Assigned : Pointer → RawValue → List ℕ → Text → Type 0
+Assigned p raw bytes out =
+    AssignsInText bytes (tokens p) (nodes (value_of raw)) out × AssignsBytes bytes (tokens p) (value_of raw) out × Carries (string_bytes raw.text.flat) out
+
+assigned : (p : Pointer) (raw : RawValue) (bytes out : List ℕ) → Prints (Set p raw) Kept bytes out → Assigned p raw bytes out
+assigned p raw bytes out h = at h.1
+  where
+    at : (EndsInBreak (Set p raw) Kept × ((new : Text) × Yields (Set p raw) Kept bytes new × (out ≡ new ++ 10 ∷ []))) ⊎ ((EndsInBreak (Set p raw) Kept → ⊥) × Yields (Set p raw) Kept bytes out) → Assigned p raw bytes out
+    at (inl broken) = absurd (broken.0 refl)
+    at (inr whole) =
+        let y = whole.1 in
+        let more = y.3 refl in
+        subst (Assigned p raw bytes) (sym y.2) (y.1, more.0, more.1)
+
+pub set_puts : (r : Result (Unit {0}) Failure) (p : Pointer) (raw : RawValue) (known w0 w1 : Option (List ℕ)) → IfOk r (λ x. PutsDocument (Set p raw) Kept known w0 w1)
+    → IfOk r (λ x. ForInput known (λ bytes. (out : Text) × AssignsInText bytes (tokens p) (nodes (value_of raw)) out × AssignsBytes bytes (tokens p) (value_of raw) out × Carries (string_bytes raw.text.flat) out × Appends w0 w1 out))
+set_puts (Err e) p raw known w0 w1 h = h
+set_puts (Ok u) p raw known w0 w1 h =
+    for_input known (λ bytes. (out : Text) × Prints (Set p raw) Kept bytes out × Appends w0 w1 out) _
+    (λ bytes g. let a = assigned p raw bytes g.0 g.1 in (g.0, a.0, a.1, a.2, g.2)) h
