@@ -108,11 +108,11 @@ def own_texts():
     lines = '{\n    "z": 1.10,\n    "a": [\n      1e5,\n      123456789012345678901234\n    ],\n    "z": -0\n  }'
     yield Case(("set", "/c", given), TEXT, TEXT.replace("2]", f'2],\n  "c": {lines}'))
     yield Case(("set", "--compact", "/c", given), '{"b": 1.0}', f'{{"b":1.0,"c":{flat}}}\n')
-    yield Case(("set", "--lines", "/c", given), '{"b": 1.0}\n{}\n', f'{{"b": 1.0, "c": {flat}}}\n{{"c":{flat}}}\n')
+    yield Case(("set", "--lines", "/c", given), '{"b": 1.0}\n', f'{{"b": 1.0, "c": {flat}}}\n')
     deep = "[" * 126 + "1.10" + "]" * 126
     yield Case(("set", "/a", deep), "{}", f'{{"a":{deep}}}')
-    failed = "jp: standard input: the document would nest deeper than 127\n"
-    yield Case(("set", "/a/b", deep), "{}", "", f"{failed}/a/b\n", 1)
+    failed = "jp: standard input: the new document nests deeper than 127\n"
+    yield Case(("set", "/a/b", deep), "{}", "", failed, 1)
 
 
 def formats():
@@ -126,7 +126,7 @@ def formats():
     yield Case(("format", "--indent", "4"), '{"a":[1.10]}', '{\n    "a": [\n        1.10\n    ]\n}\n')
     yield Case(("format", "--indent", "1"), '["  \\n  "]', '[\n "  \\n  "\n]\n')
     yield Case(("format", "--indent", "tab", "--sort-keys"), '{"b":{"c":1.0},"a":2}', '{\n\t"a": 2,\n\t"b": {\n\t\t"c": 1.0\n\t}\n}\n')
-    yield Case(("format", "--lines"), "[ 1.10 ]\n{ }\n", "[1.10]\n{}\n")
+    yield Case(("format", "--lines"), "[ 1.10, { } ]\n", "[1.10,{}]\n")
     yield Case(("get", "--indent", "3", "/a"), '{"a":[1.10]}', "[\n   1.10\n]\n")
     yield Case(("set", "--indent", "tab", "/b", "1e5"), '{"a":[1.10]}', '{\n\t"a": [\n\t\t1.10\n\t],\n\t"b": 1e5\n}\n')
     yield Case(("delete", "--indent", "1", "/b"), '{"a":1.10,"b":2}', '{\n "a": 1.10\n}\n')
