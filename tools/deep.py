@@ -36,6 +36,7 @@ def nested(depth, value="1"):
 
 DOCUMENTS = ("{}", "[]", "1", nested(MAX_DEPTH))
 
+NOT_TOML = "not TOML"
 
 class Case(NamedTuple):
     """Words and input of a run, its status, its output, and the first line of its errors."""
@@ -171,7 +172,7 @@ def deep_toml():
         value = f"{{{keys}={value}}}"
     deep = [f"[{keys}]\nx = {value}\n", f"[[{keys}]]\n{keys} = {nested(MAX_TOML_DEPTH)}\n", f"[[{keys}]]\n"]
     damaged = [f"x = {nested(60_000)}\n", f"[{'.'.join('a' * 60_000)}]\n", "x = " + "{a=" * 60_000]
-    for text, error in [(text, TOML_DOCUMENT_TOO_DEEP) for text in deep] + [(text, "not TOML") for text in damaged]:
+    for text, error in [(text, TOML_DOCUMENT_TOO_DEEP) for text in deep] + [(text, NOT_TOML) for text in damaged]:
         for words in (("get", "/x"), ("set", "/x", "1"), ("delete", "/x"), ("paths",), ("paths", "--all")):
             yield Case((JP, words[0], "--toml", *words[1:]), text, 3, error=named(error))
     yield Case((JP, "get", "--toml", "/a"), f"a = {nested(MAX_TOML_DEPTH)}\n", 0, nested(MAX_TOML_DEPTH) + "\n")
@@ -207,6 +208,9 @@ def check(case):
     except (CheckFailed, subprocess.TimeoutExpired) as error:
         return f"deep: {error}"
     output, error = given.stdout.decode(), given.stderr.decode().partition("\n")[0]
+    if case.error == named(NOT_TOML) and error.startswith(f"{case.error}: "):
+        # The kit's reader says why, and where.
+        error = case.error
     if (given.returncode, output, error) != (case.status, case.output, case.error):
         found = f"status {given.returncode}, {output[:80]!r} of {len(output)} characters, {error[:200]!r}"
         return f"deep: {short(case.words)} on {case.input[:40]!r}: {found}, and not {case.status}, {case.error!r}"

@@ -7,7 +7,7 @@ use jsonptr_edit_in_text::{
     Buffers, EditError, Edited, apply_in_text, apply_in_text_with, assign_in_text,
     assign_in_text_with, delete_in_text, delete_in_text_with,
 };
-use jsonptr_patch::apply;
+use jsonptr_patch::{Comparison, apply_comparing};
 use serde_json::Value;
 use std::fmt::{Debug, Display};
 
@@ -250,10 +250,13 @@ fn is_changed(out: &mut Out<'_>, document: &mut Value, request: Request<'_>) -> 
                 Some(false)
             }
         },
-        _ => is_done(
-            out,
-            apply(alloc, document, operations(alloc, request.argument)?),
-        ),
+        _ => {
+            let operations = operations(alloc, request.argument)?;
+            is_done(
+                out,
+                apply_comparing(alloc, document, operations, Comparison::Numeric),
+            )
+        }
     }
 }
 
