@@ -25,6 +25,7 @@ LINE_TOO_DEEP = f"line 1: the document would nest deeper than {MAX_DEPTH}"
 PATCH_TOO_DEEP = f"the patch would nest deeper than {MAX_DEPTH}"
 TOML_DOCUMENT_TOO_DEEP = f"the values of the document nest deeper than {MAX_TOML_DEPTH}"
 TOML_TOO_DEEP = f"the values of the new document nest deeper than {MAX_TOML_DEPTH}"
+NOT_TOML = "not TOML"
 PATCH_FAILED = "patch failed at operation 0: {}"
 BELOW_ITSELF = PATCH_FAILED.format("from is a proper prefix of path")
 
@@ -36,7 +37,6 @@ def nested(depth, value="1"):
 
 DOCUMENTS = ("{}", "[]", "1", nested(MAX_DEPTH))
 
-NOT_TOML = "not TOML"
 
 class Case(NamedTuple):
     """Words and input of a run, its status, its output, and the first line of its errors."""
