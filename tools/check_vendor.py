@@ -6,7 +6,7 @@ import sys
 import tempfile
 
 TOP = os.path.dirname(os.path.dirname(os.path.abspath(__file__)))
-EXTRAS = ["value", "tabled", "session", "patch", "patch_document", "diff", "in_text", "edit_in_text", "lines", "paths", "filter", "in_toml", "calls"]
+EXTRAS = ["value", "tabled", "session", "patch", "patch_document", "diff", "in_text", "edit_in_text", "lines", "paths", "jptr_tasks", "in_toml", "edit_in_toml", "c_calls"]
 
 
 def vendor(*arguments, status=0):
@@ -51,7 +51,7 @@ def check_extras(folder):
     check(before.items() <= after.items(), "an extra changed a file that was there")
     with open(lines, encoding="utf-8") as file:
         crates = dict(line.split(":") for line in file.read().splitlines())
-    check({f"jsonptr_{it}" for it in EXTRAS} <= set(crates), f"an extra is not in {crates}")
+    check({it if it.startswith("jptr") else f"jsonptr_{it}" for it in EXTRAS} <= set(crates), f"an extra is not in {crates}")
     ours = {it for used in crates.values() for it in used.split() if os.path.isdir(f"{TOP}/crates/{it}")}
     check(ours <= set(crates), f"{ours - set(crates)} are not in crates.txt")
     for name in crates:
@@ -79,7 +79,7 @@ def check_lines(folder):
 
 def check_refusals(folder):
     """Checks that nothing changes if a crate that is there differs, or if the folder is in this repository."""
-    with open(f"{folder}/crates/jsonptr_text/src/lib.rt", "a", encoding="utf-8") as file:
+    with open(f"{folder}/crates/jsonptr_syntax/src/lib.rt", "a", encoding="utf-8") as file:
         file.write("// changed\n")
     before = contents(folder)
     vendor(folder, "--example", status=1)

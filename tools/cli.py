@@ -1,4 +1,4 @@
-"""Runs the built program `jp` as a process: its commands, errors, streams and files, and the examples of its guide.
+"""Runs the built program `jptr` as a process: its commands, errors, streams and files, and the examples of its guide.
 
 It needs Linux, bash, a C compiler, and a user `nobody` if it runs as root. It also checks that the man page, the
 completions and the guide name each command and flag that `--help` shows.
@@ -18,13 +18,13 @@ from typing import NamedTuple
 from call_cases import RESOLVE_NOT_FOUND
 from harness import TOOLS, TOP, CheckFailed, build_shim, program, run_with_shim
 
-PROGRAM = program("jsonptr_cli")
+PROGRAM = program("jptr")
 SECONDS = 60
 GUIDE = f"{TOP}/docs/COMMAND_LINE.md"
 INSTALLED = {
-    "man page": f"{TOP}/crates/jsonptr_cli/install/jp.1",
-    "completions for bash": f"{TOP}/crates/jsonptr_cli/install/jp.bash",
-    "completions for zsh": f"{TOP}/crates/jsonptr_cli/install/_jp",
+    "man page": f"{TOP}/crates/jptr/install/jptr.1",
+    "completions for bash": f"{TOP}/crates/jptr/install/jptr.bash",
+    "completions for zsh": f"{TOP}/crates/jptr/install/_jptr",
 }
 CONSOLE = re.compile(r"^```console\n(.*?)^```$", re.MULTILINE | re.DOTALL)
 MARK = "-- next --"
@@ -80,12 +80,12 @@ def cases():
     yield Case(("delete", "--compact", "/a~1b/0"), TEXT, '{"b":1.0,"a/b":[2]}\n')
     yield from on_paths()
     patch = '[{"op":"remove","path":"/a"}]'
-    yield Case(("patch", "--check", "-", "/dev/null"), patch, "", "jp: /dev/null: not JSON: EOF while parsing at line 1 column 0\n", 3)
+    yield Case(("patch", "--check", "-", "/dev/null"), patch, "", "jptr: /dev/null: not JSON: EOF while parsing at line 1 column 0\n", 3)
     bad = '[{"op":"remove","path":"/a~b"}]'
     message = "not a JSON Patch document: member `path` of operation 0: json pointer failed to parse; the first token in the partial-pointer starting at offset 0 is malformed"
     drawn = "/a~b\n  ^^ '~' must be followed by '0' or '1'"
-    yield Case(("patch", "-", "/dev/null"), bad, "", f"jp: standard input: {message}\n{drawn}\n", 1)
-    yield Case(("diff", "/dev/null", "-"), "1", "", "jp: /dev/null: not JSON: EOF while parsing at line 1 column 0\n", 3)
+    yield Case(("patch", "-", "/dev/null"), bad, "", f"jptr: standard input: {message}\n{drawn}\n", 1)
+    yield Case(("diff", "/dev/null", "-"), "1", "", "jptr: /dev/null: not JSON: EOF while parsing at line 1 column 0\n", 3)
     yield Case(("tokens", "/a~1b//~0"), "", '["a/b","","~"]\n')
     yield Case(("tokens", "--raw", "/a~1b/x"), "", "a/b\nx\n")
     yield Case(("tokens", ""), "", "[]\n")
@@ -111,7 +111,7 @@ def own_texts():
     yield Case(("set", "--lines", "/c", given), '{"b": 1.0}\n', f'{{"b": 1.0, "c": {flat}}}\n')
     deep = "[" * 126 + "1.10" + "]" * 126
     yield Case(("set", "/a", deep), "{}", f'{{"a":{deep}}}')
-    failed = "jp: standard input: the new document nests deeper than 127\n"
+    failed = "jptr: standard input: the new document nests deeper than 127\n"
     yield Case(("set", "/a/b", deep), "{}", "", failed, 1)
 
 
@@ -131,8 +131,8 @@ def formats():
     yield Case(("set", "--indent", "tab", "/b", "1e5"), '{"a":[1.10]}', '{\n\t"a": [\n\t\t1.10\n\t],\n\t"b": 1e5\n}\n')
     yield Case(("delete", "--indent", "1", "/b"), '{"a":1.10,"b":2}', '{\n "a": 1.10\n}\n')
     yield Case(("get", "--indent", "16", "--default", "[1]", "/b"), "{}", f"[\n{' ' * 16}1\n]\n")
-    yield Case(("format",), "{", "", "jp: standard input: not JSON: EOF while parsing at line 1 column 1\n", 3)
-    yield Case(("format", "/dev/null.toml"), "", "", "jp: format: not on TOML\n", 2)
+    yield Case(("format",), "{", "", "jptr: standard input: not JSON: EOF while parsing at line 1 column 1\n", 3)
+    yield Case(("format", "/dev/null.toml"), "", "", "jptr: format: not on TOML\n", 2)
 
 
 def on_paths():
@@ -148,14 +148,14 @@ def on_paths():
     yield Case(("from-paths",), '\t{}\n/0\ttrue\n', '{"0":true}\n')
     yield Case(("from-paths",), "/0\ttrue\n", "[true]\n")
     yield Case(("from-paths",), "", "null\n")
-    yield Case(("from-paths",), "/a\t1\n/b 2\n", "", "jp: standard input: line 2: no tab after the pointer\n", 3)
-    yield Case(("from-paths",), "a\t1\n", "", "jp: standard input: line 1: not a pointer\n", 3)
-    yield Case(("from-paths",), "/a\tx\n", "", "jp: standard input: line 1: not JSON after the tab\n", 3)
+    yield Case(("from-paths",), "/a\t1\n/b 2\n", "", "jptr: standard input: line 2: no tab after the pointer\n", 3)
+    yield Case(("from-paths",), "a\t1\n", "", "jptr: standard input: line 1: not a pointer\n", 3)
+    yield Case(("from-paths",), "/a\tx\n", "", "jptr: standard input: line 1: not JSON after the tab\n", 3)
     yield Case(("from-paths",), "/x" * 127 + "\t1\n", '{"x":' * 127 + "1" + "}" * 127 + "\n")
-    yield Case(("from-paths",), "/x" * 128 + "\t1\n", "", "jp: standard input: line 1: the document would nest deeper than 127\n", 1)
+    yield Case(("from-paths",), "/x" * 128 + "\t1\n", "", "jptr: standard input: line 1: the document would nest deeper than 127\n", 1)
     message = "assign failed: json pointer token at offset 0 is out of bounds"
-    yield Case(("from-paths",), "\t[]\n/1\t1\n", "", f"jp: standard input: line 2: {message}\n", 1)
-    yield Case(("paths",), "{", "", "jp: standard input: not JSON: EOF while parsing at line 1 column 1\n", 3)
+    yield Case(("from-paths",), "\t[]\n/1\t1\n", "", f"jptr: standard input: line 2: {message}\n", 1)
+    yield Case(("paths",), "{", "", "jptr: standard input: not JSON: EOF while parsing at line 1 column 1\n", 3)
     table = "[a]\nat = 1979-05-27\nb = [1.0, 'x\"y']\n[c]\ns = \"1\\n2\"\n"
     yield Case(("paths", "--toml"), table, "/a/at\t1979-05-27\n/a/b/0\t1.0\n/a/b/1\t'x\"y'\n/c/s\t\"1\\n2\"\n")
     yield Case(("get", "--toml", "/a/b/1"), table, "'x\"y'\n")
@@ -163,25 +163,25 @@ def on_paths():
     yield Case(("paths", "--toml", "--all"), "[[a]]\nb = -inf\n", nodes)
     yield Case(("paths", "--toml"), "", "\t{}\n")
     message = "invalid value, expected a string, number, boolean, date-time, array or inline table"
-    yield Case(("paths", "--toml"), "b = 1\na = ", "", f"jp: standard input: not TOML: {message} at line 2 column 5\n", 3)
+    yield Case(("paths", "--toml"), "b = 1\na = ", "", f"jptr: standard input: not TOML: {message} at line 2 column 5\n", 3)
     commented = "# c\na = 1 # one\n"
     yield Case(("set", "--toml", "/a", "2"), commented, "# c\na = 2 # one\n")
     yield Case(("set", "--toml", "/b/c", "[1]"), commented, commented + "\n[b]\nc = [1]\n")
     yield Case(("delete", "--toml", "/a"), commented + "b = 2\n", "# c\nb = 2\n")
-    anew = "jp: standard input: printed anew, without its comments and layout\n"
+    anew = "jptr: standard input: printed anew, without its comments and layout\n"
     yield Case(("set", "--toml", "/a/b", "2"), commented, "[a]\nb = 2\n", anew)
-    yield Case(("patch", "/dev/null", "x.toml"), "", "", "jp: patch: not on TOML: use set and delete\n", 2)
+    yield Case(("patch", "/dev/null", "x.toml"), "", "", "jptr: patch: not on TOML: use set and delete\n", 2)
 
 
 def failing():
     """Errors: a line that names the input, and the pointer with carets below the token at fault."""
-    missing = f"jp: standard input: {NOT_FOUND}\n/c\n ^ not found in value\n"
+    missing = f"jptr: standard input: {NOT_FOUND}\n/c\n ^ not found in value\n"
     yield Case(("get", "/c"), TEXT, "", missing, 1)
-    yield Case(("delete", "/c"), TEXT, "", "jp: standard input: delete failed: json pointer does not resolve\n", 1)
-    not_json = "jp: standard input: not JSON: EOF while parsing at line 1 column 1\n"
+    yield Case(("delete", "/c"), TEXT, "", "jptr: standard input: delete failed: json pointer does not resolve\n", 1)
+    not_json = "jptr: standard input: not JSON: EOF while parsing at line 1 column 1\n"
     for words in [("get", "/a"), ("set", "/a", "1"), ("delete", "/a")]:
         yield Case(words, "{", "", not_json, 3)
-    value = "jp: JSON: not JSON: invalid JSON at line 1 column 1\n"
+    value = "jptr: JSON: not JSON: invalid JSON at line 1 column 1\n"
     yield Case(("set", "/a", "x"), TEXT, "", value, 3)
 
 
@@ -244,11 +244,11 @@ def check_usage():
         runs += 1
     for command in [(), *((name,) for name in commands())]:
         given = run((*command, "--help"))
-        if given.returncode or given.stderr or b"Usage: jp" not in given.stdout:
+        if given.returncode or given.stderr or b"Usage: jptr" not in given.stdout:
             raise CheckFailed(f"{command} --help: status {given.returncode}, {given.stdout!r}, {given.stderr!r}")
         runs += 1
     version = run(("--version",)).stdout.decode()
-    if not re.fullmatch(r"jp \d+\.\d+\.\d+\n", version):
+    if not re.fullmatch(r"jptr \d+\.\d+\.\d+\n", version):
         raise CheckFailed(f"--version prints {version!r}")
     return runs + 1
 
@@ -275,7 +275,7 @@ def check_documents():
         for command in commands():
             missing = [word for word in [command, *flags(command)] if word not in text]
             if missing:
-                raise CheckFailed(f"the {name} lacks {missing} of `jp {command}`")
+                raise CheckFailed(f"the {name} lacks {missing} of `jptr {command}`")
 
 
 def check_streams():
@@ -285,7 +285,7 @@ def check_streams():
         text = '{"b":1}\n'
         with open("/dev/full", "wb") as full:
             given = subprocess.run([PROGRAM, *words], input=text.encode(), stdout=full, stderr=subprocess.PIPE)
-        if (given.returncode, given.stderr) != (5, b"jp: standard output: writing failed: No space left on device (os error 28)\n"):
+        if (given.returncode, given.stderr) != (5, b"jptr: standard output: writing failed: No space left on device (os error 28)\n"):
             raise CheckFailed(f"{words} to a full device: status {given.returncode}, {given.stderr!r}")
         reading, writing = os.pipe()
         os.close(reading)
@@ -317,9 +317,9 @@ def check_files(folder):
     for name, message in wanted:
         for words in [("get", "", name), ("get", "--lines", "", name), ("delete", "/a", name, "-i")]:
             given = run(words, **user)
-            expected = [f"jp: {name}: {message}\n", f"jp: {name}: reading failed: {message}\n"]
+            expected = [f"jptr: {name}: {message}\n", f"jptr: {name}: reading failed: {message}\n"]
             if name == folder and "-i" in words:
-                expected = [f"jp: {name}: not a regular file\n"]
+                expected = [f"jptr: {name}: not a regular file\n"]
             if given.returncode != 5 or given.stdout or given.stderr.decode() not in expected:
                 raise CheckFailed(f"{words}: status {given.returncode}, {given.stderr!r}")
             runs += 1
@@ -354,8 +354,8 @@ def check_lines():
     """Checks runs over lines, and returns the number of runs."""
     lines, found, changed, faults = damaged_lines()
     text = "".join(f"{line}\n" for line in lines)
-    report = "".join(f"jp: standard input:{number}: {message}\n" for number, message in faults)
-    damaged = "".join(f"jp: standard input:{number}: {message}\n" for number, message in faults if message == "not JSON")
+    report = "".join(f"jptr: standard input:{number}: {message}\n" for number, message in faults)
+    damaged = "".join(f"jptr: standard input:{number}: {message}\n" for number, message in faults if message == "not JSON")
     each = "".join(f"{line}\n" for line in found)
     check_result(Case(("get", "--lines", "/id"), text, each, report, 1), run(("get", "--lines", "/id"), text))
     check_result(Case(("get", "--lines", "/id"), text[:-1], each, report, 1), run(("get", "--lines", "/id"), text[:-1]))
@@ -369,7 +369,7 @@ def check_lines():
     words = ("get", "--lines", "--strict", "/id")
     check_result(Case(words, text, each, report.partition("\n")[0] + "\n", 1), run(words, text))
     words = ("get", "--lines", "--raw", "/s")
-    check_result(Case(words, '{"s":"a"}\n{"s":"a\\nb"}\n', "a\n", "jp: standard input:2: the result contains a line break\n", 1),
+    check_result(Case(words, '{"s":"a"}\n{"s":"a\\nb"}\n', "a\n", "jptr: standard input:2: the result contains a line break\n", 1),
                  run(words, '{"s":"a"}\n{"s":"a\\nb"}\n'))
     return 6
 
@@ -477,7 +477,7 @@ def check_in_place(folder):
         raise CheckFailed(f"a change of nothing wrote the file: {given.stderr!r}")
     given = run(("set", "/b", "2", link, "--in-place"), env={"LD_PRELOAD": shim})
     left = sorted(os.listdir(folder))
-    if given.returncode != -9 or read(path) != TEXT or "data.json.jp-0" not in left:
+    if given.returncode != -9 or read(path) != TEXT or "data.json.jptr-0" not in left:
         raise CheckFailed(f"killed before the rename: status {given.returncode}, {left}, {read(path)!r}")
     given = run(("set", "/b", "2", link, "-i"))
     after = os.lstat(link)
@@ -507,9 +507,9 @@ def check_reformat(folder):
     error = f"{message}; --reformat prints the document anew\n"
     anew = text.replace(" ", "")
     for case in [
-        Case(words, text, "", f"jp: standard input: {error}", 1),
-        Case((*words, path, "-i"), "", "", f"jp: {path}: {error}", 1),
-        Case((*words, "--lines"), text, "", f"jp: standard input:1: {message}\n", 1),
+        Case(words, text, "", f"jptr: standard input: {error}", 1),
+        Case((*words, path, "-i"), "", "", f"jptr: {path}: {error}", 1),
+        Case((*words, "--lines"), text, "", f"jptr: standard input:1: {message}\n", 1),
         Case((*words, "--check"), text, ""),
         Case((*words, "--compact"), text, anew),
         Case((*words, "--compact", "--lines"), text, anew),
@@ -569,13 +569,13 @@ def check_inverse_fails(folder, patch, path, undo):
     runs = 0
     for old in (None, "{}"):
         for text, operations, words, errors, status in [
-            (deepest, '[{"op": "remove", "path": ""}]', (), f"jp: {undo}: the patch would nest deeper than 127\n", 3),
-            (BEFORE, '[{"op": "remove", "path": "/x"}]', (), f"jp: {path}: patch failed at operation 0: {NOT_FOUND}\n", 1),
-            ("{", "[]", (), f"jp: {path}: not JSON: EOF while parsing at line 1 column 1\n", 3),
-            (BEFORE, "[]", ("--inverse", path), "jp: --inverse: names the document\n", 2),
-            (BEFORE, "[]", ("--inverse", "-"), "jp: --inverse: needs a file\n", 2),
-            (BEFORE, "[]", ("--inverse", folder), f"jp: {folder}: not a regular file\n", 5),
-            (BEFORE, "[]", ("--inverse", f"{folder}/x/u"), f"jp: {folder}/x/u: No such file or directory (os error 2)\n", 5),
+            (deepest, '[{"op": "remove", "path": ""}]', (), f"jptr: {undo}: the patch would nest deeper than 127\n", 3),
+            (BEFORE, '[{"op": "remove", "path": "/x"}]', (), f"jptr: {path}: patch failed at operation 0: {NOT_FOUND}\n", 1),
+            ("{", "[]", (), f"jptr: {path}: not JSON: EOF while parsing at line 1 column 1\n", 3),
+            (BEFORE, "[]", ("--inverse", path), "jptr: --inverse: names the document\n", 2),
+            (BEFORE, "[]", ("--inverse", "-"), "jptr: --inverse: needs a file\n", 2),
+            (BEFORE, "[]", ("--inverse", folder), f"jptr: {folder}: not a regular file\n", 5),
+            (BEFORE, "[]", ("--inverse", f"{folder}/x/u"), f"jptr: {folder}/x/u: No such file or directory (os error 2)\n", 5),
         ]:
             leave(undo, old)
             write(path, text)
@@ -659,7 +659,7 @@ def check_memory(case, shim):
     words = [PROGRAM, *case.words]
     usual, requests, _ = run_with_shim(words, case.input, shim, 0, count="run", may_keep=True)
     check_result(case, usual)
-    without = Case(case.words, case.input, "", "jp: out of memory\n", 4)
+    without = Case(case.words, case.input, "", "jptr: out of memory\n", 4)
     for fail in [*range(1, requests + 1), "all"]:
         given, _, _ = run_with_shim(words, case.input, shim, fail, count="run", may_keep=True)
         if (given.stdout, given.returncode) == (case.output.encode(), case.status):
@@ -688,7 +688,7 @@ def check_examples(folder):
     """
     binaries = f"{folder}/bin"
     os.mkdir(binaries)
-    os.symlink(PROGRAM, f"{binaries}/jp")
+    os.symlink(PROGRAM, f"{binaries}/jptr")
     environment = {**os.environ, "PATH": f"{binaries}:{os.environ['PATH']}", "LC_ALL": "C.UTF-8"}
     count = 0
     for commands, outputs in examples():

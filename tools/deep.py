@@ -1,6 +1,6 @@
 """Runs both programs on pointers of up to 65,000 tokens and on documents as deep as they read.
 
-No run ends by a signal, also with little memory, and each has the result that the rules give. What `jp` prints can be read again, at the depths around its limits.
+No run ends by a signal, also with little memory, and each has the result that the rules give. What `jptr` prints can be read again, at the depths around its limits.
 """
 import os
 import subprocess
@@ -18,7 +18,7 @@ TOKENS = ("0", "-", "a")
 LIMITS = (*range(4, 40, 2), *range(40, 161, 10), 320, 640, 1_024)  # of memory, in MiB
 MAX_DEPTH = 127  # of a JSON text that is read
 MAX_TOML_DEPTH = 80  # of the values of a TOML text that is printed
-JP, RUN = program("jsonptr_cli"), program("jsonptr_run")
+JPTR, RUN = program("jptr"), program("jsonptr_run")
 NOT_DELETED = "delete failed: json pointer does not resolve"
 TOO_DEEP = f"the new document nests deeper than {MAX_DEPTH}"
 LINE_TOO_DEEP = f"line 1: the document would nest deeper than {MAX_DEPTH}"
@@ -123,45 +123,45 @@ def of_run():
                     yield Case((RUN, "patch", *words), document, 1, error=error)
 
 
-def of_jp():
-    """Each command of `jp` that takes a pointer, on one document and on lines."""
+def of_jptr():
+    """Each command of `jptr` that takes a pointer, on one document and on lines."""
     lines = "".join(f"{document}\n" for document in DOCUMENTS)
     for token in TOKENS:
         for count in COUNTS:
             pointer = f"/{token}" * count
-            yield Case((JP, "tokens", pointer), "", 0, "[" + ",".join([f'"{token}"'] * count) + "]\n")
-            yield Case((JP, "tokens", "--raw", pointer), "", 0, f"{token}\n" * count)
-            yield Case((JP, "escape", pointer), "", 0, pointer.replace("/", "~1") + "\n")
-            yield Case((JP, "unescape", "~1" * count), "", 0, "/" * count + "\n")
+            yield Case((JPTR, "tokens", pointer), "", 0, "[" + ",".join([f'"{token}"'] * count) + "]\n")
+            yield Case((JPTR, "tokens", "--raw", pointer), "", 0, f"{token}\n" * count)
+            yield Case((JPTR, "escape", pointer), "", 0, pointer.replace("/", "~1") + "\n")
+            yield Case((JPTR, "unescape", "~1" * count), "", 0, "/" * count + "\n")
             for field in (pointer, f'"{pointer}"'):
-                yield Case((JP, "from-paths"), f"{field}\t1\n", 1, error=named(LINE_TOO_DEEP))
+                yield Case((JPTR, "from-paths"), f"{field}\t1\n", 1, error=named(LINE_TOO_DEEP))
             for layout in ((), ("--compact",), ("--pretty",)):
                 for document in DOCUMENTS:
                     yield from on_document(layout, pointer, token, document)
-            yield Case((JP, "get", "--lines", pointer), lines, 1, error=numbered(not_resolved(DOCUMENTS[0], token)))
-            yield Case((JP, "get", "--lines", "--default", "7", pointer), lines, 0, "7\n" * len(DOCUMENTS))
-            yield Case((JP, "set", "--lines", pointer, "1"), lines, 1, error=numbered(TOO_DEEP))
-            yield Case((JP, "set", "--lines", "--strict", pointer, "1"), lines, 1, error=numbered(TOO_DEEP))
-            yield Case((JP, "delete", "--lines", pointer), lines, 1, error=numbered(NOT_DELETED))
+            yield Case((JPTR, "get", "--lines", pointer), lines, 1, error=numbered(not_resolved(DOCUMENTS[0], token)))
+            yield Case((JPTR, "get", "--lines", "--default", "7", pointer), lines, 0, "7\n" * len(DOCUMENTS))
+            yield Case((JPTR, "set", "--lines", pointer, "1"), lines, 1, error=numbered(TOO_DEEP))
+            yield Case((JPTR, "set", "--lines", "--strict", pointer, "1"), lines, 1, error=numbered(TOO_DEEP))
+            yield Case((JPTR, "delete", "--lines", pointer), lines, 1, error=numbered(NOT_DELETED))
 
 
 def on_document(layout, pointer, token, document):
     """`get`, `set` and `delete` on one document."""
-    yield Case((JP, "get", *layout, pointer), document, 1, error=named(not_resolved(document, token)))
+    yield Case((JPTR, "get", *layout, pointer), document, 1, error=named(not_resolved(document, token)))
     error = ASSIGN_BAD_INDEX.format(0) if is_refused(document, token) else TOO_DEEP
-    yield Case((JP, "set", *layout, pointer, "1"), document, 1, error=named(error))
-    yield Case((JP, "delete", *layout, pointer), document, 1, error=named(NOT_DELETED))
+    yield Case((JPTR, "set", *layout, pointer, "1"), document, 1, error=named(error))
+    yield Case((JPTR, "delete", *layout, pointer), document, 1, error=named(NOT_DELETED))
 
 
 def of_toml():
-    """Each command of `jp` on TOML."""
+    """Each command of `jptr` on TOML."""
     text = "x = 1\n"
     for token in TOKENS:
         for count in COUNTS:
             pointer = f"/{token}" * count
-            yield Case((JP, "get", "--toml", pointer), text, 1, error=named(RESOLVE_NOT_FOUND.format(0)))
-            yield Case((JP, "set", "--toml", pointer, "1"), text, 1, error=named(TOML_TOO_DEEP))
-            yield Case((JP, "delete", "--toml", pointer), text, 1, error=named(NOT_DELETED))
+            yield Case((JPTR, "get", "--toml", pointer), text, 1, error=named(RESOLVE_NOT_FOUND.format(0)))
+            yield Case((JPTR, "set", "--toml", pointer, "1"), text, 1, error=named(TOML_TOO_DEEP))
+            yield Case((JPTR, "delete", "--toml", pointer), text, 1, error=named(NOT_DELETED))
 
 
 def deep_toml():
@@ -174,18 +174,18 @@ def deep_toml():
     damaged = [f"x = {nested(60_000)}\n", f"[{'.'.join('a' * 60_000)}]\n", "x = " + "{a=" * 60_000]
     for text, error in [(text, TOML_DOCUMENT_TOO_DEEP) for text in deep] + [(text, NOT_TOML) for text in damaged]:
         for words in (("get", "/x"), ("set", "/x", "1"), ("delete", "/x"), ("paths",), ("paths", "--all")):
-            yield Case((JP, words[0], "--toml", *words[1:]), text, 3, error=named(error))
-    yield Case((JP, "get", "--toml", "/a"), f"a = {nested(MAX_TOML_DEPTH)}\n", 0, nested(MAX_TOML_DEPTH) + "\n")
+            yield Case((JPTR, words[0], "--toml", *words[1:]), text, 3, error=named(error))
+    yield Case((JPTR, "get", "--toml", "/a"), f"a = {nested(MAX_TOML_DEPTH)}\n", 0, nested(MAX_TOML_DEPTH) + "\n")
 
 
 def named(error):
-    """Returns the line of `jp` for an error on its input."""
-    return f"jp: standard input: {error}"
+    """Returns the line of `jptr` for an error on its input."""
+    return f"jptr: standard input: {error}"
 
 
 def numbered(error):
-    """Returns the line of `jp` for an error on the first line of its input."""
-    return f"jp: standard input:1: {error}"
+    """Returns the line of `jptr` for an error on the first line of its input."""
+    return f"jptr: standard input:1: {error}"
 
 
 def start(words, text):
@@ -218,7 +218,7 @@ def check(case):
 
 
 def patches(folder):
-    """Cases of `jp patch`, whose patch is a file."""
+    """Cases of `jptr patch`, whose patch is a file."""
     number = 0
     for token in TOKENS:
         for count in COUNTS:
@@ -226,8 +226,8 @@ def patches(folder):
                 for _, members, error in operations(f"/{token}" * count, document, token):
                     number += 1
                     path = written(f"{folder}/{number}.json", f"[{json_object(**members)}]")
-                    yield Case((JP, "patch", path), document, 1, error=named(error))
-                    yield Case((JP, "patch", "--lines", path), f"{document}\n", 1, error=numbered(error))
+                    yield Case((JPTR, "patch", path), document, 1, error=named(error))
+                    yield Case((JPTR, "patch", "--lines", path), f"{document}\n", 1, error=numbered(error))
 
 
 def doubled():
@@ -260,26 +260,26 @@ def check_read_again(folder):
         for before, after in (("1", nested(depth)), ("[[1]]", f"[[{nested(depth - 2)}]]"), ('{"a":1}', f'{{"a":{nested(depth - 1)}}}')):
             written(old, before)
             written(new, after)
-            given = start((JP, "diff", old, new), "")
+            given = start((JPTR, "diff", old, new), "")
             below = 0 if before == "1" else 2 if before == "[[1]]" else 1
             if depth - below + 2 > MAX_DEPTH:
-                check_equal((given.returncode, given.stdout, given.stderr.decode()), (3, b"", f"jp: {new}: {PATCH_TOO_DEEP}\n"), "diff")
+                check_equal((given.returncode, given.stdout, given.stderr.decode()), (3, b"", f"jptr: {new}: {PATCH_TOO_DEEP}\n"), "diff")
             else:
                 check_equal(given.returncode, 1, "diff")
                 written(patch, given.stdout.decode())
-                check_equal(start((JP, "patch", patch, old), "").stdout.decode(), after, "patch after diff")
+                check_equal(start((JPTR, "patch", patch, old), "").stdout.decode(), after, "patch after diff")
             runs += 2
     for count in (0, 1, 60, MAX_DEPTH - 1, MAX_DEPTH, MAX_DEPTH + 1):
         for depth in (MAX_DEPTH - count - 1, MAX_DEPTH - count, MAX_DEPTH - count + 1):
             if not 0 <= depth <= MAX_DEPTH:
                 continue
-            given = start((JP, "from-paths"), "/a" * count + f"\t{nested(depth)}\n")
+            given = start((JPTR, "from-paths"), "/a" * count + f"\t{nested(depth)}\n")
             wanted = '{"a":' * count + nested(depth) + "}" * count + "\n"
             if count + depth > MAX_DEPTH:
                 wanted = ""
                 check_equal((given.returncode, given.stderr.decode()), (1, f"{named(LINE_TOO_DEEP)}\n"), "from-paths")
             else:
-                check_equal(start((JP, "get", ""), wanted).stdout.decode(), wanted, "get after from-paths")
+                check_equal(start((JPTR, "get", ""), wanted).stdout.decode(), wanted, "get after from-paths")
             check_equal(given.stdout.decode(), wanted, "from-paths")
             runs += 2
     return runs + check_toml_read_again()
@@ -294,12 +294,12 @@ def check_toml_read_again():
                 if not 0 <= depth <= MAX_TOML_DEPTH:
                     continue
                 pointer = "/a" + f"/{token}" * (count - 1)
-                given = start((JP, "set", "--toml", pointer, nested(depth)), "x = 1\n")
+                given = start((JPTR, "set", "--toml", pointer, nested(depth)), "x = 1\n")
                 if count - 1 + depth > MAX_TOML_DEPTH:
                     check_equal((given.returncode, given.stderr.decode()), (1, f"{named(TOML_TOO_DEEP)}\n"), "set --toml")
                 else:
                     pointer = pointer.replace("-", "0")
-                    found = start((JP, "get", "--toml", pointer), given.stdout.decode())
+                    found = start((JPTR, "get", "--toml", pointer), given.stdout.decode())
                     check_equal(found.stdout.decode(), f"{nested(depth)}\n", f"get --toml after set --toml, {count} tokens, {depth} levels")
                 runs += 2
     return runs
@@ -311,12 +311,12 @@ def check_in_place(folder):
     for document, words in (("[]", ()), ("x = 1\n", ("--toml", "--reformat"))):
         path = written(f"{folder}/kept", document)
         for token in TOKENS[:2] if document == "[]" else TOKENS:
-            given = start((JP, "set", "-i", *words, f"/{token}" * COUNTS[-1], "1", path), "")
+            given = start((JPTR, "set", "-i", *words, f"/{token}" * COUNTS[-1], "1", path), "")
             with open(path, encoding="utf-8") as file:
                 check_equal((given.returncode, file.read()), (1, document), "set -i")
             runs += 1
     patch = written(f"{folder}/doubled.json", doubled())
-    given = start((JP, "patch", patch), nested(MAX_DEPTH))
+    given = start((JPTR, "patch", patch), nested(MAX_DEPTH))
     check_equal((given.returncode, given.stderr.decode()), (1, f"{named(TOO_DEEP)}\n"), "patch that doubles the depth")
     return runs + 1
 
@@ -341,7 +341,7 @@ def main():
             count += check_read_again(folder) + check_in_place(folder) + check_limited()
         except CheckFailed as error:
             sys.exit(f"deep: {error}")
-        for table in (of_run, of_jp, of_toml, deep_toml, lambda: patches(folder)):
+        for table in (of_run, of_jptr, of_toml, deep_toml, lambda: patches(folder)):
             cases = list(table())
             count += len(cases)
             errors += [error for error in pool.map(check, cases) if error]

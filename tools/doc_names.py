@@ -122,7 +122,7 @@ def check_crates(name, text, known):
     """Checks that the crates that a document names exist. A name of the C library is one of its header."""
     c_names = set(re.findall(r"\bjsonptr\w*", read("tools/c/jsonptr.h")))
     for code in CODE.findall(FENCE.sub("", text)):
-        for crate in re.findall(r"(?<![\w/.-])(jsonptr\w*)(?![\w./-])", code):
+        for crate in re.findall(r"(?<![\w/.-])((?:jsonptr|jptr_)\w*)(?![\w./-])", code):
             expect(crate in known or crate in c_names or crate.endswith("_"), name, f"there is no crate {crate}")
 
 
@@ -190,7 +190,7 @@ def check_lists(known):
     products = {crate for crate in known if not crate.startswith(("jsonptr_test_", "jsonptr_tool_"))}
     drawing = FENCE.search(read("docs/ARCHITECTURE.md"))[0]
     for name, text, wanted in (("README.md", read("README.md"), products), ("docs/ARCHITECTURE.md", drawing, {*known})):
-        named = set(re.findall(r"\bjsonptr\w*", text))
+        named = set(re.findall(r"\b(?:jsonptr|jptr)\w*", text))
         for crate in sorted(wanted - named):
             expect(False, name, f"{crate} is not listed")
         for crate in sorted(named - {*known}) if text == drawing else []:
@@ -244,7 +244,7 @@ def check_version():
     places = (
         ("README.md", f"Version {version}, of {date}"),
         ("CHANGELOG.md", f"## [{version}] - {date}"),
-        ("crates/jsonptr_cli/src/arguments.rt", f'VERSION: &str = "{version}";'),
+        ("crates/jptr/src/arguments.rt", f'VERSION: &str = "{version}";'),
         ("tools/c/jsonptr.h", f'such as "{version}"'),
     )
     for name, text in places:

@@ -1,4 +1,4 @@
-"""Runs `jp --in-place` on a system that stops, fails or is changed at each call, and beside other writers.
+"""Runs `jptr --in-place` on a system that stops, fails or is changed at each call, and beside other writers.
 
 It needs Linux and `strace`, which makes a call of the program wait, fail or end it; without `strace` it says so. The cases on
 owners and groups need to run as root, and a user `nobody`.
@@ -18,7 +18,7 @@ from concurrent.futures import ThreadPoolExecutor
 
 from harness import CheckFailed, program
 
-PROGRAM = program("jsonptr_cli")
+PROGRAM = program("jptr")
 SECONDS = 60
 OLD, NEW = '{"name": "a", "sizes": [1.0]}\n', '{"name": "b", "sizes": [1.0]}\n'
 SET = ("set", "/name", '"b"')
@@ -64,7 +64,7 @@ def open_of_new_file():
     with tempfile.TemporaryDirectory() as folder:
         path, log = file_in(folder), os.path.join(folder, "calls")
         subprocess.run(["strace", "-o", log, "-e", "trace=openat", PROGRAM, *SET, path, "--in-place"], check=True, timeout=SECONDS)
-        return 1 + next(number for number, call in enumerate(text_of(log).splitlines()) if "f.json.jp-" in call)
+        return 1 + next(number for number, call in enumerate(text_of(log).splitlines()) if "f.json.jptr-" in call)
 
 
 def failures():
@@ -103,7 +103,7 @@ def killed():
                 done = run(path, f"{call}:signal=KILL:when={number}", trace=call)
                 texts.add(text_of(path))
                 left = set(os.listdir(folder)) - {"f.json"}
-                if any(not name.startswith("f.json.jp-") for name in left):
+                if any(not name.startswith("f.json.jptr-") for name in left):
                     raise CheckFailed(f"killed at {call} {number}: {left}")
                 if done.returncode == 0:
                     break
@@ -227,7 +227,7 @@ def link_swapped():
         edit = ["strace", "-f", "-o", "/dev/null", "-e", "trace=fchown,chown,fchownat", "-e",
                 "inject=fchown,chown,fchownat:delay_enter=700000:when=1", PROGRAM, *SET, path, "--in-place"]
         with subprocess.Popen(edit, stdout=subprocess.PIPE, stderr=subprocess.PIPE) as process:
-            temporary = path + ".jp-0"
+            temporary = path + ".jptr-0"
             while not os.path.exists(temporary) and process.poll() is None:
                 time.sleep(0.01)
             os.rename(temporary, temporary + ".moved")

@@ -29,7 +29,7 @@ OTHERS = {
         ("jsonptr_patch_document/src/write.rt", ["write_patch"]),
         ("jsonptr_patch_document/src/error.rt", ["pointer_text"]),
     ],
-    "differences": [("jsonptr_diff/src/diffing.rt", ["diff", "change"])],
+    "differences": [("jsonptr_diff/src/difference.rt", ["diff", "change"])],
     "resolving in text": [
         ("jsonptr_in_text/src/resolve.rt", ["resolve_in_text", "resolve_in_slice", "exists_in_text"]),
         ("jsonptr_in_text/src/format.rt", ["format_text"]),
@@ -52,21 +52,21 @@ OTHERS = {
         ("jsonptr_edit_in_toml/src/in_place.rt", ["assign_in_place", "delete_in_place"]),
     ],
     "commands on texts and lines": [
-        ("jsonptr_filter/src/result.rt", ["result_in_text"]),
-        ("jsonptr_filter/src/document.rt", ["run_document"]),
-        ("jsonptr_filter/src/lines.rt", ["run_lines"]),
+        ("jptr_tasks/src/result.rt", ["result_in_text"]),
+        ("jptr_tasks/src/document.rt", ["run_document"]),
+        ("jptr_tasks/src/lines.rt", ["run_lines"]),
     ],
-    "a file that is replaced": [("jsonptr_filter/src/replacement.rt", ["replace"])],
+    "a file that is replaced": [("jptr_tasks/src/replacement.rt", ["replace"])],
     "calls for C": [
-        ("jsonptr_calls/src/pointers.rt", ["count", "token", "escape", "push", "pop"]),
-        ("jsonptr_calls/src/documents.rt", ["parse", "free", "print_at", "string_at", "node_at", "assign", "delete", "patch", "diff"]),
-        ("jsonptr_calls/src/texts.rt", ["print_in"]),
-        ("jsonptr_calls/src/outcome.rt", ["succeed", "fail", "fail_with_length"]),
-        ("jsonptr_calls/src/record.rt", ["message"]),
+        ("jsonptr_c_calls/src/pointers.rt", ["count", "token", "escape", "push", "pop"]),
+        ("jsonptr_c_calls/src/documents.rt", ["parse", "free", "print_at", "string_at", "node_at", "assign", "delete", "patch", "diff"]),
+        ("jsonptr_c_calls/src/texts.rt", ["print_in"]),
+        ("jsonptr_c_calls/src/outcome.rt", ["succeed", "fail", "fail_with_length"]),
+        ("jsonptr_c_calls/src/record.rt", ["message"]),
     ],
 }
 # Files of a few lines that nearly every statement needs, in one sentence of the page.
-COMMON = ["jsonptr/specs/Pointer.antt", "jsonptr_text/specs/PointerText.antt", "jsonptr_base/specs/Fault.antt"]
+COMMON = ["jsonptr/specs/Pointer.antt", "jsonptr_syntax/specs/PointerText.antt", "jsonptr_base/specs/Fault.antt"]
 MOST_LINES = 500
 WORD = re.compile(r"[^\W\d][\w'-]*(?:\.[^\W\d][\w'-]*)*")
 IMPORT = re.compile(r"(pub )?(?:ghost )?use Rattle\.([\w.]+?)(?:\.\{(.*)\}| as (\w+))?;?$")

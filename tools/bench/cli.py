@@ -1,9 +1,9 @@
 #!/usr/bin/env python3
-"""Times commands of `jp` beside the same work of `jq`, and prints a table in Markdown.
+"""Times commands of `jptr` beside the same work of `jq`, and prints a table in Markdown.
 
-    tools/bench/cli.py [--rounds N] [--only WORD] JP [--jq PROGRAM]
+    tools/bench/cli.py [--rounds N] [--only WORD] JPTR [--jq PROGRAM]
 
-JP is the built program of crates/jsonptr_cli. Both programs run on each file. A result is the least processor
+JPTR is the built program of crates/jptr. Both programs run on each file. A result is the least processor
 time of all rounds, and the peak memory, which `/usr/bin/time` measures (Debian: `time`).
 """
 import argparse
@@ -78,10 +78,10 @@ def main():
     parser = argparse.ArgumentParser(description=__doc__, formatter_class=argparse.RawDescriptionHelpFormatter)
     parser.add_argument("--rounds", type=int, default=5)
     parser.add_argument("--only", default="")
-    parser.add_argument("jp")
+    parser.add_argument("jptr")
     parser.add_argument("--jq", default="jq")
     words = parser.parse_args()
-    print("| Command | jp | jq | time | memory |")
+    print("| Command | jptr | jq | time | memory |")
     print("|---|---|---|---|---|")
     for row in ROWS:
         if words.only not in row.name:
@@ -90,12 +90,12 @@ def main():
             row.make(file.name)
             rounds = words.rounds if os.path.getsize(file.name) < 50_000_000 else min(words.rounds, 3)
             found = {}
-            for name, command in {"jp": [words.jp, *row.ours], "jq": [words.jq, "-c", *row.jq]}.items():
+            for name, command in {"jptr": [words.jptr, *row.ours], "jq": [words.jq, "-c", *row.jq]}.items():
                 seconds = min(run(command, file.name)[0] for _ in range(rounds))
                 found[name] = seconds, memory_of(command, file.name)
-        (ours, our_memory), (theirs, their_memory) = found["jp"], found["jq"]
+        (ours, our_memory), (theirs, their_memory) = found["jptr"], found["jq"]
         ratios = f"{ours / theirs:.2f} | {our_memory / their_memory:.2f}"
-        print(f"| {row.name} | {shown(found['jp'])} | {shown(found['jq'])} | {ratios} |", flush=True)
+        print(f"| {row.name} | {shown(found['jptr'])} | {shown(found['jq'])} | {ratios} |", flush=True)
 
 
 if __name__ == "__main__":

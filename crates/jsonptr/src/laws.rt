@@ -21,7 +21,7 @@ pub use jsonptr_base::laws::{
     bounds_law, encoding_error_law, encoding_law, index_error_law, index_law, index_order_law,
     token_order_law,
 };
-pub use jsonptr_text::laws::{parse_error_law, parse_law, source_law};
+pub use jsonptr_syntax::laws::{parse_error_law, parse_law, source_law};
 
 /// States the order of components: the root is less than every token, and tokens have their own
 /// order. Two components compare as equal exactly if they are equal.

@@ -3,27 +3,27 @@ ghost use Rattle.std.specs.Prelude.{◌≡◌, ◌≢◌, ◌⊎◌, [], Some, t
 ghost use Rattle.serde_json.specs.Read.{read as read_text};
 ghost use Rattle.serde_json.specs.View.{view};
 ghost use Rattle.serde_json.specs.declared.value.Value.{Value};
-ghost use Rattle.jsonptr_handle.specs.Document.{IsEmpty, Keeps};
-ghost use Rattle.jsonptr_calls.specs.Depths.{IsBounded};
-ghost use Rattle.jsonptr_calls.specs.Editing.{AssignsAt, DeletesAt, IsNotDeleted, IsTextNotAssigned};
-ghost use Rattle.jsonptr_calls.specs.Failures.{FailsOn, IsNotParsed, IsNotPrinted, IsNotRead, Unfound};
-ghost use Rattle.jsonptr_calls.specs.InTexts.{FindsTextIn, IsNotPrintedFrom};
-ghost use Rattle.jsonptr_calls.specs.Nodes.{FindsNode};
-ghost use Rattle.jsonptr_calls.specs.Outcomes.{IsLengthOf, Reports};
-ghost use Rattle.jsonptr_calls.specs.Patches.{AppliesText, AppliesWithBack, IsDiffText, IsNotApplied, IsNotAppliedWithBack, IsNotCompared, IsNotPatchText};
-ghost use Rattle.jsonptr_calls.specs.Rows.{no_error};
-ghost use Rattle.jsonptr_calls.specs.Values.{Changes, FindsTextOf, FindsString, HoldsWith, ReadsInto, layout_of};
-ghost use Rattle.jsonptr_calls.specs.declared.failure.Failure.{Failure};
+ghost use Rattle.jsonptr_c_handle.specs.Document.{IsEmpty, Keeps};
+ghost use Rattle.jsonptr_c_calls.specs.Depths.{IsBounded};
+ghost use Rattle.jsonptr_c_calls.specs.Editing.{AssignsAt, DeletesAt, IsNotDeleted, IsTextNotAssigned};
+ghost use Rattle.jsonptr_c_calls.specs.Failures.{FailsOn, IsNotParsed, IsNotPrinted, IsNotRead, Unfound};
+ghost use Rattle.jsonptr_c_calls.specs.InTexts.{FindsTextIn, IsNotPrintedFrom};
+ghost use Rattle.jsonptr_c_calls.specs.Nodes.{FindsNode};
+ghost use Rattle.jsonptr_c_calls.specs.Outcomes.{IsLengthOf, Reports};
+ghost use Rattle.jsonptr_c_calls.specs.Patches.{AppliesText, AppliesWithBack, IsDiffText, IsNotApplied, IsNotAppliedWithBack, IsNotCompared, IsNotPatchText};
+ghost use Rattle.jsonptr_c_calls.specs.Rows.{no_error};
+ghost use Rattle.jsonptr_c_calls.specs.Values.{Changes, FindsTextOf, FindsString, HoldsWith, ReadsInto, layout_of};
+ghost use Rattle.jsonptr_c_calls.specs.declared.failure.Failure.{Failure};
 
-use jsonptr_calls::documents::{
+use jsonptr_c_calls::documents::{
     assign, delete, diff, free, node_at, parse, patch, patch_with_inverse, print_at, string_at,
 };
-use jsonptr_calls::node::Node;
-use jsonptr_calls::outcome::{fail, fail_with_length, succeed};
-use jsonptr_calls::record::ErrorRecord;
-use jsonptr_calls::texts::print_in;
-use jsonptr_calls::values::Layout;
-use jsonptr_handle::document::Document;
+use jsonptr_c_calls::node::Node;
+use jsonptr_c_calls::outcome::{fail, fail_with_length, succeed};
+use jsonptr_c_calls::record::ErrorRecord;
+use jsonptr_c_calls::texts::print_in;
+use jsonptr_c_calls::values::Layout;
+use jsonptr_c_handle::document::Document;
 use std::alloc::Global;
 
 /// Returns the layout of a text.

@@ -1,14 +1,14 @@
 //! Messages of errors.
 ghost use Rattle.std.specs.Prelude.{◌≡◌, ◌≢◌, ◌≤◌, [], take, length as list_length};
-ghost use Rattle.jsonptr_calls.specs.Failures.{IsNotWritten};
-ghost use Rattle.jsonptr_calls.specs.Messages.{message_of, message_room};
-ghost use Rattle.jsonptr_calls.specs.Outcomes.{ReportsLength};
-ghost use Rattle.jsonptr_calls.specs.Rows.{status_of};
-ghost use Rattle.jsonptr_calls.specs.declared.failure.Failure.{Failure};
+ghost use Rattle.jsonptr_c_calls.specs.Failures.{IsNotWritten};
+ghost use Rattle.jsonptr_c_calls.specs.Messages.{message_of, message_room};
+ghost use Rattle.jsonptr_c_calls.specs.Outcomes.{ReportsLength};
+ghost use Rattle.jsonptr_c_calls.specs.Rows.{status_of};
+ghost use Rattle.jsonptr_c_calls.specs.declared.failure.Failure.{Failure};
 
-use jsonptr_calls::numbers::OK;
-use jsonptr_calls::outcome::fail_with_length;
-use jsonptr_calls::record::{ErrorRecord, message};
+use jsonptr_c_calls::numbers::OK;
+use jsonptr_c_calls::outcome::fail_with_length;
+use jsonptr_c_calls::record::{ErrorRecord, message};
 use std::alloc::Global;
 
 /// Copies the message of the error to the buffer.

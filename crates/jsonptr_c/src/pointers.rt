@@ -1,15 +1,15 @@
 //! JSON Pointers.
 ghost use Rattle.std.specs.Prelude.{◌≡◌, ◌≢◌, [], take, length as list_length};
 ghost use Rattle.jsonptr.specs.Text.{esc};
-ghost use Rattle.jsonptr_calls.specs.Failures.{IsNoPointer, IsNoToken, IsNotEscaped, IsNotPopped, IsNotPushed};
-ghost use Rattle.jsonptr_calls.specs.Outcomes.{IsLengthOf, Reports};
-ghost use Rattle.jsonptr_calls.specs.Rows.{no_error};
-ghost use Rattle.jsonptr_calls.specs.Pointers.{HasCount, HasToken, Extends, Shortens};
-ghost use Rattle.jsonptr_calls.specs.declared.failure.Failure.{Failure};
+ghost use Rattle.jsonptr_c_calls.specs.Failures.{IsNoPointer, IsNoToken, IsNotEscaped, IsNotPopped, IsNotPushed};
+ghost use Rattle.jsonptr_c_calls.specs.Outcomes.{IsLengthOf, Reports};
+ghost use Rattle.jsonptr_c_calls.specs.Rows.{no_error};
+ghost use Rattle.jsonptr_c_calls.specs.Pointers.{HasCount, HasToken, Extends, Shortens};
+ghost use Rattle.jsonptr_c_calls.specs.declared.failure.Failure.{Failure};
 
-use jsonptr_calls::outcome::{fail, fail_with_length, succeed};
-use jsonptr_calls::pointers::{count, escape, pop, push, token};
-use jsonptr_calls::record::ErrorRecord;
+use jsonptr_c_calls::outcome::{fail, fail_with_length, succeed};
+use jsonptr_c_calls::pointers::{count, escape, pop, push, token};
+use jsonptr_c_calls::record::ErrorRecord;
 use std::alloc::Global;
 
 /// Counts the tokens of the pointer.

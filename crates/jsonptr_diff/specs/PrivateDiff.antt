@@ -20,7 +20,7 @@ use Rattle.jsonptr_patch.specs.PrivateTesting as tested
 use Rattle.jsonptr_patch.specs.declared.operation.Operation.{Operation}
 use Rattle.jsonptr_patch.specs.declared.operation.Operation.TheVariants.{Add, Remove, Replace}
 use Rattle.jsonptr_diff.specs.Differing.{IsChange}
-use Rattle.jsonptr_diff.specs.declared.aligning.Gap.{Gap}
+use Rattle.jsonptr_diff.specs.declared.align.Gap.{Gap}
 use Rattle.jsonptr_diff.specs.declared.location.Location.{Location, Root, Member', Element'}
 
 -- `tokens_of l`: the tokens of the pointer to the location `l`.

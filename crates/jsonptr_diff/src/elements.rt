@@ -8,7 +8,7 @@ ghost use Rattle.jsonptr_patch.specs.declared.operation.Operation.{Operation as 
 ghost use Rattle.jsonptr_diff.specs.PrivateDiff.{tokens_of, AppendsParts, IsArray, Splices, array_map};
 
 use crate::location::Location;
-use crate::writing::{add, remove};
+use crate::write::{add, remove};
 use jsonptr_patch::Operation;
 use serde_json::Value;
 use std::alloc::{AllocError, Global};

@@ -21,14 +21,14 @@
 //! `1.0`.
 #![tactic(auto)]
 
-mod aligning;
-mod diffing;
+mod align;
+mod difference;
 mod elements;
 pub mod laws;
 mod likeness;
 mod location;
 mod members;
 mod same;
-mod writing;
+mod write;
 
-pub use diffing::{change, diff};
+pub use difference::{change, diff};

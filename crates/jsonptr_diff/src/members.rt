@@ -5,7 +5,7 @@ ghost use Rattle.serde_json.specs.declared.value.Value.{Object as an_object};
 ghost use Rattle.jsonptr_diff.specs.PrivateDiff.{tokens_of, Turns, AppendsChanges, object_map, mixed};
 
 use crate::location::Location;
-use crate::writing::add;
+use crate::write::add;
 use jsonptr_patch::Operation;
 use serde_json::{Map, Value};
 use std::alloc::{AllocError, Global};

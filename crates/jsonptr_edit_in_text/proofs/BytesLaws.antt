@@ -6,7 +6,7 @@ use Rattle.serde_json.specs.Data.{Data}
 use Rattle.jsonptr_grammar.specs.Text.{Text}
 use Rattle.jsonptr_in_text.specs.InText.{FindsInText}
 use Rattle.jsonptr_lines.specs.Lines.{IsOneLine}
-use Rattle.jsonptr_splice.specs.Spacing.{IsBlank, Splices}
+use Rattle.jsonptr_json_edits.specs.Spacing.{IsBlank, Splices}
 use Rattle.jsonptr_edit_in_text.specs.Bytes.{AddsPiece, CutsBytes, ReplacesBytes}
 
 turned : (old new was piece : Text) → Splices old new was piece → Splices new old piece was

@@ -14,17 +14,17 @@ use Rattle.jsonptr_tree.specs.Growing.{grown}
 use Rattle.jsonptr_tree.specs.Json.{content, nodes}
 use Rattle.jsonptr_tree.proofs.ContentLemmas.{content_at-push}
 use Rattle.jsonptr_tree.proofs.NodeLemmas.{Names-push}
-use Rattle.jsonptr_skim.specs.Search as skim
-use Rattle.jsonptr_skim.specs.Search.{Choice}
+use Rattle.jsonptr_json_search.specs.Search as skim
+use Rattle.jsonptr_json_search.specs.Search.{Choice}
 use Rattle.jsonptr_in_text.specs.InText.{FindsInText}
 use Rattle.jsonptr_in_text.specs.Selecting.{IsChoiceOf}
-use Rattle.jsonptr_splice.specs.Alike.{Holds}
-use Rattle.jsonptr_splice.proofs.AlikeLemmas.{holds_within}
-use Rattle.jsonptr_splice.specs.Editing.{InsertsItem, AddsMember, AddsElement, ChangesChild, Makes}
-use Rattle.jsonptr_splice.specs.declared.edit.Child.{Child}
-use Rattle.jsonptr_splice.specs.declared.edit.Edit.TheVariants as edit
-use Rattle.jsonptr_splice.specs.Spacing.{IsBlank, IsTrimmed, Splices}
-use Rattle.jsonptr_splice.specs.Child.{IsValueText, IsOneChild}
+use Rattle.jsonptr_json_edits.specs.Alike.{Holds}
+use Rattle.jsonptr_json_edits.proofs.AlikeLemmas.{holds_within}
+use Rattle.jsonptr_json_edits.specs.Editing.{InsertsItem, AddsMember, AddsElement, ChangesChild, Makes}
+use Rattle.jsonptr_json_edits.specs.declared.edit.Child.{Child}
+use Rattle.jsonptr_json_edits.specs.declared.edit.Edit.TheVariants as edit
+use Rattle.jsonptr_json_edits.specs.Spacing.{IsBlank, IsTrimmed, Splices}
+use Rattle.jsonptr_json_edits.specs.Child.{IsValueText, IsOneChild}
 use Rattle.jsonptr_edit_in_text.specs.Bytes.{IsScalar, ReplacesBytes, ExpandsBytes, GrowsBytes, CutsBytes, CutsInTurn, CutsMembers, CutsElement}
 use Rattle.jsonptr_edit_in_text.specs.PatchInText.{AddsAtBytes}
 use Rattle.jsonptr_edit_in_text.specs.PrivateReaching.{ReachedInText, Trades, MemberAdded, ElementAppended, ReplacesByText, ReplacesScalarByText, AddsPieceByText, AddsByText}

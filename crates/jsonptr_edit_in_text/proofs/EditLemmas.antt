@@ -19,11 +19,11 @@ use Rattle.jsonptr_tree.proofs.FollowingLemmas.{stops_in, lacks_at_leaf, lacks_a
 use Rattle.jsonptr_tree.proofs.LandingLemmas.{means_end-dash, means_end-dec, lacks_at_end}
 use Rattle.jsonptr_tree.proofs.PutLemmas.{cases_same, same_by_step, put-step, put-other_step, rest_after-shorter, put_none}
 use Rattle.jsonptr_tree.proofs.AssigningLemmas.{made, made-step, made-other_step, Assigns_named, Assigns_leaf, Assigns_object_below, Assigns_end_below, Assigns-leaf, Assigns-named}
-use Rattle.jsonptr_skim.specs.Search as skim
+use Rattle.jsonptr_json_search.specs.Search as skim
 use Rattle.jsonptr_in_text.proofs.SearchLemmas.{len_same, member_content}
-use Rattle.jsonptr_splice.specs.declared.edit.Child.{Child}
-use Rattle.jsonptr_splice.specs.declared.edit.Edit.TheVariants as edit
-use Rattle.jsonptr_splice.specs.Editing.{InsertsItem, InsertsMember, Makes}
+use Rattle.jsonptr_json_edits.specs.declared.edit.Child.{Child}
+use Rattle.jsonptr_json_edits.specs.declared.edit.Edit.TheVariants as edit
+use Rattle.jsonptr_json_edits.specs.Editing.{InsertsItem, InsertsMember, Makes}
 use Rattle.jsonptr_edit_in_text.specs.EditInText.{AssignsInText}
 use Rattle.jsonptr_edit_in_text.specs.PrivateReaching.{ReachedInText, ReplacesScalar, AddsMemberAt, AppendsAt, Becomes, ScalarBecomes, MemberAdded, ElementAppended}
 use Rattle.jsonptr_edit_in_text.proofs.ReachingLemmas.{reached_so, item_content, below, same_below, other_place, other_key}

@@ -17,8 +17,8 @@ use Rattle.jsonptr_tree.specs.Put.{put}
 use Rattle.jsonptr_tree.specs.Removing.{Deletes}
 use Rattle.jsonptr_tree.proofs.JsonLemmas.{FindsValue-Finds}
 use Rattle.jsonptr_tree.proofs.PutLemmas.{same_by_step, put_below}
-use Rattle.jsonptr_skim.specs.Search as skim
-use Rattle.jsonptr_skim.specs.Search.{Choice}
+use Rattle.jsonptr_json_search.specs.Search as skim
+use Rattle.jsonptr_json_search.specs.Search.{Choice}
 use Rattle.jsonptr_in_text.specs.Selecting.{AreChoicesOf}
 use Rattle.jsonptr_in_text.proofs.SearchLemmas.{len_same, found}
 use Rattle.jsonptr_patch.specs.Adding.{MeansPlace, AddsUnder, AddsBelow, Adds}
@@ -31,9 +31,9 @@ use Rattle.jsonptr_patch.proofs.AddingLemmas.{taken}
 use Rattle.jsonptr_patch.proofs.InsertingLemmas.{cases_place, with_place-same, with_place-below, with_place-above, with_place-root}
 use Rattle.jsonptr_patch.proofs.OperatingLemmas.{patches_push_by}
 use Rattle.jsonptr_patch.specs.declared.comparison.Comparison.TheVariants.{Numeric}
-use Rattle.jsonptr_splice.specs.Editing.{InsertsItem, ChangesChild, ChangesAt, IsEdited}
-use Rattle.jsonptr_splice.specs.Leading.{LeadsInText}
-use Rattle.jsonptr_splice.specs.declared.edit.Edit.TheVariants.{Replace}
+use Rattle.jsonptr_json_edits.specs.Editing.{InsertsItem, ChangesChild, ChangesAt, IsEdited}
+use Rattle.jsonptr_json_edits.specs.Leading.{LeadsInText}
+use Rattle.jsonptr_json_edits.specs.declared.edit.Edit.TheVariants.{Replace}
 use Rattle.jsonptr_edit_in_text.specs.EditInText.{DeletesInText}
 use Rattle.jsonptr_edit_in_text.specs.PatchInText.{OperationBytes, PatchBytes, PatchesInText}
 use Rattle.jsonptr_edit_in_text.specs.PrivateReaching.{ReachedInText, Becomes, Trades, MemberAdded, ElementAppended}

@@ -13,11 +13,11 @@ use Rattle.jsonptr_tree.specs.Json.{content, items, nodes}
 use Rattle.jsonptr_tree.specs.Put.{put, same_step}
 use Rattle.jsonptr_tree.proofs.ContentLemmas.{map_of-sub}
 use Rattle.jsonptr_tree.proofs.PutLemmas.{same_step-refl, cases_same, rest_after-shorter, put_none, same_by_step, put-step, put-other_step}
-use Rattle.jsonptr_skim.specs.Search.{Choice}
+use Rattle.jsonptr_json_search.specs.Search.{Choice}
 use Rattle.jsonptr_in_text.specs.Selecting.{AreChoicesOf}
 use Rattle.jsonptr_in_text.proofs.SearchLemmas.{len_same, member_content}
 use Rattle.jsonptr_edit_in_text.specs.PrivateReaching.{Reached, ReachedInText}
-use Rattle.jsonptr_splice.specs.Editing.{OnlyItemDiffers, OnlyMemberDiffers, ChangesAt}
+use Rattle.jsonptr_json_edits.specs.Editing.{OnlyItemDiffers, OnlyMemberDiffers, ChangesAt}
 
 pub item_content : (ds : json.Items) (i : ℕ) → get_item i (items ds) ≡ option_map content (find.get_item i ds)
 item_content json.no_items i = refl

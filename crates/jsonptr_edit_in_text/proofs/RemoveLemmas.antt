@@ -16,11 +16,11 @@ use Rattle.jsonptr_tree.proofs.NodeLemmas.{Names-push}
 use Rattle.jsonptr_tree.proofs.PutLemmas.{cases_same, same_by_step, put-sub, put-put, sub-put, put_at, Names-put}
 use Rattle.jsonptr_tree.proofs.AssigningLemmas.{Assigns-named}
 use Rattle.jsonptr_tree.proofs.RemovingLemmas.{Deletes_whole, Deletes_child, place_before-below, place_before-from, without_key-same, without_key-other}
-use Rattle.jsonptr_skim.specs.Search as skim
-use Rattle.jsonptr_skim.specs.Search.{Choice}
+use Rattle.jsonptr_json_search.specs.Search as skim
+use Rattle.jsonptr_json_search.specs.Search.{Choice}
 use Rattle.jsonptr_in_text.specs.Selecting.{IsChoiceOf}
 use Rattle.jsonptr_in_text.proofs.SearchLemmas.{len_same, member_content}
-use Rattle.jsonptr_splice.specs.Editing.{InsertsItem, InsertsMember, AddsMember, AddsElement}
+use Rattle.jsonptr_json_edits.specs.Editing.{InsertsItem, InsertsMember, AddsMember, AddsElement}
 use Rattle.jsonptr_edit_in_text.specs.EditInText.{AssignsInText, DeletesInText}
 use Rattle.jsonptr_edit_in_text.specs.PrivateReaching.{ReachedInText}
 use Rattle.jsonptr_edit_in_text.proofs.ReachingLemmas.{item_content, other_key, reached_so}

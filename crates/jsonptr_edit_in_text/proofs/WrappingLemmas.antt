@@ -18,10 +18,10 @@ use Rattle.jsonptr_tree.specs.Node.{key, place, Path, an_object, an_array, Label
 use Rattle.jsonptr_tree.specs.Growing.{is_append_index, with_one, grown}
 use Rattle.jsonptr_tree.specs.Content.{label_of, content_at}
 use Rattle.jsonptr_tree.specs.Json.{content, nodes}
-use Rattle.jsonptr_splice.specs.Alike.{Holds}
+use Rattle.jsonptr_json_edits.specs.Alike.{Holds}
 use Rattle.jsonptr_edit_in_text.specs.Carrying.{or_null, value_of, Carries}
 use Rattle.jsonptr_edit_in_text.specs.declared.raw_value.RawValue.{RawValue}
-use Rattle.jsonptr_splice.specs.declared.layout.ValueText.{ValueText}
+use Rattle.jsonptr_json_edits.specs.declared.layout.ValueText.{ValueText}
 use Rattle.std.specs.declared.alloc.AllocError.{AllocError}
 use Rattle.jsonptr_edit_in_text.specs.PrivateReaching.{IsExpanded}
 use Rattle.jsonptr_edit_in_text.specs.PrivateWrapping.{wrapped}

@@ -7,11 +7,11 @@ use Rattle.jsonptr_tree.specs.Node.{Scalar, a_leaf}
 use Rattle.jsonptr_tree.specs.Content.{label_of}
 use Rattle.jsonptr_tree.specs.Growing.{grown}
 use Rattle.jsonptr_tree.specs.Json.{content, nodes}
-use Rattle.jsonptr_skim.specs.Search.{items_len}
+use Rattle.jsonptr_json_search.specs.Search.{items_len}
 use Rattle.jsonptr_in_text.specs.InText.{FindsInText}
 use Rattle.jsonptr_patch.specs.Adding.{MeansPlace}
-use Rattle.jsonptr_splice.specs.Spacing.{IsBlank, Splices}
-use Rattle.jsonptr_splice.specs.Child.{IsValueText, IsOneChild}
+use Rattle.jsonptr_json_edits.specs.Spacing.{IsBlank, Splices}
+use Rattle.jsonptr_json_edits.specs.Child.{IsValueText, IsOneChild}
 use Rattle.jsonptr_edit_in_text.specs.declared.edited.Edited.{Edited}
 use Rattle.jsonptr_edit_in_text.specs.declared.edited.Edited.TheVariants.{InPlace, Rewritten}
 

@@ -5,7 +5,7 @@ use Rattle.json.specs.Token.{Token}
 use Rattle.jsonptr_grammar.specs.Text.{Text}
 use Rattle.serde_json.specs.Data.{Data, null}
 use Rattle.serde_json.specs.Read.{read}
-use Rattle.jsonptr_splice.specs.Spacing.{IsTrimmed}
+use Rattle.jsonptr_json_edits.specs.Spacing.{IsTrimmed}
 use Rattle.jsonptr_edit_in_text.specs.declared.raw_value.RawValue.{RawValue}
 
 -- `or_null o` is the value `o`, and null if there is none

@@ -3,7 +3,7 @@ use Rattle.std.specs.Prelude.{◌≡◌, List, ◌++◌}
 use Rattle.serde_json.specs.Data.{Data}
 use Rattle.jsonptr_grammar.specs.Text.{Text}
 use Rattle.jsonptr_in_text.specs.InText.{FindsInText, IsInTextError}
-use Rattle.jsonptr_splice.specs.Child.{IsValueText}
+use Rattle.jsonptr_json_edits.specs.Child.{IsValueText}
 use Rattle.jsonptr_edit_in_text.specs.declared.locate.LocateError.{LocateError}
 use Rattle.jsonptr_edit_in_text.specs.declared.locate.LocateError.TheVariants.{NotLocated, Failed}
 

@@ -6,11 +6,11 @@ use Rattle.jsonptr_grammar.specs.Text.{Text}
 use Rattle.jsonptr_tree.specs.Node.{NodeMap}
 use Rattle.jsonptr_tree.specs.Json.{nodes}
 use Rattle.jsonptr_walk.specs.Follow.{PutsAt}
-use Rattle.jsonptr_skim.specs.Search.{Choice}
+use Rattle.jsonptr_json_search.specs.Search.{Choice}
 use Rattle.jsonptr_in_text.specs.InText.{FindsInText}
 use Rattle.jsonptr_in_text.specs.Selecting.{IsChoiceOf, AreChoicesOf}
-use Rattle.jsonptr_splice.specs.Alike.{Holds}
-use Rattle.jsonptr_splice.specs.Editing.{AddsElement}
+use Rattle.jsonptr_json_edits.specs.Alike.{Holds}
+use Rattle.jsonptr_json_edits.specs.Editing.{AddsElement}
 use Rattle.jsonptr_patch.specs.Adding.{Adds}
 use Rattle.jsonptr_patch.specs.Operating.{AppliesBy, Moves, Copies, PassesBy}
 use Rattle.jsonptr_patch.specs.declared.operation.Operation.{Operation}

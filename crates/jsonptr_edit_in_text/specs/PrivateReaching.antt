@@ -2,16 +2,16 @@
 use Rattle.std.specs.Prelude.{◌≡◌, ◌⊎◌, List, Option, Some, None, codes, string_bytes}
 use Rattle.serde_json.specs.Data.{Data, array, Items}
 use Rattle.serde_json.specs.Read.{read}
-use Rattle.jsonptr_skim.specs.Search.{items_len}
-use Rattle.jsonptr_splice.specs.Alike.{Holds}
-use Rattle.jsonptr_splice.specs.Editing.{AddsMember, InsertsItem}
+use Rattle.jsonptr_json_search.specs.Search.{items_len}
+use Rattle.jsonptr_json_edits.specs.Alike.{Holds}
+use Rattle.jsonptr_json_edits.specs.Editing.{AddsMember, InsertsItem}
 use Rattle.jsonptr_grammar.specs.Text.{Text, dec}
 use Rattle.jsonptr_tree.specs.Node.{Path, NodeMap, Names}
 use Rattle.jsonptr_tree.specs.Content.{content_at}
 use Rattle.jsonptr_tree.specs.Json.{content, nodes}
 use Rattle.jsonptr_tree.specs.Put.{put}
 use Rattle.jsonptr_tree.specs.Growing.{grown}
-use Rattle.jsonptr_splice.specs.declared.layout.ValueText.{ValueText}
+use Rattle.jsonptr_json_edits.specs.declared.layout.ValueText.{ValueText}
 use Rattle.jsonptr_edit_in_text.specs.Bytes.{IsScalar, ReplacesBytes, AddsPiece, AddsBytes}
 
 -- `Reached R d d2 tokens`: the tokens name a path of `d`, and `d2` is `d` with another value there, which `R` relates to the old

@@ -1,7 +1,7 @@
 //! Adding a value in a text, as an operation of a patch does (RFC 6902, section 4.1).
 ghost use Rattle.std.specs.Prelude.{[], ◌∷◌, ◌++◌, IfOk, IfSome, string_bytes};
 ghost use Rattle.jsonptr.specs.Pointer.{tokens};
-ghost use Rattle.jsonptr_skim.specs.Search.{choices};
+ghost use Rattle.jsonptr_json_search.specs.Search.{choices};
 ghost use Rattle.jsonptr_edit_in_text.specs.PrivateOperating.{AddsInText, AddsAtByText, AreMemberChoices, ElementInserted};
 ghost use Rattle.jsonptr_edit_in_text.specs.PrivateReaching.{ReachedInText, ReplacesByText, AddsByText};
 
@@ -12,14 +12,14 @@ use crate::replace::replace;
 use jsonptr::index::Index;
 use jsonptr::{Pointer, Token};
 use jsonptr_in_text::selectors::{selector_of, selectors_of};
-use jsonptr_skim::selector::Selector;
-use jsonptr_splice::buffers::Buffers;
-use jsonptr_splice::child::is_value_of;
-use jsonptr_splice::cut::cut_at;
-use jsonptr_splice::edit::{Child, Edit};
-use jsonptr_splice::layout::{ValueText, addition, replacement, slice};
-use jsonptr_splice::locate::Place;
-use jsonptr_splice::spacing::is_trimmed;
+use jsonptr_json_edits::buffers::Buffers;
+use jsonptr_json_edits::child::is_value_of;
+use jsonptr_json_edits::cut::cut_at;
+use jsonptr_json_edits::edit::{Child, Edit};
+use jsonptr_json_edits::layout::{ValueText, addition, replacement, slice};
+use jsonptr_json_edits::locate::Place;
+use jsonptr_json_edits::spacing::is_trimmed;
+use jsonptr_json_search::selector::Selector;
 use std::alloc::{AllocError, Global};
 
 /// Adds the value at the pointer. Returns `None` if that is not possible.

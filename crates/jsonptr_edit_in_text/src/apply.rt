@@ -11,8 +11,8 @@ use crate::operate::operate;
 use crate::rewrite::apply_and_print;
 use jsonptr::Pointer;
 use jsonptr_in_text::{InTextError, exists_in_text_with};
+use jsonptr_json_edits::buffers::Buffers;
 use jsonptr_patch::{Operation, PatchError};
-use jsonptr_splice::buffers::Buffers;
 use std::alloc::{AllocError, Global};
 
 /// Applies the operations of a patch in order to the document that the text contains, all of them or

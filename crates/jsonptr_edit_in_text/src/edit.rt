@@ -1,18 +1,18 @@
 //! One edit of a text, with the check that it is that edit.
 ghost use Rattle.std.specs.Prelude.{IfOk, IfSome, IsTrue, string_bytes};
 ghost use Rattle.jsonptr.specs.Pointer.{tokens};
-ghost use Rattle.jsonptr_skim.specs.Search.{choices};
-ghost use Rattle.jsonptr_splice.specs.Editing.{IsEdited, Makes};
-ghost use Rattle.jsonptr_splice.specs.Spacing.{Splices};
+ghost use Rattle.jsonptr_json_search.specs.Search.{choices};
+ghost use Rattle.jsonptr_json_edits.specs.Editing.{IsEdited, Makes};
+ghost use Rattle.jsonptr_json_edits.specs.Spacing.{Splices};
 ghost use Rattle.jsonptr_edit_in_text.specs.PrivateReaching.{ReachedInText};
 
 use jsonptr::Pointer;
 use jsonptr_in_text::selectors::selectors_of;
-use jsonptr_skim::selector::Selector;
-use jsonptr_splice::buffers::Buffers;
-use jsonptr_splice::check::is_edited_with;
-use jsonptr_splice::cut::{Cut, splice};
-use jsonptr_splice::edit::Edit;
+use jsonptr_json_edits::buffers::Buffers;
+use jsonptr_json_edits::check::is_edited_with;
+use jsonptr_json_edits::cut::{Cut, splice};
+use jsonptr_json_edits::edit::Edit;
+use jsonptr_json_search::selector::Selector;
 use std::alloc::{AllocError, Global};
 
 /// Puts the piece into the text, if that makes the edit of the value that the selectors lead to.

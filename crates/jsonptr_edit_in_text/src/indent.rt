@@ -4,8 +4,8 @@ ghost use Rattle.json.specs.Lex.{tokens as lexed};
 ghost use Rattle.jsonptr_edit_in_text.specs.Indenting.{IsIndented, IsIndentError};
 
 use jsonptr_in_text::{Format, InTextError, format_text};
-use jsonptr_splice::buffers::Buffers;
-use jsonptr_splice::child::is_value_of;
+use jsonptr_json_edits::buffers::Buffers;
+use jsonptr_json_edits::child::is_value_of;
 use std::alloc::{AllocError, Global};
 use thiserror::Error;
 

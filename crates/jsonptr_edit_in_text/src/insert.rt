@@ -2,21 +2,21 @@
 ghost use Rattle.std.specs.Prelude.{◌≡◌, ◌⊎◌, Some, None, IfOk, IfSome, codes, string_bytes};
 ghost use Rattle.jsonptr.specs.Pointer.{tokens};
 ghost use Rattle.jsonptr_grammar.specs.Text.{dec};
-ghost use Rattle.jsonptr_splice.specs.Editing.{Makes};
+ghost use Rattle.jsonptr_json_edits.specs.Editing.{Makes};
 ghost use Rattle.jsonptr_edit_in_text.specs.PrivateReaching.{ReachedInText, MemberAdded, ElementAppended, AddsPieceByText, AddsByText};
 
 use crate::edit::edit_at;
 use crate::place::children_of;
 use jsonptr::index::Index;
 use jsonptr::{Pointer, Token};
-use jsonptr_skim::selector::Selector;
-use jsonptr_splice::buffers::Buffers;
-use jsonptr_splice::child::is_one_child;
-use jsonptr_splice::cut::cut_at;
-use jsonptr_splice::edit::{Child, Edit};
-use jsonptr_splice::layout::{Piece, ValueText, addition};
-use jsonptr_splice::locate::Place;
-use jsonptr_splice::spacing::is_blank;
+use jsonptr_json_edits::buffers::Buffers;
+use jsonptr_json_edits::child::is_one_child;
+use jsonptr_json_edits::cut::cut_at;
+use jsonptr_json_edits::edit::{Child, Edit};
+use jsonptr_json_edits::layout::{Piece, ValueText, addition};
+use jsonptr_json_edits::locate::Place;
+use jsonptr_json_edits::spacing::is_blank;
+use jsonptr_json_search::selector::Selector;
 use serde_json::Value;
 use std::alloc::{AllocError, Global};
 

@@ -4,7 +4,7 @@ ghost use Rattle.serde_json.specs.Data.{Data};
 ghost use Rattle.jsonptr_grammar.specs.Text.{Text};
 ghost use Rattle.jsonptr_in_text.specs.InText.{FindsInText};
 ghost use Rattle.jsonptr_lines.specs.Lines.{IsOneLine};
-ghost use Rattle.jsonptr_splice.specs.Spacing.{IsBlank, Splices};
+ghost use Rattle.jsonptr_json_edits.specs.Spacing.{IsBlank, Splices};
 ghost use Rattle.jsonptr_edit_in_text.specs.Bytes.{AddsPiece, CutsBytes, ReplacesBytes};
 
 /// States that the bytes of an edit can be put back.

@@ -58,6 +58,6 @@ pub use in_place::{
     InPlaceError, apply_in_place, assign_in_place, assign_raw_in_place, delete_in_place,
 };
 pub use indent::{IndentError, indent_text};
-pub use jsonptr_splice::buffers::Buffers;
+pub use jsonptr_json_edits::buffers::Buffers;
 pub use locate::{LocateError, Located, locate_in_text, locate_in_text_with};
 pub use raw_value::RawValue;

@@ -7,10 +7,10 @@ use crate::place::place_of;
 use jsonptr::Pointer;
 use jsonptr_in_text::selectors::selectors_of;
 use jsonptr_in_text::{InTextError, resolve_in_text_with};
-use jsonptr_splice::buffers::Buffers;
-use jsonptr_splice::cut::{Cut, cut_at};
-use jsonptr_splice::lead::{Target, leads_to};
-use jsonptr_splice::spacing::is_trimmed;
+use jsonptr_json_edits::buffers::Buffers;
+use jsonptr_json_edits::cut::{Cut, cut_at};
+use jsonptr_json_edits::lead::{Target, leads_to};
+use jsonptr_json_edits::spacing::is_trimmed;
 use std::alloc::{AllocError, Global};
 use thiserror::Error;
 

@@ -17,8 +17,8 @@ use crate::value_text::value_text;
 use jsonptr::{Fault, Pointer, PointerBuf};
 use jsonptr_in_text::selectors::selectors_of;
 use jsonptr_in_text::{InTextError, resolve_in_text_with};
+use jsonptr_json_edits::buffers::Buffers;
 use jsonptr_patch::{Comparison, Operation, apply_comparing};
-use jsonptr_splice::buffers::Buffers;
 use serde_json::Value;
 use std::alloc::{AllocError, Global};
 

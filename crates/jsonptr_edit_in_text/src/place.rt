@@ -1,9 +1,9 @@
 //! Where pointers lead in a text.
 
-use jsonptr_skim::selector::Selector;
-use jsonptr_splice::buffers::Buffers;
-use jsonptr_splice::edit::CheckError;
-use jsonptr_splice::locate::{Extent, Place, Span, children, locate};
+use jsonptr_json_edits::buffers::Buffers;
+use jsonptr_json_edits::edit::CheckError;
+use jsonptr_json_edits::locate::{Extent, Place, Span, children, locate};
+use jsonptr_json_search::selector::Selector;
 use std::alloc::{AllocError, Global};
 
 /// Returns where the selectors lead in the text, or `None` if the text is not JSON.

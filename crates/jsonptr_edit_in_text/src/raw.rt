@@ -15,7 +15,7 @@ use crate::raw_value::RawValue;
 use crate::wrap::expanded;
 use jsonptr::Pointer;
 use jsonptr_in_text::{Format, InTextError, Scratch, format_text};
-use jsonptr_splice::layout::{ValueText, text_of_value};
+use jsonptr_json_edits::layout::{ValueText, text_of_value};
 use jsonptr_value::{MAX_DEPTH, nests_within};
 use serde_json::Value;
 use std::alloc::{AllocError, Global};

@@ -2,7 +2,7 @@
 ghost use Rattle.std.specs.Prelude.{[], ◌∷◌, ◌++◌, List, ℕ, Some, IfOk, IfSome, IsTrue, option_map, string_bytes};
 ghost use Rattle.serde_json.specs.Data.{Data};
 ghost use Rattle.jsonptr.specs.Pointer.{tokens};
-ghost use Rattle.jsonptr_splice.specs.Child.{IsReadAs};
+ghost use Rattle.jsonptr_json_edits.specs.Child.{IsReadAs};
 ghost use Rattle.jsonptr_edit_in_text.specs.Bytes.{CutsBytes, CutsInTurn, CutsMembers, CutsElement, CutsChild};
 ghost use Rattle.jsonptr_edit_in_text.specs.EditInText.{DeletesInText};
 
@@ -10,12 +10,12 @@ use crate::edit::is_edited_at;
 use crate::place::children_of;
 use jsonptr::{Pointer, Token};
 use jsonptr_in_text::selectors::selector_of;
-use jsonptr_splice::buffers::Buffers;
-use jsonptr_splice::child::is_one_child;
-use jsonptr_splice::cut::{cut_at, splice};
-use jsonptr_splice::edit::{Child, Edit};
-use jsonptr_splice::layout::{removal, slice};
-use jsonptr_splice::locate::{Extent, Place, Span};
+use jsonptr_json_edits::buffers::Buffers;
+use jsonptr_json_edits::child::is_one_child;
+use jsonptr_json_edits::cut::{cut_at, splice};
+use jsonptr_json_edits::edit::{Child, Edit};
+use jsonptr_json_edits::layout::{removal, slice};
+use jsonptr_json_edits::locate::{Extent, Place, Span};
 use std::alloc::{AllocError, Global};
 
 /// Cuts out each child that the token selects of the value that the pointer resolves to. Returns

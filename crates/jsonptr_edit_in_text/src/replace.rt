@@ -9,15 +9,15 @@ ghost use Rattle.jsonptr_edit_in_text.specs.PrivateReaching.{ReachedInText, Trad
 
 use crate::edit::edit_at;
 use jsonptr::Pointer;
-use jsonptr_skim::find::find_in_text_with;
-use jsonptr_skim::outcome::{Outcome, ReadError};
-use jsonptr_splice::buffers::Buffers;
-use jsonptr_splice::child::is_value_of;
-use jsonptr_splice::cut::{Cut, cut_at};
-use jsonptr_splice::edit::Edit;
-use jsonptr_splice::layout::{ValueText, replacement};
-use jsonptr_splice::locate::Place;
-use jsonptr_splice::spacing::is_trimmed;
+use jsonptr_json_edits::buffers::Buffers;
+use jsonptr_json_edits::child::is_value_of;
+use jsonptr_json_edits::cut::{Cut, cut_at};
+use jsonptr_json_edits::edit::Edit;
+use jsonptr_json_edits::layout::{ValueText, replacement};
+use jsonptr_json_edits::locate::Place;
+use jsonptr_json_edits::spacing::is_trimmed;
+use jsonptr_json_search::find::find_in_text_with;
+use jsonptr_json_search::outcome::{Outcome, ReadError};
 use serde_json::Value;
 use std::alloc::{AllocError, Global};
 

@@ -6,9 +6,9 @@ ghost use Rattle.jsonptr_edit_in_text.specs.PrivateOperating.{FindsText};
 use crate::place::place_of;
 use jsonptr::Pointer;
 use jsonptr_in_text::selectors::selectors_of;
-use jsonptr_splice::buffers::Buffers;
-use jsonptr_splice::layout::{ValueText, text_at};
-use jsonptr_splice::lead::{Target, leads_to};
+use jsonptr_json_edits::buffers::Buffers;
+use jsonptr_json_edits::layout::{ValueText, text_at};
+use jsonptr_json_edits::lead::{Target, leads_to};
 use std::alloc::{AllocError, Global};
 
 /// Returns the text of the value that the pointer resolves to, with its numbers and strings as they

@@ -3,9 +3,9 @@ use Rattle.std.proofs.Common.{◌≡◌, ℕ, suc, ◌-◌, ◌<◌, ◌^◌, Li
 use Rattle.serde_json.specs.Data.{Data}
 use Rattle.jsonptr_grammar.specs.Text.{Text}
 use Rattle.jsonptr_tree.specs.Json.{FindsValue}
-use Rattle.jsonptr_skim.specs.Search.{Choice, child, follow, Stops}
-use Rattle.jsonptr_skim.specs.declared.outcome.Kind.{Kind}
-use Rattle.jsonptr_skim.specs.declared.outcome.Kind.TheVariants as kind
+use Rattle.jsonptr_json_search.specs.Search.{Choice, child, follow, Stops}
+use Rattle.jsonptr_json_search.specs.declared.outcome.Kind.{Kind}
+use Rattle.jsonptr_json_search.specs.declared.outcome.Kind.TheVariants as kind
 use Rattle.jsonptr_in_text.specs.Selecting.{StopsLeft}
 use Rattle.jsonptr_in_text.specs.PrivateSelectors.{HasChild}
 use Rattle.jsonptr_in_text.proofs.SearchLemmas.{found, stops}

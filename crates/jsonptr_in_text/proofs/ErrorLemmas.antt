@@ -2,10 +2,10 @@
 use Rattle.std.proofs.Common.{◌≡◌, ℕ, ◌+◌, ◌-◌, ◌<◌, ◌≤◌, List, [], ◌∷◌, ◌++◌, length, Ok, Err, refl, sym, ap, ap₂, ◌∙◌, subst, arith, length-append}
 use Rattle.serde_json.specs.Data as json
 use Rattle.serde_json.specs.Data.{Data}
-use Rattle.jsonptr_skim.specs.Search as skim
-use Rattle.jsonptr_skim.specs.Search.{kind_of}
-use Rattle.jsonptr_skim.specs.declared.outcome.Kind.{Kind}
-use Rattle.jsonptr_skim.specs.declared.outcome.Kind.TheVariants as kind
+use Rattle.jsonptr_json_search.specs.Search as skim
+use Rattle.jsonptr_json_search.specs.Search.{kind_of}
+use Rattle.jsonptr_json_search.specs.declared.outcome.Kind.{Kind}
+use Rattle.jsonptr_json_search.specs.declared.outcome.Kind.TheVariants as kind
 use Rattle.jsonptr_in_text.specs.Selecting.{StopsLeft}
 use Rattle.jsonptr_in_text.proofs.SearchLemmas.{len_same}
 use Rattle.jsonptr_grammar.specs.Text.{Text, text}

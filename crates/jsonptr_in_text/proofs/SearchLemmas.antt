@@ -6,10 +6,10 @@ use Rattle.std.specs.Ordering.{match_ordering}
 use Rattle.serde_json.specs.Data as json
 use Rattle.serde_json.specs.Data.{Data}
 use Rattle.serde_json.specs.Find as find
-use Rattle.jsonptr_skim.specs.Search as skim
-use Rattle.jsonptr_skim.specs.Search.{Choice, child, follow, kind_of, element, Stops}
-use Rattle.jsonptr_skim.specs.declared.outcome.Kind.{Kind}
-use Rattle.jsonptr_skim.specs.declared.outcome.Kind.TheVariants as kind
+use Rattle.jsonptr_json_search.specs.Search as skim
+use Rattle.jsonptr_json_search.specs.Search.{Choice, child, follow, kind_of, element, Stops}
+use Rattle.jsonptr_json_search.specs.declared.outcome.Kind.{Kind}
+use Rattle.jsonptr_json_search.specs.declared.outcome.Kind.TheVariants as kind
 use Rattle.jsonptr_grammar.specs.Text.{Text}
 use Rattle.jsonptr_tree.specs.Node.{Step, key, place, Path, of_json, NamesStep, Names, sub, NodeMap}
 use Rattle.jsonptr_tree.specs.Following.{LacksStep}

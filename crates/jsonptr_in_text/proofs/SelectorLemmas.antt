@@ -7,8 +7,8 @@ use Rattle.jsonptr_base.specs.declared.index.Index.TheVariants.{Num, Next}
 use Rattle.jsonptr_base.specs.declared.index.ParseIndexError.{ParseIndexError}
 use Rattle.jsonptr_document.proofs.BadIndex.{no_index, no_dash}
 use Rattle.jsonptr_in_text.specs.PrivateSelectors.{NamesIndex}
-use Rattle.jsonptr_skim.specs.declared.selector.Selector.{Selector}
-use Rattle.jsonptr_skim.specs.Search.{Choice, choice_of, choices}
+use Rattle.jsonptr_json_search.specs.declared.selector.Selector.{Selector}
+use Rattle.jsonptr_json_search.specs.Search.{Choice, choice_of, choices}
 use Rattle.jsonptr_in_text.specs.Selecting.{IsChoiceOf, AreChoicesOf}
 
 pub number_names : (x : Text) (i : ℕ) → Reads x (Ok (Num i)) → NamesIndex x (Some i)

@@ -1,7 +1,7 @@
 -- Words of private clauses: the index that a token is.
 use Rattle.std.specs.Prelude.{◌≡◌, ℕ, ◌<◌, ◌^◌, List, [], ◌∷◌, ◌++◌, Option, Some}
 use Rattle.jsonptr_grammar.specs.Text.{Text, dec}
-use Rattle.jsonptr_skim.specs.Search.{Choice}
+use Rattle.jsonptr_json_search.specs.Search.{Choice}
 use Rattle.jsonptr_in_text.specs.Selecting.{AreChoicesOf}
 
 -- `NamesIndex x o`: `o` is the number of 64 bits whose decimal text is `x`, if there is one

@@ -1,8 +1,8 @@
 -- Selectors that are made of tokens, and where a search stops, in the words of node maps.
 use Rattle.std.specs.Prelude.{◌≡◌, ℕ, ◌<◌, ◌^◌, List, [], ◌∷◌, ◌++◌, length, Some, ⊤}
 use Rattle.serde_json.specs.Data.{Data}
-use Rattle.jsonptr_skim.specs.Search.{Choice, kind_of}
-use Rattle.jsonptr_skim.specs.declared.outcome.Kind.{Kind}
+use Rattle.jsonptr_json_search.specs.Search.{Choice, kind_of}
+use Rattle.jsonptr_json_search.specs.declared.outcome.Kind.{Kind}
 use Rattle.jsonptr_grammar.specs.Text.{Text, dec, text}
 use Rattle.jsonptr_tree.specs.Following.{StopsBefore}
 use Rattle.jsonptr_tree.specs.Content.{label_of}

@@ -6,8 +6,8 @@ ghost use Rattle.serde_json.specs.Data.{Data};
 ghost use Rattle.jsonptr.specs.Pointer.{tokens};
 ghost use Rattle.jsonptr.specs.Resolve.{Refuses};
 ghost use Rattle.jsonptr_tree.specs.Json.{nodes, FindsValue};
-ghost use Rattle.jsonptr_skim.specs.Search.{Choice, choices, Stops};
-ghost use Rattle.jsonptr_skim.specs.declared.outcome.Kind.TheVariants.{Array};
+ghost use Rattle.jsonptr_json_search.specs.Search.{Choice, choices, Stops};
+ghost use Rattle.jsonptr_json_search.specs.declared.outcome.Kind.TheVariants.{Array};
 ghost use Rattle.jsonptr_in_text.specs.Selecting.{AreChoicesOf};
 ghost use Rattle.jsonptr_in_text.specs.PrivateSelectors.{HasChild};
 
@@ -15,8 +15,8 @@ use crate::error_at::error_at;
 use crate::selectors::selectors_of;
 use jsonptr::Pointer;
 use jsonptr::resolve::Error;
-use jsonptr_skim::outcome::Kind;
-use jsonptr_skim::selector::Selector;
+use jsonptr_json_search::outcome::Kind;
+use jsonptr_json_search::selector::Selector;
 use std::alloc::{AllocError, Global};
 
 /// Returns a selector for each token of the pointer, and one more.

@@ -8,7 +8,7 @@ ghost use Rattle.jsonptr_in_text.specs.Selecting.{StopsLeft};
 
 use jsonptr::Pointer;
 use jsonptr::resolve::Error;
-use jsonptr_skim::outcome::Kind;
+use jsonptr_json_search::outcome::Kind;
 
 /// Returns the error of an evaluation that stopped with this many tokens left, at a value of this
 /// kind.

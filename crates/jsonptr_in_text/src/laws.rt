@@ -4,9 +4,9 @@
 ghost use Rattle.std.specs.Prelude.{◌≡◌, ◌↔◌, ℕ, ◌<◌, ◌^◌, List, Some};
 ghost use Rattle.serde_json.specs.Data.{Data};
 ghost use Rattle.serde_json.specs.Read.{read};
-ghost use Rattle.jsonptr_skim.specs.Search.{Choice, follow, Stops};
-ghost use Rattle.jsonptr_skim.specs.declared.outcome.Kind.{Kind};
-ghost use Rattle.jsonptr_skim.specs.declared.outcome.Kind.TheVariants.{Array};
+ghost use Rattle.jsonptr_json_search.specs.Search.{Choice, follow, Stops};
+ghost use Rattle.jsonptr_json_search.specs.declared.outcome.Kind.{Kind};
+ghost use Rattle.jsonptr_json_search.specs.declared.outcome.Kind.TheVariants.{Array};
 ghost use Rattle.jsonptr_grammar.specs.Text.{Text};
 ghost use Rattle.jsonptr_tree.specs.Json.{nodes, FindsValue};
 ghost use Rattle.jsonptr.specs.Resolve.{Refuses};

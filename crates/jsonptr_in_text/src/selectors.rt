@@ -1,13 +1,13 @@
 //! The selectors that the tokens of a pointer stand for.
 ghost use Rattle.std.specs.Prelude.{IfOk};
 ghost use Rattle.jsonptr.specs.Pointer.{tokens};
-ghost use Rattle.jsonptr_skim.specs.Search.{choice_of, choices};
+ghost use Rattle.jsonptr_json_search.specs.Search.{choice_of, choices};
 ghost use Rattle.jsonptr_in_text.specs.Selecting.{IsChoiceOf, AreChoicesOf};
 ghost use Rattle.jsonptr_in_text.specs.PrivateSelectors.{NamesIndex};
 
 use jsonptr::index::Index;
 use jsonptr::{Pointer, Token};
-use jsonptr_skim::selector::Selector;
+use jsonptr_json_search::selector::Selector;
 use std::alloc::{AllocError, Global};
 
 /// Returns a selector for each token of the pointer.

@@ -4,7 +4,7 @@ use Rattle.serde_json.specs.Data.{Data, Items, array, item, no_items}
 use Rattle.serde_json.specs.View.{view, items_view}
 use Rattle.serde_json.specs.declared.value.Value.{Value, Array}
 use Rattle.serde_json.proofs.Views.{view-Array}
-use Rattle.jsonptr_skim.specs.PrivateReading.{with_items_before}
+use Rattle.jsonptr_json_search.specs.PrivateReading.{with_items_before}
 use Rattle.jsonptr_tree.specs.Content.{content_at, get_item, items_len, map_of, FindsContent}
 use Rattle.jsonptr_tree.specs.Json.{items}
 use Rattle.jsonptr_tree.proofs.ContentLemmas.{map_of-sub}

@@ -1,4 +1,4 @@
-//! The commands of `jp`.
+//! The commands of `jptr`.
 mod in_place;
 mod parts;
 mod streams;

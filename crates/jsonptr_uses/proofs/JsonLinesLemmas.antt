@@ -12,20 +12,20 @@ use Rattle.jsonptr_lines.specs.Lines.{AreLines}
 use Rattle.jsonptr_lines.specs.Streams.{ForInput}
 use Rattle.jsonptr_paths.specs.declared.listing.Listed.TheVariants.{AllNodes}
 use Rattle.jsonptr_paths.specs.declared.reading.LineError.{LineError}
-use Rattle.jsonptr_filter.specs.Layouts.{Shows, ReadsBack}
-use Rattle.jsonptr_filter.specs.LineResults.{LineGives, LinesGive, IsReport}
-use Rattle.jsonptr_filter.specs.Paths.{ListsText, BuildsText, FailsToBuild, PutsText, StopsText}
-use Rattle.jsonptr_filter.specs.Results.{Sets, Yields}
-use Rattle.jsonptr_filter.specs.Runs.{IsRun}
-use Rattle.jsonptr_filter.specs.declared.failure.Failure.{Failure}
-use Rattle.jsonptr_filter.specs.declared.failure.Failure.TheVariants.{BadLine}
-use Rattle.jsonptr_filter.specs.declared.layout.Layout.{Layout}
-use Rattle.jsonptr_filter.specs.declared.layout.Layout.TheVariants.{Kept, Compact}
-use Rattle.jsonptr_filter.specs.declared.line.LineTask.{LineTask}
-use Rattle.jsonptr_filter.specs.declared.lines.Ended.{Ended}
-use Rattle.jsonptr_filter.specs.declared.lines.Ended.TheVariants.{Fine}
-use Rattle.jsonptr_filter.specs.declared.task.Task.{Task}
-use Rattle.jsonptr_filter.specs.declared.task.Task.TheVariants.{Set}
+use Rattle.jptr_tasks.specs.Layouts.{Shows, ReadsBack}
+use Rattle.jptr_tasks.specs.LineResults.{LineGives, LinesGive, IsReport}
+use Rattle.jptr_tasks.specs.Paths.{ListsText, BuildsText, FailsToBuild, PutsText, StopsText}
+use Rattle.jptr_tasks.specs.Results.{Sets, Yields}
+use Rattle.jptr_tasks.specs.Runs.{IsRun}
+use Rattle.jptr_tasks.specs.declared.failure.Failure.{Failure}
+use Rattle.jptr_tasks.specs.declared.failure.Failure.TheVariants.{BadLine}
+use Rattle.jptr_tasks.specs.declared.layout.Layout.{Layout}
+use Rattle.jptr_tasks.specs.declared.layout.Layout.TheVariants.{Kept, Compact}
+use Rattle.jptr_tasks.specs.declared.line.LineTask.{LineTask}
+use Rattle.jptr_tasks.specs.declared.lines.Ended.{Ended}
+use Rattle.jptr_tasks.specs.declared.lines.Ended.TheVariants.{Fine}
+use Rattle.jptr_tasks.specs.declared.task.Task.{Task}
+use Rattle.jptr_tasks.specs.declared.task.Task.TheVariants.{Set}
 use Rattle.jsonptr_uses.specs.JsonLines.{TagsEach}
 
 not_nil : (x : Text) (b : ℕ) (y : Text) → x ++ b ∷ y ≡ [] → ⊥

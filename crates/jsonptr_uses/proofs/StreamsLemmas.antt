@@ -10,11 +10,11 @@ use Rattle.jsonptr_edit_in_text.specs.Carrying.{value_of, Carries}
 use Rattle.jsonptr_edit_in_text.specs.EditInText.{AssignsInText}
 use Rattle.jsonptr_edit_in_text.specs.declared.raw_value.RawValue.{RawValue}
 use Rattle.jsonptr_lines.specs.Streams.{ForInput}
-use Rattle.jsonptr_filter.specs.Documents.{Prints, PutsDocument, EndsInBreak}
-use Rattle.jsonptr_filter.specs.Results.{Yields}
-use Rattle.jsonptr_filter.specs.declared.failure.Failure.{Failure}
-use Rattle.jsonptr_filter.specs.declared.layout.Layout.TheVariants.{Kept}
-use Rattle.jsonptr_filter.specs.declared.task.Task.TheVariants.{Set}
+use Rattle.jptr_tasks.specs.Documents.{Prints, PutsDocument, EndsInBreak}
+use Rattle.jptr_tasks.specs.Results.{Yields}
+use Rattle.jptr_tasks.specs.declared.failure.Failure.{Failure}
+use Rattle.jptr_tasks.specs.declared.layout.Layout.TheVariants.{Kept}
+use Rattle.jptr_tasks.specs.declared.task.Task.TheVariants.{Set}
 
 for_input : (known : Option (List ℕ)) (P Q : List ℕ → Type 0) → ((bytes : List ℕ) → P bytes → Q bytes) → ForInput known P → ForInput known Q
 for_input None P Q f h = (h.0, f h.0 h.1)

@@ -5,12 +5,12 @@ ghost use Rattle.jsonptr.specs.Json.{nodes};
 ghost use Rattle.jsonptr.specs.Pointer.{tokens};
 ghost use Rattle.jsonptr_edit_in_text.specs.EditInText.{AssignsInText};
 
+use jptr_tasks::failure::Failure;
+use jptr_tasks::layout::Layout;
+use jptr_tasks::result::result_in_text;
+use jptr_tasks::task::Task;
 use jsonptr::Pointer;
 use jsonptr_edit_in_text::RawValue;
-use jsonptr_filter::failure::Failure;
-use jsonptr_filter::layout::Layout;
-use jsonptr_filter::result::result_in_text;
-use jsonptr_filter::task::Task;
 use serde_json::Value;
 use std::alloc::Global;
 

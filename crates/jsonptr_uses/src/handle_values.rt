@@ -4,19 +4,19 @@ ghost use Rattle.serde_json.specs.Data.{Data};
 ghost use Rattle.serde_json.specs.Read.{read};
 ghost use Rattle.serde_json.specs.View.{view};
 ghost use Rattle.jsonptr.specs.declared.resolve.Error.{Error};
-ghost use Rattle.jsonptr_calls.specs.InTexts.{FindsTextIn, IsNotPrintedFrom};
-ghost use Rattle.jsonptr_calls.specs.Kinds.{kind_of};
-ghost use Rattle.jsonptr_calls.specs.Patches.{IsDiffText};
-ghost use Rattle.jsonptr_calls.specs.Values.{FindsAt, FindsString, HoldsWith};
-ghost use Rattle.jsonptr_calls.specs.declared.failure.Failure.TheVariants.{NotFound};
-ghost use Rattle.jsonptr_calls.specs.declared.values.Layout.TheVariants.{Compact};
+ghost use Rattle.jsonptr_c_calls.specs.InTexts.{FindsTextIn, IsNotPrintedFrom};
+ghost use Rattle.jsonptr_c_calls.specs.Kinds.{kind_of};
+ghost use Rattle.jsonptr_c_calls.specs.Patches.{IsDiffText};
+ghost use Rattle.jsonptr_c_calls.specs.Values.{FindsAt, FindsString, HoldsWith};
+ghost use Rattle.jsonptr_c_calls.specs.declared.failure.Failure.TheVariants.{NotFound};
+ghost use Rattle.jsonptr_c_calls.specs.declared.values.Layout.TheVariants.{Compact};
 
-use jsonptr_calls::documents::{diff, free, node_at, parse, string_at};
-use jsonptr_calls::failure::Failure;
-use jsonptr_calls::kind::STRING;
-use jsonptr_calls::texts::print_in;
-use jsonptr_calls::values::Layout;
-use jsonptr_handle::document::Document;
+use jsonptr_c_calls::documents::{diff, free, node_at, parse, string_at};
+use jsonptr_c_calls::failure::Failure;
+use jsonptr_c_calls::kind::STRING;
+use jsonptr_c_calls::texts::print_in;
+use jsonptr_c_calls::values::Layout;
+use jsonptr_c_handle::document::Document;
 use std::alloc::Global;
 
 /// Copies the string that the pointer resolves to in a JSON text to the buffer, and returns its

@@ -3,14 +3,14 @@ ghost use Rattle.std.specs.Prelude.{◌≡◌, Some, IfOk, take};
 ghost use Rattle.serde_json.specs.Data.{Data};
 ghost use Rattle.serde_json.specs.Read.{read};
 ghost use Rattle.serde_json.specs.View.{view};
-ghost use Rattle.jsonptr_calls.specs.Patches.{AppliesText};
-ghost use Rattle.jsonptr_calls.specs.declared.values.Layout.TheVariants.{Compact};
-ghost use Rattle.jsonptr_calls.specs.Values.{HoldsWith, FindsTextOf};
+ghost use Rattle.jsonptr_c_calls.specs.Patches.{AppliesText};
+ghost use Rattle.jsonptr_c_calls.specs.declared.values.Layout.TheVariants.{Compact};
+ghost use Rattle.jsonptr_c_calls.specs.Values.{HoldsWith, FindsTextOf};
 
-use jsonptr_calls::documents::{free, parse, patch, print_at};
-use jsonptr_calls::failure::Failure;
-use jsonptr_calls::values::Layout;
-use jsonptr_handle::document::Document;
+use jsonptr_c_calls::documents::{free, parse, patch, print_at};
+use jsonptr_c_calls::failure::Failure;
+use jsonptr_c_calls::values::Layout;
+use jsonptr_c_handle::document::Document;
 use std::alloc::Global;
 
 /// Applies a patch document to a JSON text, copies the value that the pointer resolves to in the new

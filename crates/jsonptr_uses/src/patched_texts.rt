@@ -4,15 +4,15 @@ ghost use Rattle.serde_json.specs.Data.{Data};
 ghost use Rattle.serde_json.specs.Read.{read};
 ghost use Rattle.serde_json.specs.View.{view};
 ghost use Rattle.jsonptr.specs.Text.{Text};
-ghost use Rattle.jsonptr_filter.specs.Results.{PatchesBy};
-ghost use Rattle.jsonptr_filter.specs.declared.layout.Layout.TheVariants.{Kept};
+ghost use Rattle.jptr_tasks.specs.Results.{PatchesBy};
+ghost use Rattle.jptr_tasks.specs.declared.layout.Layout.TheVariants.{Kept};
 
-use jsonptr_filter::failure::Failure;
-use jsonptr_filter::inverse::inverse_of;
-use jsonptr_filter::laws::inverse_law;
-use jsonptr_filter::layout::Layout;
-use jsonptr_filter::result::result_in_text;
-use jsonptr_filter::task::Task;
+use jptr_tasks::failure::Failure;
+use jptr_tasks::inverse::inverse_of;
+use jptr_tasks::laws::inverse_law;
+use jptr_tasks::layout::Layout;
+use jptr_tasks::result::result_in_text;
+use jptr_tasks::task::Task;
 use serde_json::Value;
 use std::alloc::Global;
 

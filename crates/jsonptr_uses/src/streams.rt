@@ -8,16 +8,16 @@ ghost use Rattle.jsonptr_edit_in_text.specs.Bytes.{AssignsBytes};
 ghost use Rattle.jsonptr_edit_in_text.specs.Carrying.{value_of, Carries};
 ghost use Rattle.jsonptr_edit_in_text.specs.EditInText.{AssignsInText};
 ghost use Rattle.jsonptr_lines.specs.Streams.{ForInput};
-ghost use Rattle.jsonptr_filter.specs.Documents.{StopsDocument};
-ghost use Rattle.jsonptr_filter.specs.declared.layout.Layout.TheVariants.{Kept};
-ghost use Rattle.jsonptr_filter.specs.declared.task.Task.TheVariants.{Set};
+ghost use Rattle.jptr_tasks.specs.Documents.{StopsDocument};
+ghost use Rattle.jptr_tasks.specs.declared.layout.Layout.TheVariants.{Kept};
+ghost use Rattle.jptr_tasks.specs.declared.task.Task.TheVariants.{Set};
 
+use jptr_tasks::document::run_document;
+use jptr_tasks::failure::Failure;
+use jptr_tasks::layout::Layout;
+use jptr_tasks::task::Task;
 use jsonptr::Pointer;
 use jsonptr_edit_in_text::RawValue;
-use jsonptr_filter::document::run_document;
-use jsonptr_filter::failure::Failure;
-use jsonptr_filter::layout::Layout;
-use jsonptr_filter::task::Task;
 use std::alloc::Global;
 use std::io;
 

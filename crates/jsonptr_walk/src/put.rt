@@ -9,7 +9,7 @@ ghost use Rattle.jsonptr_tree.specs.Growing.{grown, is_append_index};
 ghost use Rattle.jsonptr_tree.specs.Assigning.{Assigns};
 ghost use Rattle.jsonptr_base.specs.Fault.{IfRefused, HasMemory};
 ghost use Rattle.jsonptr_document.specs.Writing.{IsObject, Pushes};
-ghost use Rattle.jsonptr_text.specs.PointerText.{tokens};
+ghost use Rattle.jsonptr_syntax.specs.PointerText.{tokens};
 ghost use Rattle.jsonptr_walk.specs.Follow.{IsFollowError};
 ghost use Rattle.jsonptr_walk.specs.Putting.{AssignsValue, IsPutError, NeedsNothing};
 ghost use Rattle.jsonptr_walk.specs.PrivatePutting.{StopsThere, HasNoIndex, IsPutErrorAfter, IsPutErrorBelow};
@@ -21,7 +21,7 @@ use jsonptr_base::index::{OutOfBoundsError, ParseIndexError};
 use jsonptr_base::token::Token;
 use jsonptr_document::document::Node;
 use jsonptr_document::document_mut::DocumentMut;
-use jsonptr_text::pointer_text::PointerText;
+use jsonptr_syntax::pointer_text::PointerText;
 use std::alloc::{AllocError, Global};
 use std::mem;
 

@@ -2,7 +2,7 @@
 ghost use Rattle.std.specs.Prelude.{[], ◌∷◌, ◌++◌, IsOk, IfOk, OnErr, MatchOption};
 ghost use Rattle.jsonptr_grammar.specs.Text.{HasNoTilde, text};
 ghost use Rattle.jsonptr_tree.specs.Removing.{Deletes};
-ghost use Rattle.jsonptr_text.specs.PointerText.{tokens};
+ghost use Rattle.jsonptr_syntax.specs.PointerText.{tokens};
 ghost use Rattle.jsonptr_walk.specs.Follow.{NamesNothing};
 
 use crate::descend::{Descend, DescendArgs};
@@ -10,7 +10,7 @@ use jsonptr_base::fault::Fault;
 use jsonptr_base::token::Token;
 use jsonptr_document::child_ref::locate_child;
 use jsonptr_document::document_mut::DocumentMut;
-use jsonptr_text::pointer_text::PointerText;
+use jsonptr_syntax::pointer_text::PointerText;
 use std::alloc::{AllocError, Global};
 
 /// Removes the value that the tokens of `route` name and returns it, or `None` if they name none.

@@ -1,5 +1,5 @@
 //! A document in a handle.
-use jsonptr_calls::record::ErrorRecord;
+use jsonptr_c_calls::record::ErrorRecord;
 use jsonptr_uses::handles::value_after_patch;
 use std::alloc::Global;
 use std::test::Fail;

@@ -1,10 +1,10 @@
 //! Lines of a stream, values in handles and the program in memory.
 use jsonptr::Pointer;
-use jsonptr_calls::documents::{free, parse};
-use jsonptr_calls::failure::Failure;
-use jsonptr_calls::record::ErrorRecord;
+use jsonptr_c_calls::documents::{free, parse};
+use jsonptr_c_calls::failure::Failure;
+use jsonptr_c_calls::record::ErrorRecord;
+use jsonptr_c_handle::document::Document;
 use jsonptr_edit_in_text::RawValue;
-use jsonptr_handle::document::Document;
 use jsonptr_uses::handle_values::{changes_between, field_in, is_string, string_in};
 use jsonptr_uses::json_lines::{copy_through_lines, has_leaves, tag_each_line};
 use jsonptr_uses::program::{document_after, printed_line, printed_value};

@@ -1,9 +1,9 @@
 //! Edits that are made in place or not at all.
+use jptr_tasks::failure::Failure;
+use jptr_tasks::layout::Layout;
+use jptr_tasks::result::result_in_text;
+use jptr_tasks::task::Task;
 use jsonptr::Pointer;
-use jsonptr_filter::failure::Failure;
-use jsonptr_filter::layout::Layout;
-use jsonptr_filter::result::result_in_text;
-use jsonptr_filter::task::Task;
 use serde_json::Value;
 use std::alloc::Global;
 use std::test::Fail;

@@ -1,10 +1,10 @@
 //! Runs over the parts of an input that is cut after a line feed.
+use jptr_tasks::layout::Layout;
+use jptr_tasks::line::LineTask;
+use jptr_tasks::lines::run_lines;
+use jptr_tasks::task::Task;
 use jsonptr::Pointer;
 use jsonptr_edit_in_text::RawValue;
-use jsonptr_filter::layout::Layout;
-use jsonptr_filter::line::LineTask;
-use jsonptr_filter::lines::run_lines;
-use jsonptr_filter::task::Task;
 use std::alloc::Global;
 use std::test::Fail;
 

@@ -1,10 +1,10 @@
 //! Runs over lines on streams that fail in the middle.
+use jptr_tasks::failure::Failure;
+use jptr_tasks::layout::Layout;
+use jptr_tasks::line::LineTask;
+use jptr_tasks::lines::{Ended, run_lines};
+use jptr_tasks::task::Task;
 use jsonptr::Pointer;
-use jsonptr_filter::failure::Failure;
-use jsonptr_filter::layout::Layout;
-use jsonptr_filter::line::LineTask;
-use jsonptr_filter::lines::{Ended, run_lines};
-use jsonptr_filter::task::Task;
 use std::alloc::Global;
 use std::test::Fail;
 

@@ -1,8 +1,8 @@
 use Rattle.std.proofs.Common.{length, subst}
 use Rattle.serde_json.specs.View.{view}
-use Rattle.jsonptr_calls.specs.Failures.{FailsOn}
-use Rattle.jsonptr_calls.specs.Patches.{IsNotCompared}
-use Rattle.jsonptr_calls.specs.declared.values.Layout.{Layout}
+use Rattle.jsonptr_c_calls.specs.Failures.{FailsOn}
+use Rattle.jsonptr_c_calls.specs.Patches.{IsNotCompared}
+use Rattle.jsonptr_c_calls.specs.declared.values.Layout.{Layout}
 use Rattle.jsonptr_c.proofs.documents.jsonptrcore_document_diff.Goals as goal
 
 pub returns-in-Err-clause-refused : goal.returns-in-Err-clause-refused

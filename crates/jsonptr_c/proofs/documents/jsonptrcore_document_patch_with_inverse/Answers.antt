@@ -1,6 +1,6 @@
 use Rattle.std.proofs.Common.{◌⊎◌, length, subst}
-use Rattle.jsonptr_calls.specs.Patches.{IsNotAppliedWithBack, IsNotPatchText}
-use Rattle.jsonptr_calls.specs.declared.values.Layout.{Layout}
+use Rattle.jsonptr_c_calls.specs.Patches.{IsNotAppliedWithBack, IsNotPatchText}
+use Rattle.jsonptr_c_calls.specs.declared.values.Layout.{Layout}
 use Rattle.jsonptr_c.proofs.documents.jsonptrcore_document_patch_with_inverse.Goals as goal
 
 pub returns-in-Err-clause-refused : goal.returns-in-Err-clause-refused

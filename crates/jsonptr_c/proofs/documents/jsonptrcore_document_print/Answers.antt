@@ -1,7 +1,7 @@
 use Rattle.std.proofs.Common.{length, subst}
 use Rattle.serde_json.specs.View.{view}
-use Rattle.jsonptr_calls.specs.Failures.{FailsOn, IsNotPrinted}
-use Rattle.jsonptr_calls.specs.declared.values.Layout.{Layout}
+use Rattle.jsonptr_c_calls.specs.Failures.{FailsOn, IsNotPrinted}
+use Rattle.jsonptr_c_calls.specs.declared.values.Layout.{Layout}
 use Rattle.jsonptr_c.proofs.documents.jsonptrcore_document_print.Goals as goal
 
 pub returns-in-Err-clause-refused : goal.returns-in-Err-clause-refused

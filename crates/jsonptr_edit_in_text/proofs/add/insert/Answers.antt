@@ -1,9 +1,9 @@
 use Rattle.std.proofs.Common.{None, IfOk, IfSome, string_bytes, subst}
 use Rattle.jsonptr_grammar.specs.Text.{Text}
 use Rattle.jsonptr.specs.Pointer.{tokens}
-use Rattle.jsonptr_splice.specs.declared.edit.Child.{Child}
-use Rattle.jsonptr_splice.specs.declared.edit.Edit.TheVariants as edit
-use Rattle.jsonptr_splice.specs.Editing.{Makes}
+use Rattle.jsonptr_json_edits.specs.declared.edit.Child.{Child}
+use Rattle.jsonptr_json_edits.specs.declared.edit.Edit.TheVariants as edit
+use Rattle.jsonptr_json_edits.specs.Editing.{Makes}
 use Rattle.jsonptr_edit_in_text.specs.PrivateReaching.{ReachedInText, AddsPieceByText, AddsByText}
 use Rattle.jsonptr_edit_in_text.specs.PrivateOperating.{ElementInserted}
 use Rattle.jsonptr_edit_in_text.proofs.EditLemmas.{if_new, if_both}

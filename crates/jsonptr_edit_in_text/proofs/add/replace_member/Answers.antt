@@ -3,12 +3,12 @@ use Rattle.serde_json.specs.Data.{Data}
 use Rattle.serde_json.specs.Read.{read}
 use Rattle.jsonptr_grammar.specs.Text.{Text}
 use Rattle.jsonptr.specs.Pointer.{tokens}
-use Rattle.jsonptr_skim.specs.Search.{choices}
-use Rattle.jsonptr_splice.specs.Editing.{IsEdited}
-use Rattle.jsonptr_splice.specs.Spacing.{Splices}
-use Rattle.jsonptr_splice.specs.declared.edit.Edit.TheVariants.{Replace}
-use Rattle.jsonptr_splice.specs.Alike.{Holds}
-use Rattle.jsonptr_splice.specs.Child.{IsValueText}
+use Rattle.jsonptr_json_search.specs.Search.{choices}
+use Rattle.jsonptr_json_edits.specs.Editing.{IsEdited}
+use Rattle.jsonptr_json_edits.specs.Spacing.{Splices}
+use Rattle.jsonptr_json_edits.specs.declared.edit.Edit.TheVariants.{Replace}
+use Rattle.jsonptr_json_edits.specs.Alike.{Holds}
+use Rattle.jsonptr_json_edits.specs.Child.{IsValueText}
 use Rattle.jsonptr_edit_in_text.specs.PrivateReaching.{ReplacesByText}
 use Rattle.jsonptr_edit_in_text.specs.PrivateOperating.{AddsInText}
 use Rattle.jsonptr_edit_in_text.proofs.EditLemmas.{if_new, if_both}

@@ -1,7 +1,7 @@
 use Rattle.std.proofs.Common.{◌≡◌, ◌∷◌, ◌++◌, Option, IfSome, string_bytes, refl, subst}
 use Rattle.jsonptr.specs.Pointer.{tokens}
 use Rattle.jsonptr_tree.specs.Json.{nodes}
-use Rattle.jsonptr_splice.specs.declared.layout.ValueText.{ValueText}
+use Rattle.jsonptr_json_edits.specs.declared.layout.ValueText.{ValueText}
 use Rattle.jsonptr_edit_in_text.specs.EditInText.{AssignsInText}
 use Rattle.jsonptr_edit_in_text.specs.PrivateReaching.{IsExpanded, ReachedInText, ElementAppended}
 use Rattle.jsonptr_edit_in_text.proofs.EditLemmas.{if_new, of_element, assigns_end}

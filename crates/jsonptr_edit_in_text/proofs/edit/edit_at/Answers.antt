@@ -1,8 +1,8 @@
 use Rattle.std.proofs.Common.{string_bytes, subst, List}
 use Rattle.jsonptr.specs.Pointer.{tokens}
-use Rattle.jsonptr_skim.specs.Search.{choices}
-use Rattle.jsonptr_skim.specs.declared.selector.Selector.{Selector}
-use Rattle.jsonptr_splice.specs.Editing.{IsEdited, Makes}
+use Rattle.jsonptr_json_search.specs.Search.{choices}
+use Rattle.jsonptr_json_search.specs.declared.selector.Selector.{Selector}
+use Rattle.jsonptr_json_edits.specs.Editing.{IsEdited, Makes}
 use Rattle.jsonptr_edit_in_text.specs.PrivateReaching.{ReachedInText}
 use Rattle.jsonptr_edit_in_text.proofs.EditLemmas.{if_new}
 use Rattle.jsonptr_edit_in_text.proofs.ReachingLemmas.{reached_in_text}

@@ -1,8 +1,8 @@
 use Rattle.std.proofs.Common.{None, IfOk, IfSome, string_bytes, subst}
 use Rattle.jsonptr_grammar.specs.Text.{Text}
 use Rattle.jsonptr.specs.Pointer.{tokens}
-use Rattle.jsonptr_splice.specs.declared.edit.Edit.TheVariants as edit
-use Rattle.jsonptr_splice.specs.Editing.{Makes}
+use Rattle.jsonptr_json_edits.specs.declared.edit.Edit.TheVariants as edit
+use Rattle.jsonptr_json_edits.specs.Editing.{Makes}
 use Rattle.jsonptr_edit_in_text.specs.PrivateReaching.{ReachedInText, ElementAppended, AddsPieceByText, AddsByText}
 use Rattle.jsonptr_edit_in_text.proofs.EditLemmas.{if_new, if_both}
 use Rattle.jsonptr_edit_in_text.proofs.ReachingLemmas.{reached_so}

@@ -1,6 +1,6 @@
 use Rattle.std.proofs.Common.{◌≡◌, Some, None, option_map, string_bytes, subst, arith}
 use Rattle.jsonptr_grammar.specs.Text.{Text}
-use Rattle.jsonptr_splice.specs.Spacing.{Splices}
+use Rattle.jsonptr_json_edits.specs.Spacing.{Splices}
 use Rattle.jsonptr_edit_in_text.specs.PrivateReaching.{AddsPieceByText}
 use Rattle.jsonptr_edit_in_text.proofs.EditLemmas.{if_new}
 use Rattle.jsonptr_edit_in_text.proofs.BytesLemmas.{piece_added}

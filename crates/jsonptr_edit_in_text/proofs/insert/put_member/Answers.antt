@@ -2,9 +2,9 @@ use Rattle.std.proofs.Common.{◌≡◌, Some, None, option_map, string_bytes, s
 use Rattle.serde_json.specs.Data.{Data}
 use Rattle.serde_json.specs.Read.{read}
 use Rattle.jsonptr_grammar.specs.Text.{Text}
-use Rattle.jsonptr_splice.specs.Alike.{Holds}
-use Rattle.jsonptr_splice.specs.Child.{IsOneChild}
-use Rattle.jsonptr_splice.specs.Spacing.{Splices}
+use Rattle.jsonptr_json_edits.specs.Alike.{Holds}
+use Rattle.jsonptr_json_edits.specs.Child.{IsOneChild}
+use Rattle.jsonptr_json_edits.specs.Spacing.{Splices}
 use Rattle.jsonptr_edit_in_text.specs.PrivateReaching.{AddsPieceByText}
 use Rattle.jsonptr_edit_in_text.proofs.EditLemmas.{if_new}
 use Rattle.jsonptr_edit_in_text.proofs.BytesLemmas.{piece_added}

@@ -1,8 +1,8 @@
 use Rattle.std.proofs.Common.{List, sym, ◌∙◌, subst}
 use Rattle.jsonptr.specs.Pointer.{tokens}
-use Rattle.jsonptr_skim.specs.Search.{choices}
-use Rattle.jsonptr_skim.specs.declared.selector.Selector.{Selector}
-use Rattle.jsonptr_splice.specs.Leading.{LeadsInText}
+use Rattle.jsonptr_json_search.specs.Search.{choices}
+use Rattle.jsonptr_json_search.specs.declared.selector.Selector.{Selector}
+use Rattle.jsonptr_json_edits.specs.Leading.{LeadsInText}
 use Rattle.jsonptr_edit_in_text.proofs.OperatingLemmas.{finds_text}
 use Rattle.jsonptr_edit_in_text.proofs.locate.cut_around.Goals as goal
 

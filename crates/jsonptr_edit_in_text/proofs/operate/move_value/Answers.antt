@@ -3,7 +3,7 @@ use Rattle.std.specs.declared.alloc.Global.{Global}
 use Rattle.jsonptr_grammar.specs.Text.{Text}
 use Rattle.jsonptr.specs.Pointer.{tokens}
 use Rattle.jsonptr_patch.specs.Operating.{IsProperFront}
-use Rattle.jsonptr_splice.specs.declared.layout.ValueText.{ValueText}
+use Rattle.jsonptr_json_edits.specs.declared.layout.ValueText.{ValueText}
 use Rattle.jsonptr_edit_in_text.specs.Bytes.{DeletesBytes}
 use Rattle.jsonptr_edit_in_text.specs.EditInText.{DeletesInText}
 use Rattle.jsonptr_edit_in_text.specs.PatchInText.{MovesBytes}

@@ -2,7 +2,7 @@ use Rattle.std.proofs.Common.{◌≡◌, Option, Some, IfSome, string_bytes, sub
 use Rattle.serde_json.specs.Read.{read}
 use Rattle.serde_json.specs.View.{view}
 use Rattle.jsonptr.specs.Pointer.{tokens}
-use Rattle.jsonptr_splice.specs.declared.layout.ValueText.{ValueText}
+use Rattle.jsonptr_json_edits.specs.declared.layout.ValueText.{ValueText}
 use Rattle.jsonptr_edit_in_text.specs.Bytes.{ReplacesBytes}
 use Rattle.jsonptr_edit_in_text.specs.PrivateReaching.{ReplacesByText}
 use Rattle.jsonptr_edit_in_text.proofs.EditLemmas.{if_new}

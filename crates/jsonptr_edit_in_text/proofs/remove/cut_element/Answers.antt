@@ -4,8 +4,8 @@ use Rattle.serde_json.specs.Data.{Data}
 use Rattle.serde_json.specs.Read.{read}
 use Rattle.jsonptr_grammar.specs.Text.{Text}
 use Rattle.jsonptr.specs.Pointer.{tokens}
-use Rattle.jsonptr_skim.specs.Search.{choice_of}
-use Rattle.jsonptr_splice.specs.Editing.{AddsElement}
+use Rattle.jsonptr_json_search.specs.Search.{choice_of}
+use Rattle.jsonptr_json_edits.specs.Editing.{AddsElement}
 use Rattle.jsonptr_edit_in_text.specs.Bytes.{CutsBytes}
 use Rattle.jsonptr_edit_in_text.specs.PrivateReaching.{ReachedInText}
 use Rattle.jsonptr_edit_in_text.proofs.RemoveLemmas.{deletes_element}

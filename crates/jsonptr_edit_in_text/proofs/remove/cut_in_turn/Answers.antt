@@ -1,7 +1,7 @@
 use Rattle.std.proofs.Common.{[], ◌∷◌, List, ℕ, Option, Some, None, String, IfSome, string_bytes, refl, subst}
 use Rattle.std.specs.declared.alloc.Global.{Global}
 use Rattle.serde_json.specs.Data.{Data}
-use Rattle.jsonptr_splice.specs.Child.{IsReadAs}
+use Rattle.jsonptr_json_edits.specs.Child.{IsReadAs}
 use Rattle.jsonptr_edit_in_text.specs.Bytes.{CutsBytes}
 use Rattle.jsonptr_edit_in_text.proofs.remove.cut_in_turn.Goals as goal
 

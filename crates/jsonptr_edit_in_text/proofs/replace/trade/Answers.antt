@@ -3,9 +3,9 @@ use Rattle.serde_json.specs.Data.{Data}
 use Rattle.serde_json.specs.Read.{read}
 use Rattle.jsonptr_grammar.specs.Text.{Text}
 use Rattle.jsonptr.specs.Pointer.{tokens}
-use Rattle.jsonptr_splice.specs.Spacing.{Splices}
-use Rattle.jsonptr_splice.specs.Alike.{Holds}
-use Rattle.jsonptr_splice.specs.Child.{IsValueText}
+use Rattle.jsonptr_json_edits.specs.Spacing.{Splices}
+use Rattle.jsonptr_json_edits.specs.Alike.{Holds}
+use Rattle.jsonptr_json_edits.specs.Child.{IsValueText}
 use Rattle.jsonptr_edit_in_text.specs.PrivateReaching.{ReachedInText, Trades, ReplacesByText, ReplacesScalarByText}
 use Rattle.jsonptr_edit_in_text.proofs.EditLemmas.{if_new, if_both}
 use Rattle.jsonptr_edit_in_text.proofs.BytesLemmas.{replaced, replaced_scalar}

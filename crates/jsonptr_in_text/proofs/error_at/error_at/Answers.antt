@@ -1,7 +1,7 @@
 use Rattle.std.proofs.Common.{◌≡◌, ◌-◌, length, refl, ap, subst, arith}
 use Rattle.jsonptr.specs.Pointer.{tokens}
 use Rattle.jsonptr.specs.declared.resolve.Error.TheVariants as error
-use Rattle.jsonptr_skim.specs.declared.outcome.Kind.{Kind}
+use Rattle.jsonptr_json_search.specs.declared.outcome.Kind.{Kind}
 use Rattle.jsonptr_in_text.specs.Selecting.{StopsLeft}
 use Rattle.jsonptr_in_text.proofs.ErrorLemmas.{stops_at, no_index_below, refused_scalar, refused_object, refused_index, refused_bounds}
 use Rattle.jsonptr_in_text.proofs.error_at.error_at.Goals as goal

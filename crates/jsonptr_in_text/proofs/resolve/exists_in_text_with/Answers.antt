@@ -1,9 +1,9 @@
 use Rattle.std.proofs.Common.{◌≡◌, List, Some, subst}
 use Rattle.serde_json.specs.View.{view}
 use Rattle.jsonptr.specs.Pointer.{tokens}
-use Rattle.jsonptr_skim.specs.declared.selector.Selector.{Selector}
-use Rattle.jsonptr_skim.specs.declared.outcome.Outcome.{Outcome}
-use Rattle.jsonptr_skim.specs.Search.{choices, follow, IsOutcome}
+use Rattle.jsonptr_json_search.specs.declared.selector.Selector.{Selector}
+use Rattle.jsonptr_json_search.specs.declared.outcome.Outcome.{Outcome}
+use Rattle.jsonptr_json_search.specs.Search.{choices, follow, IsOutcome}
 use Rattle.jsonptr_in_text.proofs.ChildLemmas.{found_above}
 use Rattle.jsonptr_in_text.proofs.resolve.exists_in_text_with.Goals as goal
 

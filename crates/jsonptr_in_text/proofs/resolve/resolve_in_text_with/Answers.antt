@@ -1,9 +1,9 @@
 use Rattle.std.proofs.Common.{◌≡◌, List, Some, subst, arith}
 use Rattle.serde_json.specs.View.{view}
 use Rattle.jsonptr.specs.Pointer.{tokens}
-use Rattle.jsonptr_skim.specs.declared.selector.Selector.{Selector}
-use Rattle.jsonptr_skim.specs.declared.outcome.Outcome.{Outcome}
-use Rattle.jsonptr_skim.specs.Search.{choices, follow, Stops, IsOutcome}
+use Rattle.jsonptr_json_search.specs.declared.selector.Selector.{Selector}
+use Rattle.jsonptr_json_search.specs.declared.outcome.Outcome.{Outcome}
+use Rattle.jsonptr_json_search.specs.Search.{choices, follow, Stops, IsOutcome}
 use Rattle.jsonptr_in_text.proofs.SearchLemmas.{found, stops}
 use Rattle.jsonptr_in_text.proofs.resolve.resolve_in_text_with.Goals as goal
 

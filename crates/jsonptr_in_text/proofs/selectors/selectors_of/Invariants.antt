@@ -1,4 +1,4 @@
-use Rattle.jsonptr_skim.specs.Search.{choices}
+use Rattle.jsonptr_json_search.specs.Search.{choices}
 use Rattle.jsonptr_in_text.specs.Selecting.{AreChoicesOf}
 use Rattle.jsonptr_in_text.proofs.selectors.selectors_of.Given as goal
 

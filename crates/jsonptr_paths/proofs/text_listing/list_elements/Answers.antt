@@ -1,6 +1,6 @@
 use Rattle.std.proofs.Common.{string_bytes}
 use Rattle.serde_json.specs.Data.{no_items}
-use Rattle.jsonptr_skim.specs.PrivateReading.{with_items_before}
+use Rattle.jsonptr_json_search.specs.PrivateReading.{with_items_before}
 use Rattle.jsonptr_paths.specs.declared.listing.Lister.{Lister}
 use Rattle.jsonptr_paths.proofs.ElementsLemmas.{elements_listed, full_shown}
 use Rattle.jsonptr_paths.proofs.text_listing.list_elements.Goals as goal

@@ -2,7 +2,7 @@ use Rattle.std.proofs.Common.{ℕ, ◌<◌, List, [], ◌∷◌, ◌++◌, lengt
 use Rattle.json.specs.Token.{Token}
 use Rattle.serde_json.specs.View.{view}
 use Rattle.jsonptr.specs.Text.{dec}
-use Rattle.jsonptr_skim.proofs.ReadingLemmas.{items_begin, items_go_on, items_close, items_stop}
+use Rattle.jsonptr_json_search.proofs.ReadingLemmas.{items_begin, items_go_on, items_close, items_stop}
 use Rattle.jsonptr_paths.proofs.ElementsLemmas.{elements_none, elements_more}
 use Rattle.jsonptr_paths.proofs.text_listing.visit_elements.Goals as goal
 

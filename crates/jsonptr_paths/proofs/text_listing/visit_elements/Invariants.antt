@@ -1,6 +1,6 @@
 use Rattle.std.proofs.Common.{◌≡◌, ◌+◌, ◌≤◌, List, length}
 use Rattle.serde_json.specs.Data.{Data}
-use Rattle.jsonptr_skim.specs.PrivateReading.{ItemsSoFar}
+use Rattle.jsonptr_json_search.specs.PrivateReading.{ItemsSoFar}
 use Rattle.jsonptr_paths.specs.PrivateElements.{VisitsElements}
 use Rattle.jsonptr_paths.proofs.text_listing.visit_elements.Given as goal
 

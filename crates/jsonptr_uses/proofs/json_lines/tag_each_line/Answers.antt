@@ -1,7 +1,7 @@
 use Rattle.std.proofs.Common.{None, false, refl}
-use Rattle.jsonptr_filter.specs.declared.layout.Layout.TheVariants.{Kept}
-use Rattle.jsonptr_filter.specs.declared.line.LineTask.{LineTask}
-use Rattle.jsonptr_filter.specs.declared.task.Task.TheVariants.{Set}
+use Rattle.jptr_tasks.specs.declared.layout.Layout.TheVariants.{Kept}
+use Rattle.jptr_tasks.specs.declared.line.LineTask.{LineTask}
+use Rattle.jptr_tasks.specs.declared.task.Task.TheVariants.{Set}
 use Rattle.jsonptr_uses.proofs.JsonLinesLemmas.{all_tagged}
 use Rattle.jsonptr_uses.proofs.json_lines.tag_each_line.Goals as goal
 

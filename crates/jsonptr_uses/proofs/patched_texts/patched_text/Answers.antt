@@ -1,6 +1,6 @@
 use Rattle.std.proofs.Common.{string_bytes}
 use Rattle.serde_json.specs.View.{view}
-use Rattle.jsonptr_filter.specs.declared.layout.Layout.TheVariants.{Kept, Compact}
+use Rattle.jptr_tasks.specs.declared.layout.Layout.TheVariants.{Kept, Compact}
 use Rattle.jsonptr_uses.proofs.patched_texts.patched_text.Goals as goal
 
 pub returns-clause-undone : goal.returns-clause-undone

@@ -1,4 +1,4 @@
-use Rattle.jsonptr_text.specs.PointerText.{tokens}
+use Rattle.jsonptr_syntax.specs.PointerText.{tokens}
 use Rattle.jsonptr_walk.proofs.AssignLemmas.{grow_more}
 use Rattle.jsonptr_walk.proofs.put.expand.Goals as goal
 

@@ -1,6 +1,6 @@
 use Rattle.std.proofs.Common.{◌≡◌, length}
 use Rattle.jsonptr_tree.specs.Growing.{grown}
-use Rattle.jsonptr_text.specs.PointerText.{tokens}
+use Rattle.jsonptr_syntax.specs.PointerText.{tokens}
 use Rattle.jsonptr_walk.proofs.put.expand.Given as goal
 
 abbrev pub invariant-loop-front : goal.invariant-loop-front

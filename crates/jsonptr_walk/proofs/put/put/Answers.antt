@@ -1,5 +1,5 @@
 use Rattle.std.proofs.Common.{[], refl, sym, ap, subst}
-use Rattle.jsonptr_text.specs.PointerText.{tokens}
+use Rattle.jsonptr_syntax.specs.PointerText.{tokens}
 use Rattle.jsonptr_walk.specs.Putting.{NeedsNothing}
 use Rattle.jsonptr_walk.proofs.AssignBelow.{stops_there, assigned_on}
 use Rattle.jsonptr_walk.proofs.put.put.Goals as goal

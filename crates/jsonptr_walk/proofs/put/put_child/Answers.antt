@@ -1,7 +1,7 @@
 use Rattle.std.proofs.Common.{ℕ, Some, ap, ◌∙◌, sym, refl}
 use Rattle.jsonptr_tree.specs.Node.{an_array}
 use Rattle.jsonptr_tree.specs.Growing.{grown}
-use Rattle.jsonptr_text.specs.PointerText.{tokens}
+use Rattle.jsonptr_syntax.specs.PointerText.{tokens}
 use Rattle.jsonptr_walk.proofs.AssignLemmas.{lacks_place, leaf_below, object_below, array_below}
 use Rattle.jsonptr_walk.proofs.put.put_child.Goals as goal
 

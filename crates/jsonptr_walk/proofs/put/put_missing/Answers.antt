@@ -1,6 +1,6 @@
 use Rattle.std.proofs.Common.{◌∷◌, option_map, refl}
 use Rattle.jsonptr_tree.specs.Assigning.{Assigns}
-use Rattle.jsonptr_text.specs.PointerText.{tokens}
+use Rattle.jsonptr_syntax.specs.PointerText.{tokens}
 use Rattle.jsonptr_walk.specs.Putting.{AssignsValue}
 use Rattle.jsonptr_walk.proofs.AssignBelow.{begins_there, leads_there, stops, lacks_there, assigned_below, refused_below, nowhere_below, plain_before, stood, answered, refused_all}
 use Rattle.jsonptr_walk.proofs.put.put_missing.Goals as goal

@@ -1,5 +1,5 @@
 use Rattle.std.proofs.Common.{ap, ◌∙◌}
-use Rattle.jsonptr_text.specs.PointerText.{tokens}
+use Rattle.jsonptr_syntax.specs.PointerText.{tokens}
 use Rattle.jsonptr_walk.proofs.AssignLemmas.{grown_round}
 use Rattle.jsonptr_walk.proofs.put.replace_leaf.Goals as goal
 

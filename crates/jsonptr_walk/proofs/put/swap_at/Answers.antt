@@ -1,7 +1,7 @@
 use Rattle.std.proofs.Common.{◌≡◌, refl, ap, ◌∙◌, subst}
 use Rattle.jsonptr_tree.specs.Node.{NodeMap}
 use Rattle.jsonptr_tree.proofs.LandingLemmas.{stops_named}
-use Rattle.jsonptr_text.specs.PointerText.{tokens}
+use Rattle.jsonptr_syntax.specs.PointerText.{tokens}
 use Rattle.jsonptr_walk.specs.Follow.{PutsAt}
 use Rattle.jsonptr_walk.proofs.AssignBelow.{assigned_named, stood}
 use Rattle.jsonptr_walk.proofs.put.swap_at.Goals as goal

@@ -1,5 +1,5 @@
 use Rattle.std.proofs.Common.{[], ◌∷◌, ◌++◌, refl, sym, true≢false}
-use Rattle.jsonptr_text.specs.PointerText.{tokens}
+use Rattle.jsonptr_syntax.specs.PointerText.{tokens}
 use Rattle.jsonptr_walk.proofs.DeleteLemmas.{plain_front, plain_last, stops_short, short_deleted, takes_out, below_deleted, below_found}
 use Rattle.jsonptr_walk.proofs.remove.remove_child.Goals as goal
 

@@ -1,0 +1,231 @@
+//! The command line: the commands, and the arguments and flags of each.
+
+use clap::{Arg, ArgAction, Command, arg};
+use std::alloc::{AllocError, Global};
+
+/// The version of the project, as in `crates/jsonptr/VERSION`.
+const VERSION: &str = "0.2.0";
+
+/// Returns the command line of the program.
+pub fn command<'a>(alloc: Global) -> Result<Command<'a>, AllocError> {
+    Command::new(alloc, "jptr")
+        .bin_name("jptr")?
+        .version(VERSION)
+        .about("Finds and changes values of JSON documents by JSON Pointers")
+        .subcommand_required(true)
+        .arg_required_else_help(true)
+        .subcommand(get(alloc)?)?
+        .subcommand(set(alloc)?)?
+        .subcommand(delete(alloc)?)?
+        .subcommand(paths(alloc)?)?
+        .subcommand(from_paths(alloc)?)?
+        .subcommand(patch(alloc)?)?
+        .subcommand(format(alloc)?)?
+        .subcommand(diff(alloc)?)?
+        .subcommand(tokens(alloc)?)?
+        .subcommand(escape(alloc)?)?
+        .subcommand(unescape(alloc)?)
+}
+
+/// Returns the command `get`.
+fn get<'a>(alloc: Global) -> Result<Command<'a>, AllocError> {
+    let command = Command::new(alloc, "get")
+        .about("Prints the value that the pointer resolves to")
+        .arg(pointer(alloc))?
+        .arg(file(alloc))?
+        .arg(
+            arg!(in alloc; --default <JSON> "Prints this value if the pointer resolves to none").allow_negative_numbers(
+                true,
+            ),
+        )?
+        .arg(
+            arg!(in alloc; --raw "Prints a string without quotes")
+                .conflicts_with("pretty")?
+                .conflicts_with("indent")?
+                .conflicts_with("sort-keys")?,
+        )?
+        .arg(toml_flag(alloc))?;
+    with_lines(alloc, with_order(alloc, command)?)
+}
+
+/// Returns the command `set`.
+fn set<'a>(alloc: Global) -> Result<Command<'a>, AllocError> {
+    let command = Command::new(alloc, "set")
+        .about("Prints the document with the value assigned at the pointer")
+        .arg(pointer(alloc))?
+        .arg(arg!(in alloc; <JSON> "The value").allow_negative_numbers(true))?
+        .arg(file(alloc))?
+        .arg(toml_flag(alloc))?
+        .arg(reformat(alloc)?)?;
+    with_lines(alloc, with_in_place(alloc, with_order(alloc, command)?)?)
+}
+
+/// Returns the command `delete`.
+fn delete<'a>(alloc: Global) -> Result<Command<'a>, AllocError> {
+    let command = Command::new(alloc, "delete")
+        .about("Prints the document without the value that the pointer resolves to")
+        .arg(pointer(alloc))?
+        .arg(file(alloc))?
+        .arg(toml_flag(alloc))?
+        .arg(reformat(alloc)?)?;
+    with_lines(alloc, with_in_place(alloc, with_order(alloc, command)?)?)
+}
+
+/// Returns the command `paths`.
+fn paths<'a>(alloc: Global) -> Result<Command<'a>, AllocError> {
+    Command::new(alloc, "paths")
+        .about("Prints a line for each leaf: its pointer, a tab, and its value")
+        .arg(file(alloc))?
+        .arg(
+            arg!(in alloc; --all "Prints a line for each node, from which from-paths makes the document"),
+        )?
+        .arg(
+            arg!(in alloc; --toml "Takes TOML, as for a file whose name ends in .toml, and prints TOML values"),
+        )
+}
+
+/// Returns the command `from-paths`.
+fn from_paths<'a>(alloc: Global) -> Result<Command<'a>, AllocError> {
+    let command = Command::new(alloc, "from-paths")
+        .about("Prints the document that lines of pointers, tabs and JSON values build")
+        .arg(file(alloc))?;
+    with_layout(alloc, command)
+}
+
+/// Returns the command `patch`.
+fn patch<'a>(alloc: Global) -> Result<Command<'a>, AllocError> {
+    let command = Command::new(alloc, "patch")
+        .about("Prints the document after a JSON Patch (RFC 6902)")
+        .arg(arg!(in alloc; <PATCHFILE> "The patch document, or - for standard input"))?
+        .arg(file(alloc))?
+        .arg(
+            arg!(in alloc; --check "Prints nothing: the exit status says whether the patch applies")
+                .conflicts_with("in-place")?
+                .conflicts_with("lines")?,
+        )?
+        .arg(
+            arg!(in alloc; --inverse <UNDO> "Writes the patch that takes this one back to this file")
+                .conflicts_with("check")?
+                .conflicts_with("lines")?,
+        )?
+        .arg(reformat(alloc)?)?;
+    with_lines(alloc, with_in_place(alloc, with_order(alloc, command)?)?)
+}
+
+/// Returns the command `format`.
+fn format<'a>(alloc: Global) -> Result<Command<'a>, AllocError> {
+    let command = Command::new(alloc, "format")
+        .about("Prints the document with a line for each member and element")
+        .arg(file(alloc))?;
+    with_lines(alloc, with_in_place(alloc, with_order(alloc, command)?)?)
+}
+
+/// Returns the command `diff`.
+fn diff<'a>(alloc: Global) -> Result<Command<'a>, AllocError> {
+    let command = Command::new(alloc, "diff")
+        .about(
+            "Prints a JSON Patch (RFC 6902) that turns one document into another. The exit status is 1 if they differ",
+        )
+        .arg(arg!(in alloc; <OLD> "The document before, or - for standard input"))?
+        .arg(arg!(in alloc; <NEW> "The document after, or - for standard input"))?;
+    with_layout(alloc, command)
+}
+
+/// Returns the command `tokens`.
+fn tokens<'a>(alloc: Global) -> Result<Command<'a>, AllocError> {
+    Command::new(alloc, "tokens")
+        .about("Prints the tokens of the pointer, decoded, as a JSON array")
+        .arg(pointer(alloc))?
+        .arg(arg!(in alloc; --raw "Prints each token as a line, without quotes"))
+}
+
+/// Returns the command `escape`.
+fn escape<'a>(alloc: Global) -> Result<Command<'a>, AllocError> {
+    Command::new(alloc, "escape")
+        .about("Prints the text as a token of a pointer, with ~0 for ~ and ~1 for /")
+        .arg(arg!(in alloc; <TEXT> "The text").allow_hyphen_values(true))
+}
+
+/// Returns the command `unescape`.
+fn unescape<'a>(alloc: Global) -> Result<Command<'a>, AllocError> {
+    Command::new(alloc, "unescape")
+        .about("Prints the text of a token of a pointer")
+        .arg(arg!(in alloc; <TOKEN> "The token").allow_hyphen_values(true))
+}
+
+/// Returns the argument for the pointer.
+fn pointer<'a>(alloc: Global) -> Arg<'a> {
+    arg!(in alloc; <POINTER> "The JSON Pointer (RFC 6901), as /a/0")
+}
+
+/// Returns the argument for the file.
+fn file<'a>(alloc: Global) -> Arg<'a> {
+    arg!(in alloc; [FILE] "The file; standard input if it is missing or -")
+}
+
+/// Returns the flag for TOML.
+fn toml_flag<'a>(alloc: Global) -> Arg<'a> {
+    arg!(in alloc; --toml "Takes TOML, as for a file whose name ends in .toml")
+}
+
+/// Returns the flag that allows a document to lose its layout.
+fn reformat<'a>(alloc: Global) -> Result<Arg<'a>, AllocError> {
+    arg!(in alloc; --reformat "Prints a document anew that cannot be edited in its text; on TOML, lets --in-place do so").conflicts_with(
+        "lines",
+    )
+}
+
+/// Adds the flags for the layout.
+fn with_layout<'a>(alloc: Global, command: Command<'a>) -> Result<Command<'a>, AllocError> {
+    command
+        .arg(
+            arg!(in alloc; --pretty "Prints a line for each member and element").conflicts_with(
+                "compact",
+            )?,
+        )?
+        .arg(arg!(in alloc; --compact "Prints without white space"))
+}
+
+/// Adds the flags for the layout of a text, and for the order of its members.
+fn with_order<'a>(alloc: Global, command: Command<'a>) -> Result<Command<'a>, AllocError> {
+    with_layout(alloc, command)?
+        .arg(
+            Arg::new(alloc, "sort-keys")
+                .long("sort-keys")
+                .help("Sorts the members; prints without white space, or as --pretty does")
+                .action(ArgAction::SetTrue),
+        )?
+        .arg(
+            arg!(in alloc; --indent <N> "Prints as --pretty does, and indents by N spaces, 1 to 16, or by tab").conflicts_with(
+                "compact",
+            )?,
+        )
+}
+
+/// Adds the flags for one document a line.
+fn with_lines<'a>(alloc: Global, command: Command<'a>) -> Result<Command<'a>, AllocError> {
+    command
+        .arg(
+            arg!(in alloc; --lines "Takes each line as a document, and prints each result as a line")
+                .conflicts_with("pretty")?
+                .conflicts_with("indent")?,
+        )?
+        .arg(
+            arg!(in alloc; --strict "Stops at the first line at fault; needs --lines").requires_arg(
+                "lines",
+            )?,
+        )
+}
+
+/// Adds the flag for changing the file.
+fn with_in_place<'a>(alloc: Global, command: Command<'a>) -> Result<Command<'a>, AllocError> {
+    command.arg(
+        Arg::new(alloc, "in-place")
+            .short('i')
+            .long("in-place")
+            .help("Changes the file, and prints nothing")
+            .action(ArgAction::SetTrue)
+            .requires_arg("FILE")?
+            .conflicts_with("lines")?,
+    )
+}

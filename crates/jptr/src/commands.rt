@@ -1,0 +1,272 @@
+//! The commands.
+
+use crate::input::{is_standard, name_of, read_all};
+use crate::inverse::patch_with_inverse;
+use crate::output::{print_line, print_text};
+use crate::paths::{from_paths, paths};
+use crate::problem::{FILE, NOT_APPLIED, NOT_JSON, Problem, USAGE};
+use crate::style::{layout_of, style_of};
+use crate::task::{run_styled, run_task};
+use crate::toml_file::is_toml;
+use crate::{arguments, toml_file};
+use clap::error::ErrorKind;
+use clap::{ArgMatches, Error};
+use jptr_tasks::difference::difference_of;
+use jptr_tasks::layout::{Layout, show};
+use jptr_tasks::patching::operations_of;
+use jptr_tasks::task::Task;
+use jsonptr::{Pointer, Token};
+use jsonptr_edit_in_text::RawValue;
+use jsonptr_in_text::InTextError;
+use serde_json::Value;
+use std::alloc::Global;
+use std::borrow::CowStr;
+use std::{env, io};
+
+/// Runs the program, and returns its exit status.
+pub fn run(rt: &HostRuntime) -> Result<u8, Problem> {
+    let words = words(rt)?;
+    match arguments::command(rt.alloc())?.try_get_matches_from(words.as_slice()) {
+        Ok(matches) => match matches.subcommand() {
+            Some((name, matches)) => run_command(rt, name, matches),
+            None => Ok(USAGE),
+        },
+        Err(error) => show_usage(rt, &error),
+    }
+}
+
+/// Returns the words of the command line, of which the first is the program's name.
+fn words(rt: &HostRuntime) -> Result<Vec<String>, Problem> {
+    match env::args(rt) {
+        Ok(args) => Ok(args.collect(rt.alloc())?),
+        Err(error) if error.kind() == io::ErrorKind::OutOfMemory => Err(Problem::Memory),
+        Err(_) => {
+            let message = "an argument is not UTF-8";
+            Err(Problem::new(rt.alloc(), USAGE, "command line", message))
+        }
+    }
+}
+
+/// Prints the help, the version, or what is wrong with the command line.
+fn show_usage(rt: &HostRuntime, error: &Error) -> Result<u8, Problem> {
+    if error.kind() == ErrorKind::OutOfMemory {
+        return Err(Problem::Memory);
+    }
+    let text = error.to_string(rt.alloc())?;
+    if error.use_stderr() {
+        return Err(Problem::Other(USAGE, text));
+    }
+    print_text(rt, text.as_str())?;
+    Ok(0)
+}
+
+/// Runs the command with this name.
+fn run_command(rt: &HostRuntime, name: &str, matches: &ArgMatches<'_>) -> Result<u8, Problem> {
+    match name {
+        "get" => get(rt, matches),
+        "set" => set(rt, matches),
+        "delete" => delete(rt, matches),
+        "paths" => paths(rt, matches),
+        "from-paths" => from_paths(rt, matches),
+        "patch" => patch(rt, matches),
+        "format" => format(rt, matches),
+        "diff" => diff(rt, matches),
+        "tokens" => tokens(rt, matches),
+        "escape" => escape(rt, matches),
+        "unescape" => unescape(rt, matches),
+        _ => Ok(USAGE),
+    }
+}
+
+/// Finds a value.
+fn get(rt: &HostRuntime, matches: &ArgMatches<'_>) -> Result<u8, Problem> {
+    let alloc = rt.alloc();
+    let text = argument(matches, "POINTER");
+    let pointer = pointer_of(alloc, text)?;
+    if is_toml(matches) {
+        return toml_file::get(rt, matches, pointer);
+    }
+    let fallback = match matches.get_str("default") {
+        Some(json) => Some(value_of(alloc, "--default", json)?),
+        None => None,
+    };
+    run_task(rt, matches, Task::Get(pointer, fallback), text)
+}
+
+/// Assigns a value.
+fn set(rt: &HostRuntime, matches: &ArgMatches<'_>) -> Result<u8, Problem> {
+    let alloc = rt.alloc();
+    let text = argument(matches, "POINTER");
+    let pointer = pointer_of(alloc, text)?;
+    if is_toml(matches) {
+        return toml_file::set(rt, matches, pointer, argument(matches, "JSON"));
+    }
+    let value = raw_value_of(alloc, "JSON", argument(matches, "JSON"))?;
+    run_task(rt, matches, Task::Set(pointer, value), text)
+}
+
+/// Deletes a value.
+fn delete(rt: &HostRuntime, matches: &ArgMatches<'_>) -> Result<u8, Problem> {
+    let text = argument(matches, "POINTER");
+    let pointer = pointer_of(rt.alloc(), text)?;
+    if is_toml(matches) {
+        return toml_file::delete(rt, matches, pointer);
+    }
+    run_task(rt, matches, Task::Delete(pointer), text)
+}
+
+/// Applies a patch document.
+fn patch(rt: &HostRuntime, matches: &ArgMatches<'_>) -> Result<u8, Problem> {
+    let alloc = rt.alloc();
+    let name = argument(matches, "PATCHFILE");
+    if is_standard(Some(name)) && is_standard(matches.get_str("FILE")) {
+        let message = "standard input cannot be the patch and the document";
+        return Err(Problem::new(alloc, USAGE, "PATCHFILE", message));
+    }
+    if let Some(file) = matches.get_str("FILE") {
+        if file.ends_with(".toml") {
+            return Err(Problem::new(alloc, USAGE, "patch", "not on TOML: use set and delete"));
+        }
+    }
+    let document = document_of(rt, name)?;
+    match operations_of(alloc, &document) {
+        Ok(_) => match matches.get_str("inverse") {
+            Some(undo) => patch_with_inverse(rt, matches, document, undo),
+            None => run_task(rt, matches, Task::Patch(document), ""),
+        },
+        Err(failure) => Err(Problem::of_patch(alloc, name_of(Some(name)), &document, failure)),
+    }
+}
+
+/// Lays a document out anew.
+fn format(rt: &HostRuntime, matches: &ArgMatches<'_>) -> Result<u8, Problem> {
+    let alloc = rt.alloc();
+    if let Some(file) = matches.get_str("FILE") {
+        if file.ends_with(".toml") {
+            return Err(Problem::new(alloc, USAGE, "format", "not on TOML"));
+        }
+    }
+    let mut style = style_of(alloc, matches)?;
+    style.layout = format_layout(style.layout, matches);
+    run_styled(rt, matches, Task::Get(Pointer::root(), None), style, "")
+}
+
+/// Returns how a document is laid out anew: on lines, if no flag says otherwise.
+fn format_layout(layout: Layout, matches: &ArgMatches<'_>) -> Layout {
+    let is_flat = matches.get_flag("lines") || matches.get_flag("compact");
+    match layout {
+        Layout::Kept => if is_flat {
+            Layout::Compact
+        } else {
+            Layout::Pretty
+        },
+        Layout::Sorted => if is_flat {
+            Layout::Sorted
+        } else {
+            Layout::SortedPretty
+        },
+        layout => layout,
+    }
+}
+
+/// Prints the patch document that turns one document into another.
+fn diff(rt: &HostRuntime, matches: &ArgMatches<'_>) -> Result<u8, Problem> {
+    let alloc = rt.alloc();
+    let name = argument(matches, "NEW");
+    let old = document_of(rt, argument(matches, "OLD"))?;
+    let new = document_of(rt, name)?;
+    match difference_of(alloc, &old, &new, layout_of(matches)) {
+        Ok(difference) => {
+            print_line(rt, difference.text.as_str())?;
+            Ok(if difference.is_empty { 0 } else { NOT_APPLIED })
+        }
+        Err(failure) => Err(Problem::of_failure(alloc, name_of(Some(name)), "", failure)),
+    }
+}
+
+/// Reads a document from a file or from standard input.
+fn document_of(rt: &HostRuntime, file: &str) -> Result<Value, Problem> {
+    let bytes = read_all(rt, Some(file))?;
+    match Value::from_slice(rt.alloc(), &bytes) {
+        Ok(value) => Ok(value),
+        Err(error) if error.is_memory() => Err(Problem::Memory),
+        Err(_) => Err(Problem::of_bytes(rt.alloc(), name_of(Some(file)), &bytes)),
+    }
+}
+
+/// Prints the tokens of a pointer.
+fn tokens(rt: &HostRuntime, matches: &ArgMatches<'_>) -> Result<u8, Problem> {
+    let alloc = rt.alloc();
+    let pointer = pointer_of(alloc, argument(matches, "POINTER"))?;
+    let mut texts = Vec::new(alloc);
+    for token in pointer.tokens() {
+        let text = token.decoded(alloc)?.into_owned(alloc)?;
+        texts.push(Value::String(text))?;
+    }
+    let mut out = String::new(alloc);
+    if matches.get_flag("raw") {
+        for text in &texts {
+            out.push_str(show(alloc, text, Layout::Raw)?.as_str())?;
+            out.push('\n')?;
+        }
+    } else {
+        out.push_str(show(alloc, &Value::Array(texts), Layout::Compact)?.as_str())?;
+        out.push('\n')?;
+    }
+    print_text(rt, out.as_str())?;
+    Ok(0)
+}
+
+/// Prints a text as a token.
+fn escape(rt: &HostRuntime, matches: &ArgMatches<'_>) -> Result<u8, Problem> {
+    let alloc = rt.alloc();
+    let token = Token::new(alloc, CowStr::Borrowed(argument(matches, "TEXT")))?;
+    print_line(rt, token.encoded())
+}
+
+/// Prints the text of a token.
+fn unescape(rt: &HostRuntime, matches: &ArgMatches<'_>) -> Result<u8, Problem> {
+    let alloc = rt.alloc();
+    let text = argument(matches, "TOKEN");
+    match Token::from_encoded(CowStr::Borrowed(text)) {
+        Ok(token) => {
+            let decoded = token.decoded(alloc)?.into_owned(alloc)?;
+            print_line(rt, decoded.as_str())
+        }
+        Err(error) => Err(Problem::of_token(alloc, text, error)),
+    }
+}
+
+/// Returns the value of a required argument.
+fn argument<'a>(matches: &ArgMatches<'a>, name: &str) -> &'a str {
+    match matches.get_str(name) {
+        Some(text) => text,
+        None => "",
+    }
+}
+
+/// Parses an argument as a pointer.
+fn pointer_of<'a>(alloc: Global, text: &'a str) -> Result<Pointer<'a>, Problem> {
+    match Pointer::parse(text) {
+        Ok(pointer) => Ok(pointer),
+        Err(error) => Err(Problem::of_pointer(alloc, text, error)),
+    }
+}
+
+/// Parses an argument as a JSON text, and keeps the text.
+fn raw_value_of(alloc: Global, name: &str, text: &str) -> Result<RawValue, Problem> {
+    match RawValue::parse(alloc, text) {
+        Ok(value) => Ok(value),
+        Err(InTextError::Memory(_)) => Err(Problem::Memory),
+        Err(_) => Err(Problem::of_bytes(alloc, name, text.as_bytes())),
+    }
+}
+
+/// Parses an argument as a JSON text.
+fn value_of(alloc: Global, name: &str, text: &str) -> Result<Value, Problem> {
+    match Value::from_str(alloc, text) {
+        Ok(value) => Ok(value),
+        Err(error) if error.is_memory() => Err(Problem::Memory),
+        Err(_) => Err(Problem::of_bytes(alloc, name, text.as_bytes())),
+    }
+}

@@ -1,0 +1,244 @@
+//! Running a task: on one document, on each line, or on a file in place.
+
+use crate::in_place::{open_file, replace_text};
+use crate::input::{is_standard, name_of, open, problem, read_all};
+use crate::output::{Output, print_text};
+use crate::problem::{NOT_APPLIED, Problem, USAGE};
+use crate::style::{Style, indented, style_of};
+use clap::ArgMatches;
+use jptr_tasks::document::{document_result, run_document};
+use jptr_tasks::failure::Failure;
+use jptr_tasks::layout::{Layout, show};
+use jptr_tasks::line::LineTask;
+use jptr_tasks::lines::{Ended, run_lines};
+use jptr_tasks::task::Task;
+use std::alloc::Global;
+use std::io::{BufReader, BufWriter};
+
+/// The bytes that are read or written at once where each line is a document.
+const BLOCK: usize = 65_536;
+
+/// Runs the task as the flags say, and returns the exit status.
+pub fn run_task(
+    rt: &HostRuntime,
+    matches: &ArgMatches<'_>,
+    task: Task<'_>,
+    pointer: &str,
+) -> Result<u8, Problem> {
+    let style = style_of(rt.alloc(), matches)?;
+    run_styled(rt, matches, task, style, pointer)
+}
+
+/// Runs the task as the flags say, with results in this style, and returns the exit status.
+pub fn run_styled(
+    rt: &HostRuntime,
+    matches: &ArgMatches<'_>,
+    task: Task<'_>,
+    style: Style,
+    pointer: &str,
+) -> Result<u8, Problem> {
+    let file = matches.get_str("FILE");
+    if matches.get_flag("check") {
+        check(rt, file, &task)
+    } else if matches.get_flag("lines") {
+        on_lines(rt, file, task, style.layout, matches.get_flag("strict"))
+    } else if matches.get_flag("in-place") {
+        in_place(rt, file, &task, style, pointer)
+    } else {
+        on_document(rt, file, &task, style, pointer)
+    }
+}
+
+/// Runs the task on one document, and prints nothing.
+fn check(rt: &HostRuntime, file: Option<&str>, task: &Task<'_>) -> Result<u8, Problem> {
+    let alloc = rt.alloc();
+    let bytes = read_all(rt, file)?;
+    match document_result(alloc, task, Layout::Kept, &bytes) {
+        // The operations apply, but not in place.
+        Ok(_) | Err(Failure::NotInPlace) => Ok(0),
+        Err(failure) => Err(document_problem(alloc, name_of(file), "", &bytes, failure)),
+    }
+}
+
+/// Runs the task on one document, and prints the result.
+fn on_document(
+    rt: &HostRuntime,
+    file: Option<&str>,
+    task: &Task<'_>,
+    style: Style,
+    pointer: &str,
+) -> Result<u8, Problem> {
+    let alloc = rt.alloc();
+    if style.indent.is_some() {
+        return print_indented(rt, file, task, style, pointer);
+    }
+    let mut input = open(rt, file)?;
+    let mut output = Output::new(rt);
+    let mut bytes = Vec::new(alloc);
+    match run_document(
+        alloc,
+        task,
+        style.layout,
+        &mut input,
+        &mut bytes,
+        &mut output,
+    ) {
+        Ok(()) => Ok(0),
+        Err(Failure::Read) => Err(input.read_problem(alloc, name_of(file))),
+        Err(Failure::Write) => Err(output.problem(alloc)),
+        Err(Failure::NotInPlace) if style.reformats => {
+            print_anew(rt, name_of(file), task, &bytes, pointer)
+        }
+        Err(failure) => Err(document_problem(alloc, name_of(file), pointer, &bytes, failure)),
+    }
+}
+
+/// Runs the task on one document, and prints the result with the indentation of the style.
+fn print_indented(
+    rt: &HostRuntime,
+    file: Option<&str>,
+    task: &Task<'_>,
+    style: Style,
+    pointer: &str,
+) -> Result<u8, Problem> {
+    let alloc = rt.alloc();
+    let bytes = read_all(rt, file)?;
+    match edited(alloc, task, style, &bytes) {
+        Ok(new) => {
+            print_text(rt, new.as_str())?;
+            Ok(0)
+        }
+        Err(failure) => Err(document_problem(alloc, name_of(file), pointer, &bytes, failure)),
+    }
+}
+
+/// Runs the task on the bytes of a document that cannot be edited in place, and prints the result anew.
+fn print_anew(
+    rt: &HostRuntime,
+    name: &str,
+    task: &Task<'_>,
+    bytes: &[u8],
+    pointer: &str,
+) -> Result<u8, Problem> {
+    match document_result(rt.alloc(), task, Layout::Compact, bytes) {
+        Ok(new) => {
+            print_text(rt, new.as_str())?;
+            Ok(0)
+        }
+        Err(failure) => Err(document_problem(rt.alloc(), name, pointer, bytes, failure)),
+    }
+}
+
+/// Runs the task on a file, and replaces its content by the result.
+fn in_place(
+    rt: &HostRuntime,
+    file: Option<&str>,
+    task: &Task<'_>,
+    style: Style,
+    pointer: &str,
+) -> Result<u8, Problem> {
+    let alloc = rt.alloc();
+    let Some(path) = file else {
+        return Err(Problem::new(alloc, USAGE, "--in-place", "needs a file"));
+    };
+    if is_standard(file) {
+        return Err(Problem::new(alloc, USAGE, "--in-place", "needs a file"));
+    }
+    let (target, bytes) = open_file(rt, path)?;
+    match edited(alloc, task, style, &bytes) {
+        Ok(new) => {
+            if new.as_bytes() != bytes.as_slice() {
+                replace_text(rt, path, &target, new.as_str())?;
+            }
+            Ok(0)
+        }
+        Err(failure) => Err(document_problem(alloc, path, pointer, &bytes, failure)),
+    }
+}
+
+/// Returns the document after the task, printed anew if that is wanted where it cannot be edited in
+/// place.
+pub fn edited(
+    alloc: Global,
+    task: &Task<'_>,
+    style: Style,
+    bytes: &[u8],
+) -> Result<String, Failure> {
+    match document_result(alloc, task, style.layout, bytes) {
+        Ok(new) => indented(alloc, style, new),
+        Err(Failure::NotInPlace) if style.reformats => {
+            document_result(alloc, task, Layout::Compact, bytes)
+        }
+        Err(failure) => Err(failure),
+    }
+}
+
+/// Returns the problem of a task that failed on the bytes of the document with this name.
+pub fn document_problem(
+    alloc: Global,
+    name: &str,
+    pointer: &str,
+    bytes: &[u8],
+    failure: Failure,
+) -> Problem {
+    match failure {
+        Failure::NotJson => Problem::of_bytes(alloc, name, bytes),
+        failure => Problem::of_failure(alloc, name, pointer, failure),
+    }
+}
+
+/// Runs the task on each line of the input, and prints each result as a line.
+fn on_lines(
+    rt: &HostRuntime,
+    file: Option<&str>,
+    task: Task<'_>,
+    layout: Layout,
+    is_strict: bool,
+) -> Result<u8, Problem> {
+    let alloc = rt.alloc();
+    let fallback = fallback_of(rt, &task, layout)?;
+    let name = format!(in alloc; "jptr: {}", name_of(file))?;
+    let run = LineTask {
+        task,
+        layout,
+        fallback,
+        name,
+        is_strict,
+    };
+    let source = open(rt, file)?;
+    let Ok(mut input) = BufReader::with_capacity(alloc, BLOCK, source) else {
+        return Err(Problem::Memory);
+    };
+    let Ok(mut output) = BufWriter::with_capacity(alloc, BLOCK, Output::new(rt)) else {
+        return Err(Problem::Memory);
+    };
+    let Ok(mut errors) = BufWriter::with_capacity(alloc, BLOCK, rt.stderr()) else {
+        return Err(Problem::Memory);
+    };
+    match run_lines(alloc, &run, &mut input, &mut output, &mut errors) {
+        Ok(Ended::Fine) => Ok(0),
+        Ok(Ended::Faults | Ended::Stopped) => Ok(NOT_APPLIED),
+        Err(Failure::Read) => Err(input.get_ref().read_problem(alloc, name_of(file))),
+        Err(Failure::Write) => Err(output.get_ref().problem(alloc)),
+        Err(_) => Err(Problem::Memory),
+    }
+}
+
+/// Returns what is printed for a line at fault: the value of `--default`, which must be one line.
+fn fallback_of(
+    rt: &HostRuntime,
+    task: &Task<'_>,
+    layout: Layout,
+) -> Result<Option<String>, Problem> {
+    let alloc = rt.alloc();
+    let Task::Get(_, Some(value)) = task else {
+        return Ok(None);
+    };
+    let mut text = show(alloc, value, layout)?;
+    if text.as_bytes().contains(&b'\n') {
+        let message = "contains a line break, which --lines does not allow";
+        return Err(Problem::new(alloc, USAGE, "--default", message));
+    }
+    text.push('\n')?;
+    Ok(Some(text))
+}

@@ -1,0 +1,250 @@
+//! Commands on TOML documents. A document is edited in its text, or printed anew.
+
+use crate::in_place::{Target, open_file, replace_text};
+use crate::input::{is_standard, name_of, read_all};
+use crate::output::{print_line, print_text};
+use crate::problem::{NOT_APPLIED, NOT_JSON, Problem, USAGE, shown};
+use clap::ArgMatches;
+use jsonptr::diagnostic::Diagnostic;
+use jsonptr::{Pointer, PointerBuf};
+use jsonptr_edit_in_toml::{Edited, assign_in_toml_text, delete_in_toml_text};
+use jsonptr_in_toml::{InTomlError, find_in_toml, list_in_toml};
+use jsonptr_paths::listing::Listed;
+use simdutf8::basic::from_utf8;
+use std::alloc::{AllocError, Global};
+use toml::{Value, table_from_str};
+
+/// Why a document is not printed anew.
+const NOT_IN_PLACE: &str =
+    "document cannot be edited in place; --reformat prints the document anew";
+
+/// Returns whether the document is TOML: by the flag, or by the name of its file.
+pub fn is_toml(matches: &ArgMatches<'_>) -> bool {
+    match matches.get_str("FILE") {
+        Some(file) => matches.get_flag("toml") || file.ends_with(".toml"),
+        None => matches.get_flag("toml"),
+    }
+}
+
+/// Prints the value that the pointer resolves to, or the value of `--default`, as TOML.
+pub fn get(
+    rt: &HostRuntime,
+    matches: &ArgMatches<'_>,
+    pointer: Pointer<'_>,
+) -> Result<u8, Problem> {
+    let alloc = rt.alloc();
+    let file = matches.get_str("FILE");
+    no_lines(alloc, matches)?;
+    let text = read_text(rt, file)?;
+    let value = match find_in_toml(alloc, text.text.as_str(), pointer) {
+        Ok(value) => value,
+        Err(InTomlError::NoValue(error)) => match matches.get_str("default") {
+            Some(other) => value_of(alloc, "--default", other)?,
+            None => return Err(problem(alloc, &text, pointer, InTomlError::NoValue(error))),
+        },
+        Err(error) => return Err(problem(alloc, &text, pointer, error)),
+    };
+    match value.as_str() {
+        Some(string) if matches.get_flag("raw") => print_line(rt, string),
+        _ => print_line(rt, value.to_string(alloc)?.as_str()),
+    }
+}
+
+/// Assigns a value.
+pub fn set(
+    rt: &HostRuntime,
+    matches: &ArgMatches<'_>,
+    pointer: Pointer<'_>,
+    value: &str,
+) -> Result<u8, Problem> {
+    let alloc = rt.alloc();
+    let file = matches.get_str("FILE");
+    no_lines(alloc, matches)?;
+    let value = value_of(alloc, "JSON", value)?;
+    let source = source_of(rt, matches)?;
+    match assign_in_toml_text(alloc, source.text.as_str(), pointer, value) {
+        Ok(edited) => put(rt, &source, edited, matches.get_flag("reformat")),
+        Err(error) => Err(problem(alloc, &source, pointer, error)),
+    }
+}
+
+/// Deletes a value.
+pub fn delete(
+    rt: &HostRuntime,
+    matches: &ArgMatches<'_>,
+    pointer: Pointer<'_>,
+) -> Result<u8, Problem> {
+    let alloc = rt.alloc();
+    let file = matches.get_str("FILE");
+    no_lines(alloc, matches)?;
+    let source = source_of(rt, matches)?;
+    match delete_in_toml_text(alloc, source.text.as_str(), pointer) {
+        Ok(edited) => put(rt, &source, edited, matches.get_flag("reformat")),
+        Err(error) => Err(problem(alloc, &source, pointer, error)),
+    }
+}
+
+/// Prints a line for each leaf of a document, or for each node.
+pub fn paths(rt: &HostRuntime, file: Option<&str>, which: Listed) -> Result<u8, Problem> {
+    let alloc = rt.alloc();
+    let source = read_text(rt, file)?;
+    match list_in_toml(alloc, source.text.as_str(), which) {
+        Ok(lines) => {
+            print_text(rt, lines.as_str())?;
+            Ok(0)
+        }
+        Err(error) => Err(problem(alloc, &source, Pointer::root(), error)),
+    }
+}
+
+/// The text of a document, the name of its input, and its file if that is edited in place.
+#[derive(Drop)]
+struct Source {
+    name: String,
+    text: String,
+    target: Option<Target>,
+}
+
+/// Reads the document that is changed.
+fn source_of(rt: &HostRuntime, matches: &ArgMatches<'_>) -> Result<Source, Problem> {
+    let alloc = rt.alloc();
+    let file = matches.get_str("FILE");
+    if !matches.get_flag("in-place") {
+        return read_text(rt, file);
+    }
+    if is_standard(file) {
+        return Err(Problem::new(alloc, USAGE, "--in-place", "needs a file"));
+    }
+    let (target, bytes) = open_file(rt, name_of(file))?;
+    Ok(Source {
+        name: String::from_str(alloc, name_of(file))?,
+        text: utf8_of(alloc, name_of(file), &bytes)?,
+        target: Some(target),
+    })
+}
+
+/// Prints the new document, or replaces the text of the file by it. If it is printed anew, says so; in
+/// place that is done only if it is wanted.
+fn put(rt: &HostRuntime, source: &Source, edited: Edited, reformats: bool) -> Result<u8, Problem> {
+    let name = source.name.as_str();
+    if let Edited::Rewritten(_) = &edited {
+        if source.target.is_some() && !reformats {
+            return Err(Problem::new(rt.alloc(), NOT_APPLIED, name, NOT_IN_PLACE));
+        }
+        let shown = shown(rt.alloc(), name)?;
+        let _ = eprintln!(rt; "jptr: {shown}: printed anew, without its comments and layout");
+    }
+    match &source.target {
+        None => print_text(rt, edited.as_str())?,
+        Some(target) => {
+            if edited.as_str() != source.text.as_str() {
+                replace_text(rt, name, target, edited.as_str())?;
+            }
+        }
+    }
+    Ok(0)
+}
+
+/// Returns an error if `--lines` is there.
+fn no_lines(alloc: Global, matches: &ArgMatches<'_>) -> Result<(), Problem> {
+    if matches.get_flag("lines") {
+        return Err(Problem::new(alloc, USAGE, "--lines", "a line is no TOML document"));
+    }
+    Ok(())
+}
+
+/// Reads the text of a file.
+fn read_text(rt: &HostRuntime, file: Option<&str>) -> Result<Source, Problem> {
+    let alloc = rt.alloc();
+    Ok(Source {
+        name: String::from_str(alloc, name_of(file))?,
+        text: utf8_of(alloc, name_of(file), &read_all(rt, file)?)?,
+        target: None,
+    })
+}
+
+/// Returns the text that the bytes of a file are.
+fn utf8_of(alloc: Global, name: &str, bytes: &[u8]) -> Result<String, Problem> {
+    match from_utf8(bytes) {
+        Ok(text) => Ok(String::from_str(alloc, text)?),
+        Err(_) => Err(Problem::new(alloc, NOT_JSON, name, "not UTF-8")),
+    }
+}
+
+/// Parses an argument as a TOML value.
+fn value_of(alloc: Global, name: &str, text: &str) -> Result<Value, Problem> {
+    match Value::from_str(alloc, text) {
+        Ok(value) => Ok(value),
+        Err(error) if error.is_memory() => Err(Problem::Memory),
+        Err(_) => Err(Problem::new(alloc, NOT_JSON, name, "not a TOML value")),
+    }
+}
+
+/// Returns the problem of an error.
+fn problem(alloc: Global, source: &Source, pointer: Pointer<'_>, error: InTomlError) -> Problem {
+    let status = match error {
+        InTomlError::NotToml | InTomlError::DocumentTooDeep => NOT_JSON,
+        InTomlError::Memory(_) => return Problem::Memory,
+        _ => NOT_APPLIED,
+    };
+    match text_of(alloc, source, pointer, error) {
+        Ok(text) => Problem::Other(status, text),
+        Err(_) => Problem::Memory,
+    }
+}
+
+/// Returns the text of an error: with the line and the column of a text that is not TOML, or with the
+/// pointer below it if that is at fault.
+fn text_of(
+    alloc: Global,
+    source: &Source,
+    pointer: Pointer<'_>,
+    error: InTomlError,
+) -> Result<String, AllocError> {
+    let name = shown(alloc, source.name.as_str())?;
+    if let InTomlError::NotToml = error {
+        let fault = fault_of(alloc, source.text.as_str())?;
+        return format!(in alloc; "jptr: {name}: {error}{fault}\n");
+    }
+    let mut text = format!(in alloc; "jptr: {name}: {error}\n")?;
+    let Ok(subject) = PointerBuf::from_text(alloc, pointer.as_str()) else {
+        return Ok(text);
+    };
+    let drawn = match error {
+        InTomlError::NoValue(error) => error.into_report(subject).render(alloc)?,
+        InTomlError::BadPlace(error) => error.into_report(subject).render(alloc)?,
+        _ => return Ok(text),
+    };
+    text.push_str(drawn.as_str())?;
+    text.push('\n')?;
+    Ok(text)
+}
+
+/// Returns why the text is not TOML, with the line and the column.
+fn fault_of(alloc: Global, text: &str) -> Result<String, AllocError> {
+    match table_from_str(alloc, text) {
+        Err(error) if error.is_memory() => Err(AllocError),
+        Err(error) => {
+            let start = error.span().map_or(0, |span| span.start);
+            let (line, column) = position_of(text, start);
+            let message = error.message();
+            format!(in alloc; ": {message} at line {line} column {column}")
+        }
+        Ok(_) => Ok(String::new(alloc)),
+    }
+}
+
+/// Returns the line and the column of the offset, both from 1. A column counts characters.
+fn position_of(text: &str, offset: usize) -> (usize, usize) {
+    let mut line = 1usize;
+    let mut column = 1usize;
+    for byte in text.as_bytes().iter().take(offset) {
+        if *byte == b'\n' {
+            line = line.saturating_add(1);
+            column = 1;
+        } else if *byte & 0xC0 != 0x80 {
+            column = column.saturating_add(1);
+        }
+    }
+    (line, column)
+}

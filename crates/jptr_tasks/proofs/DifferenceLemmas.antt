@@ -1,0 +1,149 @@
+-- What is printed can be read again, and a patch that is printed applies.
+use Rattle.std.proofs.Common.{◌≡◌, ◌≢◌, ◌≤◌, ◌⊎◌, inl, inr, List, Option, Some, None, MatchOption, refl, sym, ap, ◌∙◌, subst}
+use Rattle.std.specs.declared.alloc.AllocError.{AllocError}
+use Rattle.serde_json.specs.Data.{Data, depth}
+use Rattle.serde_json.specs.Find.{as_str}
+use Rattle.serde_json.specs.Read.{read, max_depth}
+use Rattle.serde_json.proofs.Nesting.{depth-read}
+use Rattle.jsonptr_grammar.specs.Text.{Text}
+use Rattle.jsonptr.specs.Documents.{IsDocument}
+use Rattle.jsonptr.proofs.Calling.{map_of-IsTree, map_of-finite}
+use Rattle.jsonptr_tree.specs.Node.{NodeMap}
+use Rattle.jsonptr_tree.specs.Json.{nodes, content}
+use Rattle.jsonptr_patch.specs.Patching.{Patches, PatchesBy, RefusesPatchBy}
+use Rattle.jsonptr_patch.specs.declared.comparison.Comparison.TheVariants.{Numeric}
+use Rattle.jsonptr_patch.specs.declared.operation.Operation.{Operation}
+use Rattle.jsonptr_patch.specs.declared.operation.PatchError.{PatchError}
+use Rattle.jsonptr_patch_document.specs.Document.{IsPatch, IsNoPatch}
+use Rattle.jsonptr_patch_document.specs.Writing.{document_of}
+use Rattle.jsonptr_patch_document.specs.declared.error.PatchDocumentError.{PatchDocumentError}
+use Rattle.jsonptr_edit_in_text.specs.PatchInText.{IsPatchFault}
+use Rattle.jsonptr_edit_in_text.specs.declared.edited.EditError.TheVariants as edit
+use Rattle.jptr_tasks.specs.Differences.{IsDifference, FailsToDiffer}
+use Rattle.jptr_tasks.specs.Inverting.{IsInverse}
+use Rattle.jptr_tasks.specs.PrivateResults.{IsPatchTextFault}
+use Rattle.jsonptr_in_text.specs.Format.{IsFormatted}
+use Rattle.jsonptr_in_text.specs.declared.format.Format.{Format}
+use Rattle.jsonptr_in_text.specs.declared.format.Format.TheVariants as format
+use Rattle.jptr_tasks.specs.Layouts.{IsCompact, Shows, Lays, ReadsBack}
+use Rattle.jptr_tasks.specs.Results.{FailsToPatch}
+use Rattle.jptr_tasks.specs.declared.difference.Difference.{Difference}
+use Rattle.jptr_tasks.specs.declared.failure.Failure.{Failure}
+use Rattle.jptr_tasks.specs.declared.failure.Failure.TheVariants.{BadPointer, NotPatch, NoValue, BadPlace, NotThere, BadPatch, TooDeep, NotInPlace, NotLocated, PatchTooDeep, LineBreak, BadLine, NotUtf8, NotJson, ArgumentNotJson, Memory, Read, Write}
+use Rattle.jptr_tasks.specs.declared.layout.Layout.{Layout}
+use Rattle.jptr_tasks.specs.declared.layout.Layout.TheVariants.{Kept, Compact, Pretty, Sorted, SortedPretty, Raw}
+
+raw_reads : (value : Data) (text : Text) (o : Option Text) → depth value ≤ max_depth → MatchOption o (IsCompact value text) (λ s. text ≡ s) → MatchOption o (read text ≡ Some value) (λ s. text ≡ s)
+raw_reads value text None le h = h.reads_back le
+raw_reads value text (Some s) le h = h
+
+pub reads_back : (layout : Layout) (value : Data) (text : Text) → depth value ≤ max_depth → Shows layout value text → ReadsBack layout value text
+reads_back Kept value text le h = h.reads_back le
+reads_back Compact value text le h = h.reads_back le
+reads_back Pretty value text le h = h.reads_back le
+reads_back Sorted value text le h = h.reads_back le
+reads_back SortedPretty value text le h = h.reads_back le
+reads_back Raw value text le h = raw_reads value text (as_str value) le h
+
+pub patch_reads : (layout : Layout) (os : List Operation) (text : Text) → depth (document_of os) ≤ max_depth → Shows layout (document_of os) text → read text ≡ Some (document_of os)
+patch_reads Kept os text le h = h.reads_back le
+patch_reads Compact os text le h = h.reads_back le
+patch_reads Pretty os text le h = h.reads_back le
+patch_reads Sorted os text le h = h.reads_back le
+patch_reads SortedPretty os text le h = h.reads_back le
+patch_reads Raw os text le h = h.reads_back le
+
+pub patch_fault : (n m : NodeMap) (os : List Operation) (e : Failure) → Patches n os m → IsPatchTextFault os e → FailsToDiffer n m e
+patch_fault n m os (BadPointer f) turns h = absurd h
+patch_fault n m os (NotPatch f) turns h = absurd h
+patch_fault n m os (NoValue f) turns h = absurd h
+patch_fault n m os (BadPlace f) turns h = absurd h
+patch_fault n m os NotThere turns h = absurd h
+patch_fault n m os (BadPatch f) turns h = absurd h
+patch_fault n m os TooDeep turns h = absurd h
+patch_fault n m os NotInPlace turns h = absurd h
+patch_fault n m os NotLocated turns h = absurd h
+patch_fault n m os PatchTooDeep turns h = (os, turns, h)
+patch_fault n m os LineBreak turns h = absurd h
+patch_fault n m os (BadLine number f) turns h = absurd h
+patch_fault n m os NotUtf8 turns h = absurd h
+patch_fault n m os NotJson turns h = absurd h
+patch_fault n m os ArgumentNotJson turns h = absurd h
+patch_fault n m os (Memory f) turns h = tt
+patch_fault n m os Read turns h = absurd h
+patch_fault n m os Write turns h = absurd h
+
+shown_reads : (layout : Layout) (text out : Text) (d e : Data) → read text ≡ Some d → read text ≡ Some e → Shows layout e out → ReadsBack layout d out
+shown_reads layout text out d e reads again h =
+    let whole : Some e ≡ Some d = sym again ∙ reads in
+    let same : e ≡ d = cc in
+    subst (λ (v : Data). ReadsBack layout v out) same (reads_back layout e out (depth-read text e again) h)
+
+-- a text whose tokens are laid out anew is read as the same document
+formatted_reads : (format : Format) (text out : Text) (d : Data) → read text ≡ Some d → IsFormatted format text out → read out ≡ Some d
+formatted_reads format text out d reads h = h.reads ∙ sym h.from ∙ reads
+
+unquoted : (text out : Text) (d : Data) (o : Option Text) → read text ≡ Some d → MatchOption o (out ≡ text) (λ s. out ≡ s) → MatchOption o (read out ≡ Some d) (λ s. out ≡ s)
+unquoted text out d None reads h = ap read h ∙ reads
+unquoted text out d (Some s) reads h = h
+
+-- the text of a document that is printed in another layout is read as that document
+pub restyled : (layout : Layout) (text out : Text) (d : Data) → read text ≡ Some d → Lays layout text out → ReadsBack layout d out
+restyled Kept text out d reads h = subst (λ (t : Text). read t ≡ Some d) (sym h) reads
+restyled Compact text out d reads h = formatted_reads format.Compact text out d reads h
+restyled Pretty text out d reads h = formatted_reads format.Pretty text out d reads h
+restyled Sorted text out d reads h = shown_reads Sorted text out d h.0 reads h.1 h.2
+restyled SortedPretty text out d reads h = shown_reads SortedPretty text out d h.0 reads h.1 h.2
+restyled Raw text out d reads h =
+    let whole : Some h.0 ≡ Some d = sym h.1 ∙ reads in
+    let same : h.0 ≡ d = cc in
+    unquoted text out d (as_str d) reads (subst (λ (v : Data). MatchOption (as_str v) (out ≡ text) (λ s. out ≡ s)) same h.2)
+
+-- without these four reasons, only a failed allocation is left, and that the edit is not made in place
+pub no_fault : (a : Text) (p : Data) (layout : Layout) (e : Failure) → ((f : PatchDocumentError) → IsNoPatch p f → ⊥) → (read a ≡ None → ⊥) → ((os : List Operation) (d : Data) (f : PatchError) → IsPatch p os → read a ≡ Some d → RefusesPatchBy Numeric (nodes d) os f → ⊥) → ((os : List Operation) → IsPatch p os → IsPatchFault a os edit.TooDeep → ⊥) → FailsToPatch a p layout e → ((f : AllocError) × (e ≡ Memory f)) ⊎ ((layout ≡ Kept) × (e ≡ NotInPlace))
+no_fault a p layout (BadPointer f) patch json refused deep h = absurd h
+no_fault a p layout (NotPatch f) patch json refused deep h = absurd (patch f h)
+no_fault a p layout (NoValue f) patch json refused deep h = absurd h
+no_fault a p layout (BadPlace f) patch json refused deep h = absurd h
+no_fault a p layout NotThere patch json refused deep h = absurd h
+no_fault a p layout (BadPatch f) patch json refused deep h = absurd (refused h.0 h.1 f h.2 h.3 h.4)
+no_fault a p layout TooDeep patch json refused deep h = absurd (deep h.0 h.1 h.2)
+no_fault a p layout NotInPlace patch json refused deep h = inr (h.0, refl)
+no_fault a p layout NotLocated patch json refused deep h = absurd h
+no_fault a p layout PatchTooDeep patch json refused deep h = absurd h
+no_fault a p layout LineBreak patch json refused deep h = absurd h
+no_fault a p layout (BadLine number f) patch json refused deep h = absurd h
+no_fault a p layout NotUtf8 patch json refused deep h = absurd h
+no_fault a p layout NotJson patch json refused deep h = absurd (json h.1)
+no_fault a p layout ArgumentNotJson patch json refused deep h = absurd h
+no_fault a p layout (Memory f) patch json refused deep h = inl (f, refl)
+no_fault a p layout Read patch json refused deep h = absurd h
+no_fault a p layout Write patch json refused deep h = absurd h
+
+-- a text is read as one document
+pub one_read : (text : Text) (d e : Data) → read text ≡ Some d → read text ≡ Some e → d ≡ e
+one_read text d e h k =
+    let whole : Some d ≡ Some e = sym h ∙ k in
+    let same : d ≡ e = cc in
+    same
+
+-- the map of a value is that of a document
+pub is_document : (d : Data) → IsDocument (nodes d)
+is_document d = (map_of-IsTree (content d), map_of-finite (content d))
+
+-- what is printed is read as that document, in each layout but that of a string without quotes
+pub printed : (layout : Layout) (text out : Text) (d : Data) → read text ≡ Some d → layout ≢ Raw → Lays layout text out → read out ≡ Some d
+printed Kept text out d reads other h = restyled Kept text out d reads h
+printed Compact text out d reads other h = restyled Compact text out d reads h
+printed Pretty text out d reads other h = restyled Pretty text out d reads h
+printed Sorted text out d reads other h = restyled Sorted text out d reads h
+printed SortedPretty text out d reads other h = restyled SortedPretty text out d reads h
+printed Raw text out d reads other h = absurd (other refl)
+
+-- the inverse of a patch turns the one document that the patch makes into the one before
+pub inverse_undoes : (a : Text) (d m patch : Data) (style : Layout) (u : Difference) → ((ps : List Operation) (l : NodeMap) → IsPatch patch ps → PatchesBy Numeric (nodes d) ps l → l ≡ nodes m) → read a ≡ Some d → IsInverse a patch style u → IsDifference (nodes m) (nodes d) style u
+inverse_undoes a d m patch style u one reads inverse =
+    let same : inverse.0 ≡ d = one_read a inverse.0 d inverse.3 reads in
+    let again : PatchesBy Numeric (nodes d) inverse.1 inverse.2 = subst (λ (q : Data). PatchesBy Numeric (nodes q) inverse.1 inverse.2) same inverse.5 in
+    let turned : IsDifference inverse.2 (nodes d) style u = subst (λ (q : Data). IsDifference inverse.2 (nodes q) style u) same inverse.6 in
+    subst (λ (n : NodeMap). IsDifference n (nodes d) style u) (one inverse.1 inverse.2 inverse.4 again) turned

@@ -1,0 +1,231 @@
+-- From edits of a text to what is printed, and from what is printed to what a line writes.
+use Rattle.std.proofs.Common.{◌≡◌, ◌≢◌, ◌+◌, ◌<◌, ◌≤◌, inl, inr, ℕ, List, [], ◌∷◌, ◌++◌, length, length-append, get_or, Option, Some, None, Result, Ok, Err, IfOk, IfErr, All, String, string_bytes, refl, sym, ap, ◌∙◌, subst, arith}
+use Rattle.std.specs.declared.alloc.Global.{Global}
+use Rattle.std.proofs.lemmas.List.{get_or-append-add, get_or_append_left}
+use Rattle.std.proofs.KnownBytes.{Appends-nil}
+use Rattle.serde_json.specs.Data.{Data}
+use Rattle.jsonptr_grammar.specs.Text.{Text}
+use Rattle.jsonptr_tree.specs.Json.{nodes}
+use Rattle.jsonptr_edit_in_text.specs.Bytes.{AssignsBytes}
+use Rattle.jsonptr_edit_in_text.specs.EditInText.{AssignsInText, IsAssignError, DeletesInText}
+use Rattle.jsonptr_edit_in_text.specs.InPlace.{IsInPlaceError, StaysOneLine}
+use Rattle.jsonptr_edit_in_text.specs.Locating.{IsLocated}
+use Rattle.jsonptr_in_text.specs.Format.{IsFormatted}
+use Rattle.jsonptr_in_text.specs.declared.format.Format.TheVariants as format
+use Rattle.json.specs.Print.{print}
+use Rattle.serde_json.specs.View.{view}
+use Rattle.serde_json.specs.declared.value.Value.{Value}
+use Rattle.jsonptr.specs.Pointer.{tokens}
+use Rattle.jsonptr_edit_in_text.specs.declared.edited.EditError.TheVariants as edit
+use Rattle.jsonptr_edit_in_text.specs.declared.in_place.InPlaceError.{InPlaceError}
+use Rattle.jsonptr_edit_in_text.specs.declared.in_place.InPlaceError.TheVariants as in_place
+use Rattle.jsonptr_lines.specs.Lines.{IsOneLine}
+use Rattle.jsonptr_lines.specs.Streams.{AppendsPrefix}
+use Rattle.jsonptr_paths.proofs.PlainLemmas.{plain_printed}
+use Rattle.jsonptr.specs.declared.assign.Error as assign
+use Rattle.jsonptr_patch.specs.declared.operation.Operation.{Operation}
+use Rattle.jsonptr_patch.specs.declared.operation.PatchError.{PatchError}
+use Rattle.jsonptr_patch_document.specs.Document.{IsPatch}
+use Rattle.jsonptr_edit_in_text.specs.Carrying.{value_of, Carries}
+use Rattle.jsonptr_edit_in_text.specs.PatchInText.{PatchesInText, PatchBytes, IsPatchFault}
+use Rattle.jsonptr_edit_in_text.specs.declared.raw_value.RawValue.{RawValue}
+use Rattle.jptr_tasks.specs.Layouts.{IsCompact, Lays, CanBreak}
+use Rattle.jptr_tasks.specs.Failures.{of_strict_assign_error, of_strict_patch_error}
+use Rattle.jptr_tasks.specs.Results.{Gets, Sets, Deletes, PatchesBy, Yields, FailsToGet, FailsToSet, FailsToPatch}
+use Rattle.jptr_tasks.specs.PrivateResults.{Remakes, FailsToApply, IsRestyleError}
+use Rattle.jptr_tasks.specs.LineResults.{YieldsLine, IsLineFault, IsReport, StopsRun, fallback_line}
+use Rattle.jptr_tasks.specs.PrivateLineResults.{Known, OrMemory, IsNoMemory, StopsPut}
+use Rattle.jptr_tasks.specs.declared.failure.Failure.{Failure}
+use Rattle.jptr_tasks.specs.declared.failure.Failure.TheVariants.{BadPointer, NotPatch, NoValue, BadPlace, NotThere, BadPatch, TooDeep, NotInPlace, NotLocated, PatchTooDeep, LineBreak, BadLine, NotUtf8, NotJson, ArgumentNotJson, Memory, Read, Write}
+use Rattle.jptr_tasks.specs.declared.layout.Layout.{Layout}
+use Rattle.jptr_tasks.specs.declared.layout.Layout.TheVariants.{Kept, Compact, Pretty, Sorted, SortedPretty, Raw}
+use Rattle.jptr_tasks.specs.declared.line.LineTask.{LineTask}
+use Rattle.jptr_tasks.specs.declared.task.Task.{Task}
+use Rattle.jptr_tasks.specs.declared.task.Task.TheVariants.{Get, Set, Delete, Patch}
+
+-- ---- edits in place
+
+pub set_kept : (text : Text) (ts : List Text) (raw : RawValue) (out : Text)
+    → AssignsInText text ts (nodes (value_of raw)) out → AssignsBytes text ts (value_of raw) out → Carries (string_bytes raw.text.flat) out → StaysOneLine text out → Sets text ts raw Kept out
+set_kept text ts raw out meaning bytes carries line = (out, meaning, refl, λ e. (bytes, carries, line))
+
+pub patch_kept : (text : Text) (patch : Data) (os : List Operation) (r : Result (String Global) Failure)
+    → IsPatch patch os → IfOk r (λ s. PatchesInText text os (string_bytes s)) → IfOk r (λ s. PatchBytes text os (string_bytes s)) → IfOk r (λ s. StaysOneLine text (string_bytes s)) → IfOk r (λ s. PatchesBy text patch Kept (string_bytes s))
+patch_kept text patch os (Ok s) is meaning bytes line = (os, string_bytes s, is, meaning, refl, λ e. (bytes, line))
+patch_kept text patch os (Err f) is meaning bytes line = tt
+
+-- ---- documents that are printed anew
+
+pub remade : (P : Text → Type 0) (layout : Layout) (t new : Text) (r : Result (String Global) Failure)
+    → P t → new ≡ t → IfOk r (λ s. Lays layout new (string_bytes s)) → IfOk r (λ s. Remakes P layout (string_bytes s))
+remade P layout t new (Ok s) p same h = (new, subst P (sym same) p, h)
+remade P layout t new (Err f) p same h = tt
+
+pub set_anew : (text : Text) (ts : List Text) (raw : RawValue) (layout : Layout) (r : Result (String Global) Failure)
+    → (layout ≡ Kept → ⊥) → IfOk r (λ s. Remakes (AssignsInText text ts (nodes (value_of raw))) layout (string_bytes s)) → IfOk r (λ s. Sets text ts raw layout (string_bytes s))
+set_anew text ts raw layout (Ok s) other h = (h.0, h.1, h.2, λ e. absurd (other e))
+set_anew text ts raw layout (Err f) other h = tt
+
+pub delete_anew : (text : Text) (ts : List Text) (layout : Layout) (r : Result (String Global) Failure)
+    → (layout ≡ Kept → ⊥) → IfOk r (λ s. Remakes (DeletesInText text ts) layout (string_bytes s)) → IfOk r (λ s. Deletes text ts layout (string_bytes s))
+delete_anew text ts layout (Ok s) other h = (h.0, h.1, h.2, λ e. absurd (other e))
+delete_anew text ts layout (Err f) other h = tt
+
+pub patch_anew : (text : Text) (patch : Data) (layout : Layout) (os : List Operation) (r : Result (String Global) Failure)
+    → (layout ≡ Kept → ⊥) → IsPatch patch os → IfOk r (λ s. Remakes (PatchesInText text os) layout (string_bytes s)) → IfOk r (λ s. PatchesBy text patch layout (string_bytes s))
+patch_anew text patch layout os (Ok s) other is h = (os, h.0, is, h.1, h.2, λ e. absurd (other e))
+patch_anew text patch layout os (Err f) other is h = tt
+
+-- ---- edits that are not made
+
+pub set_fails : (text : Text) (ts : List Text) (v : Data) (e : InPlaceError assign.Error)
+    → IsInPlaceError (AssignsInText text ts (nodes v)) (IsAssignError text ts v) e → FailsToSet text ts v Kept (of_strict_assign_error e)
+set_fails text ts v in_place.NotInPlace h = (refl, h)
+set_fails text ts v (in_place.Failed edit.NotJson) h = h
+set_fails text ts v (in_place.Failed (edit.Refused f)) h = h
+set_fails text ts v (in_place.Failed edit.TooDeep) h = h
+set_fails text ts v (in_place.Failed (edit.Memory f)) h = tt
+
+pub apply_fails : (text : Text) (os : List Operation) (e : InPlaceError PatchError)
+    → IsInPlaceError (PatchesInText text os) (IsPatchFault text os) e → FailsToApply text os Kept (of_strict_patch_error e)
+apply_fails text os in_place.NotInPlace h = (refl, h)
+apply_fails text os (in_place.Failed edit.NotJson) h = h
+apply_fails text os (in_place.Failed (edit.Refused f)) h = h
+apply_fails text os (in_place.Failed edit.TooDeep) h = h
+apply_fails text os (in_place.Failed (edit.Memory f)) h = tt
+
+patch_fails : (text : Text) (patch : Data) (os : List Operation) (layout : Layout) (e : Failure) → IsPatch patch os → FailsToApply text os layout e → FailsToPatch text patch layout e
+patch_fails text patch os layout (NotPatch f) is h = absurd h
+patch_fails text patch os layout (BadPatch f) is h = (os, h.0, is, h.1, h.2)
+patch_fails text patch os layout TooDeep is h = (os, is, h)
+patch_fails text patch os layout NotInPlace is h = (h.0, (os, h.1.0, is, h.1.1))
+patch_fails text patch os layout NotJson is h = ((os, is), h)
+patch_fails text patch os layout (Memory f) is h = tt
+patch_fails text patch os layout (BadPointer f) is h = absurd h
+patch_fails text patch os layout (NoValue f) is h = absurd h
+patch_fails text patch os layout (BadPlace f) is h = absurd h
+patch_fails text patch os layout NotThere is h = absurd h
+patch_fails text patch os layout NotLocated is h = absurd h
+patch_fails text patch os layout PatchTooDeep is h = absurd h
+patch_fails text patch os layout LineBreak is h = absurd h
+patch_fails text patch os layout (BadLine number f) is h = absurd h
+patch_fails text patch os layout NotUtf8 is h = absurd h
+patch_fails text patch os layout ArgumentNotJson is h = absurd h
+patch_fails text patch os layout Read is h = absurd h
+patch_fails text patch os layout Write is h = absurd h
+
+pub patch_not_made : (text : Text) (patch : Data) (os : List Operation) (layout : Layout) (r : Result (String Global) Failure)
+    → IsPatch patch os → IfErr r (FailsToApply text os layout) → IfErr r (FailsToPatch text patch layout)
+patch_not_made text patch os layout (Ok s) is h = tt
+patch_not_made text patch os layout (Err e) is h = patch_fails text patch os layout e is h
+
+-- ---- results that are one line
+
+plain_line : (text : Text) → All (λ b. 32 ≤ b) text → IsOneLine text
+plain_line text h = λ k d low is. omega (arith, h k d low, is)
+
+compact_line : (v : Data) (out : Text) → IsCompact v out → IsOneLine out
+compact_line v out h = plain_line out (plain_printed out h.compact)
+
+formatted_line : (text out : Text) → IsFormatted format.Compact text out → IsOneLine out
+formatted_line text out h = plain_line out (plain_printed out (h.layout ∙ ap print (sym h.same)))
+
+-- a part of one line is one line
+part_line : (before piece after : Text) → IsOneLine (before ++ (piece ++ after)) → IsOneLine piece
+part_line before piece after one = λ k d low.
+    let inside : get_or (before ++ (piece ++ after)) (length before + k) d ≡ get_or piece k d = get_or-append-add before (piece ++ after) k d ∙ get_or_append_left piece after d k low in
+    let within : length before + k < length (before ++ (piece ++ after)) = omega (arith, low, length-append before (piece ++ after), length-append piece after) in
+    subst (λ (b : ℕ). b ≢ 10) inside (one (length before + k) d within)
+
+get_kept : (l out : Text) (ts : List Text) (fallback : Option Value) → IsOneLine l → Gets l ts fallback Kept out → IsOneLine out
+get_kept l out ts fallback one h = elim h [
+  | inl p ↦ subst IsOneLine (sym p.4) (part_line p.0 p.1 p.2 (subst IsOneLine p.3.parts one))
+  | inr p ↦ compact_line (view p.0) out p.4
+]
+
+get_compact : (l out : Text) (ts : List Text) (fallback : Option Value) → Gets l ts fallback Compact out → IsOneLine out
+get_compact l out ts fallback h = elim h [
+  | inl p ↦ formatted_line p.1 out p.4
+  | inr p ↦ compact_line (view p.0) out p.4
+]
+
+get_sorted : (l out : Text) (ts : List Text) (fallback : Option Value) → Gets l ts fallback Sorted out → IsOneLine out
+get_sorted l out ts fallback h = elim h [
+  | inl p ↦ compact_line p.4.0 out p.4.2
+  | inr p ↦ compact_line (view p.0) out p.4
+]
+
+kept_result : (task : Task) (l out : Text) → IsOneLine l → Yields task Kept l out → IsOneLine out
+kept_result (Get p fallback) l out one h = get_kept l out (tokens p) fallback one h
+kept_result (Set p v) l out one h = subst IsOneLine (sym h.2) ((h.3 refl).2 one)
+kept_result (Delete p) l out one h = subst IsOneLine (sym h.2) ((h.3 refl).1 one)
+kept_result (Patch d) l out one h = subst IsOneLine (sym h.4) ((h.5 refl).1 one)
+
+compact_result : (task : Task) (l out : Text) → Yields task Compact l out → IsOneLine out
+compact_result (Get p fallback) l out h = get_compact l out (tokens p) fallback h
+compact_result (Set p v) l out h = formatted_line h.0 out h.2
+compact_result (Delete p) l out h = formatted_line h.0 out h.2
+compact_result (Patch d) l out h = formatted_line h.1 out h.4
+
+sorted_result : (task : Task) (l out : Text) → Yields task Sorted l out → IsOneLine out
+sorted_result (Get p fallback) l out h = get_sorted l out (tokens p) fallback h
+sorted_result (Set p v) l out h = compact_line h.2.0 out h.2.2
+sorted_result (Delete p) l out h = compact_line h.2.0 out h.2.2
+sorted_result (Patch d) l out h = compact_line h.4.0 out h.4.2
+
+-- only a layout that can break makes several lines of one
+pub can_break : (task : Task) (layout : Layout) (l out : Text) → Yields task layout l out → (IsOneLine out → ⊥) → IsOneLine l → CanBreak layout
+can_break task Kept l out h several one = several (kept_result task l out one h)
+can_break task Compact l out h several one = several (compact_result task l out h)
+can_break task Pretty l out h several one = tt
+can_break task Sorted l out h several one = several (sorted_result task l out h)
+can_break task SortedPretty l out h several one = tt
+can_break task Raw l out h several one = tt
+
+-- ---- the text of a value
+
+-- a value that is located has a text that is read, so only memory can lack
+pub located_fails : (text : Text) (ts : List Text) (fallback : Option Value) (before piece after : Text) (e : Failure) → IsLocated text ts before piece after → IsRestyleError piece e → FailsToGet text ts fallback e
+located_fails text ts fallback before piece after (BadPointer f) h r = absurd r
+located_fails text ts fallback before piece after (NotPatch f) h r = absurd r
+located_fails text ts fallback before piece after (NoValue f) h r = absurd r
+located_fails text ts fallback before piece after (BadPlace f) h r = absurd r
+located_fails text ts fallback before piece after NotThere h r = absurd r
+located_fails text ts fallback before piece after (BadPatch f) h r = absurd r
+located_fails text ts fallback before piece after TooDeep h r = absurd r
+located_fails text ts fallback before piece after NotInPlace h r = absurd r
+located_fails text ts fallback before piece after NotLocated h r = absurd r
+located_fails text ts fallback before piece after PatchTooDeep h r = absurd r
+located_fails text ts fallback before piece after LineBreak h r = absurd r
+located_fails text ts fallback before piece after (BadLine number f) h r = absurd r
+located_fails text ts fallback before piece after NotUtf8 h r = absurd r
+located_fails text ts fallback before piece after NotJson h r =
+    let whole : Some h.value ≡ None = sym h.whole.reads ∙ r in
+    let never : ⊥ = cc in
+    absurd never
+located_fails text ts fallback before piece after ArgumentNotJson h r = absurd r
+located_fails text ts fallback before piece after (Memory f) h r = tt
+located_fails text ts fallback before piece after Read h r = absurd r
+located_fails text ts fallback before piece after Write h r = absurd r
+
+-- the write of a result failed
+pub result_stops : (run : LineTask) (n : ℕ) (l : Text) (w0 w1 e0 : Known) (s text : Text) (e : Failure)
+    → YieldsLine run.task run.layout l s → text ≡ s ++ 10 ∷ [] → e ≡ Write → AppendsPrefix w0 w1 text → StopsPut run n l w0 w1 e0 e0 e
+result_stops run n l w0 w1 e0 s text e yields same is prefix =
+    (subst StopsRun (sym is) tt, inr (text, [], inl (s, yields, same, refl), prefix, (0, Appends-nil e0)))
+
+or_memory : (f : Failure) (P : Type 0) → OrMemory f P → IsNoMemory f → P
+or_memory (Memory e) P h bad = absurd bad
+or_memory f P h other = h
+
+-- a failure that is no failed allocation is a fault of the line
+pub line_fault : (run : LineTask) (l : Text) (f e : Failure) → OrMemory f (IsLineFault run.task run.layout l f) → (e ≡ f) × IsNoMemory e → IsLineFault run.task run.layout l e
+line_fault run l f e h same =
+    subst (IsLineFault run.task run.layout l) (sym same.0) (or_memory f (IsLineFault run.task run.layout l f) h (subst IsNoMemory same.0 same.1))
+
+-- the write of a fault failed
+pub fault_stops : (run : LineTask) (n : ℕ) (l : Text) (w0 w1 e0 e1 : Known) (f : Failure) (report : Text) (e : Failure)
+    → IsLineFault run.task run.layout l f → IsReport (string_bytes run.name) n report → e ≡ Write
+    → AppendsPrefix w0 w1 (fallback_line run.fallback) → AppendsPrefix e0 e1 report → StopsPut run n l w0 w1 e0 e1 e
+fault_stops run n l w0 w1 e0 e1 f report e fault is_report is wrote told =
+    (subst StopsRun (sym is) tt, inr (fallback_line run.fallback, report, inr (f, fault, refl, is_report), wrote, told))

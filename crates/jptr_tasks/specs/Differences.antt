@@ -1,0 +1,33 @@
+-- The difference of two documents.
+use Rattle.std.specs.Prelude.{◌≡◌, ◌↔◌, ◌<◌, List, [], true, Some, ⊤, string_bytes}
+use Rattle.serde_json.specs.Data.{depth}
+use Rattle.serde_json.specs.Read.{read, max_depth}
+use Rattle.jsonptr_tree.specs.Node.{NodeMap}
+use Rattle.jsonptr_patch.specs.Patching.{Patches}
+use Rattle.jsonptr_patch.specs.declared.operation.Operation.{Operation}
+use Rattle.jsonptr_patch_document.specs.Writing.{document_of}
+use Rattle.jptr_tasks.specs.Layouts.{Shows}
+use Rattle.jptr_tasks.specs.declared.difference.Difference.{Difference}
+use Rattle.jptr_tasks.specs.declared.failure.Failure.{Failure}
+use Rattle.jptr_tasks.specs.declared.failure.Failure.TheVariants.{PatchTooDeep, Memory}
+use Rattle.jptr_tasks.specs.declared.layout.Layout.{Layout}
+
+-- `IsDifference n m layout d`: the text of `d` is the patch document of operations that turn `n` into `m`, and is read as it.
+-- `is_empty` says whether there are none
+abbrev pub IsDifference : NodeMap → NodeMap → Layout → Difference → Type 0
+IsDifference n m layout d =
+    (os : List Operation)
+    × Patches n os m
+    × Shows layout (document_of os) (string_bytes d.text)
+    × (read (string_bytes d.text) ≡ Some (document_of os))
+    × ((d.is_empty ≡ true) ↔ (os ≡ []))
+
+-- `FailsToDiffer n m e`: `e` is why no patch document of operations that turn `n` into `m` is printed, if it is not for memory
+abbrev pub FailsToDiffer : NodeMap → NodeMap → Failure → Type 0
+FailsToDiffer n m PatchTooDeep = (os : List Operation) × Patches n os m × (max_depth < depth (document_of os))
+FailsToDiffer n m (Memory f) = ⊤
+FailsToDiffer n m e = ⊥
+
+-- `IsNoneIfSame n m d`: if `n` and `m` are the same, `d` has no operation
+abbrev pub IsNoneIfSame : NodeMap → NodeMap → Difference → Type 0
+IsNoneIfSame n m d = n ≡ m → d.is_empty ≡ true

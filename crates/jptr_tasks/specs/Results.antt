@@ -1,0 +1,119 @@
+-- The text that a task makes of the text of a document, and why it makes none.
+use Rattle.std.specs.Prelude.{◌≡◌, ◌⊎◌, List, Option, Some, None, string_bytes, ⊤}
+use Rattle.serde_json.specs.Data.{Data}
+use Rattle.serde_json.specs.Read.{read}
+use Rattle.serde_json.specs.View.{view}
+use Rattle.serde_json.specs.declared.value.Value.{Value}
+use Rattle.jsonptr_grammar.specs.Text.{Text}
+use Rattle.jsonptr_tree.specs.Json.{nodes}
+use Rattle.jsonptr.specs.Pointer.{tokens}
+use Rattle.jsonptr.specs.declared.resolve.Error.{Error}
+use Rattle.jsonptr_patch.specs.Patching.{RefusesPatchBy}
+use Rattle.jsonptr_patch.specs.declared.comparison.Comparison.TheVariants.{Numeric}
+use Rattle.jsonptr_patch.specs.declared.operation.Operation.{Operation}
+use Rattle.jsonptr_patch_document.specs.Document.{IsPatch, IsNoPatch}
+use Rattle.jsonptr_in_text.specs.InText.{FindsInText, RefusesInText}
+use Rattle.jsonptr_edit_in_text.specs.Bytes.{AssignsBytes, DeletesBytes}
+use Rattle.jsonptr_edit_in_text.specs.Carrying.{value_of, Carries}
+use Rattle.jsonptr_edit_in_text.specs.InPlace.{StaysOneLine}
+use Rattle.jsonptr_edit_in_text.specs.Locating.{IsLocated}
+use Rattle.jsonptr_edit_in_text.specs.EditInText.{AssignsInText, IsAssignError, DeletesInText, LacksInText}
+use Rattle.jsonptr_edit_in_text.specs.PatchInText.{PatchesInText, PatchBytes, IsPatchFault}
+use Rattle.jsonptr_edit_in_text.specs.declared.edited.EditError.TheVariants as edit
+use Rattle.jsonptr_edit_in_text.specs.declared.raw_value.RawValue.{RawValue}
+use Rattle.jptr_tasks.specs.Layouts.{Shows, Lays}
+use Rattle.jptr_tasks.specs.declared.failure.Failure.{Failure}
+use Rattle.jptr_tasks.specs.declared.failure.Failure.TheVariants.{NotPatch, NoValue, BadPlace, NotThere, BadPatch, TooDeep, NotInPlace, NotLocated, NotJson, Memory}
+use Rattle.jptr_tasks.specs.declared.layout.Layout.{Layout}
+use Rattle.jptr_tasks.specs.declared.layout.Layout.TheVariants.{Kept}
+use Rattle.jptr_tasks.specs.declared.task.Task.{Task}
+use Rattle.jptr_tasks.specs.declared.task.Task.TheVariants.{Get, Set, Delete, Patch}
+
+-- `Gets text ts fallback layout out`: `out` is the text of the value that the tokens identify in the document of `text`, in
+-- this layout: as it is written there, or with its tokens laid out anew. If they identify none, it is what is printed for the
+-- value in `fallback`
+abbrev pub Gets : Text → List Text → Option Value → Layout → Text → Type 0
+Gets text ts fallback layout out =
+    ((before piece after : Text) × IsLocated text ts before piece after × Lays layout piece out)
+    ⊎ ((other : Value) × (e : Error)
+    × (fallback ≡ Some other) × RefusesInText text ts e × Shows layout (view other) out)
+
+-- `Sets text ts raw layout out`: `out` is the document of `text` with the value `raw` assigned at the tokens, in this layout. In
+-- the layout `Kept` only the bytes of the assignment change, the new text carries the tokens of the value's own text, and a
+-- text of one line stays one line
+abbrev pub Sets : Text → List Text → RawValue → Layout → Text → Type 0
+Sets text ts raw layout out =
+    (new : Text) × AssignsInText text ts (nodes (value_of raw)) new × Lays layout new out
+    × (layout ≡ Kept
+    → AssignsBytes text ts (value_of raw) new × Carries (string_bytes raw.text.flat) new × StaysOneLine text new)
+
+-- `Deletes text ts layout out`: `out` is the document of `text` without the value at the tokens, in this layout. In the
+-- layout `Kept` only the bytes of the deletion change, and a text of one line stays one line
+abbrev pub Deletes : Text → List Text → Layout → Text → Type 0
+Deletes text ts layout out =
+    (new : Text) × DeletesInText text ts new × Lays layout new out
+    × (layout ≡ Kept → DeletesBytes text ts new × StaysOneLine text new)
+
+-- `PatchesBy text patch layout out`: `out` is the document of `text` after the operations that the document `patch` is,
+-- in this layout. In the layout `Kept` only the bytes of the operations change, and a text of one line stays one line
+abbrev pub PatchesBy : Text → Data → Layout → Text → Type 0
+PatchesBy text patch layout out =
+    (os : List Operation) × (new : Text)
+    × IsPatch patch os × PatchesInText text os new × Lays layout new out
+    × (layout ≡ Kept → PatchBytes text os new × StaysOneLine text new)
+
+-- `Yields task layout text out`: `out` is the result of the task on `text`, in this layout
+abbrev pub Yields : Task → Layout → Text → Text → Type 0
+Yields (Get p fallback) layout text out = Gets text (tokens p) fallback layout out
+Yields (Set p v) layout text out = Sets text (tokens p) v layout out
+Yields (Delete p) layout text out = Deletes text (tokens p) layout out
+Yields (Patch d) layout text out = PatchesBy text (view d) layout out
+
+-- `FailsToGet text ts fallback e`: `e` is why no value is found, if it is not for memory. With `NotLocated` the value is there
+abbrev pub FailsToGet : Text → List Text → Option Value → Failure → Type 0
+FailsToGet text ts fallback NotJson = read text ≡ None
+FailsToGet text ts fallback (NoValue f) = (fallback ≡ None) × RefusesInText text ts f
+FailsToGet text ts fallback NotLocated = (v : Data) × FindsInText text ts v
+FailsToGet text ts fallback (Memory f) = ⊤
+FailsToGet text ts fallback e = ⊥
+
+-- `FailsToSet text ts v layout e`: `e` is why `v` is not assigned at the tokens, if it is not for memory. With `NotInPlace` the
+-- assignment is possible, but not in place
+abbrev pub FailsToSet : Text → List Text → Data → Layout → Failure → Type 0
+FailsToSet text ts v layout NotJson = read text ≡ None
+FailsToSet text ts v layout (BadPlace f) = IsAssignError text ts v (edit.Refused f)
+FailsToSet text ts v layout TooDeep = IsAssignError text ts v edit.TooDeep
+FailsToSet text ts v layout NotInPlace = (layout ≡ Kept) × ((new : Text) × AssignsInText text ts (nodes v) new)
+FailsToSet text ts v layout (Memory f) = ⊤
+FailsToSet text ts v layout e = ⊥
+
+-- `FailsToDelete text ts layout e`: `e` is why nothing is deleted, if it is not for memory. With `NotInPlace` the deletion is
+-- possible, but not in place
+abbrev pub FailsToDelete : Text → List Text → Layout → Failure → Type 0
+FailsToDelete text ts layout NotJson = read text ≡ None
+FailsToDelete text ts layout NotThere = LacksInText text ts
+FailsToDelete text ts layout NotInPlace = (layout ≡ Kept) × ((new : Text) × DeletesInText text ts new)
+FailsToDelete text ts layout (Memory f) = ⊤
+FailsToDelete text ts layout e = ⊥
+
+-- `FailsToPatch text patch layout e`: `e` is why the patch is not applied, if it is not for memory. The document `patch` is read
+-- first. With `NotInPlace` the operations apply, but not in place
+abbrev pub FailsToPatch : Text → Data → Layout → Failure → Type 0
+FailsToPatch text patch layout (NotPatch f) = IsNoPatch patch f
+FailsToPatch text patch layout NotJson = ((os : List Operation) × IsPatch patch os) × (read text ≡ None)
+FailsToPatch text patch layout (BadPatch f) =
+    (os : List Operation) × (d : Data)
+    × IsPatch patch os × (read text ≡ Some d) × RefusesPatchBy Numeric (nodes d) os f
+FailsToPatch text patch layout TooDeep =
+    (os : List Operation) × IsPatch patch os × IsPatchFault text os edit.TooDeep
+FailsToPatch text patch layout NotInPlace =
+    (layout ≡ Kept) × ((os : List Operation) × (new : Text) × IsPatch patch os × PatchesInText text os new)
+FailsToPatch text patch layout (Memory f) = ⊤
+FailsToPatch text patch layout e = ⊥
+
+-- `Fails task layout text e`: `e` is why the task has no result on `text`, if it is not for memory
+abbrev pub Fails : Task → Layout → Text → Failure → Type 0
+Fails (Get p fallback) layout text e = FailsToGet text (tokens p) fallback e
+Fails (Set p v) layout text e = FailsToSet text (tokens p) (value_of v) layout e
+Fails (Delete p) layout text e = FailsToDelete text (tokens p) layout e
+Fails (Patch d) layout text e = FailsToPatch text (view d) layout e

@@ -1,0 +1,132 @@
+//! A task on one document.
+ghost use Rattle.std.specs.Prelude.{◌≡◌, ◌↔◌, IfOk, IfErr, IfSome, IsTrue, OnOk, string_bytes};
+ghost use Rattle.std.specs.Io.KnownBytes.{Appends};
+ghost use Rattle.jsonptr_lines.specs.Streams.{AppendsPrefix};
+ghost use Rattle.jptr_tasks.specs.Documents.{Prints, FailsOn, PutsDocument, StopsDocument, EndsInBreak};
+ghost use Rattle.jptr_tasks.specs.PrivateDocuments.{IsReadFailure};
+ghost use Rattle.jptr_tasks.specs.declared.failure.Failure.TheVariants.{Write};
+
+use crate::failure::Failure;
+use crate::layout::Layout;
+use crate::result::result_in_text;
+use crate::task::Task;
+use jsonptr_lines::write::write_bytes;
+use simdutf8::basic::from_utf8;
+use std::alloc::{AllocError, Global};
+use std::io;
+
+/// Returns what is printed for the task on the bytes of a document.
+///
+/// A document that keeps the layout of its text is printed as it is. Every other result gets a line
+/// break at its end.
+///
+/// # Errors
+///
+/// Those of [`result_in_text`]. Bytes that are not UTF-8 are not JSON.
+///
+/// # Examples
+///
+/// ```rust
+/// let task = Task::Delete(Pointer::parse("/b")?);
+/// let new = document_result(alloc, &task, Layout::Kept, b"{\"a\": 1, \"b\": 1}")?;
+/// assert_eq!(rt; new.as_str(), "{\"a\": 1}");
+/// let compact = document_result(alloc, &task, Layout::Compact, b"{\"a\": 1, \"b\": 1}")?;
+/// assert_eq!(rt; compact.as_str(), "{\"a\":1}\n");
+/// ```
+pub fn document_result(
+    alloc: Global,
+    task: &Task<'_>,
+    layout: Layout,
+    bytes: &[u8],
+) -> Result<String, Failure>
+    ensures done { IfOk result (λ s. Prints task.now layout bytes.now (string_bytes s)) }
+    ensures failed { IfErr result (FailsOn task.now layout bytes.now) }
+{
+    let Ok(text) = from_utf8(bytes) else {
+        return Err(Failure::NotJson);
+    };
+    let mut new = result_in_text(alloc, task, layout, text)?;
+    if ends_in_break(task, layout) {
+        new.push('\n')?;
+    }
+    Ok(new)
+}
+
+/// Returns whether the result of the task gets a line break.
+fn ends_in_break(task: &Task<'_>, layout: Layout) -> bool
+    ensures { IsTrue result ↔ EndsInBreak task.now layout }
+{
+    match task {
+        Task::Get(_, _) => true,
+        Task::Set(_, _) | Task::Delete(_) | Task::Patch(_) => layout != Layout::Kept,
+    }
+}
+
+/// Reads the input to its end, and writes what the task gives for its document.
+///
+/// The bytes of the input are left in `bytes`, so that the caller can say more about an error. What
+/// `bytes` had before is removed.
+///
+/// # Errors
+///
+/// - Those of [`document_result`]; nothing is written then.
+/// - [`Failure::Read`] if a read fails, and [`Failure::Write`] if a write or the flush fails.
+///
+/// # Examples
+///
+/// ```rust
+/// let task = Task::Get(Pointer::parse("/a")?, None);
+/// let mut input = b"{\"a\": [1, 2]}".as_slice();
+/// let mut output = Vec::new(alloc);
+/// let mut bytes = Vec::new(alloc);
+/// run_document(alloc, &task, Layout::Kept, &mut input, &mut bytes, &mut output)?;
+/// assert_eq!(rt; output.as_slice(), b"[1, 2]\n".as_slice());
+/// ```
+pub fn run_document<R: io::Read, W: io::Write>(
+    alloc: Global,
+    task: &Task<'_>,
+    layout: Layout,
+    input: &mut R,
+    bytes: &mut Vec<u8>,
+    output: &mut W,
+) -> Result<(), Failure>
+    ensures done { IfOk result (λ _. PutsDocument task.now layout (R.remaining input.old)
+        (W.contents output.old) (W.contents output.new)) }
+    ensures failed { IfErr result (StopsDocument task.now layout (R.remaining input.old)
+        (W.contents output.old) (W.contents output.new)) }
+{
+    read_all(input, bytes)?;
+    let new = document_result(alloc, task, layout, bytes)?;
+    put_all(output, new.as_str())
+}
+
+/// Reads all of the input into `bytes`.
+pub(crate) fn read_all<R: io::Read>(input: &mut R, bytes: &mut Vec<u8>) -> Result<(), Failure>
+    ensures done { OnOk result (IfSome (R.remaining input.old) (λ xs. bytes.new.items ≡ xs)) }
+    ensures failed { IfErr result IsReadFailure }
+{
+    bytes.clear();
+    match input.read_to_end(bytes) {
+        Ok(_) => Ok(()),
+        Err(error) if error.kind() == io::ErrorKind::OutOfMemory => Err(Failure::Memory(
+            AllocError,
+        )),
+        Err(_) => Err(Failure::Read),
+    }
+}
+
+/// Writes all of the text, and flushes.
+pub(crate) fn put_all<W: io::Write>(output: &mut W, text: &str) -> Result<(), Failure>
+    ensures done { OnOk result
+        (Appends (W.contents output.old) (W.contents output.new) text.now) }
+    ensures failed { IfErr result (λ e. (e ≡ Write)
+        × AppendsPrefix (W.contents output.old) (W.contents output.new) text.now) }
+{
+    match write_bytes(output, text.as_bytes()) {
+        Ok(()) => match output.flush() {
+            Ok(()) => Ok(()),
+            Err(_) => Err(Failure::Write),
+        },
+        Err(_) => Err(Failure::Write),
+    }
+}

@@ -1,0 +1,81 @@
+//! The patch document that takes a patch back.
+ghost use Rattle.std.specs.Prelude.{IfOk, IfErr};
+ghost use Rattle.serde_json.specs.View.{view};
+ghost use Rattle.jsonptr_tree.specs.Json.{nodes};
+ghost use Rattle.jsonptr_patch.specs.Patching.{Patches, PatchesBy};
+ghost use Rattle.jsonptr_patch.specs.declared.comparison.Comparison.TheVariants.{Numeric};
+ghost use Rattle.jptr_tasks.specs.Inverting.{IsInverse, FailsToInvert};
+ghost use Rattle.jptr_tasks.specs.PrivateResults.{IsApplyFault};
+
+use crate::difference::{Difference, patch_text};
+use crate::failure::Failure;
+use crate::layout::{Layout, read_text};
+use crate::patching::operations_of;
+use jsonptr::Fault;
+use jsonptr_patch::{Comparison, Operation, apply_comparing_with_inverse};
+use serde_json::Value;
+use std::alloc::Global;
+
+/// Returns the patch document that takes this one back: it turns the document of the text after the
+/// patch into the document of the text.
+///
+/// [`Task::Patch`](crate::task::Task::Patch) applies both, and after both what is printed is read as
+/// the document of the text ([`inverse_law`](crate::laws::inverse_law)).
+///
+/// # Errors
+///
+/// - [`Failure::NotPatch`] if the patch document is not a patch, and [`Failure::BadPatch`] if an
+///   operation fails.
+/// - [`Failure::NotJson`] if the text is not JSON.
+/// - [`Failure::PatchTooDeep`] if the inverse nests deeper than 127. A value of the document is two
+///   levels deeper in it, less the levels of its pointer.
+/// - [`Failure::Memory`] if an allocation fails.
+///
+/// # Examples
+///
+/// ```rust
+/// let patch = json!(in alloc; [{"op": "move", "from": "/draft", "path": "/title"}])?;
+/// let undo = inverse_of(alloc, r#"{"draft": 1}"#, &patch, Layout::Compact)?;
+/// let text = r#"[{"from":"/title","op":"move","path":"/draft"}]"#;
+/// assert_eq!(rt; undo.text.as_str(), text);
+/// ```
+pub fn inverse_of(
+    alloc: Global,
+    text: &str,
+    patch: &Value,
+    layout: Layout,
+) -> Result<Difference, Failure>
+    ensures inverse { IfOk result (IsInverse text.now (view patch.now) layout) }
+    ensures failed { IfErr result (FailsToInvert text.now (view patch.now)) }
+{
+    let operations = operations_of(alloc, patch)?;
+    let mut document = read_text(alloc, text)?;
+    let back = take_back(alloc, &mut document, operations)?;
+    let text = patch_text(alloc, &back, layout)?;
+    let is_empty = back.is_empty();
+    Ok(Difference { text, is_empty })
+}
+
+/// Applies the operations, and returns those that take them back.
+///
+/// # Errors
+///
+/// [`Failure::BadPatch`] if an operation fails, and [`Failure::Memory`] if an allocation fails.
+fn take_back(
+    alloc: Global,
+    document: &mut Value,
+    operations: Vec<Operation>,
+) -> Result<Vec<Operation>, Failure>
+    ensures applied { IfOk result (λ _.
+        PatchesBy Numeric (nodes (view document.old)) operations.items
+        (nodes (view document.new))) }
+    ensures inverse { IfOk result (λ back.
+        Patches (nodes (view document.new)) back.items (nodes (view document.old))) }
+    ensures failed { IfErr result (IsApplyFault (nodes (view document.old)) operations.items) }
+{
+    match apply_comparing_with_inverse(alloc, document, operations, Comparison::Numeric) {
+        Ok(back) => Ok(back),
+        Err(Fault::Refused(error)) => Err(Failure::BadPatch(error)),
+        Err(Fault::Memory(error)) => Err(Failure::Memory(error)),
+    }
+}

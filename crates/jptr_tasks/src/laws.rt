@@ -1,0 +1,159 @@
+//! Laws of what the commands print. Each law is the contract of a function that does nothing.
+//!
+//! - [`one_error`]: a task has at most one error on a text.
+ghost use Rattle.std.specs.Prelude.{◌≡◌, ◌≢◌, ◌⊎◌, ◌↔◌, ℕ, List, [], ◌∷◌, ◌++◌, length, Some, string_bytes};
+ghost use Rattle.std.specs.Str.{IsUtf8};
+ghost use Rattle.std.specs.declared.alloc.AllocError.{AllocError};
+ghost use Rattle.serde_json.specs.Data.{Data};
+ghost use Rattle.serde_json.specs.Read.{read};
+ghost use Rattle.serde_json.specs.View.{view};
+ghost use Rattle.serde_json.specs.declared.value.Value.{Value};
+ghost use Rattle.jsonptr_grammar.specs.Text.{Text};
+ghost use Rattle.jsonptr_tree.specs.Json.{nodes};
+ghost use Rattle.jsonptr_lines.specs.Lines.{AreLines};
+ghost use Rattle.jsonptr_patch_document.specs.Document.{IsNoPatch};
+ghost use Rattle.jsonptr_patch_document.specs.declared.error.PatchDocumentError.{PatchDocumentError};
+ghost use Rattle.jsonptr_paths.specs.declared.listing.Listed.TheVariants.{AllNodes};
+ghost use Rattle.jsonptr_paths.specs.declared.reading.LineError.{LineError};
+ghost use Rattle.jptr_tasks.specs.Cutting.{EndsInLineFeed, InputGives, IsShifted};
+ghost use Rattle.jptr_tasks.specs.Documents.{FailsOn};
+ghost use Rattle.jptr_tasks.specs.LineResults.{IsLineFault, LinesGive, StopsRun};
+ghost use Rattle.jptr_tasks.specs.Differences.{IsDifference};
+ghost use Rattle.jptr_tasks.specs.Inverting.{IsInverse};
+ghost use Rattle.jptr_tasks.specs.Layouts.{Shows, ReadsBack};
+ghost use Rattle.jptr_tasks.specs.Paths.{ListsText, BuildsText, FailsToBuild};
+ghost use Rattle.jptr_tasks.specs.Results.{PatchesBy, FailsToPatch};
+ghost use Rattle.jptr_tasks.specs.declared.difference.Difference.{Difference};
+ghost use Rattle.jptr_tasks.specs.declared.failure.Failure.{Failure};
+ghost use Rattle.jptr_tasks.specs.declared.failure.Failure.TheVariants.{BadLine, NotInPlace, NotJson, Memory};
+ghost use Rattle.jptr_tasks.specs.declared.layout.Layout.{Layout};
+ghost use Rattle.jptr_tasks.specs.declared.line.LineTask.{LineTask};
+ghost use Rattle.jptr_tasks.specs.declared.task.Task.{Task};
+ghost use Rattle.jptr_tasks.specs.declared.task.Task.TheVariants.{Patch};
+ghost use Rattle.jptr_tasks.specs.declared.layout.Layout.TheVariants.{Kept, Raw};
+
+pub mod one_error;
+
+use jsonptr_patch::laws::comparison::comparison_law;
+use jsonptr_patch::laws::patch::comparing_patch_law;
+use jsonptr_patch_document::laws::{patch_document_law, writing_law};
+use jsonptr_paths::laws::round_trip_law;
+
+/// States that what is built from the lines of all nodes of a text is the document of that text.
+///
+/// So `from-paths` after `paths --all` prints the document, and no line is at fault.
+pub fn paths_law()
+    ensures printed { (layout : Layout) (bytes : List ℕ) (lines out : Text)
+        → ListsText AllNodes bytes lines
+        → BuildsText layout lines out
+        → (d : Data) × (shown : Text) × (read bytes ≡ Some d) × Shows layout d shown
+        × ReadsBack layout d shown
+        × (out ≡ shown ++ 10 ∷ []) }
+    ensures no_error { (bytes : List ℕ) (lines : Text) (number : ℕ) (e : LineError)
+        → ListsText AllNodes bytes lines
+        → FailsToBuild lines (BadLine number e)
+        → ⊥ }
+{
+    round_trip_law();
+}
+
+/// States what `patch` does after `diff`, as texts.
+///
+/// Let `a` and `b` be texts of documents, and let the text of their difference be applied to `a`. Then
+/// the text that is printed reads as the document of `b`, in each layout. There is no error but a
+/// failed allocation, and [`Failure::NotInPlace`](crate::failure::Failure::NotInPlace) in the layout
+/// [`Layout::Kept`](crate::layout::Layout::Kept).
+pub fn difference_law()
+    ensures patched { (a b out : Text) (n m p : Data) (style layout : Layout) (d : Difference)
+        → read a ≡ Some n → read b ≡ Some m
+        → IsDifference (nodes n) (nodes m) style d
+        → read (string_bytes d.text) ≡ Some p
+        → PatchesBy a p layout out
+        → ReadsBack layout m out }
+    ensures never_fails { (a b : Text) (n m p : Data) (style layout : Layout) (d : Difference) (e : Failure)
+        → read a ≡ Some n → read b ≡ Some m
+        → IsDifference (nodes n) (nodes m) style d
+        → read (string_bytes d.text) ≡ Some p
+        → FailsToPatch a p layout e
+        → ((f : AllocError) × (e ≡ Memory f)) ⊎ ((layout ≡ Kept) × (e ≡ NotInPlace)) }
+{
+    patch_document_law();
+    writing_law();
+    jsonptr_diff::laws::difference_law();
+    comparison_law();
+    comparing_patch_law();
+}
+
+/// States what `patch` does with the inverse of a patch, as texts.
+///
+/// Let a patch be applied to the text `a`, and let its inverse be applied to the text that is printed.
+/// Then the text that is printed reads as the document of `a`, in each layout. There is no error but a
+/// failed allocation, and [`Failure::NotInPlace`](crate::failure::Failure::NotInPlace) in the layout
+/// [`Layout::Kept`](crate::layout::Layout::Kept). The first of the two does not print in the layout
+/// [`Layout::Raw`](crate::layout::Layout::Raw), since a string is not JSON without its quotes.
+pub fn inverse_law()
+    ensures undone { (a b out : Text) (d patch back : Data) (style first layout : Layout) (u : Difference)
+        → read a ≡ Some d
+        → PatchesBy a patch first b → first ≢ Raw
+        → IsInverse a patch style u → read (string_bytes u.text) ≡ Some back
+        → PatchesBy b back layout out
+        → ReadsBack layout d out }
+    ensures never_fails { (a b : Text) (d patch back : Data) (style first layout : Layout) (u : Difference) (e : Failure)
+        → read a ≡ Some d
+        → PatchesBy a patch first b → first ≢ Raw
+        → IsInverse a patch style u → read (string_bytes u.text) ≡ Some back
+        → FailsToPatch b back layout e
+        → ((f : AllocError) × (e ≡ Memory f)) ⊎ ((layout ≡ Kept) × (e ≡ NotInPlace)) }
+{
+    patch_document_law();
+    comparing_patch_law();
+    difference_law();
+}
+
+/// States that an input may be cut after a line feed, and each part be run by itself.
+///
+/// Let a first part be empty or end in a line feed. What a run over the first part prints, and then what
+/// a run over the second part prints, is what a run over the whole prints. So it is with the reports,
+/// if the number of lines of the first part is added to each line number of the second (`joined`).
+/// Conversely, what a run over the whole prints and reports comes from runs over the parts so
+/// (`parted`). The whole has a line at fault exactly if one of the parts has one (`quiet`).
+///
+/// It is about runs that go on to the last line: a strict run that stops reads no part after it.
+pub fn cut_law()
+    ensures joined { (run : LineTask) (first second : List ℕ) (ls : List Text)
+        (o1 r1 o2 r2 : Text)
+        → EndsInLineFeed first → AreLines first ls
+        → LinesGive run 1 ls o1 r1 → InputGives run second o2 r2
+        → (later : Text) × IsShifted (string_bytes run.name) (length ls) r2 later
+        × InputGives run (first ++ second) (o1 ++ o2) (r1 ++ later) }
+    ensures parted { (run : LineTask) (first second : List ℕ) (ls : List Text) (out err : Text)
+        → EndsInLineFeed first → AreLines first ls → InputGives run (first ++ second) out err
+        → (o1 r1 o2 r2 later : Text)
+        × LinesGive run 1 ls o1 r1 × InputGives run second o2 r2
+        × IsShifted (string_bytes run.name) (length ls) r2 later
+        × (out ≡ o1 ++ o2) × (err ≡ r1 ++ later) }
+    ensures quiet { (name : Text) (k : ℕ) (err later : Text)
+        → IsShifted name k err later → (err ≡ []) ↔ (later ≡ []) }
+{}
+
+/// States in which order a call looks for errors that a text and a patch document both have.
+///
+/// Bytes that are not UTF-8 are not JSON, whatever else is wrong (`bytes`, `line`). Of a text, the patch
+/// document is looked at first: if it is not a patch, no error says that the text is not JSON.
+pub fn order_law()
+    ensures bytes { (task : Task) (layout : Layout) (bytes : List ℕ) (e : Failure)
+        → (IsUtf8 bytes → ⊥) → (StopsRun e → ⊥) → FailsOn task layout bytes e → e ≡ NotJson }
+    ensures line { (task : Task) (layout : Layout) (l : Text) (e : Failure)
+        → (IsUtf8 l → ⊥) → IsLineFault task layout l e → e ≡ NotJson }
+    ensures patch { (text : Text) (patch : Data) (layout : Layout) (e : PatchDocumentError)
+        → IsNoPatch patch e → FailsToPatch text patch layout NotJson → ⊥ }
+    ensures patch_of_line { (patch : Value) (layout : Layout) (l : Text)
+        (e : PatchDocumentError)
+        → IsUtf8 l → IsNoPatch (view patch) e → IsLineFault (Patch patch) layout l NotJson → ⊥ }
+    ensures patch_of_bytes { (patch : Value) (layout : Layout) (bytes : List ℕ)
+        (e : PatchDocumentError)
+        → IsUtf8 bytes → IsNoPatch (view patch) e → FailsOn (Patch patch) layout bytes NotJson
+        → ⊥ }
+{
+    patch_document_law();
+}

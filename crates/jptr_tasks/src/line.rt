@@ -1,0 +1,176 @@
+//! The result of a task on one line of an input.
+ghost use Rattle.std.specs.Prelude.{◌≡◌, ◌∷◌, ◌++◌, [], IfOk, IfErr, OnOk, string_bytes};
+ghost use Rattle.std.specs.Io.KnownBytes.{Appends};
+ghost use Rattle.jsonptr_lines.specs.Streams.{AppendsPrefix};
+ghost use Rattle.jptr_tasks.specs.LineResults.{YieldsLine, IsLineFault, IsReport, StopsRun, fallback_line};
+ghost use Rattle.jptr_tasks.specs.PrivateLineResults.{OrMemory, IsNoMemory, IsPut, StopsPut};
+ghost use Rattle.jptr_tasks.specs.declared.failure.Failure.TheVariants.{Write};
+
+use crate::failure::Failure;
+use crate::layout::Layout;
+use crate::result::result_in_text_with;
+use crate::task::Task;
+use jsonptr_edit_in_text::Buffers;
+use jsonptr_lines::write::write_bytes;
+use simdutf8::basic::from_utf8;
+use std::alloc::{AllocError, Global};
+use std::io;
+
+/// A task for each line of an input.
+#[derive(Debug, Drop)]
+pub struct LineTask<'a> {
+    /// What to do with the document on each line.
+    pub task: Task<'a>,
+    /// How each result is printed.
+    pub layout: Layout,
+    /// What is printed for a line at fault, with its line break. Without it nothing is printed.
+    pub fallback: Option<String>,
+    /// The name of the input in reports of faults.
+    pub name: String,
+    /// Whether the run ends at the first line at fault.
+    pub is_strict: bool,
+}
+
+/// Writes the result of the line with this number. Of a line at fault it writes the fallback and, to
+/// `errors`, a report. Returns whether the line has a result.
+///
+/// # Errors
+///
+/// [`Failure::Memory`] if an allocation fails, and then nothing is written. [`Failure::Write`] if a
+/// write fails.
+pub fn put_line<W: io::Write, E: io::Write>(
+    alloc: Global,
+    buffers: &mut Buffers,
+    run: &LineTask<'_>,
+    number: u64,
+    line: &[u8],
+    output: &mut W,
+    errors: &mut E,
+) -> Result<bool, Failure>
+    ensures done { IfOk result (IsPut run.now number line.now (W.contents output.old)
+        (W.contents output.new) (E.contents errors.old) (E.contents errors.new)) }
+    ensures failed { IfErr result (StopsPut run.now number line.now (W.contents output.old)
+        (W.contents output.new) (E.contents errors.old) (E.contents errors.new)) }
+{
+    match line_result(alloc, buffers, &run.task, run.layout, line) {
+        Ok(text) => {
+            let text = with_break(text)?;
+            put_text(output, text.as_str())?;
+            Ok(true)
+        }
+        Err(failure) => {
+            let failure = fault_of_line(failure)?;
+            let report = report_of(alloc, run.name.as_str(), number, &failure)?;
+            put_fault(&run.fallback, report.as_str(), output, errors)?;
+            Ok(false)
+        }
+    }
+}
+
+/// Returns the result of the task on the line, which is one line again.
+///
+/// # Errors
+///
+/// Those of [`result_in_text`](crate::result::result_in_text), and [`Failure::LineBreak`] if the
+/// result contains a line break: that of a line in [`Layout::Raw`], [`Layout::Pretty`] or
+/// [`Layout::SortedPretty`].
+fn line_result(
+    alloc: Global,
+    buffers: &mut Buffers,
+    task: &Task<'_>,
+    layout: Layout,
+    line: &[u8],
+) -> Result<String, Failure>
+    ensures done { IfOk result (λ s. YieldsLine task.now layout line.now (string_bytes s)) }
+    ensures failed { IfErr result (λ e. OrMemory e (IsLineFault task.now layout line.now e)) }
+{
+    let Ok(text) = from_utf8(line) else {
+        return Err(Failure::NotJson);
+    };
+    let new = result_in_text_with(alloc, buffers, task, layout, text)?;
+    if new.as_bytes().contains(&b'\n') {
+        return Err(Failure::LineBreak);
+    }
+    Ok(new)
+}
+
+/// Returns the failure again if it is a fault of the line, and as an error if it is a failed
+/// allocation.
+fn fault_of_line(failure: Failure) -> Result<Failure, Failure>
+    ensures fault { IfOk result (λ e. (e ≡ failure) × IsNoMemory e) }
+    ensures memory { IfErr result StopsRun }
+{
+    match failure {
+        Failure::Memory(error) => Err(Failure::Memory(error)),
+        failure => Ok(failure),
+    }
+}
+
+/// Returns the text with a line break after it.
+fn with_break(text: String) -> Result<String, AllocError>
+    ensures { IfOk result (λ s. string_bytes s ≡ string_bytes text ++ 10 ∷ []) }
+{
+    let mut text = text;
+    text.push('\n')?;
+    Ok(text)
+}
+
+/// Writes the text.
+fn put_text<W: io::Write>(output: &mut W, text: &str) -> Result<(), Failure>
+    ensures done { OnOk result
+        (Appends (W.contents output.old) (W.contents output.new) text.now) }
+    ensures failed { IfErr result (λ e. (e ≡ Write)
+        × AppendsPrefix (W.contents output.old) (W.contents output.new) text.now) }
+{
+    match write_bytes(output, text.as_bytes()) {
+        Ok(()) => Ok(()),
+        Err(_) => Err(Failure::Write),
+    }
+}
+
+/// Writes the fallback, if there is one, and the report.
+fn put_fault<W: io::Write, E: io::Write>(
+    fallback: &Option<String>,
+    report: &str,
+    output: &mut W,
+    errors: &mut E,
+) -> Result<(), Failure>
+    ensures done { OnOk result (
+        Appends (W.contents output.old) (W.contents output.new) (fallback_line fallback.now)
+        × Appends (E.contents errors.old) (E.contents errors.new) report.now) }
+    ensures failed { IfErr result (λ e. (e ≡ Write)
+        × AppendsPrefix (W.contents output.old) (W.contents output.new)
+        (fallback_line fallback.now)
+        × AppendsPrefix (E.contents errors.old) (E.contents errors.new) report.now) }
+{
+    put_fallback(fallback, output)?;
+    put_text(errors, report)
+}
+
+/// Writes the fallback, if there is one.
+fn put_fallback<W: io::Write>(fallback: &Option<String>, output: &mut W) -> Result<(), Failure>
+    ensures done { OnOk result (Appends (W.contents output.old) (W.contents output.new)
+        (fallback_line fallback.now)) }
+    ensures failed { IfErr result (λ e. (e ≡ Write)
+        × AppendsPrefix (W.contents output.old) (W.contents output.new)
+        (fallback_line fallback.now)) }
+{
+    match fallback {
+        Some(text) => put_text(output, text.as_str()),
+        None => Ok(()),
+    }
+}
+
+/// Returns the report of a line at fault: the name of the input, the number of the line, and the
+/// error.
+fn report_of(
+    alloc: Global,
+    name: &str,
+    number: u64,
+    failure: &Failure,
+) -> Result<String, AllocError>
+    ensures { IfOk result (λ s. IsReport name.now number (string_bytes s)) }
+{
+    let message = failure.to_string(alloc)?;
+    format!(in alloc; "{name}:{number}: {message}\n")
+}

@@ -1,0 +1,137 @@
+//! A document as lines, one for each node, and a document from such lines.
+ghost use Rattle.std.specs.Prelude.{IfOk, IfErr, string_bytes};
+ghost use Rattle.jptr_tasks.specs.Paths.{ListsText, FailsToList, BuildsText, FailsToBuild, PutsText, StopsText};
+
+use crate::document::{put_all, read_all};
+use crate::failure::Failure;
+use crate::layout::{Layout, show};
+use jsonptr_json_search::outcome::ReadError;
+use jsonptr_paths::listing::Listed;
+use jsonptr_paths::reading::build;
+use jsonptr_paths::text_listing::list_text;
+use simdutf8::basic::from_utf8;
+use std::alloc::{AllocError, Global};
+use std::io;
+
+/// Returns the lines for the nodes of the document that the bytes are, as `list_text` of
+/// `jsonptr_paths` does.
+///
+/// # Errors
+///
+/// [`Failure::NotJson`] if the bytes are not JSON, and [`Failure::Memory`] if an allocation fails.
+///
+/// # Examples
+///
+/// ```rust
+/// let lines = listed_text(alloc, Listed::Leaves, b"{\"a\": [1, 2]}")?;
+/// assert_eq!(rt; lines.as_str(), "/a/0\t1\n/a/1\t2\n");
+/// ```
+pub fn listed_text(alloc: Global, which: Listed, bytes: &[u8]) -> Result<String, Failure>
+    ensures done { IfOk result (λ s. ListsText which bytes.now (string_bytes s)) }
+    ensures failed { IfErr result (FailsToList bytes.now) }
+{
+    let Ok(text) = from_utf8(bytes) else {
+        return Err(Failure::NotJson);
+    };
+    match list_text(alloc, text, which) {
+        Ok(lines) => Ok(lines),
+        Err(ReadError::NotJson) => Err(Failure::NotJson),
+        Err(ReadError::Memory) => Err(Failure::Memory(AllocError)),
+    }
+}
+
+/// Returns the text of the document that the lines build, in this layout and with a line break at
+/// its end.
+///
+/// # Errors
+///
+/// - [`Failure::NotUtf8`] if the bytes are not UTF-8.
+/// - [`Failure::BadLine`] if a line adds no value.
+/// - [`Failure::Memory`] if an allocation fails.
+///
+/// # Examples
+///
+/// ```rust
+/// let document = built_text(alloc, Layout::Compact, b"/a/0\t1\n/a/1\t2\n")?;
+/// assert_eq!(rt; document.as_str(), "{\"a\":[1,2]}\n");
+/// ```
+pub fn built_text(alloc: Global, layout: Layout, bytes: &[u8]) -> Result<String, Failure>
+    ensures done { IfOk result (λ s. BuildsText layout bytes.now (string_bytes s)) }
+    ensures failed { IfErr result (FailsToBuild bytes.now) }
+{
+    let Ok(text) = from_utf8(bytes) else {
+        return Err(Failure::NotUtf8);
+    };
+    let document = build(alloc, text)?;
+    let mut new = show(alloc, &document, layout)?;
+    new.push('\n')?;
+    Ok(new)
+}
+
+/// Reads the input to its end, and writes the lines for the nodes of its document.
+///
+/// The bytes of the input are left in `bytes`, so that the caller can say more about an error. What
+/// `bytes` had before is removed.
+///
+/// # Errors
+///
+/// - Those of [`listed_text`]; nothing is written then.
+/// - [`Failure::Read`] if a read fails, and [`Failure::Write`] if a write or the flush fails.
+///
+/// # Examples
+///
+/// ```rust
+/// let mut input = b"[true]".as_slice();
+/// let mut output = Vec::new(alloc);
+/// let mut bytes = Vec::new(alloc);
+/// run_list(alloc, Listed::AllNodes, &mut input, &mut bytes, &mut output)?;
+/// assert_eq!(rt; output.as_slice(), b"\t[]\n/0\ttrue\n".as_slice());
+/// ```
+pub fn run_list<R: io::Read, W: io::Write>(
+    alloc: Global,
+    which: Listed,
+    input: &mut R,
+    bytes: &mut Vec<u8>,
+    output: &mut W,
+) -> Result<(), Failure>
+    ensures done { IfOk result (λ _. PutsText (ListsText which) (R.remaining input.old)
+        (W.contents output.old) (W.contents output.new)) }
+    ensures failed { IfErr result (StopsText (ListsText which) FailsToList (R.remaining input.old)
+        (W.contents output.old) (W.contents output.new)) }
+{
+    read_all(input, bytes)?;
+    let lines = listed_text(alloc, which, bytes)?;
+    put_all(output, lines.as_str())
+}
+
+/// Reads the input to its end, and writes the document that its lines build.
+///
+/// # Errors
+///
+/// - Those of [`built_text`]; nothing is written then.
+/// - [`Failure::Read`] if a read fails, and [`Failure::Write`] if a write or the flush fails.
+///
+/// # Examples
+///
+/// ```rust
+/// let mut input = b"\t[]\n/0\ttrue\n".as_slice();
+/// let mut output = Vec::new(alloc);
+/// run_build(alloc, Layout::Kept, &mut input, &mut output)?;
+/// assert_eq!(rt; output.as_slice(), b"[true]\n".as_slice());
+/// ```
+pub fn run_build<R: io::Read, W: io::Write>(
+    alloc: Global,
+    layout: Layout,
+    input: &mut R,
+    output: &mut W,
+) -> Result<(), Failure>
+    ensures done { IfOk result (λ _. PutsText (BuildsText layout) (R.remaining input.old)
+        (W.contents output.old) (W.contents output.new)) }
+    ensures failed { IfErr result (StopsText (BuildsText layout) FailsToBuild
+        (R.remaining input.old) (W.contents output.old) (W.contents output.new)) }
+{
+    let mut bytes = Vec::new(alloc);
+    read_all(input, &mut bytes)?;
+    let document = built_text(alloc, layout, &bytes)?;
+    put_all(output, document.as_str())
+}

@@ -1,0 +1,59 @@
+-- The message of the record of an error is the text of the error.
+use Rattle.std.proofs.Common.{◌≡◌, ℕ, List, refl}
+use Rattle.jsonptr.specs.declared.resolve.Error.TheVariants as resolve_error
+use Rattle.jsonptr.specs.declared.assign.Error.TheVariants as assign_error
+use Rattle.jsonptr_syntax.specs.declared.parse_error.ParseError.TheVariants as parse_error
+use Rattle.jsonptr_patch.specs.declared.operation.PatchError.TheVariants as patch_error
+use Rattle.jsonptr_patch_document.specs.declared.member.Member.TheVariants as member
+use Rattle.jsonptr_patch_document.specs.declared.error.PatchDocumentError.TheVariants as document_error
+use Rattle.jsonptr_c_calls.specs.Messages.{failure_message, message_of}
+use Rattle.jsonptr_c_calls.specs.Rows.{record_of}
+use Rattle.jsonptr_c_calls.specs.declared.failure.Failure.{Failure}
+use Rattle.jsonptr_c_calls.specs.declared.failure.Failure.TheVariants.{Memory, NoRoom, NoDocument, NotUtf8, NotJson, NotPointer, NoToken, NotFound, OtherKind, NotAssigned, NotPatch, PatchFailed, TooDeep, DeepInverse}
+
+pub message_one : (e : Failure) (bytes : List ℕ) → message_of (record_of e bytes) ≡ failure_message e
+message_one (Memory e) bytes = refl
+message_one (NoRoom needed) bytes = refl
+message_one NoDocument bytes = refl
+message_one (NotUtf8 a offset) bytes = refl
+message_one (NotJson offset) bytes = refl
+message_one (NotPointer parse_error.NoLeadingSlash) bytes = refl
+message_one (NotPointer (parse_error.InvalidEncoding offset source)) bytes = refl
+message_one NoToken bytes = refl
+message_one (NotFound (resolve_error.FailedToParseIndex position offset source)) bytes = refl
+message_one (NotFound (resolve_error.OutOfBounds position offset source)) bytes = refl
+message_one (NotFound (resolve_error.NotFound position offset)) bytes = refl
+message_one (NotFound (resolve_error.Unreachable position offset)) bytes = refl
+message_one OtherKind bytes = refl
+message_one (NotAssigned (assign_error.FailedToParseIndex position offset source)) bytes = refl
+message_one (NotAssigned (assign_error.OutOfBounds position offset source)) bytes = refl
+message_one (NotPatch document_error.NotArray) bytes = refl
+message_one (NotPatch (document_error.NotObject i)) bytes = refl
+message_one (NotPatch (document_error.MissingMember i member.Op)) bytes = refl
+message_one (NotPatch (document_error.MissingMember i member.Path)) bytes = refl
+message_one (NotPatch (document_error.MissingMember i member.From)) bytes = refl
+message_one (NotPatch (document_error.MissingMember i member.Value)) bytes = refl
+message_one (NotPatch (document_error.NotString i member.Op)) bytes = refl
+message_one (NotPatch (document_error.NotString i member.Path)) bytes = refl
+message_one (NotPatch (document_error.NotString i member.From)) bytes = refl
+message_one (NotPatch (document_error.NotString i member.Value)) bytes = refl
+message_one (NotPatch (document_error.UnknownOp i)) bytes = refl
+message_one (NotPatch (document_error.NotPointer i member.Op parse_error.NoLeadingSlash)) bytes = refl
+message_one (NotPatch (document_error.NotPointer i member.Path parse_error.NoLeadingSlash)) bytes = refl
+message_one (NotPatch (document_error.NotPointer i member.From parse_error.NoLeadingSlash)) bytes = refl
+message_one (NotPatch (document_error.NotPointer i member.Value parse_error.NoLeadingSlash)) bytes = refl
+message_one (NotPatch (document_error.NotPointer i member.Op (parse_error.InvalidEncoding offset source))) bytes = refl
+message_one (NotPatch (document_error.NotPointer i member.Path (parse_error.InvalidEncoding offset source))) bytes = refl
+message_one (NotPatch (document_error.NotPointer i member.From (parse_error.InvalidEncoding offset source))) bytes = refl
+message_one (NotPatch (document_error.NotPointer i member.Value (parse_error.InvalidEncoding offset source))) bytes = refl
+message_one (PatchFailed (patch_error.NoTarget i (resolve_error.FailedToParseIndex position offset source)) m) bytes = refl
+message_one (PatchFailed (patch_error.NoTarget i (resolve_error.OutOfBounds position offset source)) m) bytes = refl
+message_one (PatchFailed (patch_error.NoTarget i (resolve_error.NotFound position offset)) m) bytes = refl
+message_one (PatchFailed (patch_error.NoTarget i (resolve_error.Unreachable position offset)) m) bytes = refl
+message_one (PatchFailed (patch_error.BadPlace i (assign_error.FailedToParseIndex position offset source)) m) bytes = refl
+message_one (PatchFailed (patch_error.BadPlace i (assign_error.OutOfBounds position offset source)) m) bytes = refl
+message_one (PatchFailed (patch_error.MoveIntoSelf i) m) bytes = refl
+message_one (PatchFailed (patch_error.TestFloat i) m) bytes = refl
+message_one (PatchFailed (patch_error.TestFailed i) m) bytes = refl
+message_one TooDeep bytes = refl
+message_one DeepInverse bytes = refl

@@ -1,0 +1,48 @@
+use Rattle.jsonptr_patch.specs.declared.comparison.Comparison.TheVariants.{Numeric}
+use Rattle.jsonptr_c_calls.proofs.LawLemmas.{no_pointers, no_tokens, not_escaped, not_pushed, not_popped, not_parsed, not_printed_in, not_read_in, unfound_in, not_assigned_in, not_deleted_in, not_patch, not_applied, not_patched, not_printed_from}
+use Rattle.jsonptr_c_calls.proofs.laws.one_error_law.Goals as goal
+
+pub returns-clause-count : goal.returns-clause-count
+returns-clause-count c = no_pointers
+
+pub returns-clause-token : goal.returns-clause-token
+returns-clause-token c = no_tokens c.parse_law.ensures.not_both
+
+pub returns-clause-escape : goal.returns-clause-escape
+returns-clause-escape c = not_escaped
+
+pub returns-clause-push : goal.returns-clause-push
+returns-clause-push c = not_pushed c.parse_law.ensures.not_both
+
+pub returns-clause-pop : goal.returns-clause-pop
+returns-clause-pop c = not_popped c.parse_law.ensures.not_both
+
+pub returns-clause-parse : goal.returns-clause-parse
+returns-clause-parse c = not_parsed
+
+pub returns-clause-print : goal.returns-clause-print
+returns-clause-print c = not_printed_in c.parse_law.ensures.not_both
+
+pub returns-clause-string : goal.returns-clause-string
+returns-clause-string c = not_read_in c.parse_law.ensures.not_both
+
+pub returns-clause-node : goal.returns-clause-node
+returns-clause-node c = unfound_in c.parse_law.ensures.not_both
+
+pub returns-clause-assign : goal.returns-clause-assign
+returns-clause-assign c = not_assigned_in c.parse_law.ensures.not_both
+
+pub returns-clause-delete : goal.returns-clause-delete
+returns-clause-delete c = not_deleted_in c.parse_law.ensures.not_both
+
+pub returns-clause-patch : goal.returns-clause-patch
+returns-clause-patch c = not_patch c.parse_law.ensures.not_both
+
+pub returns-clause-apply : goal.returns-clause-apply
+returns-clause-apply c = not_applied c.parse_law.ensures.not_both
+
+pub returns-clause-take_back : goal.returns-clause-take_back
+returns-clause-take_back c = not_patched c.parse_law.ensures.not_both (c.comparing_patch_law.ensures.not_both Numeric)
+
+pub returns-clause-print_in : goal.returns-clause-print_in
+returns-clause-print_in c = not_printed_from c.parse_law.ensures.not_both

@@ -1,0 +1,153 @@
+-- The messages of errors.
+use Rattle.std.specs.Prelude.{ℕ, ◌++◌, ◌^◌, ◌<◌, ◌==◌, ◌&&◌, ◌||◌, codes, decimal, if◌then◌else◌}
+use Rattle.jsonptr.specs.Assign.{assign_message}
+use Rattle.jsonptr.specs.ParseError.{parse_message}
+use Rattle.jsonptr.specs.Resolve.{resolve_message}
+use Rattle.jsonptr.specs.Text.{Text}
+use Rattle.jsonptr_patch.specs.declared.operation.PatchError.{PatchError}
+use Rattle.jsonptr_patch.specs.declared.operation.PatchError.TheVariants as patch_error
+use Rattle.jsonptr_patch_document.specs.Object.{name_of}
+use Rattle.jsonptr_patch_document.specs.declared.error.PatchDocumentError.{PatchDocumentError}
+use Rattle.jsonptr_patch_document.specs.declared.error.PatchDocumentError.TheVariants as document_error
+use Rattle.jsonptr_c_calls.specs.declared.numbers.TheConstants as number
+use Rattle.jsonptr_c_calls.specs.declared.failure.Failure.{Failure}
+use Rattle.jsonptr_c_calls.specs.declared.failure.Failure.TheVariants.{Memory, NoRoom, NoDocument, NotUtf8, NotJson, NotPointer, NoToken, NotFound, OtherKind, NotAssigned, NotPatch, PatchFailed, TooDeep, DeepInverse}
+use Rattle.jsonptr_c_calls.specs.declared.record.ErrorRecord.{ErrorRecord}
+
+-- `patch_message e`: the message of an operation that fails
+abbrev pub patch_message : PatchError → Text
+patch_message (patch_error.NoTarget i cause) =
+    codes "patch failed at operation " ++ decimal i ++ codes ": " ++ resolve_message cause
+patch_message (patch_error.BadPlace i cause) =
+    codes "patch failed at operation " ++ decimal i ++ codes ": " ++ assign_message cause
+patch_message (patch_error.MoveIntoSelf i) =
+    codes "patch failed at operation " ++ decimal i ++ codes ": " ++ codes "from is a proper prefix of path"
+patch_message (patch_error.TestFloat i) =
+    codes "patch failed at operation " ++ decimal i ++ codes ": " ++ codes "a float cannot be tested"
+patch_message (patch_error.TestFailed i) =
+    codes "patch failed at operation " ++ decimal i ++ codes ": " ++ codes "test failed"
+
+-- `patch_document_message e`: the message of a document that is not a patch
+abbrev pub patch_document_message : PatchDocumentError → Text
+patch_document_message document_error.NotArray = codes "not a JSON Patch document: " ++ codes "not an array"
+patch_document_message (document_error.NotObject i) =
+    codes "not a JSON Patch document: " ++ codes "operation " ++ decimal i ++ codes " is not an object"
+patch_document_message (document_error.MissingMember i m) =
+    codes "not a JSON Patch document: " ++ codes "operation " ++ decimal i ++ codes " has no member `" ++ name_of m
+    ++ codes "`"
+patch_document_message (document_error.NotString i m) =
+    codes "not a JSON Patch document: " ++ codes "member `" ++ name_of m ++ codes "` of operation " ++ decimal i
+    ++ codes " is not a string"
+patch_document_message (document_error.UnknownOp i) =
+    codes "not a JSON Patch document: " ++ codes "member `op` of operation " ++ decimal i
+    ++ codes " is not an operation"
+patch_document_message (document_error.NotPointer i m cause) =
+    codes "not a JSON Patch document: " ++ codes "member `" ++ name_of m ++ codes "` of operation " ++ decimal i
+    ++ codes ": " ++ parse_message cause
+
+-- `failure_message e`: the message of the error `e`. Of an error of the library it is the text that this displays
+abbrev pub failure_message : Failure → Text
+failure_message (Memory e) = codes "out of memory"
+failure_message (NoRoom needed) = codes "the buffer is too short"
+failure_message NoDocument = codes "the handle holds no document"
+failure_message (NotUtf8 a offset) = codes "text is not UTF-8"
+failure_message (NotJson offset) = codes "text is not JSON"
+failure_message (NotPointer e) = parse_message e
+failure_message NoToken = codes "the pointer has no such token"
+failure_message (NotFound e) = resolve_message e
+failure_message OtherKind = codes "the value is of another kind"
+failure_message (NotAssigned e) = assign_message e
+failure_message (NotPatch e) = patch_document_message e
+failure_message (PatchFailed e m) = patch_message e
+failure_message TooDeep = codes "the document would nest deeper than 10,127"
+failure_message DeepInverse = codes "the inverse of the patch would nest deeper than 127"
+
+-- ---- The same by the numbers of a record
+
+-- `fixed_message status`: the message of a status that has only one
+abbrev pub fixed_message : ℕ → Text
+fixed_message status =
+    if status == number.OK then codes "no error"
+    else if status == number.NO_MEMORY then codes "out of memory"
+    else if status == number.NO_ROOM then codes "the buffer is too short"
+    else if status == number.BAD_ARGUMENT then codes "an argument is NULL or too long, a flag is unknown, or one document is passed twice"
+    else if status == number.NO_DOCUMENT then codes "the handle holds no document"
+    else if status == number.NOT_UTF8 then codes "text is not UTF-8"
+    else if status == number.NOT_JSON then codes "text is not JSON"
+    else if status == number.NO_TOKEN then codes "the pointer has no such token"
+    else if status == number.OTHER_KIND then codes "the value is of another kind"
+    else if status == number.TOO_DEEP then codes "the document would nest deeper than 10,127"
+    else codes "unknown status"
+
+-- `cause_message kind slash`: what is at fault with a pointer or with an operation, by the kind and the slash
+abbrev pub cause_message : ℕ → ℕ → Text
+cause_message kind slash =
+    if kind == number.KIND_NO_LEADING_SLASH
+    then codes "json pointer failed to parse; does not start with a slash ('/') and is not empty"
+    else if kind == number.KIND_BAD_ESCAPE
+    then codes "json pointer failed to parse; the first token in the partial-pointer starting at offset "
+    ++ decimal slash ++ codes " is malformed"
+    else if kind == number.KIND_NOT_AN_INDEX
+    then codes "resolve failed: json pointer token at offset " ++ decimal slash ++ codes " failed to parse as an index"
+    else if kind == number.KIND_OUT_OF_BOUNDS
+    then codes "resolve failed: json pointer token at offset " ++ decimal slash ++ codes " is out of bounds"
+    else if kind == number.KIND_NO_MEMBER
+    then codes "resolve failed: json pointer token at " ++ decimal slash ++ codes " was not found in value"
+    else if kind == number.KIND_NO_CHILDREN
+    then codes "resolve failed: json pointer token at " ++ decimal slash
+    ++ codes " is unreachable (previous token resolved to a scalar or null value)"
+    else if kind == number.KIND_NOT_A_NEW_INDEX
+    then codes "assign failed: json pointer token at offset " ++ decimal slash
+    ++ codes " failed to parse as an array index"
+    else if kind == number.KIND_INDEX_ABOVE_LENGTH
+    then codes "assign failed: json pointer token at offset " ++ decimal slash ++ codes " is out of bounds"
+    else if kind == number.KIND_MOVE_INTO_SELF then codes "from is a proper prefix of path"
+    else if kind == number.KIND_TEST_FLOAT then codes "a float cannot be tested"
+    else if kind == number.KIND_TEST_FAILED then codes "test failed"
+    else codes "unknown kind"
+
+-- `member_name m`: the key of the member of an operation with the number `m`
+abbrev pub member_name : ℕ → Text
+member_name m =
+    if m == number.MEMBER_OP then codes "op"
+    else if m == number.MEMBER_PATH then codes "path"
+    else if m == number.MEMBER_FROM then codes "from"
+    else codes "value"
+
+-- `document_message r`: why a document is not a patch, by the record `r`
+abbrev pub document_message : ErrorRecord → Text
+document_message r =
+    if r.kind == number.KIND_NOT_AN_ARRAY then codes "not an array"
+    else if r.kind == number.KIND_NOT_AN_OBJECT
+    then codes "operation " ++ decimal r.operation ++ codes " is not an object"
+    else if r.kind == number.KIND_NO_SUCH_MEMBER
+    then codes "operation " ++ decimal r.operation ++ codes " has no member `" ++ member_name r.member ++ codes "`"
+    else if r.kind == number.KIND_NOT_A_STRING
+    then codes "member `" ++ member_name r.member ++ codes "` of operation " ++ decimal r.operation
+    ++ codes " is not a string"
+    else if r.kind == number.KIND_UNKNOWN_OP
+    then codes "member `op` of operation " ++ decimal r.operation ++ codes " is not an operation"
+    else if (r.kind == number.KIND_NO_LEADING_SLASH) || (r.kind == number.KIND_BAD_ESCAPE)
+    then codes "member `" ++ member_name r.member ++ codes "` of operation " ++ decimal r.operation ++ codes ": "
+    ++ cause_message r.kind r.slash
+    else codes "unknown kind"
+
+-- `message_of r`: the message of the record `r`
+abbrev pub message_of : ErrorRecord → Text
+message_of r =
+    if (r.status == number.NOT_POINTER) || ((r.status == number.NOT_FOUND) || (r.status == number.NOT_ASSIGNED))
+    then cause_message r.kind r.slash
+    else if r.status == number.NOT_PATCH then codes "not a JSON Patch document: " ++ document_message r
+    else if r.status == number.PATCH_FAILED
+    then codes "patch failed at operation " ++ decimal r.operation ++ codes ": " ++ cause_message r.kind r.slash
+    else if (r.status == number.TOO_DEEP) && (r.kind == number.KIND_DEEP_INVERSE)
+    then codes "the inverse of the patch would nest deeper than 127"
+    else fixed_message r.status
+
+-- `Fits r`: the numbers of the record `r` that are in messages are those of an `u64`
+abbrev pub Fits : ErrorRecord → Type 0
+Fits r = (r.operation < 2 ^ 64) × (r.slash < 2 ^ 64)
+
+-- `message_room`: no message is longer
+abbrev pub message_room : ℕ
+message_room = 200

@@ -1,0 +1,336 @@
+//! Documents in a handle.
+ghost use Rattle.std.specs.Prelude.{◌≡◌, ◌⊎◌, IfErr, IfOk, OnErr, OnOk, Some, length, take};
+ghost use Rattle.serde_json.specs.Read.{read as read_text};
+ghost use Rattle.serde_json.specs.View.{view};
+ghost use Rattle.serde_json.specs.declared.value.Value.{Value as JsonValue};
+ghost use Rattle.jsonptr_c_handle.specs.Document.{Holds, IsEmpty, Keeps};
+ghost use Rattle.jsonptr_c_calls.specs.Depths.{IsBounded};
+ghost use Rattle.jsonptr_c_calls.specs.Editing.{AssignsAt, DeletesAt, IsNotDeleted, IsTextNotAssigned};
+ghost use Rattle.jsonptr_c_calls.specs.Failures.{FailsOn, IsNotParsed, IsNotPrinted, IsNotRead, LacksRoom, Unfound};
+ghost use Rattle.jsonptr_c_calls.specs.Nodes.{FindsNode};
+ghost use Rattle.jsonptr_c_calls.specs.Patches.{AppliesText, AppliesWithBack, IsDiffText, IsNotAppliedWithBack, IsNotApplied, IsNotCompared, IsNotPatchText};
+ghost use Rattle.jsonptr_c_calls.specs.Values.{Changes, FindsTextOf, FindsString, HoldsWith, ReadsInto};
+
+use crate::failure::Failure;
+use crate::node::Node;
+use crate::patches::Patched;
+use crate::reading::read;
+use crate::values::{self, Layout};
+use crate::{editing, patches};
+use jsonptr_c_handle::document::Document;
+use serde_json::Value;
+use std::alloc::{AllocError, Global};
+
+/// Reads a JSON text into the handle. A document that it holds is freed.
+///
+/// # Errors
+///
+/// - [`Failure::NotUtf8`] and [`Failure::NotJson`].
+/// - [`Failure::Memory`] if an allocation fails.
+///
+/// The handle is unchanged.
+pub fn parse(alloc: Global, document: &mut Document, text: &[u8]) -> Result<(), Failure>
+    ensures parsed { IfOk result (λ _. ReadsInto text.now document.new) }
+    ensures bounded { IfOk result (λ _. HoldsWith document.new (λ v. IsBounded (view v))) }
+    ensures refused { IfErr result (IsNotParsed text.now) }
+    ensures unchanged { OnErr result (document.new ≡ document.old) }
+{
+    let Ok(value) = Box::new(alloc, read(alloc, text)?) else {
+        return Err(Failure::Memory(AllocError));
+    };
+    free(alloc, document);
+    document.put(value);
+    Ok(())
+}
+
+/// Frees the document that the handle holds, if any.
+pub fn free(alloc: Global, document: &mut Document)
+    ensures { IsEmpty document.new }
+{
+    let _freed = document.take(alloc);
+}
+
+/// Copies the JSON text of the value that the pointer resolves to to the buffer, and returns its
+/// length.
+///
+/// # Errors
+///
+/// [`Failure::NoDocument`], and those of [`values::print_at`]. The buffer is unchanged.
+pub fn print_at(
+    alloc: Global,
+    document: &mut Document,
+    pointer: &[u8],
+    layout: Layout,
+    out: &mut [u8],
+) -> Result<usize, Failure>
+    ensures printed { IfOk result (λ n.
+        HoldsWith document.old (λ v. FindsTextOf layout (view v) pointer.now (take n out.new))) }
+    ensures refused { IfErr result (λ e.
+        FailsOn document.old (λ v. IsNotPrinted layout (view v) pointer.now (length out.old) e) e) }
+    ensures unchanged { OnErr result (out.new ≡ out.old) }
+    ensures kept { Keeps document.old document.new }
+{
+    let Some(value) = document.take(alloc) else {
+        return Err(Failure::NoDocument);
+    };
+    let printed = values::print_at(alloc, &value, pointer, layout, out);
+    document.put(value);
+    printed
+}
+
+/// Copies the string that the pointer resolves to to the buffer, and returns its length in bytes.
+///
+/// # Errors
+///
+/// [`Failure::NoDocument`], and those of [`values::string_at`]. The buffer is unchanged.
+pub fn string_at(
+    alloc: Global,
+    document: &mut Document,
+    pointer: &[u8],
+    out: &mut [u8],
+) -> Result<usize, Failure>
+    ensures string { IfOk result (λ n.
+        HoldsWith document.old (λ v. FindsString (view v) pointer.now (take n out.new))) }
+    ensures refused { IfErr result (λ e.
+        FailsOn document.old (λ v. IsNotRead (view v) pointer.now (length out.old) e) e) }
+    ensures unchanged { OnErr result (out.new ≡ out.old) }
+    ensures kept { Keeps document.old document.new }
+{
+    let Some(value) = document.take(alloc) else {
+        return Err(Failure::NoDocument);
+    };
+    let copied = values::string_at(alloc, &value, pointer, out);
+    document.put(value);
+    copied
+}
+
+/// Returns what the value is that the pointer resolves to.
+///
+/// # Errors
+///
+/// [`Failure::NoDocument`], and those of [`values::find`].
+pub fn node_at(alloc: Global, document: &mut Document, pointer: &[u8]) -> Result<Node, Failure>
+    ensures described { IfOk result (λ node.
+        HoldsWith document.old (λ v. FindsNode (view v) pointer.now node)) }
+    ensures refused { IfErr result (λ e.
+        FailsOn document.old (λ v. Unfound (view v) pointer.now e) e) }
+    ensures kept { Keeps document.old document.new }
+{
+    let Some(value) = document.take(alloc) else {
+        return Err(Failure::NoDocument);
+    };
+    let node = Node::at(alloc, &value, pointer);
+    document.put(value);
+    node
+}
+
+/// Assigns the value that the text is at the location that the pointer identifies, by
+/// [`editing::assign`].
+///
+/// # Errors
+///
+/// - [`Failure::NotUtf8`] and [`Failure::NotJson`] for the text, which is read first.
+/// - [`Failure::NoDocument`], and those of [`editing::assign`].
+///
+/// The document is unchanged.
+pub fn assign(
+    alloc: Global,
+    document: &mut Document,
+    pointer: &[u8],
+    text: &[u8],
+) -> Result<(), Failure>
+    ensures assigned { IfOk result (λ _. (v : JsonValue) × (read_text text.now ≡ Some (view v))
+        × Changes document.old (λ d n. AssignsAt d pointer.now (view v) n) document.new) }
+    ensures bounded { IfOk result (λ _.
+        Changes document.old (λ d n. IsBounded d → IsBounded n) document.new) }
+    ensures refused { IfErr result (IsTextNotAssigned text.now document.old pointer.now) }
+    ensures kept { OnErr result (Keeps document.old document.new) }
+{
+    let assigned = read(alloc, text)?;
+    let Some(mut value) = document.take(alloc) else {
+        return Err(Failure::NoDocument);
+    };
+    let outcome = editing::assign(alloc, &mut value, pointer, assigned);
+    document.put(value);
+    outcome
+}
+
+/// Removes the value that the pointer resolves to, and returns whether there was one, by
+/// [`editing::delete`].
+///
+/// # Errors
+///
+/// [`Failure::NoDocument`], and those of [`editing::delete`]. The document is unchanged.
+pub fn delete(alloc: Global, document: &mut Document, pointer: &[u8]) -> Result<bool, Failure>
+    ensures deleted { IfOk result (λ found.
+        Changes document.old (λ d n. DeletesAt d pointer.now found n) document.new) }
+    ensures bounded { IfOk result (λ _.
+        Changes document.old (λ d n. IsBounded d → IsBounded n) document.new) }
+    ensures refused { IfErr result (λ e.
+        FailsOn document.old (λ v. IsNotDeleted pointer.now e) e) }
+    ensures kept { OnErr result (Keeps document.old document.new) }
+{
+    let Some(mut value) = document.take(alloc) else {
+        return Err(Failure::NoDocument);
+    };
+    let outcome = editing::delete(alloc, &mut value, pointer);
+    document.put(value);
+    outcome
+}
+
+/// Applies the patch document that the text is, whole or not at all, by [`patches::apply_all`].
+///
+/// # Errors
+///
+/// - Those of [`patches::read_text`], for the text, which is read first.
+/// - [`Failure::NoDocument`], and those of [`patches::apply_all`].
+///
+/// The document is unchanged.
+pub fn patch(alloc: Global, document: &mut Document, text: &[u8]) -> Result<(), Failure>
+    ensures applied { IfOk result (λ _.
+        Changes document.old (λ d n. AppliesText text.now d n) document.new) }
+    ensures bounded { IfOk result (λ _.
+        Changes document.old (λ d n. IsBounded d → IsBounded n) document.new) }
+    ensures refused { IfErr result (λ e.
+        IsNotPatchText text.now e ⊎ IsNotApplied text.now document.old e) }
+    ensures kept { OnErr result (Keeps document.old document.new) }
+{
+    let operations = patches::read_text(alloc, text)?;
+    let Some(mut value) = document.take(alloc) else {
+        return Err(Failure::NoDocument);
+    };
+    let outcome = patches::apply_all(alloc, &mut value, text, operations);
+    document.put(value);
+    outcome
+}
+
+/// Applies the patch document that the text is, whole or not at all, and copies the text of a patch
+/// document that takes it back to the buffer. Returns the length of that text. It is always read
+/// again, and its operations turn the new document into the old one.
+///
+/// The document is copied first, so this takes time in proportion to it. So the change is made only
+/// once that text is in the buffer, and needs no memory.
+///
+/// # Errors
+///
+/// - Those of [`patch`].
+/// - [`Failure::DeepInverse`] if the patch document that takes it back nests deeper than 127.
+/// - [`Failure::NoRoom`] if the buffer is shorter than its text.
+///
+/// The document and the buffer are unchanged.
+pub fn patch_with_inverse(
+    alloc: Global,
+    document: &mut Document,
+    text: &[u8],
+    layout: Layout,
+    out: &mut [u8],
+) -> Result<usize, Failure>
+    ensures applied { IfOk result (λ n. Changes document.old
+        (λ d m. AppliesWithBack layout text.now d m (take n out.new)) document.new) }
+    ensures bounded { IfOk result (λ _.
+        Changes document.old (λ d n. IsBounded d → IsBounded n) document.new) }
+    ensures refused { IfErr result (λ e. IsNotPatchText text.now e
+        ⊎ IsNotAppliedWithBack layout text.now document.old (length out.old) e) }
+    ensures unchanged { OnErr result (out.new ≡ out.old) }
+    ensures kept { OnErr result (Keeps document.old document.new) }
+{
+    let operations = patches::read_text(alloc, text)?;
+    let Some(mut value) = document.take(alloc) else {
+        return Err(Failure::NoDocument);
+    };
+    match patches::patched_copy(alloc, &mut value, text, operations, layout) {
+        Ok(made) => put_patched(document, value, made, out),
+        Err(failure) => {
+            document.put(value);
+            Err(failure)
+        }
+    }
+}
+
+/// Copies the text that takes a patch back to the buffer, and puts the document after the patch into
+/// the handle. Returns the length of the text.
+///
+/// # Errors
+///
+/// [`Failure::NoRoom`] if the buffer is shorter than the text. It is unchanged, and the old document
+/// is put into the handle.
+fn put_patched(
+    document: &mut Document,
+    old: Box<Value, Global>,
+    made: Patched,
+    out: &mut [u8],
+) -> Result<usize, Failure>
+    ensures copied { IfOk result (λ n. take n out.new ≡ made.back.items) }
+    ensures held { OnOk result (Holds document.new made.document) }
+    ensures refused { IfErr result (LacksRoom (length made.back.items) (length out.old)) }
+    ensures unchanged { OnErr result (out.new ≡ out.old) }
+    ensures kept { OnErr result (Holds document.new old.value) }
+{
+    let mut value = old;
+    let outcome = patches::keep(&mut value, made, out);
+    document.put(value);
+    outcome
+}
+
+/// Copies a patch document that turns the document `old` into `new` to the buffer, and returns its
+/// length, by [`patches::diff_text`].
+///
+/// # Errors
+///
+/// - [`Failure::NoDocument`] if one of the handles holds no document.
+/// - [`Failure::NoRoom`] if the buffer is shorter than the text.
+/// - [`Failure::Memory`] if an allocation fails.
+///
+/// The buffer is unchanged.
+pub fn diff(
+    alloc: Global,
+    old: &mut Document,
+    new: &mut Document,
+    layout: Layout,
+    out: &mut [u8],
+) -> Result<usize, Failure>
+    ensures differing { IfOk result (λ n. HoldsWith old.old (λ v.
+        HoldsWith new.old (λ w. IsDiffText layout (view v) (view w) (take n out.new)))) }
+    ensures refused { IfErr result (λ e. FailsOn old.old
+        (λ v. FailsOn new.old
+        (λ w. IsNotCompared layout (view v) (view w) (length out.old) e) e) e) }
+    ensures unchanged { OnErr result (out.new ≡ out.old) }
+    ensures old_kept { Keeps old.old old.new }
+    ensures new_kept { Keeps new.old new.new }
+{
+    let Some(value) = old.take(alloc) else {
+        return Err(Failure::NoDocument);
+    };
+    let written = diff_with(alloc, &value, new, layout, out);
+    old.put(value);
+    written
+}
+
+/// Copies a patch document that turns a document into the one in the handle to the buffer, and
+/// returns its length.
+///
+/// # Errors
+///
+/// Those of [`diff`].
+fn diff_with(
+    alloc: Global,
+    old: &Value,
+    new: &mut Document,
+    layout: Layout,
+    out: &mut [u8],
+) -> Result<usize, Failure>
+    ensures differing { IfOk result (λ n.
+        HoldsWith new.old (λ w. IsDiffText layout (view old.now) (view w) (take n out.new))) }
+    ensures refused { IfErr result (λ e.
+        FailsOn new.old
+        (λ w. IsNotCompared layout (view old.now) (view w) (length out.old) e) e) }
+    ensures unchanged { OnErr result (out.new ≡ out.old) }
+    ensures kept { Keeps new.old new.new }
+{
+    let Some(value) = new.take(alloc) else {
+        return Err(Failure::NoDocument);
+    };
+    let written = patches::diff_text(alloc, old, &value, layout, out);
+    new.put(value);
+    written
+}

@@ -1,0 +1,67 @@
+//! Changes of a document.
+ghost use Rattle.std.specs.Prelude.{◌≡◌, IfErr, IfOk, OnErr};
+ghost use Rattle.serde_json.specs.View.{view};
+ghost use Rattle.jsonptr.specs.Json.{HasSortedKeys};
+ghost use Rattle.jsonptr_c_calls.specs.Editing.{AssignsAt, DeletesAt, IsNotAssigned, IsNotDeleted};
+
+use crate::depths::is_short;
+use crate::failure::Failure;
+use crate::pointers::parse;
+use jsonptr::Fault;
+use serde_json::Value;
+use std::alloc::Global;
+
+/// Assigns a value at the location that the pointer identifies, and frees the value that it
+/// replaces. What is missing on the way is created, as `jsonptr::assign` explains.
+///
+/// # Errors
+///
+/// - Those of [`parse`].
+/// - [`Failure::TooDeep`] if the pointer has more than 10,000 tokens.
+/// - [`Failure::NotAssigned`] if the pointer leads to an array that has no such index.
+/// - [`Failure::Memory`] if an allocation fails.
+///
+/// The document is unchanged.
+pub fn assign(
+    alloc: Global,
+    document: &mut Value,
+    pointer: &[u8],
+    value: Value,
+) -> Result<(), Failure>
+    ensures assigned { IfOk result (λ _.
+        AssignsAt (view document.old) pointer.now (view value) (view document.new)) }
+    ensures sorted { IfOk result (λ _. HasSortedKeys (view value)
+        → HasSortedKeys (view document.old) → HasSortedKeys (view document.new)) }
+    ensures refused { IfErr result (IsNotAssigned (view document.old) pointer.now) }
+    ensures unchanged { OnErr result (view document.new ≡ view document.old) }
+{
+    let pointer = parse(pointer)?;
+    if !is_short(&pointer) {
+        return Err(Failure::TooDeep);
+    }
+    match pointer.assign(alloc, document, value) {
+        Ok(_replaced) => Ok(()),
+        Err(Fault::Refused(error)) => Err(Failure::NotAssigned(error)),
+        Err(Fault::Memory(error)) => Err(Failure::Memory(error)),
+    }
+}
+
+/// Removes and frees the value that the pointer resolves to, and returns whether there was one.
+///
+/// # Errors
+///
+/// - Those of [`parse`].
+/// - [`Failure::Memory`] if an allocation fails. Only a token that contains `~` needs one.
+///
+/// The document is unchanged.
+pub fn delete(alloc: Global, document: &mut Value, pointer: &[u8]) -> Result<bool, Failure>
+    ensures deleted { IfOk result (λ found.
+        DeletesAt (view document.old) pointer.now found (view document.new)) }
+    ensures sorted { IfOk result (λ _.
+        HasSortedKeys (view document.old) → HasSortedKeys (view document.new)) }
+    ensures refused { IfErr result (IsNotDeleted pointer.now) }
+    ensures unchanged { OnErr result (view document.new ≡ view document.old) }
+{
+    let deleted = parse(pointer)?.delete(alloc, document)?;
+    Ok(deleted.is_some())
+}

@@ -1,0 +1,70 @@
+//! Laws of the errors of the calls.
+ghost use Rattle.std.specs.Prelude.{◌≡◌, ◌≤◌, ℕ, List, length};
+ghost use Rattle.serde_json.specs.Data.{Data};
+ghost use Rattle.serde_json.specs.View.{view};
+ghost use Rattle.jsonptr_c_handle.specs.declared.document.Document.{Document};
+ghost use Rattle.jsonptr_patch.specs.declared.operation.Operation.{Operation};
+ghost use Rattle.jsonptr_c_calls.specs.Editing.{IsNotDeleted, IsTextNotAssigned};
+ghost use Rattle.jsonptr_c_calls.specs.Failures.{FailsOn, IsNoPointer, IsNoToken, IsNotEscaped, IsNotParsed, IsNotPopped, IsNotPrinted, IsNotPushed, IsNotRead, SameStatus, Unfound};
+ghost use Rattle.jsonptr_c_calls.specs.InTexts.{IsNotPrintedFrom};
+ghost use Rattle.jsonptr_c_calls.specs.Messages.{Fits, failure_message, message_of, message_room};
+ghost use Rattle.jsonptr_c_calls.specs.Patches.{IsNotAppliedList, IsNotPatched, IsNotPatchText};
+ghost use Rattle.jsonptr_c_calls.specs.Rows.{record_of};
+ghost use Rattle.jsonptr_c_calls.specs.declared.failure.Failure.{Failure};
+ghost use Rattle.jsonptr_c_calls.specs.declared.record.ErrorRecord.{ErrorRecord};
+ghost use Rattle.jsonptr_c_calls.specs.declared.values.Layout.{Layout};
+
+use jsonptr::laws::parse_law;
+use jsonptr_patch::laws::patch::comparing_patch_law;
+
+/// States that the message of the record of an error is the text of the error, and that no message is
+/// longer than 200 bytes, also that of a record which is not of an error.
+pub fn message_law()
+    ensures text { (e : Failure) (bytes : List ℕ)
+        → message_of (record_of e bytes) ≡ failure_message e }
+    ensures short { (r : ErrorRecord) → Fits r → length (message_of r) ≤ message_room }
+{}
+
+/// States that what a call is passed fixes the status with which it fails, except that an allocation
+/// can fail.
+pub fn one_error_law()
+    ensures count { (bytes : List ℕ) (e f : Failure)
+        → IsNoPointer bytes e → IsNoPointer bytes f → SameStatus e f }
+    ensures token { (bytes : List ℕ) (position room : ℕ) (e f : Failure)
+        → IsNoToken bytes position room e → IsNoToken bytes position room f → SameStatus e f }
+    ensures escape { (token : List ℕ) (room : ℕ) (e f : Failure)
+        → IsNotEscaped token room e → IsNotEscaped token room f → SameStatus e f }
+    ensures push { (n : ℕ) (buffer token : List ℕ) (e f : Failure)
+        → IsNotPushed n buffer token e → IsNotPushed n buffer token f → SameStatus e f }
+    ensures pop { (bytes : List ℕ) (e f : Failure)
+        → IsNotPopped bytes e → IsNotPopped bytes f → SameStatus e f }
+    ensures parse { (text : List ℕ) (e f : Failure)
+        → IsNotParsed text e → IsNotParsed text f → SameStatus e f }
+    ensures print { (d : Document) (layout : Layout) (bytes : List ℕ) (room : ℕ) (e f : Failure)
+        → FailsOn d (λ v. IsNotPrinted layout (view v) bytes room e) e
+        → FailsOn d (λ v. IsNotPrinted layout (view v) bytes room f) f → SameStatus e f }
+    ensures string { (d : Document) (bytes : List ℕ) (room : ℕ) (e f : Failure)
+        → FailsOn d (λ v. IsNotRead (view v) bytes room e) e
+        → FailsOn d (λ v. IsNotRead (view v) bytes room f) f → SameStatus e f }
+    ensures node { (d : Document) (bytes : List ℕ) (e f : Failure)
+        → FailsOn d (λ v. Unfound (view v) bytes e) e
+        → FailsOn d (λ v. Unfound (view v) bytes f) f → SameStatus e f }
+    ensures assign { (text : List ℕ) (d : Document) (bytes : List ℕ) (e f : Failure)
+        → IsTextNotAssigned text d bytes e → IsTextNotAssigned text d bytes f
+        → SameStatus e f }
+    ensures delete { (d : Document) (bytes : List ℕ) (e f : Failure)
+        → FailsOn d (λ _. IsNotDeleted bytes e) e → FailsOn d (λ _. IsNotDeleted bytes f) f
+        → SameStatus e f }
+    ensures patch { (text : List ℕ) (e f : Failure)
+        → IsNotPatchText text e → IsNotPatchText text f → SameStatus e f }
+    ensures apply { (d : Data) (text : List ℕ) (os : List Operation) (e f : Failure)
+        → IsNotAppliedList d text os e → IsNotAppliedList d text os f → SameStatus e f }
+    ensures take_back { (d : Data) (text : List ℕ) (os : List Operation) (e f : Failure)
+        → IsNotPatched d text os e → IsNotPatched d text os f → SameStatus e f }
+    ensures print_in { (layout : Layout) (text bytes : List ℕ) (room : ℕ) (e f : Failure)
+        → IsNotPrintedFrom layout text bytes room e → IsNotPrintedFrom layout text bytes room f
+        → SameStatus e f }
+{
+    parse_law();
+    comparing_patch_law();
+}

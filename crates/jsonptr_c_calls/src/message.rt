@@ -1,0 +1,143 @@
+//! The messages of errors, from their numbers.
+ghost use Rattle.std.specs.Prelude.{◌≡◌, Some};
+ghost use Rattle.jsonptr_c_calls.specs.Messages.{cause_message, document_message, fixed_message, member_name, message_of};
+
+use crate::numbers::*;
+use crate::record::ErrorRecord;
+use std::fmt;
+
+impl fmt::Display for ErrorRecord {
+    ghost output = { λ error. Some (message_of error) };
+
+    fn fmt<W: fmt::Write>(&self, f: &mut fmt::Formatter<W>) -> fmt::Result {
+        match self.status {
+            NOT_POINTER | NOT_FOUND | NOT_ASSIGNED => write!(f, "{}", Cause(*self)),
+            NOT_PATCH => write!(f, "not a JSON Patch document: {}", DocumentFault(*self)),
+            PATCH_FAILED => {
+                let operation = self.operation;
+                write!(f, "patch failed at operation {operation}: {}", Cause(*self))
+            }
+            TOO_DEEP if self.kind == KIND_DEEP_INVERSE => {
+                f.write_str("the inverse of the patch would nest deeper than 127")
+            }
+            status => f.write_str(fixed_message(status)),
+        }
+    }
+}
+
+/// Returns the message of a status that has only one.
+fn fixed_message(status: u32) -> &'static str
+    ensures { result.now ≡ fixed_message status }
+{
+    match status {
+        OK => "no error",
+        NO_MEMORY => "out of memory",
+        NO_ROOM => "the buffer is too short",
+        BAD_ARGUMENT =>
+            "an argument is NULL or too long, a flag is unknown, or one document is passed twice",
+        NO_DOCUMENT => "the handle holds no document",
+        NOT_UTF8 => "text is not UTF-8",
+        NOT_JSON => "text is not JSON",
+        NO_TOKEN => "the pointer has no such token",
+        OTHER_KIND => "the value is of another kind",
+        TOO_DEEP => "the document would nest deeper than 10,127",
+        _ => "unknown status",
+    }
+}
+
+/// What is at fault with a pointer or with an operation.
+#[derive(Clone, Copy)]
+struct Cause(ErrorRecord);
+
+impl fmt::Display for Cause {
+    ghost output = { λ cause. Some (cause_message cause.0.kind cause.0.slash) };
+
+    fn fmt<W: fmt::Write>(&self, f: &mut fmt::Formatter<W>) -> fmt::Result {
+        let slash = self.0.slash;
+        match self.0.kind {
+            KIND_NO_LEADING_SLASH => f.write_str(
+                "json pointer failed to parse; does not start with a slash ('/') and is not empty",
+            ),
+            KIND_BAD_ESCAPE => write!(
+                f,
+                "json pointer failed to parse; the first token in the partial-pointer starting at offset {slash} is malformed"
+            ),
+            KIND_NOT_AN_INDEX => write!(
+                f,
+                "resolve failed: json pointer token at offset {slash} failed to parse as an index"
+            ),
+            KIND_OUT_OF_BOUNDS => write!(
+                f,
+                "resolve failed: json pointer token at offset {slash} is out of bounds"
+            ),
+            KIND_NO_MEMBER => write!(
+                f,
+                "resolve failed: json pointer token at {slash} was not found in value"
+            ),
+            KIND_NO_CHILDREN => write!(
+                f,
+                "resolve failed: json pointer token at {slash} is unreachable (previous token resolved to a scalar or null value)"
+            ),
+            KIND_NOT_A_NEW_INDEX => write!(
+                f,
+                "assign failed: json pointer token at offset {slash} failed to parse as an array index"
+            ),
+            KIND_INDEX_ABOVE_LENGTH => write!(
+                f,
+                "assign failed: json pointer token at offset {slash} is out of bounds"
+            ),
+            KIND_MOVE_INTO_SELF => f.write_str("from is a proper prefix of path"),
+            KIND_TEST_FLOAT => f.write_str("a float cannot be tested"),
+            KIND_TEST_FAILED => f.write_str("test failed"),
+            _ => f.write_str("unknown kind"),
+        }
+    }
+}
+
+/// Why a document is not a patch.
+#[derive(Clone, Copy)]
+struct DocumentFault(ErrorRecord);
+
+impl fmt::Display for DocumentFault {
+    ghost output = { λ fault. Some (document_message fault.0) };
+
+    fn fmt<W: fmt::Write>(&self, f: &mut fmt::Formatter<W>) -> fmt::Result {
+        let operation = self.0.operation;
+        let member = member_name(self.0.member);
+        match self.0.kind {
+            KIND_NOT_AN_ARRAY => f.write_str("not an array"),
+            KIND_NOT_AN_OBJECT => write!(f, "operation {operation} is not an object"),
+            KIND_NO_SUCH_MEMBER => write!(f, "operation {operation} has no member `{member}`"),
+            KIND_NOT_A_STRING => {
+                write!(
+                    f,
+                    "member `{member}` of operation {operation} is not a string"
+                )
+            }
+            KIND_UNKNOWN_OP => {
+                write!(
+                    f,
+                    "member `op` of operation {operation} is not an operation"
+                )
+            }
+            KIND_NO_LEADING_SLASH | KIND_BAD_ESCAPE => write!(
+                f,
+                "member `{member}` of operation {operation}: {}",
+                Cause(self.0)
+            ),
+            _ => f.write_str("unknown kind"),
+        }
+    }
+}
+
+/// Returns the key of a member of an operation.
+fn member_name(member: u32) -> &'static str
+    ensures { result.now ≡ member_name member }
+{
+    match member {
+        MEMBER_OP => "op",
+        MEMBER_PATH => "path",
+        MEMBER_FROM => "from",
+        _ => "value",
+    }
+}

@@ -1,0 +1,44 @@
+//! The outcome of a call, as C receives it: a status, and the record of an error.
+ghost use Rattle.std.specs.Prelude.{◌≡◌, ◌≢◌};
+ghost use Rattle.jsonptr_c_calls.specs.Outcomes.{IsLengthOf, Reports, ReportsLength};
+ghost use Rattle.jsonptr_c_calls.specs.Rows.{no_error};
+
+use crate::failure::Failure;
+use crate::numbers::OK;
+use crate::record::ErrorRecord;
+
+/// Returns the status of a call that succeeds, and clears the record.
+pub fn succeed(error: &mut ErrorRecord) -> u32
+    ensures status { result ≡ 0 }
+    ensures record { error.new ≡ no_error }
+{
+    *error = ErrorRecord::none();
+    OK
+}
+
+/// Returns the status of a call with this pointer that fails, and writes the record of the error.
+pub fn fail(failure: &Failure, pointer: &[u8], error: &mut ErrorRecord) -> u32
+    ensures reported { Reports failure.now pointer.now result error.new }
+    ensures failed { result ≢ 0 }
+{
+    *error = ErrorRecord::of(failure, pointer);
+    error.status
+}
+
+/// Does what [`fail`] does, and writes the length that the result needs if the buffer is too short.
+pub fn fail_with_length(
+    failure: &Failure,
+    pointer: &[u8],
+    length: &mut usize,
+    error: &mut ErrorRecord,
+) -> u32
+    ensures reported { Reports failure.now pointer.now result error.new }
+    ensures failed { result ≢ 0 }
+    ensures length { ReportsLength failure.now length.old length.new }
+    ensures same_length { IsLengthOf error.new length.old length.new }
+{
+    if let Failure::NoRoom { needed } = failure {
+        *length = *needed;
+    }
+    fail(failure, pointer, error)
+}

@@ -1,0 +1,219 @@
+//! JSON Patch documents (RFC 6902) as bytes.
+ghost use Rattle.std.specs.Prelude.{◌≡◌, ◌⊎◌, ◌<◌, IfErr, IfOk, IsUtf8, OnErr, OnOk, All, length, take};
+ghost use Rattle.serde_json.specs.Data.{depth};
+ghost use Rattle.serde_json.specs.Read.{max_depth};
+ghost use Rattle.serde_json.specs.View.{view};
+ghost use Rattle.jsonptr.specs.Json.{nodes, HasSortedKeys};
+ghost use Rattle.jsonptr_patch.specs.Order.{OperationHasSortedKeys};
+ghost use Rattle.jsonptr_patch.specs.Patching.{PatchesBy};
+ghost use Rattle.jsonptr_patch.specs.declared.comparison.Comparison.TheVariants.{Numeric};
+ghost use Rattle.jsonptr_c_calls.specs.Depths.{AddsParsed, StaysShallow};
+ghost use Rattle.jsonptr_patch_document.specs.Writing.{document_of};
+ghost use Rattle.jsonptr_c_calls.specs.Failures.{IsOutOfMemory, LacksRoom};
+ghost use Rattle.jsonptr_c_calls.specs.Patches.{IsPatchText, IsNotPatchText, IsNotAppliedList, IsNotCompared, IsNotPatched, IsBackText, IsDiffText};
+ghost use Rattle.jsonptr_c_calls.specs.Values.{IsTextOf};
+ghost use Rattle.jsonptr_c_calls.specs.declared.failure.Failure.TheVariants.{DeepInverse};
+
+use crate::buffer::copy_to;
+use crate::depths::stays_shallow;
+use crate::failure::Failure;
+use crate::reading::read;
+use crate::sources::failure_of;
+use crate::values::{Layout, json_text};
+use jsonptr::Fault;
+use jsonptr_diff::diff;
+use jsonptr_patch::{Comparison, Operation, apply_comparing, apply_comparing_with_inverse};
+use jsonptr_patch_document::laws::{patch_document_law, writing_law};
+use jsonptr_patch_document::{read_patch, write_patch};
+use jsonptr_value::{MAX_DEPTH, copy, nests_within};
+use serde_json::Value;
+use std::alloc::{AllocError, Global};
+
+/// Returns the operations of the patch document that the bytes are the text of.
+///
+/// # Errors
+///
+/// - [`Failure::NotUtf8`] and [`Failure::NotJson`].
+/// - [`Failure::NotPatch`] if the document is not a patch.
+/// - [`Failure::Memory`] if an allocation fails.
+pub fn read_text(alloc: Global, text: &[u8]) -> Result<Vec<Operation>, Failure>
+    ensures read { IfOk result (λ patch. IsPatchText text.now patch.items) }
+    ensures parsed { IfOk result (λ patch. All AddsParsed patch.items) }
+    ensures utf8 { OnOk result (IsUtf8 text.now) }
+    ensures refused { IfErr result (IsNotPatchText text.now) }
+{
+    patch_document_law();
+    match read_patch(alloc, &read(alloc, text)?) {
+        Ok(patch) => Ok(patch),
+        Err(Fault::Refused(error)) => Err(Failure::NotPatch(error)),
+        Err(Fault::Memory(error)) => Err(Failure::Memory(error)),
+    }
+}
+
+/// Applies the operations of the patch document in order, whole or not at all.
+///
+/// # Errors
+///
+/// - [`Failure::TooDeep`] if the operations can nest the document deeper than 10,127. Each copy and
+///   each move counts with as many levels as its `path` has more tokens than its `from`.
+/// - [`Failure::PatchFailed`] with the first operation that fails, and which of its pointers is at
+///   fault. The text is then read once more, and the operations before that one are applied again.
+/// - [`Failure::Memory`] if an allocation fails.
+///
+/// The document is unchanged.
+///
+/// # Conditions
+///
+/// The operations are those of the text.
+pub fn apply_all(
+    alloc: Global,
+    document: &mut Value,
+    text: &[u8],
+    patch: Vec<Operation>,
+) -> Result<(), Failure>
+    requires utf8 { IsUtf8 text.now }
+    requires read { IsPatchText text.now patch.items }
+    ensures applied { IfOk result (λ _.
+        PatchesBy Numeric (nodes (view document.old)) patch.items (nodes (view document.new))) }
+    ensures shallow { OnOk result (StaysShallow (view document.old) patch.items) }
+    ensures sorted { IfOk result (λ _. All OperationHasSortedKeys patch.items
+        → HasSortedKeys (view document.old) → HasSortedKeys (view document.new)) }
+    ensures refused { IfErr result
+        (IsNotAppliedList (view document.old) text.now patch.items) }
+    ensures unchanged { OnErr result (view document.new ≡ view document.old) }
+{
+    if !stays_shallow(document, &patch) {
+        return Err(Failure::TooDeep);
+    }
+    match apply_comparing(alloc, document, patch, Comparison::Numeric) {
+        Ok(()) => Ok(()),
+        Err(fault) => Err(failure_of(alloc, document, text, fault)),
+    }
+}
+
+/// A document after a patch, and the text of a patch document that takes it back.
+#[derive(Drop)]
+pub struct Patched {
+    /// The document after the patch.
+    pub document: Value,
+    /// The text of the patch document that takes it back.
+    pub back: Vec<u8>,
+}
+
+/// Returns the document after the operations of the patch document, and the text of a patch document
+/// that takes them back, in this layout. The document itself is copied, and unchanged.
+///
+/// # Errors
+///
+/// - Those of [`apply_all`].
+/// - [`Failure::DeepInverse`] if the patch document that takes them back nests deeper than 127, so
+///   that its text would not be read.
+///
+/// # Conditions
+///
+/// The operations are those of the text.
+pub fn patched_copy(
+    alloc: Global,
+    document: &mut Value,
+    text: &[u8],
+    patch: Vec<Operation>,
+    layout: Layout,
+) -> Result<Patched, Failure>
+    requires utf8 { IsUtf8 text.now }
+    requires read { IsPatchText text.now patch.items }
+    ensures applied { IfOk result (λ made.
+        PatchesBy Numeric (nodes (view document.old)) patch.items (nodes (view made.document))) }
+    ensures shallow { OnOk result (StaysShallow (view document.old) patch.items) }
+    ensures sorted { IfOk result (λ made. All OperationHasSortedKeys patch.items
+        → HasSortedKeys (view document.old) → HasSortedKeys (view made.document)) }
+    ensures back { IfOk result (λ made.
+        IsBackText layout (view made.document) (view document.old) made.back.items) }
+    ensures refused { IfErr result (IsNotPatched (view document.old) text.now patch.items) }
+    ensures unchanged { view document.new ≡ view document.old }
+{
+    if !stays_shallow(document, &patch) {
+        return Err(Failure::TooDeep);
+    }
+    let mut changed = copy(alloc, document)?;
+    match apply_comparing_with_inverse(alloc, &mut changed, patch, Comparison::Numeric) {
+        Ok(back) => Ok(Patched {
+            back: back_text(alloc, &back, layout)?,
+            document: changed,
+        }),
+        Err(fault) => Err(failure_of(alloc, document, text, fault)),
+    }
+}
+
+/// Copies the text that takes a patch back to the buffer, and replaces the document by the one after
+/// the patch. Returns the length of the text.
+///
+/// # Errors
+///
+/// [`Failure::NoRoom`] if the buffer is shorter than the text. Buffer and document are unchanged.
+pub fn keep(document: &mut Value, made: Patched, out: &mut [u8]) -> Result<usize, Failure>
+    ensures copied { IfOk result (λ n. take n out.new ≡ made.back.items) }
+    ensures replaced { OnOk result (document.new ≡ made.document) }
+    ensures refused { IfErr result (LacksRoom (length made.back.items) (length out.old)) }
+    ensures unchanged { OnErr result (out.new ≡ out.old) }
+    ensures kept { OnErr result (document.new ≡ document.old) }
+{
+    let copied = copy_to(&made.back, out)?;
+    *document = made.document;
+    Ok(copied)
+}
+
+/// Returns the text of the patch document of the operations.
+///
+/// # Errors
+///
+/// - [`Failure::DeepInverse`] if the document nests deeper than 127, so that its text would not be
+///   read.
+/// - [`Failure::Memory`] if an allocation fails.
+fn back_text(alloc: Global, back: &Vec<Operation>, layout: Layout) -> Result<Vec<u8>, Failure>
+    ensures text { IfOk result (λ text. IsPatchText text.items back.now.items
+        × IsTextOf layout (document_of back.now.items) text.items) }
+    ensures refused { IfErr result (λ e. IsOutOfMemory e
+        ⊎ ((max_depth < depth (document_of back.now.items)) × (e ≡ DeepInverse))) }
+{
+    writing_law();
+    let document = write_patch(alloc, back)?;
+    if !nests_within(&document, MAX_DEPTH) {
+        return Err(Failure::DeepInverse);
+    }
+    Ok(json_text(alloc, &document, layout)?)
+}
+
+/// Copies the text of a patch document that turns the document `old` into `new` to the buffer, and
+/// returns its length.
+///
+/// # Errors
+///
+/// [`Failure::NoRoom`] if the buffer is shorter than the text, and [`Failure::Memory`] if an
+/// allocation fails. The buffer is unchanged.
+pub fn diff_text(
+    alloc: Global,
+    old: &Value,
+    new: &Value,
+    layout: Layout,
+    out: &mut [u8],
+) -> Result<usize, Failure>
+    ensures differing { IfOk result (λ n.
+        IsDiffText layout (view old.now) (view new.now) (take n out.new)) }
+    ensures refused { IfErr result
+        (IsNotCompared layout (view old.now) (view new.now) (length out.old)) }
+    ensures unchanged { OnErr result (out.new ≡ out.old) }
+{
+    match diff_of(alloc, old, new, layout) {
+        Ok(text) => copy_to(&text, out),
+        Err(error) => Err(Failure::Memory(error)),
+    }
+}
+
+/// Returns the text of a patch document that turns the document `old` into `new`.
+fn diff_of(alloc: Global, old: &Value, new: &Value, layout: Layout) -> Result<Vec<u8>, AllocError>
+    ensures { IfOk result (λ text.
+        IsDiffText layout (view old.now) (view new.now) text.items) }
+{
+    let document = write_patch(alloc, &diff(alloc, old, new)?)?;
+    json_text(alloc, &document, layout)
+}

@@ -1,0 +1,151 @@
+//! JSON Pointers (RFC 6901) as bytes.
+ghost use Rattle.std.specs.Prelude.{◌≡◌, IfErr, IfOk, IsUtf8, OnErr, OnOk, take, length as list_length};
+ghost use Rattle.jsonptr.specs.Pointer.{tokens};
+ghost use Rattle.jsonptr.specs.Text.{text, esc};
+ghost use Rattle.jsonptr_c_calls.specs.Failures.{IsNotUtf8, IsNoPointer, IsNoToken, IsNotEscaped, IsNotExtended, IsNotPushed, IsNotPopped};
+ghost use Rattle.jsonptr_c_calls.specs.Pointers.{HasTokens, HasCount, HasToken, Extends, Shortens};
+
+use crate::buffer::copy_to;
+use crate::failure::{Argument, Failure};
+use jsonptr::{Pointer, PointerBuf, Token};
+use simdutf8::compat::from_utf8;
+use std::alloc::Global;
+use std::borrow::CowStr;
+
+/// Returns the text that the bytes of an argument are.
+///
+/// # Errors
+///
+/// [`Failure::NotUtf8`] if they are not UTF-8.
+pub fn text_of(argument: Argument, bytes: &[u8]) -> Result<&str, Failure>
+    ensures text { IfOk result (λ s. s.now ≡ bytes.now) }
+    ensures utf8 { OnOk result (IsUtf8 bytes.now) }
+    ensures refused { IfErr result (IsNotUtf8 argument bytes.now) }
+{
+    match from_utf8(bytes) {
+        Ok(text) => Ok(text),
+        Err(error) => Err(Failure::NotUtf8 {
+            argument,
+            offset: error.valid_up_to(),
+        }),
+    }
+}
+
+/// Returns the pointer that the bytes are the text of.
+///
+/// # Errors
+///
+/// [`Failure::NotUtf8`] and [`Failure::NotPointer`].
+pub fn parse(bytes: &[u8]) -> Result<Pointer<'_>, Failure>
+    ensures pointer { IfOk result (λ p. HasTokens bytes.now (tokens p)) }
+    ensures utf8 { OnOk result (IsUtf8 bytes.now) }
+    ensures refused { IfErr result (IsNoPointer bytes.now) }
+{
+    match Pointer::parse(text_of(Argument::Pointer, bytes)?) {
+        Ok(pointer) => Ok(pointer),
+        Err(error) => Err(Failure::NotPointer(error)),
+    }
+}
+
+/// Returns the number of tokens of the pointer.
+///
+/// # Errors
+///
+/// Those of [`parse`].
+pub fn count(bytes: &[u8]) -> Result<usize, Failure>
+    ensures count { IfOk result (λ n. HasCount bytes.now n) }
+    ensures refused { IfErr result (IsNoPointer bytes.now) }
+{
+    Ok(parse(bytes)?.count())
+}
+
+/// Copies the decoded token at the position to the buffer, and returns its length.
+///
+/// # Errors
+///
+/// - Those of [`parse`].
+/// - [`Failure::NoToken`] if the pointer has no token there.
+/// - [`Failure::NoRoom`] if the buffer is shorter than the token.
+/// - [`Failure::Memory`] if an allocation fails. Only a token that contains `~` needs one.
+pub fn token(alloc: Global, bytes: &[u8], position: usize, out: &mut [u8]) -> Result<usize, Failure>
+    ensures token { IfOk result (λ n. HasToken bytes.now position (take n out.new)) }
+    ensures refused { IfErr result (IsNoToken bytes.now position (list_length out.old)) }
+    ensures unchanged { OnErr result (out.new ≡ out.old) }
+{
+    let Some(token) = parse(bytes)?.get(position) else {
+        return Err(Failure::NoToken);
+    };
+    copy_to(token.decoded(alloc)?.as_str().as_bytes(), out)
+}
+
+/// Copies the escaped text of a token to the buffer, and returns its length: `~` becomes `~0`, and
+/// `/` becomes `~1` (RFC 6901, section 3).
+///
+/// # Errors
+///
+/// - [`Failure::NotUtf8`] if the bytes are not UTF-8.
+/// - [`Failure::NoRoom`] if the buffer is shorter than the escaped text.
+/// - [`Failure::Memory`] if an allocation fails. Only a token that contains `~` or `/` needs one.
+pub fn escape(alloc: Global, bytes: &[u8], out: &mut [u8]) -> Result<usize, Failure>
+    ensures escaped { IfOk result (λ n. take n out.new ≡ esc bytes.now) }
+    ensures refused { IfErr result (IsNotEscaped bytes.now (list_length out.old)) }
+    ensures unchanged { OnErr result (out.new ≡ out.old) }
+{
+    let token = Token::new(alloc, CowStr::Borrowed(text_of(Argument::Token, bytes)?))?;
+    copy_to(token.encoded().as_bytes(), out)
+}
+
+/// Appends a token to the pointer in the first `length` bytes of the buffer, and returns the length
+/// of the longer pointer.
+///
+/// # Errors
+///
+/// - Those of [`parse`], for the pointer and for the token, which must be UTF-8.
+/// - [`Failure::NoRoom`] if the buffer is shorter than the pointer or than the longer one.
+/// - [`Failure::Memory`] if an allocation fails.
+pub fn push(alloc: Global, buffer: &mut [u8], length: usize, token: &[u8]) -> Result<usize, Failure>
+    ensures pushed { IfOk result (λ n.
+        Extends (take length buffer.old) token.now (take n buffer.new)) }
+    ensures refused { IfErr result
+        (IsNotPushed length buffer.old token.now) }
+    ensures unchanged { OnErr result (buffer.new ≡ buffer.old) }
+{
+    let Some(bytes) = buffer.get(..length) else {
+        return Err(Failure::NoRoom { needed: length });
+    };
+    match extended(alloc, bytes, token) {
+        Ok(longer) => copy_to(longer.as_ptr().as_str().as_bytes(), buffer),
+        Err(failure) => Err(failure),
+    }
+}
+
+/// Returns the pointer with one more token.
+///
+/// # Errors
+///
+/// Those of [`push`], except that of a short buffer.
+fn extended(alloc: Global, bytes: &[u8], token: &[u8]) -> Result<PointerBuf, Failure>
+    ensures pushed { IfOk result (λ p. Extends bytes.now token.now (text p)) }
+    ensures pointer_utf8 { OnOk result (IsUtf8 bytes.now) }
+    ensures token_utf8 { OnOk result (IsUtf8 token.now) }
+    ensures refused { IfErr result (IsNotExtended bytes.now token.now) }
+{
+    let pointer = parse(bytes)?;
+    let token = Token::new(alloc, CowStr::Borrowed(text_of(Argument::Token, token)?))?;
+    Ok(pointer.with_trailing_token(alloc, token)?)
+}
+
+/// Returns the length of the pointer without its last token, in bytes.
+///
+/// # Errors
+///
+/// Those of [`parse`], and [`Failure::NoToken`] if the pointer is the root.
+pub fn pop(bytes: &[u8]) -> Result<usize, Failure>
+    ensures popped { IfOk result (Shortens bytes.now) }
+    ensures refused { IfErr result (IsNotPopped bytes.now) }
+{
+    match parse(bytes)?.parent() {
+        Some(parent) => Ok(parent.as_str().len()),
+        None => Err(Failure::NoToken),
+    }
+}

@@ -1,0 +1,69 @@
+//! JSON texts as bytes.
+ghost use Rattle.std.specs.Prelude.{◌≡◌, IfErr, IfOk, IsUtf8, OnOk, Some};
+ghost use Rattle.serde_json.specs.Read.{read as read_text};
+ghost use Rattle.serde_json.specs.View.{view};
+ghost use Rattle.jsonptr_c_calls.specs.Depths.{IsParsed};
+ghost use Rattle.jsonptr_c_calls.specs.Failures.{IsNotParsed};
+
+use crate::failure::{Argument, Failure};
+use crate::pointers::text_of;
+use serde_json::{Error, Value};
+use std::alloc::{AllocError, Global};
+
+/// Returns the document that the bytes are the text of.
+///
+/// # Errors
+///
+/// - [`Failure::NotUtf8`] and [`Failure::NotJson`].
+/// - [`Failure::Memory`] if an allocation fails.
+pub fn read(alloc: Global, bytes: &[u8]) -> Result<Value, Failure>
+    ensures read { IfOk result (λ v. read_text bytes.now ≡ Some (view v)) }
+    ensures parsed { IfOk result (λ v. IsParsed (view v)) }
+    ensures utf8 { OnOk result (IsUtf8 bytes.now) }
+    ensures refused { IfErr result (IsNotParsed bytes.now) }
+{
+    let text = text_of(Argument::Text, bytes)?;
+    match Value::from_str(alloc, text) {
+        Ok(value) => Ok(value),
+        Err(error) => {
+            if error.is_memory() {
+                Err(Failure::Memory(AllocError))
+            } else {
+                Err(Failure::NotJson {
+                    offset: error_offset(bytes, &error),
+                })
+            }
+        }
+    }
+}
+
+/// Returns the offset that the error reports.
+fn error_offset(bytes: &[u8], error: &Error) -> usize {
+    if error.is_eof() {
+        bytes.len()
+    } else {
+        offset_at(bytes, error.line(), error.column())
+    }
+}
+
+/// Returns the offset at which reading the bytes stops, or 0 if they are the text of a document.
+pub fn stop(alloc: Global, bytes: &[u8]) -> usize {
+    match read(alloc, bytes) {
+        Err(Failure::NotJson { offset }) => offset,
+        _ => 0,
+    }
+}
+
+/// Returns the offset of a column of a line, both counted from 1, or the length of the text if it is
+/// shorter.
+fn offset_at(text: &[u8], line: usize, column: usize) -> usize {
+    let mut start = 0usize;
+    for _ in 1..line {
+        let rest = text.get(start..).unwrap_or(b"");
+        let length = rest.iter().take_while(|byte| **byte != b'\n').count();
+        start = start.saturating_add(length).saturating_add(1);
+    }
+    start
+        .saturating_add(column.saturating_sub(1))
+        .min(text.len())
+}

@@ -1,0 +1,68 @@
+//! Resolving in a JSON text that is not read into a document.
+ghost use Rattle.std.specs.Prelude.{◌≡◌, IfErr, IfOk, IsUtf8, OnErr, OnOk, length, take};
+ghost use Rattle.jsonptr_c_calls.specs.InTexts.{FindsIn, FindsTextIn, IsNotInText, IsNotPrintedFrom};
+
+use crate::buffer::copy_to;
+use crate::failure::{Argument, Failure};
+use crate::pointers::{parse, text_of};
+use crate::reading::stop;
+use crate::values::{Layout, json_text};
+use jsonptr_in_text::{InTextError, resolve_in_text};
+use serde_json::Value;
+use std::alloc::Global;
+
+/// Returns the value that the pointer resolves to in the document that the text is.
+///
+/// # Errors
+///
+/// - Those of [`parse`], for the pointer.
+/// - [`Failure::NotUtf8`] and [`Failure::NotJson`], for the text. It is read again to find where
+///   reading stops.
+/// - [`Failure::NotFound`] if the pointer does not resolve to a value.
+/// - [`Failure::Memory`] if an allocation fails.
+fn find_in(alloc: Global, text: &[u8], pointer: &[u8]) -> Result<Value, Failure>
+    ensures found { IfOk result (FindsIn text.now pointer.now) }
+    ensures pointer_utf8 { OnOk result (IsUtf8 pointer.now) }
+    ensures text_utf8 { OnOk result (IsUtf8 text.now) }
+    ensures refused { IfErr result (IsNotInText text.now pointer.now) }
+{
+    let pointer = parse(pointer)?;
+    match resolve_in_text(alloc, text_of(Argument::Text, text)?, pointer) {
+        Ok(value) => Ok(value),
+        Err(InTextError::NotJson) => Err(Failure::NotJson {
+            offset: stop(alloc, text),
+        }),
+        Err(InTextError::Resolve(error)) => Err(Failure::NotFound(error)),
+        Err(InTextError::Memory(error)) => Err(Failure::Memory(error)),
+    }
+}
+
+/// Copies the JSON text of the value that the pointer resolves to to the buffer, and returns its
+/// length. The text is read in one pass.
+///
+/// # Errors
+///
+/// - [`Failure::NotUtf8`] and [`Failure::NotPointer`], for the pointer.
+/// - [`Failure::NotUtf8`] and [`Failure::NotJson`], for the text. It is read again to find where
+///   reading stops.
+/// - [`Failure::NotFound`] if the pointer does not resolve to a value.
+/// - [`Failure::NoRoom`] if the buffer is shorter than the text of the value.
+/// - [`Failure::Memory`] if an allocation fails.
+///
+/// The buffer is unchanged.
+pub fn print_in(
+    alloc: Global,
+    text: &[u8],
+    pointer: &[u8],
+    layout: Layout,
+    out: &mut [u8],
+) -> Result<usize, Failure>
+    ensures printed { IfOk result (λ n. FindsTextIn layout text.now pointer.now (take n out.new)) }
+    ensures refused { IfErr result (IsNotPrintedFrom layout text.now pointer.now (length out.old)) }
+    ensures unchanged { OnErr result (out.new ≡ out.old) }
+{
+    match find_in(alloc, text, pointer) {
+        Ok(value) => copy_to(&json_text(alloc, &value, layout)?, out),
+        Err(failure) => Err(failure),
+    }
+}

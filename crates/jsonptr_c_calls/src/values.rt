@@ -1,0 +1,105 @@
+//! Values of a document.
+ghost use Rattle.std.specs.Prelude.{◌≡◌, IfErr, IfOk, IsUtf8, OnErr, OnOk, take, length};
+ghost use Rattle.serde_json.specs.View.{view};
+ghost use Rattle.jsonptr_c_calls.specs.Failures.{Unfound, IsNotPrinted, IsNotRead};
+ghost use Rattle.jsonptr_c_calls.specs.Values.{FindsAt, IsTextOf, FindsTextOf, FindsString};
+
+use crate::buffer::copy_to;
+use crate::failure::Failure;
+use crate::pointers::parse;
+use jsonptr::Fault;
+use serde_json::Value;
+use std::alloc::{AllocError, Global};
+
+/// Returns the value that the pointer resolves to.
+///
+/// # Errors
+///
+/// - Those of [`parse`].
+/// - [`Failure::NotFound`] if the pointer does not resolve to a value.
+/// - [`Failure::Memory`] if an allocation fails. Only a token that contains `~` needs one.
+pub fn find<'v>(alloc: Global, document: &'v Value, pointer: &[u8]) -> Result<&'v Value, Failure>
+    ensures found { IfOk result (λ v. FindsAt (view document.now) pointer.now (view v.now)) }
+    ensures utf8 { OnOk result (IsUtf8 pointer.now) }
+    ensures refused { IfErr result (Unfound (view document.now) pointer.now) }
+{
+    match parse(pointer)?.resolve(alloc, document) {
+        Ok(value) => Ok(value),
+        Err(Fault::Refused(error)) => Err(Failure::NotFound(error)),
+        Err(Fault::Memory(error)) => Err(Failure::Memory(error)),
+    }
+}
+
+/// How a JSON text is laid out.
+#[derive(Clone, Copy)]
+pub enum Layout {
+    /// Without spaces.
+    Compact,
+    /// On lines that are indented by two spaces.
+    Pretty,
+}
+
+/// Returns the JSON text of the value.
+///
+/// # Errors
+///
+/// [`AllocError`] if an allocation fails.
+pub fn json_text(alloc: Global, value: &Value, layout: Layout) -> Result<Vec<u8>, AllocError>
+    ensures { IfOk result (λ text. IsTextOf layout (view value.now) text.items) }
+{
+    match layout {
+        Layout::Compact => value.to_vec(alloc),
+        Layout::Pretty => value.to_vec_pretty(alloc),
+    }
+}
+
+/// Copies the JSON text of the value that the pointer resolves to to the buffer, and returns its
+/// length.
+///
+/// # Errors
+///
+/// Those of [`find`], and [`Failure::NoRoom`] if the buffer is shorter than the text. The buffer is
+/// unchanged.
+pub fn print_at(
+    alloc: Global,
+    document: &Value,
+    pointer: &[u8],
+    layout: Layout,
+    out: &mut [u8],
+) -> Result<usize, Failure>
+    ensures printed { IfOk result (λ n.
+        FindsTextOf layout (view document.now) pointer.now (take n out.new)) }
+    ensures refused { IfErr result
+        (IsNotPrinted layout (view document.now) pointer.now (length out.old)) }
+    ensures unchanged { OnErr result (out.new ≡ out.old) }
+{
+    let value = find(alloc, document, pointer)?;
+    let text = json_text(alloc, value, layout)?;
+    copy_to(&text, out)
+}
+
+/// Copies the string that the pointer resolves to to the buffer, and returns its length in bytes.
+///
+/// # Errors
+///
+/// - Those of [`find`].
+/// - [`Failure::OtherKind`] if the value is not a string.
+/// - [`Failure::NoRoom`] if the buffer is shorter than the string.
+///
+/// The buffer is unchanged.
+pub fn string_at(
+    alloc: Global,
+    document: &Value,
+    pointer: &[u8],
+    out: &mut [u8],
+) -> Result<usize, Failure>
+    ensures string { IfOk result (λ n.
+        FindsString (view document.now) pointer.now (take n out.new)) }
+    ensures refused { IfErr result (IsNotRead (view document.now) pointer.now (length out.old)) }
+    ensures unchanged { OnErr result (out.new ≡ out.old) }
+{
+    match find(alloc, document, pointer)?.as_str() {
+        Some(text) => copy_to(text.as_bytes(), out),
+        None => Err(Failure::OtherKind),
+    }
+}

@@ -1,6 +1,0 @@
-use Rattle.std.proofs.Common.{rules}
-use Rattle.jsonptr_filter.proofs.ReplacementLemmas.{rename_failed}
-use Rattle.jsonptr_filter.proofs.replacement.fill.Goals as goal
-
-pub returns-clause-failed : goal.returns-clause-failed
-returns-clause-failed g c = rename_failed c.rename.result (g.S.FileSystem.events c.rename.new.self) (search rules)

@@ -1,0 +1,44 @@
+use Rattle.std.proofs.Common.{◌≡◌, ◌+◌, ◌*◌, ◌≤◌, List, length}
+use Rattle.serde_json.specs.Data.{Data, Members}
+use Rattle.jsonptr_json_search.specs.Search.{choices}
+use Rattle.jsonptr_json_search.specs.PrivateReading.{ItemsSoFar, MembersSoFar}
+use Rattle.jsonptr_json_edits.specs.Editing.{ChangesAt, Makes}
+use Rattle.jsonptr_json_edits.specs.PrivateEditing.{ItemsSo, MembersSo}
+use Rattle.jsonptr_json_edits.proofs.check.+change.Given as goal
+
+abbrev pub decreases-change : goal.decreases-change
+decreases-change l = 3 * l.depth
+
+abbrev pub decreases-visit : goal.decreases-visit
+decreases-visit l = 3 * l.depth + 1
+
+abbrev pub decreases-change_item : goal.decreases-change_item
+decreases-change_item l = 3 * l.depth + 2
+
+abbrev pub decreases-change_member : goal.decreases-change_member
+decreases-change_member l = 3 * l.depth + 2
+
+abbrev pub invariant-change_item-items : goal.invariant-change_item-items
+invariant-change_item-items l =
+    (ds ds2 : List Data)
+    × ItemsSoFar l.depth l.initial.old l.old ds
+    × ItemsSoFar l.depth l.initial.new l.new ds2
+    × (l.count ≡ length ds)
+    × ItemsSo l.is_done l.index (ChangesAt (choices l.selectors) (Makes l.edit)) ds ds2
+    × (length l.old ≤ length l.initial.old)
+    × (length l.new ≤ length l.initial.new)
+
+abbrev pub decreases-change_item-items : goal.decreases-change_item-items
+decreases-change_item-items l = length l.old
+
+abbrev pub invariant-change_member-members : goal.invariant-change_member-members
+invariant-change_member-members l =
+    (ms ms2 : Members)
+    × MembersSoFar l.depth l.initial.old l.old ms
+    × MembersSoFar l.depth l.initial.new l.new ms2
+    × MembersSo l.is_done l.key (ChangesAt (choices l.selectors) (Makes l.edit)) ms ms2
+    × (length l.old ≤ length l.initial.old)
+    × (length l.new ≤ length l.initial.new)
+
+abbrev pub decreases-change_member-members : goal.decreases-change_member-members
+decreases-change_member-members l = length l.old

@@ -1,0 +1,94 @@
+use Rattle.std.proofs.Common.{◌≡◌, ◌<◌, Bool, true, List, ℕ, [], ◌∷◌, ◌++◌, length, Some, refl, sym, ap, ◌∙◌, subst, arith, length-append}
+use Rattle.json.specs.Token.{Token}
+use Rattle.json.specs.Reads.{token_of}
+use Rattle.json.proofs.Grammar.{read_key-shorter}
+use Rattle.serde_json.specs.Data.{array, object, no_items, no_members, put}
+use Rattle.serde_json.specs.Find.{get_member, get_item}
+use Rattle.jsonptr_json_search.specs.PrivateReading.{with_items_before}
+use Rattle.jsonptr_json_search.specs.Search.{Choice, choice_of, choices}
+use Rattle.jsonptr_json_search.proofs.ReadingLemmas.{items_begin, items_go_on, items_close, members_begin, members_go_on, members_close, reads_array, reads_object, a_key, no_key}
+use Rattle.jsonptr_json_edits.specs.Leading.{LeadsTo}
+use Rattle.jsonptr_json_edits.specs.PrivateLeading.{ChildLeads, ChildLeadsIf}
+use Rattle.jsonptr_json_edits.proofs.LeadingLemmas.{next_item, next_member, leads_by_item, leads_by_member}
+use Rattle.jsonptr_json_edits.proofs.lead.+pass.Goals as goal
+
+pub pass-returns-in_ok-pass_item-in-BeginArray-clause-ok :
+    goal.pass-returns-in_ok-pass_item-in-BeginArray-clause-ok
+pass-returns-in_ok-pass_item-in-BeginArray-clause-ok t c =
+    let r = c.in_ok-pass_item-in-BeginArray.ensures.ok in
+    let split : choices c.args.target.selectors.now ≡ choice_of c.in-Some.selector.now ∷ choices c.in-Some.selectors.now = ap choices c.in-Some.ensures.cases.0 in (
+      array r.0,
+      reads_array c.args.depth c.args.reader.now c.next.new.self c.pass_item.new.reader r.0 (omega arith) (c.in-Some-next.ensures.value ∙ ap (λ k. token_of k ∷ c.next.new.self) c.in-BeginArray.is) r.1,
+      subst (λ (cs : List Choice). LeadsTo cs c.args.target.value.now (array r.0)) (sym split)
+          (leads_by_item c.in-Some.selector.now c.in_ok-index-in-BeginArray.index r.0 (choices c.in-Some.selectors.now) c.args.target.value.now (grind arith) r.2),
+    )
+
+pub pass-returns-in_ok-pass_member-in-BeginObject-clause-ok :
+    goal.pass-returns-in_ok-pass_member-in-BeginObject-clause-ok
+pass-returns-in_ok-pass_member-in-BeginObject-clause-ok t c =
+    let r = c.in_ok-pass_member-in-BeginObject.ensures.ok in
+    let split : choices c.args.target.selectors.now ≡ choice_of c.in-Some.selector.now ∷ choices c.in-Some.selectors.now = ap choices c.in-Some.ensures.cases.0 in (
+      object r.0,
+      reads_object c.args.depth c.args.reader.now c.next.new.self c.pass_member.new.reader r.0 (omega arith) (c.in-Some-next.ensures.value ∙ ap (λ k. token_of k ∷ c.next.new.self) c.in-BeginObject.is) r.1,
+      subst (λ (cs : List Choice). LeadsTo cs c.args.target.value.now (object r.0)) (sym split)
+          (leads_by_member c.in-Some.selector.now r.0 (choices c.in-Some.selectors.now) c.args.target.value.now
+          (subst (λ (k : List ℕ). ChildLeads (get_member k r.0) (choices c.in-Some.selectors.now) c.args.target.value.now) c.as_str-key.ensures.value r.2)),
+    )
+
+pub pass_item-items-init : goal.pass_item-items-init
+pass_item-items-init t c = ([], items_begin c.args.depth c.args.reader.now, refl, tt, omega arith)
+
+pub pass_item-items-preserved : goal.pass_item-items-preserved
+pass_item-items-preserved t c =
+    let i = c.items.invariant in
+    let r = c.in_ok-visit.ensures.ok in
+    let more = c.items-test.ensures in
+    let less = c.in_ok-visit.ensures.shorter in
+    let shorter : length c.visit.new.reader < length c.items.reader = subst (λ (ts : List Token). length c.visit.new.reader < length ts) more.1 less in
+    let cs = choices c.args.target.selectors.now in
+    let value = c.args.target.value.now in (
+      i.0 ++ r.0 ∷ [],
+      items_go_on c.args.depth c.args.reader.now c.items.reader c.take_end_array.new.self c.visit.new.reader i.0 r.0 i.1 more r.1 less,
+      omega (arith, i.2, length-append i.0 (r.0 ∷ [])),
+      subst (λ (b : Bool). ChildLeadsIf b (get_item c.args.index (with_items_before (i.0 ++ r.0 ∷ []) no_items)) cs value) (sym c.is_either-is_done.ensures)
+          (next_item c.items.is_done c.is_at-wanted.result c.args.index cs value i.0 r.0 i.3 r.2 (λ e. sym i.2 ∙ c.is_at-wanted.ensures.0 e)),
+      omega (arith, i.4, shorter),
+    )
+
+pub pass_item-returns-clause-ok : goal.pass_item-returns-clause-ok
+pass_item-returns-clause-ok t c =
+    let i = c.items.invariant in
+    let done : c.items.is_done ≡ true = grind arith in (
+      with_items_before i.0 no_items,
+      items_close c.args.depth c.args.reader.now c.items.reader c.take_end_array.new.self i.0 i.1 c.items-test.ensures,
+      subst (λ (b : Bool). ChildLeadsIf b (get_item c.args.index (with_items_before i.0 no_items)) (choices c.args.target.selectors.now) c.args.target.value.now) done i.3,
+    )
+
+pub pass_member-members-init : goal.pass_member-members-init
+pass_member-members-init t c = (no_members, members_begin c.args.depth c.args.reader.now, tt, omega arith)
+
+pub pass_member-members-preserved : goal.pass_member-members-preserved
+pass_member-members-preserved t c =
+    let i = c.members.invariant in
+    let r = c.in_ok-visit.ensures.ok in
+    let named = a_key c.in_ok-name.field-0 c.in-Some.name c.members.reader c.next_key.new.self c.in_ok-name.ensures.value c.in-Some.is in
+    let less = c.in_ok-visit.ensures.shorter in
+    let passed = read_key-shorter c.members.reader (Some c.in-Some.name.now) c.next_key.new.self named in
+    let cs = choices c.args.target.selectors.now in
+    let value = c.args.target.value.now in
+    let k = c.args.member.key.now in (
+      put c.in-Some.name.now r.0 i.0,
+      members_go_on c.args.depth c.args.reader.now c.members.reader c.next_key.new.self c.visit.new.reader c.in-Some.name.now r.0 i.0 i.1 named r.1 (omega (arith, less, passed)),
+      subst (λ (b : Bool). ChildLeadsIf b (get_member k (put c.in-Some.name.now r.0 i.0)) cs value) (sym c.is_either-is_done.ensures)
+          (next_member c.members.is_done c.is_at-wanted.result c.is_text-named.result k c.in-Some.name.now cs value i.0 r.0 i.2 r.2 c.is_text-named.ensures (c.may_follow.ensures (grind arith))),
+      omega (arith, i.3, less, passed),
+    )
+
+pub pass_member-returns-clause-ok : goal.pass_member-returns-clause-ok
+pass_member-returns-clause-ok t c =
+    let i = c.members.invariant in
+    let done : c.members.is_done ≡ true = grind arith in (
+      i.0,
+      members_close c.args.depth c.args.reader.now c.members.reader c.next_key.new.self i.0 i.1 (no_key c.in_ok-name.field-0 c.members.reader c.next_key.new.self c.in_ok-name.ensures.value c.in_default.not-Some),
+      subst (λ (b : Bool). ChildLeadsIf b (get_member c.args.member.key.now i.0) (choices c.args.target.selectors.now) c.args.target.value.now) done i.2,
+    )

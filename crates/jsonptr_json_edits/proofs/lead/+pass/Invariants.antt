@@ -1,0 +1,40 @@
+use Rattle.std.proofs.Common.{◌≡◌, ◌+◌, ◌*◌, ◌≤◌, List, length}
+use Rattle.serde_json.specs.Data.{Data, Members, no_items}
+use Rattle.serde_json.specs.Find.{get_member, get_item}
+use Rattle.jsonptr_json_search.specs.Search.{choices}
+use Rattle.jsonptr_json_search.specs.PrivateReading.{ItemsSoFar, MembersSoFar, with_items_before}
+use Rattle.jsonptr_json_edits.specs.PrivateLeading.{ChildLeadsIf}
+use Rattle.jsonptr_json_edits.proofs.lead.+pass.Given as goal
+
+abbrev pub decreases-pass : goal.decreases-pass
+decreases-pass l = 3 * l.depth
+
+abbrev pub decreases-visit : goal.decreases-visit
+decreases-visit l = 3 * l.depth + 1
+
+abbrev pub decreases-pass_item : goal.decreases-pass_item
+decreases-pass_item l = 3 * l.depth + 2
+
+abbrev pub decreases-pass_member : goal.decreases-pass_member
+decreases-pass_member l = 3 * l.depth + 2
+
+abbrev pub invariant-pass_item-items : goal.invariant-pass_item-items
+invariant-pass_item-items l =
+    (ds : List Data)
+    × ItemsSoFar l.depth l.initial.reader l.reader ds
+    × (l.count ≡ length ds)
+    × ChildLeadsIf l.is_done (get_item l.index (with_items_before ds no_items)) (choices l.target.selectors.now) l.target.value.now
+    × (length l.reader ≤ length l.initial.reader)
+
+abbrev pub decreases-pass_item-items : goal.decreases-pass_item-items
+decreases-pass_item-items l = length l.reader
+
+abbrev pub invariant-pass_member-members : goal.invariant-pass_member-members
+invariant-pass_member-members l =
+    (ms : Members)
+    × MembersSoFar l.depth l.initial.reader l.reader ms
+    × ChildLeadsIf l.is_done (get_member l.member.key.now ms) (choices l.target.selectors.now) l.target.value.now
+    × (length l.reader ≤ length l.initial.reader)
+
+abbrev pub decreases-pass_member-members : goal.decreases-pass_member-members
+decreases-pass_member-members l = length l.reader

@@ -1,0 +1,23 @@
+use Rattle.std.proofs.Common.{◌+◌, ◌*◌, ◌≤◌, length}
+use Rattle.jsonptr_json_edits.proofs.locate.+find.Given as goal
+
+abbrev pub decreases-find : goal.decreases-find
+decreases-find l = 2 * l.depth
+
+abbrev pub decreases-find_item : goal.decreases-find_item
+decreases-find_item l = 2 * l.depth + 1
+
+abbrev pub decreases-find_member : goal.decreases-find_member
+decreases-find_member l = 2 * l.depth + 1
+
+abbrev pub invariant-find_item-items : goal.invariant-find_item-items
+invariant-find_item-items l = length l.reader ≤ length l.initial.reader
+
+abbrev pub decreases-find_item-items : goal.decreases-find_item-items
+decreases-find_item-items l = length l.reader
+
+abbrev pub invariant-find_member-members : goal.invariant-find_member-members
+invariant-find_member-members l = length l.reader ≤ length l.initial.reader
+
+abbrev pub decreases-find_member-members : goal.decreases-find_member-members
+decreases-find_member-members l = length l.reader

@@ -1,0 +1,106 @@
+-- One edit of a value: a value below it is replaced, or gets one child more.
+use Rattle.std.specs.Prelude.{◌≡◌, ℕ, suc, ◌<◌, ◌≤◌, ◌⊎◌, List, [], ◌∷◌, Some, None, string_bytes}
+use Rattle.serde_json.specs.Data.{Data, array, object, Items, Members}
+use Rattle.serde_json.specs.Find.{get_member, get_item}
+use Rattle.serde_json.specs.Read.{read}
+use Rattle.jsonptr_json_search.specs.Search.{Choice, choice_of, items_len}
+use Rattle.jsonptr_json_edits.specs.declared.edit.Edit.{Edit}
+use Rattle.jsonptr_json_edits.specs.declared.edit.Edit.TheVariants.{Replace, Add, Insert, Append}
+
+-- `OnlyItemDiffers i at at2 ds ds2`: the items `ds` and `ds2` differ only at the index `i`, where they have `at` and `at2`
+pub record OnlyItemDiffers (i : ℕ) (at at2 : Data) (ds ds2 : Items) : Type 0 where
+  pub same_len : items_len ds2 ≡ items_len ds
+  pub was : get_item i ds ≡ Some at
+  pub is : get_item i ds2 ≡ Some at2
+  pub others : (j : ℕ) → (j ≡ i → ⊥) → get_item j ds2 ≡ get_item j ds
+
+-- `OnlyMemberDiffers k at at2 ms ms2`: the members `ms` and `ms2` differ only at the key `k`, where they have `at` and `at2`
+pub record OnlyMemberDiffers (k : List ℕ) (at at2 : Data) (ms ms2 : Members) : Type 0 where
+  pub was : get_member k ms ≡ Some at
+  pub is : get_member k ms2 ≡ Some at2
+  pub others : (l : List ℕ) → (l ≡ k → ⊥) → get_member l ms2 ≡ get_member l ms
+
+-- `InsertsItem i e ds ds2`: `ds2` are the items `ds` with `e` inserted at the index `i`, which may be the one after the last
+pub record InsertsItem (i : ℕ) (e : Data) (ds ds2 : Items) : Type 0 where
+  pub one_more : items_len ds2 ≡ suc (items_len ds)
+  pub within : i ≤ items_len ds
+  pub is : get_item i ds2 ≡ Some e
+  pub before : (j : ℕ) → j < i → get_item j ds2 ≡ get_item j ds
+  pub after : (j : ℕ) → i ≤ j → get_item (suc j) ds2 ≡ get_item j ds
+
+-- `InsertsMember k e ms ms2`: `ms2` are the members `ms`, which have no key `k`, and `e` with the key `k`
+pub record InsertsMember (k : List ℕ) (e : Data) (ms ms2 : Members) : Type 0 where
+  pub none : get_member k ms ≡ None
+  pub is : get_member k ms2 ≡ Some e
+  pub others : (l : List ℕ) → (l ≡ k → ⊥) → get_member l ms2 ≡ get_member l ms
+
+-- `AddsElement c e d d2`, `AddsMember c e d d2`: `d2` is the array or the object `d` with one child more, `e`, which `c` selects
+pub record AddsElement (c : Choice) (e d d2 : Data) : Type 0 where
+  pub ds : Items
+  pub ds2 : Items
+  pub i : ℕ
+  pub old : d ≡ array ds
+  pub new : d2 ≡ array ds2
+  pub selects : c.1 ≡ Some i
+  pub inserts : InsertsItem i e ds ds2
+
+pub record AddsMember (c : Choice) (e d d2 : Data) : Type 0 where
+  pub ms : Members
+  pub ms2 : Members
+  pub old : d ≡ object ms
+  pub new : d2 ≡ object ms2
+  pub inserts : InsertsMember c.0 e ms ms2
+
+-- `ChangesChild c R d d2`: `d` and `d2` differ only in the child that `c` selects, and `R` relates the two children
+pub record ChangesElement (c : Choice) (R : Data → Data → Type 0) (d d2 : Data) : Type 0 where
+  pub ds : Items
+  pub ds2 : Items
+  pub i : ℕ
+  pub at : Data
+  pub at2 : Data
+  pub old : d ≡ array ds
+  pub new : d2 ≡ array ds2
+  pub selects : c.1 ≡ Some i
+  pub differs : OnlyItemDiffers i at at2 ds ds2
+  pub changes : R at at2
+
+pub record ChangesMember (c : Choice) (R : Data → Data → Type 0) (d d2 : Data) : Type 0 where
+  pub ms : Members
+  pub ms2 : Members
+  pub at : Data
+  pub at2 : Data
+  pub old : d ≡ object ms
+  pub new : d2 ≡ object ms2
+  pub differs : OnlyMemberDiffers c.0 at at2 ms ms2
+  pub changes : R at at2
+
+abbrev pub ChangesChild : Choice → (Data → Data → Type 0) → Data → Data → Type 0
+ChangesChild c R d d2 = ChangesElement c R d d2 ⊎ ChangesMember c R d d2
+
+-- `ChangesAt cs R d d2`: `d` and `d2` differ only in the value that the selectors `cs` lead to, and `R` relates the two values
+abbrev pub ChangesAt : List Choice → (Data → Data → Type 0) → Data → Data → Type 0
+ChangesAt [] R d d2 = R d d2
+ChangesAt (c ∷ cs) R d d2 = ChangesChild c (ChangesAt cs R) d d2
+
+-- `Appends c e d d2`: `d2` is the array `d` with the element `e` after its last, which `c` selects
+pub record Appends (c : Choice) (e d d2 : Data) : Type 0 where
+  pub ds : Items
+  pub ds2 : Items
+  pub i : ℕ
+  pub old : d ≡ array ds
+  pub new : d2 ≡ array ds2
+  pub selects : c.1 ≡ Some i
+  pub last : i ≡ items_len ds
+  pub inserts : InsertsItem i e ds ds2
+
+-- `Makes edit d d2`: the edit makes `d2` of `d`
+abbrev pub Makes : Edit → Data → Data → Type 0
+Makes (Replace old new) d d2 = (read (string_bytes old) ≡ Some d) × (read (string_bytes new) ≡ Some d2)
+Makes (Add child) d d2 = (e : Data) × (read (string_bytes child.value) ≡ Some e) × AddsMember (choice_of child.selector) e d d2
+Makes (Insert child) d d2 = (e : Data) × (read (string_bytes child.value) ≡ Some e) × AddsElement (choice_of child.selector) e d d2
+Makes (Append child) d d2 = (e : Data) × (read (string_bytes child.value) ≡ Some e) × Appends (choice_of child.selector) e d d2
+
+-- `IsEdited old new cs edit`: the texts read as documents that differ only in the value that the selectors `cs` lead to, of
+-- which the edit makes the new one
+abbrev pub IsEdited : List ℕ → List ℕ → List Choice → Edit → Type 0
+IsEdited old new cs edit = (d d2 : Data) × (read old ≡ Some d) × (read new ≡ Some d2) × ChangesAt cs (Makes edit) d d2

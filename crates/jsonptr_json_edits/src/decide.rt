@@ -1,0 +1,35 @@
+//! What is decided at each child.
+ghost use Rattle.std.specs.Prelude.{◌≡◌, ◌↔◌, ◌||◌, IsTrue};
+ghost use Rattle.jsonptr_json_edits.specs.PrivateEditing.{MayFollow};
+
+/// Returns whether the count is this index.
+pub fn is_at(count: usize, index: usize) -> bool
+    ensures { IsTrue result ↔ (count ≡ index) }
+{
+    count == index
+}
+
+/// Returns whether the texts are equal.
+pub fn is_text(text: &str, other: &str) -> bool
+    ensures { IsTrue result ↔ (text.now ≡ other.now) }
+{
+    text == other
+}
+
+/// Returns whether a member may follow: the wanted one has the key, and no later one has it.
+pub fn may_follow(is_done: bool, wanted: bool, named: bool) -> bool
+    ensures { IsTrue result → MayFollow is_done wanted named }
+{
+    if wanted {
+        named && !is_done
+    } else {
+        !(is_done && named)
+    }
+}
+
+/// Returns whether one of the two is true.
+pub fn is_either(one: bool, other: bool) -> bool
+    ensures { result ≡ (one || other) }
+{
+    one || other
+}

@@ -1,0 +1,65 @@
+//! The edits of a text, and why two texts are not known to differ by one.
+
+use json::Invalid;
+use jsonptr_json_search::selector::Selector;
+use std::alloc::AllocError;
+
+/// What an edit does to the value at its location. It owns the JSON texts that it names.
+#[derive(Debug, Drop)]
+pub enum Edit {
+    /// Replaces the value, whose text is `old`, by the one whose text is `new`.
+    Replace {
+        /// The text of the value before.
+        old: String,
+        /// The text of the value after.
+        new: String,
+    },
+    /// Adds a member to an object.
+    Add(Child),
+    /// Inserts an element into an array, before the one at its index or after the last one.
+    Insert(Child),
+    /// Adds an element after the last one of an array. Its selector has the index of the new element.
+    Append(Child),
+}
+
+/// A child that an edit adds to an array or an object.
+#[derive(Debug, Drop)]
+pub struct Child {
+    /// Selects the child in the new value. An element is inserted before the one at this index.
+    pub selector: Selector,
+    /// The position of a new member among all members in the longer text, from 0.
+    pub position: usize,
+    /// The JSON text of the child.
+    pub value: String,
+}
+
+/// Why two texts are not known to differ by an edit.
+#[derive(Clone, Copy, Debug, Drop, PartialEq, Eq)]
+pub enum CheckError {
+    /// They differ elsewhere, or one of them is not JSON.
+    Mismatch,
+    /// An allocation failed.
+    Memory,
+}
+
+impl From<Invalid> for CheckError {
+    ghost use Rattle.std.specs.Prelude.{◌≡◌};
+    ghost use Rattle.jsonptr_json_edits.specs.declared.edit.CheckError.TheVariants.{Mismatch};
+
+    ghost from_gives = { λ _ error. error ≡ Mismatch };
+
+    fn from(_invalid: Invalid) -> CheckError {
+        CheckError::Mismatch
+    }
+}
+
+impl From<AllocError> for CheckError {
+    ghost use Rattle.std.specs.Prelude.{◌≡◌};
+    ghost use Rattle.jsonptr_json_edits.specs.declared.edit.CheckError.TheVariants.{Memory};
+
+    ghost from_gives = { λ _ error. error ≡ Memory };
+
+    fn from(_error: AllocError) -> CheckError {
+        CheckError::Memory
+    }
+}

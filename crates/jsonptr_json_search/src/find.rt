@@ -1,0 +1,238 @@
+//! Searching a text for one value.
+ghost use Rattle.std.specs.Prelude.{◌≡◌, ◌<◌, ◌≤◌, ◌^◌, ◌↔◌, length, Some, Err, MatchOption, IfOk, OnOk, IsTrue};
+ghost use Rattle.serde_json.specs.Data.{Data, Items, Members};
+ghost use Rattle.serde_json.specs.Find.{get_member};
+ghost use Rattle.serde_json.specs.Read.{max_depth, read as spec_read};
+ghost use Rattle.jsonptr_json_search.specs.Reading.{Reads, Unreadable, ReadsItems, UnreadableItems, ReadsMembers, UnreadableMembers};
+ghost use Rattle.jsonptr_json_search.specs.Search.{choices, items_len, element, IsOutcome, IsChildOutcome, Visits};
+ghost use Rattle.jsonptr_json_search.specs.declared.outcome.Outcome.TheVariants.{Stopped};
+
+use crate::outcome::{Kind, Outcome, ReadError};
+use crate::read::read;
+use crate::scalar::is_scalar;
+use crate::selector::Selector;
+use crate::skip::skip;
+use json::{Reader, Scratch, Token};
+use std::alloc::Global;
+
+/// How deep arrays and objects may nest, as in `serde_json`.
+const MAX_DEPTH: usize = 127;
+
+/// Follows the selectors in the JSON value that the text contains.
+///
+/// Reads the whole text once, and allocates for unescaped strings and for the value that is found.
+/// Of a repeated key the last member counts. Without selectors it is `Value::from_str`.
+///
+/// # Errors
+///
+/// [`ReadError::NotJson`] if `serde_json` does not read the text, and [`ReadError::Memory`] if an
+/// allocation fails.
+pub fn find_in_text(alloc: Global, text: &str, selectors: &[Selector]) -> Result<Outcome, ReadError>
+    ensures ok { IfOk result (λ o. (d : Data) × (spec_read text.now ≡ Some d)
+        × IsOutcome d (choices selectors.now) o) }
+    ensures err { result ≡ Err ReadError.NotJson → spec_read text.now ≡ None }
+{
+    let mut scratch = Scratch::new(alloc);
+    find_in_text_with(alloc, &mut scratch, text, selectors)
+}
+
+/// Follows the selectors in the JSON value that the text contains, as [`find_in_text`] does, in a
+/// scratch of the caller.
+///
+/// The scratch is that of any earlier call, also of one that failed. It keeps its memory, so that a
+/// search in a text that is no longer allocates for the found value alone.
+///
+/// # Errors
+///
+/// As [`find_in_text`].
+pub fn find_in_text_with(
+    alloc: Global,
+    scratch: &mut Scratch,
+    text: &str,
+    selectors: &[Selector],
+) -> Result<Outcome, ReadError>
+    ensures ok { IfOk result (λ o. (d : Data) × (spec_read text.now ≡ Some d)
+        × IsOutcome d (choices selectors.now) o) }
+    ensures err { result ≡ Err ReadError.NotJson → spec_read text.now ≡ None }
+{
+    let mut reader = Reader::new(text, scratch)?;
+    let outcome = find(alloc, &mut reader, MAX_DEPTH, selectors)?;
+    if reader.next().is_some() {
+        return Err(ReadError::NotJson);
+    }
+    Ok(outcome)
+}
+
+/// Follows the selectors in the next value, and passes over all of it.
+///
+/// # Errors
+///
+/// As [`find_in_text`].
+#[cycle(find)]
+fn find(
+    alloc: Global,
+    reader: &mut Reader<'_>,
+    depth: usize,
+    selectors: &[Selector],
+) -> Result<Outcome, ReadError>
+    requires few { length reader.old < 2 ^ 64 }
+    requires shallow { depth ≤ max_depth }
+    ensures ok { IfOk result (λ o. (d : Data) × Reads depth reader.old d reader.new
+        × IsOutcome d (choices selectors.now) o) }
+    ensures shorter { OnOk result (length reader.new < length reader.old) }
+    ensures err { result ≡ Err ReadError.NotJson → Unreadable depth reader.old }
+{
+    let Some((selector, rest)) = selectors.split_first() else {
+        return Ok(Outcome::Found(read(alloc, reader, depth)?));
+    };
+    let left = selectors.len();
+    let Some(token) = reader.next() else {
+        return Err(ReadError::NotJson);
+    };
+    match token {
+        Token::BeginArray => {
+            if depth == 0 {
+                return Err(ReadError::NotJson);
+            }
+            let (found, len) = find_item(alloc, reader, depth - 1, selector.index, rest)?;
+            Ok(or_stopped(found, left, Kind::Array(len)))
+        }
+        Token::BeginObject => {
+            if depth == 0 {
+                return Err(ReadError::NotJson);
+            }
+            let found = find_member(alloc, reader, depth - 1, selector.key.as_str(), rest)?;
+            Ok(or_stopped(found, left, Kind::Object))
+        }
+        _ => if is_scalar(token) {
+            Ok(stopped_at_scalar(left))
+        } else {
+            Err(ReadError::NotJson)
+        },
+    }
+}
+
+/// Returns the outcome of a search that ends at a scalar.
+fn stopped_at_scalar(left: usize) -> Outcome
+    ensures { result ≡ Stopped left Kind.Scalar }
+{
+    Outcome::Stopped {
+        left,
+        kind: Kind::Scalar,
+    }
+}
+
+/// Returns the outcome in the child, or the one of a value that lacks the child.
+fn or_stopped(found: Option<Outcome>, left: usize, kind: Kind) -> Outcome
+    ensures { MatchOption found (result ≡ Stopped left kind) (λ o. result ≡ o) }
+{
+    match found {
+        Some(outcome) => outcome,
+        None => Outcome::Stopped { left, kind },
+    }
+}
+
+/// Follows the selectors in the element at the index, and returns the length of the array too.
+///
+/// # Errors
+///
+/// As [`find_in_text`].
+#[cycle(find)]
+fn find_item(
+    alloc: Global,
+    reader: &mut Reader<'_>,
+    depth: usize,
+    index: Option<usize>,
+    selectors: &[Selector],
+) -> Result<(Option<Outcome>, usize), ReadError>
+    requires few { length reader.old < 2 ^ 64 }
+    requires shallow { depth ≤ max_depth }
+    ensures ok { IfOk result (λ r. (ds : Items) × ReadsItems depth reader.old ds reader.new
+        × (r.1 ≡ items_len ds) × IsChildOutcome (element index ds) (choices selectors.now) r.0) }
+    ensures shorter { OnOk result (length reader.new < length reader.old) }
+    ensures err { result ≡ Err ReadError.NotJson → UnreadableItems depth reader.old }
+{
+    let mut found = None;
+    let mut len = 0;
+    'items: while !reader.take_end_array() {
+        let wanted = is_at(index, len);
+        found = visit(alloc, reader, depth, wanted, selectors, found)?;
+        len += 1;
+    }
+    Ok((found, len))
+}
+
+/// Follows the selectors in the last member with the key.
+///
+/// # Errors
+///
+/// As [`find_in_text`].
+#[cycle(find)]
+fn find_member(
+    alloc: Global,
+    reader: &mut Reader<'_>,
+    depth: usize,
+    key: &str,
+    selectors: &[Selector],
+) -> Result<Option<Outcome>, ReadError>
+    requires few { length reader.old < 2 ^ 64 }
+    requires shallow { depth ≤ max_depth }
+    ensures ok { IfOk result (λ r. (ms : Members) × ReadsMembers depth reader.old ms reader.new
+        × IsChildOutcome (get_member key.now ms) (choices selectors.now) r) }
+    ensures shorter { OnOk result (length reader.new < length reader.old) }
+    ensures err { result ≡ Err ReadError.NotJson → UnreadableMembers depth reader.old }
+{
+    let mut found = None;
+    'members: while let Some(name) = reader.next_key()? {
+        let wanted = is_text(name, key);
+        found = visit(alloc, reader, depth, wanted, selectors, found)?;
+    }
+    Ok(found)
+}
+
+/// Follows the selectors in the next value if it is wanted, and passes over it if it is not.
+///
+/// # Errors
+///
+/// As [`find_in_text`].
+#[cycle(find)]
+fn visit(
+    alloc: Global,
+    reader: &mut Reader<'_>,
+    depth: usize,
+    wanted: bool,
+    selectors: &[Selector],
+    found: Option<Outcome>,
+) -> Result<Option<Outcome>, ReadError>
+    requires few { length reader.old < 2 ^ 64 }
+    requires shallow { depth ≤ max_depth }
+    ensures ok { IfOk result (λ r. (d : Data) × Reads depth reader.old d reader.new
+        × Visits wanted d (choices selectors.now) found r) }
+    ensures shorter { OnOk result (length reader.new < length reader.old) }
+    ensures err { result ≡ Err ReadError.NotJson → Unreadable depth reader.old }
+{
+    if wanted {
+        let outcome = find(alloc, reader, depth, selectors)?;
+        Ok(Some(outcome))
+    } else {
+        skip(reader, depth)?;
+        Ok(found)
+    }
+}
+
+/// Returns whether the index is this one.
+fn is_at(index: Option<usize>, count: usize) -> bool
+    ensures { IsTrue result ↔ (index ≡ Some count) }
+{
+    match index {
+        Some(at) => at == count,
+        None => false,
+    }
+}
+
+/// Returns whether the texts are equal.
+fn is_text(text: &str, other: &str) -> bool
+    ensures { IsTrue result ↔ (text.now ≡ other.now) }
+{
+    text == other
+}

@@ -1,0 +1,125 @@
+//! Reading one value of a text.
+ghost use Rattle.std.specs.Prelude.{◌≡◌, ◌<◌, length, Some, None, Err, IfOk, OnOk};
+ghost use Rattle.json.specs.Reads.{token_of};
+ghost use Rattle.serde_json.specs.View.{view, items_view, members_view};
+ghost use Rattle.jsonptr_json_search.specs.Reading.{Reads, Unreadable, ReadsItems, UnreadableItems, ReadsMembers, UnreadableMembers};
+ghost use Rattle.jsonptr_json_search.specs.PrivateReading.{scalar_of};
+ghost use Rattle.jsonptr_json_search.specs.declared.outcome.ReadError.TheVariants.{NotJson};
+
+use crate::number::parse;
+use crate::outcome::ReadError;
+use json::{Reader, Token};
+use serde_json::{Map, Value};
+use std::alloc::Global;
+
+/// Reads the next value, which may nest `depth` deep.
+///
+/// # Errors
+///
+/// [`ReadError::NotJson`] if `serde_json` does not read the value, and [`ReadError::Memory`] if an
+/// allocation fails.
+#[cycle(read)]
+#[inline(always)]
+pub fn read(alloc: Global, reader: &mut Reader<'_>, depth: usize) -> Result<Value, ReadError>
+    ensures ok { IfOk result (λ v. Reads depth reader.old (view v) reader.new) }
+    ensures shorter { OnOk result (length reader.new < length reader.old) }
+    ensures err { result ≡ Err NotJson → Unreadable depth reader.old }
+{
+    let Some(token) = reader.next() else {
+        return Err(ReadError::NotJson);
+    };
+    match token {
+        Token::BeginArray => {
+            if depth == 0 {
+                return Err(ReadError::NotJson);
+            }
+            let items = read_items(alloc, reader, depth - 1)?;
+            Ok(Value::Array(items))
+        }
+        Token::BeginObject => {
+            if depth == 0 {
+                return Err(ReadError::NotJson);
+            }
+            let members = read_members(alloc, reader, depth - 1)?;
+            Ok(Value::Object(members))
+        }
+        _ => {
+            let scalar = read_scalar(alloc, token)?;
+            Ok(scalar)
+        }
+    }
+}
+
+/// Returns the value that the token is on its own.
+///
+/// # Errors
+///
+/// As [`read`].
+#[inline(always)]
+fn read_scalar(alloc: Global, token: Token<'_>) -> Result<Value, ReadError>
+    ensures ok { IfOk result (λ v. scalar_of (token_of token.entry) ≡ Some (view v)) }
+    ensures err { result ≡ Err NotJson → scalar_of (token_of token.entry) ≡ None }
+{
+    match token {
+        Token::String(text) => Ok(Value::String(String::from_str(alloc, text)?)),
+        Token::Number(text) => match parse(text) {
+            Some(number) => Ok(Value::Number(number)),
+            None => Err(ReadError::NotJson),
+        },
+        Token::Bool(boolean) => Ok(Value::Bool(boolean)),
+        Token::Null => Ok(Value::Null),
+        Token::BeginObject => Err(ReadError::NotJson),
+        Token::EndObject => Err(ReadError::NotJson),
+        Token::BeginArray => Err(ReadError::NotJson),
+        Token::EndArray => Err(ReadError::NotJson),
+        Token::Key(_) => Err(ReadError::NotJson),
+        Token::Bad => Err(ReadError::NotJson),
+    }
+}
+
+/// Reads the rest of an array, and its closing bracket.
+///
+/// # Errors
+///
+/// As [`read`].
+#[cycle(read)]
+#[inline(never)]
+fn read_items(alloc: Global, reader: &mut Reader<'_>, depth: usize) -> Result<Vec<Value>, ReadError>
+    ensures ok { IfOk result
+        (λ v. ReadsItems depth reader.old (items_view v.items) reader.new) }
+    ensures shorter { OnOk result (length reader.new < length reader.old) }
+    ensures err { result ≡ Err NotJson → UnreadableItems depth reader.old }
+{
+    let mut found = Vec::new(alloc);
+    'items: while !reader.take_end_array() {
+        let item = read(alloc, reader, depth)?;
+        found.push(item)?;
+    }
+    Ok(found)
+}
+
+/// Reads the rest of an object, and its closing brace. Of a repeated key the last member stays.
+///
+/// # Errors
+///
+/// As [`read`].
+#[cycle(read)]
+#[inline(never)]
+fn read_members(
+    alloc: Global,
+    reader: &mut Reader<'_>,
+    depth: usize,
+) -> Result<Map<String, Value>, ReadError>
+    ensures ok { IfOk result
+        (λ m. ReadsMembers depth reader.old (members_view m.entries) reader.new) }
+    ensures shorter { OnOk result (length reader.new < length reader.old) }
+    ensures err { result ≡ Err NotJson → UnreadableMembers depth reader.old }
+{
+    let mut found = Map::new(alloc);
+    'members: while let Some(name) = reader.next_key()? {
+        let key = String::from_str(alloc, name)?;
+        let member = read(alloc, reader, depth)?;
+        drop(found.insert(key, member)?);
+    }
+    Ok(found)
+}

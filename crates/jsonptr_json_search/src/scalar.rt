@@ -1,0 +1,35 @@
+//! The tokens that are whole values.
+ghost use Rattle.std.specs.Prelude.{◌≡◌, is_some};
+ghost use Rattle.serde_json.specs.Read.{number_of};
+ghost use Rattle.json.specs.Reads.{token_of};
+ghost use Rattle.jsonptr_json_search.specs.PrivateReading.{scalar_of};
+
+use crate::number::parse;
+use json::Token;
+
+/// Returns whether the token is a whole value that `serde_json` reads.
+#[tactic(auto, using(crate::proofs::ReadingLemmas::mapped_is_some))]
+#[inline(always)]
+pub fn is_scalar(token: Token<'_>) -> bool
+    ensures { result ≡ is_some (scalar_of (token_of token.entry)) }
+{
+    match token {
+        Token::String(_) => true,
+        Token::Number(text) => is_in_range(text),
+        Token::Bool(_) => true,
+        Token::Null => true,
+        Token::BeginObject => false,
+        Token::EndObject => false,
+        Token::BeginArray => false,
+        Token::EndArray => false,
+        Token::Key(_) => false,
+        Token::Bad => false,
+    }
+}
+
+/// Returns whether `serde_json` reads this number: as an integer of 64 bits or a finite float.
+fn is_in_range(number: &str) -> bool
+    ensures { result ≡ is_some (number_of number.now) }
+{
+    parse(number).is_some()
+}

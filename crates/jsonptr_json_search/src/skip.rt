@@ -1,0 +1,81 @@
+//! Passing over one value of a text.
+ghost use Rattle.std.specs.Prelude.{◌≡◌, ◌<◌, length, OnOk, IsErr};
+ghost use Rattle.serde_json.specs.Data.{Data, Items, Members};
+ghost use Rattle.jsonptr_json_search.specs.Reading.{Reads, Unreadable, ReadsItems, UnreadableItems, ReadsMembers, UnreadableMembers};
+
+use crate::scalar::is_scalar;
+use json::{Invalid, Reader, Token};
+
+/// Passes over the next value, which may nest `depth` deep.
+///
+/// # Errors
+///
+/// [`Invalid`] if `serde_json` does not read the value.
+#[cycle(skip)]
+#[inline(always)]
+pub fn skip(reader: &mut Reader<'_>, depth: usize) -> Result<(), Invalid>
+    ensures ok { OnOk result ((d : Data) × Reads depth reader.old d reader.new) }
+    ensures shorter { OnOk result (length reader.new < length reader.old) }
+    ensures err { IsErr result → Unreadable depth reader.old }
+{
+    let Some(token) = reader.next() else {
+        return Err(Invalid);
+    };
+    match token {
+        Token::BeginArray => {
+            if depth == 0 {
+                return Err(Invalid);
+            }
+            skip_items(reader, depth - 1)?;
+            Ok(())
+        }
+        Token::BeginObject => {
+            if depth == 0 {
+                return Err(Invalid);
+            }
+            skip_members(reader, depth - 1)?;
+            Ok(())
+        }
+        _ => if is_scalar(token) {
+            Ok(())
+        } else {
+            Err(Invalid)
+        },
+    }
+}
+
+/// Passes over the rest of an array, and its closing bracket.
+///
+/// # Errors
+///
+/// As [`skip`].
+#[cycle(skip)]
+#[inline(never)]
+fn skip_items(reader: &mut Reader<'_>, depth: usize) -> Result<(), Invalid>
+    ensures ok { OnOk result ((ds : Items) × ReadsItems depth reader.old ds reader.new) }
+    ensures shorter { OnOk result (length reader.new < length reader.old) }
+    ensures err { IsErr result → UnreadableItems depth reader.old }
+{
+    'items: while !reader.take_end_array() {
+        skip(reader, depth)?;
+    }
+    Ok(())
+}
+
+/// Passes over the rest of an object, and its closing brace.
+///
+/// # Errors
+///
+/// As [`skip`].
+#[cycle(skip)]
+#[inline(never)]
+fn skip_members(reader: &mut Reader<'_>, depth: usize) -> Result<(), Invalid>
+    ensures ok { OnOk result ((ms : Members) × ReadsMembers depth reader.old ms reader.new) }
+    ensures shorter { OnOk result (length reader.new < length reader.old) }
+    ensures err { IsErr result → UnreadableMembers depth reader.old }
+{
+    'members: while let Some(_) = reader.next_key()? {
+        skip(reader, depth)?;
+    }
+    Ok(())
+}

@@ -1,8 +1,0 @@
-use Rattle.jsonptr_text.proofs.CompareLemmas.{agree_between, differ_first}
-use Rattle.jsonptr_text.proofs.compare.differing_bytes.Goals as goal
-
-pub returns-clause-none : goal.returns-clause-none
-returns-clause-none c = agree_between _ _ _ c.requires.first c.requires.second
-
-pub returns-clause-some : goal.returns-clause-some
-returns-clause-some c = differ_first _ _ _ c.requires.first c.requires.second
