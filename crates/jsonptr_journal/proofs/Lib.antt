@@ -9,3 +9,5 @@ pub mod ParentLemmas
 pub mod ChainLemmas
 pub mod LocationLemmas
 pub mod LocatingLemmas
+pub mod TokenLemmas
+pub mod LeadingLemmas

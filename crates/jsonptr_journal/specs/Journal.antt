@@ -1,14 +1,17 @@
 -- A journal: what undoes a list of changes, the last one first.
 use Rattle.std.specs.Prelude.{◌≡◌, ◌<◌, List, [], ◌∷◌, length}
 use Rattle.std.specs.Vec.{vec_capacity}
+use Rattle.jsonptr_grammar.specs.Text.{HasNoTilde, text}
 use Rattle.jsonptr_tree.specs.Content.{Content}
 use Rattle.jsonptr_journal.specs.Location.{path_of, contents_of}
 use Rattle.jsonptr_journal.specs.Children.{members_of}
 use Rattle.jsonptr_journal.specs.Writing.{At}
+use Rattle.jsonptr_journal.specs.Leading.{AtNamed}
+use Rattle.jsonptr_journal.specs.Changes.{Replaces}
 use Rattle.jsonptr_journal.specs.Rooms.{LeavesMembers}
 use Rattle.jsonptr_journal.specs.Undoing.{IsAddition, IsRemoval}
 use Rattle.jsonptr_journal.specs.declared.journal.Entry.{Entry}
-use Rattle.jsonptr_journal.specs.declared.journal.Entry.TheVariants.{Added, Removed, Moved, RemovedMembers}
+use Rattle.jsonptr_journal.specs.declared.journal.Entry.TheVariants.{Added, Removed, Moved, RemovedMembers, Replaced}
 use Rattle.jsonptr_journal.specs.declared.journal.Journal.{Journal}
 
 -- `Undoes e c d`: a change turned `c` into `d`, and the entry `e` undoes it
@@ -17,6 +20,7 @@ Undoes (Added a) c d = (v : Content) × IsAddition a v c d
 Undoes (Removed r v) c d = IsRemoval r (contents_of v) c d
 Undoes (Moved r a) c d = (v b : Content) × IsRemoval r v c b × IsAddition a v b d
 Undoes (RemovedMembers l room) c d = At (path_of l) (LeavesMembers (members_of room)) c d
+Undoes (Replaced p v) c d = HasNoTilde (text p) × (w : Content) × AtNamed p (Replaces (contents_of v) w) c d
 
 -- `Chain es c d`: changes turned `c` into `d`, and the entries `es`, from the last to the first, undo them
 abbrev pub Chain : List Entry → Content → Content → Type 0

@@ -9,3 +9,5 @@ pub mod Journal
 pub mod Locating
 pub mod PrivateLocating
 pub mod PrivateNodeMut
+pub mod Leading
+pub mod PrivateTokenStep

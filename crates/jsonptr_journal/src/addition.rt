@@ -1,6 +1,9 @@
 //! Additions at a location of a document, and undoing them.
 ghost use Rattle.std.specs.Prelude.{◌≡◌, ◌<◌, IfOk, IfErr, OnErr, Option, option_map, string_bytes};
-ghost use Rattle.jsonptr_tree.specs.Content.{Content, content_at};
+ghost use Rattle.jsonptr_grammar.specs.Text.{HasNoTilde, text};
+ghost use Rattle.jsonptr_tree.specs.Content.{Content, content_at, map_of};
+ghost use Rattle.jsonptr_walk.specs.Follow.{NamesNothing};
+ghost use Rattle.jsonptr_journal.specs.Leading.{AtNamed};
 ghost use Rattle.jsonptr_journal.specs.Location.{path_of, contents_of};
 ghost use Rattle.jsonptr_journal.specs.Writing.{At};
 ghost use Rattle.jsonptr_journal.specs.Changes.{IsThere, HasAt, IsObject, HasMember, HasLength, HasElement, Replaces, Writes, PutsMember, AddsMember, SetsMember, PutsElement, TakesMember, TakesElement};
@@ -10,6 +13,7 @@ use crate::array::{insert_element, remove_element};
 use crate::location::Location;
 use crate::node_mut::NodeMut;
 use crate::object::{insert_member, remove_member, set_member};
+use jsonptr::PointerBuf;
 use jsonptr_value::discard;
 use serde_json::Value;
 use std::alloc::Global;
@@ -94,6 +98,28 @@ pub fn overwrite<D: NodeMut>(doc: &mut D, location: &Location, value: Value) -> 
     match doc.node_mut(location) {
         Ok(node) => mem::replace(node, value),
         Err(_) => unreachable!(),
+    }
+}
+
+/// Replaces the node to which the pointer leads, and returns the old one. The pointer has no `~`.
+///
+/// Needs no allocation.
+///
+/// # Errors
+///
+/// The value, if the pointer leads to no node. The document is unchanged.
+pub fn replace_at<D: NodeMut>(doc: &mut D, path: &PointerBuf, value: Value) -> Result<Value, Value>
+    requires { HasNoTilde (text path.now) }
+    ensures replaced { IfOk result (λ old. AtNamed path.now
+        (Replaces (contents_of old) (contents_of value))
+        (D.contents doc.old) (D.contents doc.new)) }
+    ensures missing { OnErr result (NamesNothing (map_of (D.contents doc.old)) path.now) }
+    ensures unchanged { OnErr result (D.contents doc.new ≡ D.contents doc.old) }
+    ensures returned { IfErr result (λ v. v ≡ value) }
+{
+    match doc.token_mut(path) {
+        Ok(node) => Ok(mem::replace(node, value)),
+        Err(_error) => Err(value),
     }
 }
 

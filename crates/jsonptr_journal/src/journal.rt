@@ -5,16 +5,19 @@ ghost use Rattle.jsonptr_tree.specs.Content.{Content};
 ghost use Rattle.jsonptr_journal.specs.Location.{path_of, contents_of};
 ghost use Rattle.jsonptr_journal.specs.Children.{members_of};
 ghost use Rattle.jsonptr_journal.specs.Writing.{At};
-ghost use Rattle.jsonptr_journal.specs.Changes.{IsThere, HasAt, IsObject, HasMember, HasElement, TakesMember, TakesElement, TakesAt, Writes};
+ghost use Rattle.jsonptr_journal.specs.Changes.{Replaces, IsThere, HasAt, IsObject, HasMember, HasElement, TakesMember, TakesElement, TakesAt, Writes};
 ghost use Rattle.jsonptr_journal.specs.Rooms.{LeavesMembers};
 ghost use Rattle.jsonptr_journal.specs.Undoing.{CanAdd, AddsAt, IsAddition, IsRemoval};
+ghost use Rattle.jsonptr_grammar.specs.Text.{HasNoTilde, text};
+ghost use Rattle.jsonptr_journal.specs.Leading.{AtNamed};
 ghost use Rattle.jsonptr_journal.specs.Journal.{Undoes, Undone, HasRoom};
 
-use crate::addition::{Addition, Target, add, overwrite, replace, undo_addition};
+use crate::addition::{Addition, Target, add, overwrite, replace, replace_at, undo_addition};
 use crate::location::{Location, Part};
 use crate::node_mut::NodeMut;
 use crate::object::{restore_members, room_of, set_aside};
 use crate::removal::{Removal, Taken, take_element_at, undo_removal};
+use jsonptr::PointerBuf;
 use jsonptr_value::discard;
 use serde_json::{Map, Value};
 use std::alloc::{AllocError, Global};
@@ -31,6 +34,8 @@ pub enum Entry {
     /// Members were removed from the object at the location. The map has them, and the keys of all
     /// other members.
     RemovedMembers(Location, Map<String, Value>),
+    /// The node to which the pointer leads was replaced. The pointer has no `~`.
+    Replaced(PointerBuf, Value),
 }
 
 /// What undoes a list of changes, in their order.
@@ -311,6 +316,7 @@ impl Entry {
             Entry::Removed(_removal, value) => discard(value),
             Entry::Moved(_removal, addition) => addition.discard(),
             Entry::RemovedMembers(_object, room) => discard(Value::Object(room)),
+            Entry::Replaced(_path, old) => discard(old),
         }
     }
 }
@@ -325,6 +331,22 @@ fn undo_entry<D: NodeMut>(alloc: Global, doc: &mut D, entry: Entry)
         Entry::Removed(removal, value) => undo_removal(alloc, doc, removal, value),
         Entry::Moved(removal, addition) => undo_move(alloc, doc, removal, addition),
         Entry::RemovedMembers(object, room) => restore_members_at(doc, &object, room),
+        Entry::Replaced(path, old) => restore(doc, &path, old),
+    }
+}
+
+/// Puts back the node that was replaced where the pointer leads.
+fn restore<D: NodeMut>(doc: &mut D, path: &PointerBuf, old: Value)
+    requires plain { HasNoTilde (text path.now) }
+    requires replaced { (c v : Content)
+        × AtNamed path.now (Replaces (contents_of old) v) c (D.contents doc.old) }
+    ensures { (c v : Content)
+        → AtNamed path.now (Replaces (contents_of old) v) c (D.contents doc.old)
+        → D.contents doc.new ≡ c }
+{
+    match replace_at(doc, path, old) {
+        Ok(value) => discard(value),
+        Err(_) => unreachable!(),
     }
 }
 

@@ -11,3 +11,4 @@ mod members;
 pub mod node_mut;
 mod object;
 pub mod removal;
+pub mod token_step;

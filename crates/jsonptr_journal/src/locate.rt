@@ -122,7 +122,7 @@ fn named_child<'v, D: Document>(
 
 /// Returns the index that the token has in an array of this length, or `None` if it is not the index
 /// of an element.
-fn index_in(token: &Token<'_>, length: usize) -> Option<usize>
+pub(crate) fn index_in(token: &Token<'_>, length: usize) -> Option<usize>
     ensures { IsIndexOf length token.now result }
 {
     match token.to_index() {

@@ -25,3 +25,4 @@ pub mod BackLemmas
 mod BackOrderLemmas
 pub mod ApartnessLemmas
 pub mod ComparisonLemmas
+pub mod ReplacingLemmas

@@ -263,9 +263,7 @@ pub fn record(
     match operation {
         Operation::Add { path, value } => add(alloc, doc, journal, number, path.as_ptr(), value),
         Operation::Remove { path } => remove(alloc, doc, journal, number, path.as_ptr()),
-        Operation::Replace { path, value } => {
-            replace(alloc, doc, journal, number, path.as_ptr(), value)
-        }
+        Operation::Replace { path, value } => { replace(alloc, doc, journal, number, path, value) }
         Operation::Move { from, path } => {
             move_value(alloc, doc, journal, number, from.as_ptr(), path.as_ptr())
         }

@@ -11,8 +11,9 @@ ghost use Rattle.jsonptr_patch.specs.PrivateRecording.{Records};
 
 use crate::operation::PatchError;
 use crate::target::{no_target, target};
-use jsonptr::{Fault, Pointer, ResolveMut};
-use jsonptr_journal::journal::Journal;
+use jsonptr::{Fault, Pointer, PointerBuf, ResolveMut};
+use jsonptr_journal::addition::replace_at;
+use jsonptr_journal::journal::{Entry, Journal};
 use jsonptr_value::discard;
 use serde_json::Value;
 use std::alloc::Global;
@@ -20,11 +21,78 @@ use std::mem;
 
 /// Replaces the value that the pointer resolves to, for the operation with this number.
 ///
+/// For a pointer without `~` the journal owns the pointer, and nothing is allocated except for its
+/// entry.
+///
 /// # Errors
 ///
 /// [`Fault::Refused`] if the pointer does not resolve to a value, and [`Fault::Memory`] if an
 /// allocation fails. The new value is dropped.
 pub fn replace(
+    alloc: Global,
+    doc: &mut Value,
+    journal: &mut Journal,
+    number: usize,
+    path: PointerBuf,
+    value: Value,
+) -> Result<(), Fault<PatchError>>
+    ensures replaced { IfOk result (λ _. PutsAt (nodes (view doc.old)) path
+        (nodes (view value)) (nodes (view doc.new))) }
+    ensures sorted { IfOk result (λ _.
+        HasSortedKeys (view value) → HasSortedKeys (view doc.old) → HasSortedKeys (view doc.new)) }
+    ensures refused { IfRefused result (RefusesTarget (nodes (view doc.old)) number path) }
+    ensures undone { Records journal.old doc.old journal.new doc.new }
+{
+    if path.as_ptr().as_str().as_bytes().contains(&b'~') {
+        return replace_located(alloc, doc, journal, number, path.as_ptr(), value);
+    }
+    replace_plain(alloc, doc, journal, number, path, value)
+}
+
+/// Replaces the value that the pointer resolves to, as [`replace`] does, by the pointer itself.
+///
+/// # Errors
+///
+/// Those of [`replace`].
+///
+/// # Conditions
+///
+/// The pointer has no `~`.
+fn replace_plain(
+    alloc: Global,
+    doc: &mut Value,
+    journal: &mut Journal,
+    number: usize,
+    path: PointerBuf,
+    value: Value,
+) -> Result<(), Fault<PatchError>>
+    requires { HasNoTilde (text path) }
+    ensures replaced { IfOk result (λ _. PutsAt (nodes (view doc.old)) path
+        (nodes (view value)) (nodes (view doc.new))) }
+    ensures sorted { IfOk result (λ _.
+        HasSortedKeys (view value) → HasSortedKeys (view doc.old) → HasSortedKeys (view doc.new)) }
+    ensures refused { IfRefused result (RefusesTarget (nodes (view doc.old)) number path) }
+    ensures undone { Records journal.old doc.old journal.new doc.new }
+{
+    if let Err(error) = journal.reserve() {
+        discard(value);
+        return Err(Fault::Memory(error));
+    }
+    match replace_at(doc, &path, value) {
+        Ok(old) => {
+            journal.push(Entry::Replaced(path, old));
+            Ok(())
+        }
+        Err(value) => replace_located(alloc, doc, journal, number, path.as_ptr(), value),
+    }
+}
+
+/// Replaces the value that the pointer resolves to, as [`replace`] does, by its location, for any pointer.
+///
+/// # Errors
+///
+/// Those of [`replace`].
+fn replace_located(
     alloc: Global,
     doc: &mut Value,
     journal: &mut Journal,

@@ -3,7 +3,7 @@ use Rattle.jsonptr_journal.specs.Location.{path_of, contents_of}
 use Rattle.jsonptr_patch.proofs.PlaceLemmas.{named_there}
 use Rattle.jsonptr_patch.proofs.ChangeMapLemmas.{puts_value}
 use Rattle.jsonptr_patch.proofs.ChangeOrderLemmas.{sorted_with_value}
-use Rattle.jsonptr_patch.proofs.replace.replace.Goals as goal
+use Rattle.jsonptr_patch.proofs.replace.replace_located.Goals as goal
 
 pub replace-requires : goal.replace-requires
 replace-requires c = named_there (contents_of c.args.doc.now) (tokens c.args.path) (path_of c.in-Ok.location) c.in-Ok.ensures.found
