@@ -76,6 +76,7 @@ def cases():
     yield Case(("set", "--pretty", "", "[[]]"), "1", "[\n  []\n]\n")
     yield from own_texts()
     yield from formats()
+    yield from digits()
     yield Case(("delete", "/b"), TEXT, '{\n  "a/b": [1, 2]\n}\n')
     yield Case(("delete", "--compact", "/a~1b/0"), TEXT, '{"b":1.0,"a/b":[2]}\n')
     yield from on_paths()
@@ -133,6 +134,26 @@ def formats():
     yield Case(("get", "--indent", "16", "--default", "[1]", "/b"), "{}", f"[\n{' ' * 16}1\n]\n")
     yield Case(("format",), "{", "", "jptr: standard input: not JSON: EOF while parsing at line 1 column 1\n", 3)
     yield Case(("format", "/dev/null.toml"), "", "", "jptr: format: not on TOML\n", 2)
+
+
+def digits():
+    """Numbers that lose digits, and those that do not."""
+    long = '{"a": [1.10, 3.14159265358979323846]}'
+    message = "jptr: {}: the number{} loses digits: use --lossy\n"
+    yield Case(("get", "/a"), long, "[1.10, 3.14159265358979323846]\n")
+    yield Case(("get", "--sort-keys", "/a"), long, "", message.format("standard input", " at /1"), 3)
+    yield Case(("get", "--sort-keys", "/a/1"), long, "", message.format("standard input", ""), 3)
+    yield Case(("get", "--sort-keys", "/a/0"), long, "1.1\n")
+    yield Case(("get", "--sort-keys", "--lossy", "/a"), long, "[1.1,3.141592653589793]\n")
+    yield Case(("format", "--sort-keys"), long, "", message.format("standard input", " at /a/1"), 3)
+    yield Case(("delete", "--sort-keys", "/a/1"), long, '{"a":[1.1]}\n')
+    yield Case(("paths",), long, "", message.format("standard input", " at /a/1"), 3)
+    yield Case(("paths", "--lossy"), long, "/a/0\t1.1\n/a/1\t3.141592653589793\n")
+    yield Case(("get", "/b", "--default", "1e-400"), long, "", message.format("--default", ""), 3)
+    yield Case(("get", "/b", "--lossy", "--default", "1e-400"), long, "0.0\n")
+    yield Case(("from-paths",), "/a\t1.10\n", '{"a":1.1}\n')
+    yield Case(("from-paths",), "/a\t1\n/b\t[18446744073709551616]\n", "", message.format("standard input: line 2", " at /0"), 3)
+    yield Case(("from-paths", "--lossy"), "/b\t18446744073709551616\n", '{"b":1.8446744073709552e+19}\n')
 
 
 def on_paths():

@@ -12,13 +12,13 @@ _jptr() {
     done
     local words
     case $command in
-        get) words="--toml --raw --pretty --compact --indent --sort-keys --default --lines --strict --help" ;;
-        set | delete) words="--toml --reformat --pretty --compact --indent --sort-keys --in-place --lines --strict --help" ;;
-        paths) words="--toml --all --help" ;;
-        from-paths) words="--pretty --compact --help" ;;
-        patch) words="--check --inverse --reformat --pretty --compact --indent --sort-keys --in-place --lines --strict --help" ;;
-        format) words="--pretty --compact --indent --sort-keys --in-place --lines --strict --help" ;;
-        diff) words="--pretty --compact --help" ;;
+        get) words="--toml --raw --pretty --compact --lossy --indent --sort-keys --default --lines --strict --help" ;;
+        set | delete) words="--toml --reformat --pretty --compact --lossy --indent --sort-keys --in-place --lines --strict --help" ;;
+        paths) words="--toml --all --lossy --help" ;;
+        from-paths) words="--pretty --compact --lossy --help" ;;
+        patch) words="--check --inverse --reformat --pretty --compact --lossy --indent --sort-keys --in-place --lines --strict --help" ;;
+        format) words="--pretty --compact --lossy --indent --sort-keys --in-place --lines --strict --help" ;;
+        diff) words="--pretty --compact --lossy --help" ;;
         tokens) words="--raw --help" ;;
         escape | unescape) words="--help" ;;
         *) words="get set delete paths from-paths patch format diff tokens escape unescape help --help --version" ;;

@@ -81,7 +81,8 @@ fn paths<'a>(alloc: Global) -> Result<Command<'a>, AllocError> {
         )?
         .arg(
             arg!(in alloc; --toml "Takes TOML, as for a file whose name ends in .toml, and prints TOML values"),
-        )
+        )?
+        .arg(lossy(alloc))
 }
 
 /// Returns the command `from-paths`.
@@ -175,6 +176,11 @@ fn reformat<'a>(alloc: Global) -> Result<Arg<'a>, AllocError> {
     )
 }
 
+/// Returns the flag that allows numbers to lose digits.
+fn lossy<'a>(alloc: Global) -> Arg<'a> {
+    arg!(in alloc; --lossy "Takes the nearest double for a number that loses digits")
+}
+
 /// Adds the flags for the layout.
 fn with_layout<'a>(alloc: Global, command: Command<'a>) -> Result<Command<'a>, AllocError> {
     command
@@ -183,7 +189,8 @@ fn with_layout<'a>(alloc: Global, command: Command<'a>) -> Result<Command<'a>, A
                 "compact",
             )?,
         )?
-        .arg(arg!(in alloc; --compact "Prints without white space"))
+        .arg(arg!(in alloc; --compact "Prints without white space"))?
+        .arg(lossy(alloc))
 }
 
 /// Adds the flags for the layout of a text, and for the order of its members.

@@ -1,5 +1,6 @@
 //! The commands.
 
+use crate::digits::{check_bytes, check_text, is_lossy};
 use crate::input::{is_standard, name_of, read_all};
 use crate::inverse::patch_with_inverse;
 use crate::output::{print_line, print_text};
@@ -87,7 +88,7 @@ fn get(rt: &HostRuntime, matches: &ArgMatches<'_>) -> Result<u8, Problem> {
         return toml_file::get(rt, matches, pointer);
     }
     let fallback = match matches.get_str("default") {
-        Some(json) => Some(value_of(alloc, "--default", json)?),
+        Some(json) => Some(default_of(alloc, matches, json)?),
         None => None,
     };
     run_task(rt, matches, Task::Get(pointer, fallback), text)
@@ -172,9 +173,15 @@ fn format_layout(layout: Layout, matches: &ArgMatches<'_>) -> Layout {
 /// Prints the patch document that turns one document into another.
 fn diff(rt: &HostRuntime, matches: &ArgMatches<'_>) -> Result<u8, Problem> {
     let alloc = rt.alloc();
-    let name = argument(matches, "NEW");
-    let old = document_of(rt, argument(matches, "OLD"))?;
-    let new = document_of(rt, name)?;
+    let (before, name) = (argument(matches, "OLD"), argument(matches, "NEW"));
+    let old_bytes = read_all(rt, Some(before))?;
+    let old = document_in(alloc, before, &old_bytes)?;
+    let new_bytes = read_all(rt, Some(name))?;
+    let new = document_in(alloc, name, &new_bytes)?;
+    if !is_lossy(matches) && old_bytes.as_slice() != new_bytes.as_slice() {
+        check_bytes(alloc, name_of(Some(before)), &old_bytes)?;
+        check_bytes(alloc, name_of(Some(name)), &new_bytes)?;
+    }
     match difference_of(alloc, &old, &new, layout_of(matches)) {
         Ok(difference) => {
             print_line(rt, difference.text.as_str())?;
@@ -187,10 +194,15 @@ fn diff(rt: &HostRuntime, matches: &ArgMatches<'_>) -> Result<u8, Problem> {
 /// Reads a document from a file or from standard input.
 fn document_of(rt: &HostRuntime, file: &str) -> Result<Value, Problem> {
     let bytes = read_all(rt, Some(file))?;
-    match Value::from_slice(rt.alloc(), &bytes) {
+    document_in(rt.alloc(), file, &bytes)
+}
+
+/// Reads the document that the bytes of a file are.
+fn document_in(alloc: Global, file: &str, bytes: &[u8]) -> Result<Value, Problem> {
+    match Value::from_slice(alloc, bytes) {
         Ok(value) => Ok(value),
         Err(error) if error.is_memory() => Err(Problem::Memory),
-        Err(_) => Err(Problem::of_bytes(rt.alloc(), name_of(Some(file)), &bytes)),
+        Err(_) => Err(Problem::of_bytes(alloc, name_of(Some(file)), bytes)),
     }
 }
 
@@ -260,6 +272,15 @@ fn raw_value_of(alloc: Global, name: &str, text: &str) -> Result<RawValue, Probl
         Err(InTextError::Memory(_)) => Err(Problem::Memory),
         Err(_) => Err(Problem::of_bytes(alloc, name, text.as_bytes())),
     }
+}
+
+/// Parses the value of `--default`, whose numbers are printed anew.
+fn default_of(alloc: Global, matches: &ArgMatches<'_>, text: &str) -> Result<Value, Problem> {
+    let value = value_of(alloc, "--default", text)?;
+    if !is_lossy(matches) {
+        check_text(alloc, "--default", text)?;
+    }
+    Ok(value)
 }
 
 /// Parses an argument as a JSON text.

@@ -1,5 +1,6 @@
 //! The flag `--inverse`: a patch, and a file with the patch that takes it back.
 
+use crate::digits::check_text;
 use crate::in_place::{open_file, replace_text};
 use crate::input::{is_standard, name_of, read_all};
 use crate::output::print_text;
@@ -125,6 +126,9 @@ fn undo_text(alloc: Global, patching: &Patching<'_>, bytes: &[u8]) -> Result<Str
     };
     match inverse_of(alloc, text, &patching.patch, patching.style.layout) {
         Ok(inverse) => {
+            if !patching.style.is_lossy {
+                check_text(alloc, patching.name, text)?;
+            }
             let mut text = inverse.text;
             text.push('\n')?;
             Ok(text)

@@ -6,6 +6,7 @@
 
 mod arguments;
 mod commands;
+mod digits;
 mod in_place;
 mod input;
 mod inverse;

@@ -1,14 +1,16 @@
 //! Commands on a document as lines: its nodes, and the document that lines build.
 
+use crate::digits::{check_bytes, check_lines, is_lossy};
 use crate::input::{name_of, open};
-use crate::output::Output;
+use crate::output::print_text;
 use crate::problem::Problem;
 use crate::style::layout_of;
 use crate::toml_file::{self, is_toml};
 use clap::ArgMatches;
 use jptr_tasks::failure::Failure;
-use jptr_tasks::paths::{run_build, run_list};
+use jptr_tasks::paths::{built_text, listed_text};
 use jsonptr_paths::listing::Listed;
+use std::io::{ErrorKind, Read};
 
 /// Prints a line for each leaf of a document, or for each node.
 pub fn paths(rt: &HostRuntime, matches: &ArgMatches<'_>) -> Result<u8, Problem> {
@@ -22,13 +24,15 @@ pub fn paths(rt: &HostRuntime, matches: &ArgMatches<'_>) -> Result<u8, Problem> 
     if is_toml(matches) {
         return toml_file::paths(rt, file, which);
     }
-    let mut input = open(rt, file)?;
-    let mut output = Output::new(rt);
-    let mut bytes = Vec::new(alloc);
-    match run_list(alloc, which, &mut input, &mut bytes, &mut output) {
-        Ok(()) => Ok(0),
-        Err(Failure::Read) => Err(input.read_problem(alloc, name_of(file))),
-        Err(Failure::Write) => Err(output.problem(alloc)),
+    let bytes = input_of(rt, file)?;
+    match listed_text(alloc, which, &bytes) {
+        Ok(lines) => {
+            if !is_lossy(matches) {
+                check_bytes(alloc, name_of(file), &bytes)?;
+            }
+            print_text(rt, lines.as_str())?;
+            Ok(0)
+        }
         Err(Failure::NotJson) => Err(Problem::of_bytes(alloc, name_of(file), &bytes)),
         Err(failure) => Err(Problem::of_failure(alloc, name_of(file), "", failure)),
     }
@@ -38,12 +42,26 @@ pub fn paths(rt: &HostRuntime, matches: &ArgMatches<'_>) -> Result<u8, Problem> 
 pub fn from_paths(rt: &HostRuntime, matches: &ArgMatches<'_>) -> Result<u8, Problem> {
     let alloc = rt.alloc();
     let file = matches.get_str("FILE");
-    let mut input = open(rt, file)?;
-    let mut output = Output::new(rt);
-    match run_build(alloc, layout_of(matches), &mut input, &mut output) {
-        Ok(()) => Ok(0),
-        Err(Failure::Read) => Err(input.read_problem(alloc, name_of(file))),
-        Err(Failure::Write) => Err(output.problem(alloc)),
+    let bytes = input_of(rt, file)?;
+    match built_text(alloc, layout_of(matches), &bytes) {
+        Ok(text) => {
+            if !is_lossy(matches) {
+                check_lines(alloc, name_of(file), &bytes)?;
+            }
+            print_text(rt, text.as_str())?;
+            Ok(0)
+        }
         Err(failure) => Err(Problem::of_failure(alloc, name_of(file), "", failure)),
+    }
+}
+
+/// Reads all of the input.
+fn input_of(rt: &HostRuntime, file: Option<&str>) -> Result<Vec<u8>, Problem> {
+    let mut input = open(rt, file)?;
+    let mut bytes = Vec::new(rt.alloc());
+    match input.read_to_end(&mut bytes) {
+        Ok(_) => Ok(bytes),
+        Err(error) if error.kind() == ErrorKind::OutOfMemory => Err(Problem::Memory),
+        Err(_) => Err(input.read_problem(rt.alloc(), name_of(file))),
     }
 }

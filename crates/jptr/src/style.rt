@@ -1,5 +1,6 @@
 //! How results are printed.
 
+use crate::digits::is_lossy;
 use crate::problem::{Problem, USAGE};
 use clap::ArgMatches;
 use jptr_tasks::failure::Failure;
@@ -19,6 +20,8 @@ pub struct Style {
     pub indent: Option<&'static str>,
     /// Whether the document is printed anew if it cannot be edited in place.
     pub reformats: bool,
+    /// Whether numbers may lose digits.
+    pub is_lossy: bool,
 }
 
 /// Returns how results are printed, except for the indentation.
@@ -60,6 +63,7 @@ pub fn style_of(alloc: Global, matches: &ArgMatches<'_>) -> Result<Style, Proble
         layout: layout_of(matches),
         indent,
         reformats: matches.get_flag("reformat"),
+        is_lossy: is_lossy(matches),
     })
 }
 

@@ -1,5 +1,6 @@
 //! Running a task: on one document, on each line, or on a file in place.
 
+use crate::digits::{check_sorted, is_checked};
 use crate::in_place::{open_file, replace_text};
 use crate::input::{is_standard, name_of, open, problem, read_all};
 use crate::output::{Output, print_text};
@@ -69,7 +70,7 @@ fn on_document(
     pointer: &str,
 ) -> Result<u8, Problem> {
     let alloc = rt.alloc();
-    if style.indent.is_some() {
+    if style.indent.is_some() || is_checked(style) {
         return print_indented(rt, file, task, style, pointer);
     }
     let mut input = open(rt, file)?;
@@ -93,7 +94,8 @@ fn on_document(
     }
 }
 
-/// Runs the task on one document, and prints the result with the indentation of the style.
+/// Runs the task on one document, and prints the result with the indentation of the style, or with its
+/// members sorted.
 fn print_indented(
     rt: &HostRuntime,
     file: Option<&str>,
@@ -103,6 +105,7 @@ fn print_indented(
 ) -> Result<u8, Problem> {
     let alloc = rt.alloc();
     let bytes = read_all(rt, file)?;
+    check_sorted(alloc, name_of(file), task, style, &bytes)?;
     match edited(alloc, task, style, &bytes) {
         Ok(new) => {
             print_text(rt, new.as_str())?;
@@ -145,6 +148,7 @@ fn in_place(
         return Err(Problem::new(alloc, USAGE, "--in-place", "needs a file"));
     }
     let (target, bytes) = open_file(rt, path)?;
+    check_sorted(alloc, path, task, style, &bytes)?;
     match edited(alloc, task, style, &bytes) {
         Ok(new) => {
             if new.as_bytes() != bytes.as_slice() {

@@ -1,0 +1,6 @@
+-- Digits, and the numbers that they write.
+mod DigitLemmas
+mod TenLemmas
+mod ValueLemmas
+mod KeptLemmas
+mod FindLemmas

@@ -1,0 +1,13 @@
+-- Why a text is not read with all its digits.
+use Rattle.std.specs.Prelude.{◌≡◌, None, ⊤}
+use Rattle.serde_json.specs.Read.{read}
+use Rattle.jsonptr_grammar.specs.Text.{Text}
+use Rattle.jsonptr_numbers.specs.Lost.{Loses}
+use Rattle.jsonptr_numbers.specs.declared.exact.ExactError.{ExactError}
+use Rattle.jsonptr_numbers.specs.declared.exact.ExactError.TheVariants.{NotJson, Lost, Memory}
+
+-- `IsExactError text e`: `e` is why `text` is not read, if it is not for memory
+abbrev pub IsExactError : Text → ExactError → Type 0
+IsExactError text NotJson = read text ≡ None
+IsExactError text (Lost l) = Loses text l
+IsExactError text (Memory e) = ⊤

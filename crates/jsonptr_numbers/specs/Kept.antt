@@ -1,0 +1,45 @@
+-- Numbers whose digits are kept.
+use Rattle.std.specs.Prelude.{◌≡◌, ℕ, ◌*◌, ◌^◌, ◌<◌, ◌≤◌, ◌⊎◌, List, Some, None, true}
+use Rattle.std.specs.Str.Parse.{digits_value}
+use Rattle.std.specs.Float.{Float}
+use Rattle.fast_float.specs.Text.{Parts, digits_of, with_sign, IsInteger}
+use Rattle.ryu.specs.Plain.{IsPlusNumber}
+use Rattle.serde_json.specs.Data.{Num, unsigned, negative, float}
+use Rattle.serde_json.specs.Read.{number_of}
+use Rattle.jsonptr_numbers.specs.Decimal.{parts_of, HaveSameValue}
+
+-- `IsShort p`: `p` has at most 17 significant digits, and an exponent of 64 bits
+pub record IsShort (p : Parts) : Type 0 where
+  pub significant : ℕ
+  pub zeros : ℕ
+  pub digits : digits_of p ≡ significant * 10 ^ zeros
+  pub few : significant < 10 ^ 17
+  pub exponent : digits_value 10 p.exponent < 2 ^ 64
+
+-- `HasHugeExponent p`: the exponent of `p` has more than 64 bits
+abbrev pub HasHugeExponent : Parts → Type 0
+HasHugeExponent p = 2 ^ 64 ≤ digits_value 10 p.exponent
+
+-- `IsFloatText x s`: `s` is a text in the form in which `serde_json` prints floats, and it is read as `x`
+pub record IsFloatText (x : Float) (s : List ℕ) : Type 0 where
+  pub form : IsPlusNumber 16 4 s
+  pub reads : number_of s ≡ Some (float x)
+
+-- `Keeps raw n`: the number `n`, printed, has the decimal value of `raw`: a whole number has the digits of `raw`, which has no
+-- point and no exponent; a float is printed as a text of this value, with at most 17 significant digits
+abbrev pub Keeps : List ℕ → Num → Type 0
+Keeps raw (unsigned n) = IsInteger (parts_of raw) × (n ≡ digits_of (parts_of raw))
+Keeps raw (negative z) = IsInteger (parts_of raw) × (z ≡ with_sign true (digits_of (parts_of raw)))
+Keeps raw (float x) = (s : List ℕ) × IsFloatText x s × IsShort (parts_of s) × HaveSameValue raw s
+
+-- `IsKept raw`: `raw` is read as a number that keeps its decimal value
+abbrev pub IsKept : List ℕ → Type 0
+IsKept raw = (n : Num) × (number_of raw ≡ Some n) × Keeps raw n
+
+-- `IsLost raw`: `raw` is out of range, or it is read as a float that is printed with another decimal value. A number whose
+-- exponent has more than 64 bits counts as lost; that no printed text is longer than `IsShort` says is not proved of the printer
+abbrev pub IsLost : List ℕ → Type 0
+IsLost raw =
+    (number_of raw ≡ None)
+    ⊎ ((x : Float) × (s : List ℕ) × (number_of raw ≡ Some (float x)) × IsFloatText x s
+    × ((¬ HaveSameValue raw s) ⊎ (HasHugeExponent (parts_of raw) ⊎ (¬ IsShort (parts_of s)))))

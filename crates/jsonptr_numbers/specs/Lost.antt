@@ -1,0 +1,19 @@
+-- Numbers that a text loses, and texts that are read with all their digits.
+use Rattle.std.specs.Prelude.{◌≡◌, List, IfSome, Some}
+use Rattle.json.specs.Lex.{tokens}
+use Rattle.serde_json.specs.Data.{Data}
+use Rattle.serde_json.specs.Read.{read}
+use Rattle.jsonptr_grammar.specs.Text.{Text}
+use Rattle.jsonptr.specs.Json.{FindsValue}
+use Rattle.jsonptr_numbers.specs.Digits.{FirstLost}
+use Rattle.jsonptr_numbers.specs.declared.lost.Lost.{Lost}
+
+-- `Identifies text raw p`: in `text`, the tokens `p` identify what the number `raw` is read as
+abbrev pub Identifies : Text → Text → List Text → Type 0
+Identifies text raw p = (d : Data) × (whole : Data) × (read raw ≡ Some d) × (read text ≡ Some whole) × FindsValue whole p d
+
+-- `Loses text lost`: `lost` is the first number of `text` that is lost. If it has a pointer, this identifies the number
+pub record Loses (text : Text) (lost : Lost) : Type 0 where
+  pub raw : Text
+  pub first : FirstLost raw (tokens text)
+  pub identified : IfSome lost.pointer (Identifies text raw)

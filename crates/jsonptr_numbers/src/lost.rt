@@ -1,0 +1,29 @@
+//! A number whose digits are lost.
+
+use jsonptr::PointerBuf;
+use std::fmt;
+
+/// A number of a JSON text whose digits are lost.
+///
+/// # Examples
+///
+/// ```rust
+/// let lost = find_lost(alloc, "[1.10, 1e-400]")?.ok_or("a number")?;
+/// assert_eq!(rt; format!(in alloc; "{lost}")?.as_str(), "the number at /1 loses digits");
+/// ```
+#[derive(Debug, Drop)]
+pub struct Lost {
+    /// Resolves, in the text, to what the number is read as. `None` if that is not so, as for a member
+    /// whose key comes again.
+    pub pointer: Option<PointerBuf>,
+}
+
+impl fmt::Display for Lost {
+    fn fmt<W: fmt::Write>(&self, f: &mut fmt::Formatter<W>) -> fmt::Result {
+        match &self.pointer {
+            Some(pointer) if pointer.as_ptr().is_root() => f.write_str("the number loses digits"),
+            Some(pointer) => write!(f, "the number at {pointer} loses digits"),
+            None => f.write_str("a number loses digits"),
+        }
+    }
+}
