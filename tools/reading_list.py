@@ -45,6 +45,7 @@ OTHERS = {
         ("jsonptr_paths/src/toml_listing.rt", ["list_toml"]),
         ("jsonptr_paths/src/reading.rt", ["build"]),
     ],
+    "layouts": [("jsonptr_relayout/src/layout.rt", ["relayout", "relayout_with", "relayout_text"])],
     "TOML text": [("jsonptr_in_toml/src/change.rt", ["find_in_toml", "assign_in_toml", "delete_in_toml"])],
     "edits in TOML text": [
         ("jsonptr_edit_in_toml/src/assign.rt", ["assign_in_toml_text"]),

@@ -53,6 +53,8 @@ ROWS = [
     Row("`get`, 1 KB", records(10), ["get", "/9/name"], [".[9].name"]),
     Row("`get`, 1 MB", records(10_000), ["get", "/9999/name"], [".[9999].name"]),
     Row("`get`, 100 MB", records(1_000_000), ["get", "/999999/name"], [".[999999].name"]),
+    Row("`get ''`, all of 10 MB", records(100_000), ["get", ""], ["."]),
+    Row("`format --compact`, 10 MB", records(100_000), ["format", "--compact"], ["."]),
     Row("`paths`, 10 MB", records(100_000), ["paths"], ["tostream | select(length == 2)"]),
     Row("`get --lines`, 1,000,000 lines", lines, ["get", "--lines", "/user/age"], [".user.age"]),
     Row("`set --lines`, 1,000,000 lines", lines, ["set", "--lines", "/user/age", "0"], [".user.age = 0"]),

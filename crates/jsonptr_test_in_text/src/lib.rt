@@ -1,5 +1,5 @@
-//! Tests of resolving pointers and of edits in JSON text, and of edits in TOML text, over public items alone: each call beside
-//! the one on a document.
+//! Tests of resolving pointers and of edits in JSON text, of layouts, and of edits in TOML text, over public items alone: each
+//! call beside the one on a document.
 #![tactic(auto)]
 
 #[cfg(test)]
@@ -10,6 +10,8 @@ mod damage;
 mod edits;
 #[cfg(test)]
 mod errors;
+#[cfg(test)]
+mod relayouts;
 #[cfg(test)]
 mod reused;
 #[cfg(test)]

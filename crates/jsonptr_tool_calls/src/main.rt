@@ -10,6 +10,7 @@
 //! | `change` | a case of `tools/edits_in_text.py`: an edit, a text, a pointer, and an argument |
 //! | `toml` | a case of `tools/edits_in_toml.py`: an edit, a text, a pointer, and a value |
 //! | `patch` | a case of `tools/patches.py`: a document and a patch document |
+//! | `relayout` | a case of `tools/relayouts.py`: the old text and the new one |
 //! | another | a request of `docs/COMPARING.md` |
 //!
 //! With five arguments it makes one edit of the text that is its input again and again, for
@@ -27,6 +28,7 @@ mod out;
 mod patches;
 mod pointers;
 mod programs;
+mod relayouts;
 mod requests;
 mod rounds;
 mod sessions;
@@ -95,6 +97,7 @@ fn answer(out: &mut Out<'_>, buffers: &mut Buffers, scratch: &mut Scratch, mut w
         "change" => text_edits::compare(out, buffers, words),
         "toml" => toml_edits::request(out, words),
         "patch" => patches::round(out, words),
+        "relayout" => relayouts::request(out, words),
         request => requests::run(out, request, words),
     }
     out.end_request()

@@ -25,6 +25,7 @@
 //! - [`program`]: the program, run in memory.
 //! - [`tabled`]: a look-up by a pointer with a table.
 //! - [`own_text`]: the text of a value as it is written, and where it is.
+//! - [`relayouts`]: a document that another program changed, in its old layout.
 //! - [`overlay`]: a document type of one's own.
 //! - [`edits`]: edits that undo each other.
 #![tactic(auto)]
@@ -38,6 +39,7 @@ pub mod edits;
 pub mod edits_in_place;
 pub mod edits_in_text;
 pub mod edits_in_toml;
+pub mod exact_texts;
 pub mod handle_values;
 pub mod handles;
 pub mod in_text;
@@ -51,6 +53,7 @@ pub mod patched_texts;
 pub mod patches;
 pub mod program;
 pub mod references;
+pub mod relayouts;
 pub mod sessions;
 pub mod settings;
 pub mod streams;

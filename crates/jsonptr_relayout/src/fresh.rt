@@ -1,0 +1,168 @@
+//! Laying out a value that the old document does not have.
+
+use crate::gaps::{Gaps, key_of};
+use crate::given::Piece;
+use crate::lay::{At, Layer, closing, opening};
+use crate::tree::{Child, Kind, Node, slice};
+use std::alloc::AllocError;
+
+/// How many members of a model are looked at for one with a key.
+const MOST_MEMBERS: usize = 64;
+
+impl<'t> Layer<'t> {
+    /// Appends a value that the old document does not have at this location. A model is a value of the
+    /// old document that shows how such values are laid out.
+    #[cycle(fresh)]
+    pub fn fresh(
+        &mut self,
+        new: Piece<'_>,
+        model: Option<&Node>,
+        at: At<'_>,
+        depth: usize,
+    ) -> Result<(), AllocError> {
+        let new = match self.given.get(&new.node.hash) {
+            Some(given) => *given,
+            None => new,
+        };
+        if depth == 0 {
+            return Ok(());
+        }
+        if new.node.children.is_empty() {
+            return self.push_leaf(new);
+        }
+        let at = at.like(self.old, model);
+        if at.is_spread {
+            self.fresh_lines(new, model, at, depth - 1)
+        } else {
+            self.fresh_line(new, model, at, depth - 1)
+        }
+    }
+
+    /// Appends an array or an object with each child on a line of its own.
+    #[cycle(fresh)]
+    fn fresh_lines(
+        &mut self,
+        new: Piece<'_>,
+        model: Option<&Node>,
+        at: At<'_>,
+        depth: usize,
+    ) -> Result<(), AllocError> {
+        let mut indent = String::from_str(self.alloc, at.indent)?;
+        indent.push_str(at.style.unit)?;
+        let inner = At {
+            indent: indent.as_str(),
+            ..at
+        };
+        let mut is_first = true;
+        self.out.push(opening(new.node.kind))?;
+        for child in &new.node.children {
+            if !is_first {
+                self.out.push(',')?;
+            }
+            self.out.push_str(at.style.newline)?;
+            self.out.push_str(inner.indent)?;
+            self.fresh_child(new.text, child, model, inner, depth)?;
+            is_first = false;
+        }
+        self.out.push_str(at.style.newline)?;
+        self.out.push_str(at.indent)?;
+        self.out.push(closing(new.node.kind))
+    }
+
+    /// Appends an array or an object on one line.
+    #[cycle(fresh)]
+    fn fresh_line(
+        &mut self,
+        new: Piece<'_>,
+        model: Option<&Node>,
+        at: At<'_>,
+        depth: usize,
+    ) -> Result<(), AllocError> {
+        let pad = match new.node.kind {
+            Kind::Object => at.style.brace,
+            _ => at.style.bracket,
+        };
+        let mut is_first = true;
+        self.out.push(opening(new.node.kind))?;
+        self.out.push_str(pad)?;
+        for child in &new.node.children {
+            if !is_first {
+                self.out.push(',')?;
+                self.out.push_str(at.style.comma)?;
+            }
+            self.fresh_child(new.text, child, model, at, depth)?;
+            is_first = false;
+        }
+        self.out.push_str(pad)?;
+        self.out.push(closing(new.node.kind))
+    }
+
+    /// Appends a child of a new value: its key, if it is a member, and its value.
+    #[cycle(fresh)]
+    fn fresh_child(
+        &mut self,
+        text: &str,
+        child: &Child,
+        model: Option<&Node>,
+        at: At<'_>,
+        depth: usize,
+    ) -> Result<(), AllocError> {
+        self.push_key(text, child, at.style.colon)?;
+        let node = &child.node;
+        self.fresh(
+            Piece { text, node },
+            child_of_model(model, child),
+            at,
+            depth,
+        )
+    }
+
+    /// Appends a value without children.
+    fn push_leaf(&mut self, new: Piece<'_>) -> Result<(), AllocError> {
+        match new.node.kind {
+            Kind::Scalar => self.out.push_str(slice(new.text, new.node.span)),
+            Kind::Array => self.out.push_str("[]"),
+            Kind::Object => self.out.push_str("{}"),
+        }
+    }
+
+    /// Appends the key of a member and what is after it, or nothing for an element.
+    pub fn push_key(&mut self, text: &str, child: &Child, colon: &str) -> Result<(), AllocError> {
+        let key = key_of(text, child);
+        if key.is_empty() {
+            return Ok(());
+        }
+        self.out.push_str(key)?;
+        self.out.push_str(colon)
+    }
+}
+
+impl<'a> At<'a> {
+    /// Returns the location with the layout of a model.
+    fn like(self, text: &'a str, model: Option<&Node>) -> At<'a> {
+        let Some(node) = model else {
+            return self;
+        };
+        let Some(gaps) = Gaps::of(text, node) else {
+            return self;
+        };
+        At {
+            style: self.style.like(text, node),
+            is_spread: self.is_spread && gaps.open.contains('\n'),
+            ..self
+        }
+    }
+}
+
+/// Returns the child of a model that shows how the child of a new value is laid out: the member with
+/// its key, or the first element. Returns `None` if there is none of its kind with children.
+fn child_of_model<'m>(model: Option<&'m Node>, child: &Child) -> Option<&'m Node> {
+    let members = model?.children.iter().take(MOST_MEMBERS);
+    for member in members {
+        let node = &member.node;
+        if member.key == child.key && node.kind == child.node.kind && !node.children.is_empty() {
+            return Some(node);
+        }
+    }
+    None
+}

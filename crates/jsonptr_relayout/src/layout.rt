@@ -1,0 +1,252 @@
+//! A new document in the layout of an old text.
+ghost use Rattle.std.specs.Prelude.{◌≡◌, Some, IfOk, IfErr, IfSome, option_map, string_bytes};
+ghost use Rattle.serde_json.specs.Data.{Data};
+ghost use Rattle.serde_json.specs.Read.{read};
+ghost use Rattle.serde_json.specs.View.{view};
+ghost use Rattle.jsonptr_tree.specs.Json.{nodes};
+ghost use Rattle.jsonptr_relayout.specs.Relaying.{text_of, ReadsAs, IsKept, FailsToRelay, FailsToRelayText};
+
+use crate::given::{Piece, given_values};
+use crate::lay::{At, Layer};
+use crate::relaid::{Relaid, RelayoutError};
+use crate::same::is_same;
+use crate::style::Style;
+use crate::tree::{Node, read_tree};
+use jsonptr_json_search::outcome::ReadError;
+use jsonptr_value::{MAX_DEPTH, nests_within};
+use serde_json::Value;
+use std::alloc::{AllocError, Global};
+
+/// Returns the text of the document `new` in the layout of the text `old`.
+///
+/// Numbers, strings and the order of members are those of `old` where a value is the same, and those of
+/// a printed value where it is new. Two floats are the same if they have the same bits.
+///
+/// Takes time in proportion to both documents, and a logarithm of the longest array and object.
+///
+/// # Errors
+///
+/// - [`RelayoutError::NotJson`] if `serde_json` does not read the old text.
+/// - [`RelayoutError::TooDeep`] if the new document nests deeper than 127.
+/// - [`RelayoutError::Memory`] if an allocation fails.
+///
+/// # Examples
+///
+/// ```rust
+/// let new = json!(in alloc; {"a": [1, 2, 3]})?;
+/// let relaid = relayout(alloc, r#"{ "a": [1.0, 2] }"#, &new)?;
+/// assert_eq!(rt; relaid.as_str(), r#"{ "a": [1, 2, 3] }"#);
+/// ```
+pub fn relayout(alloc: Global, old: &str, new: &Value) -> Result<Relaid, RelayoutError>
+    ensures reads { IfOk result (λ r. ReadsAs (text_of r) (nodes (view new.now))) }
+    ensures same { ReadsAs old.now (nodes (view new.now)) → IfOk result (IsKept old.now) }
+    ensures refused { IfErr result (FailsToRelay old.now (view new.now)) }
+{
+    relayout_with(alloc, old, new, &[])
+}
+
+/// Returns the text of the document `new` in the layout of the text `old`, as [`relayout`] does. A value
+/// that is new and the same as a value in one of the texts `given` keeps its text: its numbers, its
+/// strings and the order of its members.
+///
+/// A text that is not JSON counts for nothing.
+///
+/// # Errors
+///
+/// Those of [`relayout`].
+///
+/// # Examples
+///
+/// ```rust
+/// let new = json!(in alloc; {"price": 1.1})?;
+/// let relaid = relayout_with(alloc, "{}", &new, &["1.10"])?;
+/// assert_eq!(rt; relaid.as_str(), r#"{"price": 1.10}"#);
+/// ```
+pub fn relayout_with(
+    alloc: Global,
+    old: &str,
+    new: &Value,
+    given: &[&str],
+) -> Result<Relaid, RelayoutError>
+    ensures reads { IfOk result (λ r. ReadsAs (text_of r) (nodes (view new.now))) }
+    ensures same { ReadsAs old.now (nodes (view new.now)) → IfOk result (IsKept old.now) }
+    ensures refused { IfErr result (FailsToRelay old.now (view new.now)) }
+{
+    let Some(document) = read_document(alloc, old)? else {
+        return Err(RelayoutError::NotJson);
+    };
+    if is_same(alloc, &document, new)? {
+        return Ok(Relaid::Kept(String::from_str(alloc, old)?));
+    }
+    if !nests_within(new, MAX_DEPTH) {
+        return Err(RelayoutError::TooDeep);
+    }
+    let printed = new.to_string(alloc)?;
+    match laid_out(alloc, old, printed.as_str(), given, new)? {
+        Some(text) => Ok(Relaid::Kept(text)),
+        None => Ok(Relaid::Printed(printed)),
+    }
+}
+
+/// Returns the document of the text `new` in the layout of the text `old`, as [`relayout`] does. A value
+/// that is new keeps its text, but for the white space around its tokens.
+///
+/// # Errors
+///
+/// - [`RelayoutError::NotJson`] if `serde_json` does not read the old text, and
+///   [`RelayoutError::NewNotJson`] if it reads that and not the new one.
+/// - [`RelayoutError::Memory`] if an allocation fails.
+///
+/// # Examples
+///
+/// ```rust
+/// let relaid = relayout_text(alloc, "[1.0, 2]", "[\n  1,\n  2,\n  3.10\n]\n")?;
+/// assert_eq!(rt; relaid.as_str(), "[1, 2, 3.10]");
+/// ```
+pub fn relayout_text(alloc: Global, old: &str, new: &str) -> Result<Relaid, RelayoutError>
+    ensures reads { IfOk result (λ r. (d : Data) × (read new.now ≡ Some d) × ReadsAs (text_of r) (nodes d)) }
+    ensures same { (d : Data) → read new.now ≡ Some d → ReadsAs old.now (nodes d) → IfOk result (IsKept old.now) }
+    ensures refused { IfErr result (FailsToRelayText old.now new.now) }
+{
+    let Some(document) = read_document(alloc, old)? else {
+        return Err(RelayoutError::NotJson);
+    };
+    let Some(value) = read_document(alloc, new)? else {
+        return Err(RelayoutError::NewNotJson);
+    };
+    if is_same(alloc, &document, &value)? {
+        return Ok(Relaid::Kept(String::from_str(alloc, old)?));
+    }
+    match laid_out(alloc, old, new, &[], &value)? {
+        Some(text) => Ok(Relaid::Kept(text)),
+        None => Ok(Relaid::Printed(String::from_str(alloc, new)?)),
+    }
+}
+
+/// Reads the document that the text is, or returns `None` if `serde_json` does not read it.
+///
+/// # Errors
+///
+/// [`AllocError`] if an allocation fails.
+fn read_document(alloc: Global, text: &str) -> Result<Option<Value>, AllocError>
+    ensures { IfOk result (λ o. option_map view o ≡ read text.now) }
+{
+    match Value::from_str(alloc, text) {
+        Ok(value) => Ok(Some(value)),
+        Err(error) if error.is_memory() => Err(AllocError),
+        Err(_) => Ok(None),
+    }
+}
+
+/// Returns the text of the document `new`, which `text` is a text of, in the layout of the text `old`.
+/// Returns `None` if the text that was made is not one.
+///
+/// # Errors
+///
+/// [`AllocError`] if an allocation fails.
+fn laid_out(
+    alloc: Global,
+    old: &str,
+    text: &str,
+    given: &[&str],
+    new: &Value,
+) -> Result<Option<String>, AllocError>
+    ensures { IfOk result (λ o. IfSome o (λ s. ReadsAs (string_bytes s) (nodes (view new.now)))) }
+{
+    let Some(candidate) = candidate(alloc, old, text, given)? else {
+        return Ok(None);
+    };
+    match read_document(alloc, candidate.as_str())? {
+        Some(document) => if is_same(alloc, &document, new)? {
+            Ok(Some(candidate))
+        } else {
+            Ok(None)
+        },
+        None => Ok(None),
+    }
+}
+
+/// Makes a text of the document of the text `new` in the layout of the text `old`. Whether it is one
+/// has to be seen by reading it.
+///
+/// # Errors
+///
+/// [`AllocError`] if an allocation fails.
+fn candidate(
+    alloc: Global,
+    old: &str,
+    new: &str,
+    given: &[&str],
+) -> Result<Option<String>, AllocError> {
+    let Some(from) = tree_of(alloc, old)? else {
+        return Ok(None);
+    };
+    let Some(to) = tree_of(alloc, new)? else {
+        return Ok(None);
+    };
+    let given_trees = trees_of(alloc, given)?;
+    let trees = Trees {
+        from,
+        to,
+        given: given_trees,
+    };
+    Ok(Some(relaid_text(alloc, old, new, given, &trees)?))
+}
+
+/// The trees of texts.
+#[derive(Drop)]
+struct Trees {
+    /// Of the old text.
+    from: Node,
+    /// Of the new text.
+    to: Node,
+    /// Of the given texts, where they are JSON.
+    given: Vec<Option<Node>>,
+}
+
+/// Makes the text: what is around the old document, and the new document.
+fn relaid_text<'t>(
+    alloc: Global,
+    old: &'t str,
+    new: &'t str,
+    given: &'t [&'t str],
+    trees: &'t Trees,
+) -> Result<String, AllocError> {
+    let span = trees.from.span;
+    let mut layer = Layer {
+        alloc,
+        old,
+        given: given_values(alloc, given, &trees.given)?,
+        out: String::from_str(alloc, old.get(..span.from).unwrap_or(""))?,
+    };
+    let at = At {
+        indent: "",
+        style: Style::of(old),
+        is_spread: old.trim_end().contains('\n'),
+    };
+    let to = Piece {
+        text: new,
+        node: &trees.to,
+    };
+    layer.lay(&trees.from, to, at, MAX_DEPTH + 1)?;
+    layer.out.push_str(old.get(span.to..).unwrap_or(""))?;
+    Ok(layer.out)
+}
+
+/// Reads the text, or returns `None` if it is not JSON.
+fn tree_of(alloc: Global, text: &str) -> Result<Option<Node>, AllocError> {
+    match read_tree(alloc, text) {
+        Ok(node) => Ok(Some(node)),
+        Err(ReadError::NotJson) => Ok(None),
+        Err(ReadError::Memory) => Err(AllocError),
+    }
+}
+
+/// Reads each of the texts.
+fn trees_of(alloc: Global, texts: &[&str]) -> Result<Vec<Option<Node>>, AllocError> {
+    let mut trees = Vec::new(alloc);
+    for text in texts {
+        trees.push(tree_of(alloc, text)?)?;
+    }
+    Ok(trees)
+}

@@ -1,0 +1,63 @@
+//! What laying a document out returns.
+ghost use Rattle.std.specs.Prelude.{◌≡◌, string_bytes};
+ghost use Rattle.jsonptr_relayout.specs.Relaying.{text_of};
+ghost use Rattle.jsonptr_relayout.specs.declared.relaid.RelayoutError.TheVariants.{Memory};
+
+use std::alloc::AllocError;
+use thiserror::Error;
+
+/// The text of a document.
+#[derive(Debug, Drop)]
+pub enum Relaid {
+    /// In the layout of the old text.
+    Kept(String),
+    /// Without it, since no text in that layout was found.
+    Printed(String),
+}
+
+impl Relaid {
+    /// Returns the text.
+    pub fn as_str(&self) -> &str
+        ensures { result.now ≡ text_of self.now }
+    {
+        match self {
+            Relaid::Kept(text) => text.as_str(),
+            Relaid::Printed(text) => text.as_str(),
+        }
+    }
+
+    /// Returns the text, without copying it.
+    pub fn into_string(self) -> String
+        ensures { string_bytes result ≡ text_of self }
+    {
+        match self {
+            Relaid::Kept(text) => text,
+            Relaid::Printed(text) => text,
+        }
+    }
+}
+
+/// Why a document is not laid out.
+#[derive(Debug, Drop, Error)]
+pub enum RelayoutError {
+    /// `serde_json` does not read the old text.
+    #[error("old text is not JSON")]
+    NotJson,
+    /// `serde_json` does not read the new text.
+    #[error("new text is not JSON")]
+    NewNotJson,
+    /// The new document nests deeper than 127, so that its text could not be read.
+    #[error("document would nest deeper than 127")]
+    TooDeep,
+    /// An allocation failed.
+    #[error("out of memory")]
+    Memory(AllocError),
+}
+
+impl From<AllocError> for RelayoutError {
+    ghost from_gives = { λ error fault. fault ≡ Memory error };
+
+    fn from(error: AllocError) -> RelayoutError {
+        RelayoutError::Memory(error)
+    }
+}

@@ -1,0 +1,194 @@
+//! Where each value of a JSON text is, and what it is.
+ghost use Rattle.std.specs.Prelude.{◌<◌, ◌≤◌, length, OnOk};
+
+use crate::hash;
+use json::{Reader, Scratch, Token};
+use jsonptr_json_edits::locate::{Span, trimmed_end};
+use jsonptr_json_search::outcome::ReadError;
+use jsonptr_value::MAX_DEPTH;
+use std::alloc::Global;
+
+/// The kind of a value.
+#[derive(Clone, Copy, Debug, Drop, PartialEq, Eq)]
+pub enum Kind {
+    /// Neither an array nor an object.
+    Scalar,
+    /// An array.
+    Array,
+    /// An object.
+    Object,
+}
+
+/// A value of a text.
+#[cycle(tree)]
+#[derive(Debug, Drop)]
+pub struct Node {
+    /// Where the value is.
+    pub span: Span,
+    /// Its kind.
+    pub kind: Kind,
+    /// Its hash.
+    pub hash: u64,
+    /// Its elements or members, in the order of the text.
+    pub children: Vec<Child>,
+}
+
+/// An element or a member.
+#[cycle(tree)]
+#[derive(Debug, Drop)]
+pub struct Child {
+    /// The hash of the key of a member, and 0 for an element.
+    pub key: u64,
+    /// Where the child begins: a member with its key.
+    pub from: usize,
+    /// The value.
+    pub node: Node,
+}
+
+/// What a value consists of.
+#[derive(Drop)]
+struct Parts {
+    kind: Kind,
+    hash: u64,
+    children: Vec<Child>,
+}
+
+/// Reads the text of a document.
+///
+/// # Errors
+///
+/// [`ReadError::NotJson`] if the text is not JSON, and [`ReadError::Memory`] if an allocation fails.
+pub fn read_tree(alloc: Global, text: &str) -> Result<Node, ReadError> {
+    let mut scratch = Scratch::new(alloc);
+    let mut reader = Reader::new(text, &mut scratch)?;
+    let node = read_node(alloc, text, &mut reader, MAX_DEPTH)?;
+    match reader.next() {
+        None => Ok(node),
+        Some(_) => Err(ReadError::NotJson),
+    }
+}
+
+/// Reads the next value, which nests at most this deep.
+#[cycle(read)]
+fn read_node(
+    alloc: Global,
+    text: &str,
+    reader: &mut Reader<'_>,
+    depth: usize,
+) -> Result<Node, ReadError>
+    ensures shorter { OnOk result (length reader.new < length reader.old) }
+{
+    let from = reader.offset();
+    let Some(token) = reader.next() else {
+        return Err(ReadError::NotJson);
+    };
+    let parts = read_parts(alloc, text, reader, token, depth)?;
+    let to = end_before(text.as_bytes(), reader.offset());
+    Ok(Node {
+        span: Span { from, to },
+        kind: parts.kind,
+        hash: parts.hash,
+        children: parts.children,
+    })
+}
+
+/// Reads the rest of the value that begins with the token.
+#[cycle(read)]
+fn read_parts(
+    alloc: Global,
+    text: &str,
+    reader: &mut Reader<'_>,
+    token: Token<'_>,
+    depth: usize,
+) -> Result<Parts, ReadError>
+    ensures shorter { OnOk result (length reader.new ≤ length reader.old) }
+{
+    match token {
+        Token::BeginArray => {
+            if depth == 0 {
+                return Err(ReadError::NotJson);
+            }
+            let children = read_elements(alloc, text, reader, depth - 1)?;
+            Ok(Parts {
+                kind: Kind::Array,
+                hash: hash::of_array(&children),
+                children,
+            })
+        }
+        Token::BeginObject => {
+            if depth == 0 {
+                return Err(ReadError::NotJson);
+            }
+            let children = read_members(alloc, text, reader, depth - 1)?;
+            Ok(Parts {
+                kind: Kind::Object,
+                hash: hash::of_object(alloc, &children)?,
+                children,
+            })
+        }
+        token => match hash::of_scalar(token) {
+            Some(hash) => Ok(Parts {
+                kind: Kind::Scalar,
+                hash,
+                children: Vec::new(alloc),
+            }),
+            None => Err(ReadError::NotJson),
+        },
+    }
+}
+
+/// Reads the rest of an array.
+#[cycle(read)]
+fn read_elements(
+    alloc: Global,
+    text: &str,
+    reader: &mut Reader<'_>,
+    depth: usize,
+) -> Result<Vec<Child>, ReadError>
+    ensures shorter { OnOk result (length reader.new ≤ length reader.old) }
+{
+    let mut children = Vec::new(alloc);
+    'items: while !reader.take_end_array() {
+        let node = read_node(alloc, text, reader, depth)?;
+        let from = node.span.from;
+        children.push(Child { key: 0, from, node })?;
+    }
+    Ok(children)
+}
+
+/// Reads the rest of an object.
+#[cycle(read)]
+fn read_members(
+    alloc: Global,
+    text: &str,
+    reader: &mut Reader<'_>,
+    depth: usize,
+) -> Result<Vec<Child>, ReadError>
+    ensures shorter { OnOk result (length reader.new ≤ length reader.old) }
+{
+    let mut children = Vec::new(alloc);
+    let mut from = reader.offset();
+    'members: while let Some(name) = reader.next_key()? {
+        let key = hash::of_text(name);
+        let node = read_node(alloc, text, reader, depth)?;
+        children.push(Child { key, from, node })?;
+        from = reader.offset();
+    }
+    Ok(children)
+}
+
+/// Returns where the value before the next token ends. White space, a comma and more white space may
+/// be between the two.
+fn end_before(bytes: &[u8], next: usize) -> usize {
+    let end = trimmed_end(bytes, next);
+    if end > 0 && bytes.get(end - 1) == Some(&b',') {
+        trimmed_end(bytes, end - 1)
+    } else {
+        end
+    }
+}
+
+/// Returns the text at the span, or an empty text if there is no such span.
+pub fn slice(text: &str, span: Span) -> &str {
+    text.get(span.from..span.to).unwrap_or("")
+}

@@ -1,0 +1,24 @@
+//! Documents in the layout of an older text.
+use crate::out::Out;
+use crate::words::Words;
+use jsonptr_relayout::{Relaid, relayout_text};
+
+/// Lays a document out, and writes the kind of the result and the text.
+pub fn request(out: &mut Out<'_>, mut words: Words<'_>) {
+    let old = words.next();
+    let new = words.next();
+    match relayout_text(out.alloc(), old, new) {
+        Ok(Relaid::Kept(text)) => {
+            out.field("kind", "kept");
+            out.field("detail", text)
+        }
+        Ok(Relaid::Printed(text)) => {
+            out.field("kind", "printed");
+            out.field("detail", text)
+        }
+        Err(error) => {
+            out.field("kind", "refused");
+            out.field("detail", error)
+        }
+    }
+}

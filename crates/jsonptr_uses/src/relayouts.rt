@@ -1,0 +1,26 @@
+//! A document that another program changed, in its old layout.
+ghost use Rattle.std.specs.Prelude.{◌≡◌, IfOk, IfErr, Some, string_bytes};
+ghost use Rattle.serde_json.specs.Data.{Data};
+ghost use Rattle.serde_json.specs.Read.{read};
+ghost use Rattle.jsonptr.specs.Json.{nodes};
+ghost use Rattle.jsonptr_relayout.specs.Relaying.{ReadsAs, FailsToRelayText};
+
+use jsonptr_relayout::{Relaid, RelayoutError, relayout_text};
+use std::alloc::Global;
+
+/// Returns the text of a file after another program printed its document anew, in the layout that
+/// the file had.
+///
+/// # Errors
+///
+/// Those of [`relayout_text`].
+pub fn restored(alloc: Global, file: &str, printed: &str) -> Result<String, RelayoutError>
+    ensures reads { IfOk result (λ s. (d : Data) × (read printed.now ≡ Some d)
+        × ReadsAs (string_bytes s) (nodes d)) }
+    ensures refused { IfErr result (FailsToRelayText file.now printed.now) }
+{
+    match relayout_text(alloc, file, printed)? {
+        Relaid::Kept(text) => Ok(text),
+        Relaid::Printed(text) => Ok(text),
+    }
+}
