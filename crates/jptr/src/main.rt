@@ -11,6 +11,7 @@ mod in_place;
 mod input;
 mod inverse;
 mod output;
+mod patch_file;
 mod paths;
 mod problem;
 mod style;
