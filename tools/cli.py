@@ -561,48 +561,6 @@ INVERSES = [
 ]
 
 
-def patched():
-    """Patches whose values keep their texts, as `own_texts`: a patch, a document, flags, and the new document."""
-    given = '{ "z": 1.10, "a": [1e5, 123456789012345678901234], "z": -0 }'
-    flat = '{"z":1.10,"a":[1e5,123456789012345678901234],"z":-0}'
-    lines = '{\n    "z": 1.10,\n    "a": [\n      1e5,\n      123456789012345678901234\n    ],\n    "z": -0\n  }'
-    add = '[{{"op": "add", "path": "{}", "value": {}}}]'.format
-    yield add("/b", given), '{"b": 1}', (), f'{{"b": {flat}}}'
-    yield add("/-", given), "[0, 1]\n", (), f"[0, 1, {flat}]\n"
-    yield add("/0", given), "[0, 1]\n", (), f"[{flat}, 0, 1]\n"
-    yield add("", given), "[0, 1]\n", (), f"{flat}\n"
-    yield add("/c", given), TEXT, (), TEXT.replace("2]", f'2],\n  "c": {lines}')
-    yield f'[\n {{"value" : {given} ,\n "path": "/b" , "op": "replace" }} ]\n', '{"b": 1}', (), f'{{"b": {flat}}}'
-    yield '[{"value": 2.0, "op": "replace", "path": "/b", "\\u0076alue": 1.10}]', '{"b": 2}', (), '{"b": 1.10}'
-    yield add("/b", '"\\u00e9\\/"'), '{"b": 1}', (), '{"b": "é/"}'
-    yield '[{"op": "test", "path": "/b", "value": 1.10}, {"op": "replace", "path": "/b", "value": 1.100}]', '{"b":1.1}', (), '{"b":1.100}'
-    yield add("/c", "1.10"), '{"b": 1.0}\n{}\n', ("--lines",), '{"b": 1.0, "c": 1.10}\n{"c":1.10}\n'
-    yield add("/c", "1.10"), '{"b": 1.0}', ("--compact",), '{"b":1.0,"c":1.10}\n'
-    yield add("/c", "1.10"), '{"b": 1.0}', ("--indent", "tab"), '{\n\t"b": 1.0,\n\t"c": 1.10\n}\n'
-    yield add("/c", "1.10"), '{"b": 1.0}', ("--sort-keys",), '{"b":1.0,"c":1.1}\n'
-    many = ", ".join(f'{{"op": "add", "path": "/-", "value": {i}.0}}' for i in range(300))
-    yield f"[{many}]", "[0]", (), f"[0,{','.join(f'{i}.0' for i in range(300))}]"
-
-
-def check_patched(folder):
-    """Checks `patched`, also in place and with `--inverse`. Returns the number of runs."""
-    patch, path, undo = f"{folder}/p.json", f"{folder}/d.json", f"{folder}/u.json"
-    runs = 0
-    for operations, text, words, new in patched():
-        write(patch, operations)
-        check_result(Case(words, text, new), run(("patch", patch, *words), text))
-        runs += 1
-        if words:
-            continue
-        for flags in ((), ("--inverse", undo)):
-            write(path, text)
-            check_result(Case(flags, "", ""), run(("patch", patch, path, "-i", *flags)))
-            if read(path) != new:
-                raise CheckFailed(f"patch -i {flags} left {read(path)[:300]!r}, and not {new[:300]!r}")
-            runs += 1
-    return runs
-
-
 def check_inverse(folder, shim):
     """Checks `--inverse`: the file that it writes, and what is left after an error. Returns the number of runs."""
     patch, path, undo = f"{folder}/p.json", f"{folder}/d.json", f"{folder}/u.json"
@@ -785,7 +743,6 @@ def main():
             os.mkdir(f"{folder}/{name}")
         runs += check_files(f"{folder}/files") + check_in_place(f"{folder}/in_place") + check_lines()
         runs += check_inverse(f"{folder}/inverse", shim)
-        runs += check_patched(f"{folder}/inverse")
         runs += check_round_trips() + check_raw_values()
         all_cases = list(cases())
         for case, given in zip(all_cases, pool.map(lambda case: run(case.words, case.input), all_cases)):

@@ -4,7 +4,6 @@ use crate::digits::{check_bytes, check_text, is_lossy};
 use crate::input::{is_standard, name_of, read_all};
 use crate::inverse::patch_with_inverse;
 use crate::output::{print_line, print_text};
-use crate::patch_file::patch_of;
 use crate::paths::{from_paths, paths};
 use crate::problem::{FILE, NOT_APPLIED, NOT_JSON, Problem, USAGE};
 use crate::style::{layout_of, style_of};
@@ -15,6 +14,7 @@ use clap::error::ErrorKind;
 use clap::{ArgMatches, Error};
 use jptr_tasks::difference::difference_of;
 use jptr_tasks::layout::{Layout, show};
+use jptr_tasks::patching::operations_of;
 use jptr_tasks::task::Task;
 use jsonptr::{Pointer, Token};
 use jsonptr_edit_in_text::RawValue;
@@ -129,10 +129,13 @@ fn patch(rt: &HostRuntime, matches: &ArgMatches<'_>) -> Result<u8, Problem> {
             return Err(Problem::new(alloc, USAGE, "patch", "not on TOML: use set and delete"));
         }
     }
-    let patch = patch_of(rt, name)?;
-    match matches.get_str("inverse") {
-        Some(undo) => patch_with_inverse(rt, matches, patch, undo),
-        None => run_task(rt, matches, Task::Patch(patch), ""),
+    let document = document_of(rt, name)?;
+    match operations_of(alloc, &document) {
+        Ok(_) => match matches.get_str("inverse") {
+            Some(undo) => patch_with_inverse(rt, matches, document, undo),
+            None => run_task(rt, matches, Task::Patch(document), ""),
+        },
+        Err(failure) => Err(Problem::of_patch(alloc, name_of(Some(name)), &document, failure)),
     }
 }
 

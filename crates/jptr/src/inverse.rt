@@ -11,8 +11,8 @@ use crate::written::Written;
 use clap::ArgMatches;
 use jptr_tasks::failure::Failure;
 use jptr_tasks::inverse::inverse_of;
-use jptr_tasks::raw_patch::RawPatch;
 use jptr_tasks::task::Task;
+use serde_json::Value;
 use simdutf8::basic::from_utf8;
 use std::alloc::Global;
 use std::fs;
@@ -23,7 +23,7 @@ use std::os::unix::fs::MetadataExt;
 struct Patching<'a> {
     /// The name of the document in errors.
     name: &'a str,
-    patch: RawPatch,
+    patch: Value,
     style: Style,
     undo: &'a str,
 }
@@ -40,7 +40,7 @@ struct Texts {
 pub fn patch_with_inverse(
     rt: &HostRuntime,
     matches: &ArgMatches<'_>,
-    patch: RawPatch,
+    patch: Value,
     undo: &str,
 ) -> Result<u8, Problem> {
     let file = matches.get_str("FILE");
@@ -84,9 +84,8 @@ fn on_document(
     patching: Patching<'_>,
 ) -> Result<u8, Problem> {
     let bytes = read_all(rt, file)?;
-    let undo = patching.undo;
-    let texts = texts_of(rt.alloc(), patching, &bytes)?;
-    let written = Written::write(rt, undo, texts.undo.as_str())?;
+    let texts = texts_of(rt.alloc(), &patching, &bytes)?;
+    let written = Written::write(rt, patching.undo, texts.undo.as_str())?;
     let printed = print_text(rt, texts.new.as_str());
     written.settle(rt, printed)?.keep(rt);
     Ok(0)
@@ -99,9 +98,8 @@ fn in_place(rt: &HostRuntime, path: &str, patching: Patching<'_>) -> Result<u8, 
         return Err(Problem::new(alloc, USAGE, "--in-place", "needs a file"));
     }
     let (target, bytes) = open_file(rt, path)?;
-    let undo = patching.undo;
-    let texts = texts_of(alloc, patching, &bytes)?;
-    let written = Written::write(rt, undo, texts.undo.as_str())?;
+    let texts = texts_of(alloc, &patching, &bytes)?;
+    let written = Written::write(rt, patching.undo, texts.undo.as_str())?;
     let replaced = if texts.new.as_bytes() == bytes.as_slice() {
         Ok(())
     } else {
@@ -112,13 +110,12 @@ fn in_place(rt: &HostRuntime, path: &str, patching: Patching<'_>) -> Result<u8, 
 }
 
 /// Returns the texts of the new document and of the patch that takes the patch back.
-fn texts_of(alloc: Global, patching: Patching<'_>, bytes: &[u8]) -> Result<Texts, Problem> {
-    let undo = undo_text(alloc, &patching, bytes)?;
-    let (name, style) = (patching.name, patching.style);
-    let task = Task::Patch(patching.patch);
-    match edited(alloc, &task, style, bytes) {
+fn texts_of(alloc: Global, patching: &Patching<'_>, bytes: &[u8]) -> Result<Texts, Problem> {
+    let undo = undo_text(alloc, patching, bytes)?;
+    let task = Task::Patch(patching.patch.clone()?);
+    match edited(alloc, &task, patching.style, bytes) {
         Ok(new) => Ok(Texts { new, undo }),
-        Err(failure) => Err(document_problem(alloc, name, "", bytes, failure)),
+        Err(failure) => Err(document_problem(alloc, patching.name, "", bytes, failure)),
     }
 }
 
@@ -127,7 +124,7 @@ fn undo_text(alloc: Global, patching: &Patching<'_>, bytes: &[u8]) -> Result<Str
     let Ok(text) = from_utf8(bytes) else {
         return Err(Problem::of_bytes(alloc, patching.name, bytes));
     };
-    match inverse_of(alloc, text, &patching.patch.document, patching.style.layout) {
+    match inverse_of(alloc, text, &patching.patch, patching.style.layout) {
         Ok(inverse) => {
             if !patching.style.is_lossy {
                 check_text(alloc, patching.name, text)?;

@@ -11,7 +11,6 @@ mod in_place;
 mod input;
 mod inverse;
 mod output;
-mod patch_file;
 mod paths;
 mod problem;
 mod style;

@@ -19,7 +19,6 @@ use Rattle.jsonptr_edit_in_text.specs.InPlace.{StaysOneLine}
 use Rattle.jsonptr_edit_in_text.specs.Locating.{IsLocated}
 use Rattle.jsonptr_edit_in_text.specs.EditInText.{AssignsInText, IsAssignError, DeletesInText, LacksInText}
 use Rattle.jsonptr_edit_in_text.specs.PatchInText.{PatchesInText, PatchBytes, IsPatchFault}
-use Rattle.jsonptr_edit_in_text.specs.RawPatching.{RawPatchBytes}
 use Rattle.jsonptr_edit_in_text.specs.declared.edited.EditError.TheVariants as edit
 use Rattle.jsonptr_edit_in_text.specs.declared.raw_value.RawValue.{RawValue}
 use Rattle.jptr_tasks.specs.Layouts.{Shows, Lays}
@@ -63,14 +62,12 @@ PatchesBy text patch layout out =
     × IsPatch patch os × PatchesInText text os new × Lays layout new out
     × (layout ≡ Kept → PatchBytes text os new × StaysOneLine text new)
 
--- `Yields task layout text out`: `out` is the result of the task on `text`, in this layout. After a patch in the layout `Kept`,
--- each value that it put there has the tokens of its own text
+-- `Yields task layout text out`: `out` is the result of the task on `text`, in this layout
 abbrev pub Yields : Task → Layout → Text → Text → Type 0
 Yields (Get p fallback) layout text out = Gets text (tokens p) fallback layout out
 Yields (Set p v) layout text out = Sets text (tokens p) v layout out
 Yields (Delete p) layout text out = Deletes text (tokens p) layout out
-Yields (Patch p) layout text out =
-    PatchesBy text (view p.document) layout out × (layout ≡ Kept → RawPatchBytes text p.operations.items out)
+Yields (Patch d) layout text out = PatchesBy text (view d) layout out
 
 -- `FailsToGet text ts fallback e`: `e` is why no value is found, if it is not for memory. With `NotLocated` the value is there
 abbrev pub FailsToGet : Text → List Text → Option Value → Failure → Type 0
@@ -119,4 +116,4 @@ abbrev pub Fails : Task → Layout → Text → Failure → Type 0
 Fails (Get p fallback) layout text e = FailsToGet text (tokens p) fallback e
 Fails (Set p v) layout text e = FailsToSet text (tokens p) (value_of v) layout e
 Fails (Delete p) layout text e = FailsToDelete text (tokens p) layout e
-Fails (Patch p) layout text e = FailsToPatch text (view p.document) layout e
+Fails (Patch d) layout text e = FailsToPatch text (view d) layout e

@@ -1,81 +1,45 @@
 //! Applying a patch document to the text of a document.
-ghost use Rattle.std.specs.Prelude.{◌≡◌, All, IfOk, IfErr, string_bytes};
+ghost use Rattle.std.specs.Prelude.{IfOk, IfErr, string_bytes};
 ghost use Rattle.serde_json.specs.View.{view};
 ghost use Rattle.jsonptr_patch_document.specs.Document.{IsPatch};
-ghost use Rattle.jsonptr_edit_in_text.specs.PatchInText.{PatchesInText};
-ghost use Rattle.jsonptr_edit_in_text.specs.RawPatching.{operations_in, RawPatchBytes, IsTextFrom};
+ghost use Rattle.jsonptr_edit_in_text.specs.PatchInText.{PatchesInText, PatchBytes};
 ghost use Rattle.jsonptr_edit_in_text.specs.InPlace.{StaysOneLine};
 ghost use Rattle.jptr_tasks.specs.Results.{PatchesBy, FailsToPatch};
-ghost use Rattle.jptr_tasks.specs.PrivateResults.{Remakes, FailsToApply, IsNotPatch, PatchedBy};
-ghost use Rattle.jptr_tasks.specs.declared.layout.Layout.{Layout};
-ghost use Rattle.jptr_tasks.specs.declared.layout.Layout.TheVariants.{Kept};
+ghost use Rattle.jptr_tasks.specs.PrivateResults.{Remakes, FailsToApply, IsNotPatch};
 
 use crate::failure::Failure;
 use crate::layout::{Layout, lay_out};
-use crate::raw_patch::RawPatch;
 use jsonptr::Fault;
-use jsonptr_edit_in_text::{
-    Buffers, apply_and_print, raw_operations, stays_one_line, try_apply_raw,
-};
+use jsonptr_edit_in_text::{Buffers, apply_in_place, apply_in_text_with};
 use jsonptr_patch::Operation;
 use jsonptr_patch_document::read_patch;
 use serde_json::Value;
 use std::alloc::Global;
 
-/// Applies the patch to the text, and returns the new document in this layout.
+/// Applies the patch document to the text, and returns the new document in this layout.
 ///
-/// With [`Layout::Kept`] the text is edited in place. In the other layouts the new document is laid out
-/// anew. Each value that the patch puts there has its own text.
+/// With [`Layout::Kept`] the text is edited in place. In the other layouts the new document is printed
+/// anew.
 ///
 /// # Errors
 ///
-/// Those of [`Task::Patch`](crate::task::Task::Patch).
+/// Those of [`Task::Patch`](crate::task::Task::Patch). The patch document is read first.
 pub fn patch(
     alloc: Global,
     buffers: &mut Buffers,
     text: &str,
-    patch: &RawPatch,
+    document: &Value,
     layout: Layout,
 ) -> Result<String, Failure>
-    ensures done { IfOk result (λ s. PatchesBy text.now (view patch.now.document) layout
+    ensures done { IfOk result (λ s. PatchesBy text.now (view document.now) layout
         (string_bytes s)) }
-    ensures carries { IfOk result (λ s. layout ≡ Kept
-        → RawPatchBytes text.now patch.now.operations.items (string_bytes s)) }
-    ensures failed { IfErr result (FailsToPatch text.now (view patch.now.document) layout) }
+    ensures failed { IfErr result (FailsToPatch text.now (view document.now) layout) }
 {
+    let operations = operations_of(alloc, document)?;
     match layout {
-        Layout::Kept => patch_in_place(alloc, buffers, text, patch),
-        _ => patch_anew(alloc, buffers, text, patch, layout),
+        Layout::Kept => patch_in_place(alloc, buffers, text, operations),
+        _ => patch_anew(alloc, buffers, text, operations, layout),
     }
-}
-
-/// Returns the patch of the document, each operation with the text of its value in the text of the
-/// document. With an empty text all values are printed.
-///
-/// # Errors
-///
-/// [`Failure::NotPatch`] if it is not a patch, and [`Failure::Memory`] if an allocation fails.
-///
-/// # Examples
-///
-/// ```rust
-/// let text = r#"[{"op": "add", "path": "/b", "value": {"z": 1.10, "y": 1e5}}]"#;
-/// let patch = raw_patch(alloc, Value::from_str(alloc, text)?, text)?;
-/// let new = result_in_text(alloc, &Task::Patch(patch), Layout::Kept, r#"{"a": 1}"#)?;
-/// assert_eq!(rt; new.as_str(), r#"{"a": 1, "b": {"z":1.10,"y":1e5}}"#);
-/// ```
-pub fn raw_patch(alloc: Global, document: Value, text: &str) -> Result<RawPatch, Failure>
-    ensures document { IfOk result (λ p. p.document ≡ document) }
-    ensures texts { IfOk result (λ p. All (IsTextFrom text.now) p.operations.items) }
-    ensures failed { IfErr result (IsNotPatch (view document)) }
-{
-    let plain = operations_of(alloc, &document)?;
-    let mut buffers = Buffers::new(alloc);
-    let operations = raw_operations(alloc, &mut buffers, text, plain)?;
-    Ok(RawPatch {
-        document,
-        operations,
-    })
 }
 
 /// Reads the operations of a patch document.
@@ -94,89 +58,35 @@ pub fn operations_of(alloc: Global, document: &Value) -> Result<Vec<Operation>, 
     }
 }
 
-/// Applies the patch in the text, all of its operations or none, in place.
+/// Applies the operations in the text, all of them or none, in place.
 fn patch_in_place(
     alloc: Global,
     buffers: &mut Buffers,
     text: &str,
-    patch: &RawPatch,
+    operations: Vec<Operation>,
 ) -> Result<String, Failure>
-    ensures done { IfOk result (λ s.
-        PatchesInText text.now (operations_in patch.now.operations.items) (string_bytes s)) }
-    ensures bytes { IfOk result (λ s.
-        RawPatchBytes text.now patch.now.operations.items (string_bytes s)) }
+    ensures done { IfOk result
+        (λ s. PatchesInText text.now operations.items (string_bytes s)) }
+    ensures bytes { IfOk result (λ s. PatchBytes text.now operations.items (string_bytes s)) }
     ensures line { IfOk result (λ s. StaysOneLine text.now (string_bytes s)) }
-    ensures failed { IfErr result (FailsToPatch text.now (view patch.now.document) Kept) }
+    ensures failed { IfErr result (FailsToApply text.now operations.items Layout.Kept) }
 {
-    if let Some(new) = try_apply_raw(alloc, buffers, text, &patch.operations)? {
-        if stays_one_line(text, new.as_str()) {
-            return Ok(new);
-        }
-    }
-    Err(why_not_in_place(alloc, text, &patch.document))
+    Ok(apply_in_place(alloc, buffers, text, operations)?)
 }
 
-/// Returns why the patch document is not applied in place.
-fn why_not_in_place(alloc: Global, text: &str, document: &Value) -> Failure
-    ensures { FailsToPatch text.now (view document.now) Kept result }
-{
-    match print_anew(alloc, text, document) {
-        Ok(_new) => Failure::NotInPlace,
-        Err(failure) => failure,
-    }
-}
-
-/// Applies the patch in the text, all of its operations or none, and prints the new document in this
+/// Applies the operations in the text, all of them or none, and prints the new document in this
 /// layout.
 fn patch_anew(
     alloc: Global,
     buffers: &mut Buffers,
     text: &str,
-    patch: &RawPatch,
+    operations: Vec<Operation>,
     layout: Layout,
 ) -> Result<String, Failure>
     ensures done { IfOk result
-        (λ s. Remakes (PatchedBy text.now (view patch.now.document)) layout (string_bytes s)) }
-    ensures failed { IfErr result (FailsToPatch text.now (view patch.now.document) layout) }
+        (λ s. Remakes (PatchesInText text.now operations.items) layout (string_bytes s)) }
+    ensures failed { IfErr result (FailsToApply text.now operations.items layout) }
 {
-    let new = patched(alloc, buffers, text, patch)?;
-    lay_out(alloc, &mut buffers.old, new.as_str(), layout)
-}
-
-/// Applies the patch in the text, in place if that is possible.
-fn patched(
-    alloc: Global,
-    buffers: &mut Buffers,
-    text: &str,
-    patch: &RawPatch,
-) -> Result<String, Failure>
-    ensures done { IfOk result
-        (λ s. PatchedBy text.now (view patch.now.document) (string_bytes s)) }
-    ensures failed { (layout : Layout) → IfErr result
-        (FailsToPatch text.now (view patch.now.document) layout) }
-{
-    match try_apply_raw(alloc, buffers, text, &patch.operations)? {
-        Some(new) => Ok(new),
-        None => print_anew(alloc, text, &patch.document),
-    }
-}
-
-/// Reads the document of the text, applies the patch document, and prints it.
-fn print_anew(alloc: Global, text: &str, document: &Value) -> Result<String, Failure>
-    ensures done { IfOk result (λ s. PatchedBy text.now (view document.now) (string_bytes s)) }
-    ensures failed { (layout : Layout) → IfErr result
-        (FailsToPatch text.now (view document.now) layout) }
-{
-    let operations = operations_of(alloc, document)?;
-    apply_anew(alloc, text, operations)
-}
-
-/// Reads the document of the text, applies the operations, and prints it.
-fn apply_anew(alloc: Global, text: &str, operations: Vec<Operation>) -> Result<String, Failure>
-    ensures done { IfOk result
-        (λ s. PatchesInText text.now operations.items (string_bytes s)) }
-    ensures failed { (layout : Layout) → IfErr result
-        (FailsToApply text.now operations.items layout) }
-{
-    Ok(apply_and_print(alloc, text, operations)?)
+    let edited = apply_in_text_with(alloc, buffers, text, operations)?;
+    lay_out(alloc, &mut buffers.old, edited.as_str(), layout)
 }

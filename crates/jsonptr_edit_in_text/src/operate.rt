@@ -1,23 +1,19 @@
 //! One operation of a patch in a text (RFC 6902, section 4).
-ghost use Rattle.std.specs.Prelude.{◌≡◌, Some, IfOk, IfSome, IsTrue, ◌↔◌, string_bytes};
+ghost use Rattle.std.specs.Prelude.{◌≡◌, IfOk, IfSome, IsTrue, ◌↔◌, string_bytes};
 ghost use Rattle.serde_json.specs.View.{view};
 ghost use Rattle.jsonptr.specs.Pointer.{tokens};
 ghost use Rattle.jsonptr_tree.specs.Json.{nodes};
 ghost use Rattle.jsonptr_patch.specs.Operating.{IsProperFront};
 ghost use Rattle.jsonptr_edit_in_text.specs.Bytes.{ReplacesBytes};
-ghost use Rattle.jsonptr_edit_in_text.specs.Carrying.{value_of, Carries};
-ghost use Rattle.jsonptr_edit_in_text.specs.Fitting.{Fits};
 ghost use Rattle.jsonptr_edit_in_text.specs.PatchInText.{AddsAtBytes, MovesBytes, CopiesBytes, OperationBytes};
 ghost use Rattle.jsonptr_edit_in_text.specs.PrivateOperating.{OperatesInText, PutsInText, AddsValueInText, MovesInText, CopiesInText, PassesInText};
-ghost use Rattle.jsonptr_edit_in_text.specs.RawPatching.{CarriesGiven};
 
 use crate::add::add_at;
 use crate::delete::delete_in_place;
 use crate::place::place_of;
-use crate::raw_operation::RawOperation;
-use crate::raw_value::RawValue;
 use crate::replace::replace;
 use crate::value_at::value_at;
+use crate::value_text::value_text;
 use jsonptr::{Fault, Pointer, PointerBuf};
 use jsonptr_in_text::selectors::selectors_of;
 use jsonptr_in_text::{InTextError, resolve_in_text_with};
@@ -26,63 +22,13 @@ use jsonptr_patch::{Comparison, Operation, apply_comparing};
 use serde_json::Value;
 use std::alloc::{AllocError, Global};
 
-/// Applies the operation to the text. A value that it puts there has its own text, if one comes with it.
-/// Returns `None` if that is not possible, and for every error of the operation.
+/// Applies the operation to the text. Returns `None` if that is not possible, and for every error of
+/// the operation.
 ///
 /// # Errors
 ///
 /// [`AllocError`] if an allocation fails.
 pub fn operate(
-    alloc: Global,
-    buffers: &mut Buffers,
-    text: String,
-    raw: &RawOperation,
-) -> Result<Option<String>, AllocError>
-    ensures applied { IfOk result (λ new. IfSome new
-        (λ s. OperatesInText (string_bytes text) raw.now.operation (string_bytes s))) }
-    ensures bytes { IfOk result (λ new. IfSome new
-        (λ s. OperationBytes (string_bytes text) raw.now.operation (string_bytes s))) }
-    ensures carries { IfOk result (λ new. IfSome new
-        (λ s. CarriesGiven raw.now.operation raw.now.text (string_bytes s))) }
-{
-    match &raw.text {
-        None => operate_by_value(alloc, buffers, text, &raw.operation),
-        Some(own) => operate_by_text(alloc, buffers, text, &raw.operation, own),
-    }
-}
-
-/// Applies the operation to the text, with the text of the value that it puts there.
-fn operate_by_text(
-    alloc: Global,
-    buffers: &mut Buffers,
-    text: String,
-    operation: &Operation,
-    own: &RawValue,
-) -> Result<Option<String>, AllocError>
-    requires { Fits operation.now (Some own.now) }
-    ensures applied { IfOk result (λ new. IfSome new
-        (λ s. OperatesInText (string_bytes text) operation.now (string_bytes s))) }
-    ensures bytes { IfOk result (λ new. IfSome new
-        (λ s. OperationBytes (string_bytes text) operation.now (string_bytes s))) }
-    ensures carries { IfOk result (λ new. IfSome new
-        (λ s. CarriesGiven operation.now (Some own.now) (string_bytes s))) }
-{
-    let old = text.as_str();
-    match operation {
-        Operation::Add { path, value: _ } => add_raw(alloc, buffers, old, path.as_ptr(), own),
-        Operation::Replace { path, value: _ } => replace_raw(
-            alloc,
-            buffers,
-            old,
-            path.as_ptr(),
-            own,
-        ),
-        _ => operate_by_value(alloc, buffers, text, operation),
-    }
-}
-
-/// Applies the operation to the text. The value that it puts there is printed.
-fn operate_by_value(
     alloc: Global,
     buffers: &mut Buffers,
     text: String,
@@ -128,24 +74,6 @@ fn operate_by_value(
     }
 }
 
-/// Adds the value of the text at the pointer.
-fn add_raw(
-    alloc: Global,
-    buffers: &mut Buffers,
-    text: &str,
-    pointer: Pointer<'_>,
-    value: &RawValue,
-) -> Result<Option<String>, AllocError>
-    ensures added { IfOk result (λ new. IfSome new (λ s. AddsValueInText text.now
-        (tokens pointer.entry) (nodes (value_of value.now)) (string_bytes s))) }
-    ensures bytes { IfOk result (λ new. IfSome new (λ s.
-        AddsAtBytes text.now (tokens pointer.entry) (value_of value.now) (string_bytes s))) }
-    ensures carries { IfOk result (λ new. IfSome new (λ s.
-        Carries (string_bytes value.now.text.flat) (string_bytes s))) }
-{
-    add_at(alloc, buffers, text, pointer, &value.text)
-}
-
 /// Adds the value at the pointer.
 fn add_value(
     alloc: Global,
@@ -159,35 +87,10 @@ fn add_value(
     ensures bytes { IfOk result (λ new. IfSome new (λ s.
         AddsAtBytes text.now (tokens pointer.entry) (view value.now) (string_bytes s))) }
 {
-    let Some(raw) = RawValue::from_value(alloc, value)? else {
+    let Some(value) = value_text(alloc, value)? else {
         return Ok(None);
     };
-    add_raw(alloc, buffers, text, pointer, &raw)
-}
-
-/// Replaces the value that the pointer resolves to by the value of the text.
-fn replace_raw(
-    alloc: Global,
-    buffers: &mut Buffers,
-    text: &str,
-    pointer: Pointer<'_>,
-    value: &RawValue,
-) -> Result<Option<String>, AllocError>
-    ensures put { IfOk result (λ new. IfSome new (λ s. PutsInText text.now
-        (tokens pointer.entry) (nodes (value_of value.now)) (string_bytes s))) }
-    ensures bytes { IfOk result (λ new. IfSome new (λ s.
-        ReplacesBytes text.now (string_bytes s) (tokens pointer.entry) (value_of value.now))) }
-    ensures carries { IfOk result (λ new. IfSome new (λ s.
-        Carries (string_bytes value.now.text.flat) (string_bytes s))) }
-{
-    let selectors = selectors_of(alloc, pointer)?;
-    let Some(place) = place_of(alloc, buffers, text, &selectors)? else {
-        return Ok(None);
-    };
-    if place.followed != selectors.len() {
-        return Ok(None);
-    }
-    replace(alloc, buffers, text, pointer, &place, &value.text)
+    add_at(alloc, buffers, text, pointer, &value)
 }
 
 /// Replaces the value that the pointer resolves to.
@@ -203,10 +106,17 @@ fn replace_value(
     ensures bytes { IfOk result (λ new. IfSome new (λ s.
         ReplacesBytes text.now (string_bytes s) (tokens pointer.entry) (view value.now))) }
 {
-    let Some(raw) = RawValue::from_value(alloc, value)? else {
+    let selectors = selectors_of(alloc, pointer)?;
+    let Some(place) = place_of(alloc, buffers, text, &selectors)? else {
         return Ok(None);
     };
-    replace_raw(alloc, buffers, text, pointer, &raw)
+    if place.followed != selectors.len() {
+        return Ok(None);
+    }
+    let Some(value) = value_text(alloc, value)? else {
+        return Ok(None);
+    };
+    replace(alloc, buffers, text, pointer, &place, &value)
 }
 
 /// Moves the value at one pointer to another one.

@@ -1,8 +1,6 @@
 //! Edits that are made in place or not at all.
 use jptr_tasks::failure::Failure;
 use jptr_tasks::layout::Layout;
-use jptr_tasks::patching::raw_patch;
-use jptr_tasks::raw_patch::RawPatch;
 use jptr_tasks::result::result_in_text;
 use jptr_tasks::task::Task;
 use jsonptr::Pointer;
@@ -19,13 +17,12 @@ fn repeated(alloc: Global, part: &str, times: usize) -> Result<String, Fail> {
     Ok(text)
 }
 
-/// Returns a patch that adds an array at the pointer and removes it again.
-fn added_and_removed(alloc: Global, pointer: &str) -> Result<RawPatch, Fail> {
+/// Returns a patch document that adds an array at the pointer and removes it again.
+fn added_and_removed(alloc: Global, pointer: &str) -> Result<Value, Fail> {
     let patch = format!(in alloc;
         "[{{\"op\":\"add\",\"path\":\"{pointer}\",\"value\":[]}},{{\"op\":\"remove\",\"path\":\"{pointer}\"}}]"
     )?;
-    let document = Value::from_str(alloc, patch.as_str())?;
-    Ok(raw_patch(alloc, document, patch.as_str())?)
+    Ok(Value::from_str(alloc, patch.as_str())?)
 }
 
 #[test]
@@ -46,7 +43,8 @@ fn a_patch_that_is_too_deep_in_between(rt: HostRuntime) -> Result<(), Fail> {
 #[test]
 fn the_patch_document_is_read_first(rt: HostRuntime) -> Result<(), Fail> {
     let alloc = rt.alloc();
-    let refused = raw_patch(alloc, Value::Null, "null");
+    let task = Task::Patch(Value::Null);
+    let refused = result_in_text(alloc, &task, Layout::Kept, "{");
     assert!(rt; matches!(refused, Err(Failure::NotPatch(_))));
     let task = Task::Delete(Pointer::root());
     let refused = result_in_text(alloc, &task, Layout::Kept, "{");

@@ -10,7 +10,7 @@ use Rattle.jsonptr_edit_in_text.specs.PatchInText.{MovesBytes, CopiesBytes, Oper
 use Rattle.jsonptr_edit_in_text.specs.PrivateOperating.{OperatesInText, AddsValueInText}
 use Rattle.jsonptr_edit_in_text.proofs.EditLemmas.{if_new}
 use Rattle.jsonptr_edit_in_text.proofs.OperatingLemmas.{removes, tests}
-use Rattle.jsonptr_edit_in_text.proofs.operate.operate_by_value.Goals as goal
+use Rattle.jsonptr_edit_in_text.proofs.operate.operate.Goals as goal
 
 pub returns-in-Add-clause-applied : goal.returns-in-Add-clause-applied
 returns-in-Add-clause-applied c =
