@@ -7,7 +7,7 @@ use jsonptr_c_handle::document::Document;
 use jsonptr_edit_in_text::RawValue;
 use jsonptr_uses::handle_values::{changes_between, field_in, is_string, string_in};
 use jsonptr_uses::json_lines::{copy_through_lines, has_leaves, tag_each_line};
-use jsonptr_uses::program::{printed_line, printed_value};
+use jsonptr_uses::program::{document_after, printed_line, printed_value};
 use std::alloc::Global;
 use std::test::Fail;
 
@@ -89,5 +89,6 @@ fn the_program_in_memory(rt: HostRuntime) -> Result<(), Fail> {
     let line = printed_line(alloc, words.as_slice(), text)?;
     assert_eq!(rt; line.as_slice(), b"{}\n".as_slice());
     assert!(rt; printed_value(alloc, words.as_slice(), text)?.is_some());
+    assert!(rt; document_after(alloc, words.as_slice(), text)?.is_some());
     Ok(())
 }

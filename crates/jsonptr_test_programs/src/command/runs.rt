@@ -1,15 +1,15 @@
-//! Whole runs of the program with ample memory: the values that they leave.
+//! Whole runs of the program with ample memory: the documents that they leave.
 use crate::command::fakes::{ScriptedReader, ScriptedWriter, words_of};
 use jsonptr_command::fault::RunFault;
-use jsonptr_command::run::{run_program, run_program_into};
+use jsonptr_command::run::{run_program, run_program_keeping};
 use serde_json::Value;
 use std::alloc::{AllocError, Global};
 
-/// The words of each run, its input, its status, and the value that it leaves. `-` stands for the
-/// value that was there before.
+/// The words of each run, its input, its status, and the document that it leaves. `-` stands for
+/// the document that was there before.
 const LEFT: [(&[&str], &[u8], u8, &str); 14] = [
-    (&["resolve", "/a"], b" {\"a\" : 1}", 0, "1"),
-    (&["resolve", "/b"], b"{\"a\":1}", 1, "-"),
+    (&["resolve", "/a"], b" {\"a\" : 1}", 0, "{\"a\":1}"),
+    (&["resolve", "/b"], b"{\"a\":1}", 1, "{\"a\":1}"),
     (
         &["assign", "/b/0", "2"],
         b"{\"a\":1}",
@@ -34,7 +34,8 @@ const LEFT: [(&[&str], &[u8], u8, &str); 14] = [
     (&["resolve", "/a"], b"{\"a\"", 3, "-"),
 ];
 
-/// Whether a run that starts with the value `"-"` ends with this status and leaves this value.
+/// Whether a run that starts with the document `"-"` ends with this status and leaves this
+/// document.
 fn leaves(
     alloc: Global,
     line: &[&str],
@@ -48,11 +49,11 @@ fn leaves(
         script: &[],
     };
     let mut writer = ScriptedWriter::new(alloc, &[]);
-    let mut value = Some(Value::String(String::from_str(alloc, "-")?));
+    let mut document = Some(Value::String(String::from_str(alloc, "-")?));
     let words = words.as_slice();
-    let outcome = run_program_into(alloc, words, &mut reader, &mut writer, &mut value);
+    let outcome = run_program_keeping(alloc, words, &mut reader, &mut writer, &mut document);
     let ended = outcome.err().map_or(0, |fault| fault.status());
-    let is_left = match &value {
+    let is_left = match &document {
         Some(Value::String(text)) => text.as_str() == left,
         Some(value) => value.to_string(alloc)?.as_str() == left,
         None => false,
@@ -61,7 +62,7 @@ fn leaves(
 }
 
 #[test]
-fn values_that_runs_leave(rt: HostRuntime) -> Result<(), AllocError> {
+fn documents_that_runs_leave(rt: HostRuntime) -> Result<(), AllocError> {
     for (words, input, status, left) in LEFT {
         assert!(rt;
             leaves(rt.alloc(), words, input, status, left)?,
