@@ -544,10 +544,10 @@ def edits_in_text():
     pretty = '{ "b" : 1.50, "a" : [ 2 ,\t{"c":"\\u0041"} ] }'
     assigned = [
         ("/b", "2", '{ "b" : 2, "a" : [ 2 ,\t{"c":"\\u0041"} ] }'),
-        ("/a/1/c", '{"y":1,"x":[]}', '{ "b" : 1.50, "a" : [ 2 ,\t{"c":{"x":[],"y":1}} ] }'),
-        ("/a/1/c/-/e", "null", '{ "b" : 1.50, "a" : [ 2 ,\t{"c":[{"e":null}]} ] }'),
+        ("/a/1/c", '{"y":1,"x":[]}', '{ "b" : 1.50, "a" : [ 2 ,\t{"c":{"x":[], "y":1}} ] }'),
+        ("/a/1/c/-/e", "null", '{ "b" : 1.50, "a" : [ 2 ,\t{"c":[ { "e" : null } ]} ] }'),
         ("/a/-", '"x"', '{ "b" : 1.50, "a" : [ 2 ,\t{"c":"\\u0041"},\t"x" ] }'),
-        ("/a/1/d~1/0", "0", '{ "b" : 1.50, "a" : [ 2 ,\t{"c":"\\u0041","d/":[0]} ] }'),
+        ("/a/1/d~1/0", "0", '{ "b" : 1.50, "a" : [ 2 ,\t{"c":"\\u0041", "d/":[ 0 ]} ] }'),
         ("", "[]", "[]"),
     ]
     for pointer, value, text in assigned:
@@ -613,7 +613,7 @@ def patches_in_text(pretty):
     added = '{ "b" : 1.50, "a" : [ 2 ,\t"x",\t{"c":"\\u0041"} ] }'
     yield edited("apply in text", pretty, answer=f"in place {pretty}")
     yield edited("apply in text", pretty, "add", "/a/1", '"x"', answer=f"in place {added}")
-    moved = '{ "a" : [ 2 ,\t{"c":"\\u0041","d":1.50} ] }'
+    moved = '{ "a" : [ 2 ,\t{"c":"\\u0041",\t"d":1.50} ] }'
     yield edited("apply in text", pretty, "move", "/b", "/a/1/d", answer=f"in place {moved}")
     copied = '{ "b" : 1.50, "a" : [ 2 ,\t{"c":"\\u0041"} ], "e" : [ 2 ,\t{"c":"\\u0041"} ] }'
     yield edited("apply in text", pretty, "copy", "/a", "/e", answer=f"in place {copied}")
@@ -958,6 +958,11 @@ def removals_that_wait():
     yield patched('[{"a":1,"b":2},{"a":1}]', ("remove", "/0/a"), ("remove", "/1/a"), after='[{"b":2},{}]')
     yield patched('[{"a":1,"b":2},{"a":1}]', ("remove", "/0/a"), ("remove", "/0"), after='[{"a":1}]')
     yield patched('{"a/b":1,"c":2}', ("remove", "/a~1b"), ("add", "/a~1b", "3"), after='{"a/b":3,"c":2}')
+    yield patched('{"a/b":1,"c":2}', ("remove", "/c~1d"), ("remove", "/c"), answer=failed(0, RESOLVE_NOT_FOUND.format(0)))
+    yield patched('{"a/b":1,"c":2}', ("move", "/a~1b", "/d"), ("replace", "/c", "3"), after='{"c":3,"d":1}')
+    yield patched('{"a/b":1,"c":2}', ("move", "/a~1b", "/d"), ("test", "/c", "3"), answer=failed(1, "test failed"))
+    yield patched(three, gone, ("add", "/a", "4"), ("test", "/b", "3"), answer=failed(2, "test failed"))
+    yield patched(three, ("remove", "/c/d"), ("copy", "/c", "/e"), ("remove", "/a"), after='{"b":2,"c":{},"e":{}}')
 
 
 def taking_back(document, operations, back, after):

@@ -93,23 +93,46 @@ def cases():
     yield Case(("escape", "a/b~c"), "", "a~1b~0c\n")
     yield Case(("escape", "--", "-x"), "", "-x\n")
     yield Case(("unescape", "a~1b~0c"), "", "a/b~c\n")
+    yield from layouts()
     yield from failing()
+
+
+def layouts():
+    """A document in the layout of a file."""
+    yield Case(("relayout", "-", "/dev/null"), TEXT, "", "jptr: /dev/null: not JSON: EOF while parsing at line 1 column 0\n", 3)
+    yield Case(("relayout", "/dev/null"), TEXT, "", "jptr: /dev/null: not JSON: EOF while parsing at line 1 column 0\n", 3)
+    yield Case(("relayout", "-"), TEXT, "", "jptr: FILE: standard input cannot be both documents\n", 2)
+    yield Case(("relayout", "-", "-"), TEXT, "", "jptr: FILE: standard input cannot be both documents\n", 2)
+    yield Case(("relayout", "x.toml"), TEXT, "", "jptr: relayout: not on TOML\n", 2)
 
 
 def own_texts():
     """A value that is given keeps its text: its order, its numbers, and its repeated members."""
     given = '{ "z": 1.10, "a": [1e5, 123456789012345678901234], "z": -0 }'
     flat = '{"z":1.10,"a":[1e5,123456789012345678901234],"z":-0}'
-    yield Case(("set", "/b", given), '{"b": 1}', f'{{"b": {flat}}}')
+    wide = spaced(given)
+    yield Case(("set", "/b", given), '{"b": 1}', f'{{"b": {wide}}}')
     yield Case(("set", "/b", given), "{}", f'{{"b":{flat}}}')
     yield Case(("set", "/b/0/c", given), "{}", f'{{"b":[{{"c":{flat}}}]}}')
-    yield Case(("set", "/b/c/-", given), '{"b": 1}', f'{{"b": {{"c":[{flat}]}}}}')
-    yield Case(("set", "/-", given), "[0, 1]", f"[0, 1, {flat}]")
-    yield Case(("set", "", given), "[0, 1]\n", f"{flat}\n")
+    yield Case(("set", "/b/c/-", given), '{"b": 1}', f'{{"b": {{"c": [{wide}]}}}}')
+    yield Case(("set", "/-", given), "[0, 1]", f"[0, 1, {wide}]")
+    yield Case(("set", "", given), "[0, 1]\n", f"{wide}\n")
+    yield Case(("set", "/b", given), '{ "b": 1 }', f'{{ "b": {given} }}')
+    yield Case(("set", "/b/-", '{"x":[1]}'), '{"b": [{ "x": 0 }]}', '{"b": [{ "x": 0 }, { "x": [1] }]}')
+    yield Case(("set", "/b/x", "[1]"), '{\n\t"b": {},\n\t"c": 2\n}\n', '{\n\t"b": {\n\t\t"x": [\n\t\t\t1\n\t\t]\n\t},\n\t"c": 2\n}\n')
+    yield Case(("set", "/-", '{"x":1}'), '[\n {"x": 0},\n {"x": 2}\n]\n', '[\n {"x": 0},\n {"x": 2},\n {"x": 1}\n]\n')
+    yield Case(("delete", "/2"), "[\n  1, 2, 3,\n  4, 5\n]\n", "[\n  1, 2,\n  4, 5\n]\n")
+    yield Case(("set", "/b", "--string", 'a "b" \\ é'), '{"b": 1}', '{"b": "a \\"b\\" \\\\ é"}')
+    yield Case(("set", "/b", "--string", "1"), '{"b": 1}', '{"b": "1"}')
+    yield Case(("set", "--string", "/b", "@x"), "{}", '{"b":"@x"}')
+    yield Case(("set", "--toml", "--string", "/b", "1"), "b = 1\n", 'b = "1"\n')
     lines = '{\n    "z": 1.10,\n    "a": [\n      1e5,\n      123456789012345678901234\n    ],\n    "z": -0\n  }'
     yield Case(("set", "/c", given), TEXT, TEXT.replace("2]", f'2],\n  "c": {lines}'))
+    yield Case(("set", "/b", '"\\u00e9\\/"'), '{"b": 1}', '{"b": "\\u00e9\\/"}')
+    yield Case(("set", "/b/0/é", '["\\u00e9", "\\/"]'), "{}", '{"b":[{"é":["\\u00e9","\\/"]}]}')
+    yield Case(("set", "/c", '[ "\\u00E9" ]'), '{\n  "b": [\n    1\n  ]\n}\n', '{\n  "b": [\n    1\n  ],\n  "c": [\n    "\\u00E9"\n  ]\n}\n')
     yield Case(("set", "--compact", "/c", given), '{"b": 1.0}', f'{{"b":1.0,"c":{flat}}}\n')
-    yield Case(("set", "--lines", "/c", given), '{"b": 1.0}\n', f'{{"b": 1.0, "c": {flat}}}\n')
+    yield Case(("set", "--lines", "/c", given), '{"b": 1.0}\n', f'{{"b": 1.0, "c": {wide}}}\n')
     deep = "[" * 126 + "1.10" + "]" * 126
     yield Case(("set", "/a", deep), "{}", f'{{"a":{deep}}}')
     failed = "jptr: standard input: the new document nests deeper than 127\n"
@@ -146,6 +169,11 @@ def digits():
     yield Case(("get", "--sort-keys", "/a/0"), long, "1.1\n")
     yield Case(("get", "--sort-keys", "--lossy", "/a"), long, "[1.1,3.141592653589793]\n")
     yield Case(("format", "--sort-keys"), long, "", message.format("standard input", " at /a/1"), 3)
+    yield Case(("set", "--sort-keys", "/b", "1e-400"), '{"a": 1.10}', "", message.format("standard input", " at /b"), 3)
+    yield Case(("set", "--sort-keys", "/a/1", "5"), long, '{"a":[1.1,5]}\n')
+    yield Case(("set", "--toml", "/a", "[1.10, 3.14159265358979323846]"), "a = 1\n", "", message.format("JSON", " at /1"), 3)
+    yield Case(("set", "--toml", "--lossy", "/a", "3.14159265358979323846"), "a = 1\n", "a = 3.141592653589793\n")
+    yield Case(("get", "--toml", "--default", "1e-400", "/b"), "a = 1\n", "", message.format("--default", ""), 3)
     yield Case(("delete", "--sort-keys", "/a/1"), long, '{"a":[1.1]}\n')
     yield Case(("paths",), long, "", message.format("standard input", " at /a/1"), 3)
     yield Case(("paths", "--lossy"), long, "/a/0\t1.1\n/a/1\t3.141592653589793\n")
@@ -202,8 +230,11 @@ def failing():
     not_json = "jptr: standard input: not JSON: EOF while parsing at line 1 column 1\n"
     for words in [("get", "/a"), ("set", "/a", "1"), ("delete", "/a")]:
         yield Case(words, "{", "", not_json, 3)
-    value = "jptr: JSON: not JSON: invalid JSON at line 1 column 1\n"
-    yield Case(("set", "/a", "x"), TEXT, "", value, 3)
+    value = "jptr: JSON: not JSON: invalid JSON at line 1 column 1"
+    yield Case(("set", "/a", "x"), TEXT, "", f"{value}; a string needs quotes, or --string\n", 3)
+    yield Case(("set", "/a", "'x'"), TEXT, "", f"{value}\n", 3)
+    yield Case(("set", "/a", "@-"), TEXT, "", "jptr: JSON: standard input cannot be the value and the document\n", 2)
+    yield Case(("set", "/a", "@/dev/null"), TEXT, "", "jptr: /dev/null: not JSON: EOF while parsing at line 1 column 0\n", 3)
 
 
 def usage():
@@ -230,6 +261,9 @@ def usage():
     yield ("get", "--lines", "--raw", "--default", '"a\\nb"', "/a")
     yield ("delete", "/a", "--unknown")
     yield ("patch", "-", "-")
+    yield ("relayout",)
+    yield ("relayout", "-", "f", "-i")
+    yield ("relayout", "f", "g", "--lines")
     yield ("paths", "/a", "f")
     yield ("paths", "--pretty")
     yield ("from-paths", "--all")
@@ -371,6 +405,22 @@ def damaged_lines():
     return lines, found, changed, faults
 
 
+def digits_of_lines():
+    """Lines with numbers that lose digits. Such a line is at fault, and the run goes on."""
+    lines = '{"a": [1.10, 3.14159265358979323846]}\n{"a": 1.10}\n'
+    fault = "jptr: standard input:1: the number at /1 loses digits: use --lossy\n"
+    yield Case(("get", "--lines", "--sort-keys", "/a"), lines, "1.1\n", fault, 1)
+    yield Case(("get", "--lines", "--sort-keys", "--strict", "/a"), lines, "", fault, 1)
+    yield Case(("get", "--lines", "--sort-keys", "--default", "0", "/a"), lines, "0\n1.1\n", fault, 1)
+    yield Case(("get", "--lines", "--sort-keys", "--lossy", "/a"), lines, "[1.1,3.141592653589793]\n1.1\n")
+    yield Case(("get", "--lines", "--sort-keys", "/a"), f"{{}}\n{lines}", "1.1\n",
+               f"jptr: standard input:1: {NOT_FOUND}\n" + fault.replace("input:1", "input:2"), 1)
+    yield Case(("format", "--lines", "--sort-keys"), lines, '{"a":1.1}\n', fault.replace("/1", "/a/1"), 1)
+    yield Case(("delete", "--lines", "--sort-keys", "/a"), lines, "{}\n{}\n")
+    yield Case(("set", "--lines", "--sort-keys", "/b", "1e-400"), '{"a": 1}', "", fault.replace("/1", "/b"), 1)
+    yield Case(("set", "--lines", "--compact", "/b", "1e-400"), lines, lines.replace("}", ', "b": 1e-400}').replace(" ", ""))
+
+
 def check_lines():
     """Checks runs over lines, and returns the number of runs."""
     lines, found, changed, faults = damaged_lines()
@@ -392,7 +442,10 @@ def check_lines():
     words = ("get", "--lines", "--raw", "/s")
     check_result(Case(words, '{"s":"a"}\n{"s":"a\\nb"}\n', "a\n", "jptr: standard input:2: the result contains a line break\n", 1),
                  run(words, '{"s":"a"}\n{"s":"a\\nb"}\n'))
-    return 6
+    long = list(digits_of_lines())
+    for case in long:
+        check_result(case, run(case.words, case.input))
+    return 6 + len(long)
 
 
 def random_value(random, depth):
@@ -464,7 +517,7 @@ def check_raw_values():
         given = random_text(Random(seed), 4)
         flat = compact(given)
         for words, text, wanted in [
-            (("set", "/k", "--", given), '{"a": 1.0}', f'{{"a": 1.0, "k": {flat}}}'),
+            (("set", "/k", "--", given), '{"a": 1.0}', f'{{"a": 1.0, "k": {spaced(given)}}}'),
             (("set", "/k/0/k", "--", given), "{}", f'{{"k":[{{"k":{flat}}}]}}'),
             (("get", "/k/1"), f'{{"k":[0,{given}, 1]}}', f"{given}\n"),
             (("format", "--compact"), given, f"{flat}\n"),
@@ -481,6 +534,11 @@ def check_raw_values():
 def compact(text):
     """Returns the JSON text without the white space between its tokens."""
     return "".join(re.findall(r'"[^"]*"|[^\s"]+', text))
+
+
+def spaced(text):
+    """Returns the JSON text with a space after each comma and colon, and no other white space between its tokens."""
+    return "".join(it if it[0] == '"' else it.replace(",", ", ").replace(":", ": ") for it in re.findall(r'"[^"]*"|[^\s"]+', text))
 
 
 def check_in_place(folder):
@@ -544,7 +602,51 @@ def check_reformat(folder):
     check_result(Case((*words, path, "-i", "--reformat"), "", ""), run((*words, path, "-i", "--reformat")))
     if read(path) != anew:
         raise CheckFailed(f"--in-place --reformat left {read(path)!r}")
-    return 10
+    return 10 + check_reformat_digits(path, words, text.replace(" ]", ", 1e-400 ]"))
+
+
+def check_reformat_digits(path, words, text):
+    """Checks such an edit of a document with a number that loses digits."""
+    error = "the number at /1 loses digits: use --lossy\n"
+    anew = text.replace(" ", "").replace("1e-400", "0.0")
+    with open(path, "w", encoding="utf-8") as file:
+        file.write(text)
+    for case in [
+        Case((*words, "--reformat"), text, "", f"jptr: standard input: {error}", 3),
+        Case((*words, "--compact"), text, "", f"jptr: standard input: {error}", 3),
+        Case((*words, "--sort-keys"), text, "", f"jptr: standard input: {error}", 3),
+        Case((*words, path, "-i", "--reformat"), "", "", f"jptr: {path}: {error}", 3),
+        Case((*words, "--compact", "--lines"), text, "", f"jptr: standard input:1: {error}", 1),
+        Case((*words, "--reformat", "--lossy"), text, anew),
+        Case((*words, "--compact", "--lossy"), text, anew),
+        Case((*words, "--compact", "--lines", "--lossy"), text, anew),
+        Case((*words, "--check"), text, ""),
+    ]:
+        check_result(case, run(case.words, case.input))
+    if read(path) != text:
+        raise CheckFailed("an edit that would lose digits wrote the file")
+    return 9 + check_patch_digits(words, text.replace("1e-400", "2"))
+
+
+def check_patch_digits(words, text):
+    """Checks such an edit, and one that sorts the members, by a patch with a number that loses digits."""
+    own = read(words[1])
+    write(words[1], f'{own[:-1]}, {{"op": "add", "path": "/2", "value": {{"x": 1e-400}}}}]')
+    error = "jptr: PATCHFILE: operation 2: the number at /x loses digits: use --lossy\n"
+    anew = text.replace(" ", "").replace("]\n", ',{"x":0.0}]\n')
+    shallow = f"{os.path.dirname(words[1])}/shallow.json"
+    write(shallow, '[{"op": "add", "path": "/a", "value": {"x": 1e-400}}]')
+    for case in [
+        Case((*words, "--reformat"), text, "", error, 3),
+        Case((*words, "--compact", "--lines"), text, "", error.replace("jptr:", "jptr: standard input:1:"), 1),
+        Case((*words, "--reformat", "--lossy"), text, anew),
+        Case(("patch", shallow), "{}", '{"a":{"x":1e-400}}'),
+        Case(("patch", shallow, "--compact"), "{ }", '{"a":{"x":1e-400}}\n'),
+        Case(("patch", shallow, "--sort-keys"), "{}", "", "jptr: standard input: the number at /a/x loses digits: use --lossy\n", 3),
+        Case(("patch", shallow, "--sort-keys", "--lossy"), "{}", '{"a":{"x":0.0}}\n'),
+    ]:
+        check_result(case, run(case.words, case.input))
+    return 7
 
 
 # Operations on `BEFORE`, and the operations that take them back (RFC 6902, section 4).
@@ -559,6 +661,58 @@ INVERSES = [
     ([{"op": "copy", "from": "/c", "path": "/~1"}, {"op": "remove", "path": "/c"}],
      [{"op": "add", "path": "/c", "value": 1.5}, {"op": "remove", "path": "/~1"}]),
 ]
+
+
+def patched():
+    """Patches whose values keep their texts, as `own_texts`: a patch, a document, flags, and the new document."""
+    given = '{ "z": 1.10, "a": [1e5, 123456789012345678901234], "z": -0 }'
+    flat = '{"z":1.10,"a":[1e5,123456789012345678901234],"z":-0}'
+    lines = '{\n    "z": 1.10,\n    "a": [\n      1e5,\n      123456789012345678901234\n    ],\n    "z": -0\n  }'
+    add = '[{{"op": "add", "path": "{}", "value": {}}}]'.format
+    wide = spaced(given)
+    yield add("/b", given), '{"b":1}', (), f'{{"b":{flat}}}'
+    yield add("/b", given), '{"b": 1}', (), f'{{"b": {wide}}}'
+    yield add("/-", given), "[0, 1]\n", (), f"[0, 1, {wide}]\n"
+    yield add("/0", given), "[0, 1]\n", (), f"[{wide}, 0, 1]\n"
+    yield add("", given), "[0, 1]\n", (), f"{wide}\n"
+    yield add("/c", given), TEXT, (), TEXT.replace("2]", f'2],\n  "c": {lines}')
+    yield f'[\n {{"value" : {given} ,\n "path": "/b" , "op": "replace" }} ]\n', '{"b": 1}', (), f'{{"b": {wide}}}'
+    yield '[{"value": 2.0, "op": "replace", "path": "/b", "\\u0076alue": 1.10}]', '{"b": 2}', (), '{"b": 1.10}'
+    yield add("/b", '"\\u00e9\\/"'), '{"b": 1}', (), '{"b": "\\u00e9\\/"}'
+    yield add("/c", '[ "\\u00E9" ]'), '{\n  "b": [\n    1\n  ]\n}\n', (), '{\n  "b": [\n    1\n  ],\n  "c": [\n    "\\u00E9"\n  ]\n}\n'
+    yield '[{"op": "test", "path": "/b", "value": 1.10}, {"op": "replace", "path": "/b", "value": 1.100}]', '{"b":1.1}', (), '{"b":1.100}'
+    yield add("/c", "1.10"), '{"b": 1.0}\n{}\n', ("--lines",), '{"b": 1.0, "c": 1.10}\n{"c":1.10}\n'
+    yield add("/c", "1.10"), '{"b": 1.0}', ("--compact",), '{"b":1.0,"c":1.10}\n'
+    yield add("/c", "1.10"), '{"b": 1.0}', ("--indent", "tab"), '{\n\t"b": 1.0,\n\t"c": 1.10\n}\n'
+    yield add("/c", "1.10"), '{"b": 1.0}', ("--sort-keys",), '{"b":1.0,"c":1.1}\n'
+    many = ", ".join(f'{{"op": "add", "path": "/-", "value": {i}.0}}' for i in range(300))
+    yield f"[{many}]", "[0]", (), f"[0,{','.join(f'{i}.0' for i in range(300))}]"
+
+
+def check_patched(folder):
+    """Checks `patched`, also in place and with `--inverse`. Returns the number of runs."""
+    patch, path, undo = f"{folder}/p.json", f"{folder}/d.json", f"{folder}/u.json"
+    runs = 0
+    for operations, text, words, new in patched():
+        write(patch, operations)
+        check_result(Case(words, text, new), run(("patch", patch, *words), text))
+        runs += 1
+        if words:
+            continue
+        for flags in ((), ("--inverse", undo)):
+            write(path, text)
+            check_result(Case(flags, "", ""), run(("patch", patch, path, "-i", *flags)))
+            if read(path) != new:
+                raise CheckFailed(f"patch -i {flags} left {read(path)[:300]!r}, and not {new[:300]!r}")
+            runs += 1
+    seeds = range(200)
+    for seed in seeds:
+        random = Random(seed)
+        given = [random_text(random, 3) for _ in range(4)]
+        operations = [f'{{"op":"add", "path":"/-", "value": {value}}}' for value in given]
+        write(patch, "[\n" + " ,\n".join(operations) + "]\n")
+        check_result(Case((), "[0]", f"[0,{','.join(map(compact, given))}]"), run(("patch", patch), "[0]"))
+    return runs + len(seeds)
 
 
 def check_inverse(folder, shim):
@@ -655,6 +809,49 @@ def write(path, text):
         file.write(text)
 
 
+# A file, a new document, flags, and what `relayout` prints.
+RELAID = [
+    (TEXT, '{"a/b":[1,2,3.10],"b":1.0}', (), TEXT.replace("2]", "2, 3.10]")),
+    (TEXT, '{"a/b":[2],"b":1.0}', (), TEXT.replace("1, 2", "2")),
+    (TEXT, '{"a/b":[1,2],"c":{"z":1e5,"y":[]},"b":1.0}', (), TEXT.replace("]\n", '],\n  "c": {\n    "z": 1e5,\n    "y": []\n  }\n')),
+    (TEXT, '{"a/b":[1,2],"b":1.0}', (), TEXT),
+    (TEXT, "null", (), "null\n"),
+    ('{"a": 12345678901234567890123}', '{"a": 12345678901234567890124}', ("--lossy",), '{"a": 12345678901234567890123}'),
+]
+
+
+def check_relayout(folder, shim):
+    """Checks `relayout`, also where a memory request fails, and returns the number of runs."""
+    path = f"{folder}/layout.json"
+    runs = 0
+    for old, new, words, wanted in RELAID:
+        write(path, old)
+        case = Case(("relayout", path, *words), new, wanted)
+        runs += check_memory(case, shim)
+        expect_files(folder, {path: old})
+        check_result(Case((), "", ""), run((*case.words, "-i"), new))
+        expect_files(folder, {path: wanted})
+        runs += 2
+    write(path, TEXT)
+    words = [PROGRAM, "relayout", path, "-i"]
+    _, requests, _ = run_with_shim(words, "[1]", shim, 0, count="run", may_keep=True)
+    for fail in range(1, requests + 1):
+        write(path, TEXT)
+        given, _, _ = run_with_shim(words, "[1]", shim, fail, count="run", may_keep=True)
+        expect_files(folder, {path: TEXT if given.returncode else "[\n  1\n]\n"})
+    for new, words, errors, status in [
+        ("{", (), "jptr: standard input: not JSON: EOF while parsing at line 1 column 1\n", 3),
+        ('{"a": 1e400}', (), "jptr: standard input: not JSON: number out of range at line 1 column 12\n", 3),
+        ('{"a": 1e-400}', (), "jptr: standard input: the number at /a loses digits: use --lossy\n", 3),
+    ]:
+        write(path, TEXT)
+        for in_place in ((), ("-i",)):
+            check_result(Case((), "", "", errors, status), run(("relayout", path, *words, *in_place), new))
+        expect_files(folder, {path: TEXT})
+        runs += 2
+    return runs + requests + 1
+
+
 def check_locked(folder, path):
     """Checks that a file in a folder that cannot be written stays as it is."""
     if os.getuid() != 0:
@@ -739,10 +936,11 @@ def main():
         shim = build_shim(folder)
         # First, and alone: a process that another thread starts can hold the end of a pipe that is closed here.
         runs = check_streams() + check_usage()
-        for name in ["files", "in_place", "inverse", "guide"]:
+        for name in ["files", "in_place", "inverse", "layouts", "guide"]:
             os.mkdir(f"{folder}/{name}")
         runs += check_files(f"{folder}/files") + check_in_place(f"{folder}/in_place") + check_lines()
-        runs += check_inverse(f"{folder}/inverse", shim)
+        runs += check_inverse(f"{folder}/inverse", shim) + check_relayout(f"{folder}/layouts", shim)
+        runs += check_patched(f"{folder}/inverse")
         runs += check_round_trips() + check_raw_values()
         all_cases = list(cases())
         for case, given in zip(all_cases, pool.map(lambda case: run(case.words, case.input), all_cases)):

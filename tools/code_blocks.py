@@ -10,6 +10,7 @@ import sys
 
 import doc_examples
 import repository
+import try_tests
 
 GUIDE = f"{repository.CRATES}/jsonptr/CALLING.md"
 CALLERS = "jsonptr_conditions", "jsonptr_uses", "jsonptr_example"
@@ -42,7 +43,8 @@ def main():
     codes = ["\n".join(example.rows) for path in doc_examples.documented() for example in doc_examples.examples(path)]
     items = [code for code in codes if doc_examples.STARTS_ITEM.match(code)]
     callers = [lines(repository.read(f)) for name in CALLERS for f in files(name, "rt", "antt")]
-    tests = [lines(repository.read(f)) for f in files("jsonptr_test_*", "rt")] + [lines(code) for code in codes]
+    paths = glob.glob(f"{repository.TESTS}/**/*{try_tests.ENDING}", recursive=True)
+    tests = [lines(repository.read(f)) for f in paths] + [lines(code) for code in codes]
     readmes = [f"{repository.TOP}/README.md", *sorted(glob.glob(f"{repository.CRATES}/*/README.md"))]
     guide = check(BLOCK.findall(repository.read(GUIDE)) + items, callers)
     shown = check([block for f in readmes for block in CODE.findall(repository.read(f))], callers + tests)

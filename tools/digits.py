@@ -1,11 +1,14 @@
 """Compares `jptr diff` and `jptr patch` on random pairs of documents with long numbers: no digit is lost without an error.
 
-    tools/digits.py [PAIRS]     2,000 pairs if no number is given
+    tools/digits.py [PAIRS]               2,000 pairs if no number is given
+    tools/digits.py --library [PAIRS]     the same by the Python module jsonptr, which tools/c/build made
 
 Of each pair, `jptr diff OLD NEW` either fails, with a pointer that leads to a number whose nearest double has another decimal
 value, or its patch makes of OLD a document whose numbers have the decimal values of NEW, exactly. With --lossy it never fails.
-Python's `decimal` and `json` are the judges.
+Of the module, a document that is read with exact numbers fails so. Python's `decimal` and `json` are the judges.
 """
+import functools
+import importlib
 import json
 import os
 import re
@@ -18,7 +21,6 @@ from random import Random
 
 from harness import CheckFailed, program
 
-PROGRAM = program("jptr")
 ERROR = re.compile(r"jptr: (\S+): (?:the number(?: at (\S*))?|a number) loses digits: use --lossy\n")
 NUMBERS = ["0", "-0", "-0.0", "1.10", "1e5", "1E+2", "0.1", "5e-324", "1e-400", "12345678901234567890123", "18446744073709551615",
            "18446744073709551616", "-9223372036854775808", "-9223372036854775809", "3.14159265358979323846", "9007199254740993.0", "1e20"]
@@ -69,18 +71,30 @@ def resolve(text, pointer):
     return value[1]
 
 
+@functools.lru_cache(None)
+def built():
+    """Returns the path of the program."""
+    return program("jptr")
+
+
 def run(*words, stdin=""):
     """Runs the program."""
-    return subprocess.run([PROGRAM, *words], input=stdin, capture_output=True, text=True, timeout=60, check=False)
+    return subprocess.run([built(), *words], input=stdin, capture_output=True, text=True, timeout=60, check=False)
+
+
+def pair(seed):
+    """Returns the texts of two documents."""
+    random = Random(seed)
+    exact = random.random() < 0.5
+    before, after = document(random, exact=exact), document(random, exact=exact)
+    if random.random() < 0.5:
+        after = changed(random, before, exact)
+    return before, after
 
 
 def check_pair(folder, seed):
     """Compares one pair. Returns whether the difference failed."""
-    random = Random(seed)
-    exact = random.random() < 0.5
-    texts = {name: document(random, exact=exact) for name in (f"{folder}/{seed}.old", f"{folder}/{seed}.new")}
-    if random.random() < 0.5:
-        texts[f"{folder}/{seed}.new"] = changed(random, texts[f"{folder}/{seed}.old"], exact)
+    texts = dict(zip((f"{folder}/{seed}.old", f"{folder}/{seed}.new"), pair(seed)))
     for name, text in texts.items():
         with open(name, "w", encoding="utf-8") as file:
             file.write(text)
@@ -123,8 +137,39 @@ def judge(given, texts, old, before, new, after):
         raise CheckFailed(f"diff of {before} and {after}, {given.stdout}: the patch makes {patched.stdout!r} {patched.stderr!r}")
 
 
+def read(module, text):
+    """Returns the document of the text, or None if a number of it loses digits."""
+    try:
+        return module.Document(text, exact=True)
+    except module.NotExact as error:
+        lost = resolve(text, error.pointer)
+        if not loses(lost) or text[error.offset:error.offset + error.length] != lost:
+            raise CheckFailed(f"{text}: {error}, at {error.offset}, where no digit is lost") from None
+        if module.lost_number(text) != error.pointer or values(module.Document(text).text()) == values(text):
+            raise CheckFailed(f"{text}: {error}, but not by another call") from None
+        return None
+
+
+def check_library(module, seed):
+    """Compares one pair by the module. Returns whether a number lost digits."""
+    before, after = pair(seed)
+    old, new = read(module, before), read(module, after)
+    if old is None or new is None:
+        return True
+    module.make_patch(old, new).apply_with_inverse(old)
+    if values(old.text()) != values(after):
+        raise CheckFailed(f"{before} and {after}: the patch makes {old.text()}")
+    return False
+
+
 def main():
-    count = int(sys.argv[1]) if len(sys.argv) > 1 else 2_000
+    words = [word for word in sys.argv[1:] if word != "--library"]
+    count = int(words[0]) if words else 2_000
+    if len(words) < len(sys.argv[1:]):
+        module = importlib.import_module("jsonptr")
+        failed = sum(check_library(module, seed) for seed in range(count))
+        print(f"digits: {count} pairs by the library, of which {failed} had a number that loses digits")
+        return
     with tempfile.TemporaryDirectory() as folder, ThreadPoolExecutor(4) as pool:
         failed = sum(pool.map(lambda seed: check_pair(folder, seed), range(count)))
     print(f"digits: {count} pairs, of which {failed} had a number that loses digits")

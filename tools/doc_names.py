@@ -187,7 +187,7 @@ def check_clause_table(name, head, rows):
 
 def check_lists(known):
     """Checks that the documents that list all crates, or all callers, do."""
-    products = {crate for crate in known if not crate.startswith(("jsonptr_test_", "jsonptr_tool_"))}
+    products = {crate for crate in known if not crate.startswith("jsonptr_tool_")}
     drawing = FENCE.search(read("docs/ARCHITECTURE.md"))[0]
     for name, text, wanted in (("README.md", read("README.md"), products), ("docs/ARCHITECTURE.md", drawing, {*known})):
         named = set(re.findall(r"\b(?:jsonptr|jptr)\w*", text))
@@ -199,15 +199,14 @@ def check_lists(known):
     for module in callers:
         expect(f"`{module}.rt`" in read("crates/jsonptr/CALLING.md"), "crates/jsonptr/CALLING.md", f"the caller {module}.rt is not listed")
     where = "CONTRIBUTING.md"
-    for crate in known:
-        if crate.startswith("jsonptr_test_"):
-            short = crate.removeprefix("jsonptr_test")
-            expect(f"`{crate}`" in read(where) or f"`{short}`" in read(where), where, f"the test crate {crate} is not listed")
+    for group in repository.tests():
+        expect(f"`{group}`" in read(where), where, f"the group of tests {group} is not listed")
 
 
 def tests():
-    """Returns how many tests `./test` runs: those of the test crates, and the examples."""
-    return sum(text.count("#[test]") for path, text in sources().items() if "/crates/jsonptr_test_" in path) + examples()
+    """Returns how many tests `./test` runs: those of the folder `tests`, and the examples."""
+    paths = glob.glob(f"{TOP}/tests/**/*.rt.txt", recursive=True)
+    return sum(repository.read(path).count("#[test]") for path in paths) + examples()
 
 
 @functools.cache

@@ -60,8 +60,8 @@ OTHERS = {
     "a file that is replaced": [("jptr_tasks/src/replacement.rt", ["replace"])],
     "calls for C": [
         ("jsonptr_c_calls/src/pointers.rt", ["count", "token", "escape", "push", "pop"]),
-        ("jsonptr_c_calls/src/documents.rt", ["parse", "free", "print_at", "string_at", "node_at", "assign", "delete", "patch", "diff"]),
-        ("jsonptr_c_calls/src/texts.rt", ["print_in"]),
+        ("jsonptr_c_calls/src/documents.rt", ["parse", "parse_exactly", "free", "print_at", "string_at", "node_at", "assign", "delete", "patch", "diff"]),
+        ("jsonptr_c_calls/src/texts.rt", ["print_in", "lost_number_in"]),
         ("jsonptr_c_calls/src/outcome.rt", ["succeed", "fail", "fail_with_length"]),
         ("jsonptr_c_calls/src/record.rt", ["message"]),
     ],

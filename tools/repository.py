@@ -7,6 +7,7 @@ import shutil
 
 TOP = os.path.dirname(os.path.dirname(os.path.abspath(__file__)))
 CRATES = f"{TOP}/crates"
+TESTS = f"{TOP}/tests"
 
 
 def read(path):
@@ -17,21 +18,26 @@ def read(path):
         return file.read()
 
 
-def listed():
+def listed(path=f"{TOP}/crates.txt"):
     """Returns the lines of `crates.txt`, in its order: the words that each crate has after its colon, by its name."""
     found = {}
-    for row in read(f"{TOP}/crates.txt").splitlines():
+    for row in read(path).splitlines():
         name, colon, words = row.partition("#")[0].partition(":")
         if colon:
             found[name.split()[0]] = words.split()
     return found
 
 
+def tests():
+    """Returns the groups of tests: the crates that each uses, by its name."""
+    return listed(f"{TESTS}/uses.txt")
+
+
 def libraries():
-    """Returns the crates that another crate can use, lowest first: no test crate, no program and no static library."""
+    """Returns the crates that another crate can use, lowest first: no program and no static library."""
     static = [row.split()[0] for row in read(f"{TOP}/crates.txt").splitlines() if " staticlib" in row.partition(":")[0]]
     is_library = lambda name: os.path.exists(f"{CRATES}/{name}/src/lib.rt") and name not in static
-    return [name for name in listed() if is_library(name) and not name.startswith("jsonptr_test_")]
+    return [name for name in listed() if is_library(name)]
 
 
 def below(names):

@@ -1,6 +1,5 @@
-"""Runs tests without proving them: those of test crates, and those that a tool makes. Each is a module of one crate.
-
-What the tests use is compiled for each crate of tests, so one crate of all tests costs a fraction of one for each.
+"""Runs tests without proving them: those of the folder `tests`, and those that a tool makes. Each group is a module of one
+crate, so that what they use is compiled once.
 """
 import glob
 import os
@@ -15,6 +14,8 @@ CRATE = "all_tests"
 RESULT = re.compile(r"^test (\S+) \.\.\. (\w+)\n((?:[ \t]+.*\n)*)", re.MULTILINE)
 POSITION = re.compile(r"\b(src/[\w/]+\.rt):(\d+)")
 ROOT = "#![tactic(auto)]\n"
+# The kit wants each `.rt` file in a crate that it proves.
+ENDING = ".rt.txt"
 
 
 class Module(NamedTuple):
@@ -38,17 +39,16 @@ class Results(NamedTuple):
     said: str
 
 
-def module_of(crate):
-    """Returns the tests of a test crate as a module with the crate's name."""
+def module_of(group):
+    """Returns a group of tests as a module with its name. Paths that begin with `crate` are those of the group."""
     files, origins = {}, {}
-    top = f"{repository.CRATES}/{crate}/src"
-    for path in sorted(glob.glob(f"{top}/**/*.rt", recursive=True)):
-        inner = os.path.relpath(path, top).removesuffix(".rt")
-        name = f"src/{crate}.rt" if inner == "lib" else f"src/{crate}/{inner}.rt"
-        text = repository.read(path).replace(ROOT, "\n").replace("crate::", f"crate::{crate}::")
-        files[name] = text.replace(f"Rattle.{crate}.specs.declared.", f"Rattle.{CRATE}.specs.declared.{crate}.")
+    top = f"{repository.TESTS}/{group}"
+    for path in sorted(glob.glob(f"{top}/**/*{ENDING}", recursive=True)):
+        inner = os.path.relpath(path, top).removesuffix(ENDING)
+        name = f"src/{group}.rt" if inner == "lib" else f"src/{group}/{inner}.rt"
+        files[name] = repository.read(path).replace(ROOT, "\n").replace("crate::", f"crate::{group}::")
         origins[name] = os.path.relpath(path, repository.TOP), None
-    return Module(crate, repository.listed()[crate], files, origins)
+    return Module(group, repository.tests()[group], files, origins)
 
 
 def located(text, origins):

@@ -14,6 +14,8 @@ uint32_t jsonptrcore_pointer_push(char *buffer, size_t capacity, size_t *length,
 uint32_t jsonptrcore_pointer_pop(const char *pointer, size_t pointer_length, size_t *length, jsonptr_error *error);
 uint32_t jsonptrcore_document_parse(jsonptr_document *document, const char *text, size_t text_length,
                                     jsonptr_error *error);
+uint32_t jsonptrcore_document_parse_with(jsonptr_document *document, const char *text, size_t text_length, bool is_exact,
+                                         jsonptr_error *error);
 void jsonptrcore_document_free(jsonptr_document *document);
 uint32_t jsonptrcore_document_print(jsonptr_document *document, const char *pointer, size_t pointer_length,
                                     bool is_pretty, char *out, size_t capacity, size_t *length, jsonptr_error *error);
@@ -34,6 +36,8 @@ uint32_t jsonptrcore_document_diff(jsonptr_document *from, jsonptr_document *to,
                                    size_t capacity, size_t *length, jsonptr_error *error);
 uint32_t jsonptrcore_text_print(const char *text, size_t text_length, const char *pointer, size_t pointer_length,
                                 bool is_pretty, char *out, size_t capacity, size_t *length, jsonptr_error *error);
+uint32_t jsonptrcore_text_lost_number(const char *text, size_t text_length, bool *found, char *out, size_t capacity,
+                                      size_t *length, jsonptr_error *error);
 
 /* Whether a pointer and a length can be a slice: NULL only with length 0. */
 static bool is_slice(const void *start, size_t length) {
@@ -54,7 +58,7 @@ typedef struct unwanted {
     char buffer;
 } unwanted;
 
-/* Whether no other flag is set than those that are defined. */
+/* Whether no other flag is set than those of a call that prints. */
 static bool is_known(uint32_t flags) {
     return (flags & ~(JSONPTR_COMPACT | JSONPTR_PRETTY)) == 0;
 }
@@ -131,6 +135,16 @@ jsonptr_status jsonptr_document_parse(jsonptr_document *document, const char *te
         return refuse(error);
     }
     return jsonptrcore_document_parse(document, start_of(text), text_length, OR(error, none.error));
+}
+
+jsonptr_status jsonptr_document_parse_with(jsonptr_document *document, const char *text, size_t text_length,
+                                           uint32_t flags, jsonptr_error *error) {
+    unwanted none;
+    if (document == NULL || !is_slice(text, text_length) || (flags & ~JSONPTR_EXACT_NUMBERS) != 0) {
+        return refuse(error);
+    }
+    return jsonptrcore_document_parse_with(document, start_of(text), text_length, flags & JSONPTR_EXACT_NUMBERS,
+                                           OR(error, none.error));
 }
 
 void jsonptr_document_free(jsonptr_document *document) {
@@ -235,6 +249,16 @@ jsonptr_status jsonptr_resolve_in_text(const char *text, size_t text_length, con
     return jsonptrcore_text_print(start_of(text), text_length, start_of(pointer), pointer_length,
                                   flags & JSONPTR_PRETTY, OR(out, none.buffer), capacity, OR(length, none.length),
                                   OR(error, none.error));
+}
+
+jsonptr_status jsonptr_lost_number_in_text(const char *text, size_t text_length, bool *found, char *out,
+                                           size_t capacity, size_t *length, jsonptr_error *error) {
+    unwanted none;
+    if (!is_slice(text, text_length) || !is_slice(out, capacity)) {
+        return refuse(error);
+    }
+    return jsonptrcore_text_lost_number(start_of(text), text_length, OR(found, none.found), OR(out, none.buffer),
+                                        capacity, OR(length, none.length), OR(error, none.error));
 }
 
 const char *jsonptr_version(void) {

@@ -66,8 +66,12 @@
  *             that text again.
  * Numbers     Integers from -2^63 to 2^64-1 are exact. Every other number is
  *             the nearest double, also 1.0, 1e2 (printed as 100.0) and -0
- *             (printed as -0.0). A number that is too large for a double, such
- *             as 1e999, is JSONPTR_NOT_JSON.
+ *             (printed as -0.0). So 12345678901234567890123 loses digits: it is
+ *             printed as 1.2345678901234568e+22. With JSONPTR_EXACT_NUMBERS
+ *             jsonptr_document_parse_with does not read such a text, and
+ *             jsonptr_lost_number_in_text looks for such a number in any text.
+ *             A number that is too large for a double, such as 1e999, is
+ *             JSONPTR_NOT_JSON.
  * Keys        Of a repeated key the last member counts. Members are printed in
  *             the order of their keys.
  * Threads     There are no globals. Two threads may use two documents at once.
@@ -151,6 +155,7 @@ typedef uint32_t jsonptr_status;
 #define JSONPTR_NOT_PATCH    12u  /* the document is not a JSON Patch */
 #define JSONPTR_PATCH_FAILED 13u  /* an operation of the patch fails */
 #define JSONPTR_TOO_DEEP     14u  /* the document would nest deeper than 10,127 */
+#define JSONPTR_NOT_EXACT    15u  /* a number of a text loses digits */
 
 /* ---- Errors ------------------------------------------------------------ */
 
@@ -213,9 +218,13 @@ typedef uint32_t jsonptr_status;
  *                   MOVE_INTO_SELF, TEST_FLOAT,
  *                   TEST_FAILED                   kind, operation
  *     TOO_DEEP      0, DEEP_INVERSE               kind
+ *     NOT_EXACT     0                             offset, length
  *     others        0                             none
  *
- * The fields position, slash, offset and length are of a pointer. A token's
+ * The offset of NOT_EXACT is that of the number in the text, and its length is
+ * that of the number. jsonptr_lost_number_in_text has its pointer.
+ *
+ * The other fields position, slash, offset and length are of a pointer. A token's
  * offset is that of its first byte, and its length is that of its escaped text:
  *
  *          /sizes/2/unit     in  {"sizes": [3, 5]}
@@ -260,6 +269,7 @@ typedef struct jsonptr_error {
  * offset 6 is out of bounds". The number after "token at", "token at offset" or
  * "starting at offset" is `slash`, and that after "operation" is `operation`.
  * NOT_UTF8 and NOT_JSON have no number in the message: print `offset` beside it.
+ * The message of NOT_EXACT is "the number at offset 7 loses digits".
  * The message of a success is "no error".
  *
  * The message is made of the struct alone, which may be copied and kept after
@@ -362,6 +372,29 @@ JSONPTR_API JSONPTR_NODISCARD
 jsonptr_status jsonptr_document_parse(jsonptr_document *document,
                                       const char *text, size_t text_length,
                                       jsonptr_error *error);
+
+/* Flags of jsonptr_document_parse_with. Any other bit is JSONPTR_BAD_ARGUMENT. */
+#define JSONPTR_EXACT_NUMBERS 2u  /* a number that loses digits is an error */
+
+/* Reads a JSON text into a handle as jsonptr_document_parse does, which has no
+ * flags.
+ *
+ *     {"id": 12345678901234567890123}     is printed as {"id":1.2345678901234568e+22}
+ *
+ * A number loses digits if it is printed with another decimal value. So 1.10 and
+ * 1e5 lose none, which are printed as 1.1 and 100000.0. With
+ * JSONPTR_EXACT_NUMBERS the first number that does is an error.
+ *
+ * flags     0 or JSONPTR_EXACT_NUMBERS.
+ * Returns   those of jsonptr_document_parse, JSONPTR_NOT_EXACT with offset and
+ *           length. An error leaves the handle.
+ * error     may be NULL.
+ * Cost      linear in the text, which JSONPTR_EXACT_NUMBERS reads twice. */
+JSONPTR_API JSONPTR_NODISCARD
+jsonptr_status jsonptr_document_parse_with(jsonptr_document *document,
+                                           const char *text, size_t text_length,
+                                           uint32_t flags,
+                                           jsonptr_error *error);
 
 /* Frees the document of a handle, which is empty afterwards and can be used
  * again. An empty handle, and NULL, are left as they are.
@@ -579,6 +612,26 @@ jsonptr_status jsonptr_resolve_in_text(const char *text, size_t text_length,
                                        uint32_t flags,
                                        char *out, size_t capacity, size_t *length,
                                        jsonptr_error *error);
+
+/* Looks for the first number of a JSON text that loses digits, as
+ * jsonptr_document_parse_with does, and copies its pointer. So it tells a number
+ * of JSONPTR_NOT_EXACT by its pointer, and tests the text of a value or of a patch
+ * document before it is passed to another call.
+ *
+ *     {"ids": [1, 12345678901234567890123]}     has "/ids/1"
+ *
+ * found     may be NULL: whether a number loses digits. If none does, `*length`
+ *           is set to 0. So may `length` and `error`.
+ * Returns   JSONPTR_OK, JSONPTR_NOT_UTF8 with offset, JSONPTR_NOT_JSON with
+ *           offset, JSONPTR_NOT_EXACT with offset and length if the number has no
+ *           pointer, since the key of a member that it is in comes again,
+ *           JSONPTR_NO_ROOM, JSONPTR_NO_MEMORY. An error leaves `*found`.
+ * Cost      linear in the text. */
+JSONPTR_API JSONPTR_NODISCARD
+jsonptr_status jsonptr_lost_number_in_text(const char *text, size_t text_length,
+                                           bool *found,
+                                           char *out, size_t capacity, size_t *length,
+                                           jsonptr_error *error);
 
 /* The version of the library, such as "0.2.0", with a closing zero. */
 JSONPTR_API const char *jsonptr_version(void);

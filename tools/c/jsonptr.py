@@ -20,6 +20,18 @@ A module without dependencies. Documents cross to the library as JSON text:
     >>> document.text()
     '{"sizes":[3,5,8]}'
 
+A number that is no integer of 64 bits is the nearest double, so its digits may be lost. `exact` makes that an error:
+
+    >>> text = '{"id": 12345678901234567890123}'
+    >>> jsonptr.Document(text).text()
+    '{"id":1.2345678901234568e+22}'
+    >>> jsonptr.Document(text, exact=True)
+    Traceback (most recent call last):
+        ...
+    jsonptr.NotExact: the number at /id loses digits
+    >>> jsonptr.lost_number(text)
+    '/id'
+
 Each error that a call raises is a `JsonPointerError`, or a `TypeError` or `MemoryError`. Errors, documents and patches
 can be copied and pickled.
 
@@ -34,13 +46,13 @@ import os
 import threading
 from typing import Any, Dict, Iterator, List, NoReturn, Optional, Tuple, Type, Union
 
-__all__ = ["Document", "JsonPointerError", "JsonPatchError", "NotFound", "Patch", "TooDeep", "escape", "make_patch",
-           "resolve", "resolve_in_text", "tokens", "version"]
+__all__ = ["Document", "JsonPointerError", "JsonPatchError", "NotExact", "NotFound", "Patch", "TooDeep", "escape",
+           "lost_number", "make_patch", "resolve", "resolve_in_text", "tokens", "version"]
 
 Text = Union[str, bytes]
 
 OK, NO_MEMORY, NO_ROOM, BAD_ARGUMENT, NO_DOCUMENT, NOT_UTF8, NOT_JSON, NOT_POINTER, NO_TOKEN, NOT_FOUND, OTHER_KIND, \
-    NOT_ASSIGNED, NOT_PATCH, PATCH_FAILED, TOO_DEEP = range(15)
+    NOT_ASSIGNED, NOT_PATCH, PATCH_FAILED, TOO_DEEP, NOT_EXACT = range(16)
 MEMBERS = [None, "op", "path", "from", "value", "pointer", "token", "text"]
 
 
@@ -83,7 +95,8 @@ def _function(name: str, result: Any = ctypes.c_uint32) -> Any:
 
 
 _lib = _library()
-_get, _in_text, _parse = _function("document_get"), _function("resolve_in_text"), _function("document_parse")
+_get, _in_text, _parse = _function("document_get"), _function("resolve_in_text"), _function("document_parse_with")
+_lost_number = _function("lost_number_in_text")
 _assign, _delete, _patch = _function("document_assign"), _function("document_delete"), _function("document_patch")
 _patch_with_inverse = _function("document_patch_with_inverse")
 _diff, _free = _function("document_diff"), _function("document_free", None)
@@ -91,6 +104,7 @@ _count, _escape = _function("pointer_count"), _function("pointer_escape")
 _error_message, _version = _function("error_message"), _function("version", ctypes.c_char_p)
 _size, _at = ctypes.c_size_t, ctypes.byref
 _COMPACT, _PRETTY = ctypes.c_uint32(0), ctypes.c_uint32(1)
+_ANY_NUMBERS, _EXACT_NUMBERS = ctypes.c_uint32(0), ctypes.c_uint32(2)
 _scan: Any = getattr(json.JSONDecoder(), "scan_once")  # reads a text that begins with its value, as those of the library do
 
 
@@ -133,8 +147,19 @@ class TooDeep(JsonPointerError):
     """The document would nest deeper than 10,127 levels, or the patch that takes a patch back deeper than 127."""
 
 
+class NotExact(JsonPointerError):
+    """A number of a JSON text loses digits.
+
+    `pointer` identifies the first one, and is None if the key of a member that it is in comes again. `offset` and
+    `length` are its bytes in the text.
+    """
+
+    pointer: Optional[str] = None
+
+
 _CLASSES: Dict[int, Type[JsonPointerError]] = {
-    NOT_FOUND: NotFound, NOT_PATCH: JsonPatchError, PATCH_FAILED: JsonPatchError, TOO_DEEP: TooDeep}
+    NOT_FOUND: NotFound, NOT_PATCH: JsonPatchError, PATCH_FAILED: JsonPatchError, TOO_DEEP: TooDeep,
+    NOT_EXACT: NotExact}
 
 
 def _fail(status: int, error: _Error) -> NoReturn:
@@ -265,25 +290,51 @@ def resolve_in_text(text: Text, pointer: Text) -> bytes:
     return _Buffer().fill(_in_text, *_text(text), *_text(pointer), _COMPACT)
 
 
+def lost_number(text: Text) -> Optional[str]:
+    """Returns the pointer of the first number of a JSON text that loses digits, or None if each number keeps them.
+
+    A number loses digits if the library prints it with another decimal value: 1.10 and 1e5 lose none. The error is
+    `NotExact` if the number has no pointer, since the key of a member that it is in comes again.
+    """
+    found = ctypes.c_bool()
+    pointer = _Buffer().fill(_lost_number, *_text(text), _at(found))
+    return pointer.decode() if found.value else None
+
+
+def _with_pointer(error: NotExact, text: bytes) -> NotExact:
+    """Returns the error with the pointer of its number in the text."""
+    try:
+        pointer = lost_number(text)
+    except NotExact:
+        return error
+    message = f"the number at {pointer} loses digits" if pointer else "the number loses digits"
+    return NotExact(message, **{**error.__dict__, "pointer": pointer})
+
+
 class Document:
     """A JSON document in the memory of the library.
 
-    It is made of JSON text, as `str` or `bytes`, and `Document.of` makes it of a Python value. A copy, and a document
-    that was pickled, is made of the text again, so a document that nests deeper than 127 levels has none.
+    It is made of JSON text, as `str` or `bytes`, and `Document.of` makes it of a Python value. If `exact`, a number that
+    loses digits is the error `NotExact`. A copy, and a document that was pickled, is made of the text again, so a document
+    that nests deeper than 127 levels has none.
     """
 
-    def __init__(self, text: Text) -> None:
+    def __init__(self, text: Text, exact: bool = False) -> None:
         self._lock = threading.Lock()
         self._handle = _Handle()
         self._at = _at(self._handle)
         self._buffer = _Buffer()
         self._size = _size()  # of the pointer that is passed
-        self._call(_parse, *_text(text))
+        data, flags = _text(text), _EXACT_NUMBERS if exact else _ANY_NUMBERS
+        try:
+            self._call(_parse, *data, flags)
+        except NotExact as error:
+            raise _with_pointer(error, data[0]) from None
 
     @classmethod
-    def of(cls, value: Any) -> "Document":
-        """Returns the document of a Python value."""
-        return cls(_json(value))
+    def of(cls, value: Any, exact: bool = False) -> "Document":
+        """Returns the document of a Python value. If `exact`, a number that loses digits is the error `NotExact`."""
+        return cls(_json(value), exact)
 
     def _call(self, call: Any, *arguments: Any) -> None:
         """Calls a function on the document that returns no text."""

@@ -45,7 +45,7 @@ PACKAGE = [
     ),
     assigns(
         "package.json", "/optionalDependencies/fsevents", '"2.3.3"',
-        '-  "optionalDependencies": {},', '+  "optionalDependencies": {"fsevents": "2.3.3"},',
+        '-  "optionalDependencies": {},', '+  "optionalDependencies": {', '+    "fsevents": "2.3.3"', "+  },",
     ),
     assigns(
         "package.json", "/files/-", '"README.md"',
@@ -131,7 +131,7 @@ NOTEBOOK = [
             '-     "output_type": "execute_result"', "-    }", "-   ],", '+   "outputs": [],'),
     assigns("tides.ipynb", "/cells/0/source/-", '"More."', '-    "Heights in metres above chart datum."',
             '+    "Heights in metres above chart datum.",', '+    "More."'),
-    assigns("tides.ipynb", "/cells/1/metadata/tags/-", '"hide"', '-    "tags": []', '+    "tags": ["hide"]'),
+    assigns("tides.ipynb", "/cells/1/metadata/tags/-", '"hide"', '-    "tags": []', '+    "tags": [', '+     "hide"', "+    ]"),
     assigns("tides.ipynb", "/metadata/language_info/version", '"3.12.1"', '-   "version": "3.11.7"', '+   "version": "3.12.1"'),
     deletes("tides.ipynb", "/cells/1/metadata/scrolled", '-    "scrolled": true,'),
 ]
@@ -140,8 +140,8 @@ TABBED = [
     assigns("tsconfig.json", "/compilerOptions/strict", "false", '-\t\t"strict": true,', '+\t\t"strict": false,'),
     assigns("tsconfig.json", "/compilerOptions/lib/-", '"WebWorker"', '-\t\t"lib": ["ES2022", "DOM"],', '+\t\t"lib": ["ES2022", "DOM", "WebWorker"],'),
     assigns("tsconfig.json", "/compilerOptions/paths/~0test~1*/-", '"./spec/*"', '-\t\t\t\t"./test/*"', '+\t\t\t\t"./test/*",', '+\t\t\t\t"./spec/*"'),
-    assigns("tsconfig.json", "/compilerOptions/plugins/-", '"a"', '+\t\t  "a"'),
-    assigns("tsconfig.json", "/references/0/path", '"../lib"', '-\t"references": []', '+\t"references": [{"path":"../lib"}]'),
+    assigns("tsconfig.json", "/compilerOptions/plugins/-", '"a"', '+\t\t\t"a"'),
+    assigns("tsconfig.json", "/references/0/path", '"../lib"', '-\t"references": []', '+\t"references": [{"path": "../lib"}]'),
     deletes("tsconfig.json", "/extends", '-\t"extends": "./base.json",'),
 ]
 
@@ -149,8 +149,8 @@ CARRIAGE_RETURNS = [
     assigns("settings.json", "/window/left", "120", '-        "left": 100,', '+        "left": 120,'),
     assigns("settings.json", "/recent/-", '"D:\\\\new.chart"', '-        "C:\\\\charts\\\\east.chart"', '+        "C:\\\\charts\\\\east.chart",',
             '+        "D:\\\\new.chart"'),
-    assigns("settings.json", "/colours/water", '"#036"', '+      "water": "#036"'),
-    assigns("settings.json", "/window/size", "[800,600]", '-        "zoom": 1.0', '+        "zoom": 1.0,', '+        "size": [', "+          800,", "+          600", "+        ]"),
+    assigns("settings.json", "/colours/water", '"#036"', '+        "water": "#036"'),
+    assigns("settings.json", "/window/size", "[800,600]", '-        "zoom": 1.0', '+        "zoom": 1.0,', '+        "size": [', "+            800,", "+            600", "+        ]"),
     deletes("settings.json", "/recent/0", '-        "C:\\\\charts\\\\west.chart",'),
 ]
 

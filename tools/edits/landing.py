@@ -1,8 +1,10 @@
 """Where an edit lands in a text, and which characters it may change there."""
 import itertools
+import re
 from typing import NamedTuple
 
-from . import spans
+from . import layouts, spans
+from .layouts import Layout
 from .spans import SPACE
 
 
@@ -103,11 +105,13 @@ def piece(old, new, start, end):
 def check(old, new, landing, moved=None):
     """Checks that a new text is an old one with an edit at its landing. Returns the text of the value that came, or None.
 
-    A value that is printed is on one line without white space, or has a line for each child. One that was `moved` or
-    copied, from a text and a value in it, may have other white space. If its last line had the indentation of its first
-    one there, it has it here.
+    A value that is printed is on one line, with the white space of the text, or has a line for each child, indented as the
+    text is. One that was `moved` or copied, from a text and a value in it, may have other white space. If its last line had
+    the indentation of its first one there, it has it here. A text that is in one layout as a whole stays in it.
     """
     check_newlines(old if moved is None else moved[0], new)
+    if moved is None and not layouts.is_kept(old, new):
+        raise Wrong("the layout of the text is not kept")
     if isinstance(landing, Replaced):
         came, margin = check_replaced(old, new, landing)
     elif isinstance(landing, Added):
@@ -117,7 +121,7 @@ def check(old, new, landing, moved=None):
     else:
         raise Wrong("the removed child is not cut out with its comma and its white space")
     if moved is None and any(it in came for it in SPACE):
-        check_printed(came, margin)
+        check_printed(old, came, margin)
     if moved is not None and "\n" in came and is_even(*moved) and spans.indentation(came, len(came)) != margin:
         raise Wrong("the last line of the moved value has another indentation than its first one")
     return came
@@ -128,13 +132,45 @@ def is_even(text, value):
     return spans.indentation(text, value.start) == spans.indentation(text, value.end)
 
 
-def check_printed(came, margin):
-    """Checks the white space of a new value: there is none, or each child is on a line of its own."""
+def check_printed(old, came, margin):
+    """Checks the white space of a new value: that of the text, or each child is on a line of its own."""
     value = spans.read(came)
-    flat = "".join(spans.tokens_of(came))
-    lines = [spans.spread(came, value, newline + margin) for newline in ("\n", "\r\n")] if "\n" in came else []
-    if came not in (flat, *lines):
+    if "\n" in came:
+        wanted = [Layout(newline=newline, unit=unit) for newline in ("\n", "\r\n") for unit in units_of(old)]
+    else:
+        wanted = flats_of(old, came)
+    if not any(layouts.laid_out(came, value, it, margin) == came for it in wanted):
         raise Wrong(f"the new value has white space of its own: {came!r}")
+
+
+def units_of(text):
+    """Returns by what levels of a text may be indented: the white space of a line, or two spaces."""
+    lines = [spans.indentation(text, at) for at, it in enumerate(text) if it not in SPACE]
+    return {"  ", *(long[len(short) :] for long in set(lines) for short in {"", *lines} if long.startswith(short))} - {""}
+
+
+def flats_of(old, came):
+    """Returns the layout that a value on one line has, if each of its white spaces is one of the old text or usual."""
+    first = [after(came, it) for it in (",", ":", "{", "[")]
+    gaps = {"", " ", *(it.group() for it in spans.BLANK.finditer(old))}
+    colons = {":", ": ", *COLON.findall(old)}
+    comma, _, brace, bracket = [it or "" for it in first]
+    colon = next(iter(COLON.findall(without_strings(came))), ":")
+    return [Layout(comma, colon, brace, bracket)] if {comma, brace, bracket} <= gaps and colon in colons else []
+
+
+COLON = re.compile(r"[ \t\r]*:[ \t\r]*")
+
+
+def without_strings(text):
+    """Returns a text with empty strings."""
+    return "".join('""' if it[0] == '"' else it for it in re.findall(r'"(?:[^"\\]|\\.)*"|[^"]', text))
+
+
+def after(text, mark):
+    """Returns the white space after the first such token that has a child after it, or None."""
+    found = re.search(re.escape(mark) + r"([ \t\r]*)(?=[^ \t\r}\]])", without_strings(text))
+    return found and found[1]
 
 
 def check_newlines(old, new):
@@ -193,7 +229,7 @@ def check_gap(old, parent, gap):
             raise Wrong(f"the new child is after {gap!r}, and not on a line of its own like its siblings")
     elif len(leads) > 1 and gap not in leads[1:]:
         raise Wrong(f"the new child is after {gap!r}, and its siblings are not")
-    elif len(leads) == 1 and gap not in ("", " "):
+    elif len(leads) == 1 and gap not in ("", " ", *(it.group() for it in spans.BLANK.finditer(old))):
         raise Wrong(f"the new child is after {gap!r}")
 
 
@@ -204,13 +240,13 @@ def check_first(old, new, landing):
     lead, came = split_blank(piece(old, new, parent.start + 1, parent.end - 1))
     child = came.rstrip(SPACE)
     trail = came[len(child) :]
-    newline = "\r\n" if "\r\n" in inner else "\n"
-    margin = newline + spans.indentation(old, parent.start)
-    if "\n" in inner and (lead, trail) != (margin + "  ", margin):
+    own = spans.indentation(old, parent.start)
+    lines = [(f"{newline}{own}{unit}", f"{newline}{own}") for newline in ("\n", "\r\n") for unit in units_of(old)]
+    if "\n" in lead and ("\n" not in old or (lead, trail) not in lines):
         raise Wrong(f"the new child is between {lead!r} and {trail!r}")
-    if "\n" not in inner and (lead != trail or lead not in ("", inner)):
+    if "\n" not in lead and ("\n" in inner or lead != trail):
         raise Wrong(f"the new child is between {lead!r} and {trail!r}")
-    return check_child(old, landing, lead, child, "\n" in inner)
+    return check_child(old, landing, lead, child, "\n" in lead)
 
 
 def check_child(old, landing, lead, child, may_span):
@@ -237,17 +273,9 @@ def value_of_member(old, landing, child):
     colons = [old[it.name_end : it.value.start] for it in landing.parent.children]
     if colons and colon not in colons:
         raise Wrong(f"the new member has {colon!r}, and its siblings do not")
-    if not colons and colon not in (":", ": ", colon_before(old, landing.parent)):
+    if not colons and colon not in (":", ": ", *COLON.findall(old)):
         raise Wrong(f"the new member has {colon!r}")
-    if not colons and "\n" in colon:
-        raise Wrong("there is a line break between the new key and its value")
     return value
-
-
-def colon_before(old, value):
-    """Returns the colon before a value and the white space around it, if it is that of a member."""
-    before = old[: value.start].rstrip(SPACE)
-    return spans.blank_before(before, len(before) - 1) + ":" + old[len(before) : value.start] if before.endswith(":") else ""
 
 
 def without(old, landing):
@@ -269,9 +297,13 @@ def without(old, landing):
 
 
 def cut(parts, at):
-    """Returns the children without one. The next one takes its location, and the last one takes its comma along."""
+    """Returns the children without one. The next one takes its location. The last one, and the last one of a row, takes its
+    comma along."""
     rest = parts[:at] + parts[at + 1 :]
-    if at < len(rest):
+    if 0 < at < len(rest) and "\n" in parts[at + 1][1] and "\n" not in parts[at][1]:
+        position, lead, text, _ = rest[at - 1]
+        rest[at - 1] = (position, lead, text, parts[at][3])
+    elif at < len(rest):
         position, _, text, trail = rest[at]
         rest[at] = (position, parts[at][1], text, trail)
     elif rest:

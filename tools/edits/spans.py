@@ -148,9 +148,9 @@ def blank_before(text, at):
 
 
 def indentation(text, at):
-    """Returns the white space that begins the line of a character."""
-    line = text[text.rfind("\n", 0, at) + 1 :]
-    return BLANK.match(line)[0]
+    """Returns the white space that begins the line of a character. The first line has none."""
+    start = text.rfind("\n", 0, at) + 1
+    return BLANK.match(text, start)[0] if start else ""
 
 
 def own_space(text, value):

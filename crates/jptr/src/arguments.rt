@@ -21,6 +21,7 @@ pub fn command<'a>(alloc: Global) -> Result<Command<'a>, AllocError> {
         .subcommand(from_paths(alloc)?)?
         .subcommand(patch(alloc)?)?
         .subcommand(format(alloc)?)?
+        .subcommand(relayout(alloc)?)?
         .subcommand(diff(alloc)?)?
         .subcommand(tokens(alloc)?)?
         .subcommand(escape(alloc)?)?
@@ -53,8 +54,13 @@ fn set<'a>(alloc: Global) -> Result<Command<'a>, AllocError> {
     let command = Command::new(alloc, "set")
         .about("Prints the document with the value assigned at the pointer")
         .arg(pointer(alloc))?
-        .arg(arg!(in alloc; <JSON> "The value").allow_negative_numbers(true))?
+        .arg(
+            arg!(in alloc; <JSON> "The value, or @FILE for that of a file").allow_negative_numbers(
+                true,
+            ),
+        )?
         .arg(file(alloc))?
+        .arg(arg!(in alloc; --string "Takes the value as a string, without quotes and escapes"))?
         .arg(toml_flag(alloc))?
         .arg(reformat(alloc)?)?;
     with_lines(alloc, with_in_place(alloc, with_order(alloc, command)?)?)
@@ -119,6 +125,19 @@ fn format<'a>(alloc: Global) -> Result<Command<'a>, AllocError> {
         .about("Prints the document with a line for each member and element")
         .arg(file(alloc))?;
     with_lines(alloc, with_in_place(alloc, with_order(alloc, command)?)?)
+}
+
+/// Returns the command `relayout`.
+fn relayout<'a>(alloc: Global) -> Result<Command<'a>, AllocError> {
+    Command::new(alloc, "relayout")
+        .about("Prints a new document in the layout of the file that it was made from")
+        .arg(arg!(in alloc; <FILE> "The file with the layout, or - for standard input"))?
+        .arg(arg!(in alloc; [NEW] "The new document; standard input if it is missing or -"))?
+        .arg(lossy(alloc))?
+        .arg(
+            arg!(in alloc; --reformat "Takes a document as it is that cannot be laid out as the file"),
+        )?
+        .arg(in_place_flag(alloc)?)
 }
 
 /// Returns the command `diff`.
@@ -224,15 +243,17 @@ fn with_lines<'a>(alloc: Global, command: Command<'a>) -> Result<Command<'a>, Al
         )
 }
 
-/// Adds the flag for changing the file.
+/// Adds the flag for changing the file to a command that takes lines.
 fn with_in_place<'a>(alloc: Global, command: Command<'a>) -> Result<Command<'a>, AllocError> {
-    command.arg(
-        Arg::new(alloc, "in-place")
-            .short('i')
-            .long("in-place")
-            .help("Changes the file, and prints nothing")
-            .action(ArgAction::SetTrue)
-            .requires_arg("FILE")?
-            .conflicts_with("lines")?,
-    )
+    command.arg(in_place_flag(alloc)?.conflicts_with("lines")?)
+}
+
+/// Returns the flag for changing the file.
+fn in_place_flag<'a>(alloc: Global) -> Result<Arg<'a>, AllocError> {
+    Arg::new(alloc, "in-place")
+        .short('i')
+        .long("in-place")
+        .help("Changes the file, and prints nothing")
+        .action(ArgAction::SetTrue)
+        .requires_arg("FILE")
 }

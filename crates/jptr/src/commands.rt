@@ -1,11 +1,14 @@
 //! The commands.
 
 use crate::digits::{check_bytes, check_text, is_lossy};
+use crate::given::raw_value;
 use crate::input::{is_standard, name_of, read_all};
 use crate::inverse::patch_with_inverse;
 use crate::output::{print_line, print_text};
+use crate::patch_file::patch_of;
 use crate::paths::{from_paths, paths};
 use crate::problem::{FILE, NOT_APPLIED, NOT_JSON, Problem, USAGE};
+use crate::relayout::relayout;
 use crate::style::{layout_of, style_of};
 use crate::task::{run_styled, run_task};
 use crate::toml_file::is_toml;
@@ -14,11 +17,8 @@ use clap::error::ErrorKind;
 use clap::{ArgMatches, Error};
 use jptr_tasks::difference::difference_of;
 use jptr_tasks::layout::{Layout, show};
-use jptr_tasks::patching::operations_of;
 use jptr_tasks::task::Task;
 use jsonptr::{Pointer, Token};
-use jsonptr_edit_in_text::RawValue;
-use jsonptr_in_text::InTextError;
 use serde_json::Value;
 use std::alloc::Global;
 use std::borrow::CowStr;
@@ -71,6 +71,7 @@ fn run_command(rt: &HostRuntime, name: &str, matches: &ArgMatches<'_>) -> Result
         "from-paths" => from_paths(rt, matches),
         "patch" => patch(rt, matches),
         "format" => format(rt, matches),
+        "relayout" => relayout(rt, matches),
         "diff" => diff(rt, matches),
         "tokens" => tokens(rt, matches),
         "escape" => escape(rt, matches),
@@ -100,9 +101,9 @@ fn set(rt: &HostRuntime, matches: &ArgMatches<'_>) -> Result<u8, Problem> {
     let text = argument(matches, "POINTER");
     let pointer = pointer_of(alloc, text)?;
     if is_toml(matches) {
-        return toml_file::set(rt, matches, pointer, argument(matches, "JSON"));
+        return toml_file::set(rt, matches, pointer);
     }
-    let value = raw_value_of(alloc, "JSON", argument(matches, "JSON"))?;
+    let value = raw_value(rt, matches)?;
     run_task(rt, matches, Task::Set(pointer, value), text)
 }
 
@@ -129,13 +130,10 @@ fn patch(rt: &HostRuntime, matches: &ArgMatches<'_>) -> Result<u8, Problem> {
             return Err(Problem::new(alloc, USAGE, "patch", "not on TOML: use set and delete"));
         }
     }
-    let document = document_of(rt, name)?;
-    match operations_of(alloc, &document) {
-        Ok(_) => match matches.get_str("inverse") {
-            Some(undo) => patch_with_inverse(rt, matches, document, undo),
-            None => run_task(rt, matches, Task::Patch(document), ""),
-        },
-        Err(failure) => Err(Problem::of_patch(alloc, name_of(Some(name)), &document, failure)),
+    let patch = patch_of(rt, name)?;
+    match matches.get_str("inverse") {
+        Some(undo) => patch_with_inverse(rt, matches, patch, undo),
+        None => run_task(rt, matches, Task::Patch(patch), ""),
     }
 }
 
@@ -189,12 +187,6 @@ fn diff(rt: &HostRuntime, matches: &ArgMatches<'_>) -> Result<u8, Problem> {
         }
         Err(failure) => Err(Problem::of_failure(alloc, name_of(Some(name)), "", failure)),
     }
-}
-
-/// Reads a document from a file or from standard input.
-fn document_of(rt: &HostRuntime, file: &str) -> Result<Value, Problem> {
-    let bytes = read_all(rt, Some(file))?;
-    document_in(rt.alloc(), file, &bytes)
 }
 
 /// Reads the document that the bytes of a file are.
@@ -262,15 +254,6 @@ fn pointer_of<'a>(alloc: Global, text: &'a str) -> Result<Pointer<'a>, Problem> 
     match Pointer::parse(text) {
         Ok(pointer) => Ok(pointer),
         Err(error) => Err(Problem::of_pointer(alloc, text, error)),
-    }
-}
-
-/// Parses an argument as a JSON text, and keeps the text.
-fn raw_value_of(alloc: Global, name: &str, text: &str) -> Result<RawValue, Problem> {
-    match RawValue::parse(alloc, text) {
-        Ok(value) => Ok(value),
-        Err(InTextError::Memory(_)) => Err(Problem::Memory),
-        Err(_) => Err(Problem::of_bytes(alloc, name, text.as_bytes())),
     }
 }
 

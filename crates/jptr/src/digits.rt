@@ -3,13 +3,20 @@
 use crate::problem::{NOT_JSON, Problem};
 use crate::style::Style;
 use clap::ArgMatches;
-use jptr_tasks::document::document_result;
 use jptr_tasks::failure::Failure;
 use jptr_tasks::layout::Layout;
+use jptr_tasks::result::result_in_text;
 use jptr_tasks::task::Task;
+use jsonptr_edit_in_text::RawOperation;
 use jsonptr_numbers::{Lost, find_lost};
 use simdutf8::basic::from_utf8;
 use std::alloc::{AllocError, Global};
+
+/// The name of the argument with the value that is assigned.
+const VALUE: &str = "JSON";
+
+/// The name of the argument with the patch.
+const PATCH: &str = "PATCHFILE";
 
 /// Returns whether the flags allow that digits are lost.
 pub fn is_lossy(matches: &ArgMatches<'_>) -> bool {
@@ -33,27 +40,141 @@ pub fn check_bytes(alloc: Global, name: &str, bytes: &[u8]) -> Result<(), Proble
     }
 }
 
-/// Returns whether numbers of the result are read, and may not lose digits.
-pub fn is_checked(style: Style) -> bool {
-    !style.is_lossy && matches!(style.layout, Layout::Sorted | Layout::SortedPretty)
+/// The first number of a result that loses digits.
+#[derive(Drop)]
+pub enum Loss {
+    /// A number of the document.
+    Document(Lost),
+    /// A number of the value that is assigned.
+    Value(Lost),
+    /// A number of the value of the patch's operation at this position.
+    Operation(usize, Lost),
 }
 
-/// Fails if a number of the result loses digits because the members are sorted.
-pub fn check_sorted(
+/// Returns whether the result of the task may have numbers that are read, and may not lose digits.
+///
+/// They are read to sort the members, and where an edit cannot be made in the text. Of all edits that is
+/// known of patches alone.
+pub fn is_checked(task: &Task<'_>, style: Style) -> bool {
+    if style.is_lossy {
+        return false;
+    }
+    match style.layout {
+        Layout::Sorted | Layout::SortedPretty => true,
+        Layout::Compact | Layout::Pretty => matches!(task, Task::Patch(_)),
+        Layout::Kept => style.reformats && !matches!(task, Task::Get(_, _)),
+        Layout::Raw => false,
+    }
+}
+
+/// Returns the first number that the task loses digits of in the text of a document, if there is one.
+///
+/// If the members are sorted, that is a number of the result. If the document is printed anew, since it
+/// cannot be edited in its text, it is a number of the document, or of a value that is put into it.
+pub fn loss_of(
+    alloc: Global,
+    task: &Task<'_>,
+    style: Style,
+    text: &str,
+) -> Result<Option<Loss>, AllocError> {
+    if !is_checked(task, style) {
+        return Ok(None);
+    }
+    let in_document = find_lost(alloc, text)?;
+    let in_values = loss_in_values(alloc, task)?;
+    if in_document.is_none() && in_values.is_none() {
+        return Ok(None);
+    }
+    match result_in_text(alloc, task, Layout::Kept, text) {
+        Ok(new) => loss_in_result(alloc, style.layout, new.as_str()),
+        Err(Failure::NotInPlace) => Ok(first_of(in_document, in_values)),
+        Err(Failure::Memory(error)) => Err(error),
+        // The command reports it.
+        Err(_) => Ok(None),
+    }
+}
+
+/// Returns the first number that loses digits in the text of a value that the task puts into the
+/// document, if there is one.
+fn loss_in_values(alloc: Global, task: &Task<'_>) -> Result<Option<Loss>, AllocError> {
+    match task {
+        Task::Set(_, value) => match find_lost(alloc, value.text.flat.as_str())? {
+            Some(lost) => Ok(Some(Loss::Value(lost))),
+            None => Ok(None),
+        },
+        Task::Patch(patch) => loss_in_operations(alloc, &patch.operations),
+        Task::Get(_, _) | Task::Delete(_) => Ok(None),
+    }
+}
+
+/// Returns the first number that loses digits in the text of the value of an operation, if there is one.
+fn loss_in_operations(
+    alloc: Global,
+    operations: &Vec<RawOperation>,
+) -> Result<Option<Loss>, AllocError> {
+    let mut position: usize = 0;
+    for operation in operations {
+        if let Some(lost) = lost_in_operation(alloc, operation)? {
+            return Ok(Some(Loss::Operation(position, lost)));
+        }
+        position = position.saturating_add(1);
+    }
+    Ok(None)
+}
+
+/// Returns the first number that loses digits in the text of the value of the operation, if there is one.
+fn lost_in_operation(alloc: Global, operation: &RawOperation) -> Result<Option<Lost>, AllocError> {
+    match &operation.text {
+        Some(value) => find_lost(alloc, value.text.flat.as_str()),
+        None => Ok(None),
+    }
+}
+
+/// Returns the first number that loses digits if the result is laid out so.
+fn loss_in_result(alloc: Global, layout: Layout, text: &str) -> Result<Option<Loss>, AllocError> {
+    match layout {
+        Layout::Sorted | Layout::SortedPretty => Ok(first_of(find_lost(alloc, text)?, None)),
+        _ => Ok(None),
+    }
+}
+
+/// Returns the number of the document, or else that of a value.
+fn first_of(in_document: Option<Lost>, in_values: Option<Loss>) -> Option<Loss> {
+    match in_document {
+        Some(lost) => Some(Loss::Document(lost)),
+        None => in_values,
+    }
+}
+
+/// Fails if the task loses digits of a number of the document with this name, or of a value that it puts
+/// into the document.
+pub fn check_result(
     alloc: Global,
     name: &str,
     task: &Task<'_>,
     style: Style,
     bytes: &[u8],
 ) -> Result<(), Problem> {
-    if !is_checked(style) {
-        return Ok(());
-    }
-    match document_result(alloc, task, Layout::Compact, bytes) {
-        Ok(text) => check_text(alloc, name, text.as_str()),
-        Err(Failure::Memory(_)) => Err(Problem::Memory),
+    let Ok(text) = from_utf8(bytes) else {
         // The command reports it.
-        Err(_) => Ok(()),
+        return Ok(());
+    };
+    match loss_of(alloc, task, style, text)? {
+        Some(Loss::Document(lost)) => Err(problem(alloc, name, &lost)),
+        Some(Loss::Value(lost)) => Err(problem(alloc, VALUE, &lost)),
+        Some(Loss::Operation(position, lost)) => Err(operation_problem(alloc, position, &lost)),
+        None => Ok(()),
+    }
+}
+
+/// Returns what is said of a line that loses digits.
+pub fn loss_message(alloc: Global, loss: &Loss) -> Result<String, AllocError> {
+    match loss {
+        Loss::Document(lost) => message(alloc, lost),
+        Loss::Value(lost) => format!(in alloc; "{VALUE}: {lost}: use --lossy"),
+        Loss::Operation(position, lost) => {
+            format!(in alloc; "{PATCH}: operation {position}: {lost}: use --lossy")
+        }
     }
 }
 
@@ -89,6 +210,14 @@ fn problem(alloc: Global, name: &str, lost: &Lost) -> Problem {
     }
 }
 
+/// Returns the problem of a number that loses digits in the value of the operation at this position.
+fn operation_problem(alloc: Global, position: usize, lost: &Lost) -> Problem {
+    match operation_message(alloc, position, lost) {
+        Ok(message) => Problem::new(alloc, NOT_JSON, PATCH, message.as_str()),
+        Err(_) => Problem::Memory,
+    }
+}
+
 /// Returns the problem of a number of a line that loses digits.
 fn line_problem(alloc: Global, name: &str, number: usize, lost: &Lost) -> Problem {
     match line_message(alloc, number, lost) {
@@ -100,6 +229,11 @@ fn line_problem(alloc: Global, name: &str, number: usize, lost: &Lost) -> Proble
 /// Returns what is said of a number that loses digits.
 fn message(alloc: Global, lost: &Lost) -> Result<String, AllocError> {
     Ok(format!(in alloc; "{lost}: use --lossy")?)
+}
+
+/// Returns what is said of a number that loses digits in the value of the operation at this position.
+fn operation_message(alloc: Global, position: usize, lost: &Lost) -> Result<String, AllocError> {
+    Ok(format!(in alloc; "operation {position}: {lost}: use --lossy")?)
 }
 
 /// Returns what is said of a number of a line that loses digits.

@@ -1,18 +1,17 @@
 //! The flag `--inverse`: a patch, and a file with the patch that takes it back.
 
 use crate::digits::check_text;
-use crate::in_place::{open_file, replace_text};
-use crate::input::{is_standard, name_of, read_all};
-use crate::output::print_text;
+use crate::input::{is_standard, name_of};
 use crate::problem::{Problem, USAGE};
+use crate::source::Source;
 use crate::style::{Style, style_of};
 use crate::task::{document_problem, edited};
 use crate::written::Written;
 use clap::ArgMatches;
 use jptr_tasks::failure::Failure;
 use jptr_tasks::inverse::inverse_of;
+use jptr_tasks::raw_patch::RawPatch;
 use jptr_tasks::task::Task;
-use serde_json::Value;
 use simdutf8::basic::from_utf8;
 use std::alloc::Global;
 use std::fs;
@@ -21,9 +20,7 @@ use std::os::unix::fs::MetadataExt;
 /// A patch of a document, and the name of the file for its inverse.
 #[derive(Drop)]
 struct Patching<'a> {
-    /// The name of the document in errors.
-    name: &'a str,
-    patch: Value,
+    patch: RawPatch,
     style: Style,
     undo: &'a str,
 }
@@ -40,21 +37,21 @@ struct Texts {
 pub fn patch_with_inverse(
     rt: &HostRuntime,
     matches: &ArgMatches<'_>,
-    patch: Value,
+    patch: RawPatch,
     undo: &str,
 ) -> Result<u8, Problem> {
-    let file = matches.get_str("FILE");
-    check_name(rt, undo, file)?;
+    check_name(rt, undo, matches.get_str("FILE"))?;
     let patching = Patching {
-        name: name_of(file),
         patch,
         style: style_of(rt.alloc(), matches)?,
         undo,
     };
-    match file {
-        Some(path) if matches.get_flag("in-place") => in_place(rt, path, patching),
-        _ => on_document(rt, file, patching),
-    }
+    let source = Source::open(rt, matches)?;
+    let texts = texts_of(rt.alloc(), patching, &source)?;
+    let written = Written::write(rt, undo, texts.undo.as_str())?;
+    let put = source.put(rt, texts.new.as_str());
+    written.settle(rt, put)?.keep(rt);
+    Ok(0)
 }
 
 /// Fails if the inverse would go to standard output, or to the file of the document.
@@ -77,57 +74,30 @@ fn is_same_file(rt: &HostRuntime, left: &str, right: &str) -> bool {
     }
 }
 
-/// Prints the document after the patch.
-fn on_document(
-    rt: &HostRuntime,
-    file: Option<&str>,
-    patching: Patching<'_>,
-) -> Result<u8, Problem> {
-    let bytes = read_all(rt, file)?;
-    let texts = texts_of(rt.alloc(), &patching, &bytes)?;
-    let written = Written::write(rt, patching.undo, texts.undo.as_str())?;
-    let printed = print_text(rt, texts.new.as_str());
-    written.settle(rt, printed)?.keep(rt);
-    Ok(0)
-}
-
-/// Replaces the document in its file.
-fn in_place(rt: &HostRuntime, path: &str, patching: Patching<'_>) -> Result<u8, Problem> {
-    let alloc = rt.alloc();
-    if is_standard(Some(path)) {
-        return Err(Problem::new(alloc, USAGE, "--in-place", "needs a file"));
-    }
-    let (target, bytes) = open_file(rt, path)?;
-    let texts = texts_of(alloc, &patching, &bytes)?;
-    let written = Written::write(rt, patching.undo, texts.undo.as_str())?;
-    let replaced = if texts.new.as_bytes() == bytes.as_slice() {
-        Ok(())
-    } else {
-        replace_text(rt, path, &target, texts.new.as_str())
-    };
-    written.settle(rt, replaced)?.keep(rt);
-    Ok(0)
-}
-
 /// Returns the texts of the new document and of the patch that takes the patch back.
-fn texts_of(alloc: Global, patching: &Patching<'_>, bytes: &[u8]) -> Result<Texts, Problem> {
-    let undo = undo_text(alloc, patching, bytes)?;
-    let task = Task::Patch(patching.patch.clone()?);
-    match edited(alloc, &task, patching.style, bytes) {
+fn texts_of(alloc: Global, patching: Patching<'_>, source: &Source<'_>) -> Result<Texts, Problem> {
+    let undo = undo_text(alloc, &patching, source)?;
+    let style = patching.style;
+    let task = Task::Patch(patching.patch);
+    match edited(alloc, &task, style, &source.bytes) {
         Ok(new) => Ok(Texts { new, undo }),
-        Err(failure) => Err(document_problem(alloc, patching.name, "", bytes, failure)),
+        Err(failure) => Err(document_problem(alloc, source.name, "", &source.bytes, failure)),
     }
 }
 
 /// Returns the text of the patch that takes the patch back, with a line break at its end.
-fn undo_text(alloc: Global, patching: &Patching<'_>, bytes: &[u8]) -> Result<String, Problem> {
-    let Ok(text) = from_utf8(bytes) else {
-        return Err(Problem::of_bytes(alloc, patching.name, bytes));
+fn undo_text(
+    alloc: Global,
+    patching: &Patching<'_>,
+    source: &Source<'_>,
+) -> Result<String, Problem> {
+    let Ok(text) = from_utf8(&source.bytes) else {
+        return Err(Problem::of_bytes(alloc, source.name, &source.bytes));
     };
-    match inverse_of(alloc, text, &patching.patch, patching.style.layout) {
+    match inverse_of(alloc, text, &patching.patch.document, patching.style.layout) {
         Ok(inverse) => {
             if !patching.style.is_lossy {
-                check_text(alloc, patching.name, text)?;
+                check_text(alloc, source.name, text)?;
             }
             let mut text = inverse.text;
             text.push('\n')?;
@@ -139,6 +109,6 @@ fn undo_text(alloc: Global, patching: &Patching<'_>, bytes: &[u8]) -> Result<Str
             "",
             Failure::PatchTooDeep,
         )),
-        Err(failure) => Err(document_problem(alloc, patching.name, "", bytes, failure)),
+        Err(failure) => Err(document_problem(alloc, source.name, "", &source.bytes, failure)),
     }
 }

@@ -7,12 +7,17 @@
 mod arguments;
 mod commands;
 mod digits;
+mod exact_lines;
+mod given;
 mod in_place;
 mod input;
 mod inverse;
 mod output;
+mod patch_file;
 mod paths;
 mod problem;
+mod relayout;
+mod source;
 mod style;
 mod task;
 mod toml_file;

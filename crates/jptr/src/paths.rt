@@ -1,7 +1,7 @@
 //! Commands on a document as lines: its nodes, and the document that lines build.
 
 use crate::digits::{check_bytes, check_lines, is_lossy};
-use crate::input::{name_of, open};
+use crate::input::{name_of, read_all};
 use crate::output::print_text;
 use crate::problem::Problem;
 use crate::style::layout_of;
@@ -10,7 +10,6 @@ use clap::ArgMatches;
 use jptr_tasks::failure::Failure;
 use jptr_tasks::paths::{built_text, listed_text};
 use jsonptr_paths::listing::Listed;
-use std::io::{ErrorKind, Read};
 
 /// Prints a line for each leaf of a document, or for each node.
 pub fn paths(rt: &HostRuntime, matches: &ArgMatches<'_>) -> Result<u8, Problem> {
@@ -22,9 +21,9 @@ pub fn paths(rt: &HostRuntime, matches: &ArgMatches<'_>) -> Result<u8, Problem> 
         Listed::Leaves
     };
     if is_toml(matches) {
-        return toml_file::paths(rt, file, which);
+        return toml_file::paths(rt, matches, which);
     }
-    let bytes = input_of(rt, file)?;
+    let bytes = read_all(rt, file)?;
     match listed_text(alloc, which, &bytes) {
         Ok(lines) => {
             if !is_lossy(matches) {
@@ -42,7 +41,7 @@ pub fn paths(rt: &HostRuntime, matches: &ArgMatches<'_>) -> Result<u8, Problem> 
 pub fn from_paths(rt: &HostRuntime, matches: &ArgMatches<'_>) -> Result<u8, Problem> {
     let alloc = rt.alloc();
     let file = matches.get_str("FILE");
-    let bytes = input_of(rt, file)?;
+    let bytes = read_all(rt, file)?;
     match built_text(alloc, layout_of(matches), &bytes) {
         Ok(text) => {
             if !is_lossy(matches) {
@@ -52,16 +51,5 @@ pub fn from_paths(rt: &HostRuntime, matches: &ArgMatches<'_>) -> Result<u8, Prob
             Ok(0)
         }
         Err(failure) => Err(Problem::of_failure(alloc, name_of(file), "", failure)),
-    }
-}
-
-/// Reads all of the input.
-fn input_of(rt: &HostRuntime, file: Option<&str>) -> Result<Vec<u8>, Problem> {
-    let mut input = open(rt, file)?;
-    let mut bytes = Vec::new(rt.alloc());
-    match input.read_to_end(&mut bytes) {
-        Ok(_) => Ok(bytes),
-        Err(error) if error.kind() == ErrorKind::OutOfMemory => Err(Problem::Memory),
-        Err(_) => Err(input.read_problem(rt.alloc(), name_of(file))),
     }
 }

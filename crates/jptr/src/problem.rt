@@ -90,6 +90,17 @@ impl Problem {
         }
     }
 
+    /// Returns the problem of a value that is not a JSON text. A word may be meant as a string.
+    pub fn of_value(alloc: Global, name: &str, text: &str) -> Problem {
+        match Problem::of_bytes(alloc, name, text.as_bytes()) {
+            Problem::Other(status, message) => match hinted(alloc, text, message) {
+                Ok(message) => Problem::Other(status, message),
+                Err(_) => Problem::Memory,
+            },
+            problem => problem,
+        }
+    }
+
     /// Returns the problem of bytes that are not a JSON text.
     pub fn of_bytes(alloc: Global, name: &str, bytes: &[u8]) -> Problem {
         match json_text(alloc, name, bytes) {
@@ -97,6 +108,17 @@ impl Problem {
             Ok(None) | Err(_) => Problem::Memory,
         }
     }
+}
+
+/// Returns the line of an error of a value. If the value begins with a letter, the line says what a
+/// string needs.
+fn hinted(alloc: Global, text: &str, message: String) -> Result<String, AllocError> {
+    let is_word = text.chars().next().is_some_and(|c| c.is_alphabetic());
+    if !is_word {
+        return Ok(message);
+    }
+    let line = message.as_str().trim_end();
+    Ok(format!(in alloc; "{line}; a string needs quotes, or --string\n")?)
 }
 
 /// Returns the line of an error.

@@ -1,10 +1,11 @@
 //! Running a task: on one document, on each line, or on a file in place.
 
-use crate::digits::{check_sorted, is_checked};
-use crate::in_place::{open_file, replace_text};
-use crate::input::{is_standard, name_of, open, problem, read_all};
+use crate::digits::{check_result, is_checked};
+use crate::exact_lines::run_exact_lines;
+use crate::input::{name_of, open, read_all};
 use crate::output::{Output, print_text};
 use crate::problem::{NOT_APPLIED, Problem, USAGE};
+use crate::source::Source;
 use crate::style::{Style, indented, style_of};
 use clap::ArgMatches;
 use jptr_tasks::document::{document_result, run_document};
@@ -42,12 +43,18 @@ pub fn run_styled(
     if matches.get_flag("check") {
         check(rt, file, &task)
     } else if matches.get_flag("lines") {
-        on_lines(rt, file, task, style.layout, matches.get_flag("strict"))
-    } else if matches.get_flag("in-place") {
-        in_place(rt, file, &task, style, pointer)
+        on_lines(rt, file, task, style, matches.get_flag("strict"))
+    } else if matches.get_flag("in-place") || is_read_first(&task, style) {
+        on_source(rt, &Source::open(rt, matches)?, &task, style, pointer)
     } else {
         on_document(rt, file, &task, style, pointer)
     }
+}
+
+/// Returns whether the document is read before anything is printed: to look for numbers that lose digits,
+/// or to print the result with an indentation of its own.
+fn is_read_first(task: &Task<'_>, style: Style) -> bool {
+    style.indent.is_some() || (style.layout != Layout::Kept && is_checked(task, style))
 }
 
 /// Runs the task on one document, and prints nothing.
@@ -70,9 +77,6 @@ fn on_document(
     pointer: &str,
 ) -> Result<u8, Problem> {
     let alloc = rt.alloc();
-    if style.indent.is_some() || is_checked(style) {
-        return print_indented(rt, file, task, style, pointer);
-    }
     let mut input = open(rt, file)?;
     let mut output = Output::new(rt);
     let mut bytes = Vec::new(alloc);
@@ -88,30 +92,30 @@ fn on_document(
         Err(Failure::Read) => Err(input.read_problem(alloc, name_of(file))),
         Err(Failure::Write) => Err(output.problem(alloc)),
         Err(Failure::NotInPlace) if style.reformats => {
+            check_result(alloc, name_of(file), task, style, &bytes)?;
             print_anew(rt, name_of(file), task, &bytes, pointer)
         }
         Err(failure) => Err(document_problem(alloc, name_of(file), pointer, &bytes, failure)),
     }
 }
 
-/// Runs the task on one document, and prints the result with the indentation of the style, or with its
-/// members sorted.
-fn print_indented(
+/// Runs the task on a document that is read first, and prints the result or replaces the text of the
+/// file by it.
+fn on_source(
     rt: &HostRuntime,
-    file: Option<&str>,
+    source: &Source<'_>,
     task: &Task<'_>,
     style: Style,
     pointer: &str,
 ) -> Result<u8, Problem> {
     let alloc = rt.alloc();
-    let bytes = read_all(rt, file)?;
-    check_sorted(alloc, name_of(file), task, style, &bytes)?;
-    match edited(alloc, task, style, &bytes) {
+    check_result(alloc, source.name, task, style, &source.bytes)?;
+    match edited(alloc, task, style, &source.bytes) {
         Ok(new) => {
-            print_text(rt, new.as_str())?;
+            source.put(rt, new.as_str())?;
             Ok(0)
         }
-        Err(failure) => Err(document_problem(alloc, name_of(file), pointer, &bytes, failure)),
+        Err(failure) => Err(document_problem(alloc, source.name, pointer, &source.bytes, failure)),
     }
 }
 
@@ -129,34 +133,6 @@ fn print_anew(
             Ok(0)
         }
         Err(failure) => Err(document_problem(rt.alloc(), name, pointer, bytes, failure)),
-    }
-}
-
-/// Runs the task on a file, and replaces its content by the result.
-fn in_place(
-    rt: &HostRuntime,
-    file: Option<&str>,
-    task: &Task<'_>,
-    style: Style,
-    pointer: &str,
-) -> Result<u8, Problem> {
-    let alloc = rt.alloc();
-    let Some(path) = file else {
-        return Err(Problem::new(alloc, USAGE, "--in-place", "needs a file"));
-    };
-    if is_standard(file) {
-        return Err(Problem::new(alloc, USAGE, "--in-place", "needs a file"));
-    }
-    let (target, bytes) = open_file(rt, path)?;
-    check_sorted(alloc, path, task, style, &bytes)?;
-    match edited(alloc, task, style, &bytes) {
-        Ok(new) => {
-            if new.as_bytes() != bytes.as_slice() {
-                replace_text(rt, path, &target, new.as_str())?;
-            }
-            Ok(0)
-        }
-        Err(failure) => Err(document_problem(alloc, path, pointer, &bytes, failure)),
     }
 }
 
@@ -196,15 +172,15 @@ fn on_lines(
     rt: &HostRuntime,
     file: Option<&str>,
     task: Task<'_>,
-    layout: Layout,
+    style: Style,
     is_strict: bool,
 ) -> Result<u8, Problem> {
     let alloc = rt.alloc();
-    let fallback = fallback_of(rt, &task, layout)?;
+    let fallback = fallback_of(rt, &task, style.layout)?;
     let name = format!(in alloc; "jptr: {}", name_of(file))?;
     let run = LineTask {
         task,
-        layout,
+        layout: style.layout,
         fallback,
         name,
         is_strict,
@@ -219,7 +195,12 @@ fn on_lines(
     let Ok(mut errors) = BufWriter::with_capacity(alloc, BLOCK, rt.stderr()) else {
         return Err(Problem::Memory);
     };
-    match run_lines(alloc, &run, &mut input, &mut output, &mut errors) {
+    let ended = if is_checked(&run.task, style) {
+        run_exact_lines(alloc, &run, style, &mut input, &mut output, &mut errors)
+    } else {
+        run_lines(alloc, &run, &mut input, &mut output, &mut errors)
+    };
+    match ended {
         Ok(Ended::Fine) => Ok(0),
         Ok(Ended::Faults | Ended::Stopped) => Ok(NOT_APPLIED),
         Err(Failure::Read) => Err(input.get_ref().read_problem(alloc, name_of(file))),

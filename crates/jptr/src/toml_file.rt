@@ -1,9 +1,10 @@
 //! Commands on TOML documents. A document is edited in its text, or printed anew.
 
-use crate::in_place::{Target, open_file, replace_text};
-use crate::input::{is_standard, name_of, read_all};
+use crate::digits::{check_text, is_lossy};
+use crate::given::read_given;
 use crate::output::{print_line, print_text};
 use crate::problem::{NOT_APPLIED, NOT_JSON, Problem, USAGE, shown};
+use crate::source::Source;
 use clap::ArgMatches;
 use jsonptr::diagnostic::Diagnostic;
 use jsonptr::{Pointer, PointerBuf};
@@ -33,16 +34,15 @@ pub fn get(
     pointer: Pointer<'_>,
 ) -> Result<u8, Problem> {
     let alloc = rt.alloc();
-    let file = matches.get_str("FILE");
     no_lines(alloc, matches)?;
-    let text = read_text(rt, file)?;
-    let value = match find_in_toml(alloc, text.text.as_str(), pointer) {
+    let source = Source::open(rt, matches)?;
+    let value = match find_in_toml(alloc, text_of(alloc, &source)?, pointer) {
         Ok(value) => value,
         Err(InTomlError::NoValue(error)) => match matches.get_str("default") {
-            Some(other) => value_of(alloc, "--default", other)?,
-            None => return Err(problem(alloc, &text, pointer, InTomlError::NoValue(error))),
+            Some(other) => exact_value_of(alloc, matches, "--default", other)?,
+            None => return Err(problem(alloc, &source, pointer, InTomlError::NoValue(error))),
         },
-        Err(error) => return Err(problem(alloc, &text, pointer, error)),
+        Err(error) => return Err(problem(alloc, &source, pointer, error)),
     };
     match value.as_str() {
         Some(string) if matches.get_flag("raw") => print_line(rt, string),
@@ -55,17 +55,26 @@ pub fn set(
     rt: &HostRuntime,
     matches: &ArgMatches<'_>,
     pointer: Pointer<'_>,
-    value: &str,
 ) -> Result<u8, Problem> {
     let alloc = rt.alloc();
-    let file = matches.get_str("FILE");
     no_lines(alloc, matches)?;
-    let value = value_of(alloc, "JSON", value)?;
-    let source = source_of(rt, matches)?;
-    match assign_in_toml_text(alloc, source.text.as_str(), pointer, value) {
-        Ok(edited) => put(rt, &source, edited, matches.get_flag("reformat")),
+    let value = given_value(rt, matches)?;
+    let source = Source::open(rt, matches)?;
+    match assign_in_toml_text(alloc, text_of(alloc, &source)?, pointer, value) {
+        Ok(edited) => put(rt, &source, &edited, matches.get_flag("reformat")),
         Err(error) => Err(problem(alloc, &source, pointer, error)),
     }
+}
+
+/// Returns the value that is assigned: the argument as a string if the flag `--string` is there, and
+/// else the TOML value that is given.
+fn given_value(rt: &HostRuntime, matches: &ArgMatches<'_>) -> Result<Value, Problem> {
+    if matches.get_flag("string") {
+        let argument = matches.get_str("JSON").unwrap_or("");
+        return Ok(Value::String(String::from_str(rt.alloc(), argument)?));
+    }
+    let given = read_given(rt, matches)?;
+    exact_value_of(rt.alloc(), matches, given.name, given.text.as_str())
 }
 
 /// Deletes a value.
@@ -75,20 +84,19 @@ pub fn delete(
     pointer: Pointer<'_>,
 ) -> Result<u8, Problem> {
     let alloc = rt.alloc();
-    let file = matches.get_str("FILE");
     no_lines(alloc, matches)?;
-    let source = source_of(rt, matches)?;
-    match delete_in_toml_text(alloc, source.text.as_str(), pointer) {
-        Ok(edited) => put(rt, &source, edited, matches.get_flag("reformat")),
+    let source = Source::open(rt, matches)?;
+    match delete_in_toml_text(alloc, text_of(alloc, &source)?, pointer) {
+        Ok(edited) => put(rt, &source, &edited, matches.get_flag("reformat")),
         Err(error) => Err(problem(alloc, &source, pointer, error)),
     }
 }
 
 /// Prints a line for each leaf of a document, or for each node.
-pub fn paths(rt: &HostRuntime, file: Option<&str>, which: Listed) -> Result<u8, Problem> {
+pub fn paths(rt: &HostRuntime, matches: &ArgMatches<'_>, which: Listed) -> Result<u8, Problem> {
     let alloc = rt.alloc();
-    let source = read_text(rt, file)?;
-    match list_in_toml(alloc, source.text.as_str(), which) {
+    let source = Source::open(rt, matches)?;
+    match list_in_toml(alloc, text_of(alloc, &source)?, which) {
         Ok(lines) => {
             print_text(rt, lines.as_str())?;
             Ok(0)
@@ -97,51 +105,22 @@ pub fn paths(rt: &HostRuntime, file: Option<&str>, which: Listed) -> Result<u8, 
     }
 }
 
-/// The text of a document, the name of its input, and its file if that is edited in place.
-#[derive(Drop)]
-struct Source {
-    name: String,
-    text: String,
-    target: Option<Target>,
-}
-
-/// Reads the document that is changed.
-fn source_of(rt: &HostRuntime, matches: &ArgMatches<'_>) -> Result<Source, Problem> {
-    let alloc = rt.alloc();
-    let file = matches.get_str("FILE");
-    if !matches.get_flag("in-place") {
-        return read_text(rt, file);
-    }
-    if is_standard(file) {
-        return Err(Problem::new(alloc, USAGE, "--in-place", "needs a file"));
-    }
-    let (target, bytes) = open_file(rt, name_of(file))?;
-    Ok(Source {
-        name: String::from_str(alloc, name_of(file))?,
-        text: utf8_of(alloc, name_of(file), &bytes)?,
-        target: Some(target),
-    })
-}
-
 /// Prints the new document, or replaces the text of the file by it. If it is printed anew, says so; in
 /// place that is done only if it is wanted.
-fn put(rt: &HostRuntime, source: &Source, edited: Edited, reformats: bool) -> Result<u8, Problem> {
-    let name = source.name.as_str();
-    if let Edited::Rewritten(_) = &edited {
+fn put(
+    rt: &HostRuntime,
+    source: &Source<'_>,
+    edited: &Edited,
+    reformats: bool,
+) -> Result<u8, Problem> {
+    if let Edited::Rewritten(_) = edited {
         if source.target.is_some() && !reformats {
-            return Err(Problem::new(rt.alloc(), NOT_APPLIED, name, NOT_IN_PLACE));
+            return Err(Problem::new(rt.alloc(), NOT_APPLIED, source.name, NOT_IN_PLACE));
         }
-        let shown = shown(rt.alloc(), name)?;
+        let shown = shown(rt.alloc(), source.name)?;
         let _ = eprintln!(rt; "jptr: {shown}: printed anew, without its comments and layout");
     }
-    match &source.target {
-        None => print_text(rt, edited.as_str())?,
-        Some(target) => {
-            if edited.as_str() != source.text.as_str() {
-                replace_text(rt, name, target, edited.as_str())?;
-            }
-        }
-    }
+    source.put(rt, edited.as_str())?;
     Ok(0)
 }
 
@@ -153,22 +132,28 @@ fn no_lines(alloc: Global, matches: &ArgMatches<'_>) -> Result<(), Problem> {
     Ok(())
 }
 
-/// Reads the text of a file.
-fn read_text(rt: &HostRuntime, file: Option<&str>) -> Result<Source, Problem> {
-    let alloc = rt.alloc();
-    Ok(Source {
-        name: String::from_str(alloc, name_of(file))?,
-        text: utf8_of(alloc, name_of(file), &read_all(rt, file)?)?,
-        target: None,
-    })
+/// Returns the text of the document.
+fn text_of<'s>(alloc: Global, source: &'s Source<'_>) -> Result<&'s str, Problem> {
+    match from_utf8(&source.bytes) {
+        Ok(text) => Ok(text),
+        Err(_) => Err(Problem::new(alloc, NOT_JSON, source.name, "not UTF-8")),
+    }
 }
 
-/// Returns the text that the bytes of a file are.
-fn utf8_of(alloc: Global, name: &str, bytes: &[u8]) -> Result<String, Problem> {
-    match from_utf8(bytes) {
-        Ok(text) => Ok(String::from_str(alloc, text)?),
-        Err(_) => Err(Problem::new(alloc, NOT_JSON, name, "not UTF-8")),
+/// Parses an argument as a TOML value, whose floats are printed anew.
+///
+/// A number that loses digits is found as far as the text is JSON too.
+fn exact_value_of(
+    alloc: Global,
+    matches: &ArgMatches<'_>,
+    name: &str,
+    text: &str,
+) -> Result<Value, Problem> {
+    let value = value_of(alloc, name, text)?;
+    if !is_lossy(matches) {
+        check_text(alloc, name, text)?;
     }
+    Ok(value)
 }
 
 /// Parses an argument as a TOML value.
@@ -181,13 +166,18 @@ fn value_of(alloc: Global, name: &str, text: &str) -> Result<Value, Problem> {
 }
 
 /// Returns the problem of an error.
-fn problem(alloc: Global, source: &Source, pointer: Pointer<'_>, error: InTomlError) -> Problem {
+fn problem(
+    alloc: Global,
+    source: &Source<'_>,
+    pointer: Pointer<'_>,
+    error: InTomlError,
+) -> Problem {
     let status = match error {
         InTomlError::NotToml | InTomlError::DocumentTooDeep => NOT_JSON,
         InTomlError::Memory(_) => return Problem::Memory,
         _ => NOT_APPLIED,
     };
-    match text_of(alloc, source, pointer, error) {
+    match error_text(alloc, source, pointer, error) {
         Ok(text) => Problem::Other(status, text),
         Err(_) => Problem::Memory,
     }
@@ -195,15 +185,15 @@ fn problem(alloc: Global, source: &Source, pointer: Pointer<'_>, error: InTomlEr
 
 /// Returns the text of an error: with the line and the column of a text that is not TOML, or with the
 /// pointer below it if that is at fault.
-fn text_of(
+fn error_text(
     alloc: Global,
-    source: &Source,
+    source: &Source<'_>,
     pointer: Pointer<'_>,
     error: InTomlError,
 ) -> Result<String, AllocError> {
-    let name = shown(alloc, source.name.as_str())?;
+    let name = shown(alloc, source.name)?;
     if let InTomlError::NotToml = error {
-        let fault = fault_of(alloc, source.text.as_str())?;
+        let fault = fault_of(alloc, from_utf8(&source.bytes).unwrap_or(""))?;
         return format!(in alloc; "jptr: {name}: {error}{fault}\n");
     }
     let mut text = format!(in alloc; "jptr: {name}: {error}\n")?;

@@ -345,13 +345,13 @@ module _
   one_error (Get p fallback) layout text e f sorted = get_one found_both found_one text (tokens p) fallback e f
   one_error (Set p v) layout text e f sorted = set_one made_both made_one place_one text (tokens p) (value_of v) layout sorted e f
   one_error (Delete p) layout text e f sorted = delete_one text (tokens p) layout e f
-  one_error (Patch d) layout text e f sorted = patch_one one_patch one_no no_both keys patched_both patched_one stuck_one text (view d) layout sorted e f
+  one_error (Patch p) layout text e f sorted = patch_one one_patch one_no no_both keys patched_both patched_one stuck_one text (view p.document) layout sorted e f
 
   pub no_error : (task : Task) (layout : Layout) (text out : Text) (e : Failure) → TaskHasSortedKeys task → Yields task layout text out → Fails task layout text e → StopsRun e ⊎ IsOfPlace task layout e
   no_error (Get p fallback) layout text out e sorted h = get_not_both found_both found_one text (tokens p) fallback layout out e h
   no_error (Set p v) layout text out e sorted h = set_done made_both made_one place_one text (tokens p) (value_of v) layout sorted h.0 e h.1
   no_error (Delete p) layout text out e sorted h = delete_done text (tokens p) layout h.0 e h.1
-  no_error (Patch d) layout text out e sorted h = patch_done one_patch one_no no_both keys patched_both patched_one stuck_one text (view d) layout sorted h.0 h.1 e h.2 h.3
+  no_error (Patch p) layout text out e sorted h = patch_done one_patch one_no no_both keys patched_both patched_one stuck_one text (view p.document) layout sorted h.0.0 h.0.1 e h.0.2 h.0.3
 
   -- of bytes
   on_bytes : (task : Task) (layout : Layout) (bytes : List ℕ) (e : Failure) → (StopsRun e → ⊥) → FailsOn task layout bytes e → (IsUtf8 bytes → Fails task layout bytes e) × ((e ≡ NotJson) ⊎ IsUtf8 bytes)

@@ -24,15 +24,16 @@ use Rattle.jsonptr_lines.specs.Streams.{AppendsPrefix}
 use Rattle.jsonptr_paths.proofs.PlainLemmas.{plain_printed}
 use Rattle.jsonptr.specs.declared.assign.Error as assign
 use Rattle.jsonptr_patch.specs.declared.operation.Operation.{Operation}
-use Rattle.jsonptr_patch.specs.declared.operation.PatchError.{PatchError}
 use Rattle.jsonptr_patch_document.specs.Document.{IsPatch}
 use Rattle.jsonptr_edit_in_text.specs.Carrying.{value_of, Carries}
-use Rattle.jsonptr_edit_in_text.specs.PatchInText.{PatchesInText, PatchBytes, IsPatchFault}
+use Rattle.jsonptr_edit_in_text.specs.PatchInText.{PatchesInText}
+use Rattle.jsonptr_edit_in_text.specs.RawPatching.{operations_in, RawPatchBytes}
 use Rattle.jsonptr_edit_in_text.specs.declared.raw_value.RawValue.{RawValue}
+use Rattle.jsonptr_edit_in_text.proofs.RawLemmas.{patch_bytes}
 use Rattle.jptr_tasks.specs.Layouts.{IsCompact, Lays, CanBreak}
-use Rattle.jptr_tasks.specs.Failures.{of_strict_assign_error, of_strict_patch_error}
-use Rattle.jptr_tasks.specs.Results.{Gets, Sets, Deletes, PatchesBy, Yields, FailsToGet, FailsToSet, FailsToPatch}
-use Rattle.jptr_tasks.specs.PrivateResults.{Remakes, FailsToApply, IsRestyleError}
+use Rattle.jptr_tasks.specs.Failures.{of_strict_assign_error}
+use Rattle.jptr_tasks.specs.Results.{Gets, Sets, Deletes, Patches, Yields, FailsToGet, FailsToSet, FailsToPatch}
+use Rattle.jptr_tasks.specs.PrivateResults.{Remakes, FailsToApply, IsRestyleError, PatchedBy}
 use Rattle.jptr_tasks.specs.LineResults.{YieldsLine, IsLineFault, IsReport, StopsRun, fallback_line}
 use Rattle.jptr_tasks.specs.PrivateLineResults.{Known, OrMemory, IsNoMemory, StopsPut}
 use Rattle.jptr_tasks.specs.declared.failure.Failure.{Failure}
@@ -40,6 +41,7 @@ use Rattle.jptr_tasks.specs.declared.failure.Failure.TheVariants.{BadPointer, No
 use Rattle.jptr_tasks.specs.declared.layout.Layout.{Layout}
 use Rattle.jptr_tasks.specs.declared.layout.Layout.TheVariants.{Kept, Compact, Pretty, Sorted, SortedPretty, Raw}
 use Rattle.jptr_tasks.specs.declared.line.LineTask.{LineTask}
+use Rattle.jptr_tasks.specs.declared.raw_patch.RawPatch.{RawPatch}
 use Rattle.jptr_tasks.specs.declared.task.Task.{Task}
 use Rattle.jptr_tasks.specs.declared.task.Task.TheVariants.{Get, Set, Delete, Patch}
 
@@ -49,10 +51,10 @@ pub set_kept : (text : Text) (ts : List Text) (raw : RawValue) (out : Text)
     → AssignsInText text ts (nodes (value_of raw)) out → AssignsBytes text ts (value_of raw) out → Carries (string_bytes raw.text.flat) out → StaysOneLine text out → Sets text ts raw Kept out
 set_kept text ts raw out meaning bytes carries line = (out, meaning, refl, λ e. (bytes, carries, line))
 
-pub patch_kept : (text : Text) (patch : Data) (os : List Operation) (r : Result (String Global) Failure)
-    → IsPatch patch os → IfOk r (λ s. PatchesInText text os (string_bytes s)) → IfOk r (λ s. PatchBytes text os (string_bytes s)) → IfOk r (λ s. StaysOneLine text (string_bytes s)) → IfOk r (λ s. PatchesBy text patch Kept (string_bytes s))
-patch_kept text patch os (Ok s) is meaning bytes line = (os, string_bytes s, is, meaning, refl, λ e. (bytes, line))
-patch_kept text patch os (Err f) is meaning bytes line = tt
+pub patch_kept : (text : Text) (p : RawPatch) (r : Result (String Global) Failure)
+    → IfOk r (λ s. PatchesInText text (operations_in p.operations.items) (string_bytes s)) → IfOk r (λ s. RawPatchBytes text p.operations.items (string_bytes s)) → IfOk r (λ s. StaysOneLine text (string_bytes s)) → IfOk r (λ s. Patches text p Kept (string_bytes s))
+patch_kept text p (Ok s) meaning bytes line = ((operations_in p.operations.items, string_bytes s, p.is_patch, meaning, refl, λ e. (patch_bytes text (string_bytes s) p.operations.items bytes, line)), λ e. bytes)
+patch_kept text p (Err f) meaning bytes line = tt
 
 -- ---- documents that are printed anew
 
@@ -71,10 +73,15 @@ pub delete_anew : (text : Text) (ts : List Text) (layout : Layout) (r : Result (
 delete_anew text ts layout (Ok s) other h = (h.0, h.1, h.2, λ e. absurd (other e))
 delete_anew text ts layout (Err f) other h = tt
 
-pub patch_anew : (text : Text) (patch : Data) (layout : Layout) (os : List Operation) (r : Result (String Global) Failure)
-    → (layout ≡ Kept → ⊥) → IsPatch patch os → IfOk r (λ s. Remakes (PatchesInText text os) layout (string_bytes s)) → IfOk r (λ s. PatchesBy text patch layout (string_bytes s))
-patch_anew text patch layout os (Ok s) other is h = (os, h.0, is, h.1, h.2, λ e. absurd (other e))
-patch_anew text patch layout os (Err f) other is h = tt
+pub patch_anew : (text : Text) (p : RawPatch) (layout : Layout) (r : Result (String Global) Failure)
+    → (layout ≡ Kept → ⊥) → IfOk r (λ s. Remakes (PatchedBy text (view p.document)) layout (string_bytes s)) → IfOk r (λ s. Patches text p layout (string_bytes s))
+patch_anew text p layout (Ok s) other h = ((h.1.0, h.0, h.1.1, h.1.2, h.2, λ e. absurd (other e)), λ e. absurd (other e))
+patch_anew text p layout (Err f) other h = tt
+
+pub patched_by : (text : Text) (patch : Data) (os : List Operation) (r : Result (String Global) Failure)
+    → IsPatch patch os → IfOk r (λ s. PatchesInText text os (string_bytes s)) → IfOk r (λ s. PatchedBy text patch (string_bytes s))
+patched_by text patch os (Ok s) is h = (os, is, h)
+patched_by text patch os (Err f) is h = tt
 
 -- ---- edits that are not made
 
@@ -86,13 +93,53 @@ set_fails text ts v (in_place.Failed (edit.Refused f)) h = h
 set_fails text ts v (in_place.Failed edit.TooDeep) h = h
 set_fails text ts v (in_place.Failed (edit.Memory f)) h = tt
 
-pub apply_fails : (text : Text) (os : List Operation) (e : InPlaceError PatchError)
-    → IsInPlaceError (PatchesInText text os) (IsPatchFault text os) e → FailsToApply text os Kept (of_strict_patch_error e)
-apply_fails text os in_place.NotInPlace h = (refl, h)
-apply_fails text os (in_place.Failed edit.NotJson) h = h
-apply_fails text os (in_place.Failed (edit.Refused f)) h = h
-apply_fails text os (in_place.Failed edit.TooDeep) h = h
-apply_fails text os (in_place.Failed (edit.Memory f)) h = tt
+-- the document of a patch that applies is read, so only memory can lack
+pub relaid_fails : (text : Text) (patch : Data) (layout : Layout) (new : Text) (e : Failure) → PatchedBy text patch new → IsRestyleError new e → FailsToPatch text patch layout e
+relaid_fails text patch layout new (BadPointer f) h r = absurd r
+relaid_fails text patch layout new (NotPatch f) h r = absurd r
+relaid_fails text patch layout new (NoValue f) h r = absurd r
+relaid_fails text patch layout new (BadPlace f) h r = absurd r
+relaid_fails text patch layout new NotThere h r = absurd r
+relaid_fails text patch layout new (BadPatch f) h r = absurd r
+relaid_fails text patch layout new TooDeep h r = absurd r
+relaid_fails text patch layout new NotInPlace h r = absurd r
+relaid_fails text patch layout new NotLocated h r = absurd r
+relaid_fails text patch layout new PatchTooDeep h r = absurd r
+relaid_fails text patch layout new LineBreak h r = absurd r
+relaid_fails text patch layout new (BadLine number f) h r = absurd r
+relaid_fails text patch layout new NotUtf8 h r = absurd r
+relaid_fails text patch layout new NotJson h r =
+    let whole : Some h.2.1 ≡ None = sym h.2.3 ∙ r in
+    let never : ⊥ = cc in
+    absurd never
+relaid_fails text patch layout new ArgumentNotJson h r = absurd r
+relaid_fails text patch layout new (Memory f) h r = tt
+relaid_fails text patch layout new Read h r = absurd r
+relaid_fails text patch layout new Write h r = absurd r
+
+-- what fails in another layout than the one that is kept fails in each
+pub fails_anew : (text : Text) (patch : Data) (layout : Layout) (e : Failure) → FailsToPatch text patch Compact e → FailsToPatch text patch layout e
+fails_anew text patch layout (BadPointer f) h = absurd h
+fails_anew text patch layout (NotPatch f) h = h
+fails_anew text patch layout (NoValue f) h = absurd h
+fails_anew text patch layout (BadPlace f) h = absurd h
+fails_anew text patch layout NotThere h = absurd h
+fails_anew text patch layout (BadPatch f) h = h
+fails_anew text patch layout TooDeep h = h
+fails_anew text patch layout NotInPlace h =
+    let other : Compact ≡ Kept = h.0 in
+    let never : ⊥ = cc in
+    absurd never
+fails_anew text patch layout NotLocated h = absurd h
+fails_anew text patch layout PatchTooDeep h = absurd h
+fails_anew text patch layout LineBreak h = absurd h
+fails_anew text patch layout (BadLine number f) h = absurd h
+fails_anew text patch layout NotUtf8 h = absurd h
+fails_anew text patch layout NotJson h = h
+fails_anew text patch layout ArgumentNotJson h = absurd h
+fails_anew text patch layout (Memory f) h = tt
+fails_anew text patch layout Read h = absurd h
+fails_anew text patch layout Write h = absurd h
 
 patch_fails : (text : Text) (patch : Data) (os : List Operation) (layout : Layout) (e : Failure) → IsPatch patch os → FailsToApply text os layout e → FailsToPatch text patch layout e
 patch_fails text patch os layout (NotPatch f) is h = absurd h
@@ -159,19 +206,19 @@ kept_result : (task : Task) (l out : Text) → IsOneLine l → Yields task Kept 
 kept_result (Get p fallback) l out one h = get_kept l out (tokens p) fallback one h
 kept_result (Set p v) l out one h = subst IsOneLine (sym h.2) ((h.3 refl).2 one)
 kept_result (Delete p) l out one h = subst IsOneLine (sym h.2) ((h.3 refl).1 one)
-kept_result (Patch d) l out one h = subst IsOneLine (sym h.4) ((h.5 refl).1 one)
+kept_result (Patch p) l out one h = subst IsOneLine (sym h.0.4) ((h.0.5 refl).1 one)
 
 compact_result : (task : Task) (l out : Text) → Yields task Compact l out → IsOneLine out
 compact_result (Get p fallback) l out h = get_compact l out (tokens p) fallback h
 compact_result (Set p v) l out h = formatted_line h.0 out h.2
 compact_result (Delete p) l out h = formatted_line h.0 out h.2
-compact_result (Patch d) l out h = formatted_line h.1 out h.4
+compact_result (Patch p) l out h = formatted_line h.0.1 out h.0.4
 
 sorted_result : (task : Task) (l out : Text) → Yields task Sorted l out → IsOneLine out
 sorted_result (Get p fallback) l out h = get_sorted l out (tokens p) fallback h
 sorted_result (Set p v) l out h = compact_line h.2.0 out h.2.2
 sorted_result (Delete p) l out h = compact_line h.2.0 out h.2.2
-sorted_result (Patch d) l out h = compact_line h.4.0 out h.4.2
+sorted_result (Patch p) l out h = compact_line h.0.4.0 out h.0.4.2
 
 -- only a layout that can break makes several lines of one
 pub can_break : (task : Task) (layout : Layout) (l out : Text) → Yields task layout l out → (IsOneLine out → ⊥) → IsOneLine l → CanBreak layout

@@ -15,5 +15,6 @@ pub mod Replacement
 pub mod PrivateReplacement
 pub mod PrivateResults
 pub mod PrivateLineResults
+pub mod PrivatePatches
 pub mod PrivateRuns
 pub mod PrivateDocuments

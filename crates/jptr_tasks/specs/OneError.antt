@@ -16,7 +16,7 @@ abbrev pub TaskHasSortedKeys : Task → Type 0
 TaskHasSortedKeys (Get p fallback) = ⊤
 TaskHasSortedKeys (Set p v) = HasSortedKeys (value_of v)
 TaskHasSortedKeys (Delete p) = ⊤
-TaskHasSortedKeys (Patch d) = HasSortedKeys (view d)
+TaskHasSortedKeys (Patch p) = HasSortedKeys (view p.document)
 
 -- `IsOfPlace task layout e`: `e` says that an edit is possible but not in place, or that a value is there but was not located
 abbrev pub IsOfPlace : Task → Layout → Failure → Type 0

@@ -9,7 +9,7 @@ use Rattle.jsonptr_tree.specs.Json.{nodes}
 use Rattle.jsonptr_patch.specs.Patching.{RefusesPatchBy}
 use Rattle.jsonptr_patch.specs.declared.comparison.Comparison.TheVariants.{Numeric}
 use Rattle.jsonptr_patch.specs.declared.operation.Operation.{Operation}
-use Rattle.jsonptr_patch_document.specs.Document.{IsNoPatch}
+use Rattle.jsonptr_patch_document.specs.Document.{IsPatch, IsNoPatch}
 use Rattle.jsonptr_patch_document.specs.Writing.{document_of}
 use Rattle.jsonptr_edit_in_text.specs.PatchInText.{PatchesInText, IsPatchFault}
 use Rattle.jsonptr_edit_in_text.specs.declared.edited.EditError.TheVariants as edit
@@ -22,6 +22,10 @@ use Rattle.jptr_tasks.specs.declared.layout.Layout.TheVariants.{Kept}
 -- `Remakes P layout out`: `out` is the document of a text that meets `P`, in this layout
 abbrev pub Remakes : (Text → Type 0) → Layout → Text → Type 0
 Remakes P layout out = (new : Text) × P new × Lays layout new out
+
+-- `PatchedBy text patch new`: the operations that the document `patch` is turn the document of `text` into that of `new`
+abbrev pub PatchedBy : Text → Data → Text → Type 0
+PatchedBy text patch new = (os : List Operation) × IsPatch patch os × PatchesInText text os new
 
 -- `IsRestyleError text e`: `e` is why the document of `text` is not printed, if it is not for memory
 abbrev pub IsRestyleError : Text → Failure → Type 0

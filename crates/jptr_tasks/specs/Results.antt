@@ -19,6 +19,7 @@ use Rattle.jsonptr_edit_in_text.specs.InPlace.{StaysOneLine}
 use Rattle.jsonptr_edit_in_text.specs.Locating.{IsLocated}
 use Rattle.jsonptr_edit_in_text.specs.EditInText.{AssignsInText, IsAssignError, DeletesInText, LacksInText}
 use Rattle.jsonptr_edit_in_text.specs.PatchInText.{PatchesInText, PatchBytes, IsPatchFault}
+use Rattle.jsonptr_edit_in_text.specs.RawPatching.{RawPatchBytes}
 use Rattle.jsonptr_edit_in_text.specs.declared.edited.EditError.TheVariants as edit
 use Rattle.jsonptr_edit_in_text.specs.declared.raw_value.RawValue.{RawValue}
 use Rattle.jptr_tasks.specs.Layouts.{Shows, Lays}
@@ -26,6 +27,7 @@ use Rattle.jptr_tasks.specs.declared.failure.Failure.{Failure}
 use Rattle.jptr_tasks.specs.declared.failure.Failure.TheVariants.{NotPatch, NoValue, BadPlace, NotThere, BadPatch, TooDeep, NotInPlace, NotLocated, NotJson, Memory}
 use Rattle.jptr_tasks.specs.declared.layout.Layout.{Layout}
 use Rattle.jptr_tasks.specs.declared.layout.Layout.TheVariants.{Kept}
+use Rattle.jptr_tasks.specs.declared.raw_patch.RawPatch.{RawPatch}
 use Rattle.jptr_tasks.specs.declared.task.Task.{Task}
 use Rattle.jptr_tasks.specs.declared.task.Task.TheVariants.{Get, Set, Delete, Patch}
 
@@ -62,12 +64,18 @@ PatchesBy text patch layout out =
     × IsPatch patch os × PatchesInText text os new × Lays layout new out
     × (layout ≡ Kept → PatchBytes text os new × StaysOneLine text new)
 
+-- `Patches text p layout out`: the same for the patch `p`. In the layout `Kept` what an operation puts into the text holds the
+-- tokens of the text that comes with it
+abbrev pub Patches : Text → RawPatch → Layout → Text → Type 0
+Patches text p layout out =
+    PatchesBy text (view p.document) layout out × (layout ≡ Kept → RawPatchBytes text p.operations.items out)
+
 -- `Yields task layout text out`: `out` is the result of the task on `text`, in this layout
 abbrev pub Yields : Task → Layout → Text → Text → Type 0
 Yields (Get p fallback) layout text out = Gets text (tokens p) fallback layout out
 Yields (Set p v) layout text out = Sets text (tokens p) v layout out
 Yields (Delete p) layout text out = Deletes text (tokens p) layout out
-Yields (Patch d) layout text out = PatchesBy text (view d) layout out
+Yields (Patch p) layout text out = Patches text p layout out
 
 -- `FailsToGet text ts fallback e`: `e` is why no value is found, if it is not for memory. With `NotLocated` the value is there
 abbrev pub FailsToGet : Text → List Text → Option Value → Failure → Type 0
@@ -111,9 +119,17 @@ FailsToPatch text patch layout NotInPlace =
 FailsToPatch text patch layout (Memory f) = ⊤
 FailsToPatch text patch layout e = ⊥
 
+-- `FailsToReadPatch patch e`: `e` is why the patch of the document `patch` is not read with the texts of its values, if it is
+-- not for memory. With `NotLocated` the document is a patch
+abbrev pub FailsToReadPatch : Data → Failure → Type 0
+FailsToReadPatch patch (NotPatch f) = IsNoPatch patch f
+FailsToReadPatch patch NotLocated = (os : List Operation) × IsPatch patch os
+FailsToReadPatch patch (Memory f) = ⊤
+FailsToReadPatch patch e = ⊥
+
 -- `Fails task layout text e`: `e` is why the task has no result on `text`, if it is not for memory
 abbrev pub Fails : Task → Layout → Text → Failure → Type 0
 Fails (Get p fallback) layout text e = FailsToGet text (tokens p) fallback e
 Fails (Set p v) layout text e = FailsToSet text (tokens p) (value_of v) layout e
 Fails (Delete p) layout text e = FailsToDelete text (tokens p) layout e
-Fails (Patch d) layout text e = FailsToPatch text (view d) layout e
+Fails (Patch p) layout text e = FailsToPatch text (view p.document) layout e

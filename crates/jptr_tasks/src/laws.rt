@@ -7,7 +7,6 @@ ghost use Rattle.std.specs.declared.alloc.AllocError.{AllocError};
 ghost use Rattle.serde_json.specs.Data.{Data};
 ghost use Rattle.serde_json.specs.Read.{read};
 ghost use Rattle.serde_json.specs.View.{view};
-ghost use Rattle.serde_json.specs.declared.value.Value.{Value};
 ghost use Rattle.jsonptr_grammar.specs.Text.{Text};
 ghost use Rattle.jsonptr_tree.specs.Json.{nodes};
 ghost use Rattle.jsonptr_lines.specs.Lines.{AreLines};
@@ -28,6 +27,7 @@ ghost use Rattle.jptr_tasks.specs.declared.failure.Failure.{Failure};
 ghost use Rattle.jptr_tasks.specs.declared.failure.Failure.TheVariants.{BadLine, NotInPlace, NotJson, Memory};
 ghost use Rattle.jptr_tasks.specs.declared.layout.Layout.{Layout};
 ghost use Rattle.jptr_tasks.specs.declared.line.LineTask.{LineTask};
+ghost use Rattle.jptr_tasks.specs.declared.raw_patch.RawPatch.{RawPatch};
 ghost use Rattle.jptr_tasks.specs.declared.task.Task.{Task};
 ghost use Rattle.jptr_tasks.specs.declared.task.Task.TheVariants.{Patch};
 ghost use Rattle.jptr_tasks.specs.declared.layout.Layout.TheVariants.{Kept, Raw};
@@ -147,12 +147,12 @@ pub fn order_law()
         → (IsUtf8 l → ⊥) → IsLineFault task layout l e → e ≡ NotJson }
     ensures patch { (text : Text) (patch : Data) (layout : Layout) (e : PatchDocumentError)
         → IsNoPatch patch e → FailsToPatch text patch layout NotJson → ⊥ }
-    ensures patch_of_line { (patch : Value) (layout : Layout) (l : Text)
+    ensures patch_of_line { (patch : RawPatch) (layout : Layout) (l : Text)
         (e : PatchDocumentError)
-        → IsUtf8 l → IsNoPatch (view patch) e → IsLineFault (Patch patch) layout l NotJson → ⊥ }
-    ensures patch_of_bytes { (patch : Value) (layout : Layout) (bytes : List ℕ)
+        → IsUtf8 l → IsNoPatch (view patch.document) e → IsLineFault (Patch patch) layout l NotJson → ⊥ }
+    ensures patch_of_bytes { (patch : RawPatch) (layout : Layout) (bytes : List ℕ)
         (e : PatchDocumentError)
-        → IsUtf8 bytes → IsNoPatch (view patch) e → FailsOn (Patch patch) layout bytes NotJson
+        → IsUtf8 bytes → IsNoPatch (view patch.document) e → FailsOn (Patch patch) layout bytes NotJson
         → ⊥ }
 {
     patch_document_law();

@@ -10,6 +10,7 @@
 //! - [`lines`]: a task on each line of an input.
 //! - [`paths`]: a document as lines of pointers and values, and a document from such lines.
 //! - [`patching`]: applying a patch document.
+//! - [`raw_patch`]: a patch document, with the texts of its values.
 //! - [`replacement`]: replacing the text of a file, whatever moment the system stops at.
 //! - [`failure`]: the errors, and the exit status of each.
 //! - [`laws`]: that lines build the document that they list.
@@ -26,6 +27,7 @@ pub mod line;
 pub mod lines;
 pub mod patching;
 pub mod paths;
+pub mod raw_patch;
 pub mod replacement;
 pub mod result;
 pub mod task;

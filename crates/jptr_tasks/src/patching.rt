@@ -1,44 +1,99 @@
 //! Applying a patch document to the text of a document.
-ghost use Rattle.std.specs.Prelude.{IfOk, IfErr, string_bytes};
+ghost use Rattle.std.specs.Prelude.{◌≡◌, All, IfOk, IfErr, IfSome, string_bytes};
 ghost use Rattle.serde_json.specs.View.{view};
 ghost use Rattle.jsonptr_patch_document.specs.Document.{IsPatch};
-ghost use Rattle.jsonptr_edit_in_text.specs.PatchInText.{PatchesInText, PatchBytes};
+ghost use Rattle.jsonptr_edit_in_text.specs.PatchInText.{PatchesInText};
+ghost use Rattle.jsonptr_edit_in_text.specs.RawPatching.{operations_in, RawPatchBytes, IsGivenIn};
 ghost use Rattle.jsonptr_edit_in_text.specs.InPlace.{StaysOneLine};
-ghost use Rattle.jptr_tasks.specs.Results.{PatchesBy, FailsToPatch};
-ghost use Rattle.jptr_tasks.specs.PrivateResults.{Remakes, FailsToApply, IsNotPatch};
+ghost use Rattle.jptr_tasks.specs.Results.{Patches, FailsToPatch, FailsToReadPatch};
+ghost use Rattle.jptr_tasks.specs.PrivateResults.{Remakes, FailsToApply, IsNotPatch, PatchedBy};
 
 use crate::failure::Failure;
 use crate::layout::{Layout, lay_out};
+use crate::raw_patch::RawPatch;
 use jsonptr::Fault;
-use jsonptr_edit_in_text::{Buffers, apply_in_place, apply_in_text_with};
+use jsonptr_edit_in_text::{
+    Buffers, RawOperation, apply_and_print, raw_operations, stays_one_line, try_apply_raw,
+};
 use jsonptr_patch::Operation;
 use jsonptr_patch_document::read_patch;
 use serde_json::Value;
-use std::alloc::Global;
+use std::alloc::{AllocError, Global};
 
-/// Applies the patch document to the text, and returns the new document in this layout.
+/// Applies the patch to the text, and returns the new document in this layout.
 ///
-/// With [`Layout::Kept`] the text is edited in place. In the other layouts the new document is printed
-/// anew.
+/// With [`Layout::Kept`] the text is edited in place, and each value that the patch puts there has its
+/// own text. In the other layouts the new document is laid out anew.
 ///
 /// # Errors
 ///
-/// Those of [`Task::Patch`](crate::task::Task::Patch). The patch document is read first.
+/// Those of [`Task::Patch`](crate::task::Task::Patch).
 pub fn patch(
     alloc: Global,
     buffers: &mut Buffers,
     text: &str,
-    document: &Value,
+    patch: &RawPatch,
     layout: Layout,
 ) -> Result<String, Failure>
-    ensures done { IfOk result (λ s. PatchesBy text.now (view document.now) layout
-        (string_bytes s)) }
-    ensures failed { IfErr result (FailsToPatch text.now (view document.now) layout) }
+    ensures done { IfOk result (λ s. Patches text.now patch.now layout (string_bytes s)) }
+    ensures failed { IfErr result (FailsToPatch text.now (view patch.now.document) layout) }
 {
-    let operations = operations_of(alloc, document)?;
     match layout {
-        Layout::Kept => patch_in_place(alloc, buffers, text, operations),
-        _ => patch_anew(alloc, buffers, text, operations, layout),
+        Layout::Kept => patch_in_place(alloc, buffers, text, patch),
+        _ => patch_anew(alloc, buffers, text, patch, layout),
+    }
+}
+
+/// Returns the patch of the document, each operation with the text of its value in the text of the
+/// document.
+///
+/// # Errors
+///
+/// - [`Failure::NotPatch`] if the document is not a patch.
+/// - [`Failure::NotLocated`] if the text of a value is not found in the text. That is not known to
+///   happen in a text that is read as the document.
+/// - [`Failure::Memory`] if an allocation fails.
+///
+/// # Examples
+///
+/// ```rust
+/// let text = r#"[{"op": "add", "path": "/b", "value": {"z": 1.10, "y": 1e5}}]"#;
+/// let patch = raw_patch(alloc, Value::from_str(alloc, text)?, text)?;
+/// let new = result_in_text(alloc, &Task::Patch(patch), Layout::Kept, r#"{"a": 1}"#)?;
+/// assert_eq!(rt; new.as_str(), r#"{"a": 1, "b": {"z": 1.10, "y": 1e5}}"#);
+/// ```
+pub fn raw_patch(alloc: Global, document: Value, text: &str) -> Result<RawPatch, Failure>
+    ensures document { IfOk result (λ p. p.document ≡ document) }
+    ensures texts { IfOk result (λ p. All (IsGivenIn text.now) p.operations.items) }
+    ensures failed { IfErr result (FailsToReadPatch (view document)) }
+{
+    match read_patch(alloc, &document) {
+        Ok(operations) => with_texts(alloc, document, operations, text),
+        Err(Fault::Refused(error)) => Err(Failure::NotPatch(error)),
+        Err(Fault::Memory(error)) => Err(Failure::Memory(error)),
+    }
+}
+
+/// Returns the patch of the document, which has these operations, with the texts of their values.
+fn with_texts(
+    alloc: Global,
+    document: Value,
+    operations: Vec<Operation>,
+    text: &str,
+) -> Result<RawPatch, Failure>
+    requires { IsPatch (view document) operations.items }
+    ensures document { IfOk result (λ p. p.document ≡ document) }
+    ensures texts { IfOk result (λ p. All (IsGivenIn text.now) p.operations.items) }
+    ensures failed { IfErr result (FailsToReadPatch (view document)) }
+{
+    let mut buffers = Buffers::new(alloc);
+    let found = raw_operations(alloc, &mut buffers, text, operations)?;
+    match found {
+        Some(operations) => Ok(RawPatch {
+            document,
+            operations,
+        }),
+        None => Err(Failure::NotLocated),
     }
 }
 
@@ -58,35 +113,114 @@ pub fn operations_of(alloc: Global, document: &Value) -> Result<Vec<Operation>, 
     }
 }
 
-/// Applies the operations in the text, all of them or none, in place.
+/// Applies the patch in the text, all of its operations or none, in place.
 fn patch_in_place(
     alloc: Global,
     buffers: &mut Buffers,
     text: &str,
-    operations: Vec<Operation>,
+    patch: &RawPatch,
 ) -> Result<String, Failure>
-    ensures done { IfOk result
-        (λ s. PatchesInText text.now operations.items (string_bytes s)) }
-    ensures bytes { IfOk result (λ s. PatchBytes text.now operations.items (string_bytes s)) }
+    ensures done { IfOk result (λ s.
+        PatchesInText text.now (operations_in patch.now.operations.items) (string_bytes s)) }
+    ensures bytes { IfOk result (λ s.
+        RawPatchBytes text.now patch.now.operations.items (string_bytes s)) }
     ensures line { IfOk result (λ s. StaysOneLine text.now (string_bytes s)) }
-    ensures failed { IfErr result (FailsToApply text.now operations.items Layout.Kept) }
+    ensures failed { IfErr result (FailsToPatch text.now (view patch.now.document) Layout.Kept) }
 {
-    Ok(apply_in_place(alloc, buffers, text, operations)?)
+    let made = try_in_place(alloc, buffers, text, patch.operations.as_slice())?;
+    match made {
+        Some(new) => Ok(new),
+        None => Err(why_not_in_place(alloc, text, &patch.document)),
+    }
 }
 
-/// Applies the operations in the text, all of them or none, and prints the new document in this
+/// Applies the operations in the text, all of them or none, in place. Returns `None` if that is not
+/// possible, and for every error of an operation.
+fn try_in_place(
+    alloc: Global,
+    buffers: &mut Buffers,
+    text: &str,
+    operations: &[RawOperation],
+) -> Result<Option<String>, AllocError>
+    ensures done { IfOk result (λ new. IfSome new (λ s.
+        PatchesInText text.now (operations_in operations.now) (string_bytes s))) }
+    ensures bytes { IfOk result (λ new. IfSome new (λ s.
+        RawPatchBytes text.now operations.now (string_bytes s))) }
+    ensures line { IfOk result (λ new. IfSome new (λ s.
+        StaysOneLine text.now (string_bytes s))) }
+{
+    let Some(new) = try_apply_raw(alloc, buffers, text, operations)? else {
+        return Ok(None);
+    };
+    if stays_one_line(text, new.as_str()) {
+        Ok(Some(new))
+    } else {
+        Ok(None)
+    }
+}
+
+/// Returns why the patch document is not applied in place.
+fn why_not_in_place(alloc: Global, text: &str, document: &Value) -> Failure
+    ensures { FailsToPatch text.now (view document.now) Layout.Kept result }
+{
+    match print_anew(alloc, text, document) {
+        Ok(_new) => Failure::NotInPlace,
+        Err(failure) => failure,
+    }
+}
+
+/// Applies the patch in the text, all of its operations or none, and prints the new document in this
 /// layout.
 fn patch_anew(
     alloc: Global,
     buffers: &mut Buffers,
     text: &str,
-    operations: Vec<Operation>,
+    patch: &RawPatch,
     layout: Layout,
 ) -> Result<String, Failure>
     ensures done { IfOk result
-        (λ s. Remakes (PatchesInText text.now operations.items) layout (string_bytes s)) }
-    ensures failed { IfErr result (FailsToApply text.now operations.items layout) }
+        (λ s. Remakes (PatchedBy text.now (view patch.now.document)) layout (string_bytes s)) }
+    ensures failed { IfErr result (FailsToPatch text.now (view patch.now.document) layout) }
 {
-    let edited = apply_in_text_with(alloc, buffers, text, operations)?;
-    lay_out(alloc, &mut buffers.old, edited.as_str(), layout)
+    match patched(alloc, buffers, text, patch) {
+        Ok(new) => lay_out(alloc, &mut buffers.old, new.as_str(), layout),
+        Err(failure) => Err(failure),
+    }
+}
+
+/// Applies the patch in the text, in place if that is possible.
+fn patched(
+    alloc: Global,
+    buffers: &mut Buffers,
+    text: &str,
+    patch: &RawPatch,
+) -> Result<String, Failure>
+    ensures done { IfOk result
+        (λ s. PatchedBy text.now (view patch.now.document) (string_bytes s)) }
+    ensures failed { IfErr result (FailsToPatch text.now (view patch.now.document) Layout.Compact) }
+{
+    let made = try_apply_raw(alloc, buffers, text, patch.operations.as_slice())?;
+    match made {
+        Some(new) => Ok(new),
+        None => print_anew(alloc, text, &patch.document),
+    }
+}
+
+/// Reads the document of the text, applies the patch document, and prints it. No error is
+/// [`Failure::NotInPlace`].
+fn print_anew(alloc: Global, text: &str, document: &Value) -> Result<String, Failure>
+    ensures done { IfOk result (λ s. PatchedBy text.now (view document.now) (string_bytes s)) }
+    ensures failed { IfErr result (FailsToPatch text.now (view document.now) Layout.Compact) }
+{
+    let operations = operations_of(alloc, document)?;
+    apply_anew(alloc, text, operations)
+}
+
+/// Reads the document of the text, applies the operations, and prints it.
+fn apply_anew(alloc: Global, text: &str, operations: Vec<Operation>) -> Result<String, Failure>
+    ensures done { IfOk result
+        (λ s. PatchesInText text.now operations.items (string_bytes s)) }
+    ensures failed { IfErr result (FailsToApply text.now operations.items Layout.Compact) }
+{
+    Ok(apply_and_print(alloc, text, operations)?)
 }

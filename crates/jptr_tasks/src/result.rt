@@ -92,7 +92,7 @@ pub fn result_in_text_with(
         Task::Get(pointer, fallback) => get(alloc, buffers, text, *pointer, fallback, layout),
         Task::Set(pointer, value) => set(alloc, buffers, text, *pointer, value, layout),
         Task::Delete(pointer) => delete(alloc, buffers, text, *pointer, layout),
-        Task::Patch(document) => patch(alloc, buffers, text, document, layout),
+        Task::Patch(raw) => patch(alloc, buffers, text, raw, layout),
     }
 }
 

@@ -1,5 +1,6 @@
 //! What to do with a document.
 
+use crate::raw_patch::RawPatch;
 use jsonptr::Pointer;
 use jsonptr_edit_in_text::RawValue;
 use serde_json::Value;
@@ -14,6 +15,6 @@ pub enum Task<'a> {
     Set(Pointer<'a>, RawValue),
     /// Deletes the value that the pointer resolves to.
     Delete(Pointer<'a>),
-    /// Applies the patch that this document is (RFC 6902).
-    Patch(Value),
+    /// Applies the patch (RFC 6902), each value with its own text.
+    Patch(RawPatch),
 }

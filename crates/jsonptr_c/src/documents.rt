@@ -1,11 +1,15 @@
 //! Documents.
-ghost use Rattle.std.specs.Prelude.{◌≡◌, ◌≢◌, ◌⊎◌, [], Some, take, length as list_length};
+ghost use Rattle.std.specs.Prelude.{◌≡◌, ◌≢◌, ◌⊎◌, [], IsFalse, IsTrue, Some, take, length as list_length};
 ghost use Rattle.serde_json.specs.Read.{read as read_text};
 ghost use Rattle.serde_json.specs.View.{view};
 ghost use Rattle.serde_json.specs.declared.value.Value.{Value};
 ghost use Rattle.jsonptr_c_handle.specs.Document.{IsEmpty, Keeps};
 ghost use Rattle.jsonptr_c_calls.specs.Depths.{IsBounded};
+ghost use Rattle.jsonptr_numbers.specs.Digits.{KeepsDigits};
+ghost use Rattle.jsonptr_numbers.specs.Lost.{Loses};
+ghost use Rattle.jsonptr_numbers.specs.declared.lost.Lost.{Lost};
 ghost use Rattle.jsonptr_c_calls.specs.Editing.{AssignsAt, DeletesAt, IsNotDeleted, IsTextNotAssigned};
+ghost use Rattle.jsonptr_c_calls.specs.Exactness.{IsNotParsedBy, IsNotPointedTo, PointsTo};
 ghost use Rattle.jsonptr_c_calls.specs.Failures.{FailsOn, IsNotParsed, IsNotPrinted, IsNotRead, Unfound};
 ghost use Rattle.jsonptr_c_calls.specs.InTexts.{FindsTextIn, IsNotPrintedFrom};
 ghost use Rattle.jsonptr_c_calls.specs.Nodes.{FindsNode};
@@ -16,12 +20,13 @@ ghost use Rattle.jsonptr_c_calls.specs.Values.{Changes, FindsTextOf, FindsString
 ghost use Rattle.jsonptr_c_calls.specs.declared.failure.Failure.{Failure};
 
 use jsonptr_c_calls::documents::{
-    assign, delete, diff, free, node_at, parse, patch, patch_with_inverse, print_at, string_at,
+    assign, delete, diff, free, node_at, parse, parse_exactly, patch, patch_with_inverse, print_at,
+    string_at,
 };
 use jsonptr_c_calls::node::Node;
 use jsonptr_c_calls::outcome::{fail, fail_with_length, succeed};
 use jsonptr_c_calls::record::ErrorRecord;
-use jsonptr_c_calls::texts::print_in;
+use jsonptr_c_calls::texts::{lost_number_in, print_in};
 use jsonptr_c_calls::values::Layout;
 use jsonptr_c_handle::document::Document;
 use std::alloc::Global;
@@ -52,6 +57,35 @@ pub extern "C" fn jsonptrcore_document_parse(
         × IsNotParsed text.now e }
     ensures unchanged { result ≢ 0 → document.new ≡ document.old }
 {
+    match parse(alloc, document, text) {
+        Ok(()) => succeed(error),
+        Err(failure) => fail(&failure, b"", error),
+    }
+}
+
+/// Reads a JSON text into the handle. If `is_exact`, each number of it must keep its digits.
+#[unsafe(no_mangle)]
+pub extern "C" fn jsonptrcore_document_parse_with(
+    alloc: Global,
+    document: &mut Document,
+    text: &[u8],
+    is_exact: bool,
+    error: &mut ErrorRecord,
+) -> u32
+    ensures success { result ≡ 0 → error.new ≡ no_error }
+    ensures parsed { result ≡ 0 → ReadsInto text.now document.new }
+    ensures kept { result ≡ 0 → IsTrue is_exact → KeepsDigits text.now }
+    ensures bounded { result ≡ 0 → HoldsWith document.new (λ v. IsBounded (view v)) }
+    ensures refused { result ≢ 0 → (e : Failure) × Reports e [] result error.new
+        × IsNotParsedBy is_exact text.now e }
+    ensures unchanged { result ≢ 0 → document.new ≡ document.old }
+{
+    if is_exact {
+        return match parse_exactly(alloc, document, text) {
+            Ok(()) => succeed(error),
+            Err(failure) => fail(&failure, b"", error),
+        };
+    }
     match parse(alloc, document, text) {
         Ok(()) => succeed(error),
         Err(failure) => fail(&failure, b"", error),
@@ -314,5 +348,41 @@ pub extern "C" fn jsonptrcore_text_print(
             succeed(error)
         }
         Err(failure) => fail_with_length(&failure, pointer, length, error),
+    }
+}
+
+/// Copies the pointer of the first number of a JSON text that loses digits to the buffer, if there is
+/// one.
+#[unsafe(no_mangle)]
+pub extern "C" fn jsonptrcore_text_lost_number(
+    alloc: Global,
+    text: &[u8],
+    found: &mut bool,
+    out: &mut [u8],
+    length: &mut usize,
+    error: &mut ErrorRecord,
+) -> u32
+    ensures success { result ≡ 0 → error.new ≡ no_error }
+    ensures pointer { result ≡ 0 → IsTrue found.new
+        → (lost : Lost) × Loses text.now lost × PointsTo (take length.new out.new) lost }
+    ensures none { result ≡ 0 → IsFalse found.new → KeepsDigits text.now }
+    ensures refused { result ≢ 0 → (e : Failure) × Reports e [] result error.new
+        × IsNotPointedTo text.now (list_length out.old) e }
+    ensures unchanged { result ≢ 0 → out.new ≡ out.old }
+    ensures length { result ≢ 0 → IsLengthOf error.new length.old length.new }
+    ensures same_found { result ≢ 0 → found.new ≡ found.old }
+{
+    match lost_number_in(alloc, text, out) {
+        Ok(Some(copied)) => {
+            *found = true;
+            *length = copied;
+            succeed(error)
+        }
+        Ok(None) => {
+            *found = false;
+            *length = 0;
+            succeed(error)
+        }
+        Err(failure) => fail_with_length(&failure, b"", length, error),
     }
 }

@@ -120,4 +120,5 @@ message_short r fits =
     either 200 ((r.status == number.NOT_POINTER) || ((r.status == number.NOT_FOUND) || (r.status == number.NOT_ASSIGNED))) _ _ (omega (arith, cause))
     (either 200 (r.status == number.NOT_PATCH) _ _ (before 200 (codes "not a JSON Patch document: ") (document_message r) (omega (arith, start, document)))
     (either 200 (r.status == number.PATCH_FAILED) _ _ (before 200 (codes "patch failed at operation " ++ decimal r.operation ++ codes ": ") (cause_message r.kind r.slash) (omega (arith, place, cause)))
-    (either 200 ((r.status == number.TOO_DEEP) && (r.kind == number.KIND_DEEP_INVERSE)) _ _ (lit≤ tt) (fixed_short r.status))))
+    (either 200 (r.status == number.NOT_EXACT) _ _ (around 200 (codes "the number at offset ") (codes " loses digits") r.offset fits.2 (lit≤ tt))
+    (either 200 ((r.status == number.TOO_DEEP) && (r.kind == number.KIND_DEEP_INVERSE)) _ _ (lit≤ tt) (fixed_short r.status)))))

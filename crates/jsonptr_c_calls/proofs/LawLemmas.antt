@@ -17,6 +17,8 @@ use Rattle.jsonptr.proofs.Calling.{IsPointer-text, text_one, FindsValue_one, Ref
 use Rattle.jsonptr.specs.Grammar.{IsPointer}
 use Rattle.jsonptr_c_handle.specs.declared.document.Document.{Document}
 use Rattle.jsonptr_c_calls.specs.Editing.{IsNotAssigned, IsNotDeleted, IsTextNotAssigned, RefusesAt}
+use Rattle.jsonptr_numbers.specs.declared.lost.Lost.{Lost}
+use Rattle.jsonptr_c_calls.specs.Exactness.{IsNotParsedExactly, LacksPointer}
 use Rattle.jsonptr_c_calls.specs.Failures.{FailsOn, IsNoPointer, IsNoToken, IsNotEscaped, IsNotExtended, IsNotParsed, IsNotPopped, IsNotPrinted, IsNotPushed, IsNotRead, IsNotUtf8, IsOutOfMemory, LacksRoom, LacksString, LacksToken, SameStatus, Unfound}
 use Rattle.jsonptr_c_calls.specs.InTexts.{FindsIn, IsNotInText, IsNotPrintedFrom, LacksValue}
 use Rattle.jsonptr_patch.specs.Patching.{PatchesBy, RefusesPatchBy}
@@ -30,13 +32,18 @@ use Rattle.jsonptr_c_calls.specs.Values.{FindsAt}
 use Rattle.jsonptr_c_calls.specs.declared.failure.Argument.{Argument}
 use Rattle.jsonptr_c_calls.specs.declared.failure.Argument.TheVariants as argument
 use Rattle.jsonptr_c_calls.specs.declared.failure.Failure.{Failure}
-use Rattle.jsonptr_c_calls.specs.declared.failure.Failure.TheVariants.{NoRoom, NoDocument, NotUtf8, NotJson, NotPointer, NoToken, NotFound, OtherKind, NotAssigned, NotPatch, PatchFailed, TooDeep, DeepInverse}
+use Rattle.jsonptr_c_calls.specs.declared.failure.Failure.TheVariants.{NoRoom, NoDocument, NotUtf8, NotJson, NotExact, NotPointer, NoToken, NotFound, OtherKind, NotAssigned, NotPatch, PatchFailed, TooDeep, DeepInverse}
 use Rattle.jsonptr_c_calls.specs.declared.values.Layout.{Layout}
 use Rattle.jsonptr_c_calls.specs.Depths.{max_levels, StaysShallow}
 use Rattle.jsonptr_c_calls.proofs.SourceLemmas.{is_document}
 
 same : (e f x y : Failure) → e ≡ x → f ≡ y → status_of x ≡ status_of y → SameStatus e f
 same e f x y p q s = inr (inr (ap status_of p ∙ s ∙ sym (ap status_of q)))
+
+turned : (e f : Failure) → SameStatus e f → SameStatus f e
+turned e f (inl h) = inr (inl h)
+turned e f (inr (inl h)) = inl h
+turned e f (inr (inr h)) = inr (inr (sym h))
 
 rooms : (e f : Failure) (n m room : ℕ) → LacksRoom n room e → LacksRoom m room f → SameStatus e f
 rooms e f n m room h k = same e f (NoRoom n) (NoRoom m) h.1 k.1 refl
@@ -76,6 +83,18 @@ no_read : (t : List ℕ) (d : Data) (e f : Failure) → IsNotParsed t e → IsUt
 no_read t d e f (inl h) u r = absurd (h.0 u)
 no_read t d e f (inr (inl h)) u r = inl h
 no_read t d e f (inr (inr h)) u r = absurd (let no : None ≡ Some d = sym h.2 ∙ r in cc)
+
+pub not_parsed_exactly : (t : List ℕ) (e f : Failure) → IsNotParsedExactly t e → IsNotParsedExactly t f → SameStatus e f
+not_parsed_exactly t e f (inl h) (inl k) = not_parsed t e f h k
+not_parsed_exactly t e f (inl h) (inr k) = no_read t k.1.0 e f h k.1.1 k.1.2
+not_parsed_exactly t e f (inr h) (inl k) = turned f e (no_read t h.1.0 f e k h.1.1 h.1.2)
+not_parsed_exactly t e f (inr h) (inr k) = same e f (NotExact h.0) (NotExact k.0) h.2 k.2 refl
+
+pub pointer_lacked : (lost : Lost) (room : ℕ) (e f : Failure) → LacksPointer lost room e → LacksPointer lost room f → SameStatus e f
+pointer_lacked lost room e f (inl h) (inl k) = same e f (NotExact lost) (NotExact lost) h.1 k.1 refl
+pointer_lacked lost room e f (inl h) (inr k) = absurd (let no : None ≡ Some k.0 = sym h.0 ∙ k.1 in cc)
+pointer_lacked lost room e f (inr h) (inl k) = absurd (let no : None ≡ Some h.0 = sym k.0 ∙ h.1 in cc)
+pointer_lacked lost room e f (inr h) (inr k) = rooms e f _ _ room h.2 k.2
 
 -- what fails on the document in a handle
 on_document : (d : Document) (P : Value → Failure → Type 0) (e f : Failure) → ((v : Value) → P v e → P v f → SameStatus e f) → FailsOn d (λ v. P v e) e → FailsOn d (λ v. P v f) f → SameStatus e f
@@ -123,11 +142,6 @@ module _ (not_both : (s : Text) (e : ParseError) → IsPointer s → IsParseErro
   extended bytes token ts e f (inl h) p u = absurd (no_pointer-parses bytes ts e h p)
   extended bytes token ts e f (inr (inl h)) p u = inl h
   extended bytes token ts e f (inr (inr h)) p u = absurd (h.2.0 u)
-
-  turned : (e f : Failure) → SameStatus e f → SameStatus f e
-  turned e f (inl h) = inr (inl h)
-  turned e f (inr (inl h)) = inl h
-  turned e f (inr (inr h)) = inr (inr (sym h))
 
   pub not_pushed : (n : ℕ) (buffer token : List ℕ) (e f : Failure) → IsNotPushed n buffer token e → IsNotPushed n buffer token f → SameStatus e f
   not_pushed n buffer token e f (inl h) (inl k) = rooms e f _ _ _ h k

@@ -9,7 +9,7 @@ use Rattle.jsonptr_patch_document.specs.declared.error.PatchDocumentError.TheVar
 use Rattle.jsonptr_c_calls.specs.Messages.{failure_message, message_of}
 use Rattle.jsonptr_c_calls.specs.Rows.{record_of}
 use Rattle.jsonptr_c_calls.specs.declared.failure.Failure.{Failure}
-use Rattle.jsonptr_c_calls.specs.declared.failure.Failure.TheVariants.{Memory, NoRoom, NoDocument, NotUtf8, NotJson, NotPointer, NoToken, NotFound, OtherKind, NotAssigned, NotPatch, PatchFailed, TooDeep, DeepInverse}
+use Rattle.jsonptr_c_calls.specs.declared.failure.Failure.TheVariants.{Memory, NoRoom, NoDocument, NotUtf8, NotJson, NotExact, NotPointer, NoToken, NotFound, OtherKind, NotAssigned, NotPatch, PatchFailed, TooDeep, DeepInverse}
 
 pub message_one : (e : Failure) (bytes : List ℕ) → message_of (record_of e bytes) ≡ failure_message e
 message_one (Memory e) bytes = refl
@@ -17,6 +17,7 @@ message_one (NoRoom needed) bytes = refl
 message_one NoDocument bytes = refl
 message_one (NotUtf8 a offset) bytes = refl
 message_one (NotJson offset) bytes = refl
+message_one (NotExact l) bytes = refl
 message_one (NotPointer parse_error.NoLeadingSlash) bytes = refl
 message_one (NotPointer (parse_error.InvalidEncoding offset source)) bytes = refl
 message_one NoToken bytes = refl

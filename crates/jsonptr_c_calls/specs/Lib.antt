@@ -7,6 +7,7 @@ pub mod Kinds
 pub mod Nodes
 pub mod Editing
 pub mod InTexts
+pub mod Exactness
 pub mod Sources
 pub mod PrivateSources
 pub mod Patches

@@ -1,5 +1,5 @@
 -- The messages of errors.
-use Rattle.std.specs.Prelude.{ℕ, ◌++◌, ◌^◌, ◌<◌, ◌==◌, ◌&&◌, ◌||◌, codes, decimal, if◌then◌else◌}
+use Rattle.std.specs.Prelude.{ℕ, ◌++◌, ◌^◌, ◌<◌, ◌==◌, ◌&&◌, ◌||◌, codes, decimal, if◌then◌else◌, unwrap_or}
 use Rattle.jsonptr.specs.Assign.{assign_message}
 use Rattle.jsonptr.specs.ParseError.{parse_message}
 use Rattle.jsonptr.specs.Resolve.{resolve_message}
@@ -11,7 +11,7 @@ use Rattle.jsonptr_patch_document.specs.declared.error.PatchDocumentError.{Patch
 use Rattle.jsonptr_patch_document.specs.declared.error.PatchDocumentError.TheVariants as document_error
 use Rattle.jsonptr_c_calls.specs.declared.numbers.TheConstants as number
 use Rattle.jsonptr_c_calls.specs.declared.failure.Failure.{Failure}
-use Rattle.jsonptr_c_calls.specs.declared.failure.Failure.TheVariants.{Memory, NoRoom, NoDocument, NotUtf8, NotJson, NotPointer, NoToken, NotFound, OtherKind, NotAssigned, NotPatch, PatchFailed, TooDeep, DeepInverse}
+use Rattle.jsonptr_c_calls.specs.declared.failure.Failure.TheVariants.{Memory, NoRoom, NoDocument, NotUtf8, NotJson, NotExact, NotPointer, NoToken, NotFound, OtherKind, NotAssigned, NotPatch, PatchFailed, TooDeep, DeepInverse}
 use Rattle.jsonptr_c_calls.specs.declared.record.ErrorRecord.{ErrorRecord}
 
 -- `patch_message e`: the message of an operation that fails
@@ -52,6 +52,8 @@ failure_message (NoRoom needed) = codes "the buffer is too short"
 failure_message NoDocument = codes "the handle holds no document"
 failure_message (NotUtf8 a offset) = codes "text is not UTF-8"
 failure_message (NotJson offset) = codes "text is not JSON"
+failure_message (NotExact l) =
+    codes "the number at offset " ++ decimal (unwrap_or l.offset 0) ++ codes " loses digits"
 failure_message (NotPointer e) = parse_message e
 failure_message NoToken = codes "the pointer has no such token"
 failure_message (NotFound e) = resolve_message e
@@ -140,13 +142,15 @@ message_of r =
     else if r.status == number.NOT_PATCH then codes "not a JSON Patch document: " ++ document_message r
     else if r.status == number.PATCH_FAILED
     then codes "patch failed at operation " ++ decimal r.operation ++ codes ": " ++ cause_message r.kind r.slash
+    else if r.status == number.NOT_EXACT
+    then codes "the number at offset " ++ decimal r.offset ++ codes " loses digits"
     else if (r.status == number.TOO_DEEP) && (r.kind == number.KIND_DEEP_INVERSE)
     then codes "the inverse of the patch would nest deeper than 127"
     else fixed_message r.status
 
 -- `Fits r`: the numbers of the record `r` that are in messages are those of an `u64`
 abbrev pub Fits : ErrorRecord → Type 0
-Fits r = (r.operation < 2 ^ 64) × (r.slash < 2 ^ 64)
+Fits r = (r.operation < 2 ^ 64) × (r.slash < 2 ^ 64) × (r.offset < 2 ^ 64)
 
 -- `message_room`: no message is longer
 abbrev pub message_room : ℕ

@@ -1,5 +1,5 @@
 -- The numbers by which C knows an error: a row for each error. They never change.
-use Rattle.std.specs.Prelude.{ℕ, ◌+◌, ◌-◌, ◌^◌, ◌==◌, not, List, Option, Some, None, count_by, drop, length, min, take}
+use Rattle.std.specs.Prelude.{ℕ, ◌+◌, ◌-◌, ◌^◌, ◌==◌, not, List, Option, Some, None, count_by, drop, length, min, take, unwrap_or}
 use Rattle.std.specs.List.{prefix_len}
 use Rattle.jsonptr.specs.Types.ParseError.{ParseError}
 use Rattle.jsonptr.specs.Resolve.{resolve_offset_of}
@@ -9,6 +9,7 @@ use Rattle.jsonptr.specs.declared.resolve.Error.TheVariants as resolve_error
 use Rattle.jsonptr.specs.declared.assign.Error as assign
 use Rattle.jsonptr.specs.declared.assign.Error.TheVariants as assign_error
 use Rattle.jsonptr_syntax.specs.declared.parse_error.ParseError.TheVariants as parse_error
+use Rattle.jsonptr_numbers.specs.declared.lost.Lost.{Lost}
 use Rattle.jsonptr_patch.specs.declared.operation.PatchError.{PatchError}
 use Rattle.jsonptr_patch.specs.declared.operation.PatchError.TheVariants as patch_error
 use Rattle.jsonptr_patch_document.specs.declared.member.Member.{Member}
@@ -19,7 +20,7 @@ use Rattle.jsonptr_c_calls.specs.declared.numbers.TheConstants as number
 use Rattle.jsonptr_c_calls.specs.declared.failure.Argument.{Argument}
 use Rattle.jsonptr_c_calls.specs.declared.failure.Argument.TheVariants as argument
 use Rattle.jsonptr_c_calls.specs.declared.failure.Failure.{Failure}
-use Rattle.jsonptr_c_calls.specs.declared.failure.Failure.TheVariants.{Memory, NoRoom, NoDocument, NotUtf8, NotJson, NotPointer, NoToken, NotFound, OtherKind, NotAssigned, NotPatch, PatchFailed, TooDeep, DeepInverse}
+use Rattle.jsonptr_c_calls.specs.declared.failure.Failure.TheVariants.{Memory, NoRoom, NoDocument, NotUtf8, NotJson, NotExact, NotPointer, NoToken, NotFound, OtherKind, NotAssigned, NotPatch, PatchFailed, TooDeep, DeepInverse}
 use Rattle.jsonptr_c_calls.specs.declared.record.ErrorRecord.{ErrorRecord}
 
 -- `row status kind member operation position slash offset length`: the record with these numbers
@@ -131,6 +132,10 @@ pointer_row (parse_error.InvalidEncoding offset source) bytes =
     row 0 number.KIND_BAD_ESCAPE 0 0 (slashes_before bytes offset) offset (capped (offset + source.offset))
     (escape_length bytes (capped (offset + source.offset)))
 
+-- `lost_row l`: where a number that loses digits is in its text. An offset that is not known is 0
+abbrev pub lost_row : Lost → ErrorRecord
+lost_row l = row 0 0 0 0 0 0 (unwrap_or l.offset 0) l.length
+
 -- `argument_number a`: the number of the argument `a` of a call
 abbrev pub argument_number : Argument → ℕ
 argument_number argument.Pointer = number.ARGUMENT_POINTER
@@ -144,6 +149,7 @@ status_of (NoRoom needed) = number.NO_ROOM
 status_of NoDocument = number.NO_DOCUMENT
 status_of (NotUtf8 a offset) = number.NOT_UTF8
 status_of (NotJson offset) = number.NOT_JSON
+status_of (NotExact l) = number.NOT_EXACT
 status_of (NotPointer e) = number.NOT_POINTER
 status_of NoToken = number.NO_TOKEN
 status_of (NotFound e) = number.NOT_FOUND
@@ -161,6 +167,7 @@ fields_of (NoRoom needed) bytes = with_length needed no_error
 fields_of NoDocument bytes = no_error
 fields_of (NotUtf8 a offset) bytes = row 0 0 (argument_number a) 0 0 0 offset 0
 fields_of (NotJson offset) bytes = row 0 0 0 0 0 0 offset 0
+fields_of (NotExact l) bytes = lost_row l
 fields_of (NotPointer e) bytes = pointer_row e bytes
 fields_of NoToken bytes = no_error
 fields_of (NotFound e) bytes = with_length (token_length bytes (resolve_offset_of e)) (resolve_row e)

@@ -5,6 +5,8 @@ ghost use Rattle.serde_json.specs.View.{view};
 ghost use Rattle.serde_json.specs.declared.value.Value.{Value as JsonValue};
 ghost use Rattle.jsonptr_c_handle.specs.Document.{Holds, IsEmpty, Keeps};
 ghost use Rattle.jsonptr_c_calls.specs.Depths.{IsBounded};
+ghost use Rattle.jsonptr_numbers.specs.Digits.{KeepsDigits};
+ghost use Rattle.jsonptr_c_calls.specs.Exactness.{IsNotParsedExactly};
 ghost use Rattle.jsonptr_c_calls.specs.Editing.{AssignsAt, DeletesAt, IsNotDeleted, IsTextNotAssigned};
 ghost use Rattle.jsonptr_c_calls.specs.Failures.{FailsOn, IsNotParsed, IsNotPrinted, IsNotRead, LacksRoom, Unfound};
 ghost use Rattle.jsonptr_c_calls.specs.Nodes.{FindsNode};
@@ -14,7 +16,7 @@ ghost use Rattle.jsonptr_c_calls.specs.Values.{Changes, FindsTextOf, FindsString
 use crate::failure::Failure;
 use crate::node::Node;
 use crate::patches::Patched;
-use crate::reading::read;
+use crate::reading::{read, read_exactly};
 use crate::values::{self, Layout};
 use crate::{editing, patches};
 use jsonptr_c_handle::document::Document;
@@ -36,6 +38,31 @@ pub fn parse(alloc: Global, document: &mut Document, text: &[u8]) -> Result<(), 
     ensures unchanged { OnErr result (document.new ≡ document.old) }
 {
     let Ok(value) = Box::new(alloc, read(alloc, text)?) else {
+        return Err(Failure::Memory(AllocError));
+    };
+    free(alloc, document);
+    document.put(value);
+    Ok(())
+}
+
+/// Reads a JSON text into the handle, if each number of it keeps its digits. A document that it holds
+/// is freed.
+///
+/// # Errors
+///
+/// - [`Failure::NotUtf8`] and [`Failure::NotJson`].
+/// - [`Failure::NotExact`] with the first number that loses digits.
+/// - [`Failure::Memory`] if an allocation fails.
+///
+/// The handle is unchanged.
+pub fn parse_exactly(alloc: Global, document: &mut Document, text: &[u8]) -> Result<(), Failure>
+    ensures parsed { IfOk result (λ _. ReadsInto text.now document.new) }
+    ensures kept { OnOk result (KeepsDigits text.now) }
+    ensures bounded { IfOk result (λ _. HoldsWith document.new (λ v. IsBounded (view v))) }
+    ensures refused { IfErr result (IsNotParsedExactly text.now) }
+    ensures unchanged { OnErr result (document.new ≡ document.old) }
+{
+    let Ok(value) = Box::new(alloc, read_exactly(alloc, text)?) else {
         return Err(Failure::Memory(AllocError));
     };
     free(alloc, document);

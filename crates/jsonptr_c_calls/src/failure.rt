@@ -3,6 +3,7 @@ ghost use Rattle.std.specs.Prelude.{◌≡◌};
 ghost use Rattle.jsonptr_c_calls.specs.declared.failure.Failure.TheVariants.{Memory};
 
 use jsonptr::{ParseError, assign, resolve};
+use jsonptr_numbers::Lost;
 use jsonptr_patch::PatchError;
 use jsonptr_patch_document::{Member, PatchDocumentError};
 use std::alloc::AllocError;
@@ -42,6 +43,8 @@ pub enum Failure {
         /// The offset at which reading stopped.
         offset: usize,
     },
+    /// A number of a text loses digits.
+    NotExact(Lost),
     /// A text is not a pointer.
     NotPointer(ParseError),
     /// A pointer has no token at a position.

@@ -5,6 +5,8 @@ ghost use Rattle.serde_json.specs.View.{view};
 ghost use Rattle.jsonptr_c_handle.specs.declared.document.Document.{Document};
 ghost use Rattle.jsonptr_patch.specs.declared.operation.Operation.{Operation};
 ghost use Rattle.jsonptr_c_calls.specs.Editing.{IsNotDeleted, IsTextNotAssigned};
+ghost use Rattle.jsonptr_numbers.specs.declared.lost.Lost.{Lost};
+ghost use Rattle.jsonptr_c_calls.specs.Exactness.{IsNotParsedExactly, LacksPointer};
 ghost use Rattle.jsonptr_c_calls.specs.Failures.{FailsOn, IsNoPointer, IsNoToken, IsNotEscaped, IsNotParsed, IsNotPopped, IsNotPrinted, IsNotPushed, IsNotRead, SameStatus, Unfound};
 ghost use Rattle.jsonptr_c_calls.specs.InTexts.{IsNotPrintedFrom};
 ghost use Rattle.jsonptr_c_calls.specs.Messages.{Fits, failure_message, message_of, message_room};
@@ -40,6 +42,10 @@ pub fn one_error_law()
         → IsNotPopped bytes e → IsNotPopped bytes f → SameStatus e f }
     ensures parse { (text : List ℕ) (e f : Failure)
         → IsNotParsed text e → IsNotParsed text f → SameStatus e f }
+    ensures parse_exactly { (text : List ℕ) (e f : Failure)
+        → IsNotParsedExactly text e → IsNotParsedExactly text f → SameStatus e f }
+    ensures lost_number { (lost : Lost) (room : ℕ) (e f : Failure)
+        → LacksPointer lost room e → LacksPointer lost room f → SameStatus e f }
     ensures print { (d : Document) (layout : Layout) (bytes : List ℕ) (room : ℕ) (e f : Failure)
         → FailsOn d (λ v. IsNotPrinted layout (view v) bytes room e) e
         → FailsOn d (λ v. IsNotPrinted layout (view v) bytes room f) f → SameStatus e f }

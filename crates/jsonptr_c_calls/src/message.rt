@@ -17,6 +17,10 @@ impl fmt::Display for ErrorRecord {
                 let operation = self.operation;
                 write!(f, "patch failed at operation {operation}: {}", Cause(*self))
             }
+            NOT_EXACT => {
+                let offset = self.offset;
+                write!(f, "the number at offset {offset} loses digits")
+            }
             TOO_DEEP if self.kind == KIND_DEEP_INVERSE => {
                 f.write_str("the inverse of the patch would nest deeper than 127")
             }

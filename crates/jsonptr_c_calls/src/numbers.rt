@@ -31,6 +31,8 @@ pub const NOT_PATCH: u32 = 12;
 pub const PATCH_FAILED: u32 = 13;
 /// The document would nest too deep.
 pub const TOO_DEEP: u32 = 14;
+/// A number of a text loses digits.
+pub const NOT_EXACT: u32 = 15;
 
 /// A pointer is not empty and does not start with a slash.
 pub const KIND_NO_LEADING_SLASH: u32 = 1;

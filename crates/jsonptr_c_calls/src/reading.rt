@@ -1,12 +1,16 @@
 //! JSON texts as bytes.
-ghost use Rattle.std.specs.Prelude.{◌≡◌, IfErr, IfOk, IsUtf8, OnOk, Some};
+ghost use Rattle.std.specs.Prelude.{◌≡◌, IfErr, IfOk, IsUtf8, MatchOption, OnOk, Some};
 ghost use Rattle.serde_json.specs.Read.{read as read_text};
 ghost use Rattle.serde_json.specs.View.{view};
 ghost use Rattle.jsonptr_c_calls.specs.Depths.{IsParsed};
+ghost use Rattle.jsonptr_c_calls.specs.Exactness.{IsNotParsedExactly};
 ghost use Rattle.jsonptr_c_calls.specs.Failures.{IsNotParsed};
+ghost use Rattle.jsonptr_numbers.specs.Digits.{KeepsDigits};
+ghost use Rattle.jsonptr_numbers.specs.Lost.{Loses};
 
 use crate::failure::{Argument, Failure};
 use crate::pointers::text_of;
+use jsonptr_numbers::{Lost, find_lost};
 use serde_json::{Error, Value};
 use std::alloc::{AllocError, Global};
 
@@ -35,6 +39,43 @@ pub fn read(alloc: Global, bytes: &[u8]) -> Result<Value, Failure>
             }
         }
     }
+}
+
+/// Returns the document that the bytes are the text of, if each number of it keeps its digits.
+///
+/// # Errors
+///
+/// - [`Failure::NotUtf8`] and [`Failure::NotJson`].
+/// - [`Failure::NotExact`] with the first number that loses digits.
+/// - [`Failure::Memory`] if an allocation fails.
+pub fn read_exactly(alloc: Global, bytes: &[u8]) -> Result<Value, Failure>
+    ensures read { IfOk result (λ v. read_text bytes.now ≡ Some (view v)) }
+    ensures parsed { IfOk result (λ v. IsParsed (view v)) }
+    ensures kept { OnOk result (KeepsDigits bytes.now) }
+    ensures utf8 { OnOk result (IsUtf8 bytes.now) }
+    ensures refused { IfErr result (IsNotParsedExactly bytes.now) }
+{
+    let value = read(alloc, bytes)?;
+    match lost_of(alloc, bytes)? {
+        Some(lost) => Err(Failure::NotExact(lost)),
+        None => Ok(value),
+    }
+}
+
+/// Returns the first number of the JSON text that loses digits, or `None` if each number keeps its
+/// digits.
+///
+/// # Errors
+///
+/// - [`Failure::NotUtf8`].
+/// - [`Failure::Memory`] if an allocation fails.
+pub(crate) fn lost_of(alloc: Global, bytes: &[u8]) -> Result<Option<Lost>, Failure>
+    ensures lost { IfOk result (λ o. MatchOption o (KeepsDigits bytes.now) (Loses bytes.now)) }
+    ensures utf8 { OnOk result (IsUtf8 bytes.now) }
+    ensures refused { IfErr result (IsNotParsed bytes.now) }
+{
+    let text = text_of(Argument::Text, bytes)?;
+    Ok(find_lost(alloc, text)?)
 }
 
 /// Returns the offset that the error reports.

@@ -84,6 +84,6 @@ pub fn message(alloc: Global, error: &ErrorRecord, out: &mut [u8]) -> Result<usi
     ensures unchanged { OnErr result (out.new ≡ out.old) }
 {
     message_law();
-    let (_operation, _slash) = (error.operation, error.slash);
+    let (_operation, _slash, _offset) = (error.operation, error.slash, error.offset);
     copy_to(error.to_string(alloc)?.as_str().as_bytes(), out)
 }

@@ -1,12 +1,13 @@
 //! The numbers of each error: a row for each variant.
 ghost use Rattle.std.specs.Prelude.{◌≡◌, ◌==◌, ◌+◌, not, count_by, drop, take};
 ghost use Rattle.std.specs.List.{prefix_len};
-ghost use Rattle.jsonptr_c_calls.specs.Rows.{argument_number, assign_row, at_token, fault_number, fields_of, member_number, of_kind, of_operation, parse_row, patch_document_row, patch_row, pointer_row, record_of, resolve_row, slashes_before, escape_length, status_of, token_length};
+ghost use Rattle.jsonptr_c_calls.specs.Rows.{argument_number, assign_row, at_token, fault_number, fields_of, lost_row, member_number, of_kind, of_operation, parse_row, patch_document_row, patch_row, pointer_row, record_of, resolve_row, slashes_before, escape_length, status_of, token_length};
 
 use crate::failure::{Argument, Failure};
 use crate::numbers::*;
 use crate::record::ErrorRecord;
 use jsonptr::{ParseError, assign, resolve};
+use jsonptr_numbers::Lost;
 use jsonptr_patch::PatchError;
 use jsonptr_patch_document::{Member, PatchDocumentError};
 
@@ -30,6 +31,7 @@ fn status(failure: &Failure) -> u32
         Failure::NoDocument => NO_DOCUMENT,
         Failure::NotUtf8 { .. } => NOT_UTF8,
         Failure::NotJson { .. } => NOT_JSON,
+        Failure::NotExact(_) => NOT_EXACT,
         Failure::NotPointer(_) => NOT_POINTER,
         Failure::NoToken => NO_TOKEN,
         Failure::NotFound(_) => NOT_FOUND,
@@ -59,6 +61,7 @@ fn fields(failure: &Failure, pointer: &[u8]) -> ErrorRecord
             offset: *offset as u64,
             ..ErrorRecord::none()
         },
+        Failure::NotExact(lost) => lost_row(lost),
         Failure::NotPointer(error) => pointer_row(error, pointer),
         Failure::NotFound(error) => ErrorRecord {
             length: token_length(pointer, error.offset()) as u64,
@@ -72,6 +75,17 @@ fn fields(failure: &Failure, pointer: &[u8]) -> ErrorRecord
         Failure::PatchFailed { error, member } => patch_row(error, fault_number(*member)),
         Failure::DeepInverse => of_kind(KIND_DEEP_INVERSE),
         _ => ErrorRecord::none(),
+    }
+}
+
+/// Returns the record of a number that loses digits. An offset that is not known is 0.
+fn lost_row(lost: &Lost) -> ErrorRecord
+    ensures { result ≡ lost_row lost.now }
+{
+    ErrorRecord {
+        offset: lost.offset.unwrap_or(0) as u64,
+        length: lost.length as u64,
+        ..ErrorRecord::none()
     }
 }
 

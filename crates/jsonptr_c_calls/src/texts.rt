@@ -1,13 +1,18 @@
-//! Resolving in a JSON text that is not read into a document.
-ghost use Rattle.std.specs.Prelude.{◌≡◌, IfErr, IfOk, IsUtf8, OnErr, OnOk, length, take};
+//! Calls on a JSON text that is not read into a document.
+ghost use Rattle.std.specs.Prelude.{◌≡◌, IfErr, IfOk, IsUtf8, MatchOption, OnErr, OnOk, length, take};
+ghost use Rattle.jsonptr_numbers.specs.Digits.{KeepsDigits};
+ghost use Rattle.jsonptr_numbers.specs.Lost.{Loses};
+ghost use Rattle.jsonptr_numbers.specs.declared.lost.Lost.{Lost as SpecLost};
+ghost use Rattle.jsonptr_c_calls.specs.Exactness.{IsNotPointedTo, LacksPointer, PointsTo};
 ghost use Rattle.jsonptr_c_calls.specs.InTexts.{FindsIn, FindsTextIn, IsNotInText, IsNotPrintedFrom};
 
 use crate::buffer::copy_to;
 use crate::failure::{Argument, Failure};
 use crate::pointers::{parse, text_of};
-use crate::reading::stop;
+use crate::reading::{lost_of, read, stop};
 use crate::values::{Layout, json_text};
 use jsonptr_in_text::{InTextError, resolve_in_text};
+use jsonptr_numbers::Lost;
 use serde_json::Value;
 use std::alloc::Global;
 
@@ -65,4 +70,46 @@ pub fn print_in(
         Ok(value) => copy_to(&json_text(alloc, &value, layout)?, out),
         Err(failure) => Err(failure),
     }
+}
+
+/// Copies the pointer of the first number of the JSON text that loses digits to the buffer, and
+/// returns its length, or `None` if each number keeps its digits.
+///
+/// # Errors
+///
+/// - [`Failure::NotUtf8`] and [`Failure::NotJson`].
+/// - [`Failure::NotExact`] if that number has no pointer: the key of a member that it is in comes again.
+/// - [`Failure::NoRoom`] if the buffer is shorter than the pointer.
+/// - [`Failure::Memory`] if an allocation fails.
+///
+/// The buffer is unchanged.
+pub fn lost_number_in(alloc: Global, text: &[u8], out: &mut [u8]) -> Result<Option<usize>, Failure>
+    ensures found { IfOk result (λ o. MatchOption o (KeepsDigits text.now)
+        (λ n. (lost : SpecLost) × Loses text.now lost × PointsTo (take n out.new) lost)) }
+    ensures json { OnOk result (IsUtf8 text.now) }
+    ensures refused { IfErr result (IsNotPointedTo text.now (length out.old)) }
+    ensures unchanged { OnErr result (out.new ≡ out.old) }
+{
+    let _document = read(alloc, text)?;
+    match lost_of(alloc, text)? {
+        Some(lost) => Ok(Some(copy_pointer(lost, out)?)),
+        None => Ok(None),
+    }
+}
+
+/// Copies the pointer of the number to the buffer, and returns its length.
+///
+/// # Errors
+///
+/// [`Failure::NotExact`] if the number has no pointer, and [`Failure::NoRoom`] if the buffer is shorter.
+/// The buffer is unchanged.
+fn copy_pointer(lost: Lost, out: &mut [u8]) -> Result<usize, Failure>
+    ensures copied { IfOk result (λ n. PointsTo (take n out.new) lost) }
+    ensures refused { IfErr result (LacksPointer lost (length out.old)) }
+    ensures unchanged { OnErr result (out.new ≡ out.old) }
+{
+    if let Some(pointer) = &lost.pointer {
+        return copy_to(pointer.as_ptr().as_str().as_bytes(), out);
+    }
+    Err(Failure::NotExact(lost))
 }

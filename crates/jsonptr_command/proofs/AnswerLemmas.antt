@@ -15,13 +15,13 @@ use Rattle.jsonptr_in_text.specs.declared.resolve.InTextError.TheVariants as in_
 use Rattle.jsonptr_command.specs.JsonText.{json_of}
 use Rattle.jsonptr_command.specs.Streams.{ForBytes}
 use Rattle.jsonptr_command.proofs.JsonLemmas.{json_of-utf8, json_of-None}
-use Rattle.jsonptr_command.specs.Run.{Asks, ComesAfterInput, ForRequest, Outcome, HasValueOf, IsKept, IsLeft, IsOperationFault, IsRequestFault, IsWordsMemory, LeavesValue, NeedsInput, listing, splitting, SplitsInTwo, texts_value, OnDocument, Resolves, resolving}
+use Rattle.jsonptr_command.specs.Run.{Asks, ComesAfterInput, ForRequest, Outcome, HasValueOf, IsOperationFault, IsRequestFault, IsWordsMemory, LeavesValue, NeedsInput, listing, splitting, SplitsInTwo, texts_value, OnDocument, Resolves, resolving}
 use Rattle.jsonptr_command.specs.Faults.{IsInputFault, of_in_text_error}
-use Rattle.jsonptr_command.specs.Private.{task_of, request_of, ComesBeforeDocument, Does, IsFaultOf, IsLeftBy, IsLineOf, IsNoValue}
+use Rattle.jsonptr_command.specs.Private.{asked_by, request_of, Changes, ComesBeforeDocument, IsFaultOf, IsLineOf, IsNoValue}
 use Rattle.jsonptr_command.specs.declared.run.Request as code
-use Rattle.jsonptr_command.specs.declared.run.Request.TheVariants.{Tokens, Split, Document}
-use Rattle.jsonptr_command.specs.declared.run.Task.{Task}
-use Rattle.jsonptr_command.specs.declared.run.Task.TheVariants.{Resolve, Assign, Delete, Patch}
+use Rattle.jsonptr_command.specs.declared.run.Request.TheVariants.{Tokens, Split, Resolve}
+use Rattle.jsonptr_command.specs.declared.run.Change.{Change}
+use Rattle.jsonptr_command.specs.declared.run.Change.TheVariants.{Assign, Delete, Patch}
 use Rattle.jsonptr_command.specs.declared.fault.RunFault.{RunFault}
 use Rattle.jsonptr_command.specs.declared.fault.RunFault.TheVariants.{Usage, BadPointer, ValueNotJson, NoValue, BadPlace, NotThere, BadSplit, BadPatch, InputNotJson, Memory, Read, Write}
 
@@ -45,66 +45,57 @@ no_document : (bytes : List ℕ) (e : RunFault) (P : Data → Type 0) → json_o
 no_document bytes e P none is =
     subst (λ (o : Option Data). MatchOption o (refusal e ≡ refusal InputNotJson) P) (sym none) (ap refusal is)
 
--- a task needs the input
-needs : (task : Task) → NeedsInput (task_of task)
-needs (Resolve p) = tt
+-- a change needs the input
+needs : (change : Change) → NeedsInput (asked_by change)
 needs (Assign p v) = tt
 needs (Delete p) = tt
 needs (Patch patch) = tt
 
 -- and its result on the bytes is the one on the document
-gives : (task : Task) (bytes : List ℕ) (r : Result Data RunFault) → OnDocument bytes r (λ d. Does task d r) → Outcome (task_of task) bytes r
-gives (Resolve p) bytes r h = h
+gives : (change : Change) (bytes : List ℕ) (r : Result Data RunFault) → OnDocument bytes r (λ d. Changes change d r) → Outcome (asked_by change) bytes r
 gives (Assign p v) bytes r h = h
 gives (Delete p) bytes r h = h
 gives (Patch patch) bytes r h = h
 
--- and what it leaves of the document, it leaves of the bytes
-leaves : (task : Task) (bytes : List ℕ) (d new : Data) → json_of bytes ≡ Some d → IsLeftBy task d new → IsLeft (task_of task) bytes new
-leaves (Resolve p) bytes d new is h = is ∙ ap some (sym h)
-leaves (Assign p v) bytes d new is h = on_document bytes d (Ok new) (λ d. Does (Assign p v) d (Ok new)) is h
-leaves (Delete p) bytes d new is h = on_document bytes d (Ok new) (λ d. Does (Delete p) d (Ok new)) is h
-leaves (Patch patch) bytes d new is h = on_document bytes d (Ok new) (λ d. Does (Patch patch) d (Ok new)) is h
-
-module _ (task : Task) (known : Option (List ℕ)) where
-  -- a fault of the input is one of the task's request
-  pub input_fault_given : (e : RunFault) → IsInputFault known e → IsRequestFault (task_of task) known e
+module _ (change : Change) (known : Option (List ℕ)) where
+  -- a fault of the input is one of the request
+  pub input_fault_given : (e : RunFault) → IsInputFault known e → IsRequestFault (asked_by change) known e
   input_fault_given e (inl memory) = inr (inl memory)
-  input_fault_given e (inr (inl read)) = inr (inr (needs task, read))
+  input_fault_given e (inr (inl read)) = inr (inr (needs change, read))
   input_fault_given e (inr (inr h)) =
       inl
-      (ForBytes-map known (λ bytes. json_of bytes ≡ None) (λ bytes. Outcome (task_of task) bytes (Err e))
-      (λ bytes none. gives task bytes (Err e) (no_document bytes e (λ d. Does task d (Err e)) none h.1)) h.0)
+      (ForBytes-map known (λ bytes. json_of bytes ≡ None) (λ bytes. Outcome (asked_by change) bytes (Err e))
+      (λ bytes none. gives change bytes (Err e) (no_document bytes e (λ d. Changes change d (Err e)) none h.1)) h.0)
 
   module _ (d : Data) (read : ForBytes known (λ bytes. json_of bytes ≡ Some d)) where
     -- a line of the result on the document is one of the result on the bytes
-    pub line_given : (line : Text) → IsLineOf (Does task d) line → ForBytes known (λ bytes. IsLineOf (Outcome (task_of task) bytes) line)
+    pub line_given : (line : Text) → IsLineOf (Changes change d) line → ForBytes known (λ bytes. IsLineOf (Outcome (asked_by change) bytes) line)
     line_given line h =
-        ForBytes-map known (λ bytes. json_of bytes ≡ Some d) (λ bytes. IsLineOf (Outcome (task_of task) bytes) line)
-        (λ bytes is. (h.0, gives task bytes (Ok h.0) (on_document bytes d (Ok h.0) (λ d. Does task d (Ok h.0)) is h.1), h.2)) read
+        ForBytes-map known (λ bytes. json_of bytes ≡ Some d) (λ bytes. IsLineOf (Outcome (asked_by change) bytes) line)
+        (λ bytes is. (h.0, gives change bytes (Ok h.0) (on_document bytes d (Ok h.0) (λ d. Changes change d (Ok h.0)) is h.1), h.2)) read
 
     -- and so is a fault
-    pub fault_given : (e : RunFault) → IsFaultOf (Does task d) e → IsRequestFault (task_of task) known e
+    pub fault_given : (e : RunFault) → IsFaultOf (Changes change d) e → IsRequestFault (asked_by change) known e
     fault_given e (inl h) =
         inl
-        (ForBytes-map known (λ bytes. json_of bytes ≡ Some d) (λ bytes. Outcome (task_of task) bytes (Err e))
-        (λ bytes is. gives task bytes (Err e) (on_document bytes d (Err e) (λ d. Does task d (Err e)) is h)) read)
+        (ForBytes-map known (λ bytes. json_of bytes ≡ Some d) (λ bytes. Outcome (asked_by change) bytes (Err e))
+        (λ bytes is. gives change bytes (Err e) (on_document bytes d (Err e) (λ d. Changes change d (Err e)) is h)) read)
     fault_given e (inr memory) = inr (inl memory)
 
-    -- what the task leaves where an allocation fails is that document, or the one after the task
-    pub either_given : (new : Data) → (new ≡ d) ⊎ IsLeftBy task d new → ForBytes known (λ bytes. (some new ≡ json_of bytes) ⊎ IsKept (task_of task) bytes (Some new))
+    -- the document after the change is the value of its request
+    pub value_given : (new : Data) → Changes change d (Ok new) → ForBytes known (λ bytes. HasValueOf (asked_by change) bytes (Some new))
+    value_given new h =
+        ForBytes-map known (λ bytes. json_of bytes ≡ Some d) (λ bytes. HasValueOf (asked_by change) bytes (Some new))
+        (λ bytes is. (new, refl, gives change bytes (Ok new) (on_document bytes d (Ok new) (λ d. Changes change d (Ok new)) is h))) read
+
+    -- what is left where an allocation fails is the document before or after the change
+    pub either_given : (new : Data) → (new ≡ d) ⊎ Changes change d (Ok new) → ForBytes known (λ bytes. (some new ≡ json_of bytes) ⊎ HasValueOf (asked_by change) bytes (Some new))
     either_given new (inl same) =
-        ForBytes-map known (λ bytes. json_of bytes ≡ Some d) (λ bytes. (some new ≡ json_of bytes) ⊎ IsKept (task_of task) bytes (Some new))
+        ForBytes-map known (λ bytes. json_of bytes ≡ Some d) (λ bytes. (some new ≡ json_of bytes) ⊎ HasValueOf (asked_by change) bytes (Some new))
         (λ bytes is. inl (ap some same ∙ sym is)) read
     either_given new (inr h) =
-        ForBytes-map known (λ bytes. json_of bytes ≡ Some d) (λ bytes. (some new ≡ json_of bytes) ⊎ IsKept (task_of task) bytes (Some new))
-        (λ bytes is. inr (new, refl, leaves task bytes d new is h)) read
-
-    -- and what the task leaves is the document of the bytes, or the one after the task
-    pub left_given : (new : Data) → IsLeftBy task d new → ForBytes known (λ bytes. IsKept (task_of task) bytes (Some new))
-    left_given new h =
-        ForBytes-map known (λ bytes. json_of bytes ≡ Some d) (λ bytes. IsKept (task_of task) bytes (Some new))
-        (λ bytes is. (new, refl, leaves task bytes d new is h)) read
+        ForBytes-map known (λ bytes. HasValueOf (asked_by change) bytes (Some new)) (λ bytes. (some new ≡ json_of bytes) ⊎ HasValueOf (asked_by change) bytes (Some new))
+        (λ bytes k. inr k) (value_given new h)
 
 -- ---- a pointer that is resolved in the bytes
 
@@ -123,25 +114,11 @@ pub for_read : (known : Option (List ℕ)) (bytes : List ℕ) (P : List ℕ → 
 for_read None bytes P e h = (bytes, h)
 for_read (Some xs) bytes P e h = subst P e h
 
--- what a task leaves, except of `resolve`, is its value
-pub left_is_value : (task : Task) (known : Option (List ℕ)) (kept : Option Data) → ((p : Pointer) → task ≡ Resolve p → ⊥) → ForBytes known (λ bytes. IsKept (task_of task) bytes kept) → ForBytes known (λ bytes. HasValueOf (task_of task) bytes kept)
-left_is_value (Resolve p) known kept not h = absurd (not p refl)
-left_is_value (Assign p v) known kept not h = h
-left_is_value (Delete p) known kept not h = h
-left_is_value (Patch patch) known kept not h = h
-
--- only a task needs the input
-pub needs_task : (request : code.Request) → ((task : Task) → request ≡ Document task → ⊥) → NeedsInput (request_of request) → ⊥
-needs_task (Tokens p) not needs = needs
-needs_task (Split p n) not needs = needs
-needs_task (Document task) not needs = not task refl
-
 -- ---- errors that do not come together
 
 -- an error on a document is none of the words or of the input
-pub after_document : (task : Task) (d : Data) (e : RunFault) → IsFaultOf (Does task d) e → ComesBeforeDocument e → ⊥
-after_document task d e (inr is) before = subst ComesBeforeDocument is before
-after_document (Resolve p) d e (inl h) before = subst ComesBeforeDocument h.2 before
+pub after_document : (change : Change) (d : Data) (e : RunFault) → IsFaultOf (Changes change d) e → ComesBeforeDocument e → ⊥
+after_document change d e (inr is) before = subst ComesBeforeDocument is before
 after_document (Assign p v) d e (inl h) before = subst ComesBeforeDocument h.2 before
 after_document (Delete p) d e (inl h) before = subst ComesBeforeDocument h.1 before
 after_document (Patch patch) d e (inl h) before = subst ComesBeforeDocument h.4 before
@@ -156,34 +133,32 @@ error_on : (o : Option Data) (e : RunFault) (P : Data → Type 0) → MatchOptio
 error_on None e P h = let is : e ≡ InputNotJson = cc in inl is
 error_on (Some d) e P h = inr (d, h)
 
--- on a document, only `resolve` finds no value
-finds_value : (task : Task) (d : Data) (e : RunFault) → ((p : Pointer) → task ≡ Resolve p → ⊥) → Does task d (Err e) → IsNoValue e → ⊥
-finds_value (Resolve p) d e not h none = absurd (not p refl)
-finds_value (Assign p v) d e not h none = let is = h.2 in let other = none.1 in cc
-finds_value (Delete p) d e not h none = let is = h.1 in let other = none.1 in cc
-finds_value (Patch patch) d e not h none = let is = h.4 in let other = none.1 in cc
+-- on a document, no change fails since a pointer resolves to no value
+finds_value : (change : Change) (d : Data) (e : RunFault) → Changes change d (Err e) → IsNoValue e → ⊥
+finds_value (Assign p v) d e h none = let is = h.2 in let other = none.1 in cc
+finds_value (Delete p) d e h none = let is = h.1 in let other = none.1 in cc
+finds_value (Patch patch) d e h none = let is = h.4 in let other = none.1 in cc
 
--- the result of a task on the bytes is the one on their document
-takes : (task : Task) (bytes : List ℕ) (r : Result Data RunFault) → Outcome (task_of task) bytes r → OnDocument bytes r (λ d. Does task d r)
-takes (Resolve p) bytes r h = h
+-- the result of a change on the bytes is the one on their document
+takes : (change : Change) (bytes : List ℕ) (r : Result Data RunFault) → Outcome (asked_by change) bytes r → OnDocument bytes r (λ d. Changes change d r)
 takes (Assign p v) bytes r h = h
 takes (Delete p) bytes r h = h
 takes (Patch patch) bytes r h = h
 
 module _ (known : Option (List ℕ)) (e : RunFault) where
-  -- only `resolve` finds no value
-  pub not_no_value : (task : Task) → ((p : Pointer) → task ≡ Resolve p → ⊥) → IsRequestFault (task_of task) known e → IsNoValue e → ⊥
-  not_no_value task not (inr (inl is)) none = let other = none.1 in cc
-  not_no_value task not (inr (inr h)) none = let is = h.1 in let other = none.1 in cc
-  not_no_value task not (inl h) none =
-      let found = some_bytes known (λ bytes. Outcome (task_of task) bytes (Err e)) h in
-      by_error (error_on (json_of found.0) e (λ d. Does task d (Err e)) (takes task found.0 (Err e) found.1))
+  -- no change fails since a pointer resolves to no value
+  pub not_no_value : (change : Change) → IsRequestFault (asked_by change) known e → IsNoValue e → ⊥
+  not_no_value change (inr (inl is)) none = let other = none.1 in cc
+  not_no_value change (inr (inr h)) none = let is = h.1 in let other = none.1 in cc
+  not_no_value change (inl h) none =
+      let found = some_bytes known (λ bytes. Outcome (asked_by change) bytes (Err e)) h in
+      by_error (error_on (json_of found.0) e (λ d. Changes change d (Err e)) (takes change found.0 (Err e) found.1))
     where
-      by_error : (e ≡ InputNotJson) ⊎ ((d : Data) × Does task d (Err e)) → ⊥
+      by_error : (e ≡ InputNotJson) ⊎ ((d : Data) × Changes change d (Err e)) → ⊥
       by_error (inl is) = let other = none.1 in cc
-      by_error (inr g) = finds_value task g.0 e not g.1 none
+      by_error (inr g) = finds_value change g.0 e g.1 none
 
-  -- and it fails with nothing else once the input is read
+  -- resolving fails with nothing else once the input is read
   pub resolve_is_no_value : (ts : List Text) → IsRequestFault (resolving ts) known e → IsOperationFault e → (IsNoValue e → ⊥) → ⊥
   resolve_is_no_value ts (inr (inl is)) fault not = subst ComesAfterInput is fault.0
   resolve_is_no_value ts (inr (inr h)) fault not = subst ComesAfterInput h.1 fault.0
@@ -245,55 +220,47 @@ pub found_left : (ts : List Text) (known : Option (List ℕ)) (P : List ℕ → 
 found_left ts known P old new (Ok s) fault same = tt
 found_left ts known P old new (Err e) fault same = same_left known P (some_value old) (some_value new) (ap some_value same) e (resolve_is_no_value known e ts fault)
 
--- a task on a document
-module _ (task : Task) (other : (p : Pointer) → task ≡ Resolve p → ⊥) (known : Option (List ℕ)) (old new : Option Data) where
+-- a change of a document
+module _ (change : Change) (known : Option (List ℕ)) (old new : Option Data) where
   abbrev Made : List ℕ → Type 0
-  Made bytes = HasValueOf (task_of task) bytes new
+  Made bytes = HasValueOf (asked_by change) bytes new
 
-  made_value : (bytes : List ℕ) → IsKept (task_of task) bytes new → Made bytes
-  made_value bytes h = left_is_value task (Some bytes) new other h
-
-  task_left : (e : RunFault) → IsRequestFault (task_of task) known e → (ComesBeforeDocument e → new ≡ old)
+  change_left : (e : RunFault) → IsRequestFault (asked_by change) known e → (ComesBeforeDocument e → new ≡ old)
       → (IsOperationFault e → ForBytes known (λ bytes. new ≡ json_of bytes))
-      → (e ≡ Memory alloc_error → (new ≡ old) ⊎ ForBytes known (λ bytes. (new ≡ json_of bytes) ⊎ IsKept (task_of task) bytes new))
+      → (e ≡ Memory alloc_error → (new ≡ old) ⊎ ForBytes known (λ bytes. (new ≡ json_of bytes) ⊎ Made bytes))
       → LeavesValue known Made old new e
-  task_left Usage fault before after memory = before tt
-  task_left (BadPointer f) fault before after memory = before tt
-  task_left ValueNotJson fault before after memory = before tt
-  task_left (BadSplit position count) fault before after memory = before tt
-  task_left (NoValue f) fault before after memory = absurd (not_no_value known (NoValue f) task other fault (f, refl))
-  task_left (BadPlace f) fault before after memory = after (tt, (λ is. let no : ⊥ = cc in no), (λ is. let no : ⊥ = cc in no))
-  task_left NotThere fault before after memory = after (tt, (λ is. let no : ⊥ = cc in no), (λ is. let no : ⊥ = cc in no))
-  task_left (BadPatch f) fault before after memory = after (tt, (λ is. let no : ⊥ = cc in no), (λ is. let no : ⊥ = cc in no))
-  task_left InputNotJson fault before after memory = before tt
-  task_left (Memory f) fault before after memory = memory_more known (λ bytes. IsKept (task_of task) bytes new) Made made_value old new (memory refl)
-  task_left Read fault before after memory = before tt
-  task_left Write fault before after memory = tt
+  change_left Usage fault before after memory = before tt
+  change_left (BadPointer f) fault before after memory = before tt
+  change_left ValueNotJson fault before after memory = before tt
+  change_left (BadSplit position count) fault before after memory = before tt
+  change_left (NoValue f) fault before after memory = absurd (not_no_value known (NoValue f) change fault (f, refl))
+  change_left (BadPlace f) fault before after memory = after (tt, (λ is. let no : ⊥ = cc in no), (λ is. let no : ⊥ = cc in no))
+  change_left NotThere fault before after memory = after (tt, (λ is. let no : ⊥ = cc in no), (λ is. let no : ⊥ = cc in no))
+  change_left (BadPatch f) fault before after memory = after (tt, (λ is. let no : ⊥ = cc in no), (λ is. let no : ⊥ = cc in no))
+  change_left InputNotJson fault before after memory = before tt
+  change_left (Memory f) fault before after memory = memory refl
+  change_left Read fault before after memory = before tt
+  change_left Write fault before after memory = tt
 
-pub value_left : (task : Task) → ((p : Pointer) → task ≡ Resolve p → ⊥) → (known : Option (List ℕ)) (old new : Option Value) (r : Result (String Global) RunFault)
-    → IfErr r (IsRequestFault (task_of task) known) → IfErr r (λ e. ComesBeforeDocument e → new ≡ old)
+pub value_left : (change : Change) (known : Option (List ℕ)) (old new : Option Value) (r : Result (String Global) RunFault)
+    → IfErr r (IsRequestFault (asked_by change) known) → IfErr r (λ e. ComesBeforeDocument e → new ≡ old)
     → IfErr r (λ e. IsOperationFault e → ForBytes known (λ bytes. some_value new ≡ json_of bytes))
-    → IfErr r (λ e. e ≡ Memory alloc_error → (new ≡ old) ⊎ ForBytes known (λ bytes. (some_value new ≡ json_of bytes) ⊎ IsKept (task_of task) bytes (some_value new)))
-    → IfErr r (LeavesValue known (λ bytes. HasValueOf (task_of task) bytes (some_value new)) (some_value old) (some_value new))
-value_left task other known old new (Ok s) fault before after memory = tt
-value_left task other known old new (Err e) fault before after memory =
-    task_left task other known (some_value old) (some_value new) e fault (λ h. ap some_value (before h)) after (λ is. views (memory is))
+    → IfErr r (λ e. e ≡ Memory alloc_error → (new ≡ old) ⊎ ForBytes known (λ bytes. (some_value new ≡ json_of bytes) ⊎ HasValueOf (asked_by change) bytes (some_value new)))
+    → IfErr r (LeavesValue known (λ bytes. HasValueOf (asked_by change) bytes (some_value new)) (some_value old) (some_value new))
+value_left change known old new (Ok s) fault before after memory = tt
+value_left change known old new (Err e) fault before after memory =
+    change_left change known (some_value old) (some_value new) e fault (λ h. ap some_value (before h)) after (λ is. views (memory is))
   where
     views : {A : Type 0} → (new ≡ old) ⊎ A → (some_value new ≡ some_value old) ⊎ A
     views (inl same) = inl (ap some_value same)
     views (inr h) = inr h
 
--- a request without an input has no operation on a document
-no_operation : (request : code.Request) → ((task : Task) → request ≡ Document task → ⊥) → (known : Option (List ℕ)) (e : RunFault)
-    → IsRequestFault (request_of request) known e → IsOperationFault e → ⊥
-no_operation request not known e (inr (inl is)) fault = subst ComesAfterInput is fault.0
-no_operation request not known e (inr (inr h)) fault = needs_task request not h.0
-no_operation (Tokens p) not known e (inl h) fault = let found = some_bytes known _ h in let is = found.1 in let no : ⊥ = cc in no
-no_operation (Split p n) not known e (inl h) fault = let found = some_bytes known _ h in subst ComesAfterInput found.1.1 fault.0
-no_operation (Document task) not known e h fault = absurd (not task refl)
-
-pub request_left : (request : code.Request) → ((task : Task) → request ≡ Document task → ⊥) → (known : Option (List ℕ)) (P : List ℕ → Type 0) (old new : Option Value) (r : Result (String Global) RunFault)
-    → IfErr r (IsRequestFault (request_of request) known) → ((NeedsInput (request_of request) → ⊥) → new ≡ old) → IfErr r (LeavesValue known P (some_value old) (some_value new))
-request_left request not known P old new (Ok s) fault same = tt
-request_left request not known P old new (Err e) fault same =
-    same_left known P (some_value old) (some_value new) (ap some_value (same (needs_task request not))) e (λ h none. no_operation request not known e fault h)
+-- the line of a pointer alone leaves the value unchanged
+pub split_left : (ts : List Text) (n : ℕ) (known : Option (List ℕ)) (P : List ℕ → Type 0) (value : Option Value) (r : Result (String Global) RunFault)
+    → IfErr r (IsFaultOf (SplitsInTwo ts n)) → IfErr r (LeavesValue known P (some_value value) (some_value value))
+split_left ts n known P value (Ok s) fault = tt
+split_left ts n known P value (Err e) fault = same_left known P (some_value value) (some_value value) refl e (no_operation fault)
+  where
+    no_operation : IsFaultOf (SplitsInTwo ts n) e → IsOperationFault e → (IsNoValue e → ⊥) → ⊥
+    no_operation (inl h) operation not = subst ComesAfterInput h.1 operation.0
+    no_operation (inr is) operation not = subst ComesAfterInput is operation.0

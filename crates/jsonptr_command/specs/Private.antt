@@ -13,40 +13,32 @@ use Rattle.jsonptr_command.specs.declared.fault.RunFault.{RunFault}
 use Rattle.jsonptr.specs.declared.resolve.Error as resolve
 use Rattle.jsonptr_command.specs.declared.fault.RunFault.TheVariants.{Usage, BadPointer, ValueNotJson, NoValue, BadPlace, NotThere, BadSplit, BadPatch, InputNotJson, Memory, Read, Write}
 use Rattle.jsonptr_command.specs.declared.run.Request as code
-use Rattle.jsonptr_command.specs.declared.run.Request.TheVariants.{Tokens, Split, Document}
-use Rattle.jsonptr_command.specs.declared.run.Task.{Task}
-use Rattle.jsonptr_command.specs.declared.run.Task.TheVariants.{Resolve, Assign, Delete, Patch}
+use Rattle.jsonptr_command.specs.declared.run.Request.TheVariants.{Tokens, Split, Resolve, Change as of_change}
+use Rattle.jsonptr_command.specs.declared.run.Change.{Change}
+use Rattle.jsonptr_command.specs.declared.run.Change.TheVariants.{Assign, Delete, Patch}
 use Rattle.jsonptr_command.specs.JsonText.{IsJsonLine}
 use Rattle.jsonptr_command.specs.Faults.{RefusesValue}
 use Rattle.jsonptr_command.specs.Operations.{meant}
-use Rattle.jsonptr_command.specs.Run.{Request, resolving, listing, assigning, deleting, splitting, patching, AssignsAt, DeletesAt, HaveValue, PatchesBy, Resolves, TakePointer}
+use Rattle.jsonptr_command.specs.Run.{Request, resolving, listing, assigning, deleting, splitting, patching, AssignsAt, DeletesAt, HaveValue, PatchesBy, TakePointer}
 
--- `task_of task`: the request that the program's `task` is.
-abbrev pub task_of : Task → Request
-task_of (Resolve p) = resolving (tokens p)
-task_of (Assign p v) = assigning (tokens p) (view v)
-task_of (Delete p) = deleting (tokens p)
-task_of (Patch patch) = patching (map meant patch.items)
+-- `asked_by change`: the request that the program's `change` is.
+abbrev pub asked_by : Change → Request
+asked_by (Assign p v) = assigning (tokens p) (view v)
+asked_by (Delete p) = deleting (tokens p)
+asked_by (Patch patch) = patching (map meant patch.items)
 
--- `Does task d r`: `r` is the result of `task` on document `d`.
-abbrev pub Does : Task → Data → Result Data RunFault → Type 0
-Does (Resolve p) d = Resolves d (tokens p)
-Does (Assign p v) d = AssignsAt d (tokens p) (view v)
-Does (Delete p) d = DeletesAt d (tokens p)
-Does (Patch patch) d = PatchesBy d (map meant patch.items)
-
--- `IsLeftBy task d new`: `task` leaves `new` of the document `d`.
-abbrev pub IsLeftBy : Task → Data → Data → Type 0
-IsLeftBy (Resolve p) d new = new ≡ d
-IsLeftBy (Assign p v) d new = AssignsAt d (tokens p) (view v) (Ok new)
-IsLeftBy (Delete p) d new = DeletesAt d (tokens p) (Ok new)
-IsLeftBy (Patch patch) d new = PatchesBy d (map meant patch.items) (Ok new)
+-- `Changes change d r`: `r` is the result of `change` on document `d`.
+abbrev pub Changes : Change → Data → Result Data RunFault → Type 0
+Changes (Assign p v) d = AssignsAt d (tokens p) (view v)
+Changes (Delete p) d = DeletesAt d (tokens p)
+Changes (Patch patch) d = PatchesBy d (map meant patch.items)
 
 -- `request_of request`: the request that the program's `request` is.
 abbrev pub request_of : code.Request → Request
 request_of (Tokens p) = listing (tokens p)
 request_of (Split p n) = splitting (tokens p) n
-request_of (Document task) = task_of task
+request_of (Resolve p) = resolving (tokens p)
+request_of (of_change change) = asked_by change
 
 -- `IsLineOf P line`: `line` is the JSON line of a value that is a result `P`.
 abbrev pub IsLineOf : (Result Data RunFault → Type 0) → Text → Type 0

@@ -261,20 +261,6 @@ Outcome (deleting ts) bytes r = OnDocument bytes r (λ d. DeletesAt d ts r)
 Outcome (splitting ts n) bytes r = SplitsInTwo ts n r
 Outcome (patching os) bytes r = OnDocument bytes r (λ d. PatchesBy d os r)
 
--- `IsLeft request bytes d`: after the request on an input of these bytes the document is `d`. After `resolving` that is
--- the document of the input, and after the others the one whose line they write.
-abbrev pub IsLeft : Request → List ℕ → Data → Type 0
-IsLeft (resolving ts) bytes d = json_of bytes ≡ Some d
-IsLeft (listing ts) bytes d = ⊥
-IsLeft (assigning ts v) bytes d = Outcome (assigning ts v) bytes (Ok d)
-IsLeft (deleting ts) bytes d = Outcome (deleting ts) bytes (Ok d)
-IsLeft (splitting ts n) bytes d = ⊥
-IsLeft (patching os) bytes d = Outcome (patching os) bytes (Ok d)
-
--- `IsKept request bytes kept`: `kept` has the document after the request on an input of these bytes.
-abbrev pub IsKept : Request → List ℕ → Option Data → Type 0
-IsKept request bytes kept = (d : Data) × (kept ≡ Some d) × IsLeft request bytes d
-
 -- `HasValueOf request bytes value`: `value` has the value of the request on an input of these bytes.
 abbrev pub HasValueOf : Request → List ℕ → Option Data → Type 0
 HasValueOf request bytes value = (d : Data) × (value ≡ Some d) × Outcome request bytes (Ok d)

@@ -11,9 +11,9 @@ ghost use Rattle.jsonptr_command.specs.JsonText.{json_of, IsJsonLine};
 ghost use Rattle.jsonptr_command.specs.Streams.{AppendsFront, ForBytes};
 ghost use Rattle.jsonptr_command.specs.declared.fault.RunFault.{RunFault};
 ghost use Rattle.jsonptr_command.specs.declared.fault.RunFault.TheVariants.{Memory};
-ghost use Rattle.jsonptr_command.specs.Private.{request_of, task_of, ComesBeforeDocument, Does, IsFaultOf, IsLineOf, IsLeftBy, RefusesCommand, RefusesPosition};
+ghost use Rattle.jsonptr_command.specs.Private.{request_of, asked_by, Changes, ComesBeforeDocument, IsFaultOf, IsLineOf, RefusesCommand, RefusesPosition};
 ghost use Rattle.jsonptr_command.specs.Operations.{meant};
-ghost use Rattle.jsonptr_command.specs.Run.{AskFor, Asks, AssignsAt, DeletesAt, ForLine, ForRequest, HasValueOf, IsKept, IsOperationFault, Outcome, IsPastInput, IsRefusedSo, IsRequestFault, IsWordsMemory, LeavesValue, NeedInput, NeedNoInput, NeedsInput, PatchesBy, Resolves, SplitsInTwo, resolving, texts_value};
+ghost use Rattle.jsonptr_command.specs.Run.{AskFor, Asks, AssignsAt, DeletesAt, ForLine, ForRequest, HasValueOf, IsOperationFault, Outcome, IsPastInput, IsRefusedSo, IsRequestFault, IsWordsMemory, LeavesValue, NeedInput, NeedNoInput, NeedsInput, PatchesBy, Resolves, SplitsInTwo, resolving, texts_value};
 
 use crate::fault::RunFault;
 use crate::input::read_all;
@@ -36,15 +36,15 @@ pub enum Request<'w> {
     Tokens(Pointer<'w>),
     /// Splits the pointer at the position, in tokens.
     Split(Pointer<'w>, usize),
-    /// Does something with the document in the input.
-    Document(Task<'w>),
+    /// Finds the value that the pointer resolves to, in the text of the input.
+    Resolve(Pointer<'w>),
+    /// Changes the document in the input.
+    Change(Change<'w>),
 }
 
-/// What to do with a document.
+/// A change of a document.
 #[derive(Debug, Drop)]
-pub enum Task<'w> {
-    /// Finds the value that the pointer resolves to.
-    Resolve(Pointer<'w>),
+pub enum Change<'w> {
     /// Assigns the value at the pointer.
     Assign(Pointer<'w>, Value),
     /// Deletes the value that the pointer resolves to.
@@ -162,52 +162,6 @@ pub fn run_program_into<R: Read, W: Write>(
     Ok(())
 }
 
-/// Runs the program as [`run_program`] does, and leaves the document in `document`.
-///
-/// After `Ok` of a command that needs the input, `document` has the document after the command;
-/// `resolve` leaves the one that it read. After an error of the operation, `document` has the
-/// document of the input. A command that needs no input leaves `document` unchanged. The document
-/// that another one replaces is dropped.
-///
-/// Unlike [`run_program`] it reads the whole document for `resolve` too.
-///
-/// # Errors
-///
-/// Those of [`run_program`].
-pub fn run_program_keeping<R: Read, W: Write>(
-    alloc: Global,
-    words: &[String],
-    input: &mut R,
-    output: &mut W,
-    document: &mut Option<Value>,
-) -> Result<(), RunFault>
-    ensures done { OnOk result (ForLine (map string_bytes words.now) (R.remaining input.old)
-        (Appends (W.contents output.old) (W.contents output.new))) }
-    ensures refused { IfErr result
-        (IsRefusedSo (map string_bytes words.now) (R.remaining input.old)) }
-    ensures front { IsErrOf result RunFault.Write
-        → ForLine (map string_bytes words.now) (R.remaining input.old)
-        (AppendsFront (W.contents output.old) (W.contents output.new)) }
-    ensures unwritten { IfErr result (λ e. e ≢ RunFault.Write → output.new ≡ output.old) }
-    ensures unread { NeedNoInput (map string_bytes words.now) → input.new ≡ input.old }
-    ensures at_end { NeedInput (map string_bytes words.now)
-        → IsPastInput result
-        → IsAtEnd (R.remaining input.new) }
-    ensures kept { NeedInput (map string_bytes words.now)
-        → OnOk result (ForRequest (map string_bytes words.now)
-        (λ request. ForBytes (R.remaining input.old)
-        (λ bytes. IsKept request bytes (option_map view document.new)))) }
-    ensures restored { IfErr result (λ e. IsOperationFault e → ForBytes (R.remaining input.old)
-        (λ bytes. option_map view document.new ≡ json_of bytes)) }
-    ensures untouched { NeedNoInput (map string_bytes words.now)
-        → document.new ≡ document.old }
-{
-    let request = read_request(alloc, words)?;
-    let line = answer(alloc, request, input, document)?;
-    write_line(output, line.as_bytes())?;
-    Ok(())
-}
-
 /// Parses the words.
 fn read_request(alloc: Global, words: &[String]) -> Result<Request<'_>, RunFault>
     ensures ok { IfOk result (λ r. Asks (map string_bytes words.now) (Ok (request_of r))) }
@@ -220,7 +174,7 @@ fn read_request(alloc: Global, words: &[String]) -> Result<Request<'_>, RunFault
     match command.as_str() {
         "patch" => {
             let patch = read_operations(alloc, rest)?;
-            Ok(Request::Document(Task::Patch(patch)))
+            Ok(Request::Change(Change::Patch(patch)))
         }
         command => read_command(alloc, command, rest),
     }
@@ -249,9 +203,9 @@ fn read_two<'w>(command: &str, pointer: &'w str) -> Result<Request<'w>, RunFault
     ensures err { IfErr result (RefusesCommand (command.now ∷ pointer.now ∷ [])) }
 {
     match command {
-        "resolve" => Ok(Request::Document(Task::Resolve(Pointer::parse(pointer)?))),
+        "resolve" => Ok(Request::Resolve(Pointer::parse(pointer)?)),
         "tokens" => Ok(Request::Tokens(Pointer::parse(pointer)?)),
-        "delete" => Ok(Request::Document(Task::Delete(Pointer::parse(pointer)?))),
+        "delete" => Ok(Request::Change(Change::Delete(Pointer::parse(pointer)?))),
         _ => Err(RunFault::Usage),
     }
 }
@@ -271,7 +225,7 @@ fn read_three<'w>(
         "assign" => {
             let pointer = Pointer::parse(pointer)?;
             let value = read_value(alloc, third)?;
-            Ok(Request::Document(Task::Assign(pointer, value)))
+            Ok(Request::Change(Change::Assign(pointer, value)))
         }
         "split" => {
             let position = read_position(third)?;
@@ -318,31 +272,10 @@ fn line_of<R: Read>(
     ensures untouched { (NeedsInput (request_of request.entry) → ⊥) → value.new ≡ value.old }
 {
     match request {
-        Request::Document(task) => value_line(alloc, task, input, value),
-        request => answer(alloc, request, input, value),
-    }
-}
-
-/// Reads the input, and returns the line for a task on it. Leaves the value of the line in `value`.
-fn value_line<R: Read>(
-    alloc: Global,
-    task: Task<'_>,
-    input: &mut R,
-    value: &mut Option<Value>,
-) -> Result<String, RunFault>
-    ensures ok { IfOk result (λ line. ForBytes (R.remaining input.old)
-        (λ bytes. IsLineOf (Outcome (task_of task.entry) bytes) (string_bytes line))) }
-    ensures err { IfErr result (IsRequestFault (task_of task.entry) (R.remaining input.old)) }
-    ensures at_end { IsPastInput result → IsAtEnd (R.remaining input.new) }
-    ensures value { OnOk result (ForBytes (R.remaining input.old)
-        (λ bytes. HasValueOf (task_of task.entry) bytes (option_map view value.new))) }
-    ensures left { IfErr result (LeavesValue (R.remaining input.old)
-        (λ bytes. HasValueOf (task_of task.entry) bytes (option_map view value.new))
-        (option_map view value.old) (option_map view value.new)) }
-{
-    match task {
-        Task::Resolve(pointer) => found_line(alloc, pointer, input, value),
-        task => document_line(alloc, task, input, value),
+        Request::Tokens(pointer) => Ok(tokens_line(alloc, pointer)?),
+        Request::Split(pointer, position) => split_line(alloc, pointer, position),
+        Request::Resolve(pointer) => found_line(alloc, pointer, input, value),
+        Request::Change(change) => document_line(alloc, change, input, value),
     }
 }
 
@@ -388,92 +321,51 @@ fn line_in_bytes(
     Ok(line)
 }
 
-/// Returns the line for a request. Reads the input only if the request needs it, and leaves its
-/// document in `document`.
-fn answer<R: Read>(
-    alloc: Global,
-    request: Request<'_>,
-    input: &mut R,
-    document: &mut Option<Value>,
-) -> Result<String, RunFault>
-    ensures ok { IfOk result (λ line. ForBytes (R.remaining input.old)
-        (λ bytes. IsLineOf (Outcome (request_of request.entry) bytes) (string_bytes line))) }
-    ensures err { IfErr result
-        (IsRequestFault (request_of request.entry) (R.remaining input.old)) }
-    ensures unread { (NeedsInput (request_of request.entry) → ⊥) → input.new ≡ input.old }
-    ensures at_end { NeedsInput (request_of request.entry)
-        → IsPastInput result
-        → IsAtEnd (R.remaining input.new) }
-    ensures kept { NeedsInput (request_of request.entry)
-        → OnOk result (ForBytes (R.remaining input.old)
-        (λ bytes. IsKept (request_of request.entry) bytes (option_map view document.new))) }
-    ensures restored { NeedsInput (request_of request.entry)
-        → IfErr result (λ e. IsOperationFault e → ForBytes (R.remaining input.old)
-        (λ bytes. option_map view document.new ≡ json_of bytes)) }
-    ensures untouched { (NeedsInput (request_of request.entry) → ⊥)
-        → document.new ≡ document.old }
-{
-    match request {
-        Request::Tokens(pointer) => Ok(tokens_line(alloc, pointer)?),
-        Request::Split(pointer, position) => split_line(alloc, pointer, position),
-        Request::Document(task) => document_line(alloc, task, input, document),
-    }
-}
-
-/// Reads the input, and returns the line for a task on it. Leaves the document in `document`.
+/// Reads the input, changes its document, and returns the line of the document. Leaves the document
+/// in `value`.
 fn document_line<R: Read>(
     alloc: Global,
-    task: Task<'_>,
+    change: Change<'_>,
     input: &mut R,
-    document: &mut Option<Value>,
+    value: &mut Option<Value>,
 ) -> Result<String, RunFault>
     ensures ok { IfOk result (λ line. ForBytes (R.remaining input.old)
-        (λ bytes. IsLineOf (Outcome (task_of task.entry) bytes) (string_bytes line))) }
-    ensures err { IfErr result (IsRequestFault (task_of task.entry) (R.remaining input.old)) }
+        (λ bytes. IsLineOf (Outcome (asked_by change.entry) bytes) (string_bytes line))) }
+    ensures err { IfErr result (IsRequestFault (asked_by change.entry) (R.remaining input.old)) }
     ensures at_end { IsPastInput result → IsAtEnd (R.remaining input.new) }
-    ensures kept { OnOk result (ForBytes (R.remaining input.old)
-        (λ bytes. IsKept (task_of task.entry) bytes (option_map view document.new))) }
+    ensures value { OnOk result (ForBytes (R.remaining input.old)
+        (λ bytes. HasValueOf (asked_by change.entry) bytes (option_map view value.new))) }
     ensures restored { IfErr result (λ e. IsOperationFault e → ForBytes (R.remaining input.old)
-        (λ bytes. option_map view document.new ≡ json_of bytes)) }
-    ensures unchanged { IfErr result (λ e. ComesBeforeDocument e → document.new ≡ document.old) }
-    ensures memory { IfErr result (λ e. e ≡ Memory alloc_error → (document.new ≡ document.old)
+        (λ bytes. option_map view value.new ≡ json_of bytes)) }
+    ensures unchanged { IfErr result (λ e. ComesBeforeDocument e → value.new ≡ value.old) }
+    ensures memory { IfErr result (λ e. e ≡ Memory alloc_error → (value.new ≡ value.old)
         ⊎ ForBytes (R.remaining input.old)
-        (λ bytes. (option_map view document.new ≡ json_of bytes)
-        ⊎ IsKept (task_of task.entry) bytes (option_map view document.new))) }
+        (λ bytes. (option_map view value.new ≡ json_of bytes)
+        ⊎ HasValueOf (asked_by change.entry) bytes (option_map view value.new))) }
 {
-    let mut value = read_json_input(alloc, input)?;
-    let line = task_line(alloc, &mut value, task);
-    *document = Some(value);
+    let mut document = read_json_input(alloc, input)?;
+    let line = changed_line(alloc, &mut document, change);
+    *value = Some(document);
     line
 }
 
-/// Returns the line for a task on the document, and leaves the document as the task makes it.
-fn task_line(alloc: Global, document: &mut Value, task: Task<'_>) -> Result<String, RunFault>
+/// Changes the document, and returns its line.
+fn changed_line(alloc: Global, document: &mut Value, change: Change<'_>) -> Result<String, RunFault>
     ensures ok { IfOk result
-        (λ line. IsLineOf (Does task.entry (view document.old)) (string_bytes line)) }
-    ensures err { IfErr result (IsFaultOf (Does task.entry (view document.old))) }
-    ensures left { OnOk result (IsLeftBy task.entry (view document.old) (view document.new)) }
+        (λ line. IsLineOf (Changes change.entry (view document.old)) (string_bytes line)) }
+    ensures err { IfErr result (IsFaultOf (Changes change.entry (view document.old))) }
+    ensures changed { OnOk result
+        (Changes change.entry (view document.old) (Ok (view document.new))) }
     ensures either { (view document.new ≡ view document.old)
-        ⊎ IsLeftBy task.entry (view document.old) (view document.new) }
+        ⊎ Changes change.entry (view document.old) (Ok (view document.new)) }
     ensures restored { IfErr result
         (λ e. IsOperationFault e → view document.new ≡ view document.old) }
 {
-    match task {
-        Task::Resolve(pointer) => line_in(alloc, document, pointer),
-        Task::Assign(pointer, value) => line_with(alloc, document, pointer, value),
-        Task::Delete(pointer) => line_without(alloc, document, pointer),
-        Task::Patch(patch) => line_after(alloc, document, patch),
+    match change {
+        Change::Assign(pointer, value) => line_with(alloc, document, pointer, value),
+        Change::Delete(pointer) => line_without(alloc, document, pointer),
+        Change::Patch(patch) => line_after(alloc, document, patch),
     }
-}
-
-/// Returns the line of the value that the pointer resolves to in the document.
-fn line_in(alloc: Global, document: &Value, pointer: Pointer<'_>) -> Result<String, RunFault>
-    ensures ok { IfOk result (λ line.
-        IsLineOf (Resolves (view document.now) (tokens pointer.entry)) (string_bytes line)) }
-    ensures err { IfErr result (IsFaultOf (Resolves (view document.now) (tokens pointer.entry))) }
-{
-    let value = pointer.resolve(alloc, document)?;
-    Ok(json_line(alloc, value)?)
 }
 
 /// Assigns `value` in the document, and returns the line of the document.
@@ -488,7 +380,7 @@ fn line_with(
         (string_bytes line)) }
     ensures err { IfErr result
         (IsFaultOf (AssignsAt (view document.old) (tokens pointer.entry) (view value))) }
-    ensures left { OnOk result
+    ensures changed { OnOk result
         (AssignsAt (view document.old) (tokens pointer.entry) (view value) (Ok (view document.new))) }
     ensures either { (view document.new ≡ view document.old)
         ⊎ AssignsAt (view document.old) (tokens pointer.entry) (view value) (Ok (view document.new)) }
@@ -508,7 +400,7 @@ fn line_without(
     ensures ok { IfOk result (λ line.
         IsLineOf (DeletesAt (view document.old) (tokens pointer.entry)) (string_bytes line)) }
     ensures err { IfErr result (IsFaultOf (DeletesAt (view document.old) (tokens pointer.entry))) }
-    ensures left { OnOk result
+    ensures changed { OnOk result
         (DeletesAt (view document.old) (tokens pointer.entry) (Ok (view document.new))) }
     ensures either { (view document.new ≡ view document.old)
         ⊎ DeletesAt (view document.old) (tokens pointer.entry) (Ok (view document.new)) }
@@ -531,7 +423,7 @@ fn line_after(
         IsLineOf (PatchesBy (view document.old) (map meant patch.items)) (string_bytes line)) }
     ensures err { IfErr result
         (IsFaultOf (PatchesBy (view document.old) (map meant patch.items))) }
-    ensures left { OnOk result
+    ensures changed { OnOk result
         (PatchesBy (view document.old) (map meant patch.items) (Ok (view document.new))) }
     ensures either { (view document.new ≡ view document.old)
         ⊎ PatchesBy (view document.old) (map meant patch.items) (Ok (view document.new)) }

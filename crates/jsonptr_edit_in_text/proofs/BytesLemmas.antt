@@ -26,11 +26,15 @@ use Rattle.jsonptr_json_edits.specs.declared.edit.Edit.TheVariants as edit
 use Rattle.jsonptr_json_edits.specs.Spacing.{IsBlank, IsTrimmed, Splices}
 use Rattle.jsonptr_json_edits.specs.Child.{IsValueText, IsOneChild}
 use Rattle.jsonptr_edit_in_text.specs.Bytes.{IsScalar, ReplacesBytes, ExpandsBytes, GrowsBytes, CutsBytes, CutsInTurn, CutsMembers, CutsElement}
+use Rattle.jsonptr_edit_in_text.specs.Carrying.{value_of}
 use Rattle.jsonptr_edit_in_text.specs.PatchInText.{AddsAtBytes}
 use Rattle.jsonptr_edit_in_text.specs.PrivateReaching.{ReachedInText, Trades, MemberAdded, ElementAppended, ReplacesByText, ReplacesScalarByText, AddsPieceByText, AddsByText}
 use Rattle.jsonptr_edit_in_text.specs.PrivateOperating.{ElementInserted, AddsAtByText}
+use Rattle.jsonptr_edit_in_text.specs.RawPatching.{AddsGiven, ReplacesGiven}
+use Rattle.jsonptr_edit_in_text.specs.declared.raw_value.RawValue.{RawValue}
 use Rattle.jsonptr_edit_in_text.proofs.EditLemmas.{same_data, label_there}
 use Rattle.jsonptr_edit_in_text.proofs.ReachingLemmas.{in_object}
+use Rattle.jsonptr_edit_in_text.proofs.WrappingLemmas.{raw_reads}
 
 -- the value of a text that is read twice
 pub one_value : (t : Text) (d e : Data) → read t ≡ Some d → read t ≡ Some e → d ≡ e
@@ -61,6 +65,7 @@ replaced old new was piece flat tokens splices h trimmed p holds = (
   p.1,
   record { was = was; piece = piece; value = h.4.at; splices = splices; found = found_old old new tokens (Trades was flat) h; whole = record { reads = h.4.changes.0; trimmed = trimmed }; made = p.2 },
   holds_new old new was piece flat splices holds,
+  holds,
 )
 
 pub replaced_scalar : (old new was piece flat : Text) (tokens : List Text) (d : Data) → Splices old new was piece → ReachedInText old new tokens (Trades was flat) → IsTrimmed was → ((e : Data) × (read flat ≡ Some e) × IsValueText e piece) → Holds flat piece → read was ≡ Some d → IsScalar d
@@ -105,6 +110,7 @@ replaced_member old new front x was piece flat splices h trimmed p holds = at h.
             made = p.2;
           },
           holds_new old new was piece flat splices holds,
+          holds,
         )
 
 pub replaces_value : (old new : Text) (tokens : List Text) (flat : Text) (v : Data) → read flat ≡ Some v → ReplacesByText old new tokens flat → ReplacesBytes old new tokens v
@@ -117,17 +123,17 @@ expands old new front more flat v e reads is h =
 -- ---- a child added
 
 pub piece_added : (old new was piece flat : Text) (k : Option Text) → Splices old new was piece → IsBlank was → ((e : Data) × (read flat ≡ Some e) × IsOneChild k e piece) → Holds flat piece → AddsPieceByText old new k flat
-piece_added old new was piece flat k splices blank p holds = (p.0, p.1, record { was = was; piece = piece; splices = splices; blank = blank; child = p.2 }, holds_new old new was piece flat splices holds)
+piece_added old new was piece flat k splices blank p holds = (p.0, p.1, record { was = was; piece = piece; splices = splices; blank = blank; child = p.2 }, holds_new old new was piece flat splices holds, holds)
 
 pub adds_new_member : (old new : Text) (front : List Text) (x flat : Text) → ReachedInText old new front (MemberAdded x flat) → AddsPieceByText old new (Some x) flat → AddsByText old new front x flat
 adds_new_member old new front x flat h p =
     let m = h.4.changes.2 in
-    (p.0, p.1, inl ((m.ms, found_is old front h.4.at (json.object m.ms) m.old (found_old old new front (MemberAdded x flat) h), m.inserts.none), p.2), p.3)
+    (p.0, p.1, inl ((m.ms, found_is old front h.4.at (json.object m.ms) m.old (found_old old new front (MemberAdded x flat) h), m.inserts.none), p.2), p.3, p.4)
 
 pub adds_last_element : (old new : Text) (front : List Text) (x flat : Text) → ReachedInText old new front (ElementAppended x flat) → AddsPieceByText old new None flat → AddsByText old new front x flat
 adds_last_element old new front x flat h p =
     let m = h.4.changes in
-    (p.0, p.1, inr ((m.ds, found_is old front h.4.at (json.array m.ds) m.old (found_old old new front (ElementAppended x flat) h), place m.ds m.refers), p.2), p.3)
+    (p.0, p.1, inr ((m.ds, found_is old front h.4.at (json.array m.ds) m.old (found_old old new front (ElementAppended x flat) h), place m.ds m.refers), p.2), p.3, p.4)
   where
     place : (ds : json.Items) → (x ≡ codes "-") ⊎ (x ≡ dec (skim.items_len ds)) → (i : ℕ) × ((i ≤ skim.items_len ds) × ((x ≡ dec i) ⊎ ((x ≡ codes "-") × (i ≡ skim.items_len ds))))
     place ds (inl dash) = (skim.items_len ds, (omega arith, inr (dash, refl)))
@@ -136,7 +142,7 @@ adds_last_element old new front x flat h p =
 pub adds_new_element : (old new : Text) (front : List Text) (x flat : Text) → ReachedInText old new front (ElementInserted x flat) → AddsPieceByText old new None flat → AddsByText old new front x flat
 adds_new_element old new front x flat h p =
     let m = h.4.changes.4 in
-    (p.0, p.1, inr ((m.ds, found_is old front h.4.at (json.array m.ds) m.old (found_old old new front (ElementInserted x flat) h), (m.i, (m.inserts.within, inl (h.4.changes.3.index_is m.i m.selects)))), p.2), p.3)
+    (p.0, p.1, inr ((m.ds, found_is old front h.4.at (json.array m.ds) m.old (found_old old new front (ElementInserted x flat) h), (m.i, (m.inserts.within, inl (h.4.changes.3.index_is m.i m.selects)))), p.2), p.3, p.4)
 
 pub element_appended : (child : Child) (x flat : Text) (i : ℕ) (d d2 : Data) → child.selector.index ≡ Some i → (x ≡ codes "-") ⊎ (x ≡ dec i) → string_bytes child.value ≡ flat → Makes (edit.Append child) d d2 → ElementAppended x flat d d2
 element_appended child x flat i d d2 index refers value m =
@@ -162,10 +168,20 @@ pub grows_bytes : (old new : Text) (front : List Text) (x : Text) (rest : List T
 grows_bytes old new front x rest flat v e reads is h = (h.0, ap nodes (one_value flat h.0 e h.1 reads) ∙ is, h.2)
 
 pub adds_child_at : (old new : Text) (front : List Text) (x flat : Text) → AddsByText old new front x flat → AddsAtByText old (front ++ x ∷ []) flat new
-adds_child_at old new front x flat h = (h.0, h.1, inr (front, x, refl, h.2), h.3)
+adds_child_at old new front x flat h = (h.0, h.1, inr (front, x, refl, h.2), h.3, h.4)
+
+pub adds_there_at : (old new : Text) (path : List Text) (flat : Text) → ReplacesByText old new path flat → AddsAtByText old path flat new
+adds_there_at old new path flat h = (h.0, h.1, inl h.2, h.3, h.4)
 
 pub adds_value_at : (old new : Text) (path : List Text) (flat : Text) (v : Data) → read flat ≡ Some v → AddsAtByText old path flat new → AddsAtBytes old path v new
 adds_value_at old new path flat v reads h = subst (λ (e : Data). AddsAtBytes old path e new) (one_value flat h.0 v h.1 reads) h.2
+
+-- with the text of the value
+pub replaces_given : (old new : Text) (tokens : List Text) (raw : RawValue) → ReplacesByText old new tokens (string_bytes raw.text.flat) → ReplacesGiven old tokens (value_of raw) (Some raw) new
+replaces_given old new tokens raw h = subst (λ (e : Data). ReplacesGiven old tokens e (Some raw) new) (one_value (string_bytes raw.text.flat) h.0 (value_of raw) h.1 (raw_reads raw)) (h.2, h.4)
+
+pub adds_given : (old new : Text) (tokens : List Text) (raw : RawValue) → AddsAtByText old tokens (string_bytes raw.text.flat) new → AddsGiven old tokens (value_of raw) (Some raw) new
+adds_given old new tokens raw h = subst (λ (e : Data). AddsGiven old tokens e (Some raw) new) (one_value (string_bytes raw.text.flat) h.0 (value_of raw) h.1 (raw_reads raw)) (h.2, h.4)
 
 -- ---- a child cut out
 

@@ -1,8 +1,10 @@
 mod BytesLaws
 mod OperatingLemmas
+mod RawListLemmas
 mod RewritingLemmas
 mod WrappingLemmas
 pub mod BytesLemmas
 pub mod EditLemmas
+pub mod RawLemmas
 pub mod ReachingLemmas
 pub mod RemoveLemmas

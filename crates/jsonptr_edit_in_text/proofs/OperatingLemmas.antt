@@ -35,11 +35,11 @@ use Rattle.jsonptr_json_edits.specs.Editing.{InsertsItem, ChangesChild, ChangesA
 use Rattle.jsonptr_json_edits.specs.Leading.{LeadsInText}
 use Rattle.jsonptr_json_edits.specs.declared.edit.Edit.TheVariants.{Replace}
 use Rattle.jsonptr_edit_in_text.specs.EditInText.{DeletesInText}
-use Rattle.jsonptr_edit_in_text.specs.PatchInText.{OperationBytes, PatchBytes, PatchesInText}
+use Rattle.jsonptr_edit_in_text.specs.PatchInText.{PatchesInText}
 use Rattle.jsonptr_edit_in_text.specs.PrivateReaching.{ReachedInText, Becomes, Trades, MemberAdded, ElementAppended}
 use Rattle.jsonptr_edit_in_text.specs.PrivateOperating.{OperatesInText, PutsInText, AddsValueInText, AddsInText, FindsText, MovesInText, CopiesInText, PassesInText, ElementInserted, AreMemberChoices}
 use Rattle.jsonptr_edit_in_text.proofs.EditLemmas.{same_data, label_there, map_there, member_map}
-use Rattle.jsonptr_edit_in_text.proofs.ReachingLemmas.{item_content, below, same_below, put_level, in_object, reached, reached_in_text}
+use Rattle.jsonptr_edit_in_text.proofs.ReachingLemmas.{item_content, below, same_below, put_level, in_object, reached_in_text}
 
 -- two readings of one text are of one document
 one_reading : (t : Text) (d e : Data) → read t ≡ Some d → read t ≡ Some e → d ≡ e
@@ -255,10 +255,6 @@ tests old t tokens path value same there h =
     (p.0, p.0, p.1, p.1, (p.2, refl))
 
 -- ---- all operations
-
-pub bytes_push : (old mid new : Text) (os : List Operation) (o : Operation) → PatchBytes old os mid → OperationBytes mid o new → PatchBytes old (os ++ o ∷ []) new
-bytes_push old mid new [] o h last = (new, subst (λ (t : Text). OperationBytes t o new) h last, refl)
-bytes_push old mid new (p ∷ os) o h last = (h.0, h.1, bytes_push h.0 mid new os o h.2 last)
 
 pub patches_more : (old mid new : Text) (os : List Operation) (o : Operation) → PatchesInText old os mid → OperatesInText mid o new → PatchesInText old (os ++ o ∷ []) new
 patches_more old mid new os o h last =

@@ -1,5 +1,5 @@
 -- The text of a value that is expanded, and the value that it is read as.
-use Rattle.std.proofs.Common.{◌≡◌, ℕ, zero, suc, ◌+◌, ◌≤◌, List, [], ◌∷◌, ◌++◌, Option, Some, None, option_map, option_and_then, Bool, true, false, cond, if◌then◌else◌, Result, Ok, Err, IfOk, IfSome, string_bytes, true≢false, refl, sym, ap, ap₂, ◌∙◌, subst, arith, append_assoc, append-nil}
+use Rattle.std.proofs.Common.{◌≡◌, ℕ, zero, suc, ◌+◌, List, [], ◌∷◌, ◌++◌, Option, Some, None, option_map, option_and_then, Bool, true, false, cond, if◌then◌else◌, Result, Ok, Err, IfOk, IfSome, string_bytes, true≢false, refl, sym, ap, ◌∙◌, arith, append_assoc, append-nil}
 use mathlib.Core.Path.{fun_ext}
 use Rattle.std.specs.Prelude.{is_some}
 use Rattle.std.specs.Str.{bytes_eq}
@@ -11,10 +11,10 @@ use Rattle.json.specs.Token.{Token}
 use Rattle.json.specs.Tree.{json_tokens, depth}
 use Rattle.json.proofs.Printed.Trees.{value-json_tokens}
 use Rattle.json.proofs.Unique.Spelling.{value-json_tokens_back}
-use Rattle.serde_json.specs.Data.{Data, null, boolean, number, string, array, object, Items, no_items, item, Members, no_members, member, put}
-use Rattle.serde_json.specs.Read.{of_json, of_items, of_members, max_depth, read}
+use Rattle.serde_json.specs.Data.{Data, array, object, no_items, item, no_members, put}
+use Rattle.serde_json.specs.Read.{of_json, max_depth, read}
 use Rattle.jsonptr_grammar.specs.Text.{Text}
-use Rattle.jsonptr_tree.specs.Node.{key, place, Path, an_object, an_array, Label, NodeMap}
+use Rattle.jsonptr_tree.specs.Node.{key, place, Path, an_object, an_array}
 use Rattle.jsonptr_tree.specs.Growing.{is_append_index, with_one, grown}
 use Rattle.jsonptr_tree.specs.Content.{label_of, content_at}
 use Rattle.jsonptr_tree.specs.Json.{content, nodes}
@@ -69,6 +69,10 @@ is_read text d h = at (value max_depth (tokens text)) refl h
     at None e g = absurd (cc)
     at (Some (j, [])) e g = record { tree = j; spelled = value-json_tokens_back max_depth (tokens text) [] j e ∙ append-nil (json_tokens j); means = g }
     at (Some (j, t ∷ ts)) e g = absurd (cc)
+
+-- texts with the same tokens are read alike
+pub read_same : (t u : Text) → tokens t ≡ tokens u → read t ≡ read u
+read_same t u same = ap (λ (ts : List Token). option_and_then of_json (option_and_then (λ p. if_last p.0 p.1) (value max_depth ts))) same
 
 -- ---- the value
 
@@ -152,11 +156,17 @@ raw_reads raw = at (read (string_bytes raw.text.flat)) raw.is_json
     at (Some d) h = refl
 
 pub expanded_if : (r : Result (Option ValueText) AllocError) (ts : List Text) (raw : RawValue) (flat : Text) → tokens flat ≡ wrapped ts (tokens (string_bytes raw.text.flat))
-    → IfOk r (λ o. IfSome o (λ t. string_bytes t.flat ≡ flat)) → IfOk r (λ o. IfSome o (λ t. (e : Data) × (read flat ≡ Some e))) → IfOk r (λ o. IfSome o (IsExpanded ts (nodes (value_of raw))))
+    → IfOk r (λ o. IfSome o (λ t. tokens (string_bytes t.flat) ≡ tokens flat)) → IfOk r (λ o. IfSome o (λ t. (e : Data) × (read (string_bytes t.flat) ≡ Some e))) → IfOk r (λ o. IfSome o (IsExpanded ts (nodes (value_of raw))))
 expanded_if (Err e) ts raw flat same h g = h
 expanded_if (Ok None) ts raw flat same h g = h
 expanded_if (Ok (Some t)) ts raw flat same h g =
-    (g.0, subst (λ (x : Text). read x ≡ Some g.0) (sym h) g.1, wrapped_means ts (string_bytes raw.text.flat) flat (value_of raw) g.0 (raw_reads raw) g.1 same)
+    (g.0, g.1, wrapped_means ts (string_bytes raw.text.flat) (string_bytes t.flat) (value_of raw) g.0 (raw_reads raw) g.1 (h ∙ same))
+
+-- the tokens of a text that is laid out
+pub tokens_if : (r : Result (Option ValueText) AllocError) (flat : Text) (ts : List Token) → tokens flat ≡ ts → IfOk r (λ o. IfSome o (λ t. tokens (string_bytes t.flat) ≡ tokens flat)) → IfOk r (λ o. IfSome o (λ t. tokens (string_bytes t.flat) ≡ ts))
+tokens_if (Err e) flat ts same h = h
+tokens_if (Ok None) flat ts same h = h
+tokens_if (Ok (Some t)) flat ts same h = h ∙ same
 
 -- ---- what a new text carries
 

@@ -1,5 +1,6 @@
 -- Which bytes of a text an edit changes.
 use Rattle.std.specs.Prelude.{◌≡◌, ◌⊎◌, ℕ, List, [], ◌∷◌, ◌++◌, Option, Some, None, ⊤, string_bytes}
+use mathlib.Core.Logic.{inl, inr}
 use Rattle.serde_json.specs.Data.{Data, null, array, object, Items, Members}
 use Rattle.serde_json.specs.Find.{get_member, get_item}
 use Rattle.jsonptr_grammar.specs.Text.{Text, dec}
@@ -61,7 +62,12 @@ abbrev pub AddsBytes : Text → Text → List Text → Text → Data → Type 0
 AddsBytes old new front x e =
     (LacksMember old front x × AddsPiece old new (Some x) e) ⊎ (HasPlace old front x × AddsPiece old new None e)
 
--- `GrowsBytes old new front x rest v`: the same with `v` expanded by the tokens after `x`
+-- `child_piece old new front x e b`: what is put into the text `old`: the child, with a comma and white space
+abbrev pub child_piece : (old new : Text) (front : List Text) (x : Text) (e : Data) → AddsBytes old new front x e → Text
+child_piece old new front x e (inl b) = b.1.piece
+child_piece old new front x e (inr b) = b.1.piece
+
+-- `GrowsBytes old new front x rest v`: the same as `AddsBytes` with `v` expanded by the tokens after `x`
 abbrev pub GrowsBytes : Text → Text → List Text → Text → List Text → Data → Type 0
 GrowsBytes old new front x rest v = (e : Data) × (nodes e ≡ grown rest (nodes v)) × AddsBytes old new front x e
 

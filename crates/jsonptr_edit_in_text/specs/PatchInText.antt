@@ -1,5 +1,6 @@
 -- Patches of a document in its text (RFC 6902).
 use Rattle.std.specs.Prelude.{◌≡◌, ◌⊎◌, List, [], ◌∷◌, ◌++◌, All, Some, None, ⊤}
+use mathlib.Core.Logic.{inl, inr}
 use Rattle.serde_json.specs.Data.{Data}
 use Rattle.serde_json.specs.Read.{read}
 use Rattle.serde_json.specs.View.{view}
@@ -13,7 +14,7 @@ use Rattle.jsonptr_patch.specs.declared.operation.Operation.{Operation}
 use Rattle.jsonptr_patch.specs.declared.operation.Operation.TheVariants.{Add, Remove, Replace, Move, Copy, Test}
 use Rattle.jsonptr_patch.specs.declared.operation.PatchError.{PatchError}
 use Rattle.jsonptr_patch.specs.declared.comparison.Comparison.TheVariants.{Numeric}
-use Rattle.jsonptr_edit_in_text.specs.Bytes.{ReplacesBytes, AddsBytes, DeletesBytes}
+use Rattle.jsonptr_edit_in_text.specs.Bytes.{ReplacesBytes, AddsBytes, child_piece, DeletesBytes}
 use Rattle.jsonptr_edit_in_text.specs.EditInText.{IsTooDeep}
 use Rattle.jsonptr_edit_in_text.specs.declared.edited.EditError.{EditError}
 use Rattle.jsonptr_edit_in_text.specs.declared.edited.EditError.TheVariants.{NotJson, Refused, TooDeep, Memory}
@@ -30,6 +31,12 @@ abbrev pub AddsAtBytes : Text → List Text → Data → Text → Type 0
 AddsAtBytes old tokens e new =
     ReplacesBytes old new tokens e
     ⊎ ((front : List Text) × (x : Text) × (tokens ≡ front ++ x ∷ []) × AddsBytes old new front x e)
+
+-- `added_piece old tokens e new b`: what is put into the text `old`: the text of the value, or the child with a comma and white
+-- space
+abbrev pub added_piece : (old : Text) (tokens : List Text) (e : Data) (new : Text) → AddsAtBytes old tokens e new → Text
+added_piece old tokens e new (inl b) = b.piece
+added_piece old tokens e new (inr b) = child_piece old new b.0 b.1 e b.3
 
 -- `MovesBytes old from path new`: the value at `from` is cut out, and then added at `path`
 abbrev pub MovesBytes : Text → List Text → List Text → Text → Type 0

@@ -15,7 +15,7 @@ use Rattle.jsonptr_patch.specs.Adding.{Adds}
 use Rattle.jsonptr_patch.specs.Operating.{AppliesBy, Moves, Copies, PassesBy}
 use Rattle.jsonptr_patch.specs.declared.operation.Operation.{Operation}
 use Rattle.jsonptr_patch.specs.declared.comparison.Comparison.TheVariants.{Numeric}
-use Rattle.jsonptr_edit_in_text.specs.PatchInText.{AddsAtBytes}
+use Rattle.jsonptr_edit_in_text.specs.PatchInText.{AddsAtBytes, added_piece}
 
 -- `OperatesInText old o new`: the texts read as documents, and the operation `o` turns the first into the second
 abbrev pub OperatesInText : Text → Operation → Text → Type 0
@@ -62,7 +62,9 @@ ElementInserted x piece d d2 =
 
 -- `AddsAtByText old tokens flat new`: which bytes change where the value of the text `flat` is added
 abbrev pub AddsAtByText : Text → List Text → Text → Text → Type 0
-AddsAtByText old tokens flat new = (e : Data) × (read flat ≡ Some e) × AddsAtBytes old tokens e new × Holds flat new
+AddsAtByText old tokens flat new =
+    (e : Data) × (read flat ≡ Some e) × (b : AddsAtBytes old tokens e new)
+    × Holds flat new × Holds flat (added_piece old tokens e new b)
 
 -- `AreMemberChoices tokens x cs`: `cs` are the selectors of `tokens`, and one of the member with the key `x`
 abbrev pub AreMemberChoices : List Text → Text → List Choice → Type 0

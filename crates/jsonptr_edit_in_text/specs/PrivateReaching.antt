@@ -12,7 +12,7 @@ use Rattle.jsonptr_tree.specs.Json.{content, nodes}
 use Rattle.jsonptr_tree.specs.Put.{put}
 use Rattle.jsonptr_tree.specs.Growing.{grown}
 use Rattle.jsonptr_json_edits.specs.declared.layout.ValueText.{ValueText}
-use Rattle.jsonptr_edit_in_text.specs.Bytes.{IsScalar, ReplacesBytes, AddsPiece, AddsBytes}
+use Rattle.jsonptr_edit_in_text.specs.Bytes.{IsScalar, ReplacesBytes, AddsPiece, AddsBytes, child_piece}
 
 -- `Reached R d d2 tokens`: the tokens name a path of `d`, and `d2` is `d` with another value there, which `R` relates to the old
 -- one
@@ -76,12 +76,14 @@ pub record ElementAppended (x piece : Text) (d d2 : Data) : Type 0 where
 abbrev pub IsExpanded : List Text → NodeMap → ValueText → Type 0
 IsExpanded tokens v t = (e : Data) × (read (string_bytes t.flat) ≡ Some e) × (nodes e ≡ grown tokens v)
 
--- ---- which bytes change, by the text of the value that an edit brings. The new text holds the tokens of that text
+-- ---- which bytes change, by the text of the value that an edit brings. What is put into the text holds the tokens of that
+-- text, and so does the new text
 
 -- `ReplacesByText old new tokens flat`: the value that `tokens` identify is replaced by that of the text `flat`, with its
 -- tokens
 abbrev pub ReplacesByText : Text → Text → List Text → Text → Type 0
-ReplacesByText old new tokens flat = (e : Data) × (read flat ≡ Some e) × ReplacesBytes old new tokens e × Holds flat new
+ReplacesByText old new tokens flat =
+    (e : Data) × (read flat ≡ Some e) × (b : ReplacesBytes old new tokens e) × Holds flat new × Holds flat b.piece
 
 -- `ReplacesScalarByText old new tokens flat`: the same of a scalar
 abbrev pub ReplacesScalarByText : Text → Text → List Text → Text → Type 0
@@ -90,8 +92,11 @@ ReplacesScalarByText old new tokens flat =
 
 -- `AddsPieceByText old new key flat`: one child is added, with the value of the text `flat`
 abbrev pub AddsPieceByText : Text → Text → Option Text → Text → Type 0
-AddsPieceByText old new key flat = (e : Data) × (read flat ≡ Some e) × AddsPiece old new key e × Holds flat new
+AddsPieceByText old new key flat =
+    (e : Data) × (read flat ≡ Some e) × (b : AddsPiece old new key e) × Holds flat new × Holds flat b.piece
 
 -- `AddsByText old new front x flat`: the same of a child that `x` refers to
 abbrev pub AddsByText : Text → Text → List Text → Text → Text → Type 0
-AddsByText old new front x flat = (e : Data) × (read flat ≡ Some e) × AddsBytes old new front x e × Holds flat new
+AddsByText old new front x flat =
+    (e : Data) × (read flat ≡ Some e) × (b : AddsBytes old new front x e)
+    × Holds flat new × Holds flat (child_piece old new front x e b)

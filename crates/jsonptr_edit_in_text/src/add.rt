@@ -16,7 +16,7 @@ use jsonptr_json_edits::buffers::Buffers;
 use jsonptr_json_edits::child::is_value_of;
 use jsonptr_json_edits::cut::cut_at;
 use jsonptr_json_edits::edit::{Child, Edit};
-use jsonptr_json_edits::layout::{ValueText, addition, replacement, slice};
+use jsonptr_json_edits::layout::{Container, ValueText, addition, replacement, slice};
 use jsonptr_json_edits::locate::Place;
 use jsonptr_json_edits::spacing::is_trimmed;
 use jsonptr_json_search::selector::Selector;
@@ -201,7 +201,12 @@ fn insert(
     let Some(elements) = children_of(alloc, buffers, text, place.value)? else {
         return Ok(None);
     };
-    let piece = addition(alloc, text, place.value, &elements, index, None, value)?;
+    let container = Container {
+        text,
+        span: place.value,
+        children: elements.as_slice(),
+    };
+    let piece = addition(alloc, container, index, None, value)?;
     let child = Child {
         selector: selector_of(alloc, token)?,
         position: index,

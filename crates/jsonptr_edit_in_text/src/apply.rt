@@ -5,9 +5,12 @@ ghost use Rattle.serde_json.specs.Read.{read};
 ghost use Rattle.jsonptr_edit_in_text.specs.Bytes.{KeepsBytes};
 ghost use Rattle.jsonptr_edit_in_text.specs.EditInText.{text_of};
 ghost use Rattle.jsonptr_edit_in_text.specs.PatchInText.{PatchesInText, PatchBytes, IsPatchFault};
+ghost use Rattle.jsonptr_edit_in_text.specs.RawPatching.{operations_in, RawPatchBytes};
 
 use crate::edited::{EditError, Edited};
 use crate::operate::operate;
+use crate::raw_operation::RawOperation;
+use crate::raw_patch::{plain, without_texts};
 use crate::rewrite::apply_and_print;
 use jsonptr::Pointer;
 use jsonptr_in_text::{InTextError, exists_in_text_with};
@@ -46,7 +49,7 @@ use std::alloc::{AllocError, Global};
 /// let path = PointerBuf::from_text(alloc, "/tags/0")?;
 /// let patch = vec![in alloc; Operation::Move { from, path }]?;
 /// let edited = apply_in_text(alloc, text, patch)?;
-/// assert_eq!(rt; edited.as_str(), "{\n  \"tags\": [1.0,\"old\"]\n}\n");
+/// assert_eq!(rt; edited.as_str(), "{\n  \"tags\": [1.0, \"old\"]\n}\n");
 /// ```
 pub fn apply_in_text(
     alloc: Global,
@@ -90,29 +93,97 @@ pub fn apply_in_text_with(
     ensures bytes { IfOk result (KeepsBytes (PatchBytes text.now operations.items)) }
     ensures refused { IfErr result (IsPatchFault text.now operations.items) }
 {
-    if let Some(new) = apply_in_place(alloc, buffers, text, &operations)? {
+    let raws = without_texts(alloc, operations)?;
+    apply_raw_in_text_with(alloc, buffers, text, raws)
+}
+
+/// Applies the operations of a patch in order to the document that the text contains, as
+/// [`apply_in_text_with`] does, each with the text of its value.
+///
+/// Where an `add` or a `replace` has such a text, what is put into the document has its tokens, one for
+/// one: the members in their order, and the numbers as they are written. Only a document that is
+/// [`Rewritten`](Edited::Rewritten) has all values printed.
+///
+/// # Errors
+///
+/// Those of [`apply_in_text`].
+///
+/// # Examples
+///
+/// ```rust
+/// let path = PointerBuf::from_text(alloc, "/price")?;
+/// let value = json!(in alloc; 1.1)?;
+/// let operation = Operation::Add { path, value };
+/// let own = RawValue::parse(alloc, "1.10")?;
+/// let mut patch = Vec::new(alloc);
+/// if let Some(price) = RawOperation::with_text(alloc, operation, own)? {
+///     patch.push(price)?;
+/// }
+/// let mut buffers = Buffers::new(alloc);
+/// let edited = apply_raw_in_text_with(alloc, &mut buffers, "{\"name\": \"pen\"}", patch)?;
+/// assert_eq!(rt; edited.as_str(), "{\"name\": \"pen\", \"price\": 1.10}");
+/// ```
+pub fn apply_raw_in_text_with(
+    alloc: Global,
+    buffers: &mut Buffers,
+    text: &str,
+    operations: Vec<RawOperation>,
+) -> Result<Edited, EditError<PatchError>>
+    ensures applied { IfOk result
+        (λ e. PatchesInText text.now (operations_in operations.items) (text_of e)) }
+    ensures bytes { IfOk result (KeepsBytes (RawPatchBytes text.now operations.items)) }
+    ensures refused { IfErr result (IsPatchFault text.now (operations_in operations.items)) }
+{
+    if let Some(new) = try_apply_raw(alloc, buffers, text, &operations)? {
         return Ok(Edited::InPlace(new));
     }
-    let new = apply_and_print(alloc, text, operations)?;
+    let new = apply_plain(alloc, text, operations)?;
     Ok(Edited::Rewritten(new))
 }
 
-/// Applies the operations in order to the text, each in place. Returns `None` if that is not
-/// possible, and for every error of an operation.
+/// Reads the document of the text, applies the operations, and prints it with all values.
+fn apply_plain(
+    alloc: Global,
+    text: &str,
+    raws: Vec<RawOperation>,
+) -> Result<String, EditError<PatchError>>
+    ensures applied { IfOk result
+        (λ s. PatchesInText text.now (operations_in raws.items) (string_bytes s)) }
+    ensures refused { IfErr result (IsPatchFault text.now (operations_in raws.items)) }
+{
+    let operations = plain(alloc, raws)?;
+    apply_and_print(alloc, text, operations)
+}
+
+/// Applies the operations in order to the text, each in place, with the texts of their values. Returns
+/// `None` where [`apply_raw_in_text_with`] prints the document anew, and for each of its errors.
+///
+/// So one list of operations serves many texts.
 ///
 /// # Errors
 ///
 /// [`AllocError`] if an allocation fails.
-fn apply_in_place(
+///
+/// # Examples
+///
+/// ```rust
+/// let operation = Operation::Remove { path: PointerBuf::from_text(alloc, "/a")? };
+/// let patch = vec![in alloc; RawOperation::new(operation)]?;
+/// let mut buffers = Buffers::new(alloc);
+/// let first = try_apply_raw(alloc, &mut buffers, "{\"a\": 1, \"b\": 1.0}", &patch)?;
+/// assert_eq!(rt; first.ok_or("a text")?.as_str(), "{\"b\": 1.0}");
+/// assert!(rt; try_apply_raw(alloc, &mut buffers, "{}", &patch)?.is_none());
+/// ```
+pub fn try_apply_raw(
     alloc: Global,
     buffers: &mut Buffers,
     text: &str,
-    operations: &[Operation],
+    operations: &[RawOperation],
 ) -> Result<Option<String>, AllocError>
     ensures applied { IfOk result (λ new. IfSome new
-        (λ s. PatchesInText text.now operations.now (string_bytes s))) }
+        (λ s. PatchesInText text.now (operations_in operations.now) (string_bytes s))) }
     ensures bytes { IfOk result (λ new. IfSome new
-        (λ s. PatchBytes text.now operations.now (string_bytes s))) }
+        (λ s. RawPatchBytes text.now operations.now (string_bytes s))) }
 {
     let Some((first, rest)) = operations.split_first() else {
         return unchanged(alloc, buffers, text);
@@ -142,13 +213,13 @@ fn apply_rest(
     alloc: Global,
     buffers: &mut Buffers,
     text: String,
-    operations: &[Operation],
+    operations: &[RawOperation],
 ) -> Result<Option<String>, AllocError>
     ensures applied { (d : Data) → read (string_bytes text) ≡ Some d → IfOk result
-        (λ new. IfSome new
-        (λ s. PatchesInText (string_bytes text) operations.now (string_bytes s))) }
+        (λ new. IfSome new (λ s.
+        PatchesInText (string_bytes text) (operations_in operations.now) (string_bytes s))) }
     ensures bytes { IfOk result (λ new. IfSome new
-        (λ s. PatchBytes (string_bytes text) operations.now (string_bytes s))) }
+        (λ s. RawPatchBytes (string_bytes text) operations.now (string_bytes s))) }
 {
     let mut current = text;
     'operations: for operation in operations {

@@ -48,7 +48,7 @@ use std::alloc::{AllocError, Global};
 /// ```rust
 /// let text = "{\"b\": 1, \"a\": [2]}";
 /// let edited = assign_in_text(alloc, text, Pointer::parse("/a/-")?, Value::from(3))?;
-/// assert_eq!(rt; edited.as_str(), "{\"b\": 1, \"a\": [2,3]}");
+/// assert_eq!(rt; edited.as_str(), "{\"b\": 1, \"a\": [2, 3]}");
 /// ```
 pub fn assign_in_text(
     alloc: Global,
@@ -130,7 +130,7 @@ pub fn assign_in_text_with(
 /// let path = Pointer::parse("/goods/-")?;
 /// let text = "{\"goods\": []}";
 /// let edited = assign_raw_in_text_with(alloc, &mut buffers, text, path, &price)?;
-/// let new = "{\"goods\": [{\"price\":1.10,\"currency\":\"EUR\"}]}";
+/// let new = "{\"goods\": [{\"price\": 1.10, \"currency\": \"EUR\"}]}";
 /// assert_eq!(rt; edited.as_str(), new);
 /// ```
 pub fn assign_raw_in_text_with(

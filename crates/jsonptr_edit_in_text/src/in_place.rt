@@ -7,13 +7,15 @@ ghost use Rattle.jsonptr_edit_in_text.specs.Bytes.{AssignsBytes, DeletesBytes};
 ghost use Rattle.jsonptr_edit_in_text.specs.Carrying.{value_of, Carries};
 ghost use Rattle.jsonptr_edit_in_text.specs.EditInText.{AssignsInText, DeletesInText, LacksInText, IsAssignError, IsReadFault};
 ghost use Rattle.jsonptr_edit_in_text.specs.PatchInText.{PatchesInText, PatchBytes, IsPatchFault};
+ghost use Rattle.jsonptr_edit_in_text.specs.RawPatching.{operations_in, RawPatchBytes};
 ghost use Rattle.jsonptr_edit_in_text.specs.InPlace.{IsInPlaceError, StaysOneLine};
 
-use crate::apply::apply_in_text_with;
+use crate::apply::{apply_in_text_with, apply_raw_in_text_with};
 use crate::assign::{assign_in_text_with, assign_raw_in_text_with};
 use crate::delete::delete_in_text_with;
 use crate::edited::{EditError, Edited};
 use crate::one_line::stays_one_line;
+use crate::raw_operation::RawOperation;
 use crate::raw_value::RawValue;
 use jsonptr::{Pointer, assign};
 use jsonptr_json_edits::buffers::Buffers;
@@ -174,6 +176,50 @@ pub fn apply_in_place(
         (PatchesInText text.now operations.items) (IsPatchFault text.now operations.items)) }
 {
     match apply_in_text_with(alloc, buffers, text, operations) {
+        Ok(Edited::InPlace(new)) => {
+            if stays_one_line(text, new.as_str()) {
+                Ok(new)
+            } else {
+                Err(InPlaceError::NotInPlace)
+            }
+        }
+        Ok(Edited::Rewritten(_new)) => Err(InPlaceError::NotInPlace),
+        Err(error) => Err(InPlaceError::Failed(error)),
+    }
+}
+
+/// Applies the operations as [`apply_raw_in_text_with`] does, and never prints the document anew.
+///
+/// # Errors
+///
+/// [`InPlaceError::NotInPlace`] where [`apply_raw_in_text_with`] prints the document anew, and
+/// [`InPlaceError::Failed`] with its error.
+///
+/// # Examples
+///
+/// ```rust
+/// let document = "[{\"op\": \"replace\", \"path\": \"/price\", \"value\": 1.10}]";
+/// let patch = read_patch(alloc, &Value::from_str(alloc, document)?)?;
+/// let mut buffers = Buffers::new(alloc);
+/// let patch = raw_operations(alloc, &mut buffers, document, patch)?.ok_or("a text")?;
+/// let new = apply_raw_in_place(alloc, &mut buffers, "{\"price\": 1.00}", patch)?;
+/// assert_eq!(rt; new.as_str(), "{\"price\": 1.10}");
+/// ```
+pub fn apply_raw_in_place(
+    alloc: Global,
+    buffers: &mut Buffers,
+    text: &str,
+    operations: Vec<RawOperation>,
+) -> Result<String, InPlaceError<PatchError>>
+    ensures applied { IfOk result
+        (λ s. PatchesInText text.now (operations_in operations.items) (string_bytes s)) }
+    ensures bytes { IfOk result (λ s. RawPatchBytes text.now operations.items (string_bytes s)) }
+    ensures line { IfOk result (λ s. StaysOneLine text.now (string_bytes s)) }
+    ensures refused { IfErr result (IsInPlaceError
+        (PatchesInText text.now (operations_in operations.items))
+        (IsPatchFault text.now (operations_in operations.items))) }
+{
+    match apply_raw_in_text_with(alloc, buffers, text, operations) {
         Ok(Edited::InPlace(new)) => {
             if stays_one_line(text, new.as_str()) {
                 Ok(new)

@@ -13,7 +13,7 @@ use jsonptr_json_edits::buffers::Buffers;
 use jsonptr_json_edits::child::is_one_child;
 use jsonptr_json_edits::cut::cut_at;
 use jsonptr_json_edits::edit::{Child, Edit};
-use jsonptr_json_edits::layout::{Piece, ValueText, addition};
+use jsonptr_json_edits::layout::{Container, Piece, ValueText, addition};
 use jsonptr_json_edits::locate::Place;
 use jsonptr_json_edits::spacing::is_blank;
 use jsonptr_json_search::selector::Selector;
@@ -44,10 +44,15 @@ pub fn add_member(
         return Ok(None);
     };
     let position = members.len();
+    let container = Container {
+        text,
+        span: place.value,
+        children: members.as_slice(),
+    };
     let key = token.decoded(alloc)?.into_owned(alloc)?;
     let quoted = Value::String(key.clone()?).to_string(alloc)?;
     let quoted = Some(quoted.as_str());
-    let piece = addition(alloc, text, place.value, &members, position, quoted, value)?;
+    let piece = addition(alloc, container, position, quoted, value)?;
     let child = Child {
         selector: Selector { key, index: None },
         position,
@@ -119,7 +124,12 @@ pub fn append(
     let Some(index) = append_index(token, position) else {
         return Ok(None);
     };
-    let piece = addition(alloc, text, place.value, &elements, position, None, value)?;
+    let container = Container {
+        text,
+        span: place.value,
+        children: elements.as_slice(),
+    };
+    let piece = addition(alloc, container, position, None, value)?;
     let child = element(alloc, index, value)?;
     put_element(
         alloc,

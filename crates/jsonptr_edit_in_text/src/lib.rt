@@ -29,6 +29,7 @@
 
 mod add;
 mod apply;
+mod as_written;
 mod assign;
 mod delete;
 mod edit;
@@ -42,6 +43,8 @@ mod one_line;
 mod operate;
 mod place;
 mod raw;
+mod raw_operation;
+mod raw_patch;
 mod raw_value;
 mod remove;
 mod replace;
@@ -50,14 +53,19 @@ mod value_at;
 mod value_text;
 mod wrap;
 
-pub use apply::{apply_in_text, apply_in_text_with};
+pub use apply::{apply_in_text, apply_in_text_with, apply_raw_in_text_with, try_apply_raw};
 pub use assign::{assign_in_text, assign_in_text_with, assign_raw_in_text_with};
 pub use delete::{delete_in_text, delete_in_text_with};
 pub use edited::{EditError, Edited};
 pub use in_place::{
-    InPlaceError, apply_in_place, assign_in_place, assign_raw_in_place, delete_in_place,
+    InPlaceError, apply_in_place, apply_raw_in_place, assign_in_place, assign_raw_in_place,
+    delete_in_place,
 };
 pub use indent::{IndentError, indent_text};
 pub use jsonptr_json_edits::buffers::Buffers;
 pub use locate::{LocateError, Located, locate_in_text, locate_in_text_with};
+pub use one_line::stays_one_line;
+pub use raw_operation::RawOperation;
+pub use raw_patch::raw_operations;
 pub use raw_value::RawValue;
+pub use rewrite::apply_and_print;

@@ -1,16 +1,22 @@
 //! One operation of a patch in a text (RFC 6902, section 4).
-ghost use Rattle.std.specs.Prelude.{◌≡◌, IfOk, IfSome, IsTrue, ◌↔◌, string_bytes};
+ghost use Rattle.std.specs.Prelude.{◌≡◌, Some, IfOk, IfSome, IsTrue, ◌↔◌, string_bytes};
 ghost use Rattle.serde_json.specs.View.{view};
 ghost use Rattle.jsonptr.specs.Pointer.{tokens};
 ghost use Rattle.jsonptr_tree.specs.Json.{nodes};
 ghost use Rattle.jsonptr_patch.specs.Operating.{IsProperFront};
 ghost use Rattle.jsonptr_edit_in_text.specs.Bytes.{ReplacesBytes};
-ghost use Rattle.jsonptr_edit_in_text.specs.PatchInText.{AddsAtBytes, MovesBytes, CopiesBytes, OperationBytes};
+ghost use Rattle.jsonptr_edit_in_text.specs.Carrying.{value_of};
+ghost use Rattle.jsonptr_edit_in_text.specs.Fitting.{IsTextOf};
+ghost use Rattle.jsonptr_edit_in_text.specs.PatchInText.{AddsAtBytes, MovesBytes, CopiesBytes};
 ghost use Rattle.jsonptr_edit_in_text.specs.PrivateOperating.{OperatesInText, PutsInText, AddsValueInText, MovesInText, CopiesInText, PassesInText};
+ghost use Rattle.jsonptr_edit_in_text.specs.PrivateReaching.{ReachedInText, Becomes, ReplacesByText};
+ghost use Rattle.jsonptr_edit_in_text.specs.RawPatching.{AddsGiven, ReplacesGiven, GivenBytes};
 
 use crate::add::add_at;
 use crate::delete::delete_in_place;
 use crate::place::place_of;
+use crate::raw_operation::RawOperation;
+use crate::raw_value::RawValue;
 use crate::replace::replace;
 use crate::value_at::value_at;
 use crate::value_text::value_text;
@@ -18,12 +24,13 @@ use jsonptr::{Fault, Pointer, PointerBuf};
 use jsonptr_in_text::selectors::selectors_of;
 use jsonptr_in_text::{InTextError, resolve_in_text_with};
 use jsonptr_json_edits::buffers::Buffers;
+use jsonptr_json_edits::layout::ValueText;
 use jsonptr_patch::{Comparison, Operation, apply_comparing};
 use serde_json::Value;
 use std::alloc::{AllocError, Global};
 
-/// Applies the operation to the text. Returns `None` if that is not possible, and for every error of
-/// the operation.
+/// Applies the operation to the text. A value that it puts there has its own text, if one comes with it.
+/// Returns `None` if that is not possible, and for every error of the operation.
 ///
 /// # Errors
 ///
@@ -32,23 +39,25 @@ pub fn operate(
     alloc: Global,
     buffers: &mut Buffers,
     text: String,
-    operation: &Operation,
+    raw: &RawOperation,
 ) -> Result<Option<String>, AllocError>
     ensures applied { IfOk result (λ new. IfSome new
-        (λ s. OperatesInText (string_bytes text) operation.now (string_bytes s))) }
+        (λ s. OperatesInText (string_bytes text) raw.now.operation (string_bytes s))) }
     ensures bytes { IfOk result (λ new. IfSome new
-        (λ s. OperationBytes (string_bytes text) operation.now (string_bytes s))) }
+        (λ s. GivenBytes (string_bytes text) raw.now.operation raw.now.text (string_bytes s))) }
 {
     let old = text.as_str();
-    match operation {
-        Operation::Add { path, value } => add_value(alloc, buffers, old, path.as_ptr(), value),
+    let own = &raw.text;
+    match &raw.operation {
+        Operation::Add { path, value } => add_given(alloc, buffers, old, path.as_ptr(), value, own),
         Operation::Remove { path } => delete_in_place(alloc, buffers, old, path.as_ptr()),
-        Operation::Replace { path, value } => replace_value(
+        Operation::Replace { path, value } => replace_given(
             alloc,
             buffers,
             old,
             path.as_ptr(),
             value,
+            own,
         ),
         Operation::Move { from, path } => move_value(
             alloc,
@@ -74,7 +83,44 @@ pub fn operate(
     }
 }
 
-/// Adds the value at the pointer.
+/// Adds the value at the pointer, with its own text if there is one.
+fn add_given(
+    alloc: Global,
+    buffers: &mut Buffers,
+    text: &str,
+    pointer: Pointer<'_>,
+    value: &Value,
+    own: &Option<RawValue>,
+) -> Result<Option<String>, AllocError>
+    requires { IsTextOf value.now own.now }
+    ensures added { IfOk result (λ new. IfSome new (λ s. AddsValueInText text.now
+        (tokens pointer.entry) (nodes (view value.now)) (string_bytes s))) }
+    ensures bytes { IfOk result (λ new. IfSome new (λ s.
+        AddsGiven text.now (tokens pointer.entry) (view value.now) own.now (string_bytes s))) }
+{
+    match own {
+        Some(raw) => add_raw(alloc, buffers, text, pointer, raw),
+        None => add_value(alloc, buffers, text, pointer, value),
+    }
+}
+
+/// Adds the value of the text at the pointer.
+fn add_raw(
+    alloc: Global,
+    buffers: &mut Buffers,
+    text: &str,
+    pointer: Pointer<'_>,
+    raw: &RawValue,
+) -> Result<Option<String>, AllocError>
+    ensures added { IfOk result (λ new. IfSome new (λ s. AddsValueInText text.now
+        (tokens pointer.entry) (nodes (value_of raw.now)) (string_bytes s))) }
+    ensures bytes { IfOk result (λ new. IfSome new (λ s. AddsGiven text.now
+        (tokens pointer.entry) (value_of raw.now) (Some raw.now) (string_bytes s))) }
+{
+    add_at(alloc, buffers, text, pointer, &raw.text)
+}
+
+/// Adds the value at the pointer. Its text is printed.
 fn add_value(
     alloc: Global,
     buffers: &mut Buffers,
@@ -93,7 +139,44 @@ fn add_value(
     add_at(alloc, buffers, text, pointer, &value)
 }
 
-/// Replaces the value that the pointer resolves to.
+/// Replaces the value that the pointer resolves to, by the own text of the other value if there is one.
+fn replace_given(
+    alloc: Global,
+    buffers: &mut Buffers,
+    text: &str,
+    pointer: Pointer<'_>,
+    value: &Value,
+    own: &Option<RawValue>,
+) -> Result<Option<String>, AllocError>
+    requires { IsTextOf value.now own.now }
+    ensures put { IfOk result (λ new. IfSome new (λ s. PutsInText text.now
+        (tokens pointer.entry) (nodes (view value.now)) (string_bytes s))) }
+    ensures bytes { IfOk result (λ new. IfSome new (λ s.
+        ReplacesGiven text.now (tokens pointer.entry) (view value.now) own.now (string_bytes s))) }
+{
+    match own {
+        Some(raw) => replace_raw(alloc, buffers, text, pointer, raw),
+        None => replace_value(alloc, buffers, text, pointer, value),
+    }
+}
+
+/// Replaces the value that the pointer resolves to by the value of the text.
+fn replace_raw(
+    alloc: Global,
+    buffers: &mut Buffers,
+    text: &str,
+    pointer: Pointer<'_>,
+    raw: &RawValue,
+) -> Result<Option<String>, AllocError>
+    ensures put { IfOk result (λ new. IfSome new (λ s. PutsInText text.now
+        (tokens pointer.entry) (nodes (value_of raw.now)) (string_bytes s))) }
+    ensures bytes { IfOk result (λ new. IfSome new (λ s. ReplacesGiven text.now
+        (tokens pointer.entry) (value_of raw.now) (Some raw.now) (string_bytes s))) }
+{
+    replace_at(alloc, buffers, text, pointer, &raw.text)
+}
+
+/// Replaces the value that the pointer resolves to. The text of the new one is printed.
 fn replace_value(
     alloc: Global,
     buffers: &mut Buffers,
@@ -106,6 +189,25 @@ fn replace_value(
     ensures bytes { IfOk result (λ new. IfSome new (λ s.
         ReplacesBytes text.now (string_bytes s) (tokens pointer.entry) (view value.now))) }
 {
+    let Some(value) = value_text(alloc, value)? else {
+        return Ok(None);
+    };
+    replace_at(alloc, buffers, text, pointer, &value)
+}
+
+/// Replaces the value that the pointer resolves to by the text of another one.
+fn replace_at(
+    alloc: Global,
+    buffers: &mut Buffers,
+    text: &str,
+    pointer: Pointer<'_>,
+    value: &ValueText,
+) -> Result<Option<String>, AllocError>
+    ensures reached { IfOk result (λ new. IfSome new (λ s. ReachedInText text.now (string_bytes s)
+        (tokens pointer.entry) (Becomes (string_bytes value.now.flat)))) }
+    ensures bytes { IfOk result (λ new. IfSome new (λ s. ReplacesByText text.now
+        (string_bytes s) (tokens pointer.entry) (string_bytes value.now.flat))) }
+{
     let selectors = selectors_of(alloc, pointer)?;
     let Some(place) = place_of(alloc, buffers, text, &selectors)? else {
         return Ok(None);
@@ -113,10 +215,7 @@ fn replace_value(
     if place.followed != selectors.len() {
         return Ok(None);
     }
-    let Some(value) = value_text(alloc, value)? else {
-        return Ok(None);
-    };
-    replace(alloc, buffers, text, pointer, &place, &value)
+    replace(alloc, buffers, text, pointer, &place, value)
 }
 
 /// Moves the value at one pointer to another one.

@@ -11,6 +11,7 @@ ghost use Rattle.jsonptr_edit_in_text.specs.Carrying.{value_of};
 ghost use Rattle.jsonptr_edit_in_text.specs.PrivateReaching.{IsExpanded};
 ghost use Rattle.jsonptr_edit_in_text.specs.PrivateWrapping.{wrapped};
 
+use crate::as_written::as_written;
 use crate::raw_value::RawValue;
 use crate::wrap::expanded;
 use jsonptr::Pointer;
@@ -23,6 +24,9 @@ use std::alloc::{AllocError, Global};
 impl RawValue {
     /// Reads a JSON text.
     ///
+    /// Its tokens stay as they are written, with the escapes of its strings. Only the white space
+    /// between them goes.
+    ///
     /// # Errors
     ///
     /// - [`InTextError::NotJson`] if `serde_json` does not read the text.
@@ -33,6 +37,8 @@ impl RawValue {
     /// ```rust
     /// let price = RawValue::parse(alloc, "{\"price\": 1.10, \"currency\": \"EUR\"}")?;
     /// assert_eq!(rt; price.text.flat.as_str(), "{\"price\":1.10,\"currency\":\"EUR\"}");
+    /// let name = RawValue::parse(alloc, "\"caf\\u00e9\"")?;
+    /// assert_eq!(rt; name.text.flat.as_str(), "\"caf\\u00e9\"");
     /// ```
     pub fn parse(alloc: Global, text: &str) -> Result<RawValue, InTextError>
         ensures value { IfOk result (λ r. read text.now ≡ Some (value_of r)) }
@@ -42,8 +48,9 @@ impl RawValue {
         let mut scratch = Scratch::new(alloc);
         let flat = format_text(alloc, &mut scratch, text, Format::Compact)?;
         let lines = format_text(alloc, &mut scratch, text, Format::Pretty)?;
-        let text = ValueText { flat, lines };
-        Ok(RawValue { text })
+        let formatted = ValueText { flat, lines };
+        let own = as_written(alloc, formatted, text)?;
+        Ok(RawValue { text: own })
     }
 
     /// Returns the value.
@@ -125,22 +132,27 @@ pub fn expanded_text(
     let Some(flat) = expanded(alloc, scratch, pointer, value.text.flat.as_str())? else {
         return Ok(None);
     };
-    lay_out(alloc, scratch, flat)
+    lay_out(alloc, scratch, flat, value.text.flat.as_str())
 }
 
-/// Returns the text in both layouts, or `None` if it is not JSON.
+/// Returns the text in both layouts, its last strings as they are written. Returns `None` if it is not
+/// JSON.
 fn lay_out(
     alloc: Global,
     scratch: &mut Scratch,
     flat: String,
+    written: &str,
 ) -> Result<Option<ValueText>, AllocError>
-    ensures flat { IfOk result (λ text. IfSome text
-        (λ t. string_bytes t.flat ≡ string_bytes flat)) }
+    ensures same { IfOk result (λ text. IfSome text
+        (λ t. lexed (string_bytes t.flat) ≡ lexed (string_bytes flat))) }
     ensures reads { IfOk result (λ text. IfSome text
-        (λ t. (e : Data) × (read (string_bytes flat) ≡ Some e))) }
+        (λ t. (e : Data) × (read (string_bytes t.flat) ≡ Some e))) }
 {
     match format_text(alloc, scratch, flat.as_str(), Format::Pretty) {
-        Ok(lines) => Ok(Some(ValueText { flat, lines })),
+        Ok(lines) => {
+            let own = as_written(alloc, ValueText { flat, lines }, written)?;
+            Ok(Some(own))
+        }
         Err(InTextError::Memory(error)) => Err(error),
         Err(InTextError::NotJson) => Ok(None),
         Err(InTextError::Resolve(_error)) => Ok(None),

@@ -14,7 +14,7 @@ use jsonptr_json_edits::buffers::Buffers;
 use jsonptr_json_edits::child::is_one_child;
 use jsonptr_json_edits::cut::{cut_at, splice};
 use jsonptr_json_edits::edit::{Child, Edit};
-use jsonptr_json_edits::layout::{removal, slice};
+use jsonptr_json_edits::layout::{Container, removal, slice};
 use jsonptr_json_edits::locate::{Extent, Place, Span};
 use std::alloc::{AllocError, Global};
 
@@ -192,7 +192,12 @@ fn cut_child(
     let Some(extent) = children.get(position) else {
         return Ok(None);
     };
-    let Some(span) = removal(container, &children, position) else {
+    let there = Container {
+        text,
+        span: container,
+        children: children.as_slice(),
+    };
+    let Some(span) = removal(there, position) else {
         return Ok(None);
     };
     let Some(cut) = cut_at(text, span.from, span.to) else {

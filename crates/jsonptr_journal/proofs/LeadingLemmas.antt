@@ -1,13 +1,13 @@
 -- Where a list of tokens leads after something was written there.
-use Rattle.std.proofs.Common.{◌≡◌, ℕ, zero, suc, Bool, true, false, cond, bytes_eq, List, [], ◌∷◌, Option, Some, None, IsSome, option_and_then, option_map, refl, sym, ap, ◌∙◌, subst}
+use Rattle.std.proofs.Common.{◌≡◌, ℕ, zero, suc, List, [], ◌∷◌, Option, Some, None, option_and_then, refl, sym, ap, ◌∙◌, subst}
 use Rattle.jsonptr_grammar.specs.Text.{Text}
-use Rattle.jsonptr_tree.specs.Node.{Step, key, place, Path, Label, an_array, NodeMap, NamesStep, Names, sub}
+use Rattle.jsonptr_tree.specs.Node.{Step, key, place, Path, Label, an_array, NodeMap, NamesStep, Names}
 use Rattle.jsonptr_tree.specs.Content.{Content, scalar, array, object, Items, no_items, item, items_len, child, content_at, label_of, map_of}
 use Rattle.jsonptr_tree.proofs.ContentLemmas.{map_of-sub}
 use Rattle.jsonptr_tree.proofs.FollowingLemmas.{Names-StopsBefore}
 use Rattle.jsonptr_tree.proofs.NodeLemmas.{Names_one_path}
 use Rattle.jsonptr_walk.specs.Follow.{NamesNothing}
-use Rattle.jsonptr_journal.specs.Writing.{write_item, write_step, write_below, write_at, At}
+use Rattle.jsonptr_journal.specs.Writing.{write_item, write_step, write_below, write_at}
 use Rattle.jsonptr_journal.specs.Changes.{Replaces}
 use Rattle.jsonptr_journal.specs.Leading.{StopsIn, AtNamed}
 use Rattle.jsonptr_journal.proofs.ThereLemmas.{write_there, undone_at}

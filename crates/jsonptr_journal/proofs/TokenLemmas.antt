@@ -1,25 +1,24 @@
 -- Following the tokens of a pointer in a content, one at a time.
-use Rattle.std.proofs.Common.{◌≡◌, ◌≢◌, ℕ, ◌+◌, ◌-◌, ◌<◌, ◌≤◌, ◌^◌, All, List, [], ◌∷◌, ◌++◌, length, Bool, true, false, Option, Some, None, IsSome, is_some, option_and_then, option_map, Vec, BTreeMap, String, Global, refl, sym, ap, ap₂, ◌∙◌, subst, arith, append_assoc, append-nil}
+use Rattle.std.proofs.Common.{◌≡◌, ℕ, ◌-◌, ◌<◌, ◌^◌, List, [], ◌∷◌, ◌++◌, length, Bool, true, false, Option, Some, None, IsSome, is_some, option_and_then, option_map, Vec, BTreeMap, String, Global, refl, sym, ap, ◌∙◌, subst, arith, append_assoc, append-nil}
 use Rattle.serde_json.specs.Find.{as_array, as_object}
 use Rattle.serde_json.specs.View.{view, items_view, members_view}
 use Rattle.serde_json.specs.declared.value.Value.{Value}
 use Rattle.jsonptr_grammar.specs.Text.{Text, HasNoTilde, esc, text}
 use Rattle.jsonptr_grammar.proofs.EscapeLemmas.{unesc-plain, unesc-esc}
 use Rattle.jsonptr_grammar.proofs.PointerLemmas.{length-text-append, length-text-cons}
-use Rattle.jsonptr_tree.specs.Node.{Step, key, place, Path, Label, an_object, an_array, NodeMap, NamesStep, Names, sub}
-use Rattle.jsonptr_tree.specs.Content.{Content, scalar, array, object, items_len, get_member, child, content_at, label_of, map_of, FindsContent}
+use Rattle.jsonptr_tree.specs.Node.{Step, key, place, Path, Label, an_array, NamesStep, Names, sub}
+use Rattle.jsonptr_tree.specs.Content.{Content, scalar, array, object, items_len, child, content_at, label_of, map_of, FindsContent}
 use Rattle.jsonptr_tree.specs.Following.{LacksStep, StopsBefore}
 use Rattle.jsonptr_tree.proofs.ContentLemmas.{content_at-push, map_of-sub}
 use Rattle.jsonptr_tree.proofs.FollowingLemmas.{stops_before, lacks_below}
 use Rattle.jsonptr_tree.proofs.NodeLemmas.{NamesStep_one_step, Names-push_below, Names_one_path}
-use Rattle.jsonptr_document.specs.ChildRef.{IsIndexIn}
 use Rattle.jsonptr_walk.specs.PrivateDescend.{Begins}
 use Rattle.jsonptr_walk.proofs.DescendLemmas.{one_front, plain_token, next_of}
 use Rattle.jsonptr_journal.specs.Location.{contents_of}
 use Rattle.jsonptr_journal.specs.Writing.{write_step, write_at}
 use Rattle.jsonptr_journal.specs.Leading.{StopsIn}
-use Rattle.jsonptr_journal.specs.PrivateTokenStep.{IsTokenAt, IsElementIn, Enters, MovesTo, MovesBack, IsLost}
-use Rattle.jsonptr_journal.specs.Children.{items_in, members_of}
+use Rattle.jsonptr_journal.specs.PrivateTokenStep.{IsTokenAt, IsElementIn, MovesTo, MovesBack, IsLost}
+use Rattle.jsonptr_journal.specs.Children.{items_in}
 use Rattle.jsonptr_journal.proofs.NodeLemmas.{array_there, object_there, items_in-length}
 use Rattle.jsonptr_journal.proofs.WritingLemmas.{write_more, write_same}
 

@@ -1,6 +1,7 @@
--- A journal: what undoes a list of changes, the last one first.
-use Rattle.std.specs.Prelude.{◌≡◌, ◌<◌, List, [], ◌∷◌, length}
+-- A journal: what undoes a list of changes, the last one first, in pages of a few entries.
+use Rattle.std.specs.Prelude.{◌≡◌, ◌<◌, List, [], ◌∷◌, length, Vec}
 use Rattle.std.specs.Vec.{vec_capacity}
+use Rattle.std.specs.declared.alloc.Global.{Global}
 use Rattle.jsonptr_grammar.specs.Text.{HasNoTilde, text}
 use Rattle.jsonptr_tree.specs.Content.{Content}
 use Rattle.jsonptr_journal.specs.Location.{path_of, contents_of}
@@ -27,9 +28,16 @@ abbrev pub Chain : List Entry → Content → Content → Type 0
 Chain [] c d = d ≡ c
 Chain (e ∷ es) c d = (b : Content) × Undoes e c b × Chain es b d
 
+-- `Pages ps c d`: changes turned `c` into `d`, and the entries of the pages `ps`, from the last to the first, undo them
+abbrev pub Pages : List (Vec Entry Global) → Content → Content → Type 0
+Pages [] c d = d ≡ c
+Pages (p ∷ ps) c d = (b : Content) × Chain p.items c b × Pages ps b d
+
 -- `Undone j c d`: undoing the journal `j` turns `d` back into `c`
-abbrev pub Undone : Journal → Content → Content → Type 0
-Undone j c d = Chain j.entries.items c d
+pub record Undone (j : Journal) (c d : Content) : Type 0 where
+  pub between : Content
+  pub pages : Pages j.full.items c between
+  pub page : Chain j.entries.items between d
 
 -- `HasRoom j`: the journal `j` has room for one more entry
 abbrev pub HasRoom : Journal → Type 0

@@ -1,7 +1,7 @@
 -- Steps along the tokens of a pointer, one at a time.
 --
 -- Used only by private contracts; no public contract depends on this file.
-use Rattle.std.specs.Prelude.{◌≡◌, ℕ, ◌<◌, ◌≤◌, ◌^◌, List, [], ◌∷◌, ◌++◌, length, Option, Some, Bool, true, false, Result, IfOk, OnErr}
+use Rattle.std.specs.Prelude.{◌≡◌, ℕ, ◌<◌, ◌≤◌, ◌^◌, List, [], ◌∷◌, ◌++◌, length, Some, Bool, true, false, Result, IfOk, OnErr}
 use Rattle.std.specs.Borrow.{MutBor, RattleType, Fml, name_if_ok, follows_so}
 use Rattle.serde_json.specs.declared.value.Value.{Value}
 use Rattle.jsonptr_grammar.specs.Text.{Text, HasNoTilde, text}

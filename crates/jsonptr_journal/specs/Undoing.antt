@@ -1,10 +1,12 @@
 -- What undoes an addition and a removal.
 use Rattle.std.specs.Prelude.{◌≡◌, ⊤, option_map, string_bytes}
 use Rattle.serde_json.specs.declared.value.Value.{Null}
+use Rattle.jsonptr_grammar.specs.Text.{HasNoTilde, text}
 use Rattle.jsonptr_tree.specs.Content.{Content}
 use Rattle.jsonptr_journal.specs.Location.{path_of, contents_of}
 use Rattle.jsonptr_journal.specs.Children.{members_of}
 use Rattle.jsonptr_journal.specs.Writing.{At}
+use Rattle.jsonptr_journal.specs.Leading.{AtNamed}
 use Rattle.jsonptr_journal.specs.Changes.{HasAt, IsObject, HasLength, Replaces, PutsMember, AddsMember, PutsElement}
 use Rattle.jsonptr_journal.specs.Rooms.{LeavesRoom, LeavesElementRoom}
 use Rattle.jsonptr_journal.specs.declared.addition.Target.{Target}
@@ -36,5 +38,6 @@ IsAddition (addition.Element l i) v c d = At (path_of l) (PutsElement i v) c d
 abbrev pub IsRemoval : Removal → Content → Content → Content → Type 0
 IsRemoval removal.Root v c d = c ≡ v
 IsRemoval (removal.Blank l) v c d = At (path_of l) (Replaces v (contents_of Null)) c d
+IsRemoval (removal.BlankAt p) v c d = HasNoTilde (text p) × AtNamed p (Replaces v (contents_of Null)) c d
 IsRemoval (removal.Member l k room) v c d = At (path_of l) (LeavesRoom (string_bytes k) (members_of room) v) c d
 IsRemoval (removal.Element l i room) v c d = At (path_of l) (LeavesElementRoom i room v) c d

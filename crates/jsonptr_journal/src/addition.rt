@@ -123,11 +123,27 @@ pub fn replace_at<D: NodeMut>(doc: &mut D, path: &PointerBuf, value: Value) -> R
     }
 }
 
+/// Puts back the node that was replaced where the pointer leads.
+pub(crate) fn restore<D: NodeMut>(doc: &mut D, path: &PointerBuf, old: Value)
+    requires plain { HasNoTilde (text path.now) }
+    requires replaced { (c v : Content)
+        × AtNamed path.now (Replaces (contents_of old) v) c (D.contents doc.old) }
+    ensures { (c v : Content)
+        → AtNamed path.now (Replaces (contents_of old) v) c (D.contents doc.old)
+        → D.contents doc.new ≡ c }
+{
+    match replace_at(doc, path, old) {
+        Ok(value) => discard(value),
+        Err(_) => unreachable!(),
+    }
+}
+
 /// Inserts a member into the object at the location, and returns the one that it replaces, if any.
 ///
 /// # Errors
 ///
 /// The value, if an allocation fails. The document is unchanged.
+#[inline(always)]
 fn insert_member_at<D: NodeMut>(
     doc: &mut D,
     object: &Location,
@@ -248,6 +264,7 @@ pub fn insert<D: NodeMut>(
 /// # Errors
 ///
 /// The value, if an allocation fails. The document is unchanged.
+#[inline(always)]
 pub fn add<D: NodeMut>(
     alloc: Global,
     doc: &mut D,
@@ -277,6 +294,7 @@ pub fn add<D: NodeMut>(
 /// # Errors
 ///
 /// Those of [`add`].
+#[inline(always)]
 fn add_member<D: NodeMut>(
     doc: &mut D,
     object: Location,

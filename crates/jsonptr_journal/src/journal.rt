@@ -1,18 +1,17 @@
 //! A journal of changes: what undoes them, the last one first.
-ghost use Rattle.std.specs.Prelude.{◌≡◌, IfOk, OnOk, OnErr, MatchOption, string_bytes};
+ghost use Rattle.std.specs.Prelude.{◌≡◌, ◌<◌, [], IfOk, OnOk, OnErr, MatchOption, string_bytes};
+ghost use Rattle.std.specs.Vec.{vec_capacity};
 ghost use Rattle.serde_json.specs.declared.value.Value.{Null};
 ghost use Rattle.jsonptr_tree.specs.Content.{Content};
 ghost use Rattle.jsonptr_journal.specs.Location.{path_of, contents_of};
 ghost use Rattle.jsonptr_journal.specs.Children.{members_of};
 ghost use Rattle.jsonptr_journal.specs.Writing.{At};
-ghost use Rattle.jsonptr_journal.specs.Changes.{Replaces, IsThere, HasAt, IsObject, HasMember, HasElement, TakesMember, TakesElement, TakesAt, Writes};
+ghost use Rattle.jsonptr_journal.specs.Changes.{IsThere, HasAt, IsObject, HasMember, HasElement, TakesMember, TakesElement, TakesAt, Writes};
 ghost use Rattle.jsonptr_journal.specs.Rooms.{LeavesMembers};
 ghost use Rattle.jsonptr_journal.specs.Undoing.{CanAdd, AddsAt, IsAddition, IsRemoval};
-ghost use Rattle.jsonptr_grammar.specs.Text.{HasNoTilde, text};
-ghost use Rattle.jsonptr_journal.specs.Leading.{AtNamed};
-ghost use Rattle.jsonptr_journal.specs.Journal.{Undoes, Undone, HasRoom};
+ghost use Rattle.jsonptr_journal.specs.Journal.{Undoes, Chain, Pages, Undone, HasRoom};
 
-use crate::addition::{Addition, Target, add, overwrite, replace, replace_at, undo_addition};
+use crate::addition::{Addition, Target, add, overwrite, replace, restore, undo_addition};
 use crate::location::{Location, Part};
 use crate::node_mut::NodeMut;
 use crate::object::{restore_members, room_of, set_aside};
@@ -21,6 +20,7 @@ use jsonptr::PointerBuf;
 use jsonptr_value::discard;
 use serde_json::{Map, Value};
 use std::alloc::{AllocError, Global};
+use std::mem;
 
 /// What undoes one change.
 #[derive(Debug, Drop)]
@@ -38,10 +38,18 @@ pub enum Entry {
     Replaced(PointerBuf, Value),
 }
 
+// The number of entries of a page. So a page has less than 1,024 bytes: the C library keeps such a block
+// for the next journal.
+const PAGE: usize = 5;
+
 /// What undoes a list of changes, in their order.
+///
+/// The entries are in pages of a few, so that none of them is moved when the journal grows.
 #[derive(Debug, Drop)]
 pub struct Journal {
-    /// The entries.
+    /// The pages before the last one.
+    pub full: Vec<Vec<Entry>>,
+    /// The entries of the last page.
     pub entries: Vec<Entry>,
 }
 
@@ -51,6 +59,7 @@ impl Journal {
         ensures { (c : Content) → Undone result c c }
     {
         Journal {
+            full: Vec::new(alloc),
             entries: Vec::new(alloc),
         }
     }
@@ -60,11 +69,35 @@ impl Journal {
     /// # Errors
     ///
     /// [`AllocError`] if an allocation fails.
-    pub fn reserve(&mut self) -> Result<(), AllocError>
+    pub fn reserve(&mut self, alloc: Global) -> Result<(), AllocError>
         ensures room { OnOk result (HasRoom self.new) }
-        ensures same { self.new.entries.items ≡ self.old.entries.items }
+        ensures same { (c d : Content) → Undone self.old c d → Undone self.new c d }
     {
-        self.entries.reserve(1)
+        if self.entries.len() < self.entries.capacity() {
+            return Ok(());
+        }
+        if self.entries.is_empty() {
+            return self.entries.reserve_exact(PAGE);
+        }
+        let page = Vec::with_capacity(alloc, PAGE)?;
+        self.turn_to(page)
+    }
+
+    /// Begins an empty page.
+    ///
+    /// # Errors
+    ///
+    /// [`AllocError`] if an allocation fails.
+    fn turn_to(&mut self, page: Vec<Entry>) -> Result<(), AllocError>
+        requires empty { page.items ≡ [] }
+        requires room { 0 < vec_capacity page }
+        ensures room { OnOk result (HasRoom self.new) }
+        ensures same { (c d : Content) → Undone self.old c d → Undone self.new c d }
+    {
+        self.full.reserve(1)?;
+        let filled = mem::replace(&mut self.entries, page);
+        self.full.push_reserved(filled);
+        Ok(())
     }
 
     /// Appends an entry. There is room for it.
@@ -94,7 +127,7 @@ impl Journal {
         ensures undone { (c : Content) → Undone self.old c (D.contents doc.old)
             → Undone self.new c (D.contents doc.new) }
     {
-        if let Err(error) = self.reserve() {
+        if let Err(error) = self.reserve(alloc) {
             discard(value);
             return Err(error);
         }
@@ -117,6 +150,7 @@ impl Journal {
     /// [`AllocError`] if the allocation for the entry fails. The document is unchanged.
     pub fn replace<D: NodeMut>(
         &mut self,
+        alloc: Global,
         doc: &mut D,
         location: Location,
         value: Value,
@@ -127,7 +161,7 @@ impl Journal {
         ensures undone { (c : Content) → Undone self.old c (D.contents doc.old)
             → Undone self.new c (D.contents doc.new) }
     {
-        if let Err(error) = self.reserve() {
+        if let Err(error) = self.reserve(alloc) {
             discard(value);
             return Err(error);
         }
@@ -176,7 +210,7 @@ impl Journal {
         ensures undone { (c : Content) → Undone self.old c (D.contents doc.old)
             → Undone self.new c (D.contents doc.new) }
     {
-        self.reserve()?;
+        self.reserve(alloc)?;
         let value = overwrite(doc, &Location::root(alloc), Value::Null);
         self.push(Entry::Removed(Removal::Root, value));
         Ok(())
@@ -200,7 +234,7 @@ impl Journal {
         ensures undone { (c : Content) → Undone self.old c (D.contents doc.old)
             → Undone self.new c (D.contents doc.new) }
     {
-        self.reserve()?;
+        self.reserve(alloc)?;
         let Taken { value, removal } = take_element_at(alloc, doc, array, index)?;
         self.push(Entry::Removed(removal, value));
         Ok(())
@@ -256,7 +290,7 @@ impl Journal {
         match self.pop_room(object) {
             Some(room) => Ok(room),
             None => {
-                self.reserve()?;
+                self.reserve(alloc)?;
                 room_at(alloc, doc, object)
             }
         }
@@ -265,7 +299,8 @@ impl Journal {
     /// Removes the last entry and returns its room, if it has room for the members of the object at
     /// the location.
     fn pop_room(&mut self, object: &Location) -> Option<Map<String, Value>>
-        ensures { MatchOption result (self.new.entries.items ≡ self.old.entries.items)
+        ensures { MatchOption result ((self.new.full.items ≡ self.old.full.items)
+            × (self.new.entries.items ≡ self.old.entries.items))
             (λ room. HasRoom self.new × ((c d : Content) → Undone self.old c d
             → (b : Content) × Undone self.new c b
             × At (path_of object.now) (LeavesMembers (members_of room)) b d)) }
@@ -289,9 +324,11 @@ impl Journal {
 
     /// Drops the journal, and the values in it without recursion.
     pub fn discard(self) {
-        for entry in self.entries {
-            entry.discard();
+        let Journal { full, entries } = self;
+        for page in full {
+            discard_entries(page);
         }
+        discard_entries(entries);
     }
 
     /// Undoes the changes, the last one first.
@@ -301,10 +338,38 @@ impl Journal {
         requires { (c : Content) × Undone self c (D.contents doc.old) }
         ensures { (c : Content) → Undone self c (D.contents doc.old) → D.contents doc.new ≡ c }
     {
-        let mut entries = self.entries;
-        while let Some(entry) = entries.pop() {
-            undo_entry(alloc, doc, entry);
-        }
+        let Journal { full, entries } = self;
+        undo_entries(alloc, doc, entries);
+        undo_pages(alloc, doc, full);
+    }
+}
+
+/// Drops the entries, and the values in them without recursion.
+fn discard_entries(entries: Vec<Entry>) {
+    for entry in entries {
+        entry.discard();
+    }
+}
+
+/// Undoes the changes of the pages, the last one first.
+fn undo_pages<D: NodeMut>(alloc: Global, doc: &mut D, pages: Vec<Vec<Entry>>)
+    requires { (c : Content) × Pages pages.items c (D.contents doc.old) }
+    ensures { (c : Content) → Pages pages.items c (D.contents doc.old) → D.contents doc.new ≡ c }
+{
+    let mut pages = pages;
+    while let Some(page) = pages.pop() {
+        undo_entries(alloc, doc, page);
+    }
+}
+
+/// Undoes the changes of the entries, the last one first.
+fn undo_entries<D: NodeMut>(alloc: Global, doc: &mut D, entries: Vec<Entry>)
+    requires { (c : Content) × Chain entries.items c (D.contents doc.old) }
+    ensures { (c : Content) → Chain entries.items c (D.contents doc.old) → D.contents doc.new ≡ c }
+{
+    let mut entries = entries;
+    while let Some(entry) = entries.pop() {
+        undo_entry(alloc, doc, entry);
     }
 }
 
@@ -332,21 +397,6 @@ fn undo_entry<D: NodeMut>(alloc: Global, doc: &mut D, entry: Entry)
         Entry::Moved(removal, addition) => undo_move(alloc, doc, removal, addition),
         Entry::RemovedMembers(object, room) => restore_members_at(doc, &object, room),
         Entry::Replaced(path, old) => restore(doc, &path, old),
-    }
-}
-
-/// Puts back the node that was replaced where the pointer leads.
-fn restore<D: NodeMut>(doc: &mut D, path: &PointerBuf, old: Value)
-    requires plain { HasNoTilde (text path.now) }
-    requires replaced { (c v : Content)
-        × AtNamed path.now (Replaces (contents_of old) v) c (D.contents doc.old) }
-    ensures { (c v : Content)
-        → AtNamed path.now (Replaces (contents_of old) v) c (D.contents doc.old)
-        → D.contents doc.new ≡ c }
-{
-    match replace_at(doc, path, old) {
-        Ok(value) => discard(value),
-        Err(_) => unreachable!(),
     }
 }
 

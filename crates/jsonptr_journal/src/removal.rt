@@ -9,11 +9,14 @@ ghost use Rattle.jsonptr_journal.specs.Changes.{IsThere, HasAt, HasMember, HasEl
 ghost use Rattle.jsonptr_journal.specs.Rooms.{LeavesRoom, LeavesElementRoom};
 ghost use Rattle.jsonptr_journal.specs.Undoing.{IsRemoval};
 
-use crate::addition::{Addition, overwrite, remove_element_at, remove_member_at, undo_addition};
+use crate::addition::{
+    Addition, overwrite, remove_element_at, remove_member_at, restore, undo_addition,
+};
 use crate::array::{TakenElement, put_element_back, take_element};
 use crate::location::{Location, Part};
 use crate::node_mut::NodeMut;
 use crate::object::{TakenMember, put_member_back, take_member};
+use jsonptr::PointerBuf;
 use serde_json::{Map, Value};
 use std::alloc::{AllocError, Global};
 use std::mem;
@@ -27,6 +30,12 @@ pub enum Removal {
     Blank {
         /// The location of the node.
         location: Location,
+    },
+    /// The node to which the pointer leads was replaced by `null`, and is removed later. The pointer
+    /// has no `~`.
+    BlankAt {
+        /// The pointer of the node.
+        path: PointerBuf,
     },
     /// A member was removed from an object.
     Member {
@@ -236,6 +245,7 @@ pub fn undo_removal<D: NodeMut>(alloc: Global, doc: &mut D, removal: Removal, va
     match removal {
         Removal::Root => drop(overwrite(doc, &Location::root(alloc), value)),
         Removal::Blank { location } => undo_blank(doc, location, value),
+        Removal::BlankAt { path } => restore(doc, &path, value),
         Removal::Member { object, key, room } => undo_member(doc, &object, key, value, room),
         Removal::Element { array, index, room } => undo_element(doc, &array, index, value, room),
     }

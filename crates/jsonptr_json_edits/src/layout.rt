@@ -6,6 +6,10 @@ ghost use Rattle.serde_json.specs.Read.{read, max_depth};
 ghost use Rattle.serde_json.specs.View.{view};
 
 use crate::locate::{Extent, Place, Span, trimmed_end};
+use crate::spread::{Line, Lines, on_line, spread};
+use crate::style::{
+    Flat, indent_of, is_filled, is_own_line, line_before, margin_of, newline_of, row_above, unit_of,
+};
 use serde_json::Value;
 use std::alloc::{AllocError, Global};
 
@@ -70,9 +74,21 @@ pub struct Piece {
     pub child: Extent,
 }
 
+/// An array or an object in a text, and its children.
+#[derive(Clone, Copy, Debug)]
+pub struct Container<'t> {
+    /// The whole text.
+    pub text: &'t str,
+    /// Where the container is.
+    pub span: Span,
+    /// Where its children are, in order.
+    pub children: &'t [Extent],
+}
+
 /// Returns the text that replaces the value that was located by another one.
 ///
-/// The new text spans lines if the old one does, or if the old one is a scalar on a line of its own.
+/// The new text spans lines if the old one does, or if the old one is a scalar or an empty container
+/// on a line of its own.
 ///
 /// # Errors
 ///
@@ -83,74 +99,262 @@ pub fn replacement(
     place: &Place,
     value: &ValueText,
 ) -> Result<String, AllocError> {
+    if !value.lines.as_str().contains('\n') {
+        return value.lines.clone();
+    }
     let span = place.value;
     let old = slice(text, span.from, span.to);
     let line = line_before(text, span.from);
-    if old.contains('\n') || (!is_container(old) && is_own_line(line)) {
-        let newline = newline_of(text, span.to);
-        spread(alloc, value.lines.as_str(), newline, indent_of(line))
-    } else {
-        value.flat.clone()
+    let is_spread = old.contains('\n');
+    if is_spread || (!is_filled(old) && is_own_line(line)) {
+        let container = if is_spread { span } else { place.container };
+        let at = Lines {
+            newline: newline_of(text, span.to),
+            indent: margin_of(text, span.from),
+            is_deeper: false,
+            unit: unit_of(text, container),
+        };
+        return spread(alloc, value, at);
     }
+    let around = slice(text, place.container.from, place.container.to);
+    let flat = Flat::of(old).or(Flat::of(around));
+    let at = Line {
+        flat: flat.or(Flat::of(line)).or(Flat::of(text)),
+        is_over_lines: line.starts_with('\n'),
+    };
+    on_line(alloc, value, at)
 }
 
-/// Returns the piece that adds a child to the array or object at the span, before the child at the
-/// position or after the last one. A member has a key, which is JSON text.
+/// Returns the piece that adds a child to the array or object, before the child at the position or
+/// after the last one. A member has a key, which is JSON text.
 ///
 /// # Errors
 ///
 /// [`AllocError`] if an allocation fails.
 pub fn addition(
     alloc: Global,
-    text: &str,
-    container: Span,
-    children: &[Extent],
+    container: Container<'_>,
     position: usize,
     key: Option<&str>,
     value: &ValueText,
 ) -> Result<Piece, AllocError> {
-    let gap = gap_of(text, children);
-    match (children.get(position), children.last()) {
-        (Some(next), _) => {
-            let colon = colon_of(text, container, children, gap);
-            let body = body_of(alloc, gap, key, colon, value)?;
-            let at = next.child.from;
-            framed(alloc, Span { from: at, to: at }, "", "", &body, ",", gap)
+    let Some(last) = container.children.last() else {
+        return first_child(alloc, container, key, value);
+    };
+    let gap = container.gap(position);
+    let value = container.value_after(alloc, gap, position, value)?;
+    let body = body_of(alloc, key, container.colon(last), value.as_str())?;
+    match container.children.get(position) {
+        Some(next) => framed(
+            alloc,
+            empty_at(next.child.from),
+            ("", ""),
+            &body,
+            (",", gap),
+        ),
+        None => framed(alloc, empty_at(last.child.to), (",", gap), &body, ("", "")),
+    }
+}
+
+impl<'t> Container<'t> {
+    /// Returns the white space between a comma and the child that comes at the position. Before a last
+    /// child it is that of the last ones.
+    fn gap(&self, position: usize) -> &'t str {
+        let count = self.children.len();
+        if count < 2 {
+            return self.gap_of_only();
         }
-        (None, Some(last)) => {
-            let colon = colon_of(text, container, children, gap);
-            let body = body_of(alloc, gap, key, colon, value)?;
-            let at = last.child.to;
-            framed(alloc, Span { from: at, to: at }, ",", gap, &body, "", "")
+        if position < count {
+            return self.space_before(position.max(1));
         }
-        (None, None) => first_child(alloc, text, container, key, value),
+        let last = self.space_before(count.saturating_sub(1));
+        let other = self.space_before(count.saturating_sub(2).max(1));
+        if breaks(other) < breaks(last) {
+            other
+        } else {
+            last
+        }
+    }
+
+    /// Returns the white space before the child at the position.
+    fn space_before(&self, position: usize) -> &'t str {
+        match self.children.get(position) {
+            Some(child) => space_before(self.text, child.child.from),
+            None => "",
+        }
+    }
+
+    /// Returns the white space for a second child: that before the only one if it has a line break.
+    fn gap_of_only(&self) -> &'t str {
+        let lead = self.space_before(0);
+        if lead.contains('\n') {
+            return lead;
+        }
+        let line = self.line();
+        line.flat.after_comma(line.is_over_lines)
+    }
+
+    /// Returns what is between the key and the value of a member.
+    fn colon(&self, member: &Extent) -> &'t str {
+        let field = slice(self.text, member.child.from, member.value);
+        match field.rfind('"') {
+            Some(at) => field.get(at.saturating_add(1)..).unwrap_or(": "),
+            None => ": ",
+        }
+    }
+
+    /// Returns what is around the tokens of the container if it is on one line.
+    fn line(&self) -> Line<'t> {
+        let inner = slice(self.text, self.span.from, self.span.to);
+        let line = line_before(self.text, self.span.from);
+        Line {
+            flat: Flat::of(inner).or(Flat::of(line)).or(Flat::of(self.text)),
+            is_over_lines: line.starts_with('\n'),
+        }
+    }
+
+    /// Returns the text of a value that comes at the position, after this white space.
+    fn value_after(
+        &self,
+        alloc: Global,
+        gap: &str,
+        position: usize,
+        value: &ValueText,
+    ) -> Result<String, AllocError> {
+        if !value.lines.as_str().contains('\n') {
+            return value.lines.clone();
+        }
+        if !gap.contains('\n') {
+            return on_line(alloc, value, self.line());
+        }
+        if let Some(row) = self.like_row(position, value) {
+            let at = Line {
+                flat: Flat::of(row).or(self.line().flat),
+                is_over_lines: true,
+            };
+            return on_line(alloc, value, at);
+        }
+        let at = Lines {
+            newline: if gap.contains("\r\n") { "\r\n" } else { "\n" },
+            indent: last_line(gap),
+            is_deeper: false,
+            unit: unit_of(self.text, self.span),
+        };
+        spread(alloc, value, at)
+    }
+
+    /// Returns the child beside the position, if it is an array or an object with children on one line,
+    /// as the value is one.
+    fn like_row(&self, position: usize, value: &ValueText) -> Option<&'t str> {
+        let beside = match position.checked_sub(1) {
+            Some(before) => self.children.get(before)?,
+            None => self.children.first()?,
+        };
+        let row = slice(self.text, beside.value, beside.child.to);
+        let is_like = row.as_bytes().first() == value.flat.as_str().as_bytes().first();
+        if is_like && is_filled(row) && !row.contains('\n') {
+            Some(row)
+        } else {
+            None
+        }
+    }
+
+    /// Returns whether a first child of an empty container comes on a line of its own: if the container
+    /// is over lines, or is on a line of its own and the one above it is not on one line.
+    fn fills_lines(&self) -> bool {
+        if slice(self.text, self.span.from, self.span.to).contains('\n') {
+            return true;
+        }
+        is_own_line(line_before(self.text, self.span.from)) && self.row_above().is_none()
+    }
+
+    /// Returns the array or object with children that ends the line above, if it is on that line.
+    fn row_above(&self) -> Option<&'t str> {
+        let row = row_above(self.text, self.span.from)?;
+        let at = match self.text.as_bytes().get(self.span.from) {
+            Some(b'{') => if row.ends_with('}') {
+                row.find('{')?
+            } else {
+                return None
+            },
+            _ => if row.ends_with(']') {
+                row.find('[')?
+            } else {
+                return None
+            },
+        };
+        let inner = row.get(at..)?;
+        if is_filled(inner) { Some(inner) } else { None }
     }
 }
 
 /// Returns the piece that makes a child the only one of an empty array or object.
 fn first_child(
     alloc: Global,
-    text: &str,
-    container: Span,
+    container: Container<'_>,
     key: Option<&str>,
     value: &ValueText,
 ) -> Result<Piece, AllocError> {
-    let span = inside(container);
-    let inner = slice(text, span.from, span.to);
-    if inner.contains('\n') {
-        let newline = if inner.contains("\r\n") { "\r\n" } else { "\n" };
-        let indent = indent_of(line_before(text, container.from));
-        let mut gap = String::from_str(alloc, newline)?;
-        gap.push_str(indent)?;
-        gap.push_str("  ")?;
-        let colon = colon_of(text, container, &[], gap.as_str());
-        let body = body_of(alloc, gap.as_str(), key, colon, value)?;
-        framed(alloc, span, gap.as_str(), "", &body, newline, indent)
+    if container.fills_lines() {
+        first_on_line(alloc, container, key, value)
     } else {
-        let colon = colon_of(text, container, &[], "");
-        let body = body_of(alloc, "", key, colon, value)?;
-        framed(alloc, span, inner, "", &body, inner, "")
+        only_on_line(alloc, container, key, value)
     }
+}
+
+/// Returns the piece that makes a child, on a line of its own, the only one of an empty array or
+/// object.
+fn first_on_line(
+    alloc: Global,
+    container: Container<'_>,
+    key: Option<&str>,
+    value: &ValueText,
+) -> Result<Piece, AllocError> {
+    let line = line_before(container.text, container.span.from);
+    let at = Lines {
+        newline: newline_of(container.text, container.span.to),
+        indent: margin_of(container.text, container.span.from),
+        is_deeper: true,
+        unit: unit_of(container.text, container.span),
+    };
+    let text = spread(alloc, value, at)?;
+    let colon = Flat::of(line).around_colon(true);
+    let body = body_of(alloc, key, colon, text.as_str())?;
+    let mut lead = String::from_str(alloc, at.newline)?;
+    lead.push_str(at.indent)?;
+    framed(
+        alloc,
+        inside(container.span),
+        (lead.as_str(), at.unit),
+        &body,
+        (at.newline, at.indent),
+    )
+}
+
+/// Returns the piece that makes a child the only one of an empty array or object on one line.
+fn only_on_line(
+    alloc: Global,
+    container: Container<'_>,
+    key: Option<&str>,
+    value: &ValueText,
+) -> Result<Piece, AllocError> {
+    let span = inside(container.span);
+    let mut line = container.line();
+    if let Some(row) = container.row_above() {
+        line.flat = Flat::of(row).or(line.flat);
+    }
+    let text = on_line(alloc, value, line)?;
+    let colon = line.flat.around_colon(line.is_over_lines);
+    let body = body_of(alloc, key, colon, text.as_str())?;
+    let inner = slice(container.text, span.from, span.to);
+    let pad = if !inner.is_empty() {
+        inner
+    } else if key.is_some() {
+        line.flat.brace.unwrap_or("")
+    } else {
+        line.flat.bracket.unwrap_or("")
+    };
+    framed(alloc, span, (pad, ""), &body, (pad, ""))
 }
 
 /// The text of a child. It owns the text.
@@ -162,27 +366,15 @@ struct Body {
     value: usize,
 }
 
-/// Returns the text of a child: its key, if it is a member, and its value, which spans lines if the
-/// white space before it does.
-fn body_of(
-    alloc: Global,
-    gap: &str,
-    key: Option<&str>,
-    colon: &str,
-    value: &ValueText,
-) -> Result<Body, AllocError> {
+/// Returns the text of a child: its key, if it is a member, and its value.
+fn body_of(alloc: Global, key: Option<&str>, colon: &str, value: &str) -> Result<Body, AllocError> {
     let mut text = String::new(alloc);
     if let Some(key) = key {
         text.push_str(key)?;
         text.push_str(colon)?;
     }
     let start = text.len();
-    if gap.contains('\n') {
-        let lines = spread(alloc, value.lines.as_str(), last_break(gap), "")?;
-        text.push_str(lines.as_str())?;
-    } else {
-        text.push_str(value.flat.as_str())?;
-    }
+    text.push_str(value)?;
     Ok(Body { text, value: start })
 }
 
@@ -190,25 +382,31 @@ fn body_of(
 fn framed(
     alloc: Global,
     span: Span,
-    first: &str,
-    second: &str,
+    before: (&str, &str),
     body: &Body,
-    third: &str,
-    last: &str,
+    after: (&str, &str),
 ) -> Result<Piece, AllocError> {
-    let mut text = String::from_str(alloc, first)?;
-    text.push_str(second)?;
+    let mut text = String::from_str(alloc, before.0)?;
+    text.push_str(before.1)?;
     let from = text.len();
     text.push_str(body.text.as_str())?;
     let to = text.len();
-    text.push_str(third)?;
-    text.push_str(last)?;
+    text.push_str(after.0)?;
+    text.push_str(after.1)?;
     let value = from.saturating_add(body.value);
     let child = Extent {
         child: Span { from, to },
         value,
     };
     Ok(Piece { span, text, child })
+}
+
+/// Returns the empty span at the offset.
+fn empty_at(offset: usize) -> Span {
+    Span {
+        from: offset,
+        to: offset,
+    }
 }
 
 /// Returns the span between the brackets of an array or object.
@@ -220,143 +418,61 @@ fn inside(container: Span) -> Span {
 
 /// Returns the span to cut out so that the array or object loses the child at the position: with its
 /// comma and the white space that belongs to it. `None` if there is no such child.
-pub fn removal(container: Span, children: &[Extent], position: usize) -> Option<Span> {
-    let child = children.get(position)?.child;
-    if let Some(next) = children.get(position.saturating_add(1)) {
-        return Some(Span {
-            from: child.from,
-            to: next.child.from,
-        });
-    }
-    match position.checked_sub(1) {
-        Some(before) => Some(Span {
-            from: children.get(before)?.child.to,
-            to: child.to,
-        }),
-        None => Some(inside(container)),
-    }
-}
-
-/// Returns the text with each of its line breaks replaced by the newline and the indentation.
-fn spread(alloc: Global, lines: &str, newline: &str, indent: &str) -> Result<String, AllocError> {
-    let mut text = String::new(alloc);
-    let mut is_first = true;
-    for line in lines.split('\n') {
-        if !is_first {
-            text.push_str(newline)?;
-            text.push_str(indent)?;
-        }
-        text.push_str(line)?;
-        is_first = false;
-    }
-    Ok(text)
-}
-
-/// Returns the white space between a comma and the next child.
-fn gap_of<'t>(text: &'t str, children: &[Extent]) -> &'t str {
-    match children {
-        [_, second, ..] => space_before(text, second.child.from),
-        [only] => {
-            let lead = space_before(text, only.child.from);
-            let member = slice(text, only.child.from, only.value);
-            if lead.contains('\n') {
-                lead
-            } else if member.ends_with(' ') {
-                " "
-            } else {
-                ""
-            }
-        }
-        [] => "",
-    }
-}
-
-/// Returns the text between a key and its value: that of the last member, or else of the member whose
-/// value the object is.
-fn colon_of<'t>(text: &'t str, container: Span, children: &[Extent], gap: &str) -> &'t str {
-    match children.last() {
-        Some(last) => after_quote(slice(text, last.child.from, last.value)),
-        None => {
-            let before = slice(text, 0, container.from);
-            let end = trimmed_end(before.as_bytes(), before.len());
-            let outer = if slice(text, 0, end).ends_with(':') {
-                after_quote(before)
-            } else {
-                "\n"
-            };
-            if !outer.contains('\n') {
-                outer
-            } else if gap.contains('\n') {
-                ": "
-            } else {
-                ":"
-            }
-        }
-    }
-}
-
-/// Returns the last line break of white space, and what is after it.
-fn last_break(space: &str) -> &str {
-    match space.rfind('\n') {
-        Some(at) => if slice(space, 0, at).ends_with('\r') {
-            space.get(at.saturating_sub(1)..).unwrap_or(space)
+///
+/// The last child of a row takes the comma before it, so that the row still ends where it did.
+pub fn removal(container: Container<'_>, position: usize) -> Option<Span> {
+    let child = container.children.get(position)?.child;
+    let next = container.children.get(position.saturating_add(1));
+    let Some(at) = position.checked_sub(1) else {
+        return match next {
+            Some(next) => Some(Span {
+                from: child.from,
+                to: next.child.from,
+            }),
+            None => Some(inside(container.span)),
+        };
+    };
+    let before = Span {
+        from: container.children.get(at)?.child.to,
+        to: child.to,
+    };
+    match next {
+        Some(next) => if container.ends_row(child, next.child) {
+            Some(before)
         } else {
-            space.get(at..).unwrap_or(space)
+            Some(Span {
+                from: child.from,
+                to: next.child.from,
+            })
         },
-        None => space,
+        None => Some(before),
     }
 }
 
-/// Returns what is after the last quotation mark.
-fn after_quote(text: &str) -> &str {
-    match text.rfind('"') {
-        Some(at) => text.get(at.saturating_add(1)..).unwrap_or(": "),
-        None => ": ",
+impl<'t> Container<'t> {
+    /// Returns whether a line ends after the child, which is not the first one on it.
+    fn ends_row(&self, child: Span, next: Span) -> bool {
+        space_before(self.text, next.from).contains('\n')
+            && !space_before(self.text, child.from).contains('\n')
+    }
+}
+
+/// Returns how many line breaks the text has.
+fn breaks(text: &str) -> usize {
+    text.bytes().filter(|byte| *byte == b'\n').count()
+}
+
+/// Returns what is after the last line feed of white space.
+fn last_line(space: &str) -> &str {
+    match space.rfind('\n') {
+        Some(at) => space.get(at.saturating_add(1)..).unwrap_or(""),
+        None => space,
     }
 }
 
 /// Returns the white space before the offset.
 fn space_before(text: &str, offset: usize) -> &str {
     slice(text, trimmed_end(text.as_bytes(), offset), offset)
-}
-
-/// Returns the line of the offset, up to the offset.
-fn line_before(text: &str, offset: usize) -> &str {
-    let before = slice(text, 0, offset);
-    match before.rfind('\n') {
-        Some(at) => before.get(at..).unwrap_or(""),
-        None => before,
-    }
-}
-
-/// Returns the white space at the start of the line, without its newline.
-fn indent_of(line: &str) -> &str {
-    let text = line.strip_prefix('\n').unwrap_or(line);
-    let len = text.len() - text.trim_start().len();
-    slice(text, 0, len)
-}
-
-/// Returns whether the line begins with a newline and has at most a key.
-fn is_own_line(line: &str) -> bool {
-    line.starts_with('\n') && !line.contains('{') && !line.contains('[') && !line.contains(',')
-}
-
-/// Returns the newline of the text before the offset.
-fn newline_of(text: &str, offset: usize) -> &'static str {
-    let before = slice(text, 0, offset);
-    match before.rfind('\n') {
-        Some(at) => if slice(before, 0, at).ends_with('\r') {
-            "\r\n"
-        } else {
-            "\n"
-        },
-        None => "\n",
-    }
-}
-
-/// Returns whether the text is that of an array or an object.
-fn is_container(text: &str) -> bool {
-    text.starts_with('{') || text.starts_with('[')
 }
 
 /// Returns the text from one offset to another, or an empty text if they are not in order or not

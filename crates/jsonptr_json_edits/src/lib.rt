@@ -18,3 +18,5 @@ pub mod lead;
 pub mod locate;
 mod same;
 pub mod spacing;
+mod spread;
+mod style;

@@ -1,5 +1,5 @@
 -- Numbers that a text loses, and texts that are read with all their digits.
-use Rattle.std.specs.Prelude.{◌≡◌, List, IfSome, Some}
+use Rattle.std.specs.Prelude.{◌≡◌, ℕ, List, IfSome, Some, drop, length, take}
 use Rattle.json.specs.Lex.{tokens}
 use Rattle.serde_json.specs.Data.{Data}
 use Rattle.serde_json.specs.Read.{read}
@@ -12,8 +12,19 @@ use Rattle.jsonptr_numbers.specs.declared.lost.Lost.{Lost}
 abbrev pub Identifies : Text → Text → List Text → Type 0
 Identifies text raw p = (d : Data) × (whole : Data) × (read raw ≡ Some d) × (read text ≡ Some whole) × FindsValue whole p d
 
--- `Loses text lost`: `lost` is the first number of `text` that is lost. If it has a pointer, this identifies the number
+-- `IsAt text raw n`: the bytes of `text` at the offset `n` are `raw`
+abbrev pub IsAt : Text → Text → ℕ → Type 0
+IsAt text raw n = take (length raw) (drop n text) ≡ raw
+
+-- `Locates text raw lost`: `lost` has the length of the number `raw`. If it has a pointer, this identifies the number in `text`,
+-- and if it has an offset, the number is there
+pub record Locates (text raw : Text) (lost : Lost) : Type 0 where
+  pub identified : IfSome lost.pointer (Identifies text raw)
+  pub at : IfSome lost.offset (IsAt text raw)
+  pub size : lost.length ≡ length raw
+
+-- `Loses text lost`: `lost` is the first number of `text` that is lost, and where that is
 pub record Loses (text : Text) (lost : Lost) : Type 0 where
   pub raw : Text
   pub first : FirstLost raw (tokens text)
-  pub identified : IfSome lost.pointer (Identifies text raw)
+  pub located : Locates text raw lost

@@ -4,13 +4,13 @@ ghost use Rattle.serde_json.specs.Read.{read};
 ghost use Rattle.serde_json.specs.View.{view};
 ghost use Rattle.jsonptr.specs.Json.{FindsValue};
 ghost use Rattle.jsonptr_numbers.specs.Digits.{AreKept, FirstLost, KeepsDigits};
-ghost use Rattle.jsonptr_numbers.specs.Lost.{Loses, Identifies};
+ghost use Rattle.jsonptr_numbers.specs.Lost.{Identifies, IsAt, Locates, Loses};
 
 use crate::kept::is_kept;
 use crate::lost::Lost;
-use crate::path::path_of_first_lost;
+use crate::path::{Found, path_of_first_lost};
 use json::{Reader, Scratch, Token};
-use jsonptr::PointerBuf;
+use jsonptr::{Fault, PointerBuf};
 use jsonptr_value::is_same_number;
 use serde_json::Value;
 use std::alloc::{AllocError, Global};
@@ -30,6 +30,7 @@ use std::alloc::{AllocError, Global};
 /// ```rust
 /// assert!(rt; find_lost(alloc, r#"{"price": 1.10, "size": [1e5, 18446744073709551615]}"#)?.is_none());
 /// let lost = find_lost(alloc, r#"{"sizes": [1, 18446744073709551616]}"#)?.ok_or("a number")?;
+/// assert_eq!(rt; lost.offset, Some(14));
 /// let pointer = lost.pointer.ok_or("a pointer")?;
 /// assert_eq!(rt; pointer.as_ptr().as_str(), "/sizes/1");
 /// ```
@@ -39,10 +40,7 @@ pub fn find_lost(alloc: Global, text: &str) -> Result<Option<Lost>, AllocError>
     let mut scratch = Scratch::new(alloc);
     let mut reader = Reader::new(text, &mut scratch)?;
     match first_lost(&mut reader) {
-        Some(raw) => {
-            let pointer = pointer_of(alloc, text, raw)?;
-            Ok(Some(Lost { pointer }))
-        }
+        Some(raw) => Ok(Some(lost_at(alloc, text, raw)?)),
         None => Ok(None),
     }
 }
@@ -61,31 +59,78 @@ fn first_lost<'a>(reader: &mut Reader<'a>) -> Option<&'a str>
     None
 }
 
-/// Returns a pointer that resolves, in the text, to what the number is read as, if one is found.
-fn pointer_of(alloc: Global, text: &str, raw: &str) -> Result<Option<PointerBuf>, AllocError>
+/// Returns where the number is in the text, as far as the checks of it succeed.
+fn lost_at(alloc: Global, text: &str, raw: &str) -> Result<Lost, AllocError>
+    ensures { IfOk result (Locates text.now raw.now) }
+{
+    let length = raw.len();
+    match path_of_first_lost(alloc, text)? {
+        Some(Found { pointer, offset }) => Ok(Lost {
+            pointer: checked_pointer(alloc, text, raw, pointer)?,
+            offset: checked_offset(text, raw, offset),
+            length,
+        }),
+        None => Ok(Lost {
+            pointer: None,
+            offset: None,
+            length,
+        }),
+    }
+}
+
+/// Returns the offset if the text of the number is there.
+fn checked_offset(text: &str, raw: &str, offset: usize) -> Option<usize>
+    ensures { IfSome result (IsAt text.now raw.now) }
+{
+    let (_before, rest) = text.split_at_checked(offset)?;
+    let (piece, _after) = rest.split_at_checked(raw.len())?;
+    if piece == raw { Some(offset) } else { None }
+}
+
+/// Returns the pointer if it resolves, in the text, to what the number is read as.
+fn checked_pointer(
+    alloc: Global,
+    text: &str,
+    raw: &str,
+    pointer: PointerBuf,
+) -> Result<Option<PointerBuf>, AllocError>
     ensures { IfOk result (λ o. IfSome o (Identifies text.now raw.now)) }
 {
-    let Some(pointer) = path_of_first_lost(alloc, text)? else {
+    let (Some(document), Some(number)) = (read_text(alloc, text)?, read_text(alloc, raw)?) else {
         return Ok(None);
     };
-    let (Ok(document), Ok(number)) = (Value::from_str(alloc, text), Value::from_str(alloc, raw))
-    else {
-        return Ok(None);
-    };
-    if is_number_at(alloc, &document, &pointer, &number) {
+    if is_number_at(alloc, &document, &pointer, &number)? {
         Ok(Some(pointer))
     } else {
         Ok(None)
     }
 }
 
+/// Returns the document that the text is, or `None` if `serde_json` does not read it.
+fn read_text(alloc: Global, text: &str) -> Result<Option<Value>, AllocError>
+    ensures { IfOk result (λ o. IfSome o (λ v. read text.now ≡ Some (view v))) }
+{
+    match Value::from_str(alloc, text) {
+        Ok(value) => Ok(Some(value)),
+        Err(error) if error.is_memory() => Err(AllocError),
+        Err(_) => Ok(None),
+    }
+}
+
 /// Returns whether the pointer resolves to the number in the document.
-fn is_number_at(alloc: Global, document: &Value, pointer: &PointerBuf, number: &Value) -> bool
-    ensures { IsTrue result → FindsValue (view document.now) pointer.now (view number.now) }
+fn is_number_at(
+    alloc: Global,
+    document: &Value,
+    pointer: &PointerBuf,
+    number: &Value,
+) -> Result<bool, AllocError>
+    ensures { IfOk result (λ b. IsTrue b
+        → FindsValue (view document.now) pointer.now (view number.now)) }
 {
     match pointer.as_ptr().resolve(alloc, document) {
-        Ok(found) => is_same(found, number),
-        Err(_) => false,
+        Ok(found) => Ok(is_same(found, number)),
+        Err(Fault::Memory(error)) => Err(error),
+        Err(Fault::Refused(_)) => Ok(false),
     }
 }
 

@@ -10,12 +10,18 @@ use std::fmt;
 /// ```rust
 /// let lost = find_lost(alloc, "[1.10, 1e-400]")?.ok_or("a number")?;
 /// assert_eq!(rt; format!(in alloc; "{lost}")?.as_str(), "the number at /1 loses digits");
+/// assert_eq!(rt; (lost.offset, lost.length), (Some(7), 6));
 /// ```
 #[derive(Debug, Drop)]
 pub struct Lost {
     /// Resolves, in the text, to what the number is read as. `None` if that is not so, as for a member
     /// whose key comes again.
     pub pointer: Option<PointerBuf>,
+    /// The offset at which the number begins in the text, in bytes. `None` if the check of it fails. No
+    /// text is known for which it does.
+    pub offset: Option<usize>,
+    /// The length of the number in the text, in bytes.
+    pub length: usize,
 }
 
 impl fmt::Display for Lost {

@@ -6,6 +6,14 @@ use jsonptr::{PointerBuf, Token};
 use std::alloc::{AllocError, Global};
 use std::borrow::CowStr;
 
+/// A number of a text.
+#[derive(Drop)]
+pub(crate) struct Found {
+    pub(crate) pointer: PointerBuf,
+    /// The offset of its first byte.
+    pub(crate) offset: usize,
+}
+
 /// The pointer of the value that is read, and the arrays and objects around it.
 #[derive(Drop)]
 struct Path {
@@ -75,21 +83,22 @@ impl Path {
     }
 }
 
-/// Returns a pointer for the first number of the text that is not kept. The caller checks it.
-pub(crate) fn path_of_first_lost(
-    alloc: Global,
-    text: &str,
-) -> Result<Option<PointerBuf>, AllocError> {
+/// Returns a pointer and an offset for the first number of the text that is not kept. The caller checks
+/// both.
+pub(crate) fn path_of_first_lost(alloc: Global, text: &str) -> Result<Option<Found>, AllocError> {
     let mut scratch = Scratch::new(alloc);
     let mut reader = Reader::new(text, &mut scratch)?;
     let mut path = Path {
         pointer: PointerBuf::new(alloc),
         open: Vec::new(alloc),
     };
+    let mut offset = reader.offset();
     while let Some(token) = reader.next() {
         if path.take(alloc, token)? {
-            return Ok(Some(path.pointer));
+            let pointer = path.pointer;
+            return Ok(Some(Found { pointer, offset }));
         }
+        offset = reader.offset();
     }
     Ok(None)
 }

@@ -1,5 +1,5 @@
 -- Operations on a document with nodes that are removed later.
-use Rattle.std.proofs.Common.{◌≡◌, ℕ, zero, suc, ◌<◌, ◌≤◌, ◌+◌, length, slice_index_or, false, ◌⊎◌, inl, inr, ⊎_elim, Result, Ok, Err, IfOk, OnErr, Contains, List, [], ◌∷◌, ◌++◌, Option, Some, None, IsSome, MatchOption, option_map, refl, sym, ap, ◌∙◌, subst, arith}
+use Rattle.std.proofs.Common.{◌≡◌, ℕ, zero, suc, ◌<◌, ◌≤◌, ◌+◌, length, slice_index_or, false, ◌⊎◌, inl, inr, ⊎_elim, Result, Ok, Err, IfOk, OnErr, Contains, List, [], ◌∷◌, ◌++◌, Option, Some, None, IsSome, MatchOption, option_map, refl, sym, ap, ◌∙◌, subst, append_assoc, append-nil, length-append, arith}
 use mathlib.Core.Path.{fun_ext}
 use Rattle.std.proofs.lemmas.Bool.{cases_lt}
 use Rattle.std.proofs.lemmas.List.Elements.{Contains-append_left, Contains-append_right}
@@ -7,6 +7,7 @@ use Rattle.serde_json.specs.Data.{Data, null}
 use Rattle.serde_json.specs.View.{view}
 use Rattle.serde_json.specs.declared.value.Value.{Value, Null}
 use Rattle.jsonptr.specs.Fault.{IfRefused}
+use Rattle.jsonptr.proofs.Calling.{text-append, length-le-text}
 use Rattle.jsonptr.specs.Text.{Text, HasNoTilde, text}
 use Rattle.jsonptr.specs.Types.Fault.{Fault}
 use Rattle.jsonptr.specs.Resolve.{PutsAt}
@@ -31,6 +32,7 @@ use Rattle.jsonptr_journal.specs.Changes.{IsThere, Replaces, TakesAt}
 use Rattle.jsonptr_journal.specs.declared.location.Location.{Location}
 use Rattle.jsonptr_patch.specs.Adding.{Adds}
 use Rattle.jsonptr_patch.specs.Apart.{Diverges, AllDiverge, pointers}
+use Rattle.jsonptr_patch.specs.Inverse.{HasObject}
 use Rattle.jsonptr_patch.specs.Operating.{Takes, Moves, Applies, RefusesTarget, RefusesAdd, RefusesMove, RefusesOperation, AppliesBy, RefusesOperationBy}
 use Rattle.jsonptr_patch.specs.Patching.{Patches, PatchesBy, RefusesPatchBy}
 use Rattle.jsonptr_patch.specs.PrivateRecording.{Records}
@@ -293,18 +295,26 @@ none_diverges d xss ls is = subst (λ (ks : List Later). AllDiverge d xss (paths
 
 -- a removal that is made later
 
-pub pending_remove : (d e n : NodeMap) (front : List Text) (x : Text) (ls : List Later) (l : Later) → l.path ≡ front ++ x ∷ [] → IsReached d l → AllDiverge d (l.path ∷ []) (paths_of ls) → PutsAt d l.path (nodes (view Null)) e → IsPending d ls n → (m v : NodeMap) × Takes n l.path v m × IsPending e (ls ++ l ∷ []) m
-pending_remove d e n front x ls l is named h puts p =
-    let o : Operation = Replace l.path Null in
-    let xss : List (List Text) = l.path ∷ [] in
-    let r = removed_after Strict d e n o xss ls (λ xs i. i) h puts p.removed in
-    let gone = null_removed n r.0 (nodes (view Null)) front x (value_root Null) (subst (λ (ts : List Text). PutsAt n ts (nodes (view Null)) r.0) is r.1) in
-    let taken : Takes r.0 l.path (nodes (view Null)) gone.1 = subst (λ (ts : List Text). Takes r.0 ts (nodes (view Null)) gone.1) (sym is) gone.3 in (
-      gone.1,
-      gone.0,
-      subst (λ (ts : List Text). Takes n ts gone.0 gone.1) (sym is) gone.2,
-      pending_push e r.0 gone.1 (nodes (view Null)) ls l r.2 taken (scattered_after Strict d e o xss ls (λ xs i. i) h puts p.scattered) (kept_put d e l.location l.path (nodes (view Null)) named puts (value_root Null)) (after_applied Strict d e o xss (paths_of ls) (λ xs i. i) h puts),
+-- a member that is named can be removed
+can_take : (n : NodeMap) (front : List Text) (x : Text) (w : Path) → Names n (front ++ x ∷ []) w → (v k : NodeMap) × Takes n (front ++ x ∷ []) v k
+can_take n front x w named =
+    let tokens : List Text = front ++ x ∷ [] in
+    let r = Names-pop n front x w named in
+    let there : Names n tokens (r.0 ++ r.1 ∷ []) = subst (λ (p : Path). Names n tokens p) r.2 named in (
+      sub n (r.0 ++ r.1 ∷ []),
+      put n r.0 (without_step r.1 (sub n r.0)),
+      record { found = record { path = r.0 ++ r.1 ∷ []; named = there; below = refl }; left = Deletes_child n (nodes null) tokens r.0 r.1 there },
     )
+
+-- the document stays as it is
+pub waits_removed : (d n : NodeMap) (ls ps : List Later) (l : Later) → HasObject d l.path → IsReached d l → AllDiverge d (l.path ∷ []) (paths_of ls) → ps ≡ ls ++ l ∷ [] → IsPending d ls n → (m v : NodeMap) × Takes n l.path v m × IsPending d ps m
+waits_removed d n ls ps l member reached h more p =
+    let here = kept_names l.location d l.path reached in
+    let taken = can_take d member.front member.last here.0 (subst (λ (ts : List Text). Names d ts here.0) member.split here.1) in
+    let now : Takes d l.path taken.0 taken.1 = subst (λ (ts : List Text). Takes d ts taken.0 taken.1) (sym member.split) taken.2 in
+    let r = removed_after Strict d taken.1 n (Remove l.path) (l.path ∷ []) ls (λ xs i. i) h (taken.0, now) p.removed in
+    let pending : IsPending d (ls ++ l ∷ []) r.0 = pending_push d n r.0 r.1.0 ls l p.removed r.1.1 p.scattered reached h in
+    (r.0, r.1.0, r.1.1, subst (λ (qs : List Later). IsPending d qs r.0) (sym more) pending)
 
 -- a move whose removal is made later: the source is null now, in what is left too
 pub record NullAt (d e n : NodeMap) (from path : List Text) (ls : List Later) : Type 0 where
@@ -389,32 +399,27 @@ blank_sorted w v c d tokens a named s = (
   sorted_with_value w (contents_of Null) (contents_of c) (contents_of d) (record { old = a.old; new = a.new; there = a.there; made = a.made; related = a.related.1 }) null_sorted s,
 )
 
-pub waits_removed : (c d value : Value) (here : Location) (ls ps : List Later) (l : Later) → IsMemberAt (nodes (view c)) l.path (path_of here) → MatchOption l.location (HasNoTilde (text l.path)) (λ there. IsMemberAt (nodes (view c)) l.path (path_of there)) → AllDiverge (nodes (view c)) (l.path ∷ []) (paths_of ls) → At (path_of here) (Replaces (contents_of value) (contents_of Null)) (contents_of c) (contents_of d) → ps ≡ ls ++ l ∷ [] → (n : NodeMap) → IsPending (nodes (view c)) ls n → (m v : NodeMap) × Takes n l.path v m × IsPending (nodes (view d)) ps m
-waits_removed c d value here ls ps l m kept h a more n p =
-    let named : Names (nodes (view c)) l.path (path_of here) = member_named (contents_of c) a.old l.path (path_of here) m a.there in
-    let puts : PutsAt (nodes (view c)) l.path (nodes (view Null)) (nodes (view d)) = blank_puts (path_of here) (contents_of value) c d l.path a named in
-    let r = pending_remove (nodes (view c)) (nodes (view d)) n m.front m.last ls l m.split (member_kept (nodes (view c)) l.path (path_of here) l.location named kept) h puts p in
-    (r.0, r.1, r.2, subst (λ (qs : List Later). IsPending (nodes (view d)) qs r.0) (sym more) r.3)
-
-pub waits_moved : (c d f value : Value) (path : List Text) (here : Location) (ls ps : List Later) (l : Later) → IsMemberAt (nodes (view c)) l.path (path_of here) → MatchOption l.location (HasNoTilde (text l.path)) (λ there. IsMemberAt (nodes (view c)) l.path (path_of there)) → AllDiverge (nodes (view c)) (l.path ∷ path ∷ []) (paths_of ls) → Diverges (nodes (view c)) l.path path → At (path_of here) (Replaces (contents_of value) (contents_of Null)) (contents_of c) (contents_of d) → Adds (nodes (view d)) path (nodes (view value)) (nodes (view f)) → ps ≡ ls ++ l ∷ [] → (n : NodeMap) → IsPending (nodes (view c)) ls n → (m : NodeMap) × Moves n l.path path m × IsPending (nodes (view f)) ps m
-waits_moved c d f value path here ls ps l m kept h apart a added more n p =
-    let named : Names (nodes (view c)) l.path (path_of here) = member_named (contents_of c) a.old l.path (path_of here) m a.there in
-    let puts : PutsAt (nodes (view c)) l.path (nodes (view Null)) (nodes (view d)) = blank_puts (path_of here) (contents_of value) c d l.path a named in
-    let found : Finds (nodes (view c)) l.path (nodes (view value)) = FindsValue-Finds (view c) l.path (view value) (blank_finds (path_of here) value c d l.path a named) in
-    let r = pending_move (nodes (view c)) (nodes (view d)) (nodes (view f)) n value path m.front m.last ls l m.split (member_kept (nodes (view c)) l.path (path_of here) l.location named kept) h apart found puts added p in
+pub waits_moved : (c d f value : Value) (path : List Text) (w : Path) (ls ps : List Later) (l : Later) → HasObject (nodes (view c)) l.path → Names (nodes (view c)) l.path w → IsReached (nodes (view c)) l → AllDiverge (nodes (view c)) (l.path ∷ path ∷ []) (paths_of ls) → Diverges (nodes (view c)) l.path path → At w (Replaces (contents_of value) (contents_of Null)) (contents_of c) (contents_of d) → Adds (nodes (view d)) path (nodes (view value)) (nodes (view f)) → ps ≡ ls ++ l ∷ [] → (n : NodeMap) → IsPending (nodes (view c)) ls n → (m : NodeMap) × Moves n l.path path m × IsPending (nodes (view f)) ps m
+waits_moved c d f value path w ls ps l member named reached h apart a added more n p =
+    let puts : PutsAt (nodes (view c)) l.path (nodes (view Null)) (nodes (view d)) = blank_puts w (contents_of value) c d l.path a named in
+    let found : Finds (nodes (view c)) l.path (nodes (view value)) = FindsValue-Finds (view c) l.path (view value) (blank_finds w value c d l.path a named) in
+    let r = pending_move (nodes (view c)) (nodes (view d)) (nodes (view f)) n value path member.front member.last ls l member.split reached h apart found puts added p in
     (r.0, r.1, subst (λ (qs : List Later). IsPending (nodes (view f)) qs r.0) (sym more) r.2)
 
-pub waits_move_refused : (c d value : Value) (i : ℕ) (from path : List Text) (here : Location) (ls : List Later) (e : PatchError) → IsMemberAt (nodes (view c)) from (path_of here) → AllDiverge (nodes (view c)) (from ∷ path ∷ []) (paths_of ls) → Diverges (nodes (view c)) from path → At (path_of here) (Replaces (contents_of value) (contents_of Null)) (contents_of c) (contents_of d) → RefusesAdd (nodes (view d)) i path e → (n : NodeMap) → IsPending (nodes (view c)) ls n → RefusesMove n i from path e
-waits_move_refused c d value i from path here ls e m h apart a refused n p =
-    let named : Names (nodes (view c)) from (path_of here) = member_named (contents_of c) a.old from (path_of here) m a.there in
-    pending_move_refused (nodes (view c)) (nodes (view d)) n i from path m.front m.last ls e m.split h apart (blank_puts (path_of here) (contents_of value) c d from a named) p refused
+pub waits_move_refused : (c d value : Value) (i : ℕ) (from path : List Text) (w : Path) (ls : List Later) (e : PatchError) → HasObject (nodes (view c)) from → Names (nodes (view c)) from w → AllDiverge (nodes (view c)) (from ∷ path ∷ []) (paths_of ls) → Diverges (nodes (view c)) from path → At w (Replaces (contents_of value) (contents_of Null)) (contents_of c) (contents_of d) → RefusesAdd (nodes (view d)) i path e → (n : NodeMap) → IsPending (nodes (view c)) ls n → RefusesMove n i from path e
+waits_move_refused c d value i from path w ls e member named h apart a refused n p =
+    pending_move_refused (nodes (view c)) (nodes (view d)) n i from path member.front member.last ls e member.split h apart (blank_puts w (contents_of value) c d from a named) p refused
 
 -- a move of which the removal is made at once: after the addition, the node is still there
+
+member_object : (n : NodeMap) (tokens : List Text) (w : Path) → IsMemberAt n tokens w → HasObject n tokens
+member_object n tokens w m = record { front = m.front; last = m.last; path = m.path; split = m.split; named = m.named; object = m.object }
 
 pub alone_pending : (c d f value : Value) (from path : List Text) (here : Location) → IsMemberAt (nodes (view c)) from (path_of here) → Diverges (nodes (view c)) from path → At (path_of here) (Replaces (contents_of value) (contents_of Null)) (contents_of c) (contents_of d) → Adds (nodes (view d)) path (nodes (view value)) (nodes (view f)) → (m : NodeMap) × Moves (nodes (view c)) from path m × IsPending (nodes (view f)) (record { path = from; location = Some here } ∷ []) m
 alone_pending c d f value from path here m apart a added =
     let l : Later = record { path = from; location = Some here } in
-    waits_moved c d f value path here [] (l ∷ []) l m m (none_diverges (nodes (view c)) (from ∷ path ∷ []) [] refl) apart a added refl (nodes (view c)) (record { removed = refl; scattered = tt })
+    let named : Names (nodes (view c)) from (path_of here) = member_named (contents_of c) a.old from (path_of here) m a.there in
+    waits_moved c d f value path (path_of here) [] (l ∷ []) l (member_object (nodes (view c)) from (path_of here) m) named named (none_diverges (nodes (view c)) (from ∷ path ∷ []) [] refl) apart a added refl (nodes (view c)) (record { removed = refl; scattered = tt })
 
 pub alone_there : (c d f value : Value) (from path : List Text) (here : Location) → IsMemberAt (nodes (view c)) from (path_of here) → Diverges (nodes (view c)) from path → At (path_of here) (Replaces (contents_of value) (contents_of Null)) (contents_of c) (contents_of d) → Adds (nodes (view d)) path (nodes (view value)) (nodes (view f)) → IsThere (path_of here) (contents_of f)
 alone_there c d f value from path here m apart a added =
@@ -429,7 +434,7 @@ alone_moved c d f g value v from path here m apart a added taken =
     subst (λ (k : NodeMap). Moves (nodes (view c)) from path k) last.removed r.1
 
 pub alone_refused : (c d value : Value) (i : ℕ) (from path : List Text) (here : Location) (e : PatchError) → IsMemberAt (nodes (view c)) from (path_of here) → Diverges (nodes (view c)) from path → At (path_of here) (Replaces (contents_of value) (contents_of Null)) (contents_of c) (contents_of d) → RefusesAdd (nodes (view d)) i path e → RefusesMove (nodes (view c)) i from path e
-alone_refused c d value i from path here e m apart a refused = waits_move_refused c d value i from path here [] e m (none_diverges (nodes (view c)) (from ∷ path ∷ []) [] refl) apart a refused (nodes (view c)) (record { removed = refl; scattered = tt })
+alone_refused c d value i from path here e m apart a refused = waits_move_refused c d value i from path (path_of here) [] e (member_object (nodes (view c)) from (path_of here) m) (member_named (contents_of c) a.old from (path_of here) m a.there) (none_diverges (nodes (view c)) (from ∷ path ∷ []) [] refl) apart a refused (nodes (view c)) (record { removed = refl; scattered = tt })
 
 -- one node after another
 
@@ -498,6 +503,11 @@ pub unchanged_records : {T E : Type 0} (d e : Value) (j : Journal) (r : Result T
 unchanged_records d e j (Ok t) h = tt
 unchanged_records d e j (Err t) h = λ k u. subst (λ (x : Data). Undone j k (content x)) (sym h) u
 
+-- after an error the journal records what it did before, and then what was done since
+pub records_both : {T E : Type 0} (c d e : Value) (i j k : Journal) (r : Result T E) → Records i c j d → OnErr r (Records j d k e) → OnErr r (Records i c k e)
+records_both c d e i j k (Ok t) one two = tt
+records_both c d e i j k (Err x) one two = λ was u. two was (one was u)
+
 pub refused_last : (by : Comparison) (n m : NodeMap) (os : List Operation) (o : Operation) (i : ℕ) (e : PatchError) → i ≡ length os → PatchesBy by n os m → RefusesOperationBy by m i o e → RefusesPatchBy by n (os ++ o ∷ []) e
 refused_last by n m os o i e is done refused = refused_next by n m (os ++ o ∷ []) os [] o e refl done (subst (λ (k : ℕ). RefusesOperationBy by m k o e) is refused)
 
@@ -517,6 +527,28 @@ more_diverges d xs ls i e low is here before k x below = ⊎_elim
     let same : e ≡ slice_index_or ls k x = is ∙ any_default ls i e x low ∙ ap (λ (j : ℕ). slice_index_or ls j x) (sym end) in
     subst (λ (l : Later). Diverges d xs l.path) same here)
     (cases_lt k i)
+
+-- an object at the root
+pub root_object : (n : NodeMap) (ts : List Text) → ts ≡ [] → n [] ≡ Some an_object → IsObjectAt n ts
+root_object n ts root object = ([], subst (λ (xs : List Text). Names n xs []) (sym root) (subst (λ (l : Option Label). IsSome l) (sym object) refl), object)
+
+-- a pointer that is not longer than its prefix
+pub no_longer : (xs front rest : List Text) → length (text xs) ≤ length (text front) → xs ≡ front ++ rest → xs ≡ front
+no_longer xs front [] h e = e ∙ append-nil front
+no_longer xs front (r ∷ rest) h e = absurd (omega (arith, h, ap (λ (ts : List Text). length (text ts)) e, ap length (text-append front (r ∷ rest)), length-append (text front) (text (r ∷ rest)), length-le-text (r ∷ rest)))
+
+-- a pointer that goes on from the parent of another one, and does not begin with that one
+pub beside_forks : (xs ys front rest : List Text) (last : Text) → xs ≡ front ++ last ∷ [] → ys ≡ front ++ rest → (rest ≡ [] → ⊥) → ((more : List Text) → ys ≡ xs ++ more → ⊥) → Forks xs ys front
+beside_forks xs ys front [] last one other some apart = absurd (some refl)
+beside_forks xs ys front (y ∷ more) last one other some apart = record {
+  here = last;
+  more = [];
+  there = y;
+  others = more;
+  first = one;
+  second = other;
+  differ = λ e. apart more (other ∙ ap (λ (t : Text). front ++ t ∷ more) (sym e) ∙ sym (append_assoc front (last ∷ []) more) ∙ ap (λ (ts : List Text). ts ++ more) (sym one));
+}
 
 pub fork_diverges : (d : NodeMap) (xs ys front : List Text) → Forks xs ys front → IsObjectAt d front → Diverges d xs ys
 fork_diverges d xs ys front f o = record {
@@ -539,27 +571,27 @@ both_pointers d xs ys yss a b zs ws i j = ⊎_elim
     (λ (k : Contains (ys ∷ []) zs). b zs ws k j)
     (in_parts (xs ∷ []) (ys ∷ []) zs i)
 
-pub waits_no_test : (n : NodeMap) (o : Operation) (p : Path) → CanWait n o p → TestNeedsNoMemory o → ⊥
-waits_no_test n (Add path value) p w t = absurd w
-waits_no_test n (Remove path) p w t = t
-waits_no_test n (Replace path value) p w t = absurd w
-waits_no_test n (Move from path) p w t = t
-waits_no_test n (Copy from path) p w t = absurd w
-waits_no_test n (Test path value) p w t = absurd w
+pub waits_no_test : (n : NodeMap) (o : Operation) → CanWait n o → TestNeedsNoMemory o → ⊥
+waits_no_test n (Add path value) w t = absurd w
+waits_no_test n (Remove path) w t = t
+waits_no_test n (Replace path value) w t = absurd w
+waits_no_test n (Move from path) w t = t
+waits_no_test n (Copy from path) w t = absurd w
+waits_no_test n (Test path value) w t = absurd w
 
 -- an operation whose removal waits is no test
-pub waits_applied : (by : Comparison) (c : Value) (n m : NodeMap) (o : Operation) (p : Path) → CanWait (nodes (view c)) o p → Applies n o m → AppliesBy by n o m
-waits_applied by c n m (Add path value) p w a = absurd w
-waits_applied by c n m (Remove path) p w a = a
-waits_applied by c n m (Replace path value) p w a = absurd w
-waits_applied by c n m (Move from path) p w a = a
-waits_applied by c n m (Copy from path) p w a = absurd w
-waits_applied by c n m (Test path value) p w a = absurd w
+pub waits_applied : (by : Comparison) (c : Value) (n m : NodeMap) (o : Operation) → CanWait (nodes (view c)) o → Applies n o m → AppliesBy by n o m
+waits_applied by c n m (Add path value) w a = absurd w
+waits_applied by c n m (Remove path) w a = a
+waits_applied by c n m (Replace path value) w a = absurd w
+waits_applied by c n m (Move from path) w a = a
+waits_applied by c n m (Copy from path) w a = absurd w
+waits_applied by c n m (Test path value) w a = absurd w
 
-pub waits_refused : (by : Comparison) (c : Value) (n : NodeMap) (i : ℕ) (o : Operation) (p : Path) (e : PatchError) → CanWait (nodes (view c)) o p → RefusesOperation n i o e → RefusesOperationBy by n i o e
-waits_refused by c n i (Add path value) p e w r = absurd w
-waits_refused by c n i (Remove path) p e w r = r
-waits_refused by c n i (Replace path value) p e w r = absurd w
-waits_refused by c n i (Move from path) p e w r = r
-waits_refused by c n i (Copy from path) p e w r = absurd w
-waits_refused by c n i (Test path value) p e w r = absurd w
+pub waits_refused : (by : Comparison) (c : Value) (n : NodeMap) (i : ℕ) (o : Operation) (e : PatchError) → CanWait (nodes (view c)) o → RefusesOperation n i o e → RefusesOperationBy by n i o e
+waits_refused by c n i (Add path value) e w r = absurd w
+waits_refused by c n i (Remove path) e w r = r
+waits_refused by c n i (Replace path value) e w r = absurd w
+waits_refused by c n i (Move from path) e w r = r
+waits_refused by c n i (Copy from path) e w r = absurd w
+waits_refused by c n i (Test path value) e w r = absurd w

@@ -1,9 +1,15 @@
 -- Removals that are made after all operations. Used only by private contracts; no public contract depends on this file.
 use Rattle.std.specs.Prelude.{◌≡◌, ◌≢◌, ℕ, ◌<◌, List, [], ◌∷◌, ◌++◌, length, slice_index_or, Option, Some, MatchOption, ⊤}
+use Rattle.serde_json.specs.declared.value.Value.{Null}
+use Rattle.jsonptr.specs.Content.{Content}
 use Rattle.jsonptr.specs.Text.{Text, HasNoTilde, text}
 use Rattle.jsonptr.specs.Node.{key, Path, an_object, NodeMap, Names}
-use Rattle.jsonptr_journal.specs.Location.{path_of}
+use Rattle.jsonptr_journal.specs.Location.{path_of, contents_of}
+use Rattle.jsonptr_journal.specs.Changes.{Replaces}
+use Rattle.jsonptr_journal.specs.Leading.{AtNamed}
+use Rattle.jsonptr_journal.specs.Undoing.{IsRemoval}
 use Rattle.jsonptr_journal.specs.declared.location.Location.{Location}
+use Rattle.jsonptr_journal.specs.declared.removal.Taken.{Taken}
 use Rattle.jsonptr_patch.specs.Apart.{Diverges, AllDiverge}
 use Rattle.jsonptr_patch.specs.Inverse.{HasObject}
 use Rattle.jsonptr_patch.specs.Operating.{Takes, AppliesBy, RefusesOperationBy}
@@ -90,15 +96,25 @@ pub record Frees (k n : NodeMap) (o : Operation) : Type 0 where
   pub object : HasObject k tokens
   pub place : TakesPlace k o tokens
 
--- `CanWait n o w`: operation `o` removes or moves the member of an object of `n` at the path `w`, and the pointers of a
--- move diverge.
-abbrev pub CanWait : NodeMap → Operation → Path → Type 0
-CanWait n (Add path value) w = ⊥
-CanWait n (Remove path) w = IsMemberAt n path w
-CanWait n (Replace path value) w = ⊥
-CanWait n (Move from path) w = IsMemberAt n from w × Diverges n from path
-CanWait n (Copy from path) w = ⊥
-CanWait n (Test path value) w = ⊥
+-- `CanWait n o`: operation `o` removes or moves a member of an object of `n`, and the pointers of a move diverge.
+abbrev pub CanWait : NodeMap → Operation → Type 0
+CanWait n (Add path value) = ⊥
+CanWait n (Remove path) = HasObject n path
+CanWait n (Replace path value) = ⊥
+CanWait n (Move from path) = HasObject n from × Diverges n from path
+CanWait n (Copy from path) = ⊥
+CanWait n (Test path value) = ⊥
+
+-- `Blanks tokens t c d`: the value of `t` is the node of `c` that `tokens` name, `d` is `c` with `null` instead of it, and
+-- the removal of `t` undoes that.
+pub record Blanks (tokens : List Text) (t : Taken) (c d : Content) : Type 0 where
+  pub blank : AtNamed tokens (Replaces (contents_of t.value) (contents_of Null)) c d
+  pub undone : IsRemoval t.removal (contents_of t.value) c d
+
+-- `IsSource r tokens c d`: `r` is the node of `c` that `tokens` name, which is `null` in `d`, or it is `None` and `d` is
+-- `c`.
+abbrev pub IsSource : Option Taken → List Text → Content → Content → Type 0
+IsSource r tokens c d = MatchOption r (d ≡ c) (λ t. Blanks tokens t c d)
 
 -- `StandsFor k n o`: what operation `o` makes of `k` it makes of `n`, and it fails on `n` as on `k`.
 pub record StandsFor (k n : NodeMap) (o : Operation) : Type 0 where

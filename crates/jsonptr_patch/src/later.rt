@@ -1,43 +1,45 @@
 //! Removals that are made after all operations, when nothing can fail any more.
 //!
 //! To undo the removal of a member needs room for all members of its object. So where the later
-//! operations allow it, the value is taken, `null` is left in its place, and the member is removed
-//! at the end.
-ghost use Rattle.std.specs.Prelude.{◌≡◌, ◌≢◌, ◌∷◌, ◌++◌, List, [], Some, Contains, IfOk, IfSome, IsOk, IsTrue, IsFalse, MatchOption};
+//! operations allow it, the member is left as it is, and removed at the end. If it is moved, its value
+//! is taken, and `null` is left in its place.
+ghost use Rattle.std.specs.Prelude.{◌≡◌, ◌≢◌, ◌∷◌, ◌++◌, ◌<◌, List, [], length, Some, Contains, IfOk, IfSome, IsOk, OnOk, OnErr, IsTrue, IsFalse, MatchOption};
+ghost use Rattle.std.specs.Vec.{vec_capacity};
 ghost use Rattle.serde_json.specs.View.{view};
 ghost use Rattle.jsonptr.specs.Fault.{IfRefused, HasMemory};
 ghost use Rattle.jsonptr.specs.Json.{nodes, HasSortedKeys};
 ghost use Rattle.jsonptr.specs.Node.{key, Path, an_object, NodeMap, Names};
 ghost use Rattle.jsonptr.specs.Pointer.{tokens};
 ghost use Rattle.jsonptr.specs.Text.{Text, HasNoTilde, text};
-ghost use Rattle.jsonptr_journal.specs.Location.{path_of};
+ghost use Rattle.jsonptr_journal.specs.Location.{path_of, contents_of};
 ghost use Rattle.jsonptr_patch.specs.Apart.{Diverges, AllDiverge, pointers};
 ghost use Rattle.jsonptr_patch.specs.Memory.{TestNeedsNoMemory};
 ghost use Rattle.jsonptr_patch.specs.Operating.{Takes, Moves, Applies, AppliesBy, RefusesTarget, RefusesMove, RefusesOperation, RefusesOperationBy};
 ghost use Rattle.jsonptr_patch.specs.Order.{OperationHasSortedKeys};
 ghost use Rattle.jsonptr_patch.specs.Inverse.{HasObject};
-ghost use Rattle.jsonptr_patch.specs.PrivateLater.{paths_of, IsReached, IsPending, IsObjectAt, IsMemberAt, Forks, IsWaitingAt, TakesPlace, Frees, CanWait, StandsFor};
+ghost use Rattle.jsonptr_patch.specs.PrivateLater.{paths_of, IsKept, IsReached, IsPending, IsObjectAt, IsMemberAt, Forks, IsWaitingAt, TakesPlace, Frees, CanWait, StandsFor, IsSource};
 ghost use Rattle.jsonptr_patch.specs.PrivateRecording.{CanUndo, Records};
 
 use crate::add::key_of;
 use crate::apart::fork;
 use crate::comparison::Comparison;
+use crate::drop::discard_small;
 use crate::move_value::{NotAdded, add_taken, move_value};
 use crate::operation::{Operation, PatchError};
 use crate::patch::record;
-use crate::remove::remove;
+use crate::target::{no_target, target};
 use jsonptr::{Fault, Pointer, PointerBuf, Token};
 use jsonptr_document::document::{Document, Node};
+use jsonptr_journal::addition::replace_at;
 use jsonptr_journal::journal::{Entry, Journal};
 use jsonptr_journal::locate::locate;
 use jsonptr_journal::location::{Location, Part};
-use jsonptr_journal::removal::{self, Removal, blank, undo_removal};
-use jsonptr_value::discard;
+use jsonptr_journal::removal::{self, Removal, Taken, blank, undo_removal};
 use serde_json::Value;
 use std::alloc::{AllocError, Global};
 use std::mem;
 
-/// A node that was replaced by `null`, and is to be removed after all operations.
+/// A node that is to be removed after all operations. If its value was moved, it is `null`.
 #[derive(Debug, Drop)]
 pub struct Later {
     /// The pointer of the node.
@@ -50,6 +52,9 @@ pub struct Later {
 fn is_object(alloc: Global, doc: &Value, ptr: Pointer<'_>) -> bool
     ensures { IsTrue result → IsObjectAt (nodes (view doc.now)) (tokens ptr.entry) }
 {
+    if ptr.is_root() {
+        return is_map(doc);
+    }
     match ptr.resolve(alloc, doc) {
         Ok(value) => match value.node() {
             Node::Object(_) => true,
@@ -59,31 +64,27 @@ fn is_object(alloc: Global, doc: &Value, ptr: Pointer<'_>) -> bool
     }
 }
 
-/// Returns whether the two pointers have the same tokens.
-fn is_same(left: Pointer<'_>, right: Pointer<'_>) -> bool
-    ensures { IsTrue result → tokens left.entry ≡ tokens right.entry }
+/// Returns whether the document is an object.
+fn is_map(doc: &Value) -> bool
+    ensures { IsTrue result → nodes (view doc.now) [] ≡ Some an_object }
 {
-    match left.strip_prefix(right) {
-        Some(rest) => rest.is_root(),
-        None => false,
+    match doc.node() {
+        Node::Object(_) => true,
+        _ => false,
     }
 }
 
-/// Returns the prefix at whose end two pointers diverge, as [`fork`] does. The first one is `front` and
-/// the token `last`.
+/// Returns the prefix at whose end two pointers diverge, as [`fork`] does. The parent of the first one is
+/// `front`.
 ///
 /// Two children of one node, which are the most common, cost less than others.
-fn fork_at<'a>(
-    ptr: Pointer<'a>,
-    front: Pointer<'a>,
-    last: &Token<'_>,
-    other: Pointer<'_>,
-) -> Option<Pointer<'a>>
-    requires { tokens ptr ≡ tokens front ++ last.now ∷ [] }
+#[inline(always)]
+fn fork_at<'a>(ptr: Pointer<'a>, front: Pointer<'a>, other: Pointer<'_>) -> Option<Pointer<'a>>
+    requires { (last : Text) × (tokens ptr ≡ tokens front ++ last ∷ []) }
     ensures { IfSome result (λ common.
         Forks (tokens ptr.entry) (tokens other.entry) (tokens common)) }
 {
-    if is_beside(front, last, other) {
+    if is_beside(ptr, front, other) {
         return Some(front);
     }
     match fork(ptr, other) {
@@ -92,15 +93,59 @@ fn fork_at<'a>(
     }
 }
 
-/// Returns whether the pointer is `front` and a token that is not `last`.
-fn is_beside(front: Pointer<'_>, last: &Token<'_>, other: Pointer<'_>) -> bool
-    ensures { IsTrue result → (there : Text) × (tokens other.entry ≡ tokens front.entry ++ there ∷ [])
-        × (last.now ≢ there) }
+/// Returns whether the other pointer goes on from `front`, which is the parent of `ptr`, with another
+/// token.
+#[inline(always)]
+fn is_beside(ptr: Pointer<'_>, front: Pointer<'_>, other: Pointer<'_>) -> bool
+    requires { (last : Text) × (tokens ptr ≡ tokens front ++ last ∷ []) }
+    ensures { IsTrue result → Forks (tokens ptr.entry) (tokens other.entry) (tokens front.entry) }
 {
-    match other.split_back() {
-        Some((parent, there)) => parent.as_str() == front.as_str() && there != *last,
-        None => false,
+    if front.is_root() {
+        return is_beside_at_root(ptr, other);
     }
+    let Some(rest) = other.strip_prefix(front) else {
+        return false;
+    };
+    if rest.is_root() {
+        return false;
+    }
+    lacks_front(other, ptr)
+}
+
+/// Returns whether the first tokens of the two pointers differ, the first of which has only one.
+#[inline(always)]
+fn is_beside_at_root(ptr: Pointer<'_>, other: Pointer<'_>) -> bool
+    requires { (last : Text) × (tokens ptr ≡ last ∷ []) }
+    ensures { IsTrue result → Forks (tokens ptr.entry) (tokens other.entry) [] }
+{
+    if other.is_root() {
+        return false;
+    }
+    lacks_front(other, ptr)
+}
+
+/// Returns whether the pointer does not begin with the tokens of `front`.
+#[inline(always)]
+fn lacks_front(ptr: Pointer<'_>, front: Pointer<'_>) -> bool
+    ensures { IsTrue result
+        → (rest : List Text) → tokens ptr.entry ≡ tokens front.entry ++ rest → ⊥ }
+{
+    let (text, start) = (ptr.as_str(), front.as_str());
+    if text.len() <= start.len() {
+        return differ(ptr, front);
+    }
+    match ptr.strip_prefix(front) {
+        Some(_) => false,
+        None => true,
+    }
+}
+
+/// Returns whether the two pointers differ.
+#[inline(always)]
+fn differ(left: Pointer<'_>, right: Pointer<'_>) -> bool
+    ensures { IsTrue result → tokens left.entry ≢ tokens right.entry }
+{
+    left != right
 }
 
 /// Returns whether the two pointers diverge at an object of the document. May return false if an
@@ -116,12 +161,13 @@ pub fn diverges(alloc: Global, doc: &Value, left: Pointer<'_>, right: Pointer<'_
 }
 
 /// Returns whether the pointer resolves to an object, as `known` does.
+#[inline(always)]
 fn is_object_too(alloc: Global, doc: &Value, known: Option<Pointer<'_>>, ptr: Pointer<'_>) -> bool
     requires { IfSome known (λ other. IsObjectAt (nodes (view doc.now)) (tokens other)) }
     ensures { IsTrue result → IsObjectAt (nodes (view doc.now)) (tokens ptr.entry) }
 {
     match known {
-        Some(other) => is_same(other, ptr) || is_object(alloc, doc, ptr),
+        Some(other) => other == ptr || is_object(alloc, doc, ptr),
         None => is_object(alloc, doc, ptr),
     }
 }
@@ -135,12 +181,12 @@ fn diverges_from_all(alloc: Global, doc: &Value, later: &[Later], ptr: Pointer<'
         (paths_of later.now) }
     ensures empty { later.now ≡ [] → IsTrue result }
 {
-    let Some((front, last)) = ptr.split_back() else {
+    let Some((front, _)) = ptr.split_back() else {
         return later.is_empty();
     };
     let mut known = None;
     for one in later {
-        let Some(common) = fork_at(ptr, front, &last, one.path.as_ptr()) else {
+        let Some(common) = fork_at(ptr, front, one.path.as_ptr()) else {
             return false;
         };
         if !is_object_too(alloc, doc, known, common) {
@@ -347,7 +393,7 @@ fn unlink_one(alloc: Global, doc: &mut Value, one: Later)
 {
     let Later { path, location } = one;
     match location {
-        Some(location) => discard(removal::remove(alloc, doc, location)),
+        Some(location) => discard_small(removal::remove(alloc, doc, location)),
         None => delete_plain(alloc, doc, path.as_ptr()),
     }
 }
@@ -367,7 +413,7 @@ fn delete_plain(alloc: Global, doc: &mut Value, ptr: Pointer<'_>)
     ensures sorted { HasSortedKeys (view doc.old) → HasSortedKeys (view doc.new) }
 {
     match ptr.delete(alloc, doc) {
-        Ok(Some(value)) => discard(value),
+        Ok(Some(value)) => discard_small(value),
         Ok(None) => unreachable!(),
         Err(_) => unreachable!(),
     }
@@ -442,45 +488,74 @@ pub fn make_apart(
     flush(alloc, doc, journal, later)
 }
 
+// The number of nodes for which there is room at first, so that few of them are moved when more wait.
+const FIRST_LATER: usize = 16;
+
+/// Makes room for one more node that is removed later.
+///
+/// # Errors
+///
+/// [`AllocError`] if the allocation fails.
+fn make_room(later: &mut Vec<Later>) -> Result<(), AllocError>
+    ensures room { OnOk result (length later.new.items < vec_capacity later.new) }
+    ensures items { later.new.items ≡ later.old.items }
+{
+    if later.capacity() == 0 {
+        return later.reserve_exact(FIRST_LATER);
+    }
+    later.reserve(1)
+}
+
 /// Removes the value that the pointer resolves to after all operations, for the operation with this
-/// number. It is `null` until then.
+/// number. Until then it stays in the document.
 ///
 /// # Errors
 ///
 /// [`Fault::Refused`] if the pointer does not resolve to a value, and [`Fault::Memory`] if an
-/// allocation fails. To undo the journal restores the document.
+/// allocation fails.
 fn remove_later(
     alloc: Global,
-    doc: &mut Value,
-    journal: &mut Journal,
+    doc: &Value,
     later: &mut Vec<Later>,
     number: usize,
     path: PointerBuf,
-    location: Location,
 ) -> Result<(), Fault<PatchError>>
-    requires undone { CanUndo journal.old doc.old }
-    requires apart { AllDiverge (nodes (view doc.old)) (path ∷ []) (paths_of later.old.items) }
-    requires member { IsMemberAt (nodes (view doc.old)) path (path_of location) }
+    requires apart { AllDiverge (nodes (view doc.now)) (path ∷ []) (paths_of later.old.items) }
+    requires member { HasObject (nodes (view doc.now)) path }
     ensures removed { IfOk result (λ _. (n : NodeMap)
-        → IsPending (nodes (view doc.old)) later.old.items n
-        → (m v : NodeMap) × Takes n path v m × IsPending (nodes (view doc.new)) later.new.items m) }
-    ensures sorted { IfOk result (λ _.
-        HasSortedKeys (view doc.old) → HasSortedKeys (view doc.new)) }
-    ensures refused { IfRefused result (RefusesTarget (nodes (view doc.old)) number path) }
-    ensures undone { Records journal.old doc.old journal.new doc.new }
+        → IsPending (nodes (view doc.now)) later.old.items n
+        → (m v : NodeMap) × Takes n path v m × IsPending (nodes (view doc.now)) later.new.items m) }
+    ensures refused { IfRefused result (RefusesTarget (nodes (view doc.now)) number path) }
 {
-    let kept = kept_location(alloc, doc, &path)?;
-    later.reserve(1)?;
-    journal.reserve()?;
-    let Some(value) = blank(doc, &location) else {
-        return remove(alloc, doc, journal, number, path.as_ptr());
-    };
-    journal.push(Entry::Removed(Removal::Blank { location }, value));
-    later.push_reserved(Later {
-        path,
-        location: kept,
-    });
+    let location = reached(alloc, doc, number, &path)?;
+    make_room(later)?;
+    later.push_reserved(Later { path, location });
     Ok(())
+}
+
+/// Returns the location of the value that the pointer resolves to, if the pointer contains a `~`.
+///
+/// # Errors
+///
+/// [`Fault::Refused`] if the pointer does not resolve to a value, and [`Fault::Memory`] if an
+/// allocation fails.
+fn reached(
+    alloc: Global,
+    doc: &Value,
+    number: usize,
+    path: &PointerBuf,
+) -> Result<Option<Location>, Fault<PatchError>>
+    ensures kept { IfOk result (λ kept. IsKept kept (nodes (view doc.now)) path.now) }
+    ensures refused { IfRefused result (RefusesTarget (nodes (view doc.now)) number path.now) }
+{
+    if path.as_ptr().as_str().as_bytes().contains(&b'~') {
+        let location = target(alloc, doc, number, path.as_ptr())?;
+        return Ok(Some(location));
+    }
+    match path.as_ptr().resolve(alloc, doc) {
+        Ok(_) => Ok(None),
+        Err(fault) => Err(no_target(number, fault)),
+    }
 }
 
 /// Moves the value at `from` to `path`, for the operation with this number, and removes its member
@@ -498,12 +573,11 @@ fn move_later(
     number: usize,
     from: PointerBuf,
     path: Pointer<'_>,
-    location: Location,
 ) -> Result<(), Fault<PatchError>>
     requires apart { AllDiverge (nodes (view doc.old)) (from ∷ tokens path ∷ [])
         (paths_of later.old.items) }
     requires ways { Diverges (nodes (view doc.old)) from (tokens path) }
-    requires member { IsMemberAt (nodes (view doc.old)) from (path_of location) }
+    requires member { HasObject (nodes (view doc.old)) from }
     ensures moved { IfOk result (λ _. (n : NodeMap)
         → IsPending (nodes (view doc.old)) later.old.items n
         → (m : NodeMap) × Moves n from (tokens path.entry) m
@@ -516,24 +590,93 @@ fn move_later(
     ensures undone { Records journal.old doc.old journal.new doc.new }
 {
     let kept = kept_location(alloc, doc, &from)?;
-    later.reserve(1)?;
-    journal.reserve()?;
-    let Some(value) = blank(doc, &location) else {
-        return move_value(alloc, doc, journal, number, from.as_ptr(), path);
+    make_room(later)?;
+    journal.reserve(alloc)?;
+    let source = take_source(alloc, doc, &from)?;
+    match source {
+        Some(Taken { value, removal }) => match add_taken(alloc, doc, number, path, value) {
+            Ok(addition) => {
+                journal.push(Entry::Moved(removal, addition));
+                later.push_reserved(Later {
+                    path: from,
+                    location: kept,
+                });
+                Ok(())
+            }
+            Err(NotAdded { value, fault }) => {
+                undo_removal(alloc, doc, removal, value);
+                Err(fault)
+            }
+        },
+        None => move_value(alloc, doc, journal, number, from.as_ptr(), path),
+    }
+}
+
+/// Takes the value that the pointer resolves to, and leaves `null` there. Returns `None` if it does not
+/// resolve; the document is then unchanged.
+///
+/// # Errors
+///
+/// [`AllocError`] if an allocation fails. The document is unchanged.
+fn take_source(
+    alloc: Global,
+    doc: &mut Value,
+    from: &PointerBuf,
+) -> Result<Option<Taken>, AllocError>
+    requires { HasObject (nodes (view doc.old)) from.now }
+    ensures taken { IfOk result (λ source. IsSource source from.now
+        (contents_of doc.old) (contents_of doc.new)) }
+    ensures unchanged { OnErr result (contents_of doc.new ≡ contents_of doc.old) }
+{
+    if from.as_ptr().as_str().as_bytes().contains(&b'~') {
+        return take_located(alloc, doc, from);
+    }
+    let path = from.clone()?;
+    Ok(take_plain(doc, path))
+}
+
+/// Takes the value that the pointer resolves to, as [`take_source`] does, by the pointer itself.
+///
+/// # Conditions
+///
+/// The pointer has no `~`.
+fn take_plain(doc: &mut Value, path: PointerBuf) -> Option<Taken>
+    requires { HasNoTilde (text path) }
+    ensures { IsSource result path (contents_of doc.old) (contents_of doc.new) }
+{
+    match replace_at(doc, &path, Value::Null) {
+        Ok(value) => Some(Taken {
+            value,
+            removal: Removal::BlankAt { path },
+        }),
+        Err(_) => None,
+    }
+}
+
+/// Takes the value that the pointer resolves to, as [`take_source`] does, by its location.
+///
+/// # Errors
+///
+/// [`AllocError`] if an allocation fails. The document is unchanged.
+fn take_located(
+    alloc: Global,
+    doc: &mut Value,
+    from: &PointerBuf,
+) -> Result<Option<Taken>, AllocError>
+    requires { HasObject (nodes (view doc.old)) from.now }
+    ensures taken { IfOk result (λ source. IsSource source from.now
+        (contents_of doc.old) (contents_of doc.new)) }
+    ensures unchanged { OnErr result (contents_of doc.new ≡ contents_of doc.old) }
+{
+    let Some(location) = member_location(alloc, doc, from.as_ptr()) else {
+        return Err(AllocError);
     };
-    match add_taken(alloc, doc, number, path, value) {
-        Ok(addition) => {
-            journal.push(Entry::Moved(Removal::Blank { location }, addition));
-            later.push_reserved(Later {
-                path: from,
-                location: kept,
-            });
-            Ok(())
-        }
-        Err(NotAdded { value, fault }) => {
-            undo_removal(alloc, doc, Removal::Blank { location }, value);
-            Err(fault)
-        }
+    match blank(doc, &location) {
+        Some(value) => Ok(Some(Taken {
+            value,
+            removal: Removal::Blank { location },
+        })),
+        None => Ok(None),
     }
 }
 
@@ -547,7 +690,7 @@ fn kept_location(
     doc: &Value,
     path: &PointerBuf,
 ) -> Result<Option<Location>, AllocError>
-    requires { (w : Path) × IsMemberAt (nodes (view doc.now)) path.now w }
+    requires { HasObject (nodes (view doc.now)) path.now }
     ensures { IfOk result (λ kept. MatchOption kept (HasNoTilde (text path.now))
         (λ here. IsMemberAt (nodes (view doc.now)) path.now (path_of here))) }
 {
@@ -602,19 +745,34 @@ fn below(alloc: Global, object: Location, last: &Token<'_>) -> Option<Location>
     }
 }
 
-/// Returns the location of the node that the operation removes, if that can wait until all operations
-/// are applied. It removes or moves a member of an object, and the pointers of a move diverge at an
-/// object. May return `None` if an allocation fails.
-pub fn waiting_location(alloc: Global, doc: &Value, operation: &Operation) -> Option<Location>
-    ensures { IfSome result (λ here.
-        CanWait (nodes (view doc.now)) operation.now (path_of here)) }
+/// Returns whether the removal of the operation can wait until all operations are applied. It removes or
+/// moves a member of an object, and the pointers of a move diverge at an object. May return false if an
+/// allocation fails.
+pub fn can_wait(alloc: Global, doc: &Value, operation: &Operation) -> bool
+    ensures { IsTrue result → CanWait (nodes (view doc.now)) operation.now }
 {
     match operation {
-        Operation::Remove { path } => member_location(alloc, doc, path.as_ptr()),
-        Operation::Move { from, path } => {
-            moved_location(alloc, doc, from.as_ptr(), path.as_ptr())
-        }
-        _ => None,
+        Operation::Remove { path } => is_member(alloc, doc, path.as_ptr()),
+        Operation::Move { from, path } => { is_way_out(alloc, doc, from.as_ptr(), path.as_ptr()) }
+        _ => false,
+    }
+}
+
+/// Returns whether `from` is the pointer of a member of an object, and the two pointers diverge at an
+/// object. May return false if an allocation fails.
+fn is_way_out(alloc: Global, doc: &Value, from: Pointer<'_>, path: Pointer<'_>) -> bool
+    ensures { IsTrue result → HasObject (nodes (view doc.now)) (tokens from.entry)
+        × Diverges (nodes (view doc.now)) (tokens from.entry) (tokens path.entry) }
+{
+    let Some((front, _)) = from.split_back() else {
+        return false;
+    };
+    if !is_object(alloc, doc, front) {
+        return false;
+    }
+    match fork_at(from, front, path) {
+        Some(common) => is_object_too(alloc, doc, Some(front), common),
+        None => false,
     }
 }
 
@@ -651,12 +809,10 @@ fn wait(
     later: &mut Vec<Later>,
     number: usize,
     operation: Operation,
-    location: Location,
 ) -> Result<(), Fault<PatchError>>
-    requires undone { CanUndo journal.old doc.old }
     requires apart { AllDiverge (nodes (view doc.old)) (pointers operation)
         (paths_of later.old.items) }
-    requires waits { CanWait (nodes (view doc.old)) operation (path_of location) }
+    requires waits { CanWait (nodes (view doc.old)) operation }
     ensures applied { IfOk result (λ _. (n : NodeMap)
         → IsPending (nodes (view doc.old)) later.old.items n
         → (m : NodeMap) × Applies n operation m × IsPending (nodes (view doc.new)) later.new.items m) }
@@ -668,20 +824,9 @@ fn wait(
     ensures undone { Records journal.old doc.old journal.new doc.new }
 {
     match operation {
-        Operation::Remove { path } => {
-            remove_later(alloc, doc, journal, later, number, path, location)
-        }
+        Operation::Remove { path } => remove_later(alloc, doc, later, number, path),
         Operation::Move { from, path } => {
-            move_later(
-                alloc,
-                doc,
-                journal,
-                later,
-                number,
-                from,
-                path.as_ptr(),
-                location,
-            )
+            move_later(alloc, doc, journal, later, number, from, path.as_ptr())
         }
         Operation::Add { .. } => unreachable!(),
         Operation::Replace { .. } => unreachable!(),
@@ -721,10 +866,10 @@ pub fn record_apart(
     ensures no_memory { TestNeedsNoMemory operation → HasMemory result }
     ensures none { TestNeedsNoMemory operation → later.new.items ≡ later.old.items }
 {
-    match waiting_location(alloc, doc, &operation) {
-        Some(location) => wait(alloc, doc, journal, later, number, operation, location),
-        None => record(alloc, doc, journal, comparison, number, operation),
+    if can_wait(alloc, doc, &operation) {
+        return wait(alloc, doc, journal, later, number, operation);
     }
+    record(alloc, doc, journal, comparison, number, operation)
 }
 
 /// Applies the operation with this number, and records in the journal what undoes it. A removal may

@@ -45,6 +45,7 @@ mod add;
 mod apart;
 mod comparison;
 mod copy;
+mod drop;
 mod equality;
 mod float_search;
 mod inverse;

@@ -48,7 +48,7 @@ pub fn move_value(
         (tokens from.entry) (tokens path.entry)) }
     ensures undone { Records journal.old doc.old journal.new doc.new }
 {
-    journal.reserve()?;
+    journal.reserve(alloc)?;
     let entry = moved(alloc, doc, number, from, path)?;
     journal.push(entry);
     Ok(())
@@ -194,6 +194,7 @@ pub struct NotAdded {
 ///
 /// The value, if nothing can be added at the pointer or an allocation fails. The document is
 /// unchanged.
+#[inline(always)]
 pub fn add_taken(
     alloc: Global,
     doc: &mut Value,

@@ -32,8 +32,8 @@ use std::alloc::Global;
 /// The document is changed in place. A journal keeps what undoes each operation except the last
 /// one. If an operation fails, those before it are undone, which needs no allocation.
 ///
-/// An operation costs what it changes. A member that is removed from an object, also by a move, is
-/// replaced by `null` until the last operation has been applied, and then removed. An operation is
+/// An operation costs what it changes. A member that is removed from an object, also by a move, waits
+/// until the last operation has been applied, and is then removed. An operation is
 /// apart from it if each of its pointers diverges from that of the member at an object of the
 /// document. If a later operation is not, or if 1,024 members wait, all that wait are removed before it.
 /// That clones the keys of their objects, once for members of one object that follow one another. To

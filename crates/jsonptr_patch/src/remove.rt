@@ -11,11 +11,11 @@ ghost use Rattle.jsonptr.specs.Text.{HasNoTilde, text};
 ghost use Rattle.jsonptr_patch.specs.Operating.{Takes, RefusesTarget};
 ghost use Rattle.jsonptr_patch.specs.PrivateRecording.{CanUndo, Records};
 
+use crate::drop::discard_small;
 use crate::operation::PatchError;
 use crate::target::{no_target, target};
 use jsonptr::{Fault, Pointer, resolve};
 use jsonptr_journal::journal::Journal;
-use jsonptr_value::discard;
 use serde_json::Value;
 use std::alloc::Global;
 
@@ -70,7 +70,7 @@ pub fn remove_last(
 {
     match path.delete(alloc, doc)? {
         Some(value) => {
-            discard(value);
+            discard_small(value);
             Ok(())
         }
         None => Err(no_target(number, refusal(alloc, doc, path))),

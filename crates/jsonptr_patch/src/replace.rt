@@ -74,7 +74,7 @@ fn replace_plain(
     ensures refused { IfRefused result (RefusesTarget (nodes (view doc.old)) number path) }
     ensures undone { Records journal.old doc.old journal.new doc.new }
 {
-    if let Err(error) = journal.reserve() {
+    if let Err(error) = journal.reserve(alloc) {
         discard(value);
         return Err(Fault::Memory(error));
     }
@@ -115,7 +115,7 @@ fn replace_located(
             return Err(fault);
         }
     };
-    journal.replace(doc, location, value)?;
+    journal.replace(alloc, doc, location, value)?;
     Ok(())
 }
 

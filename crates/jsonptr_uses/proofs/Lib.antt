@@ -11,6 +11,7 @@ mod OverlayLemmas
 mod EditingLemmas
 mod NextLemmas
 mod SessionsLemmas
+mod GivenTextsLemmas
 pub mod InTextLemmas
 mod EditsInTextLemmas
 mod EditsInTomlLemmas

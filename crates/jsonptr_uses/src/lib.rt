@@ -15,6 +15,7 @@
 //! - [`in_text`]: numbers and texts in the text of a document.
 //! - [`edits_in_text`]: two edits in the text of a document.
 //! - [`edits_in_place`]: edits of a text that change only their own bytes.
+//! - [`given_texts`]: a patch that is applied with the texts of its values.
 //! - [`streams`]: a document from a reader to a writer.
 //! - [`toml_files`]: a TOML file of settings.
 //! - [`edits_in_toml`]: two edits in a TOML text, in place.
@@ -40,6 +41,7 @@ pub mod edits_in_place;
 pub mod edits_in_text;
 pub mod edits_in_toml;
 pub mod exact_texts;
+pub mod given_texts;
 pub mod handle_values;
 pub mod handles;
 pub mod in_text;

@@ -1,10 +1,10 @@
 //! The program, run in memory.
 ghost use Rattle.std.specs.Prelude.{◌≡◌, Some, IfOk, IfErr, map, option_map, string_bytes};
 ghost use Rattle.serde_json.specs.View.{view};
-ghost use Rattle.jsonptr_command.specs.Run.{ForLine, ForRequest, HasValueOf, IsKept, IsRefusedSo, NeedInput};
+ghost use Rattle.jsonptr_command.specs.Run.{ForLine, ForRequest, HasValueOf, IsRefusedSo, NeedInput};
 
 use jsonptr_command::fault::RunFault;
-use jsonptr_command::run::{run_program, run_program_into, run_program_keeping};
+use jsonptr_command::run::{run_program, run_program_into};
 use serde_json::Value;
 use std::alloc::Global;
 
@@ -45,26 +45,4 @@ pub fn printed_value(
     let mut value = None;
     run_program_into(alloc, words, &mut rest, &mut output, &mut value)?;
     Ok(value)
-}
-
-/// Returns the document as a command leaves it. Returns `None` if the command needs no input.
-///
-/// # Errors
-///
-/// Those of [`run_program_keeping`].
-pub fn document_after(
-    alloc: Global,
-    words: &[String],
-    input: &[u8],
-) -> Result<Option<Value>, RunFault>
-    ensures kept { IfOk result (λ document. NeedInput (map string_bytes words.now)
-        → ForRequest (map string_bytes words.now)
-        (λ request. IsKept request input.now (option_map view document))) }
-    ensures failed { IfErr result (IsRefusedSo (map string_bytes words.now) (Some input.now)) }
-{
-    let mut rest = input;
-    let mut output = Vec::new(alloc);
-    let mut document = None;
-    run_program_keeping(alloc, words, &mut rest, &mut output, &mut document)?;
-    Ok(document)
 }

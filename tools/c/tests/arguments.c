@@ -31,6 +31,11 @@ static void check_bad(void) {
     EXPECT(jsonptr_document_parse(NULL, "1", 1, NULL), BAD);
     EXPECT(jsonptr_document_parse(&document, NULL, 1, NULL), BAD);
     EXPECT(jsonptr_document_parse(&document, "1", huge, NULL), BAD);
+    EXPECT(jsonptr_document_parse_with(NULL, "1", 1, 0, NULL), BAD);
+    EXPECT(jsonptr_document_parse_with(&document, NULL, 1, JSONPTR_EXACT_NUMBERS, NULL), BAD);
+    EXPECT(jsonptr_document_parse_with(&document, "1", huge, 0, NULL), BAD);
+    EXPECT(jsonptr_document_parse_with(&document, "1", 1, JSONPTR_PRETTY, NULL), BAD);
+    EXPECT(jsonptr_document_parse_with(&document, "1", 1, JSONPTR_EXACT_NUMBERS | 4u, NULL), BAD);
     EXPECT(jsonptr_document_print(NULL, 0, out, 8, &length, NULL), BAD);
     EXPECT(jsonptr_document_print(&document, 0, NULL, 8, &length, NULL), BAD);
     EXPECT(jsonptr_document_get(NULL, "", 0, 0, out, 8, &length, NULL), BAD);
@@ -59,6 +64,9 @@ static void check_bad(void) {
     EXPECT(jsonptr_resolve_in_text(NULL, 1, "", 0, 0, out, 8, &length, NULL), BAD);
     EXPECT(jsonptr_resolve_in_text("1", 1, NULL, 1, 0, out, 8, &length, NULL), BAD);
     EXPECT(jsonptr_resolve_in_text("1", 1, "", 0, 0, NULL, 8, &length, NULL), BAD);
+    EXPECT(jsonptr_lost_number_in_text(NULL, 1, NULL, out, 8, &length, NULL), BAD);
+    EXPECT(jsonptr_lost_number_in_text("1", huge, NULL, out, 8, &length, NULL), BAD);
+    EXPECT(jsonptr_lost_number_in_text("1", 1, NULL, NULL, 8, &length, NULL), BAD);
     EXPECT(jsonptr_document_print(&document, 2, out, 8, &length, NULL), BAD);
     EXPECT(jsonptr_document_get(&document, "", 0, JSONPTR_PRETTY | 4u, out, 8, &length, NULL), BAD);
     EXPECT(jsonptr_document_diff(&document, &other, 0x80000000u, out, 8, &length, NULL), BAD);
@@ -79,6 +87,9 @@ static void check_empty(void) {
     expect_number("tokens", "NULL", length, 0);
     EXPECT(jsonptr_pointer_count("/a", 2, NULL, NULL), JSONPTR_OK);
     EXPECT(jsonptr_document_parse(&document, NULL, 0, NULL), JSONPTR_NOT_JSON);
+    EXPECT(jsonptr_document_parse_with(&document, NULL, 0, JSONPTR_EXACT_NUMBERS, NULL), JSONPTR_NOT_JSON);
+    EXPECT(jsonptr_lost_number_in_text("1", 1, NULL, NULL, 0, NULL, NULL), JSONPTR_OK);
+    EXPECT(jsonptr_lost_number_in_text("1e-400", 6, NULL, NULL, 0, NULL, NULL), JSONPTR_OK);
     EXPECT(jsonptr_document_get(&document, NULL, 0, 0, NULL, 0, &length, NULL), JSONPTR_NO_ROOM);
     expect_number("length", "the root", length, 3);
     EXPECT(jsonptr_document_get(&document, "/0", 2, 0, NULL, 0, NULL, NULL), JSONPTR_NO_ROOM);

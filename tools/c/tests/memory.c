@@ -45,6 +45,19 @@ static jsonptr_status parse(state *s) {
     return jsonptr_document_parse(&s->document, TEXT(DOCUMENT), NULL);
 }
 
+static jsonptr_status exact(state *s) {
+    return jsonptr_document_parse_with(&s->document, TEXT(DOCUMENT), JSONPTR_EXACT_NUMBERS, NULL);
+}
+
+static jsonptr_status not_exact(state *s) {
+    jsonptr_status status = jsonptr_document_parse_with(&s->document, TEXT("{\"a/b\":[1e-400]}"), JSONPTR_EXACT_NUMBERS, NULL);
+    return status == JSONPTR_NOT_EXACT ? JSONPTR_OK : status;
+}
+
+static jsonptr_status lost_number(state *s) {
+    return jsonptr_lost_number_in_text(TEXT("{\"a/b\":[1e-400]}"), NULL, s->out, sizeof s->out, NULL, NULL);
+}
+
 static jsonptr_status print(state *s) {
     return jsonptr_document_print(&s->document, JSONPTR_PRETTY, s->out, sizeof s->out, NULL, NULL);
 }
@@ -115,7 +128,7 @@ static const struct {
     const char *name;
     jsonptr_status (*call)(state *);
 } calls[] = {
-    { "parse", parse }, { "print", print }, { "get", get }, { "string", string }, { "node", node }, { "assign", assign },
+    { "parse", parse }, { "exact", exact }, { "not_exact", not_exact }, { "lost_number", lost_number }, { "print", print }, { "get", get }, { "string", string }, { "node", node }, { "assign", assign },
     { "delete", delete }, { "patch", patch }, { "fail", fail }, { "inverse", inverse }, { "diff", diff }, { "in_text", in_text }, { "token", token },
     { "escape", escape }, { "push", push }, { "message", message },
 };

@@ -41,6 +41,7 @@ def errors():
         caught(deep.assign, "/-" * 10_001, 1),
         caught(jsonptr.resolve, [float("nan")], ""),
         caught(jsonptr.resolve, {"a": "\ud800"}, ""),
+        caught(jsonptr.Document, '{"id": 12345678901234567890123}', True),
     ]
 
 
@@ -121,6 +122,31 @@ def check_arguments():
     assert isinstance(caught(jsonptr.Document.of, circle), jsonptr.JsonPointerError)
 
 
+def check_exact():
+    """Checks documents that are read with exact numbers."""
+    kept = "[0.1, 1.10, 1e5, -0, 18446744073709551615]"
+    assert jsonptr.Document(kept, exact=True) == jsonptr.Document(kept) and jsonptr.lost_number(kept) is None
+    for text, pointer, message, offset in (
+            ('{"id": 12345678901234567890123}', "/id", "the number at /id loses digits", 7),
+            (b'[1, {"a/b": 1e-400}]', "/1/a~1b", "the number at /1/a~1b loses digits", 12),
+            ("18446744073709551616", "", "the number loses digits", 0),
+            ('{"a": 1e-400, "a": 1}', None, "the number at offset 6 loses digits", 6)):
+        error = caught(jsonptr.Document, text, True)
+        assert type(error) is jsonptr.NotExact and str(error) == message and error.pointer == pointer, repr(error)
+        assert (error.status, error.offset) == (15, offset) and error.length > 5
+        assert copy.copy(error).pointer == pickle.loads(pickle.dumps(error)).pointer == pointer
+        assert isinstance(jsonptr.Document(text), jsonptr.Document)
+        if pointer is None:
+            assert type(caught(jsonptr.lost_number, text)) is jsonptr.NotExact
+        else:
+            assert jsonptr.lost_number(text) == pointer
+    assert caught(jsonptr.Document.of, {"n": 2**70}, True).pointer == "/n"
+    assert jsonptr.Document.of([2**64 - 1, 0.1], exact=True).value() == [2**64 - 1, 0.1]
+    assert caught(jsonptr.Document, "[1e-400, x]", True).status == 6 and caught(jsonptr.lost_number, "[x]").status == 6
+    long = "k" * 10_000
+    assert jsonptr.lost_number(f'{{"{long}": 1e-400}}') == f"/{long}"
+
+
 def check_tokens():
     """Checks the tokens of pointers, and that those of a long one take linear time."""
     assert jsonptr.tokens("") == [] and jsonptr.tokens("//~01/\u00e9~1") == ["", "~1", "\u00e9/"]
@@ -138,9 +164,9 @@ def check_library():
 
 
 def main():
-    for check in (check_errors, check_processes, check_documents, check_arguments, check_tokens, check_library):
+    for check in (check_errors, check_processes, check_documents, check_arguments, check_exact, check_tokens, check_library):
         check()
-    print("the module jsonptr: errors, processes, documents, arguments, tokens, library")
+    print("the module jsonptr: errors, processes, documents, arguments, exact numbers, tokens, library")
 
 
 if __name__ == "__main__":

@@ -218,6 +218,64 @@ static void check_numbers(void) {
     }
 }
 
+/* Texts that are read with exact numbers: the status, where the number at fault is, its pointer or NULL, and the message. */
+static const struct {
+    const char *text;
+    jsonptr_status status;
+    uint64_t offset, length;
+    const char *pointer, *message;
+} exact[] = {
+    { "[0.1, 1.10, 1e5, -0, 18446744073709551615, -9223372036854775808, 5e-324]", JSONPTR_OK, 0, 0, NULL, "no error" },
+    { "{\"id\": 12345678901234567890123}", JSONPTR_NOT_EXACT, 7, 23, "/id", "the number at offset 7 loses digits" },
+    { "[1 , {\"a/b\":3.14159265358979323846}]", JSONPTR_NOT_EXACT, 12, 22, "/1/a~1b", "the number at offset 12 loses digits" },
+    { "18446744073709551616", JSONPTR_NOT_EXACT, 0, 20, "", "the number at offset 0 loses digits" },
+    { "[1e-400, 12345678901234567890123]", JSONPTR_NOT_EXACT, 1, 6, "/0", "the number at offset 1 loses digits" },
+    { "{\"a\": 12345678901234567890123, \"a\": 1}", JSONPTR_NOT_EXACT, 6, 23, NULL, "the number at offset 6 loses digits" },
+    { "[12345678901234567890123, x]", JSONPTR_NOT_JSON, 26, 0, NULL, "text is not JSON" },
+    { "[12345678901234567890123, \"\xff\"]", JSONPTR_NOT_UTF8, 27, 0, NULL, "text is not UTF-8" },
+};
+
+static void check_exact(void) {
+    for (size_t i = 0; i < COUNT(exact); i++) {
+        const char *text = exact[i].text;
+        jsonptr_document document = parsed("[7]");
+        jsonptr_error error;
+        expect_number("status", text,
+                      jsonptr_document_parse_with(&document, TEXT(text), JSONPTR_EXACT_NUMBERS, &error), exact[i].status);
+        expect_number("status of the error", text, error.status, exact[i].status);
+        expect_number("offset", text, error.offset, exact[i].offset);
+        expect_number("length", text, error.length, exact[i].length);
+        expect_message(text, &error, exact[i].message);
+        if (exact[i].status != JSONPTR_OK) {
+            expect_document(text, &document, "[7]");
+        }
+        expect_number("status without the flag", text, jsonptr_document_parse_with(&document, TEXT(text), 0, &error),
+                      exact[i].status == JSONPTR_NOT_EXACT ? JSONPTR_OK : exact[i].status);
+        jsonptr_document_free(&document);
+        char out[16];
+        size_t length = 9;
+        bool found = false;
+        jsonptr_status wanted = exact[i].pointer != NULL ? JSONPTR_OK : exact[i].status;
+        expect_number("status of the pointer", text,
+                      jsonptr_lost_number_in_text(TEXT(text), &found, out, sizeof out, &length, &error), wanted);
+        expect_number("offset of the pointer", text, error.offset, wanted == JSONPTR_OK ? 0 : exact[i].offset);
+        expect_number("found", text, found, exact[i].pointer != NULL);
+        if (found) {
+            expect_text("pointer", text, out, length, exact[i].pointer);
+        } else {
+            expect_number("length of the pointer", text, length, wanted == JSONPTR_OK ? 0 : 9);
+        }
+    }
+    char out[4] = "####";
+    size_t length = 0;
+    jsonptr_error error;
+    const char *text = exact[2].text;
+    expect_number("status of a short buffer", text,
+                  jsonptr_lost_number_in_text(TEXT(text), NULL, out, sizeof out, &length, &error), JSONPTR_NO_ROOM);
+    expect_number("length of a short buffer", text, length, 7);
+    expect_text("a short buffer", text, out, sizeof out, "####");
+}
+
 /* Two texts that are both at fault: which one the error is of. */
 static void check_two_texts(void) {
     jsonptr_document document = parsed("[7]"), empty = JSONPTR_DOCUMENT_INIT;
@@ -533,9 +591,9 @@ static void check_faulty(void) {
 static void check_longest_message(void) {
     static const uint32_t greatest[] = { 1000, UINT32_MAX };
     size_t longest = 0;
-    for (uint32_t i = 0; i < 17 * 20 * 10; i++) {
+    for (uint32_t i = 0; i < 18 * 20 * 10; i++) {
         uint32_t status = i / 200, kind = i / 10 % 20, member = i % 10;
-        jsonptr_error error = { status < 16 ? status : greatest[i % 2], kind < 19 ? kind : greatest[i % 2],
+        jsonptr_error error = { status < 17 ? status : greatest[i % 2], kind < 19 ? kind : greatest[i % 2],
                                 member < 9 ? member : greatest[i % 2], UINT32_MAX, UINT64_MAX, UINT64_MAX, UINT64_MAX,
                                 UINT64_MAX, UINT64_MAX, UINT64_MAX, UINT64_MAX };
         char out[200];
@@ -740,6 +798,7 @@ int main(void) {
     check_unresolved();
     check_unread();
     check_numbers();
+    check_exact();
     check_two_texts();
     check_nodes();
     check_assignments();

@@ -14,9 +14,9 @@ returns-clause-patch c = λ text patch layout e no h. c.patch_document_law.ensur
 pub returns-clause-patch_of_line : goal.returns-clause-patch_of_line
 returns-clause-patch_of_line c = λ patch layout l e utf8 no h.
     let fails = h utf8 in
-    c.patch_document_law.ensures.not_both (view patch) fails.0.0 e fails.0.1 no
+    c.patch_document_law.ensures.not_both (view patch.document) fails.0.0 e fails.0.1 no
 
 pub returns-clause-patch_of_bytes : goal.returns-clause-patch_of_bytes
 returns-clause-patch_of_bytes c = λ patch layout bytes e utf8 no h.
     let fails = h utf8 in
-    c.patch_document_law.ensures.not_both (view patch) fails.0.0 e fails.0.1 no
+    c.patch_document_law.ensures.not_both (view patch.document) fails.0.0 e fails.0.1 no

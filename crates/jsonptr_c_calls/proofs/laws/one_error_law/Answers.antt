@@ -1,5 +1,5 @@
 use Rattle.jsonptr_patch.specs.declared.comparison.Comparison.TheVariants.{Numeric}
-use Rattle.jsonptr_c_calls.proofs.LawLemmas.{no_pointers, no_tokens, not_escaped, not_pushed, not_popped, not_parsed, not_printed_in, not_read_in, unfound_in, not_assigned_in, not_deleted_in, not_patch, not_applied, not_patched, not_printed_from}
+use Rattle.jsonptr_c_calls.proofs.LawLemmas.{no_pointers, no_tokens, not_escaped, not_pushed, not_popped, not_parsed, not_parsed_exactly, pointer_lacked, not_printed_in, not_read_in, unfound_in, not_assigned_in, not_deleted_in, not_patch, not_applied, not_patched, not_printed_from}
 use Rattle.jsonptr_c_calls.proofs.laws.one_error_law.Goals as goal
 
 pub returns-clause-count : goal.returns-clause-count
@@ -19,6 +19,12 @@ returns-clause-pop c = not_popped c.parse_law.ensures.not_both
 
 pub returns-clause-parse : goal.returns-clause-parse
 returns-clause-parse c = not_parsed
+
+pub returns-clause-parse_exactly : goal.returns-clause-parse_exactly
+returns-clause-parse_exactly c = not_parsed_exactly
+
+pub returns-clause-lost_number : goal.returns-clause-lost_number
+returns-clause-lost_number c = pointer_lacked
 
 pub returns-clause-print : goal.returns-clause-print
 returns-clause-print c = not_printed_in c.parse_law.ensures.not_both

@@ -1,36 +1,36 @@
 use Rattle.std.proofs.Common.{string_bytes, inr}
 use Rattle.std.proofs.lemmas.Result.{IfOk-weaker, IfErr-weaker, err_from_is_err_and, on_ok_weaker}
 use Rattle.serde_json.specs.View.{view}
-use Rattle.jsonptr_command.proofs.AnswerLemmas.{after_document, either_given, line_given, fault_given, input_fault_given, left_given}
+use Rattle.jsonptr_command.proofs.AnswerLemmas.{after_document, either_given, line_given, fault_given, input_fault_given, value_given}
 use Rattle.jsonptr_command.proofs.run.document_line.Goals as goal
 
-pub returns-in_err-value-clause-err : goal.returns-in_err-value-clause-err
-returns-in_err-value-clause-err g c =
+pub returns-in_err-document-clause-err : goal.returns-in_err-document-clause-err
+returns-in_err-document-clause-err g c =
     let p = err_from_is_err_and c.from_residual.result c.from_residual.ensures.1 in
-    rw (p.1, p.2) (input_fault_given c.args.task _ _ c.in_err-value.ensures.err)
+    rw (p.1, p.2) (input_fault_given c.args.change _ _ c.in_err-document.ensures.err)
 
 pub returns-clause-ok : goal.returns-clause-ok
 returns-clause-ok g c =
-    IfOk-weaker c.task_line-line.result _ _
-    (λ line h. line_given c.args.task _ (view c.in_ok-value.value) c.in_ok-value.ensures.value (string_bytes line) h) c.task_line-line.ensures.ok
+    IfOk-weaker c.changed_line-line.result _ _
+    (λ line h. line_given c.args.change _ (view c.in_ok-document.document) c.in_ok-document.ensures.value (string_bytes line) h) c.changed_line-line.ensures.ok
 
 pub returns-clause-err : goal.returns-clause-err
 returns-clause-err g c =
-    IfErr-weaker c.task_line-line.result _ _
-    (λ e h. fault_given c.args.task _ (view c.in_ok-value.value) c.in_ok-value.ensures.value e h) c.task_line-line.ensures.err
+    IfErr-weaker c.changed_line-line.result _ _
+    (λ e h. fault_given c.args.change _ (view c.in_ok-document.document) c.in_ok-document.ensures.value e h) c.changed_line-line.ensures.err
 
-pub returns-clause-kept : goal.returns-clause-kept
-returns-clause-kept g c =
-    on_ok_weaker c.task_line-line.result
-    (λ h. left_given c.args.task _ (view c.in_ok-value.value) c.in_ok-value.ensures.value _ h) c.task_line-line.ensures.left
+pub returns-clause-value : goal.returns-clause-value
+returns-clause-value g c =
+    on_ok_weaker c.changed_line-line.result
+    (λ h. value_given c.args.change _ (view c.in_ok-document.document) c.in_ok-document.ensures.value _ h) c.changed_line-line.ensures.changed
 
 pub returns-clause-unchanged : goal.returns-clause-unchanged
 returns-clause-unchanged g c =
-    IfErr-weaker c.task_line-line.result _ _
-    (λ e h before. absurd (after_document c.args.task (view c.in_ok-value.value) e h before)) c.task_line-line.ensures.err
+    IfErr-weaker c.changed_line-line.result _ _
+    (λ e h before. absurd (after_document c.args.change (view c.in_ok-document.document) e h before)) c.changed_line-line.ensures.err
 
 pub returns-clause-memory : goal.returns-clause-memory
 returns-clause-memory g c =
-    IfErr-weaker c.task_line-line.result _ _
-    (λ e h is. inr (either_given c.args.task _ (view c.in_ok-value.value) c.in_ok-value.ensures.value _ c.task_line-line.ensures.either))
-    c.task_line-line.ensures.err
+    IfErr-weaker c.changed_line-line.result _ _
+    (λ e h is. inr (either_given c.args.change _ (view c.in_ok-document.document) c.in_ok-document.ensures.value _ c.changed_line-line.ensures.either))
+    c.changed_line-line.ensures.err

@@ -1,7 +1,7 @@
-use Rattle.std.proofs.Common.{List, [], string_bytes, subst}
+use Rattle.std.proofs.Common.{List, [], IfOk, IfSome, string_bytes, subst}
 use Rattle.jsonptr_grammar.specs.Text.{Text}
 use Rattle.jsonptr.specs.Pointer.{tokens}
-use Rattle.jsonptr_edit_in_text.specs.PrivateReaching.{ReachedInText, Becomes}
+use Rattle.jsonptr_edit_in_text.specs.PrivateReaching.{ReachedInText, Becomes, ReplacesByText}
 use Rattle.jsonptr_edit_in_text.specs.PrivateOperating.{AddsInText}
 use Rattle.jsonptr_edit_in_text.proofs.EditLemmas.{if_new}
 use Rattle.jsonptr_edit_in_text.proofs.OperatingLemmas.{adds_root}
@@ -16,3 +16,7 @@ returns-clause-added c =
     (λ s. AddsInText old [] flat (string_bytes s))
     (λ s h. adds_root old (string_bytes s) flat (subst (λ (ts : List Text). ReachedInText old (string_bytes s) ts (Becomes flat)) c.root.ensures.tokens h))
     c.replace.ensures.reached
+
+pub returns-clause-bytes : goal.returns-clause-bytes
+returns-clause-bytes c =
+    subst (λ (ts : List Text). IfOk c.replace.result (λ n. IfSome n (λ s. ReplacesByText c.args.text.now (string_bytes s) ts (string_bytes c.args.value.now.flat)))) c.root.ensures.tokens c.replace.ensures.bytes

@@ -2,9 +2,13 @@ use Rattle.std.proofs.Common.{◌≡◌, ◌+◌, List, [], ◌∷◌, ◌++◌,
 use Rattle.std.specs.declared.alloc.Global.{Global}
 use Rattle.std.proofs.lemmas.List.{take_more}
 use Rattle.jsonptr_patch.specs.declared.operation.Operation.{Operation}
-use Rattle.jsonptr_edit_in_text.specs.PatchInText.{PatchesInText, PatchBytes, OperationBytes}
+use Rattle.jsonptr_edit_in_text.specs.PatchInText.{PatchesInText}
 use Rattle.jsonptr_edit_in_text.specs.PrivateOperating.{OperatesInText}
-use Rattle.jsonptr_edit_in_text.proofs.OperatingLemmas.{patches_more, bytes_push}
+use Rattle.jsonptr_edit_in_text.specs.RawPatching.{operations_in, GivenBytes, RawPatchBytes}
+use Rattle.jsonptr_edit_in_text.specs.declared.raw_operation.RawOperation.{RawOperation}
+use Rattle.jsonptr_edit_in_text.proofs.OperatingLemmas.{patches_more}
+use Rattle.jsonptr_edit_in_text.proofs.RawLemmas.{raw_bytes_push}
+use Rattle.jsonptr_edit_in_text.proofs.RawListLemmas.{operations_push}
 use Rattle.jsonptr_edit_in_text.proofs.apply.apply_rest.Goals as goal
 
 pub operations-init : goal.operations-init
@@ -18,9 +22,10 @@ operations-preserved c =
     let old = string_bytes c.args.text in
     let mid = string_bytes c.operations.current in
     let new = string_bytes c.in-Some.next in
-    let applied = subst (λ (n : Option (String Global)). IfSome n (λ s. OperatesInText mid o (string_bytes s))) c.in-Some.is c.in_ok-next.ensures.applied in
-    let bytes = subst (λ (n : Option (String Global)). IfSome n (λ s. OperationBytes mid o (string_bytes s))) c.in-Some.is c.in_ok-next.ensures.bytes in
-    let more : take i ops ++ o ∷ [] ≡ take (i + 1) ops = ap (λ (x : Operation). take i ops ++ x ∷ []) c.operation-item.is ∙ sym (take_more ops i o c.operations-test.true) in (
-      λ d reads. subst (λ (os : List Operation). PatchesInText old os new) more (patches_more old mid new (take i ops) o (c.operations.invariant.0 d reads) applied),
-      subst (λ (os : List Operation). PatchBytes old os new) more (bytes_push old mid new (take i ops) o c.operations.invariant.1 bytes),
+    let applied = subst (λ (n : Option (String Global)). IfSome n (λ s. OperatesInText mid o.operation (string_bytes s))) c.in-Some.is c.in_ok-next.ensures.applied in
+    let bytes = subst (λ (n : Option (String Global)). IfSome n (λ s. GivenBytes mid o.operation o.text (string_bytes s))) c.in-Some.is c.in_ok-next.ensures.bytes in
+    let more : take i ops ++ o ∷ [] ≡ take (i + 1) ops = ap (λ (x : RawOperation). take i ops ++ x ∷ []) c.operation-item.is ∙ sym (take_more ops i o c.operations-test.true) in
+    let alone : operations_in (take i ops) ++ o.operation ∷ [] ≡ operations_in (take (i + 1) ops) = sym (operations_push (take i ops) o) ∙ ap operations_in more in (
+      λ d reads. subst (λ (os : List Operation). PatchesInText old os new) alone (patches_more old mid new (operations_in (take i ops)) o.operation (c.operations.invariant.0 d reads) applied),
+      subst (λ (rs : List RawOperation). RawPatchBytes old rs new) more (raw_bytes_push old mid new (take i ops) o c.operations.invariant.1 bytes),
     )

@@ -1,10 +1,11 @@
 use Rattle.std.proofs.Common.{◌≡◌, Some, take, string_bytes}
 use Rattle.serde_json.specs.Data.{Data}
 use Rattle.serde_json.specs.Read.{read}
-use Rattle.jsonptr_edit_in_text.specs.PatchInText.{PatchesInText, PatchBytes}
+use Rattle.jsonptr_edit_in_text.specs.PatchInText.{PatchesInText}
+use Rattle.jsonptr_edit_in_text.specs.RawPatching.{operations_in, RawPatchBytes}
 use Rattle.jsonptr_edit_in_text.proofs.apply.apply_rest.Given as goal
 
 abbrev pub invariant-operations : goal.invariant-operations
 invariant-operations l =
-    ((d : Data) → read (string_bytes l.fn.text) ≡ Some d → PatchesInText (string_bytes l.fn.text) (take l.operation-index l.operations) (string_bytes l.current))
-    × PatchBytes (string_bytes l.fn.text) (take l.operation-index l.operations) (string_bytes l.current)
+    ((d : Data) → read (string_bytes l.fn.text) ≡ Some d → PatchesInText (string_bytes l.fn.text) (operations_in (take l.operation-index l.operations)) (string_bytes l.current))
+    × RawPatchBytes (string_bytes l.fn.text) (take l.operation-index l.operations) (string_bytes l.current)

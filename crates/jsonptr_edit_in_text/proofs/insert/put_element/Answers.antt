@@ -1,4 +1,4 @@
-use Rattle.std.proofs.Common.{◌≡◌, Some, None, option_map, string_bytes, subst, arith}
+use Rattle.std.proofs.Common.{None, string_bytes, subst, arith}
 use Rattle.jsonptr_grammar.specs.Text.{Text}
 use Rattle.jsonptr_json_edits.specs.Spacing.{Splices}
 use Rattle.jsonptr_edit_in_text.specs.PrivateReaching.{AddsPieceByText}

@@ -1,25 +1,34 @@
-use Rattle.std.proofs.Common.{List, IfOk, IfSome, string_bytes, sym, subst}
+use Rattle.std.proofs.Common.{List, IfOk, IfSome, string_bytes, refl, sym, subst}
 use Rattle.serde_json.specs.View.{view}
 use Rattle.jsonptr_grammar.specs.Text.{Text}
 use Rattle.jsonptr.specs.Pointer.{tokens}
 use Rattle.jsonptr_tree.specs.Json.{nodes}
 use Rattle.jsonptr_patch.specs.declared.operation.Operation.{Operation}
 use Rattle.jsonptr_patch.specs.declared.operation.Operation.TheVariants.{Remove}
+use Rattle.jsonptr_edit_in_text.specs.Bytes.{DeletesBytes}
 use Rattle.jsonptr_edit_in_text.specs.EditInText.{DeletesInText}
-use Rattle.jsonptr_edit_in_text.specs.PatchInText.{MovesBytes, CopiesBytes, OperationBytes}
-use Rattle.jsonptr_edit_in_text.specs.PrivateOperating.{OperatesInText, AddsValueInText}
+use Rattle.jsonptr_edit_in_text.specs.Fitting.{Fits}
+use Rattle.jsonptr_edit_in_text.specs.PatchInText.{MovesBytes, CopiesBytes}
+use Rattle.jsonptr_edit_in_text.specs.PrivateOperating.{OperatesInText, AddsValueInText, PutsInText}
+use Rattle.jsonptr_edit_in_text.specs.RawPatching.{AddsGiven, ReplacesGiven, GivenBytes}
 use Rattle.jsonptr_edit_in_text.proofs.EditLemmas.{if_new}
 use Rattle.jsonptr_edit_in_text.proofs.OperatingLemmas.{removes, tests}
 use Rattle.jsonptr_edit_in_text.proofs.operate.operate.Goals as goal
 
+pub add_given-requires : goal.add_given-requires
+add_given-requires c = subst (λ (o : Operation). Fits o c.args.raw.now.text) c.in-Add.is c.args.raw.now.fits
+
+pub replace_given-requires : goal.replace_given-requires
+replace_given-requires c = subst (λ (o : Operation). Fits o c.args.raw.now.text) c.in-Replace.is c.args.raw.now.fits
+
 pub returns-in-Add-clause-applied : goal.returns-in-Add-clause-applied
 returns-in-Add-clause-applied c =
-    let r = c.add_value.result in
+    let r = c.add_given.result in
     let old = c.as_str-old.result.now in
     let v = nodes (view c.in-Add.value) in
     subst (λ (o : Operation). IfOk r (λ n. IfSome n (λ s. OperatesInText (string_bytes c.args.text) o (string_bytes s)))) (sym c.in-Add.is)
     (subst (λ (t : Text). IfOk r (λ n. IfSome n (λ s. AddsValueInText t c.in-Add.path v (string_bytes s)))) c.as_str-old.ensures.value
-    (subst (λ (ts : List Text). IfOk r (λ n. IfSome n (λ s. AddsValueInText old ts v (string_bytes s)))) c.as_ptr.ensures.tokens c.add_value.ensures.added))
+    (subst (λ (ts : List Text). IfOk r (λ n. IfSome n (λ s. AddsValueInText old ts v (string_bytes s)))) c.as_ptr.ensures.tokens c.add_given.ensures.added))
 
 pub returns-in-Remove-clause-applied : goal.returns-in-Remove-clause-applied
 returns-in-Remove-clause-applied c =
@@ -33,12 +42,56 @@ returns-in-Remove-clause-applied c =
     (subst (λ (t : Text). IfOk r (λ n. IfSome n (λ s. DeletesInText t c.in-Remove.path (string_bytes s)))) c.as_str-old.ensures.value
     (subst (λ (ts : List Text). IfOk r (λ n. IfSome n (λ s. DeletesInText old ts (string_bytes s)))) c.as_ptr-in-Remove.ensures.tokens c.delete_in_place.ensures.deleted)))
 
+pub returns-in-Replace-clause-applied : goal.returns-in-Replace-clause-applied
+returns-in-Replace-clause-applied c =
+    let r = c.replace_given.result in
+    let old = c.as_str-old.result.now in
+    let v = nodes (view c.in-Replace.value) in
+    subst (λ (o : Operation). IfOk r (λ n. IfSome n (λ s. OperatesInText (string_bytes c.args.text) o (string_bytes s)))) (sym c.in-Replace.is)
+    (subst (λ (t : Text). IfOk r (λ n. IfSome n (λ s. PutsInText t c.in-Replace.path v (string_bytes s)))) c.as_str-old.ensures.value
+    (subst (λ (ts : List Text). IfOk r (λ n. IfSome n (λ s. PutsInText old ts v (string_bytes s)))) c.as_ptr-in-Replace.ensures.tokens c.replace_given.ensures.put))
+
+pub returns-then-branch-clause-applied : goal.returns-then-branch-clause-applied
+returns-then-branch-clause-applied c =
+    subst (λ (o : Operation). OperatesInText (string_bytes c.args.text) o (string_bytes c.args.text)) (sym c.in-Test.is)
+    (tests (string_bytes c.args.text) c.as_str-old.result.now (tokens c.as_ptr-in-Test.result) c.in-Test.path c.in-Test.value c.as_str-old.ensures.value c.as_ptr-in-Test.ensures.tokens (c.in_ok-passes-in-Test.ensures c.if-branch.true))
+
+pub returns-in-Add-clause-bytes : goal.returns-in-Add-clause-bytes
+returns-in-Add-clause-bytes c =
+    let r = c.add_given.result in
+    let old = c.as_str-old.result.now in
+    let own = c.args.raw.now.text in
+    let v = view c.in-Add.value in
+    subst (λ (o : Operation). IfOk r (λ n. IfSome n (λ s. GivenBytes (string_bytes c.args.text) o own (string_bytes s)))) (sym c.in-Add.is)
+    (subst (λ (t : Text). IfOk r (λ n. IfSome n (λ s. AddsGiven t c.in-Add.path v own (string_bytes s)))) c.as_str-old.ensures.value
+    (subst (λ (ts : List Text). IfOk r (λ n. IfSome n (λ s. AddsGiven old ts v own (string_bytes s)))) c.as_ptr.ensures.tokens c.add_given.ensures.bytes))
+
+pub returns-in-Remove-clause-bytes : goal.returns-in-Remove-clause-bytes
+returns-in-Remove-clause-bytes c =
+    let r = c.delete_in_place.result in
+    let old = c.as_str-old.result.now in
+    let own = c.args.raw.now.text in
+    subst (λ (o : Operation). IfOk r (λ n. IfSome n (λ s. GivenBytes (string_bytes c.args.text) o own (string_bytes s)))) (sym c.in-Remove.is)
+    (subst (λ (t : Text). IfOk r (λ n. IfSome n (λ s. DeletesBytes t c.in-Remove.path (string_bytes s)))) c.as_str-old.ensures.value
+    (subst (λ (ts : List Text). IfOk r (λ n. IfSome n (λ s. DeletesBytes old ts (string_bytes s)))) c.as_ptr-in-Remove.ensures.tokens c.delete_in_place.ensures.bytes))
+
+pub returns-in-Replace-clause-bytes : goal.returns-in-Replace-clause-bytes
+returns-in-Replace-clause-bytes c =
+    let r = c.replace_given.result in
+    let old = c.as_str-old.result.now in
+    let own = c.args.raw.now.text in
+    let v = view c.in-Replace.value in
+    subst (λ (o : Operation). IfOk r (λ n. IfSome n (λ s. GivenBytes (string_bytes c.args.text) o own (string_bytes s)))) (sym c.in-Replace.is)
+    (subst (λ (t : Text). IfOk r (λ n. IfSome n (λ s. ReplacesGiven t c.in-Replace.path v own (string_bytes s)))) c.as_str-old.ensures.value
+    (subst (λ (ts : List Text). IfOk r (λ n. IfSome n (λ s. ReplacesGiven old ts v own (string_bytes s)))) c.as_ptr-in-Replace.ensures.tokens c.replace_given.ensures.bytes))
+
 pub returns-in-Move-clause-bytes : goal.returns-in-Move-clause-bytes
 returns-in-Move-clause-bytes c =
     let r = c.move_value.result in
     let old = c.as_str-old.result.now in
+    let own = c.args.raw.now.text in
     let from = tokens c.as_ptr-in-Move.result in
-    subst (λ (o : Operation). IfOk r (λ n. IfSome n (λ s. OperationBytes (string_bytes c.args.text) o (string_bytes s)))) (sym c.in-Move.is)
+    subst (λ (o : Operation). IfOk r (λ n. IfSome n (λ s. GivenBytes (string_bytes c.args.text) o own (string_bytes s)))) (sym c.in-Move.is)
     (subst (λ (t : Text). IfOk r (λ n. IfSome n (λ s. MovesBytes t c.in-Move.from c.in-Move.path (string_bytes s)))) c.as_str-old.ensures.value
     (subst (λ (ts : List Text). IfOk r (λ n. IfSome n (λ s. MovesBytes old ts c.in-Move.path (string_bytes s)))) c.as_ptr-in-Move.ensures.tokens
     (subst (λ (ts : List Text). IfOk r (λ n. IfSome n (λ s. MovesBytes old from ts (string_bytes s)))) c.as_ptr-in-Move-2.ensures.tokens c.move_value.ensures.bytes)))
@@ -47,13 +100,12 @@ pub returns-in-Copy-clause-bytes : goal.returns-in-Copy-clause-bytes
 returns-in-Copy-clause-bytes c =
     let r = c.copy_value.result in
     let old = c.as_str-old.result.now in
+    let own = c.args.raw.now.text in
     let from = tokens c.as_ptr-in-Copy.result in
-    subst (λ (o : Operation). IfOk r (λ n. IfSome n (λ s. OperationBytes (string_bytes c.args.text) o (string_bytes s)))) (sym c.in-Copy.is)
+    subst (λ (o : Operation). IfOk r (λ n. IfSome n (λ s. GivenBytes (string_bytes c.args.text) o own (string_bytes s)))) (sym c.in-Copy.is)
     (subst (λ (t : Text). IfOk r (λ n. IfSome n (λ s. CopiesBytes t c.in-Copy.from c.in-Copy.path (string_bytes s)))) c.as_str-old.ensures.value
     (subst (λ (ts : List Text). IfOk r (λ n. IfSome n (λ s. CopiesBytes old ts c.in-Copy.path (string_bytes s)))) c.as_ptr-in-Copy.ensures.tokens
     (subst (λ (ts : List Text). IfOk r (λ n. IfSome n (λ s. CopiesBytes old from ts (string_bytes s)))) c.as_ptr-in-Copy-2.ensures.tokens c.copy_value.ensures.bytes)))
 
-pub returns-then-branch-clause-applied : goal.returns-then-branch-clause-applied
-returns-then-branch-clause-applied c =
-    subst (λ (o : Operation). OperatesInText (string_bytes c.args.text) o (string_bytes c.args.text)) (sym c.in-Test.is)
-    (tests (string_bytes c.args.text) c.as_str-old.result.now (tokens c.as_ptr-in-Test.result) c.in-Test.path c.in-Test.value c.as_str-old.ensures.value c.as_ptr-in-Test.ensures.tokens (c.in_ok-passes-in-Test.ensures c.if-branch.true))
+pub returns-then-branch-clause-bytes : goal.returns-then-branch-clause-bytes
+returns-then-branch-clause-bytes c = subst (λ (o : Operation). GivenBytes (string_bytes c.args.text) o c.args.raw.now.text (string_bytes c.args.text)) (sym c.in-Test.is) refl

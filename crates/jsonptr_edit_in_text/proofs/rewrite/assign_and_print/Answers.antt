@@ -1,4 +1,4 @@
-use Rattle.std.proofs.Common.{List, rules}
+use Rattle.std.proofs.Common.{rules}
 use Rattle.serde_json.specs.View.{view}
 use Rattle.jsonptr.specs.Assign.{RefusesAssign}
 use Rattle.jsonptr.specs.Json.{nodes}

@@ -1,9 +1,8 @@
-use Rattle.std.proofs.Common.{◌≡◌, ℕ, ◌<◌, List, ◌∷◌, Some, None, refl, sym, ap, ◌∙◌, subst, arith}
+use Rattle.std.proofs.Common.{◌≡◌, ℕ, ◌<◌, List, Some, None, refl, sym, ◌∙◌, subst}
 use Rattle.serde_json.specs.declared.value.Value.{Object}
 use Rattle.jsonptr_grammar.specs.Text.{Text, HasNoTilde, text}
 use Rattle.jsonptr_tree.specs.Content.{child}
 use Rattle.jsonptr_tree.specs.Node.{key, place}
-use Rattle.jsonptr.specs.Pointer.{tokens}
 use Rattle.jsonptr_journal.specs.Location.{contents_of}
 use Rattle.jsonptr_journal.specs.Writing.{write_step}
 use Rattle.jsonptr_journal.specs.PrivateTokenStep.{IsTokenAt}

@@ -2,7 +2,7 @@ use Rattle.std.proofs.Common.{◌≡◌, [], ◌∷◌, length, rules}
 use Rattle.serde_json.specs.View.{view}
 use Rattle.jsonptr.specs.Json.{nodes}
 use Rattle.jsonptr_walk.proofs.FollowLemmas.{refused_on}
-use Rattle.jsonptr_patch.proofs.LaterLemmas.{refused_last}
+use Rattle.jsonptr_patch.proofs.LaterLemmas.{refused_last, records_both}
 use Rattle.jsonptr_patch.proofs.OperatingLemmas.{ok_all, patches_push_by, refused_all, refused_longer}
 use Rattle.jsonptr_patch.proofs.patch.apply_all.Goals as goal
 
@@ -19,3 +19,6 @@ returns-clause-refused c =
     let counted : c.len-number.result ≡ length c.args.operations.items = search (rules, c.len-number.ensures) in
     let done = c.in_ok-record_all.ensures.applied in
     refused_all c.finish.result _ _ (λ e r. refused_last c.args.comparison (nodes (view c.args.doc.now)) done.0 c.args.operations.items c.args.last _ e counted done.1 (r done.0 done.2)) c.finish.ensures.refused
+
+pub returns-clause-undone : goal.returns-clause-undone
+returns-clause-undone c = records_both c.args.doc.now c.record_all.new.doc c.finish.new.doc c.args.journal.now c.record_all.new.journal c.finish.new.journal c.finish.result c.in_ok-record_all.ensures.undone c.finish.ensures.undone

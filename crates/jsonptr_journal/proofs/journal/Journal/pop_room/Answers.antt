@@ -20,6 +20,6 @@ returns-then-is_same c =
     let room : length c.pop.new.self.items < vec_capacity c.pop.new.self = search (rules, c.pop.ensures, c.in-Some-RemovedMembers.ensures, c.pop.new.self.ok, c.args.self.now.entries.ok) in (
       room,
       λ was d undone.
-          let r = chain_less es e was d (subst (λ (xs : List Entry). Chain xs was d) all undone) in
-          (r.0, r.1, subst (λ (p : Path). At p (LeavesMembers (members_of c.in-Some-RemovedMembers.room)) r.0 d) same r.2),
+          let r = chain_less es e undone.between d (subst (λ (xs : List Entry). Chain xs undone.between d) all undone.page) in
+          (r.0, record { between = undone.between; pages = undone.pages; page = r.1 }, subst (λ (p : Path). At p (LeavesMembers (members_of c.in-Some-RemovedMembers.room)) r.0 d) same r.2),
     )

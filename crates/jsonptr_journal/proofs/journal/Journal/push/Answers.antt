@@ -5,5 +5,8 @@ use Rattle.jsonptr_journal.proofs.ChainLemmas.{chain_more}
 use Rattle.jsonptr_journal.proofs.journal.Journal.push.Goals as goal
 
 pub returns : goal.returns
-returns c = λ was b d undone undoes.
-    subst (λ (es : List Entry). Chain es was d) (sym c.push_reserved.ensures.items) (chain_more c.args.self.now.entries.items c.args.entry was b d undone undoes)
+returns c = λ was b d undone undoes. record {
+  between = undone.between;
+  pages = undone.pages;
+  page = subst (λ (es : List Entry). Chain es undone.between d) (sym c.push_reserved.ensures.items) (chain_more c.args.self.now.entries.items c.args.entry undone.between b d undone.page undoes);
+}

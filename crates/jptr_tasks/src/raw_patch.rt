@@ -1,0 +1,20 @@
+//! A patch document, with the texts of its values.
+ghost use Rattle.serde_json.specs.View.{view};
+ghost use Rattle.jsonptr_patch_document.specs.Document.{IsPatch};
+ghost use Rattle.jsonptr_edit_in_text.specs.RawPatching.{operations_in};
+ghost use Rattle.jptr_tasks.specs.PrivatePatches.{IsPatch-prop};
+
+use jsonptr_edit_in_text::RawOperation;
+use serde_json::Value;
+
+/// A patch document (RFC 6902), and its operations with the texts of their values.
+///
+/// [`raw_patch`](crate::patching::raw_patch) reads one.
+#[derive(Debug, Drop)]
+pub struct RawPatch {
+    /// The document.
+    pub document: Value,
+    /// Its operations. Where an `add` or a `replace` has a text, that is what is put into a document.
+    pub operations: Vec<RawOperation>,
+    pub ghost is_patch: { IsPatch (view document) (operations_in operations.items) } by { IsPatch-prop (view document) (operations_in operations.items) },
+}

@@ -1,0 +1,85 @@
+-- The operations of a patch with the texts of their values.
+use Rattle.std.proofs.Common.{◌≡◌, List, [], ◌∷◌, ◌++◌, Option, Some, None, String, Result, Ok, Err, IfOk, IfSome, string_bytes, refl, sym, subst}
+use Rattle.std.specs.declared.alloc.AllocError.{AllocError}
+use Rattle.std.specs.declared.alloc.Global.{Global}
+use Rattle.serde_json.specs.Data.{Data}
+use Rattle.serde_json.specs.View.{view}
+use Rattle.serde_json.specs.declared.value.Value.{Value}
+use Rattle.jsonptr_grammar.specs.Text.{Text}
+use Rattle.jsonptr_patch.specs.declared.operation.Operation.{Operation}
+use Rattle.jsonptr_patch.specs.declared.operation.Operation.TheVariants.{Add, Remove, Replace, Move, Copy, Test}
+use Rattle.jsonptr_patch.specs.declared.operation.PatchError.{PatchError}
+use Rattle.jsonptr_edit_in_text.specs.Bytes.{KeepsBytes, ReplacesBytes}
+use Rattle.jsonptr_edit_in_text.specs.Carrying.{value_of}
+use Rattle.jsonptr_edit_in_text.specs.Fitting.{IsTextOf, Fits}
+use Rattle.jsonptr_edit_in_text.specs.PatchInText.{AddsAtBytes, OperationBytes, PatchBytes}
+use Rattle.jsonptr_edit_in_text.specs.RawPatching.{operations_in, AddsGiven, ReplacesGiven, GivenBytes, RawPatchBytes}
+use Rattle.jsonptr_edit_in_text.specs.declared.edited.Edited.{Edited}
+use Rattle.jsonptr_edit_in_text.specs.declared.edited.Edited.TheVariants.{InPlace, Rewritten}
+use Rattle.jsonptr_edit_in_text.specs.declared.edited.EditError.{EditError}
+use Rattle.jsonptr_edit_in_text.specs.declared.raw_operation.RawOperation.{RawOperation}
+use Rattle.jsonptr_edit_in_text.specs.declared.raw_value.RawValue.{RawValue}
+use Rattle.jsonptr_edit_in_text.proofs.EditLemmas.{if_new}
+
+-- ---- bytes
+
+pub raw_bytes_push : (old mid new : Text) (rs : List RawOperation) (r : RawOperation) → RawPatchBytes old rs mid → GivenBytes mid r.operation r.text new → RawPatchBytes old (rs ++ r ∷ []) new
+raw_bytes_push old mid new [] r h last = (new, subst (λ (t : Text). GivenBytes t r.operation r.text new) h last, refl)
+raw_bytes_push old mid new (q ∷ rs) r h last = (h.0, h.1, raw_bytes_push h.0 mid new rs r h.2 last)
+
+-- the texts of values left aside, the bytes are those of the operations
+bytes_of : (old : Text) (o : Operation) (text : Option RawValue) (new : Text) → GivenBytes old o text new → OperationBytes old o new
+bytes_of old (Add path value) text new h = h.0
+bytes_of old (Remove path) text new h = h
+bytes_of old (Replace path value) text new h = h.0
+bytes_of old (Move from path) text new h = h
+bytes_of old (Copy from path) text new h = h
+bytes_of old (Test path value) text new h = h
+
+pub patch_bytes : (old new : Text) (rs : List RawOperation) → RawPatchBytes old rs new → PatchBytes old (operations_in rs) new
+patch_bytes old new [] h = h
+patch_bytes old new (r ∷ rs) h = (h.0, bytes_of old r.operation r.text h.0 h.1, patch_bytes h.0 new rs h.2)
+
+pub kept_bytes : (r : Result Edited (EditError PatchError)) (old : Text) (rs : List RawOperation) (os : List Operation) → operations_in rs ≡ os → IfOk r (KeepsBytes (RawPatchBytes old rs)) → IfOk r (KeepsBytes (PatchBytes old os))
+kept_bytes (Err e) old rs os same h = h
+kept_bytes (Ok (InPlace s)) old rs os same h = subst (λ (l : List Operation). PatchBytes old l (string_bytes s)) same (patch_bytes old (string_bytes s) rs h)
+kept_bytes (Ok (Rewritten s)) old rs os same h = h
+
+-- ---- one operation
+
+-- a text that comes with a value is one of it
+pub text_is : (value : Value) (text : Option RawValue) (raw : RawValue) → text ≡ Some raw → IsTextOf value text → value_of raw ≡ view value
+text_is value text raw is h = subst (λ (o : Option RawValue). IsTextOf value o) is h
+
+pub adds_some : (r : Result (Option (String Global)) AllocError) (old : Text) (ts : List Text) (value : Value) (text : Option RawValue) (raw : RawValue) → text ≡ Some raw → IsTextOf value text
+    → IfOk r (λ n. IfSome n (λ s. AddsGiven old ts (value_of raw) (Some raw) (string_bytes s))) → IfOk r (λ n. IfSome n (λ s. AddsGiven old ts (view value) text (string_bytes s)))
+adds_some r old ts value text raw is of h =
+    subst (λ (o : Option RawValue). IfOk r (λ n. IfSome n (λ s. AddsGiven old ts (view value) o (string_bytes s)))) (sym is)
+    (subst (λ (d : Data). IfOk r (λ n. IfSome n (λ s. AddsGiven old ts d (Some raw) (string_bytes s)))) (text_is value text raw is of) h)
+
+pub adds_none : (r : Result (Option (String Global)) AllocError) (old : Text) (ts : List Text) (value : Value) (text : Option RawValue) → text ≡ None
+    → IfOk r (λ n. IfSome n (λ s. AddsAtBytes old ts (view value) (string_bytes s))) → IfOk r (λ n. IfSome n (λ s. AddsGiven old ts (view value) text (string_bytes s)))
+adds_none r old ts value text is h =
+    subst (λ (o : Option RawValue). IfOk r (λ n. IfSome n (λ s. AddsGiven old ts (view value) o (string_bytes s)))) (sym is)
+    (if_new r (λ s. AddsAtBytes old ts (view value) (string_bytes s)) (λ s. AddsGiven old ts (view value) None (string_bytes s)) (λ s b. (b, tt)) h)
+
+pub replaces_some : (r : Result (Option (String Global)) AllocError) (old : Text) (ts : List Text) (value : Value) (text : Option RawValue) (raw : RawValue) → text ≡ Some raw → IsTextOf value text
+    → IfOk r (λ n. IfSome n (λ s. ReplacesGiven old ts (value_of raw) (Some raw) (string_bytes s))) → IfOk r (λ n. IfSome n (λ s. ReplacesGiven old ts (view value) text (string_bytes s)))
+replaces_some r old ts value text raw is of h =
+    subst (λ (o : Option RawValue). IfOk r (λ n. IfSome n (λ s. ReplacesGiven old ts (view value) o (string_bytes s)))) (sym is)
+    (subst (λ (d : Data). IfOk r (λ n. IfSome n (λ s. ReplacesGiven old ts d (Some raw) (string_bytes s)))) (text_is value text raw is of) h)
+
+pub replaces_none : (r : Result (Option (String Global)) AllocError) (old : Text) (ts : List Text) (value : Value) (text : Option RawValue) → text ≡ None
+    → IfOk r (λ n. IfSome n (λ s. ReplacesBytes old (string_bytes s) ts (view value))) → IfOk r (λ n. IfSome n (λ s. ReplacesGiven old ts (view value) text (string_bytes s)))
+replaces_none r old ts value text is h =
+    subst (λ (o : Option RawValue). IfOk r (λ n. IfSome n (λ s. ReplacesGiven old ts (view value) o (string_bytes s)))) (sym is)
+    (if_new r (λ s. ReplacesBytes old (string_bytes s) ts (view value)) (λ s. ReplacesGiven old ts (view value) None (string_bytes s)) (λ s b. (b, tt)) h)
+
+-- no text fits each operation
+pub fits_none : (o : Operation) → Fits o None
+fits_none (Add path value) = tt
+fits_none (Remove path) = tt
+fits_none (Replace path value) = tt
+fits_none (Move from path) = tt
+fits_none (Copy from path) = tt
+fits_none (Test path value) = tt

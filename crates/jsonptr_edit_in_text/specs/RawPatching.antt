@@ -1,0 +1,52 @@
+-- The bytes that a patch changes whose values bring their own texts.
+use Rattle.std.specs.Prelude.{◌≡◌, List, [], ◌∷◌, Option, Some, map, IfSome, IsTrue, string_bytes}
+use Rattle.serde_json.specs.Data.{Data}
+use Rattle.serde_json.specs.View.{view}
+use Rattle.jsonptr_grammar.specs.Text.{Text}
+use Rattle.jsonptr_patch.specs.declared.operation.Operation.{Operation}
+use Rattle.jsonptr_patch.specs.declared.operation.Operation.TheVariants.{Add, Remove, Replace, Move, Copy, Test}
+use Rattle.jsonptr_json_edits.specs.Alike.{Holds}
+use Rattle.jsonptr_edit_in_text.specs.Bytes.{ReplacesBytes, DeletesBytes}
+use Rattle.jsonptr_edit_in_text.specs.Fitting.{brings_value}
+use Rattle.jsonptr_edit_in_text.specs.PatchInText.{AddsAtBytes, added_piece, MovesBytes, CopiesBytes}
+use Rattle.jsonptr_edit_in_text.specs.declared.raw_operation.RawOperation.{RawOperation}
+use Rattle.jsonptr_edit_in_text.specs.declared.raw_value.RawValue.{RawValue}
+
+-- `operations_in rs` are the operations of `rs`, without the texts of their values
+abbrev pub operations_in : List RawOperation → List Operation
+operations_in rs = map (λ r. r.operation) rs
+
+-- `HoldsText text piece`: if there is a text, a part of `piece` has its tokens, one for one
+abbrev pub HoldsText : Option RawValue → Text → Type 0
+HoldsText text piece = IfSome text (λ raw. Holds (string_bytes raw.text.flat) piece)
+
+-- `AddsGiven old tokens e text new`: the value `e` is added, and what is put into the text `old` holds the text of the value,
+-- if there is one
+abbrev pub AddsGiven : Text → List Text → Data → Option RawValue → Text → Type 0
+AddsGiven old tokens e text new = (b : AddsAtBytes old tokens e new) × HoldsText text (added_piece old tokens e new b)
+
+-- `ReplacesGiven old tokens e text new`: the same for a value that is replaced by `e`
+abbrev pub ReplacesGiven : Text → List Text → Data → Option RawValue → Text → Type 0
+ReplacesGiven old tokens e text new = (b : ReplacesBytes old new tokens e) × HoldsText text b.piece
+
+-- `GivenBytes old o text new`: which bytes of the text `old` the operation `o` changes, as `OperationBytes` says it. What it
+-- puts there holds the text of its value, if there is one
+abbrev pub GivenBytes : Text → Operation → Option RawValue → Text → Type 0
+GivenBytes old (Add path value) text new = AddsGiven old path (view value) text new
+GivenBytes old (Remove path) text new = DeletesBytes old path new
+GivenBytes old (Replace path value) text new = ReplacesGiven old path (view value) text new
+GivenBytes old (Move from path) text new = MovesBytes old from path new
+GivenBytes old (Copy from path) text new = CopiesBytes old from path new
+GivenBytes old (Test path value) text new = new ≡ old
+
+-- `RawPatchBytes old rs new`: which bytes the operations `rs` change, each in the text that the one before left
+abbrev pub RawPatchBytes : Text → List RawOperation → Text → Type 0
+RawPatchBytes old [] new = new ≡ old
+RawPatchBytes old (r ∷ rs) new = (mid : Text) × GivenBytes old r.operation r.text mid × RawPatchBytes mid rs new
+
+-- `IsGivenIn text r`: if the operation of `r` puts a value into the document, a text comes with it. It has the tokens of a
+-- part of `text`, one for one
+abbrev pub IsGivenIn : Text → RawOperation → Type 0
+IsGivenIn text r =
+    IsTrue (brings_value r.operation)
+    → (raw : RawValue) × (r.text ≡ Some raw) × Holds (string_bytes raw.text.flat) text

@@ -1,0 +1,86 @@
+//! The strings of a text, with their escapes as they are written.
+ghost use Rattle.std.specs.Prelude.{◌≡◌, IfOk, string_bytes};
+ghost use Rattle.json.specs.Lex.{tokens as lexed};
+
+use jsonptr_json_edits::buffers::Buffers;
+use jsonptr_json_edits::child::is_value_of;
+use jsonptr_json_edits::layout::{ValueText, slice};
+use jsonptr_json_edits::locate::Span;
+use std::alloc::{AllocError, Global};
+
+/// Returns the text, whose last tokens are those of `written`, with each of their strings as it is written
+/// there. Brackets may follow them. Returns the text itself if that fails.
+///
+/// # Errors
+///
+/// [`AllocError`] if an allocation fails.
+pub fn as_written(alloc: Global, text: ValueText, written: &str) -> Result<ValueText, AllocError>
+    ensures { IfOk result (λ t. lexed (string_bytes t.flat) ≡ lexed (string_bytes text.flat)) }
+{
+    if !has_escape(written) {
+        return Ok(text);
+    }
+    let flat = with_strings(alloc, text.flat.as_str(), written)?;
+    let mut buffers = Buffers::new(alloc);
+    if is_value_of(&mut buffers, flat.as_str(), text.flat.as_str())? {
+        let lines = with_strings(alloc, text.lines.as_str(), written)?;
+        Ok(ValueText { flat, lines })
+    } else {
+        Ok(text)
+    }
+}
+
+/// Returns whether a string of the text may have an escape.
+fn has_escape(text: &str) -> bool {
+    text.contains('\\')
+}
+
+/// Returns the text with its last strings replaced by those of the other one, in order.
+fn with_strings(alloc: Global, text: &str, written: &str) -> Result<String, AllocError> {
+    let own = strings_in(alloc, written)?;
+    let spans = strings_in(alloc, text)?;
+    let others = spans.len().saturating_sub(own.len());
+    let mut new = String::new(alloc);
+    let mut end = 0usize;
+    for (index, span) in spans.iter().enumerate() {
+        new.push_str(slice(text, end, span.from))?;
+        match index.checked_sub(others) {
+            Some(position) => new.push_str(string_at(written, &own, position))?,
+            None => new.push_str(slice(text, span.from, span.to))?,
+        }
+        end = span.to;
+    }
+    new.push_str(slice(text, end, text.len()))?;
+    Ok(new)
+}
+
+/// Returns the string at the position, or an empty text if there is none.
+fn string_at<'t>(text: &'t str, strings: &[Span], position: usize) -> &'t str {
+    match strings.get(position) {
+        Some(span) => slice(text, span.from, span.to),
+        None => "",
+    }
+}
+
+/// Returns where the strings of the text are, with their quotation marks.
+fn strings_in(alloc: Global, text: &str) -> Result<Vec<Span>, AllocError> {
+    let mut spans = Vec::new(alloc);
+    let mut from = 0usize;
+    let mut is_inside = false;
+    let mut is_escaped = false;
+    for (offset, byte) in text.as_bytes().iter().enumerate() {
+        if is_escaped {
+            is_escaped = false;
+        } else if *byte == b'"' {
+            if is_inside {
+                let to = offset.saturating_add(1);
+                spans.push(Span { from, to })?;
+            }
+            from = offset;
+            is_inside = !is_inside;
+        } else {
+            is_escaped = is_inside && *byte == b'\\';
+        }
+    }
+    Ok(spans)
+}

@@ -1,0 +1,294 @@
+//! The texts of the values of a patch.
+ghost use Rattle.std.specs.Prelude.{◌≡◌, ◌∷◌, ◌++◌, [], Some, None, false, All, IfOk, IfSome, IsTrue, string_bytes};
+ghost use Rattle.serde_json.specs.View.{view};
+ghost use Rattle.jsonptr_json_edits.specs.Alike.{Holds};
+ghost use Rattle.jsonptr_edit_in_text.specs.Carrying.{value_of};
+ghost use Rattle.jsonptr_edit_in_text.specs.Fitting.{Fits, brings_value};
+ghost use Rattle.jsonptr_edit_in_text.specs.RawPatching.{operations_in, IsGivenIn};
+ghost use Rattle.jsonptr_edit_in_text.specs.declared.raw_value.RawValue.{RawValue};
+
+use crate::place::{children_of, place_of};
+use crate::raw_operation::RawOperation;
+use crate::raw_value::RawValue;
+use jsonptr_in_text::InTextError;
+use jsonptr_json_edits::buffers::Buffers;
+use jsonptr_json_edits::cut::cut_at;
+use jsonptr_json_edits::layout::slice;
+use jsonptr_json_edits::locate::{Extent, Span};
+use jsonptr_json_edits::spacing::is_trimmed;
+use jsonptr_json_search::selector::Selector;
+use jsonptr_patch::Operation;
+use serde_json::Value;
+use std::alloc::{AllocError, Global};
+
+/// Returns the operations, each with the text of its value in the text of the patch document that they
+/// were read from. Returns `None` if such a text is not found.
+///
+/// Each `add` and each `replace` gets a text. It has its members in their order, and its numbers as
+/// they are written. It comes from the last member `value` of the object of the operation, and is read
+/// as exactly the value of the operation. No patch document is known with a text that is not found.
+///
+/// Takes time linear in the text.
+///
+/// # Errors
+///
+/// [`AllocError`] if an allocation fails.
+///
+/// # Examples
+///
+/// ```rust
+/// let document = "[{\"op\": \"add\", \"path\": \"/-\", \"value\": {\"b\": 1.10, \"a\": 1e5}}]";
+/// let patch = read_patch(alloc, &Value::from_str(alloc, document)?)?;
+/// let mut buffers = Buffers::new(alloc);
+/// let patch = raw_operations(alloc, &mut buffers, document, patch)?.ok_or("a text")?;
+/// let edited = apply_raw_in_text_with(alloc, &mut buffers, "[]", patch)?;
+/// assert_eq!(rt; edited.as_str(), "[{\"b\":1.10,\"a\":1e5}]");
+/// ```
+pub fn raw_operations(
+    alloc: Global,
+    buffers: &mut Buffers,
+    text: &str,
+    operations: Vec<Operation>,
+) -> Result<Option<Vec<RawOperation>>, AllocError>
+    ensures same { IfOk result (λ found. IfSome found
+        (λ raws. operations_in raws.items ≡ operations.items)) }
+    ensures texts { IfOk result (λ found. IfSome found
+        (λ raws. All (IsGivenIn text.now) raws.items)) }
+{
+    let elements = elements_of(alloc, buffers, text)?;
+    let selectors = value_selectors(alloc)?;
+    let mut raws = Vec::new(alloc);
+    let mut index = 0usize;
+    for operation in operations {
+        let own = own_text(alloc, buffers, text, child_at(&elements, index), &selectors)?;
+        let Some(raw) = with_own(alloc, operation, own)? else {
+            return Ok(None);
+        };
+        keep(&mut raws, raw)?;
+        index = index.saturating_add(1);
+    }
+    Ok(Some(raws))
+}
+
+/// Returns the operation with the text that was found for it, or `None` if it needs one and there is
+/// none, or one of another value.
+fn with_own(
+    alloc: Global,
+    operation: Operation,
+    own: Option<RawValue>,
+) -> Result<Option<RawOperation>, AllocError>
+    ensures operation { IfOk result (λ o. IfSome o (λ raw. raw.operation ≡ operation)) }
+    ensures text { IfOk result (λ o. IfSome o (λ raw. IsTrue (brings_value operation)
+        → (given : RawValue) × (own ≡ Some given) × (raw.text ≡ Some given))) }
+{
+    match own {
+        Some(text) => RawOperation::with_text(alloc, operation, text),
+        None => Ok(bare(operation)),
+    }
+}
+
+/// Returns the operation, or `None` if it puts a value of its own into a document.
+fn bare(operation: Operation) -> Option<RawOperation>
+    ensures operation { IfSome result (λ raw. raw.operation ≡ operation) }
+    ensures bare { IfSome result (λ raw. brings_value operation ≡ false) }
+{
+    if brings(&operation) {
+        None
+    } else {
+        Some(RawOperation::new(operation))
+    }
+}
+
+/// Returns whether the operation puts a value of its own into a document.
+fn brings(operation: &Operation) -> bool
+    ensures { result ≡ brings_value operation.now }
+{
+    match operation {
+        Operation::Add { path: _, value: _ } => true,
+        Operation::Remove { path: _ } => false,
+        Operation::Replace { path: _, value: _ } => true,
+        Operation::Move { from: _, path: _ } => false,
+        Operation::Copy { from: _, path: _ } => false,
+        Operation::Test { path: _, value: _ } => false,
+    }
+}
+
+/// Returns where the elements of the array are that the text is, or none if it is not an array.
+fn elements_of(
+    alloc: Global,
+    buffers: &mut Buffers,
+    text: &str,
+) -> Result<Vec<Extent>, AllocError> {
+    let all = Span {
+        from: 0,
+        to: text.len(),
+    };
+    match children_of(alloc, buffers, text, all)? {
+        Some(elements) => Ok(elements),
+        None => Ok(Vec::new(alloc)),
+    }
+}
+
+/// Returns the selector of a member `value`.
+fn value_selectors(alloc: Global) -> Result<Vec<Selector>, AllocError> {
+    let key = String::from_str(alloc, "value")?;
+    Ok(vec![in alloc; Selector { key, index: None }]?)
+}
+
+/// Returns where the element at the index is, or nothing at the start of the text.
+fn child_at(elements: &[Extent], index: usize) -> Span {
+    match elements.get(index) {
+        Some(element) => element.child,
+        None => Span { from: 0, to: 0 },
+    }
+}
+
+/// Returns the text of the value to which the selectors lead in the object at the span.
+fn own_text(
+    alloc: Global,
+    buffers: &mut Buffers,
+    text: &str,
+    object: Span,
+    selectors: &[Selector],
+) -> Result<Option<RawValue>, AllocError>
+    ensures { IfOk result (λ own. IfSome own (λ raw. Holds (string_bytes raw.text.flat) text.now)) }
+{
+    let there = slice(text, object.from, object.to);
+    let Some(place) = place_of(alloc, buffers, there, selectors)? else {
+        return Ok(None);
+    };
+    if place.followed == 0 {
+        return Ok(None);
+    }
+    let from = object.from.saturating_add(place.value.from);
+    let to = object.from.saturating_add(place.value.to);
+    let Some(cut) = cut_at(text, from, to) else {
+        return Ok(None);
+    };
+    if !is_trimmed(cut.was) {
+        return Ok(None);
+    }
+    match RawValue::parse(alloc, cut.was) {
+        Ok(raw) => Ok(Some(raw)),
+        Err(InTextError::Memory(error)) => Err(error),
+        Err(InTextError::NotJson) => Ok(None),
+        Err(InTextError::Resolve(_error)) => Ok(None),
+    }
+}
+
+/// Returns the operations without texts.
+pub fn without_texts(
+    alloc: Global,
+    operations: Vec<Operation>,
+) -> Result<Vec<RawOperation>, AllocError>
+    ensures { IfOk result (λ raws. operations_in raws.items ≡ operations.items) }
+{
+    let mut raws = Vec::new(alloc);
+    for operation in operations {
+        keep(&mut raws, RawOperation::new(operation))?;
+    }
+    Ok(raws)
+}
+
+/// Returns the operations alone.
+pub fn plain(alloc: Global, raws: Vec<RawOperation>) -> Result<Vec<Operation>, AllocError>
+    ensures { IfOk result (λ operations. operations.items ≡ operations_in raws.items) }
+{
+    let mut operations = Vec::new(alloc);
+    for raw in raws {
+        operations.push(raw.operation)?;
+    }
+    Ok(operations)
+}
+
+/// Appends an operation.
+fn keep(raws: &mut Vec<RawOperation>, raw: RawOperation) -> Result<(), AllocError>
+    ensures { IfOk result (λ _. raws.new.items ≡ raws.old.items ++ raw ∷ []) }
+{
+    raws.push(raw)?;
+    Ok(())
+}
+
+impl RawOperation {
+    /// Returns the operation with no text, so that its value is printed.
+    ///
+    /// # Examples
+    ///
+    /// ```rust
+    /// let remove = Operation::Remove { path: PointerBuf::from_text(alloc, "/a")? };
+    /// assert!(rt; RawOperation::new(remove).text.is_none());
+    /// ```
+    pub fn new(operation: Operation) -> RawOperation
+        ensures operation { result.operation ≡ operation }
+        ensures text { result.text ≡ None }
+    {
+        let text = None;
+        RawOperation { operation, text }
+    }
+
+    /// Returns the operation with the text of its value, or `None` if the text is not read as exactly
+    /// that value. Only the text of an `add` and of a `replace` is looked at.
+    ///
+    /// # Errors
+    ///
+    /// [`AllocError`] if an allocation fails.
+    ///
+    /// # Examples
+    ///
+    /// ```rust
+    /// let path = PointerBuf::from_text(alloc, "/price")?;
+    /// let add = Operation::Add { path, value: json!(in alloc; 1.1)? };
+    /// let own = RawValue::parse(alloc, "1.10")?;
+    /// assert!(rt; RawOperation::with_text(alloc, add, own)?.is_some());
+    /// ```
+    pub fn with_text(
+        alloc: Global,
+        operation: Operation,
+        text: RawValue,
+    ) -> Result<Option<RawOperation>, AllocError>
+        ensures operation { IfOk result (λ o. IfSome o (λ raw. raw.operation ≡ operation)) }
+        ensures text { IfOk result (λ o. IfSome o (λ raw. raw.text ≡ Some text)) }
+    {
+        if !fits(alloc, &operation, &text)? {
+            return Ok(None);
+        }
+        let text = Some(text);
+        Ok(Some(RawOperation { operation, text }))
+    }
+}
+
+/// Returns whether the text is read as the value that the operation puts into a document, if it puts one
+/// there.
+fn fits(alloc: Global, operation: &Operation, text: &RawValue) -> Result<bool, AllocError>
+    ensures { IfOk result (λ b. IsTrue b → Fits operation.now (Some text.now)) }
+{
+    match operation {
+        Operation::Add { path: _, value } => is_text_of(alloc, value, text),
+        Operation::Remove { path: _ } => Ok(true),
+        Operation::Replace { path: _, value } => is_text_of(alloc, value, text),
+        Operation::Move { from: _, path: _ } => Ok(true),
+        Operation::Copy { from: _, path: _ } => Ok(true),
+        Operation::Test { path: _, value: _ } => Ok(true),
+    }
+}
+
+/// Returns whether the text is read as the value: both are printed, and compared.
+fn is_text_of(alloc: Global, value: &Value, text: &RawValue) -> Result<bool, AllocError>
+    ensures { IfOk result (λ b. IsTrue b → value_of text.now ≡ view value.now) }
+{
+    let again = text.to_value(alloc)?;
+    let Some(printed) = RawValue::from_value(alloc, value)? else {
+        return Ok(false);
+    };
+    let Some(other) = RawValue::from_value(alloc, &again)? else {
+        return Ok(false);
+    };
+    Ok(are_equal(printed.text.flat.as_str(), other.text.flat.as_str()))
+}
+
+/// Returns whether the texts are equal.
+fn are_equal(text: &str, other: &str) -> bool
+    ensures { IsTrue result → text.now ≡ other.now }
+{
+    text == other
+}

@@ -1,5 +1,0 @@
-//! Edits in JSON text.
-mod assigning;
-mod deleting;
-mod reused;
-mod strict;
