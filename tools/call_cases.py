@@ -544,10 +544,10 @@ def edits_in_text():
     pretty = '{ "b" : 1.50, "a" : [ 2 ,\t{"c":"\\u0041"} ] }'
     assigned = [
         ("/b", "2", '{ "b" : 2, "a" : [ 2 ,\t{"c":"\\u0041"} ] }'),
-        ("/a/1/c", '{"y":1,"x":[]}', '{ "b" : 1.50, "a" : [ 2 ,\t{"c":{"x":[], "y":1}} ] }'),
-        ("/a/1/c/-/e", "null", '{ "b" : 1.50, "a" : [ 2 ,\t{"c":[ { "e" : null } ]} ] }'),
+        ("/a/1/c", '{"y":1,"x":[]}', '{ "b" : 1.50, "a" : [ 2 ,\t{"c":{"x":[],\t"y":1}} ] }'),
+        ("/a/1/c/-/e", "null", '{ "b" : 1.50, "a" : [ 2 ,\t{"c":[ {"e":null} ]} ] }'),
         ("/a/-", '"x"', '{ "b" : 1.50, "a" : [ 2 ,\t{"c":"\\u0041"},\t"x" ] }'),
-        ("/a/1/d~1/0", "0", '{ "b" : 1.50, "a" : [ 2 ,\t{"c":"\\u0041", "d/":[ 0 ]} ] }'),
+        ("/a/1/d~1/0", "0", '{ "b" : 1.50, "a" : [ 2 ,\t{"c":"\\u0041","d/":[ 0 ]} ] }'),
         ("", "[]", "[]"),
     ]
     for pointer, value, text in assigned:
@@ -613,7 +613,7 @@ def patches_in_text(pretty):
     added = '{ "b" : 1.50, "a" : [ 2 ,\t"x",\t{"c":"\\u0041"} ] }'
     yield edited("apply in text", pretty, answer=f"in place {pretty}")
     yield edited("apply in text", pretty, "add", "/a/1", '"x"', answer=f"in place {added}")
-    moved = '{ "a" : [ 2 ,\t{"c":"\\u0041",\t"d":1.50} ] }'
+    moved = '{ "a" : [ 2 ,\t{"c":"\\u0041","d":1.50} ] }'
     yield edited("apply in text", pretty, "move", "/b", "/a/1/d", answer=f"in place {moved}")
     copied = '{ "b" : 1.50, "a" : [ 2 ,\t{"c":"\\u0041"} ], "e" : [ 2 ,\t{"c":"\\u0041"} ] }'
     yield edited("apply in text", pretty, "copy", "/a", "/e", answer=f"in place {copied}")

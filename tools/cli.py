@@ -16,6 +16,7 @@ from random import Random
 from typing import NamedTuple
 
 from call_cases import RESOLVE_NOT_FOUND
+from edits import spans
 from harness import TOOLS, TOP, CheckFailed, build_shim, program, run_with_shim
 
 PROGRAM = program("jptr")
@@ -43,6 +44,9 @@ class Case(NamedTuple):
 
 TEXT = '{\n  "b": 1.0,\n  "a/b": [1, 2]\n}\n'
 NOT_FOUND = RESOLVE_NOT_FOUND.format(0)
+# Errors of an empty text, and of an open brace.
+EMPTY = "not JSON: expected a value, found the end at line 1 column 1\n\n^\n"
+OPEN = "not JSON: expected a key or `}`, found the end at line 1 column 2\n{\n ^\n"
 
 
 def cases():
@@ -81,12 +85,12 @@ def cases():
     yield Case(("delete", "--compact", "/a~1b/0"), TEXT, '{"b":1.0,"a/b":[2]}\n')
     yield from on_paths()
     patch = '[{"op":"remove","path":"/a"}]'
-    yield Case(("patch", "--check", "-", "/dev/null"), patch, "", "jptr: /dev/null: not JSON: EOF while parsing at line 1 column 0\n", 3)
+    yield Case(("patch", "--check", "-", "/dev/null"), patch, "", f"jptr: /dev/null: {EMPTY}", 3)
     bad = '[{"op":"remove","path":"/a~b"}]'
     message = "not a JSON Patch document: member `path` of operation 0: json pointer failed to parse; the first token in the partial-pointer starting at offset 0 is malformed"
     drawn = "/a~b\n  ^^ '~' must be followed by '0' or '1'"
     yield Case(("patch", "-", "/dev/null"), bad, "", f"jptr: standard input: {message}\n{drawn}\n", 1)
-    yield Case(("diff", "/dev/null", "-"), "1", "", "jptr: /dev/null: not JSON: EOF while parsing at line 1 column 0\n", 3)
+    yield Case(("diff", "/dev/null", "-"), "1", "", f"jptr: /dev/null: {EMPTY}", 3)
     yield Case(("tokens", "/a~1b//~0"), "", '["a/b","","~"]\n')
     yield Case(("tokens", "--raw", "/a~1b/x"), "", "a/b\nx\n")
     yield Case(("tokens", ""), "", "[]\n")
@@ -94,16 +98,129 @@ def cases():
     yield Case(("escape", "--", "-x"), "", "-x\n")
     yield Case(("unescape", "a~1b~0c"), "", "a/b~c\n")
     yield from layouts()
+    yield from locations()
+    yield from nodes()
+    yield from several()
+    yield from unexpanded()
     yield from failing()
 
 
 def layouts():
     """A document in the layout of a file."""
-    yield Case(("relayout", "-", "/dev/null"), TEXT, "", "jptr: /dev/null: not JSON: EOF while parsing at line 1 column 0\n", 3)
-    yield Case(("relayout", "/dev/null"), TEXT, "", "jptr: /dev/null: not JSON: EOF while parsing at line 1 column 0\n", 3)
+    yield Case(("relayout", "-", "/dev/null"), TEXT, "", f"jptr: /dev/null: {EMPTY}", 3)
+    yield Case(("relayout", "/dev/null"), TEXT, "", f"jptr: /dev/null: {EMPTY}", 3)
     yield Case(("relayout", "-"), TEXT, "", "jptr: FILE: standard input cannot be both documents\n", 2)
     yield Case(("relayout", "-", "-"), TEXT, "", "jptr: FILE: standard input cannot be both documents\n", 2)
     yield Case(("relayout", "x.toml"), TEXT, "", "jptr: relayout: not on TOML\n", 2)
+
+
+def locations():
+    """Where a value is, and which value is at a place."""
+    yield Case(("locate", "/a~1b/1"), TEXT, "3:14\n")
+    yield Case(("locate", ""), "\n\n  {}", "3:3\n")
+    yield Case(("locate", "/é/ü"), '{"é": {"ü": 1}}', "1:13\n")
+    yield Case(("locate", "/a"), '{"a": 1, "a": 2}', "1:15\n")
+    yield Case(("locate", "/c"), TEXT, "", f"jptr: standard input: {NOT_FOUND}\n/c\n ^ not found in value\n", 1)
+    yield Case(("locate", "/a"), "{", "", f"jptr: standard input: {OPEN}", 3)
+    yield Case(("locate", "--at", "3:14"), TEXT, "/a~1b/1\n")
+    yield Case(("locate", "--at", "3:13"), TEXT, "/a~1b\n")
+    yield Case(("locate", "--at", "3:4"), TEXT, "\n")
+    yield Case(("locate", "--at", "1:13"), '{"é": {"ü": 1}}', "/é/ü\n")
+    yield Case(("locate", "--at", "1:6"), '{"a": 1, "a": 2}', "\n")
+    yield Case(("locate", "--at", "4:2"), TEXT, "", "jptr: standard input: no value at 4:2\n", 1)
+    yield Case(("locate", "--at", "9:1"), TEXT, "", "jptr: standard input: no value at 9:1\n", 1)
+    yield Case(("locate", "--at", "0:1"), TEXT, "", "jptr: --at: is not LINE:COLUMN, both from 1\n", 2)
+    yield Case(("locate", "--at", "1"), TEXT, "", "jptr: --at: is not LINE:COLUMN, both from 1\n", 2)
+    yield Case(("locate", "--at", "1:1", "/a", "f"), TEXT, "", "jptr: locate: --at takes a file alone\n", 2)
+    yield Case(("locate",), TEXT, "", "jptr: locate: needs a pointer, or --at LINE:COLUMN\n", 2)
+    yield Case(("locate", "/a", "x.toml"), TEXT, "", "jptr: locate: not on TOML\n", 2)
+    yield Case(("locate", "/a", "/dev/null"), TEXT, "", f"jptr: /dev/null: {EMPTY}", 3)
+    yield Case(("locate", "--at", "1:1", "/dev/null"), TEXT, "", f"jptr: /dev/null: {EMPTY}", 3)
+def nodes():
+    """Keys, length and type of a value, and tests of it."""
+    text = '{"z": {"b": 1.0, "a/b": [1, 2], "b": null}, "s": "n\\u00e9\\n", "n": -0.5, "t": true, "": []}'
+    yield Case(("keys", ""), text, '"z"\n"s"\n"n"\n"t"\n""\n')
+    yield Case(("keys", "/z"), text, '"b"\n"a/b"\n')
+    yield Case(("keys", "--raw", "/z"), text, "b\na/b\n")
+    yield Case(("keys", ""), '{"x\\ny": 1, "\\u00e9": {"a": 2}}', '"x\\ny"\n"é"\n')
+    yield Case(("keys", "--raw", ""), '{"x\\ny": 1, "\\u00e9": {"a": 2}}', "x\ny\né\n")
+    yield Case(("keys", "/0", "-"), "[{}]", "")
+    yield Case(("keys", ""), f'{{"a":{"[" * 126}{"]" * 126}}}', '"a"\n')
+    yield Case(("keys", "/0" * 126), f'{"[" * 126}{{"a":1}}{"]" * 126}', '"a"\n')
+    for pointer, kind, length in [("", "object", 5), ("/z", "object", 2), ("/z/a~1b", "array", 2), ("/s", "string", 3), ("/", "array", 0)]:
+        yield Case(("type", pointer), text, f"{kind}\n")
+        yield Case(("length", pointer), text, f"{length}\n")
+    for pointer, kind, named in [("/n", "number", "a number"), ("/t", "boolean", "a boolean"), ("/z/b", "null", "null")]:
+        yield Case(("type", pointer), text, f"{kind}\n")
+        yield Case(("length", pointer), text, "", f"jptr: standard input: {named} has no length\n", 1)
+    for pointer, named in [("/s", "a string"), ("/z/a~1b", "an array"), ("/n", "a number"), ("/t", "a boolean"), ("/z/b", "null")]:
+        yield Case(("keys", pointer), text, "", f"jptr: standard input: {named} has no keys\n", 1)
+    for value, status in [("1", 0), ("1.0", 0), ("1e0", 0), ("2", 1), ("-1", 1), ('"1"', 1), ("null", 1)]:
+        yield Case(("test", "/a~1b/0", value), TEXT, "", "", status)
+    yield Case(("test", "", '{"a/b": [1.0, 2], "b": 1}', "-"), TEXT, "")
+    yield Case(("test", "/s", "--string", "x y"), '{"s":"x y"}', "")
+    yield Case(("test", "/b"), TEXT, "")
+    for words in [("test", "/c"), ("test", "/c", "1"), ("test", "/a~1b/2")]:
+        yield Case(words, TEXT, "", "", 1)
+    for words in [("keys",), ("length",), ("type",)]:
+        yield Case((*words, "/c"), TEXT, "", f"jptr: standard input: {NOT_FOUND}\n/c\n ^ not found in value\n", 1)
+    for words in [("keys", ""), ("length", ""), ("type", ""), ("test", ""), ("test", "", "1")]:
+        yield Case(words, "{", "", f"jptr: standard input: {OPEN}", 3)
+        file = ("x.toml",) if words != ("test", "") else ("1", "x.toml")
+        yield Case((*words, *file), "", "", f"jptr: {words[0]}: not on TOML\n", 2)
+    yield Case(("test", "/b", "x"), TEXT, "", "jptr: JSON: not JSON: expected a value, found `x` at line 1 column 1; a string needs quotes, or --string\nx\n^\n", 3)
+    yield Case(("test", "/b", "@-"), TEXT, "", "jptr: JSON: standard input cannot be the value and the document\n", 2)
+    yield Case(("test", "/b", "@/dev/null"), TEXT, "", f"jptr: /dev/null: {EMPTY}", 3)
+
+
+def several():
+    """Several pointers in one call: all of them apply, or nothing is printed."""
+    yield Case(("get", "/b", "/a~1b", "-"), TEXT, "1.0\n[1, 2]\n")
+    yield Case(("get", "--raw", "/s", "/t/0", "/s", "-"), '{"s": "x\\ny", "t": ["z"]}', "x\ny\nz\nx\ny\n")
+    yield Case(("get", "--default", "null", "/b", "/c", "-"), TEXT, "1.0\nnull\n")
+    yield Case(("get", "--compact", "", "/b", "-"), TEXT, '{"b":1.0,"a/b":[1,2]}\n1.0\n')
+    yield Case(("get", "--indent", "1", "/a~1b", "/b", "-"), TEXT, "[\n 1,\n 2\n]\n1.0\n")
+    yield Case(("get", "/b", "/c", "/d", "-"), TEXT, "", f"jptr: standard input: {NOT_FOUND}\n/c\n ^ not found in value\n", 1)
+    long = '{"a": 1.10, "b": 1e-400}'
+    yield Case(("get", "--sort-keys", "/a", "/b", "-"), long, "", "jptr: standard input: the number loses digits: use --lossy\n", 3)
+    yield Case(("delete", "/a~1b/0", "/a~1b/0", "-"), TEXT, TEXT.replace("1, 2", ""))
+    yield Case(("delete", "/a~1b/0", "/b", "-", "--compact"), TEXT, '{"a/b":[2]}\n')
+    yield Case(("delete", "/b", "/b", "-"), TEXT, "", "jptr: standard input: delete failed: json pointer does not resolve\n", 1)
+    yield Case(("set", "/b", "2", "/a~1b/0", "-3.10"), TEXT, TEXT.replace("1.0", "2").replace("1,", "-3.10,"))
+    yield Case(("set", "/b", "[]", "/b/-", "1e5", "/b/-", "null", "-"), '{"b": 1}', '{"b": [1e5, null]}')
+    yield Case(("set", "--string", "/b", "@-", "/c", "@-", "-", "--compact"), "{}", '{"b":"@-","c":"@-"}\n')
+    yield Case(("set", "--sort-keys", "/c", "1.10", "/a", "2"), '{"b": 1}', '{"a":2,"b":1,"c":1.1}\n')
+    yield Case(("set", "--sort-keys", "/c", "1e-400", "/c", "2"), '{"b": 1}', '{"b":1,"c":2}\n')
+    yield Case(("set", "/c", "1", "/b/5", "2"), '{"b":[]}', "",
+               "jptr: standard input: assign failed: json pointer token at offset 2 is out of bounds\n/b/5\n   ^ 5 is out of bounds (len: 0)\n", 1)
+    yield Case(("set", "/c", "1", "/d", "x", "-"), "{}", "", "jptr: JSON: not JSON: expected a value, found `x` at line 1 column 1; a string needs quotes, or --string\nx\n^\n", 3)
+    yield Case(("set", "/a", "@-", "/b", "@-", "/dev/null"), "1", "", "jptr: JSON: standard input cannot be two values\n", 2)
+    yield Case(("set", "/a", "1", "/b", "@-"), "1", "", "jptr: JSON: standard input cannot be the value and the document\n", 2)
+    no_slash = "json pointer failed to parse; does not start with a slash ('/') and is not empty"
+    yield Case(("get", "/a", "b", "c"), "", "", f"jptr: POINTER: {no_slash}\nb\n^ must start with a slash ('/')\n", 1)
+    for words in [("get", "/a", "/b", "-"), ("delete", "/a", "/b", "-"), ("set", "/a", "1", "/b", "2")]:
+        yield Case((*words, "--lines"), "{}", "", "jptr: --lines: takes one pointer\n", 2)
+        yield Case((*words, "--toml"), "", "", "jptr: POINTER: on TOML, one alone\n", 2)
+
+
+def unexpanded():
+    """Assignments that create no container on the way, and replace no scalar there."""
+    words = ("set", "--no-expand")
+    yield Case((*words, "/b", "2"), TEXT, TEXT.replace("1.0", "2"))
+    yield Case((*words, "/a~1b/-", "3"), TEXT, TEXT.replace("2]", "2, 3]"))
+    yield Case((*words, "/c", "{}", "/c/d", "1", "--compact"), '{"b":1}', '{"b":1,"c":{"d":1}}\n')
+    yield Case((*words, "", "2"), TEXT, "2\n")
+    scalar = "jptr: standard input: a scalar is on the way, and --no-expand replaces none\n"
+    for pointer in ["/b/c", "/a~1b/0/-"]:
+        yield Case((*words, pointer, "2"), TEXT, "", scalar, 1)
+    missing = f"jptr: standard input: {NOT_FOUND}; --no-expand creates no container\n"
+    yield Case((*words, "/c/d", "2"), TEXT, "", f"{missing}/c/d\n ^ not found in value\n", 1)
+    yield Case((*words, "/b", "2", "/c/d", "2"), TEXT, "", f"{missing}/c/d\n ^ not found in value\n", 1)
+    yield Case((*words, "/c/d", "2"), "{", "", f"jptr: standard input: {OPEN}", 3)
+    yield Case((*words, "--toml", "/a", "2"), "a = 1\n", "a = 2\n")
+    yield Case((*words, "--toml", "/a/b", "2"), "a = 1\n", "", scalar, 1)
+    missing = "an array or a table on the way is missing, and --no-expand creates none"
+    yield Case((*words, "--toml", "/b/c", "2"), "a = 1\n", "", f"jptr: standard input: {missing}\n", 1)
 
 
 def own_texts():
@@ -155,7 +272,7 @@ def formats():
     yield Case(("set", "--indent", "tab", "/b", "1e5"), '{"a":[1.10]}', '{\n\t"a": [\n\t\t1.10\n\t],\n\t"b": 1e5\n}\n')
     yield Case(("delete", "--indent", "1", "/b"), '{"a":1.10,"b":2}', '{\n "a": 1.10\n}\n')
     yield Case(("get", "--indent", "16", "--default", "[1]", "/b"), "{}", f"[\n{' ' * 16}1\n]\n")
-    yield Case(("format",), "{", "", "jptr: standard input: not JSON: EOF while parsing at line 1 column 1\n", 3)
+    yield Case(("format",), "{", "", f"jptr: standard input: {OPEN}", 3)
     yield Case(("format", "/dev/null.toml"), "", "", "jptr: format: not on TOML\n", 2)
 
 
@@ -204,7 +321,8 @@ def on_paths():
     yield Case(("from-paths",), "/x" * 128 + "\t1\n", "", "jptr: standard input: line 1: the document would nest deeper than 127\n", 1)
     message = "assign failed: json pointer token at offset 0 is out of bounds"
     yield Case(("from-paths",), "\t[]\n/1\t1\n", "", f"jptr: standard input: line 2: {message}\n", 1)
-    yield Case(("paths",), "{", "", "jptr: standard input: not JSON: EOF while parsing at line 1 column 1\n", 3)
+    yield from gaps()
+    yield Case(("paths",), "{", "", f"jptr: standard input: {OPEN}", 3)
     table = "[a]\nat = 1979-05-27\nb = [1.0, 'x\"y']\n[c]\ns = \"1\\n2\"\n"
     yield Case(("paths", "--toml"), table, "/a/at\t1979-05-27\n/a/b/0\t1.0\n/a/b/1\t'x\"y'\n/c/s\t\"1\\n2\"\n")
     yield Case(("get", "--toml", "/a/b/1"), table, "'x\"y'\n")
@@ -222,19 +340,64 @@ def on_paths():
     yield Case(("patch", "/dev/null", "x.toml"), "", "", "jptr: patch: not on TOML: use set and delete\n", 2)
 
 
+# Texts that are not JSON, what is said of each, and where.
+SYNTAX = [
+    ("[1,]", "not JSON: expected a value, found `]`", 1, 4),
+    ('{"a": 1,}', "not JSON: expected a key, found `}`", 1, 9),
+    ("[1 2]", "not JSON: expected `,` or `]`, found `2`", 1, 4),
+    ('{\n  "é": 1\n  "b": 2\n}', "not JSON: expected `,` or `}`, found `\"`", 3, 3),
+    ('{"a" 1}', "not JSON: expected `:`, found `1`", 1, 6),
+    ("{a: 1}", "not JSON: expected a key or `}`, found `a`", 1, 2),
+    ("[", "not JSON: expected a value or `]`, found the end", 1, 2),
+    ("1 // one", "not JSON: expected the end, found `/`", 1, 3),
+    ('["a', "not JSON: expected the end of the string, found the end", 1, 4),
+    ('["\\x"]', "not JSON: no escape of a string: `x`", 1, 4),
+    ('["\\u12g4"]', "not JSON: expected a hexadecimal digit, found `g`", 1, 7),
+    ("[01]", "not JSON: expected `,` or `]`, found `1`", 1, 3),
+    ("[-]", "not JSON: expected a digit, found `]`", 1, 3),
+    ("[1.]", "not JSON: expected a digit, found `]`", 1, 4),
+    ("[1e+]", "not JSON: expected a digit, found `]`", 1, 5),
+    ("nul", "not JSON: expected a value, found `n`", 1, 1),
+    ("[" * 128 + "]" * 128, "JSON, but nested deeper than 127", 1, 128),
+]
+def gaps():
+    """Lines of arrays whose elements are missing."""
+    gap = "jptr: standard input: line {}: no element is before {} in an array{}: --fill adds null, and lines of paths --all tell an object\n".format
+    cake = '/menu/items/1/name\t"cake"\n'
+    yield Case(("from-paths",), cake, "", gap(1, 1, " at /menu/items"), 1)
+    yield Case(("from-paths", "--fill"), cake, '{"menu":{"items":[null,{"name":"cake"}]}}\n')
+    yield Case(("from-paths",), "/2\t1\n", "", gap(1, 2, ""), 1)
+    yield Case(("from-paths", "--fill"), "/2\t1", "[null,null,1]\n")
+    yield Case(("from-paths", "--fill"), "", "null\n")
+    yield Case(("from-paths", "--fill"), "/a/1\t1\n/a/4/2\t2\n/b\t3\n", '{"a":[null,1,null,null,[null,null,2]],"b":3}\n')
+    yield Case(("from-paths",), "/b\t0\n/a/0/1\t1\n", "", gap(2, 1, " at /a/0"), 1)
+    message = "assign failed: json pointer token at offset 2 is out of bounds"
+    yield Case(("from-paths",), "/a/0\t1\n/a/2\t2\n", "", f"jptr: standard input: line 2: {message}\n", 1)
+    yield Case(("from-paths", "--fill"), "/a/0\t1\n/a/2\t2\n", '{"a":[1,null,2]}\n')
+    yield Case(("from-paths",), "/a/x\t1\n/a/1\t2\n/b\t3\n/a/2\t4\n", '{"a":{"1":2,"2":4,"x":1},"b":3}\n')
+    yield Case(("from-paths",), '/a\t{"b":{}}\n/c\t1\n/a/b/1\t2\n', '{"a":{"b":{"1":2}},"c":1}\n')
+    yield Case(("from-paths",), "/a/01\t1\n", '{"a":{"01":1}}\n')
+    yield Case(("from-paths", "--fill"), "/a/2\t1\n/b\tx\n", "", "jptr: standard input: line 2: not JSON after the tab\n", 3)
+    yield Case(("from-paths", "--fill"), "/a/1048577\t1\n", "", "jptr: standard input: line 1: more than 1048576 elements are missing\n", 1)
+
+
 def failing():
     """Errors: a line that names the input, and the pointer with carets below the token at fault."""
     missing = f"jptr: standard input: {NOT_FOUND}\n/c\n ^ not found in value\n"
     yield Case(("get", "/c"), TEXT, "", missing, 1)
     yield Case(("delete", "/c"), TEXT, "", "jptr: standard input: delete failed: json pointer does not resolve\n", 1)
-    not_json = "jptr: standard input: not JSON: EOF while parsing at line 1 column 1\n"
+    not_json = f"jptr: standard input: {OPEN}"
     for words in [("get", "/a"), ("set", "/a", "1"), ("delete", "/a")]:
         yield Case(words, "{", "", not_json, 3)
-    value = "jptr: JSON: not JSON: invalid JSON at line 1 column 1"
-    yield Case(("set", "/a", "x"), TEXT, "", f"{value}; a string needs quotes, or --string\n", 3)
-    yield Case(("set", "/a", "'x'"), TEXT, "", f"{value}\n", 3)
+    value = "jptr: JSON: not JSON: expected a value, found `{}` at line 1 column 1"
+    yield Case(("set", "/a", "x"), TEXT, "", value.format("x") + "; a string needs quotes, or --string\nx\n^\n", 3)
+    yield Case(("set", "/a", "'x'"), TEXT, "", value.format("'") + "\n'x'\n^\n", 3)
+    for text, why, line, column in SYNTAX:
+        row = text.split("\n")[line - 1]
+        drawn = f"{row[max(0, column - 61) : column + 59]}\n{' ' * min(column - 1, 60)}^\n"
+        yield Case(("get", "/a"), text, "", f"jptr: standard input: {why} at line {line} column {column}\n{drawn}", 3)
     yield Case(("set", "/a", "@-"), TEXT, "", "jptr: JSON: standard input cannot be the value and the document\n", 2)
-    yield Case(("set", "/a", "@/dev/null"), TEXT, "", "jptr: /dev/null: not JSON: EOF while parsing at line 1 column 0\n", 3)
+    yield Case(("set", "/a", "@/dev/null"), TEXT, "", f"jptr: /dev/null: {EMPTY}", 3)
 
 
 def usage():
@@ -242,7 +405,6 @@ def usage():
     yield ()
     yield ("find",)
     yield ("get",)
-    yield ("get", "/a", "b", "c")
     yield ("get", "--raw", "--pretty", "/a")
     yield ("get", "--raw", "--sort-keys", "/a")
     yield ("get", "--raw", "--indent", "2", "/a")
@@ -256,10 +418,21 @@ def usage():
     yield ("set", "/a")
     yield ("set", "/a", "1", "-i")
     yield ("set", "/a", "1", "-i", "-")
+    yield ("set", "/a", "1", "/b", "2", "-i")
+    yield ("get", "/a", "/b", "-", "--lines")
     yield ("set", "/a", "1", "f", "-i", "--lines")
     yield ("set", "/a", "1", "--lines", "--reformat")
     yield ("get", "--lines", "--raw", "--default", '"a\\nb"', "/a")
+    yield ("set", "/a", "1", "--lines", "--no-expand")
+    yield ("delete", "/a", "--no-expand")
     yield ("delete", "/a", "--unknown")
+    yield ("keys",)
+    yield ("keys", "/a", "f", "g")
+    yield ("length", "--raw", "/a")
+    yield ("type", "/a", "f", "-i")
+    yield ("test",)
+    yield ("test", "/a", "1", "f", "g")
+    yield ("test", "--string", "/a")
     yield ("patch", "-", "-")
     yield ("relayout",)
     yield ("relayout", "-", "f", "-i")
@@ -333,6 +506,28 @@ def check_documents():
                 raise CheckFailed(f"the {name} lacks {missing} of `jptr {command}`")
 
 
+# A command line, its last word to be completed, and the words that bash offers.
+COMPLETIONS = [
+    ("ge", "get"), ("help ge", "get"), ("get --ra", "--raw"), ("get /a --ra", "--raw"), ("get ", ""), ("get /a app", "app.json"),
+    ("get --default app", ""), ("get --default 1 /a app", "app.json"), ("set --no", "--no-expand"), ("set /a app", ""),
+    ("set /a --st", "--string --strict"), ("set /a 1 app", "app.json"), ("delete --indent t", "tab"), ("keys app", ""),
+    ("keys /a app", "app.json"), ("test /a app", ""), ("test /a 1 app", "app.json"), ("patch app", "app.json"),
+    ("patch --inverse app", "app.json"), ("format --in", "--indent --in-place"), ("tokens app", ""), ("escape app", ""),
+]
+
+
+def check_completions(folder):
+    """Checks what bash offers for a word, and returns the number of completions."""
+    write(f"{folder}/app.json", "{}")
+    script = 'source "$1"; shift; COMP_WORDS=("$@"); COMP_CWORD=$(($# - 1)); _jptr; echo "${COMPREPLY[*]}"'
+    for line, wanted in COMPLETIONS:
+        words = ["bash", "-c", script, "", INSTALLED["completions for bash"], "jptr", *line.split(" ")]
+        given = subprocess.run(words, cwd=folder, capture_output=True, text=True, timeout=SECONDS)
+        if given.stdout != f"{wanted}\n" or given.stderr:
+            raise CheckFailed(f"bash completes jptr {line!r} by {given.stdout!r}, {given.stderr!r}, and not {wanted!r}")
+    return len(COMPLETIONS)
+
+
 def check_streams():
     """Runs commands on streams that fail, and returns the number of runs."""
     runs = 0
@@ -370,7 +565,7 @@ def check_files(folder):
     ]
     runs = 0
     for name, message in wanted:
-        for words in [("get", "", name), ("get", "--lines", "", name), ("delete", "/a", name, "-i")]:
+        for words in [("get", "", name), ("get", "--lines", "", name), ("keys", "", name), ("delete", "/a", name, "-i")]:
             given = run(words, **user)
             expected = [f"jptr: {name}: {message}\n", f"jptr: {name}: reading failed: {message}\n"]
             if name == folder and "-i" in words:
@@ -392,10 +587,14 @@ def damaged_lines():
         elif number % 1009 == 0:
             line = '{"other": 1}'
         lines.append(line)
+        if not line:
+            continue
         try:
             value = json.loads(line)
         except ValueError:
-            faults.append((number, "not JSON"))
+            # Reading stops at the end, or at the quote of a string that is cut.
+            column = line.rindex('"') + 1 if line.count('"') % 2 else len(line)
+            faults.append((number, f"not JSON at column {column}"))
             continue
         if "id" in value:
             found.append(str(value["id"]))
@@ -421,19 +620,32 @@ def digits_of_lines():
     yield Case(("set", "--lines", "--compact", "/b", "1e-400"), lines, lines.replace("}", ', "b": 1e-400}').replace(" ", ""))
 
 
+def check_line_buffered():
+    """Checks that with `--line-buffered` a result is there before the next line comes."""
+    words = [PROGRAM, "get", "--lines", "--line-buffered", "/a"]
+    with subprocess.Popen(words, stdin=subprocess.PIPE, stdout=subprocess.PIPE) as process:
+        for value in ("1", "[2.0]"):
+            process.stdin.write(f'\n{{"a": {value}}}\n'.encode())
+            process.stdin.flush()
+            if process.stdout.readline().decode() != f"{value}\n":
+                raise CheckFailed(f"--line-buffered: {value} did not come")
+        process.stdin.close()
+
+
 def check_lines():
     """Checks runs over lines, and returns the number of runs."""
     lines, found, changed, faults = damaged_lines()
+    check_line_buffered()
     text = "".join(f"{line}\n" for line in lines)
     report = "".join(f"jptr: standard input:{number}: {message}\n" for number, message in faults)
-    damaged = "".join(f"jptr: standard input:{number}: {message}\n" for number, message in faults if message == "not JSON")
+    damaged = "".join(f"jptr: standard input:{number}: {message}\n" for number, message in faults if message.startswith("not JSON"))
     each = "".join(f"{line}\n" for line in found)
     check_result(Case(("get", "--lines", "/id"), text, each, report, 1), run(("get", "--lines", "/id"), text))
     check_result(Case(("get", "--lines", "/id"), text[:-1], each, report, 1), run(("get", "--lines", "/id"), text[:-1]))
     each = "".join(f"{line}\n" for line in changed)
     check_result(Case(("set",), text, each, damaged, 1), run(("set", "--lines", "/id", "0"), text))
     given = run(("get", "--lines", "--default", "null", "/id"), text)
-    if (given.stdout.count(b"\n"), given.stderr.decode(), given.returncode) != (LINES, damaged, 1):
+    if (given.stdout.count(b"\n"), given.stderr.decode(), given.returncode) != (LINES - lines.count(""), damaged, 1):
         raise CheckFailed(f"--default: {given.stdout.count(10)} lines, status {given.returncode}")
     first = faults[0][0]
     each = "".join(f"{line}\n" for line in found[: first - 1])
@@ -510,6 +722,49 @@ def random_text(random, depth):
     return "{" + gap + f"{gap},{gap}".join(members) + gap + "}"
 
 
+def innermost(text, offset):
+    """Returns the pointer of the innermost value with the character at an offset, or `None`. Of a repeated key the last one counts."""
+    value, pointer = spans.read(text), ""
+    if not value.start <= offset < value.end:
+        return None
+    while True:
+        children = list(enumerate(value.children or []))
+        names = {it.key: index for index, it in children} if value.is_object else {}
+        inside = [
+            (it, f"/{token(it.key)}" if value.is_object else f"/{index}") for index, it in children
+            if it.value.start <= offset < it.value.end and names.get(it.key, index) == index
+        ]
+        if not inside:
+            return pointer
+        value, pointer = inside[0][0].value, pointer + inside[0][1]
+
+
+def token(key):
+    """Returns the token of a key."""
+    return key.replace("~", "~0").replace("/", "~1")
+
+
+def place_of(text, offset):
+    """Returns the line and the column of a character."""
+    before = text[:offset]
+    return f"{before.count(chr(10)) + 1}:{offset - (before.rfind(chr(10)) + 1) + 1}"
+
+
+def check_located(pool):
+    """Checks which value is at each character of random texts, and where that value is. Returns the number of runs."""
+    jobs = []
+    for seed in range(40):
+        text = random_text(Random(seed), 4)
+        jobs += [(text, offset) for offset in range(min(len(text), 60))]
+    for (text, offset), given in zip(jobs, pool.map(lambda job: run(("locate", "--at", place_of(*job)), job[0]), jobs)):
+        pointer = innermost(text, offset)
+        case = Case(("locate", "--at", place_of(text, offset)), text, f"{pointer}\n")
+        if pointer is None:
+            case = case._replace(output="", errors=f"jptr: standard input: no value at {place_of(text, offset)}\n", status=1)
+        check_result(case, given)
+    return len(jobs)
+
+
 def check_raw_values():
     """Checks that a random text that is assigned, found and laid out stays as it is, except for white space between tokens."""
     seeds = range(300)
@@ -564,13 +819,19 @@ def check_in_place(folder):
         raise CheckFailed(f"in place: status {given.returncode}, {given.stderr!r}, {read(path)!r}")
     if not stat.S_ISLNK(after.st_mode) or stat.S_IMODE(os.stat(path).st_mode) != 0o640:
         raise CheckFailed("in place: the link or the permissions did not stay")
-    given = run(("delete", "/none", path, "-i"))
-    if given.returncode != 1 or read(path) != TEXT.replace("1.0", "2"):
-        raise CheckFailed(f"in place, with an error: status {given.returncode}, {read(path)!r}")
+    for words in [("delete", "/none"), ("delete", "/b", "/none"), ("set", "/b", "3", "/a~1b/9", "1")]:
+        given = run((*words, path, "-i"))
+        if given.returncode != 1 or read(path) != TEXT.replace("1.0", "2"):
+            raise CheckFailed(f"in place, with an error: status {given.returncode}, {read(path)!r}")
+    given = run(("set", "/c", "3", "/b", "4", path, "-i"))
+    given = run(("delete", "/c", "/a~1b/0", path, "-i"))
+    if given.returncode or given.stdout or read(path) != TEXT.replace("1.0", "4").replace("1, 2", "2"):
+        raise CheckFailed(f"several in place: status {given.returncode}, {read(path)!r}")
+    write(path, TEXT)
     given = run(("delete", "/b", "/dev/null", "-i"))
     if given.returncode == 0:
         raise CheckFailed("in place: a device was replaced")
-    return 5 + check_locked(folder, path) + check_reformat(folder)
+    return 9 + check_locked(folder, path) + check_reformat(folder)
 
 
 def check_reformat(folder):
@@ -715,6 +976,50 @@ def check_patched(folder):
     return runs + len(seeds)
 
 
+# So many operations before those of a case that the patch is applied to the document, which is then laid out as the text
+# is: a document, further operations as JSON, flags, and the new document.
+TESTS = 16
+LONG = [
+    ('{ "a": 1.0, "b": [1, 2] }', '{"op": "add", "path": "/c", "value": 1.10}', (), '{ "a": 1.0, "b": [1, 2], "c": 1.10 }'),
+    ('{"a": 1.0}', '{"op": "add", "path": "/c", "value": {"z": 1.10, "y": 1e5}}', (), '{"a": 1.0, "c": {"z": 1.10, "y": 1e5}}'),
+    ('{"a": 1.0, "b": 2}', '{"op": "move", "from": "/a", "path": "/c"}', (), '{"b": 2, "c": 1.0}'),
+    ('{"a": 1.0,\n  "b": 2}\n', '{"op": "remove", "path": "/b"}', (), '{"a": 1.0}\n'),
+    ('{"a": 1.0}', '{"op": "test", "path": "/a", "value": 1.00}', (), '{"a": 1.0}'),
+    ('{"a": 1.0}', '{"op": "add", "path": "/b", "value": 1.10}', ("--compact",), '{"a":1.0,"b":1.10}\n'),
+    ('{"a": 1.0}', '{"op": "add", "path": "/b", "value": [1.10]}', ("--indent", "tab"), '{\n\t"a": 1.0,\n\t"b": [\n\t\t1.10\n\t]\n}\n'),
+    ('{"b": 1.50, "a": 1}', '{"op": "add", "path": "/c", "value": 1.10}', ("--sort-keys",), '{"a":1,"b":1.5,"c":1.1}\n'),
+    ('{"a": 1.0}', '{"op": "add", "path": "/b", "value": 1.10}', ("--check",), ""),
+    # With a number that loses digits, one operation after the other changes the text.
+    ('{"a": 12345678901234567890123}', '{"op": "replace", "path": "/a", "value": 12345678901234567890124}', (), '{"a": 12345678901234567890124}'),
+    ('{"a": 12345678901234567890123}', '{"op": "add", "path": "/b", "value": 1}', ("--check",), ""),
+    ("[1.0]\n", '{"op": "add", "path": "/-", "value": 12345678901234567890123}', (), "[1.0,12345678901234567890123]\n"),
+]
+
+
+def check_long(folder, shim):
+    """Checks patches of many operations, also where a memory request fails. Returns the number of runs."""
+    patch, path = f"{folder}/p.json", f"{folder}/d.json"
+    runs = 0
+    for text, operation, words, new in LONG:
+        test = '{"op": "test", "path": "", "value": ' + text + "}"
+        write(patch, "[" + ", ".join([test] * TESTS + [operation]) + "]")
+        runs += check_memory(Case(("patch", patch, *words), text, new), shim)
+        if words:
+            continue
+        write(path, text)
+        check_result(Case((), "", ""), run(("patch", patch, path, "-i")))
+        expect_files(folder, {patch: read(patch), path: new})
+        os.remove(path)
+        runs += 1
+    write(patch, "[" + ", ".join(['{"op": "test", "path": "/a", "value": 1}'] * TESTS + ['{"op": "remove", "path": "/b"}']) + "]")
+    errors = run(("patch", patch), '{"a": 1}').stderr.decode()
+    write(patch, '[{"op": "remove", "path": "/b"}]')
+    wanted = run(("patch", patch), '{"a": 1}').stderr.decode().replace("operation 0", f"operation {TESTS}")
+    if errors != wanted:
+        raise CheckFailed(f"a long patch fails with {errors!r}, and not {wanted!r}")
+    return runs + 2
+
+
 def check_inverse(folder, shim):
     """Checks `--inverse`: the file that it writes, and what is left after an error. Returns the number of runs."""
     patch, path, undo = f"{folder}/p.json", f"{folder}/d.json", f"{folder}/u.json"
@@ -734,7 +1039,29 @@ def check_inverse(folder, shim):
             expect_files(folder, {patch: json.dumps(operations), undo: written, path: new})
             os.remove(path)
             runs += 4
+    runs += check_inverse_digits(folder, patch, undo)
     return runs + check_inverse_fails(folder, patch, path, undo) + check_inverse_memory(folder, patch, path, undo, shim)
+
+
+# Operations with a number that loses digits, a document, flags, the new document, and the inverse.
+LOST = '[{"op": "add", "path": "/b", "value": 1e-400}]'
+LOST_AGAIN = f'{LOST[:-1]}, {{"op": "remove", "path": "/b"}}]'
+INVERSE_DIGITS = [
+    (LOST, "{}", (), '{"b":1e-400}', '[{"op":"remove","path":"/b"}]'),
+    (LOST, "{}", ("--sort-keys", "--lossy"), '{"b":0.0}\n', '[{"op":"remove","path":"/b"}]'),
+    (LOST_AGAIN, "{}", ("--lossy",), "{}", '[{"op":"add","path":"/b","value":0.0},{"op":"remove","path":"/b"}]'),
+    ('[{"op": "remove", "path": "/a"}]', '{"a": 1e-400}', ("--lossy",), "{}", '[{"op":"add","path":"/a","value":0.0}]'),
+]
+
+
+def check_inverse_digits(folder, patch, undo):
+    """Checks inverses where a number loses digits, and is not in the inverse or may be. Returns the number of runs."""
+    for operations, text, words, new, back in INVERSE_DIGITS:
+        write(patch, operations)
+        leave(undo, None)
+        check_result(Case(words, text, new), run(("patch", patch, "--inverse", undo, *words), text))
+        expect_files(folder, {patch: operations, undo: f"{back}\n"})
+    return len(INVERSE_DIGITS)
 
 
 def check_inverse_fails(folder, patch, path, undo):
@@ -746,7 +1073,10 @@ def check_inverse_fails(folder, patch, path, undo):
         for text, operations, words, errors, status in [
             (deepest, '[{"op": "remove", "path": ""}]', (), f"jptr: {undo}: the patch would nest deeper than 127\n", 3),
             (BEFORE, '[{"op": "remove", "path": "/x"}]', (), f"jptr: {path}: patch failed at operation 0: {NOT_FOUND}\n", 1),
-            ("{", "[]", (), f"jptr: {path}: not JSON: EOF while parsing at line 1 column 1\n", 3),
+            ("{", "[]", (), f"jptr: {path}: {OPEN}", 3),
+            ('{"a": 1e-400}', "[]", (), f"jptr: {path}: the number at /a loses digits: use --lossy\n", 3),
+            ("{}", LOST_AGAIN, (), "jptr: PATCHFILE: operation 0: the number loses digits: use --lossy\n", 3),
+            ("{}", LOST, ("--inverse", undo, "--sort-keys"), f"jptr: {path}: the number at /b loses digits: use --lossy\n", 3),
             (BEFORE, "[]", ("--inverse", path), "jptr: --inverse: names the document\n", 2),
             (BEFORE, "[]", ("--inverse", "-"), "jptr: --inverse: needs a file\n", 2),
             (BEFORE, "[]", ("--inverse", folder), f"jptr: {folder}: not a regular file\n", 5),
@@ -840,7 +1170,7 @@ def check_relayout(folder, shim):
         given, _, _ = run_with_shim(words, "[1]", shim, fail, count="run", may_keep=True)
         expect_files(folder, {path: TEXT if given.returncode else "[\n  1\n]\n"})
     for new, words, errors, status in [
-        ("{", (), "jptr: standard input: not JSON: EOF while parsing at line 1 column 1\n", 3),
+        ("{", (), f"jptr: standard input: {OPEN}", 3),
         ('{"a": 1e400}', (), "jptr: standard input: not JSON: number out of range at line 1 column 12\n", 3),
         ('{"a": 1e-400}', (), "jptr: standard input: the number at /a loses digits: use --lossy\n", 3),
     ]:
@@ -936,12 +1266,14 @@ def main():
         shim = build_shim(folder)
         # First, and alone: a process that another thread starts can hold the end of a pipe that is closed here.
         runs = check_streams() + check_usage()
-        for name in ["files", "in_place", "inverse", "layouts", "guide"]:
+        for name in ["files", "in_place", "inverse", "layouts", "long", "guide", "completions"]:
             os.mkdir(f"{folder}/{name}")
+        runs += check_completions(f"{folder}/completions")
         runs += check_files(f"{folder}/files") + check_in_place(f"{folder}/in_place") + check_lines()
         runs += check_inverse(f"{folder}/inverse", shim) + check_relayout(f"{folder}/layouts", shim)
         runs += check_patched(f"{folder}/inverse")
-        runs += check_round_trips() + check_raw_values()
+        runs += check_long(f"{folder}/long", shim)
+        runs += check_round_trips() + check_raw_values() + check_located(pool)
         all_cases = list(cases())
         for case, given in zip(all_cases, pool.map(lambda case: run(case.words, case.input), all_cases)):
             check_result(case, given)

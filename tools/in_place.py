@@ -279,7 +279,8 @@ def names():
         path = file_in(folder, "x\n", "a\x1b[31m\nb.json")
         done = run(path)
         expect("control characters: status", done.returncode, 3)
-        if "\x1b" in done.stderr or done.stderr.count("\n") != 1:
+        # A line of the error, that of the text, and a caret.
+        if "\x1b" in done.stderr or done.stderr.split("\n")[1:] != ["x", "^", ""]:
             raise CheckFailed(f"control characters: {done.stderr!r}")
 
 

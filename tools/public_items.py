@@ -76,9 +76,17 @@ def at_path(path):
     if path[0] not in listed():
         return Item(path[0], path[1:-1], path[-1], "other")
     found = Item(path[0], None, "", "mod")
-    for part in path[1:]:
+    for part in path[1:-1]:
+        found = found and found.kind == "mod" and inner_module(*module_of(found), part)
+    for part in path[1:][-1:]:
         found = found and found.kind == "mod" and item(*module_of(found), part)
     return found or None
+
+
+def inner_module(crate, module, name):
+    """Returns the module that a module has under a name, also where it imports an item of the same name from it."""
+    is_module = ("mod", name) in {(kind, found) for _, kind, found in ITEM.findall(text_of(crate, module))}
+    return Item(crate, module, name, "mod") if is_module else item(crate, module, name)
 
 
 def module_of(found):

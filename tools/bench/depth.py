@@ -2,7 +2,7 @@
 """Times the program at great depths: tools/bench/depth.py [ROUNDS]
 
 Runs `assign POINTER 1` on `null` with pointers of 10,000, 100,000 and 1,000,000 tokens, on a stack of 256 KiB, and prints
-the rows of docs/SPEED.md: the least processor time of some rounds, and the peak memory. A word of a process cannot be so
+rows in Markdown: the least processor time of some rounds, and the peak memory. A word of a process cannot be so
 long, so jsonptr_tool_calls passes the words to `run_program`. Build it first: (cd crates/jsonptr_tool_calls && rt run < stdin)
 """
 import os

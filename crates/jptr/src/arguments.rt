@@ -17,11 +17,16 @@ pub fn command<'a>(alloc: Global) -> Result<Command<'a>, AllocError> {
         .subcommand(get(alloc)?)?
         .subcommand(set(alloc)?)?
         .subcommand(delete(alloc)?)?
+        .subcommand(keys(alloc)?)?
+        .subcommand(length(alloc)?)?
+        .subcommand(node_type(alloc)?)?
+        .subcommand(test(alloc)?)?
         .subcommand(paths(alloc)?)?
         .subcommand(from_paths(alloc)?)?
         .subcommand(patch(alloc)?)?
         .subcommand(format(alloc)?)?
         .subcommand(relayout(alloc)?)?
+        .subcommand(locate(alloc)?)?
         .subcommand(diff(alloc)?)?
         .subcommand(tokens(alloc)?)?
         .subcommand(escape(alloc)?)?
@@ -31,9 +36,9 @@ pub fn command<'a>(alloc: Global) -> Result<Command<'a>, AllocError> {
 /// Returns the command `get`.
 fn get<'a>(alloc: Global) -> Result<Command<'a>, AllocError> {
     let command = Command::new(alloc, "get")
-        .about("Prints the value that the pointer resolves to")
+        .about("Prints the value that the pointer resolves to, or those of several pointers")
         .arg(pointer(alloc))?
-        .arg(file(alloc))?
+        .arg(files(alloc))?
         .arg(
             arg!(in alloc; --default <JSON> "Prints this value if the pointer resolves to none").allow_negative_numbers(
                 true,
@@ -52,15 +57,24 @@ fn get<'a>(alloc: Global) -> Result<Command<'a>, AllocError> {
 /// Returns the command `set`.
 fn set<'a>(alloc: Global) -> Result<Command<'a>, AllocError> {
     let command = Command::new(alloc, "set")
-        .about("Prints the document with the value assigned at the pointer")
+        .about("Prints the document with the value assigned at the pointer, or several values")
         .arg(pointer(alloc))?
         .arg(
             arg!(in alloc; <JSON> "The value, or @FILE for that of a file").allow_negative_numbers(
                 true,
             ),
         )?
-        .arg(file(alloc))?
+        .arg(
+            arg!(in alloc; [FILE] ... "Further pairs of POINTER and JSON, and then the file; standard input if it is missing or -").allow_negative_numbers(
+                true,
+            ),
+        )?
         .arg(arg!(in alloc; --string "Takes the value as a string, without quotes and escapes"))?
+        .arg(
+            arg!(in alloc; --"no-expand" "Creates no container on the way to the value, and replaces no scalar there").conflicts_with(
+                "lines",
+            )?,
+        )?
         .arg(toml_flag(alloc))?
         .arg(reformat(alloc)?)?;
     with_lines(alloc, with_in_place(alloc, with_order(alloc, command)?)?)
@@ -69,12 +83,59 @@ fn set<'a>(alloc: Global) -> Result<Command<'a>, AllocError> {
 /// Returns the command `delete`.
 fn delete<'a>(alloc: Global) -> Result<Command<'a>, AllocError> {
     let command = Command::new(alloc, "delete")
-        .about("Prints the document without the value that the pointer resolves to")
+        .about(
+            "Prints the document without the value that the pointer resolves to, or without several",
+        )
         .arg(pointer(alloc))?
-        .arg(file(alloc))?
+        .arg(files(alloc))?
         .arg(toml_flag(alloc))?
         .arg(reformat(alloc)?)?;
     with_lines(alloc, with_in_place(alloc, with_order(alloc, command)?)?)
+}
+
+/// Returns the command `keys`.
+fn keys<'a>(alloc: Global) -> Result<Command<'a>, AllocError> {
+    Command::new(alloc, "keys")
+        .about("Prints the keys of the object that the pointer resolves to, each on a line")
+        .arg(pointer(alloc))?
+        .arg(file(alloc))?
+        .arg(arg!(in alloc; --raw "Prints each key without quotes"))
+}
+
+/// Returns the command `length`.
+fn length<'a>(alloc: Global) -> Result<Command<'a>, AllocError> {
+    Command::new(alloc, "length")
+        .about("Prints the number of elements, members or characters of the value")
+        .arg(pointer(alloc))?
+        .arg(file(alloc))
+}
+
+/// Returns the command `type`.
+fn node_type<'a>(alloc: Global) -> Result<Command<'a>, AllocError> {
+    Command::new(alloc, "type")
+        .about("Prints the type of the value: null, boolean, number, string, array or object")
+        .arg(pointer(alloc))?
+        .arg(file(alloc))
+}
+
+/// Returns the command `test`.
+fn test<'a>(alloc: Global) -> Result<Command<'a>, AllocError> {
+    Command::new(alloc, "test")
+        .about(
+            "Prints nothing. The exit status is 0 if the value is there, and equals JSON if that is given, and else 1",
+        )
+        .arg(pointer(alloc))?
+        .arg(
+            arg!(in alloc; [JSON] "The value to compare with, or @FILE for that of a file").allow_negative_numbers(
+                true,
+            ),
+        )?
+        .arg(file(alloc))?
+        .arg(
+            arg!(in alloc; --string "Takes JSON as a string, without quotes and escapes").requires_arg(
+                "JSON",
+            )?,
+        )
 }
 
 /// Returns the command `paths`.
@@ -95,7 +156,8 @@ fn paths<'a>(alloc: Global) -> Result<Command<'a>, AllocError> {
 fn from_paths<'a>(alloc: Global) -> Result<Command<'a>, AllocError> {
     let command = Command::new(alloc, "from-paths")
         .about("Prints the document that lines of pointers, tabs and JSON values build")
-        .arg(file(alloc))?;
+        .arg(file(alloc))?
+        .arg(arg!(in alloc; --fill "Adds null for each element that is missing in an array"))?;
     with_layout(alloc, command)
 }
 
@@ -140,6 +202,25 @@ fn relayout<'a>(alloc: Global) -> Result<Command<'a>, AllocError> {
         .arg(in_place_flag(alloc)?)
 }
 
+/// Returns the command `locate`.
+fn locate<'a>(alloc: Global) -> Result<Command<'a>, AllocError> {
+    Command::new(alloc, "locate")
+        .about(
+            "Prints where the value is that the pointer resolves to: the file, its line and its column",
+        )
+        .arg(arg!(in alloc; [POINTER] "The JSON Pointer (RFC 6901), as /a/0"))?
+        .arg(file(alloc))?
+        .arg(
+            Arg::new(alloc, "at")
+                .long("at")
+                .value_name("LINE:COLUMN")
+                .action(ArgAction::Set)
+                .help(
+                    "Prints the pointer of the innermost value at this place of the file instead",
+                ),
+        )
+}
+
 /// Returns the command `diff`.
 fn diff<'a>(alloc: Global) -> Result<Command<'a>, AllocError> {
     let command = Command::new(alloc, "diff")
@@ -181,6 +262,11 @@ fn pointer<'a>(alloc: Global) -> Arg<'a> {
 /// Returns the argument for the file.
 fn file<'a>(alloc: Global) -> Arg<'a> {
     arg!(in alloc; [FILE] "The file; standard input if it is missing or -")
+}
+
+/// Returns the argument for further pointers and the file.
+fn files<'a>(alloc: Global) -> Arg<'a> {
+    arg!(in alloc; [FILE] ... "Further pointers, and then the file, which must be there after them; standard input if it is missing or -")
 }
 
 /// Returns the flag for TOML.
@@ -240,6 +326,13 @@ fn with_lines<'a>(alloc: Global, command: Command<'a>) -> Result<Command<'a>, Al
             arg!(in alloc; --strict "Stops at the first line at fault; needs --lines").requires_arg(
                 "lines",
             )?,
+        )?
+        .arg(
+            Arg::new(alloc, "line-buffered")
+                .long("line-buffered")
+                .help("Prints each result at once; needs --lines")
+                .action(ArgAction::SetTrue)
+                .requires_arg("lines")?,
         )
 }
 

@@ -1,14 +1,18 @@
 //! The commands.
 
-use crate::digits::{check_bytes, check_text, is_lossy};
-use crate::given::raw_value;
+use crate::digits::{check_bytes, is_lossy};
 use crate::input::{is_standard, name_of, read_all};
 use crate::inverse::patch_with_inverse;
+use crate::locate::locate;
+use crate::long_patch::patch_long;
+use crate::node::{print_keys, print_length, print_type, test};
+use crate::operands::{argument, check_json, more_operands, pointer_of};
 use crate::output::{print_line, print_text};
-use crate::patch_file::patch_of;
+use crate::patch_file::PatchFile;
 use crate::paths::{from_paths, paths};
 use crate::problem::{FILE, NOT_APPLIED, NOT_JSON, Problem, USAGE};
 use crate::relayout::relayout;
+use crate::several::{delete_each, get_each, get_task, set_each, set_task};
 use crate::style::{layout_of, style_of};
 use crate::task::{run_styled, run_task};
 use crate::toml_file::is_toml;
@@ -67,11 +71,16 @@ fn run_command(rt: &HostRuntime, name: &str, matches: &ArgMatches<'_>) -> Result
         "get" => get(rt, matches),
         "set" => set(rt, matches),
         "delete" => delete(rt, matches),
+        "keys" => print_keys(rt, matches),
+        "length" => print_length(rt, matches),
+        "type" => print_type(rt, matches),
+        "test" => test(rt, matches),
         "paths" => paths(rt, matches),
         "from-paths" => from_paths(rt, matches),
         "patch" => patch(rt, matches),
         "format" => format(rt, matches),
         "relayout" => relayout(rt, matches),
+        "locate" => locate(rt, matches),
         "diff" => diff(rt, matches),
         "tokens" => tokens(rt, matches),
         "escape" => escape(rt, matches),
@@ -80,35 +89,45 @@ fn run_command(rt: &HostRuntime, name: &str, matches: &ArgMatches<'_>) -> Result
     }
 }
 
-/// Finds a value.
+/// Finds a value, or several.
 fn get(rt: &HostRuntime, matches: &ArgMatches<'_>) -> Result<u8, Problem> {
     let alloc = rt.alloc();
+    let more = more_operands(rt.alloc(), matches)?;
+    if !more.is_empty() {
+        return get_each(rt, matches, more.as_slice());
+    }
     let text = argument(matches, "POINTER");
     let pointer = pointer_of(alloc, text)?;
     if is_toml(matches) {
         return toml_file::get(rt, matches, pointer);
     }
-    let fallback = match matches.get_str("default") {
-        Some(json) => Some(default_of(alloc, matches, json)?),
-        None => None,
-    };
-    run_task(rt, matches, Task::Get(pointer, fallback), text)
+    run_task(rt, matches, get_task(alloc, matches, text)?, text)
 }
 
-/// Assigns a value.
+/// Assigns a value, or several.
 fn set(rt: &HostRuntime, matches: &ArgMatches<'_>) -> Result<u8, Problem> {
-    let alloc = rt.alloc();
+    let more = more_operands(rt.alloc(), matches)?;
     let text = argument(matches, "POINTER");
-    let pointer = pointer_of(alloc, text)?;
-    if is_toml(matches) {
-        return toml_file::set(rt, matches, pointer);
+    if more.is_empty() && is_toml(matches) {
+        return toml_file::set(rt, matches, pointer_of(rt.alloc(), text)?);
     }
-    let value = raw_value(rt, matches)?;
-    run_task(rt, matches, Task::Set(pointer, value), text)
+    if !more.is_empty() || matches.get_flag("no-expand") {
+        return set_each(rt, matches, more.as_slice());
+    }
+    run_task(
+        rt,
+        matches,
+        set_task(rt, matches, text, argument(matches, "JSON"))?,
+        text,
+    )
 }
 
-/// Deletes a value.
+/// Deletes a value, or several.
 fn delete(rt: &HostRuntime, matches: &ArgMatches<'_>) -> Result<u8, Problem> {
+    let more = more_operands(rt.alloc(), matches)?;
+    if !more.is_empty() {
+        return delete_each(rt, matches, more.as_slice());
+    }
     let text = argument(matches, "POINTER");
     let pointer = pointer_of(rt.alloc(), text)?;
     if is_toml(matches) {
@@ -130,21 +149,20 @@ fn patch(rt: &HostRuntime, matches: &ArgMatches<'_>) -> Result<u8, Problem> {
             return Err(Problem::new(alloc, USAGE, "patch", "not on TOML: use set and delete"));
         }
     }
-    let patch = patch_of(rt, name)?;
-    match matches.get_str("inverse") {
-        Some(undo) => patch_with_inverse(rt, matches, patch, undo),
-        None => run_task(rt, matches, Task::Patch(patch), ""),
+    let patch = PatchFile::read(rt, name)?;
+    if let Some(undo) = matches.get_str("inverse") {
+        return patch_with_inverse(rt, matches, patch.into_raw(alloc)?, undo);
     }
+    if patch.is_long() && !matches.get_flag("lines") {
+        return patch_long(rt, matches, patch);
+    }
+    run_task(rt, matches, Task::Patch(patch.into_raw(alloc)?), "")
 }
 
 /// Lays a document out anew.
 fn format(rt: &HostRuntime, matches: &ArgMatches<'_>) -> Result<u8, Problem> {
     let alloc = rt.alloc();
-    if let Some(file) = matches.get_str("FILE") {
-        if file.ends_with(".toml") {
-            return Err(Problem::new(alloc, USAGE, "format", "not on TOML"));
-        }
-    }
+    check_json(alloc, "format", matches.get_str("FILE"))?;
     let mut style = style_of(alloc, matches)?;
     style.layout = format_layout(style.layout, matches);
     run_styled(rt, matches, Task::Get(Pointer::root(), None), style, "")
@@ -238,39 +256,5 @@ fn unescape(rt: &HostRuntime, matches: &ArgMatches<'_>) -> Result<u8, Problem> {
             print_line(rt, decoded.as_str())
         }
         Err(error) => Err(Problem::of_token(alloc, text, error)),
-    }
-}
-
-/// Returns the value of a required argument.
-fn argument<'a>(matches: &ArgMatches<'a>, name: &str) -> &'a str {
-    match matches.get_str(name) {
-        Some(text) => text,
-        None => "",
-    }
-}
-
-/// Parses an argument as a pointer.
-fn pointer_of<'a>(alloc: Global, text: &'a str) -> Result<Pointer<'a>, Problem> {
-    match Pointer::parse(text) {
-        Ok(pointer) => Ok(pointer),
-        Err(error) => Err(Problem::of_pointer(alloc, text, error)),
-    }
-}
-
-/// Parses the value of `--default`, whose numbers are printed anew.
-fn default_of(alloc: Global, matches: &ArgMatches<'_>, text: &str) -> Result<Value, Problem> {
-    let value = value_of(alloc, "--default", text)?;
-    if !is_lossy(matches) {
-        check_text(alloc, "--default", text)?;
-    }
-    Ok(value)
-}
-
-/// Parses an argument as a JSON text.
-fn value_of(alloc: Global, name: &str, text: &str) -> Result<Value, Problem> {
-    match Value::from_str(alloc, text) {
-        Ok(value) => Ok(value),
-        Err(error) if error.is_memory() => Err(Problem::Memory),
-        Err(_) => Err(Problem::of_bytes(alloc, name, text.as_bytes())),
     }
 }

@@ -102,7 +102,7 @@ fn loss_in_values(alloc: Global, task: &Task<'_>) -> Result<Option<Loss>, AllocE
             Some(lost) => Ok(Some(Loss::Value(lost))),
             None => Ok(None),
         },
-        Task::Patch(patch) => loss_in_operations(alloc, &patch.operations),
+        Task::Patch(patch) => loss_in_operations(alloc, patch.operations.as_slice()),
         Task::Get(_, _) | Task::Delete(_) => Ok(None),
     }
 }
@@ -110,7 +110,7 @@ fn loss_in_values(alloc: Global, task: &Task<'_>) -> Result<Option<Loss>, AllocE
 /// Returns the first number that loses digits in the text of the value of an operation, if there is one.
 fn loss_in_operations(
     alloc: Global,
-    operations: &Vec<RawOperation>,
+    operations: &[RawOperation],
 ) -> Result<Option<Loss>, AllocError> {
     let mut position: usize = 0;
     for operation in operations {
@@ -164,6 +164,24 @@ pub fn check_result(
         Some(Loss::Value(lost)) => Err(problem(alloc, VALUE, &lost)),
         Some(Loss::Operation(position, lost)) => Err(operation_problem(alloc, position, &lost)),
         None => Ok(()),
+    }
+}
+
+/// Fails if a number loses digits that the patch which takes the operations back may contain: one of the
+/// document with this name, or of a value that a later operation may take away.
+pub fn check_inverse(
+    alloc: Global,
+    name: &str,
+    text: &str,
+    operations: &[RawOperation],
+) -> Result<(), Problem> {
+    check_text(alloc, name, text)?;
+    let Some((_last, earlier)) = operations.split_last() else {
+        return Ok(());
+    };
+    match loss_in_operations(alloc, earlier)? {
+        Some(Loss::Operation(position, lost)) => Err(operation_problem(alloc, position, &lost)),
+        _ => Ok(()),
     }
 }
 

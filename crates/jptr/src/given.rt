@@ -1,6 +1,7 @@
 //! The value that `set` assigns: an argument, a file, or standard input.
 
 use crate::input::{is_standard, name_of, read_all};
+use crate::operands::file_of;
 use crate::problem::{NOT_JSON, Problem, USAGE};
 use clap::ArgMatches;
 use jsonptr_edit_in_text::RawValue;
@@ -19,16 +20,19 @@ pub struct Given<'a> {
 }
 
 /// Returns the text of the value: that of the argument, or after `@` that of a file.
-pub fn read_given<'a>(rt: &HostRuntime, matches: &ArgMatches<'a>) -> Result<Given<'a>, Problem> {
+pub fn read_given<'a>(
+    rt: &HostRuntime,
+    matches: &ArgMatches<'_>,
+    argument: &'a str,
+) -> Result<Given<'a>, Problem> {
     let alloc = rt.alloc();
-    let argument = matches.get_str("JSON").unwrap_or("");
     let Some(file) = argument.strip_prefix('@') else {
         return Ok(Given {
             name: "JSON",
             text: String::from_str(alloc, argument)?,
         });
     };
-    if is_standard(Some(file)) && is_standard(matches.get_str("FILE")) {
+    if is_standard(Some(file)) && is_standard(file_of(matches)) {
         let message = "standard input cannot be the value and the document";
         return Err(Problem::new(alloc, USAGE, "JSON", message));
     }
@@ -45,13 +49,16 @@ pub fn read_given<'a>(rt: &HostRuntime, matches: &ArgMatches<'a>) -> Result<Give
 
 /// Returns the value that is assigned: the argument as a string if the flag `--string` is there, and
 /// else the JSON text that is given.
-pub fn raw_value(rt: &HostRuntime, matches: &ArgMatches<'_>) -> Result<RawValue, Problem> {
+pub fn raw_value(
+    rt: &HostRuntime,
+    matches: &ArgMatches<'_>,
+    argument: &str,
+) -> Result<RawValue, Problem> {
     let alloc = rt.alloc();
     if matches.get_flag("string") {
-        let argument = matches.get_str("JSON").unwrap_or("");
         return string_value(alloc, argument);
     }
-    let given = read_given(rt, matches)?;
+    let given = read_given(rt, matches, argument)?;
     match RawValue::parse(alloc, given.text.as_str()) {
         Ok(value) => Ok(value),
         Err(InTextError::Memory(_)) => Err(Problem::Memory),

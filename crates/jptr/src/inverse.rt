@@ -1,6 +1,6 @@
 //! The flag `--inverse`: a patch, and a file with the patch that takes it back.
 
-use crate::digits::check_text;
+use crate::digits::{check_inverse, check_result};
 use crate::input::{is_standard, name_of};
 use crate::problem::{Problem, USAGE};
 use crate::source::Source;
@@ -79,6 +79,7 @@ fn texts_of(alloc: Global, patching: Patching<'_>, source: &Source<'_>) -> Resul
     let undo = undo_text(alloc, &patching, source)?;
     let style = patching.style;
     let task = Task::Patch(patching.patch);
+    check_result(alloc, source.name, &task, style, &source.bytes)?;
     match edited(alloc, &task, style, &source.bytes) {
         Ok(new) => Ok(Texts { new, undo }),
         Err(failure) => Err(document_problem(alloc, source.name, "", &source.bytes, failure)),
@@ -97,7 +98,8 @@ fn undo_text(
     match inverse_of(alloc, text, &patching.patch.document, patching.style.layout) {
         Ok(inverse) => {
             if !patching.style.is_lossy {
-                check_text(alloc, source.name, text)?;
+                let operations = patching.patch.operations.as_slice();
+                check_inverse(alloc, source.name, text, operations)?;
             }
             let mut text = inverse.text;
             text.push('\n')?;

@@ -1,9 +1,11 @@
 //! The errors of the program, as they are printed.
 
+use crate::syntax::explain;
 use jptr_tasks::failure::Failure;
 use jsonptr::diagnostic::Diagnostic;
 use jsonptr::{EncodingError, ParseError, PointerBuf};
 use serde_json::Value;
+use simdutf8::basic::from_utf8;
 use std::alloc::{AllocError, AllocFailed, Global};
 
 /// An error of the program: its exit status, and what is printed on standard error.
@@ -58,8 +60,20 @@ impl Problem {
 
     /// Returns the problem of a failure at this pointer in the input with this name.
     pub fn of_failure(alloc: Global, name: &str, pointer: &str, failure: Failure) -> Problem {
+        let hint = hint_of(&failure);
+        Problem::of_failure_so(alloc, name, pointer, failure, hint)
+    }
+
+    /// Returns the problem of a failure at this pointer in the input with this name, with a hint.
+    pub fn of_failure_so(
+        alloc: Global,
+        name: &str,
+        pointer: &str,
+        failure: Failure,
+        hint: &str,
+    ) -> Problem {
         let status = failure.status();
-        match text_of(alloc, name, pointer, failure) {
+        match text_of(alloc, name, pointer, failure, hint) {
             Ok(Some(text)) => Problem::Other(status, text),
             Ok(None) | Err(_) => Problem::Memory,
         }
@@ -117,8 +131,14 @@ fn hinted(alloc: Global, text: &str, message: String) -> Result<String, AllocErr
     if !is_word {
         return Ok(message);
     }
-    let line = message.as_str().trim_end();
-    Ok(format!(in alloc; "{line}; a string needs quotes, or --string\n")?)
+    let whole = message.as_str();
+    let end = match whole.find('\n') {
+        Some(at) => at,
+        None => whole.len(),
+    };
+    let line = whole.get(..end).unwrap_or("");
+    let drawing = whole.get(end.saturating_add(1)..).unwrap_or("");
+    Ok(format!(in alloc; "{line}; a string needs quotes, or --string\n{drawing}")?)
 }
 
 /// Returns the line of an error.
@@ -154,18 +174,18 @@ impl<T: Drop> From<AllocFailed<T>> for Problem {
     }
 }
 
-/// Returns the text of a failure, or `None` if it is a failed allocation.
+/// Returns the text of a failure with the hint, or `None` if it is a failed allocation.
 fn text_of(
     alloc: Global,
     name: &str,
     pointer: &str,
     failure: Failure,
+    hint: &str,
 ) -> Result<Option<String>, AllocError> {
     if matches!(failure, Failure::Memory(_)) {
         return Ok(None);
     }
     let name = shown(alloc, name)?;
-    let hint = hint_of(&failure);
     let mut text = format!(in alloc; "jptr: {name}: {failure}{hint}\n")?;
     if let Some(drawn) = drawing(alloc, pointer, failure)? {
         text.push_str(drawn.as_str())?;
@@ -237,6 +257,11 @@ fn token_text(alloc: Global, token: &str, error: EncodingError) -> Result<String
 /// if reading them fails for memory.
 fn json_text(alloc: Global, name: &str, bytes: &[u8]) -> Result<Option<String>, AllocError> {
     let name = shown(alloc, name)?;
+    if let Ok(text) = from_utf8(bytes) {
+        if let Some(why) = explain(alloc, text)? {
+            return Ok(Some(format!(in alloc; "jptr: {name}: {why}\n")?));
+        }
+    }
     match Value::from_slice(alloc, bytes) {
         Ok(_) => Ok(Some(format!(in alloc; "jptr: {name}: not JSON\n")?)),
         Err(error) if error.is_memory() => Ok(None),

@@ -2,6 +2,7 @@
 
 use crate::digits::{check_text, is_lossy};
 use crate::input::{is_standard, name_of, read_all};
+use crate::operands::check_json;
 use crate::problem::{NOT_APPLIED, Problem, USAGE};
 use crate::source::Source;
 use clap::ArgMatches;
@@ -30,10 +31,7 @@ fn check_names(alloc: Global, matches: &ArgMatches<'_>) -> Result<(), Problem> {
         let message = "standard input cannot be both documents";
         return Err(Problem::new(alloc, USAGE, "FILE", message));
     }
-    if name_of(file).ends_with(".toml") {
-        return Err(Problem::new(alloc, USAGE, "relayout", "not on TOML"));
-    }
-    Ok(())
+    check_json(alloc, "relayout", file)
 }
 
 /// Returns the new document in the layout of the old text.

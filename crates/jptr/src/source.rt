@@ -2,6 +2,7 @@
 
 use crate::in_place::{Target, open_file, replace_text};
 use crate::input::{is_standard, name_of, read_all};
+use crate::operands::file_of;
 use crate::output::print_text;
 use crate::problem::{Problem, USAGE};
 use clap::ArgMatches;
@@ -20,7 +21,7 @@ pub struct Source<'a> {
 impl<'a> Source<'a> {
     /// Reads the document, and opens its file for a change if the flag `--in-place` is there.
     pub fn open(rt: &HostRuntime, matches: &ArgMatches<'a>) -> Result<Source<'a>, Problem> {
-        let file = matches.get_str("FILE");
+        let file = file_of(matches);
         let name = name_of(file);
         if !matches.get_flag("in-place") {
             let bytes = read_all(rt, file)?;

@@ -3,6 +3,7 @@
 use crate::digits::{check_result, is_checked};
 use crate::exact_lines::run_exact_lines;
 use crate::input::{name_of, open, read_all};
+use crate::operands::file_of;
 use crate::output::{Output, print_text};
 use crate::problem::{NOT_APPLIED, Problem, USAGE};
 use crate::source::Source;
@@ -39,11 +40,11 @@ pub fn run_styled(
     style: Style,
     pointer: &str,
 ) -> Result<u8, Problem> {
-    let file = matches.get_str("FILE");
+    let file = file_of(matches);
     if matches.get_flag("check") {
         check(rt, file, &task)
     } else if matches.get_flag("lines") {
-        on_lines(rt, file, task, style, matches.get_flag("strict"))
+        on_lines(rt, matches, task, style)
     } else if matches.get_flag("in-place") || is_read_first(&task, style) {
         on_source(rt, &Source::open(rt, matches)?, &task, style, pointer)
     } else {
@@ -59,12 +60,19 @@ fn is_read_first(task: &Task<'_>, style: Style) -> bool {
 
 /// Runs the task on one document, and prints nothing.
 fn check(rt: &HostRuntime, file: Option<&str>, task: &Task<'_>) -> Result<u8, Problem> {
-    let alloc = rt.alloc();
     let bytes = read_all(rt, file)?;
-    match document_result(alloc, task, Layout::Kept, &bytes) {
-        // The operations apply, but not in place.
-        Ok(_) | Err(Failure::NotInPlace) => Ok(0),
-        Err(failure) => Err(document_problem(alloc, name_of(file), "", &bytes, failure)),
+    checked(rt.alloc(), name_of(file), task, &bytes)
+}
+
+/// Runs the task on the bytes of the document with this name, and prints nothing.
+pub fn checked(alloc: Global, name: &str, task: &Task<'_>, bytes: &[u8]) -> Result<u8, Problem> {
+    match document_result(alloc, task, Layout::Kept, bytes) {
+        Ok(_new) => Ok(0),
+        Err(failure) => match failure {
+            // The operations apply, but not in place.
+            Failure::NotInPlace => Ok(0),
+            failure => Err(document_problem(alloc, name, "", bytes, failure)),
+        },
     }
 }
 
@@ -101,7 +109,7 @@ fn on_document(
 
 /// Runs the task on a document that is read first, and prints the result or replaces the text of the
 /// file by it.
-fn on_source(
+pub fn on_source(
     rt: &HostRuntime,
     source: &Source<'_>,
     task: &Task<'_>,
@@ -170,12 +178,18 @@ pub fn document_problem(
 /// Runs the task on each line of the input, and prints each result as a line.
 fn on_lines(
     rt: &HostRuntime,
-    file: Option<&str>,
+    matches: &ArgMatches<'_>,
     task: Task<'_>,
     style: Style,
-    is_strict: bool,
 ) -> Result<u8, Problem> {
     let alloc = rt.alloc();
+    let file = matches.get_str("FILE");
+    // A writer without a buffer writes each line at once.
+    let block = if matches.get_flag("line-buffered") {
+        0
+    } else {
+        BLOCK
+    };
     let fallback = fallback_of(rt, &task, style.layout)?;
     let name = format!(in alloc; "jptr: {}", name_of(file))?;
     let run = LineTask {
@@ -183,16 +197,16 @@ fn on_lines(
         layout: style.layout,
         fallback,
         name,
-        is_strict,
+        is_strict: matches.get_flag("strict"),
     };
     let source = open(rt, file)?;
     let Ok(mut input) = BufReader::with_capacity(alloc, BLOCK, source) else {
         return Err(Problem::Memory);
     };
-    let Ok(mut output) = BufWriter::with_capacity(alloc, BLOCK, Output::new(rt)) else {
+    let Ok(mut output) = BufWriter::with_capacity(alloc, block, Output::new(rt)) else {
         return Err(Problem::Memory);
     };
-    let Ok(mut errors) = BufWriter::with_capacity(alloc, BLOCK, rt.stderr()) else {
+    let Ok(mut errors) = BufWriter::with_capacity(alloc, block, rt.stderr()) else {
         return Err(Problem::Memory);
     };
     let ended = if is_checked(&run.task, style) {

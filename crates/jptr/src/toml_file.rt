@@ -2,6 +2,7 @@
 
 use crate::digits::{check_text, is_lossy};
 use crate::given::read_given;
+use crate::operands::{argument, file_of};
 use crate::output::{print_line, print_text};
 use crate::problem::{NOT_APPLIED, NOT_JSON, Problem, USAGE, shown};
 use crate::source::Source;
@@ -15,13 +16,19 @@ use simdutf8::basic::from_utf8;
 use std::alloc::{AllocError, Global};
 use toml::{Value, table_from_str};
 
+/// What `--no-expand` says of a scalar on the way to a value.
+const SCALAR: &str = "a scalar is on the way, and --no-expand replaces none";
+
+/// What it says of an array or a table that is missing on the way.
+const MISSING: &str = "an array or a table on the way is missing, and --no-expand creates none";
+
 /// Why a document is not printed anew.
 const NOT_IN_PLACE: &str =
     "document cannot be edited in place; --reformat prints the document anew";
 
 /// Returns whether the document is TOML: by the flag, or by the name of its file.
 pub fn is_toml(matches: &ArgMatches<'_>) -> bool {
-    match matches.get_str("FILE") {
+    match file_of(matches) {
         Some(file) => matches.get_flag("toml") || file.ends_with(".toml"),
         None => matches.get_flag("toml"),
     }
@@ -60,20 +67,42 @@ pub fn set(
     no_lines(alloc, matches)?;
     let value = given_value(rt, matches)?;
     let source = Source::open(rt, matches)?;
+    if matches.get_flag("no-expand") {
+        check_above(alloc, &source, pointer)?;
+    }
     match assign_in_toml_text(alloc, text_of(alloc, &source)?, pointer, value) {
         Ok(edited) => put(rt, &source, &edited, matches.get_flag("reformat")),
         Err(error) => Err(problem(alloc, &source, pointer, error)),
     }
 }
 
+/// Fails if an assignment at the pointer would create an array or a table, or replace a scalar by one.
+fn check_above(alloc: Global, source: &Source<'_>, pointer: Pointer<'_>) -> Result<(), Problem> {
+    let Some(above) = pointer.parent() else {
+        return Ok(());
+    };
+    match find_in_toml(alloc, text_of(alloc, source)?, above) {
+        Ok(Value::Array(_)) => Ok(()),
+        Ok(Value::Table(_)) => Ok(()),
+        Ok(_) => Err(Problem::new(alloc, NOT_APPLIED, source.name, SCALAR)),
+        Err(InTomlError::NoValue(_error)) => Err(Problem::new(
+            alloc,
+            NOT_APPLIED,
+            source.name,
+            MISSING,
+        )),
+        Err(error) => Err(problem(alloc, source, above, error)),
+    }
+}
+
 /// Returns the value that is assigned: the argument as a string if the flag `--string` is there, and
 /// else the TOML value that is given.
 fn given_value(rt: &HostRuntime, matches: &ArgMatches<'_>) -> Result<Value, Problem> {
+    let word = argument(matches, "JSON");
     if matches.get_flag("string") {
-        let argument = matches.get_str("JSON").unwrap_or("");
-        return Ok(Value::String(String::from_str(rt.alloc(), argument)?));
+        return Ok(Value::String(String::from_str(rt.alloc(), word)?));
     }
-    let given = read_given(rt, matches)?;
+    let given = read_given(rt, matches, word)?;
     exact_value_of(rt.alloc(), matches, given.name, given.text.as_str())
 }
 

@@ -116,10 +116,15 @@ line_numbered run n k l out err (inl h) = record {
   is = h.3;
   for = λ j. inl (h.0, h.1, h.2, refl);
 }
-line_numbered run n k l out err (inr h) = record {
-  rs = (n, h.3.0) ∷ [];
-  is = h.3.1 ∙ sym (append-nil _);
-  for = λ j. inr (h.0, h.1, h.2, (h.3.0, append-nil _));
+line_numbered run n k l out err (inr (inl h)) = record {
+  rs = (n, h.4.0) ∷ [];
+  is = h.4.1 ∙ sym (append-nil _);
+  for = λ j. inr (inl (h.0, h.1, h.2, h.3, (h.4.0, append-nil _)));
+}
+line_numbered run n k l out err (inr (inr h)) = record {
+  rs = [];
+  is = h.2;
+  for = λ j. inr (inr (h.0, h.1, refl));
 }
 
 lines_numbered : (run : LineTask) (ls : List Text) (n k : ℕ) (out err : Text) → LinesGive run (n + k) ls out err → Numbered run n (λ m r. LinesGive run m ls out r) k err

@@ -6,4 +6,6 @@ mod InverseLemmas
 mod CuttingLemmas
 mod OrderLemmas
 mod SameLemmas
+mod NodeLemmas
 mod OneErrorLemmas
+mod LongPatchLemmas

@@ -1,7 +1,8 @@
 -- From edits of a text to what is printed, and from what is printed to what a line writes.
-use Rattle.std.proofs.Common.{◌≡◌, ◌≢◌, ◌+◌, ◌<◌, ◌≤◌, inl, inr, ℕ, List, [], ◌∷◌, ◌++◌, length, length-append, get_or, Option, Some, None, Result, Ok, Err, IfOk, IfErr, All, String, string_bytes, refl, sym, ap, ◌∙◌, subst, arith}
+use Rattle.std.proofs.Common.{◌≡◌, ◌≢◌, ◌+◌, ◌<◌, ◌≤◌, inl, inr, ℕ, List, [], ◌∷◌, ◌++◌, length, length-append, get_or, false, Option, Some, None, Result, Ok, Err, IfOk, IfErr, All, String, string_bytes, refl, sym, ap, ◌∙◌, subst, arith}
 use Rattle.std.specs.declared.alloc.Global.{Global}
 use Rattle.std.proofs.lemmas.List.{get_or-append-add, get_or_append_left}
+use Rattle.std.specs.Io.KnownBytes.{Appends}
 use Rattle.std.proofs.KnownBytes.{Appends-nil}
 use Rattle.serde_json.specs.Data.{Data}
 use Rattle.jsonptr_grammar.specs.Text.{Text}
@@ -20,6 +21,7 @@ use Rattle.jsonptr_edit_in_text.specs.declared.edited.EditError.TheVariants as e
 use Rattle.jsonptr_edit_in_text.specs.declared.in_place.InPlaceError.{InPlaceError}
 use Rattle.jsonptr_edit_in_text.specs.declared.in_place.InPlaceError.TheVariants as in_place
 use Rattle.jsonptr_lines.specs.Lines.{IsOneLine}
+use Rattle.jsonptr_json_edits.specs.Spacing.{IsBlank}
 use Rattle.jsonptr_lines.specs.Streams.{AppendsPrefix}
 use Rattle.jsonptr_paths.proofs.PlainLemmas.{plain_printed}
 use Rattle.jsonptr.specs.declared.assign.Error as assign
@@ -35,7 +37,7 @@ use Rattle.jptr_tasks.specs.Failures.{of_strict_assign_error}
 use Rattle.jptr_tasks.specs.Results.{Gets, Sets, Deletes, Patches, Yields, FailsToGet, FailsToSet, FailsToPatch}
 use Rattle.jptr_tasks.specs.PrivateResults.{Remakes, FailsToApply, IsRestyleError, PatchedBy}
 use Rattle.jptr_tasks.specs.LineResults.{YieldsLine, IsLineFault, IsReport, StopsRun, fallback_line}
-use Rattle.jptr_tasks.specs.PrivateLineResults.{Known, OrMemory, IsNoMemory, StopsPut}
+use Rattle.jptr_tasks.specs.PrivateLineResults.{Known, OrMemory, IsNoMemory, IsPut, StopsPut}
 use Rattle.jptr_tasks.specs.declared.failure.Failure.{Failure}
 use Rattle.jptr_tasks.specs.declared.failure.Failure.TheVariants.{BadPointer, NotPatch, NoValue, BadPlace, NotThere, BadPatch, TooDeep, NotInPlace, NotLocated, PatchTooDeep, LineBreak, BadLine, NotUtf8, NotJson, ArgumentNotJson, Memory, Read, Write}
 use Rattle.jptr_tasks.specs.declared.layout.Layout.{Layout}
@@ -270,9 +272,16 @@ pub line_fault : (run : LineTask) (l : Text) (f e : Failure) → OrMemory f (IsL
 line_fault run l f e h same =
     subst (IsLineFault run.task run.layout l) (sym same.0) (or_memory f (IsLineFault run.task run.layout l f) h (subst IsNoMemory same.0 same.1))
 
+-- a fault is written
+pub fault_put : (run : LineTask) (n : ℕ) (l : Text) (w0 w1 e0 e1 : Known) (f : Failure) (report : Text)
+    → IsLineFault run.task run.layout l f → (IsBlank l → ⊥) → IsReport (string_bytes run.name) n report
+    → Appends w0 w1 (fallback_line run.fallback) → Appends e0 e1 report → IsPut run n l w0 w1 e0 e1 false
+fault_put run n l w0 w1 e0 e1 f report fault filled is_report wrote told =
+    (fallback_line run.fallback, report, inr (inl (f, fault, filled, refl, is_report)), wrote, told, is_report)
+
 -- the write of a fault failed
 pub fault_stops : (run : LineTask) (n : ℕ) (l : Text) (w0 w1 e0 e1 : Known) (f : Failure) (report : Text) (e : Failure)
-    → IsLineFault run.task run.layout l f → IsReport (string_bytes run.name) n report → e ≡ Write
+    → IsLineFault run.task run.layout l f → (IsBlank l → ⊥) → IsReport (string_bytes run.name) n report → e ≡ Write
     → AppendsPrefix w0 w1 (fallback_line run.fallback) → AppendsPrefix e0 e1 report → StopsPut run n l w0 w1 e0 e1 e
-fault_stops run n l w0 w1 e0 e1 f report e fault is_report is wrote told =
-    (subst StopsRun (sym is) tt, inr (fallback_line run.fallback, report, inr (f, fault, refl, is_report), wrote, told))
+fault_stops run n l w0 w1 e0 e1 f report e fault filled is_report is wrote told =
+    (subst StopsRun (sym is) tt, inr (fallback_line run.fallback, report, inr (inl (f, fault, filled, refl, is_report)), wrote, told))

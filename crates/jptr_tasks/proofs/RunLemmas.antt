@@ -11,7 +11,7 @@ use Rattle.jsonptr_lines.specs.Streams.{ForInput, AppendsPrefix}
 use Rattle.jsonptr_lines.specs.declared.read.Ending.TheVariants.{Break, Input}
 use Rattle.jsonptr_lines.proofs.LineLemmas.{some_lines, all_lines-push, joined-push, lines_after}
 use Rattle.jptr_tasks.specs.LineResults.{LineGives, LinesGive, IsReport, StopsRun}
-use Rattle.jptr_tasks.specs.PrivateLineResults.{Known, IsPut}
+use Rattle.jptr_tasks.specs.PrivateLineResults.{Known, IsPut, StopsPut}
 use Rattle.jptr_tasks.specs.Runs.{AreFirstLines, IsEnd, IsRun, StopsIn}
 use Rattle.jptr_tasks.specs.PrivateRuns.{Progress, IsTurn, StopsTurn, ended_as}
 use Rattle.jptr_tasks.specs.declared.failure.Failure.{Failure}
@@ -56,6 +56,17 @@ prefix_kept a b c bs h k = (h.0, Appends-kept a b c (take h.0 bs) h.1 k)
 prefix_after : (a b c : Known) (bs cs : Text) → Appends a b bs → AppendsPrefix b c cs → AppendsPrefix a c (bs ++ cs)
 prefix_after a b c bs cs h k =
     (length bs + k.0, subst (Appends a c) (sym (take-append-add bs cs k.0)) (Appends-trans a b c bs (take k.0 cs) h k.1))
+
+-- a turn stops where what its line writes does
+pub stops_turn : (run : LineTask) (n : ℕ) (r0 r1 w0 w1 e0 e1 : Known) (l : Text) (e : Failure)
+    → IsNextLine r0 r1 l Break ⊎ IsNextLine r0 r1 l Input → StopsPut run n l w0 w1 e0 e1 e → StopsTurn run n r0 r1 w0 w1 e0 e1 e
+stops_turn run n r0 r1 w0 w1 e0 e1 l e next h = (
+  h.0,
+  elim h.1 [
+    | inl k ↦ inl k
+    | inr k ↦ inr (l, k.0, k.1, next, k.2, k.3, k.4)
+  ],
+)
 
 -- ---- what lines give
 

@@ -1,6 +1,7 @@
 -- Definitions of the contracts of commands on texts.
 pub mod Failures
 pub mod Layouts
+pub mod Nodes
 pub mod Results
 pub mod Differences
 pub mod Inverting
@@ -13,6 +14,7 @@ pub mod Cutting
 -- Replacing the text of a file.
 pub mod Replacement
 pub mod PrivateReplacement
+pub mod PrivateNodes
 pub mod PrivateResults
 pub mod PrivateLineResults
 pub mod PrivatePatches

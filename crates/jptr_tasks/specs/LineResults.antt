@@ -4,6 +4,7 @@ use Rattle.std.specs.Str.{IsUtf8}
 use Rattle.std.specs.declared.alloc.Global.{Global}
 use Rattle.jsonptr_grammar.specs.Text.{Text}
 use Rattle.jsonptr_lines.specs.Lines.{IsOneLine}
+use Rattle.jsonptr_json_edits.specs.Spacing.{IsBlank}
 use Rattle.jptr_tasks.specs.Layouts.{CanBreak}
 use Rattle.jptr_tasks.specs.Results.{Yields, Fails}
 use Rattle.jptr_tasks.specs.declared.failure.Failure.{Failure}
@@ -36,12 +37,14 @@ abbrev pub IsReport : Text → ℕ → Text → Type 0
 IsReport name n text =
     (message : Text) × (text ≡ name ++ (codes ":" ++ (decimal n ++ (codes ": " ++ (message ++ 10 ∷ [])))))
 
--- `LineGives run n l out err`: for the line `l`, with the number `n`, `out` is printed and `err` is reported
+-- `LineGives run n l out err`: for the line `l`, with the number `n`, `out` is printed and `err` is reported. A line of white
+-- space gives nothing
 abbrev pub LineGives : LineTask → ℕ → Text → Text → Text → Type 0
 LineGives run n l out err =
     ((s : Text) × YieldsLine run.task run.layout l s × (out ≡ s ++ 10 ∷ []) × (err ≡ []))
-    ⊎ ((e : Failure) × IsLineFault run.task run.layout l e × (out ≡ fallback_line run.fallback)
+    ⊎ (((e : Failure) × IsLineFault run.task run.layout l e × (IsBlank l → ⊥) × (out ≡ fallback_line run.fallback)
     × IsReport (string_bytes run.name) n err)
+    ⊎ (IsBlank l × (out ≡ []) × (err ≡ [])))
 
 -- `LinesGive run n ls out err`: for the lines `ls`, with the numbers from `n` on, `out` is printed and `err` is reported,
 -- line by line

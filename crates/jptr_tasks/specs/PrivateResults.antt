@@ -13,6 +13,7 @@ use Rattle.jsonptr_patch_document.specs.Document.{IsPatch, IsNoPatch}
 use Rattle.jsonptr_patch_document.specs.Writing.{document_of}
 use Rattle.jsonptr_edit_in_text.specs.PatchInText.{PatchesInText, IsPatchFault}
 use Rattle.jsonptr_edit_in_text.specs.declared.edited.EditError.TheVariants as edit
+use Rattle.jsonptr_relayout.specs.Relaying.{ReadsAs}
 use Rattle.jptr_tasks.specs.Layouts.{Lays}
 use Rattle.jptr_tasks.specs.declared.failure.Failure.{Failure}
 use Rattle.jptr_tasks.specs.declared.failure.Failure.TheVariants.{NotPatch, BadPatch, TooDeep, NotInPlace, PatchTooDeep, NotJson, Memory}
@@ -26,6 +27,10 @@ Remakes P layout out = (new : Text) × P new × Lays layout new out
 -- `PatchedBy text patch new`: the operations that the document `patch` is turn the document of `text` into that of `new`
 abbrev pub PatchedBy : Text → Data → Text → Type 0
 PatchedBy text patch new = (os : List Operation) × IsPatch patch os × PatchesInText text os new
+
+-- `ReadsSame text new`: both texts are JSON, and are read as documents with the same map
+abbrev pub ReadsSame : Text → Text → Type 0
+ReadsSame text new = (d : Data) × (read text ≡ Some d) × ReadsAs new (nodes d)
 
 -- `IsRestyleError text e`: `e` is why the document of `text` is not printed, if it is not for memory
 abbrev pub IsRestyleError : Text → Failure → Type 0

@@ -64,7 +64,14 @@ PatchesBy text patch layout out =
     × IsPatch patch os × PatchesInText text os new × Lays layout new out
     × (layout ≡ Kept → PatchBytes text os new × StaysOneLine text new)
 
--- `Patches text p layout out`: the same for the patch `p`. In the layout `Kept` what an operation puts into the text holds the
+-- `PatchesInLayout text patch layout out`: `out` is the document of `text` after the operations that the document `patch` is,
+-- in this layout. In the layout `Kept` a text of one line stays one line
+abbrev pub PatchesInLayout : Text → Data → Layout → Text → Type 0
+PatchesInLayout text patch layout out =
+    (os : List Operation) × (new : Text)
+    × IsPatch patch os × PatchesInText text os new × Lays layout new out × (layout ≡ Kept → StaysOneLine text new)
+
+-- `Patches text p layout out`: `PatchesBy` for the patch `p`. In the layout `Kept` what an operation puts into the text holds the
 -- tokens of the text that comes with it
 abbrev pub Patches : Text → RawPatch → Layout → Text → Type 0
 Patches text p layout out =

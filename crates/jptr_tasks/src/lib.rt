@@ -8,8 +8,9 @@
 //! - [`inverse`]: the patch document that takes a patch back.
 //! - [`document`]: a task on one document, from a reader to a writer.
 //! - [`lines`]: a task on each line of an input.
+//! - [`node`]: the type, the length and the keys of a value, and whether it equals another one.
 //! - [`paths`]: a document as lines of pointers and values, and a document from such lines.
-//! - [`patching`]: applying a patch document.
+//! - [`patching`]: applying a patch document, and [`long_patch`]: one of many operations.
 //! - [`raw_patch`]: a patch document, with the texts of its values.
 //! - [`replacement`]: replacing the text of a file, whatever moment the system stops at.
 //! - [`failure`]: the errors, and the exit status of each.
@@ -25,6 +26,8 @@ pub mod laws;
 pub mod layout;
 pub mod line;
 pub mod lines;
+pub mod long_patch;
+pub mod node;
 pub mod patching;
 pub mod paths;
 pub mod raw_patch;

@@ -11,7 +11,9 @@ use crate::layout::Layout;
 use crate::result::result_in_text_with;
 use crate::task::Task;
 use jsonptr_edit_in_text::Buffers;
+use jsonptr_json_edits::spacing::are_blank;
 use jsonptr_lines::write::write_bytes;
+use serde_json::Value;
 use simdutf8::basic::from_utf8;
 use std::alloc::{AllocError, Global};
 use std::io;
@@ -32,7 +34,7 @@ pub struct LineTask<'a> {
 }
 
 /// Writes the result of the line with this number. Of a line at fault it writes the fallback and, to
-/// `errors`, a report. Returns whether the line has a result.
+/// `errors`, a report. A line of white space is passed over. Returns whether the line is not at fault.
 ///
 /// # Errors
 ///
@@ -52,6 +54,9 @@ pub fn put_line<W: io::Write, E: io::Write>(
     ensures failed { IfErr result (StopsPut run.now number line.now (W.contents output.old)
         (W.contents output.new) (E.contents errors.old) (E.contents errors.new)) }
 {
+    if are_blank(line) {
+        return Ok(true);
+    }
     match line_result(alloc, buffers, &run.task, run.layout, line) {
         Ok(text) => {
             let text = with_break(text)?;
@@ -60,7 +65,7 @@ pub fn put_line<W: io::Write, E: io::Write>(
         }
         Err(failure) => {
             let failure = fault_of_line(failure)?;
-            let report = report_of(alloc, run.name.as_str(), number, &failure)?;
+            let report = report_of(alloc, run.name.as_str(), number, line, &failure)?;
             put_fault(&run.fallback, report.as_str(), output, errors)?;
             Ok(false)
         }
@@ -167,10 +172,28 @@ fn report_of(
     alloc: Global,
     name: &str,
     number: u64,
+    line: &[u8],
     failure: &Failure,
 ) -> Result<String, AllocError>
     ensures { IfOk result (λ s. IsReport name.now number (string_bytes s)) }
 {
-    let message = failure.to_string(alloc)?;
+    let message = message_of(alloc, line, failure)?;
     format!(in alloc; "{name}:{number}: {message}\n")
+}
+
+/// Returns the text of the error. Of a line that is not JSON it has the column, in bytes from 1, where
+/// reading ends.
+fn message_of(alloc: Global, line: &[u8], failure: &Failure) -> Result<String, AllocError> {
+    let text = failure.to_string(alloc)?;
+    if !matches!(failure, Failure::NotJson) {
+        return Ok(text);
+    }
+    match Value::from_slice(alloc, line) {
+        Ok(_) => Ok(text),
+        Err(error) if error.is_memory() => Err(AllocError),
+        Err(error) => {
+            let column = error.column();
+            format!(in alloc; "{text} at column {column}")
+        }
+    }
 }

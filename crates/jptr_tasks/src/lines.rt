@@ -37,7 +37,7 @@ enum Turn {
 /// Does the task on each line of the input, and writes each result as a line, in the order of the
 /// input.
 ///
-/// A line at fault gives the fallback instead, if there is one, and a line on `errors`: the name of
+/// A line of white space is passed over. A line at fault gives the fallback instead, if there is one, and a line on `errors`: the name of
 /// the input, the number of the line from 1, and the error. The run goes on, or ends there if it is
 /// strict. The memory is that of the longest line and of its result.
 ///

@@ -208,7 +208,7 @@ fn patched(
 
 /// Reads the document of the text, applies the patch document, and prints it. No error is
 /// [`Failure::NotInPlace`].
-fn print_anew(alloc: Global, text: &str, document: &Value) -> Result<String, Failure>
+pub(crate) fn print_anew(alloc: Global, text: &str, document: &Value) -> Result<String, Failure>
     ensures done { IfOk result (λ s. PatchedBy text.now (view document.now) (string_bytes s)) }
     ensures failed { IfErr result (FailsToPatch text.now (view document.now) Layout.Compact) }
 {

@@ -1,5 +1,5 @@
 -- The bytes of a value in the text of a document.
-use Rattle.std.specs.Prelude.{◌≡◌, List, ◌++◌}
+use Rattle.std.specs.Prelude.{◌≡◌, ◌≤◌, ◌<◌, ◌+◌, ℕ, List, [], ◌++◌, length}
 use Rattle.serde_json.specs.Data.{Data}
 use Rattle.jsonptr_grammar.specs.Text.{Text}
 use Rattle.jsonptr_in_text.specs.InText.{FindsInText, IsInTextError}
@@ -14,6 +14,19 @@ pub record IsLocated (text : Text) (tokens : List Text) (before piece after : Te
   pub parts : text ≡ before ++ (piece ++ after)
   pub found : FindsInText text tokens value
   pub whole : IsValueText value piece
+
+-- `Contains before piece k`: in `before ++ piece`, the byte at the offset `k` is one of `piece`
+abbrev pub Contains : Text → Text → ℕ → Type 0
+Contains before piece k = (length before ≤ k) × (k < length before + length piece)
+
+-- `IsLocatedAt text k tokens before piece after`: the bytes of the value that `tokens` identify are `piece`, and the byte of
+-- `text` at the offset `k` is one of them
+abbrev pub IsLocatedAt : Text → ℕ → List Text → Text → Text → Text → Type 0
+IsLocatedAt text k tokens before piece after = IsLocated text tokens before piece after × Contains before piece k
+
+-- `IsOutside text k`: the byte of `text` at the offset `k` is none of the document's
+abbrev pub IsOutside : Text → ℕ → Type 0
+IsOutside text k = (before piece after : Text) × IsLocated text [] before piece after × (Contains before piece k → ⊥)
 
 -- `IsLocateError text tokens e`: `e` is why the bytes of the value are not found, if it is not for memory. With `NotLocated`
 -- the value is there

@@ -12,7 +12,8 @@
 //! - [`apply_in_text`] applies a JSON Patch (RFC 6902), all of its operations or none.
 //! - [`assign_raw_in_place`] assigns a [`RawValue`], which keeps its own text: the order of its members
 //!   and the form of its numbers.
-//! - [`locate_in_text`] returns where a value is, and its own text.
+//! - [`locate_in_text`] returns where a value is, and its own text; [`pointer_at`] which value is at an
+//!   offset.
 //! - [`laws`] states that the bytes of an edit can be put back.
 //!
 //! Each call makes two promises. *Meaning*: the new text reads as the document that the call on
@@ -31,6 +32,7 @@ mod add;
 mod apply;
 mod as_written;
 mod assign;
+mod at_offset;
 mod delete;
 mod edit;
 mod edited;
@@ -55,6 +57,7 @@ mod wrap;
 
 pub use apply::{apply_in_text, apply_in_text_with, apply_raw_in_text_with, try_apply_raw};
 pub use assign::{assign_in_text, assign_in_text_with, assign_raw_in_text_with};
+pub use at_offset::{PointerAt, pointer_at};
 pub use delete::{delete_in_text, delete_in_text_with};
 pub use edited::{EditError, Edited};
 pub use in_place::{

@@ -36,6 +36,18 @@ pub enum LocateError {
     Failed(InTextError),
 }
 
+impl From<AllocError> for LocateError {
+    ghost use Rattle.std.specs.Prelude.{◌≡◌};
+    ghost use Rattle.jsonptr_in_text.specs.declared.resolve.InTextError.TheVariants as in_text;
+    ghost use Rattle.jsonptr_edit_in_text.specs.declared.locate.LocateError.TheVariants as locate;
+
+    ghost from_gives = { λ error fault. fault ≡ locate.Failed (in_text.Memory error) };
+
+    fn from(error: AllocError) -> LocateError {
+        LocateError::Failed(InTextError::Memory(error))
+    }
+}
+
 /// Returns where the value that the pointer resolves to is in the JSON text.
 ///
 /// The result borrows the text: it is the text in three parts, and the second is the text of that

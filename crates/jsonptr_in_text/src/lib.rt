@@ -36,6 +36,7 @@ mod child;
 mod error_at;
 mod format;
 pub mod laws;
+pub mod path;
 mod resolve;
 pub mod selectors;
 

@@ -117,9 +117,9 @@ pub fn replacement(
         return spread(alloc, value, at);
     }
     let around = slice(text, place.container.from, place.container.to);
-    let flat = Flat::of(old).or(Flat::of(around));
+    let line_flat = Flat::before(line).or(Flat::of(text));
     let at = Line {
-        flat: flat.or(Flat::of(line)).or(Flat::of(text)),
+        flat: Flat::of(old).or(Flat::of(around).inside(line_flat)),
         is_over_lines: line.starts_with('\n'),
     };
     on_line(alloc, value, at)
@@ -208,7 +208,7 @@ impl<'t> Container<'t> {
         let inner = slice(self.text, self.span.from, self.span.to);
         let line = line_before(self.text, self.span.from);
         Line {
-            flat: Flat::of(inner).or(Flat::of(line)).or(Flat::of(self.text)),
+            flat: Flat::of(inner).inside(Flat::before(line).or(Flat::of(self.text))),
             is_over_lines: line.starts_with('\n'),
         }
     }
@@ -318,7 +318,7 @@ fn first_on_line(
         unit: unit_of(container.text, container.span),
     };
     let text = spread(alloc, value, at)?;
-    let colon = Flat::of(line).around_colon(true);
+    let colon = Flat::before(line).around_colon(true);
     let body = body_of(alloc, key, colon, text.as_str())?;
     let mut lead = String::from_str(alloc, at.newline)?;
     lead.push_str(at.indent)?;

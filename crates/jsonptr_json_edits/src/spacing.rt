@@ -1,5 +1,5 @@
 //! White space of JSON texts (RFC 8259, section 2).
-ghost use Rattle.std.specs.Prelude.{◌≡◌, ℕ, Some, IsTrue, option_copied};
+ghost use Rattle.std.specs.Prelude.{◌≡◌, ℕ, false, Some, IsTrue, option_copied};
 ghost use Rattle.json.specs.Word.{is_space as is_json_space};
 ghost use Rattle.jsonptr_json_edits.specs.Spacing.{IsBlank, IsSpaced, IsTrimmed};
 
@@ -14,7 +14,15 @@ pub fn is_space(byte: u8) -> bool
 pub fn is_blank(text: &str) -> bool
     ensures { IsTrue result → IsBlank text.now }
 {
-    text.as_bytes().iter().all(|byte| is_space(*byte))
+    are_blank(text.as_bytes())
+}
+
+/// Returns whether the bytes are white space alone.
+pub fn are_blank(bytes: &[u8]) -> bool
+    ensures blank { IsTrue result → IsBlank bytes.now }
+    ensures filled { result ≡ false → IsBlank bytes.now → ⊥ }
+{
+    bytes.iter().all(|byte| is_space(*byte))
 }
 
 /// Returns whether the text is a comma with white space around it.

@@ -27,26 +27,15 @@ pub struct Flat<'t> {
 }
 
 impl<'t> Flat<'t> {
-    /// Returns what the beginning of a text shows. The text does not begin inside a string.
+    /// Returns what the beginning of a text shows first. The text does not begin inside a string.
     pub fn of(text: &'t str) -> Flat<'t> {
-        let mut seen = Seen {
-            text,
-            flat: Flat {
-                comma: None,
-                colon: None,
-                brace: None,
-                bracket: None,
-            },
-            in_string: false,
-            is_escaped: false,
-            end: 0,
-        };
-        let mut offset: usize = 0;
-        for byte in text.as_bytes().iter().take(MOST_BYTES) {
-            seen.look(offset, *byte);
-            offset = offset.saturating_add(1);
-        }
-        seen.flat
+        seen_in(text, false)
+    }
+
+    /// Returns what the beginning of a line shows last: what is nearest to a value at the end of the
+    /// line.
+    pub fn before(line: &'t str) -> Flat<'t> {
+        seen_in(line, true)
     }
 
     /// Returns what this shows, and for the rest what the other one does.
@@ -57,6 +46,16 @@ impl<'t> Flat<'t> {
             brace: self.brace.or(other.brace),
             bracket: self.bracket.or(other.bracket),
         }
+    }
+
+    /// Returns what a container shows, and for the rest what is around it. If the container shows a
+    /// colon and no comma, it has the comma of what is around it only if the colons are the same.
+    pub fn inside(self, around: Flat<'t>) -> Flat<'t> {
+        let mut flat = self.or(around);
+        if self.comma.is_none() && self.colon.is_some() && self.colon != around.colon {
+            flat.comma = Some(self.after_comma(false));
+        }
+        flat
     }
 
     /// Returns what is after a comma. If no comma shows it, a colon does; a text over lines has a space
@@ -80,10 +79,35 @@ impl<'t> Flat<'t> {
     }
 }
 
+/// Returns what the beginning of a text shows: what is seen first, or what is seen last.
+fn seen_in(text: &str, is_last: bool) -> Flat<'_> {
+    let mut seen = Seen {
+        text,
+        is_last,
+        flat: Flat {
+            comma: None,
+            colon: None,
+            brace: None,
+            bracket: None,
+        },
+        in_string: false,
+        is_escaped: false,
+        end: 0,
+    };
+    let mut offset: usize = 0;
+    for byte in text.as_bytes().iter().take(MOST_BYTES) {
+        seen.look(offset, *byte);
+        offset = offset.saturating_add(1);
+    }
+    seen.flat
+}
+
 /// What was seen of a text.
 #[derive(Drop)]
 struct Seen<'t> {
     text: &'t str,
+    /// Whether what is seen last counts.
+    is_last: bool,
     flat: Flat<'t>,
     /// Whether the next byte is inside a string.
     in_string: bool,
@@ -94,7 +118,7 @@ struct Seen<'t> {
 }
 
 impl<'t> Seen<'t> {
-    /// Looks at the byte at the offset. What is seen first counts.
+    /// Looks at the byte at the offset.
     fn look(&mut self, offset: usize, byte: u8) {
         if self.in_string {
             self.look_inside(offset, byte);
@@ -103,11 +127,20 @@ impl<'t> Seen<'t> {
         let next = offset.saturating_add(1);
         match byte {
             b'"' => self.in_string = true,
-            b',' => self.flat.comma = self.flat.comma.or(flat_space(self.text, next)),
-            b':' => self.flat.colon = self.flat.colon.or(self.colon_at(next)),
-            b'{' => self.flat.brace = self.flat.brace.or(pad_at(self.text, next)),
-            b'[' => self.flat.bracket = self.flat.bracket.or(pad_at(self.text, next)),
+            b',' => self.flat.comma = self.one_of(self.flat.comma, flat_space(self.text, next)),
+            b':' => self.flat.colon = self.one_of(self.flat.colon, self.colon_at(next)),
+            b'{' => self.flat.brace = self.one_of(self.flat.brace, pad_at(self.text, next)),
+            b'[' => self.flat.bracket = self.one_of(self.flat.bracket, pad_at(self.text, next)),
             _ => {}
+        }
+    }
+
+    /// Returns which of both counts: what was seen before, or what is seen now.
+    fn one_of(&self, before: Option<&'t str>, now: Option<&'t str>) -> Option<&'t str> {
+        if self.is_last {
+            now.or(before)
+        } else {
+            before.or(now)
         }
     }
 

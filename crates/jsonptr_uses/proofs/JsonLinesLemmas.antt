@@ -1,5 +1,5 @@
 -- What a run over lines gives, if it reports none.
-use Rattle.std.proofs.Common.{◌≡◌, inl, inr, ℕ, ◌+◌, List, [], ◌∷◌, ◌++◌, Option, Some, None, Result, Ok, Err, IfOk, IfErr, refl, sym, ap, ◌∙◌, subst, append_assoc, codes, decimal, string_bytes}
+use Rattle.std.proofs.Common.{◌≡◌, ◌⊎◌, inl, inr, ℕ, ◌+◌, List, [], ◌∷◌, ◌++◌, Option, Some, None, Result, Ok, Err, IfOk, IfErr, refl, sym, ap, ◌∙◌, subst, append_assoc, codes, decimal, string_bytes}
 use Rattle.std.specs.Io.KnownBytes.{Appends}
 use Rattle.serde_json.specs.Data.{Data}
 use Rattle.serde_json.specs.Read.{read}
@@ -8,6 +8,7 @@ use Rattle.jsonptr.specs.Text.{Text}
 use Rattle.jsonptr.specs.declared.pointer.Pointer.{Pointer}
 use Rattle.jsonptr_edit_in_text.specs.Carrying.{value_of}
 use Rattle.jsonptr_edit_in_text.specs.declared.raw_value.RawValue.{RawValue}
+use Rattle.jsonptr_json_edits.specs.Spacing.{IsBlank}
 use Rattle.jsonptr_lines.specs.Lines.{AreLines}
 use Rattle.jsonptr_lines.specs.Streams.{ForInput}
 use Rattle.jsonptr_paths.specs.declared.listing.Listed.TheVariants.{AllNodes}
@@ -44,31 +45,40 @@ pub report_some : (name : Text) (n : ℕ) (r : Text) → IsReport name n r → r
 report_some name n r h e = not_nil name 58 (decimal n ++ (codes ": " ++ (h.0 ++ 10 ∷ []))) (sym h.1 ∙ e)
 
 module _ (run : LineTask) (p : Pointer) (v : RawValue) (task : run.task ≡ Set p v) (layout : run.layout ≡ Kept) where
-  set_line : (n : ℕ) (l out err : Text) → LineGives run n l out err → err ≡ [] → (new : Text) × Sets l (tokens p) v Kept new × (out ≡ new ++ 10 ∷ [])
+  set_line : (n : ℕ) (l out err : Text) → LineGives run n l out err → err ≡ [] → ((new : Text) × Sets l (tokens p) v Kept new × (out ≡ new ++ 10 ∷ [])) ⊎ (IsBlank l × (out ≡ []))
   set_line n l out err h none = elim h [
     | inl x ↦
         let one : Yields (Set p v) run.layout l x.0 = subst (λ (t : Task). Yields t run.layout l x.0) task x.1.1 in
         let two : Yields (Set p v) Kept l x.0 = subst (λ (y : Layout). Yields (Set p v) y l x.0) layout one in
-        (x.0, two, x.2)
-    | inr x ↦ absurd (report_some (string_bytes run.name) n err x.3 none)
+        inl (x.0, two, x.2)
+    | inr x ↦ elim x [
+      | inl y ↦ absurd (report_some (string_bytes run.name) n err y.4 none)
+      | inr y ↦ inr (y.0, y.1)
+    ]
   ]
 
   pub tags_each : (ls : List Text) (n : ℕ) (out err : Text) → LinesGive run n ls out err → err ≡ [] → TagsEach (tokens p) (value_of v) ls out
   tags_each [] n out err h none = h.0
   tags_each (l ∷ ls) n out err h none =
       let parts : h.1 ++ h.3 ≡ [] = sym h.7 ∙ none in
-      let here = set_line n l h.0 h.1 h.4 (nil_left h.1 h.3 parts) in
       let rest = tags_each ls (n + 1) h.2 h.3 h.5 (nil_right h.1 h.3 parts) in
-      let made = here.1 in
-      let is : here.0 ≡ made.0 = made.2 in
-      let bytes = made.3 refl in (
-        made.0,
-        h.2,
-        made.1,
-        bytes.0,
-        rest,
-        h.6 ∙ ap (λ (t : Text). t ++ h.2) (here.2 ∙ ap (λ (t : Text). t ++ 10 ∷ []) is) ∙ append_assoc made.0 (10 ∷ []) h.2,
-      )
+      elim (set_line n l h.0 h.1 h.4 (nil_left h.1 h.3 parts)) [
+        | inl here ↦
+            let made = here.1 in
+            let is : here.0 ≡ made.0 = made.2 in
+            let bytes = made.3 refl in
+            inl (
+              made.0,
+              h.2,
+              made.1,
+              bytes.0,
+              rest,
+              h.6 ∙ ap (λ (t : Text). t ++ h.2) (here.2 ∙ ap (λ (t : Text). t ++ 10 ∷ []) is) ∙ append_assoc made.0 (10 ∷ []) h.2,
+            )
+        | inr here ↦
+            let same : out ≡ h.2 = h.6 ∙ ap (λ (t : Text). t ++ h.2) here.1 in
+            inr (here.0, subst (λ (t : Text). TagsEach (tokens p) (value_of v) ls t) (sym same) rest)
+      ]
 
 -- ---- streams
 

@@ -1,0 +1,268 @@
+//! Arrays whose elements are missing in lines that build a document.
+
+use crate::problem::{NOT_APPLIED, Problem};
+use std::alloc::{AllocError, Global};
+
+/// As many elements as are added to an array at once.
+const MOST: usize = 1_048_576;
+
+/// A line, with what is before it.
+#[derive(Clone, Copy, Drop)]
+struct Line<'t> {
+    /// Its number, from 1.
+    number: usize,
+    /// The text of its pointer.
+    pointer: &'t str,
+    /// The text of the pointer of the line before it.
+    previous: &'t str,
+    /// The lines before it.
+    earlier: &'t str,
+}
+
+/// Elements that are missing in an array: those from one index up to another.
+#[derive(Clone, Copy, Drop)]
+struct Gap<'t> {
+    /// The text of the array's pointer.
+    above: &'t str,
+    from: usize,
+    to: usize,
+}
+
+/// Lines without gaps.
+#[derive(Drop)]
+pub struct Filled {
+    /// The lines.
+    pub text: String,
+    /// The number that each line had before, from 1.
+    numbers: Vec<usize>,
+}
+
+/// Fails if a line makes an object of an array whose elements are missing. The lines build a document.
+pub fn check_gaps(alloc: Global, name: &str, text: &str) -> Result<(), Problem> {
+    let mut number: usize = 0;
+    let mut offset: usize = 0;
+    let mut before: usize = 0;
+    for line in text.split('\n') {
+        number = number.saturating_add(1);
+        let line_here = Line {
+            number,
+            pointer: pointer_of_line(line),
+            previous: pointer_of_line(text.get(before..offset).unwrap_or("")),
+            earlier: text.get(..offset).unwrap_or(""),
+        };
+        check_line(alloc, name, line_here)?;
+        before = offset;
+        offset = offset.saturating_add(line.len()).saturating_add(1);
+    }
+    Ok(())
+}
+
+/// Fails if the line makes an object of an array whose elements are missing.
+fn check_line(alloc: Global, name: &str, line: Line<'_>) -> Result<(), Problem> {
+    for (slash, byte) in line.pointer.as_bytes().iter().enumerate() {
+        if *byte == b'/' {
+            if let Some(gap) = new_gap(alloc, line, slash)? {
+                return Err(problem(alloc, name, line.number, gap));
+            }
+        }
+    }
+    Ok(())
+}
+
+/// Returns the lines with `null` for each element that is missing in an array, as far as the lines are in
+/// the order of a document.
+pub fn fill_gaps(alloc: Global, name: &str, text: &str) -> Result<Filled, Problem> {
+    let mut filled = Filled {
+        text: String::new(alloc),
+        numbers: Vec::new(alloc),
+    };
+    let mut number: usize = 0;
+    let mut offset: usize = 0;
+    let mut before: usize = 0;
+    for line in text.split('\n') {
+        number = number.saturating_add(1);
+        let line_here = Line {
+            number,
+            pointer: pointer_of_line(line),
+            previous: pointer_of_line(text.get(before..offset).unwrap_or("")),
+            earlier: text.get(..offset).unwrap_or(""),
+        };
+        fill_line(alloc, name, &mut filled, line_here)?;
+        filled.push(number, line)?;
+        before = offset;
+        offset = offset.saturating_add(line.len()).saturating_add(1);
+    }
+    Ok(filled)
+}
+
+/// Adds lines with `null` for the elements that are missing before the line.
+fn fill_line(
+    alloc: Global,
+    name: &str,
+    filled: &mut Filled,
+    line: Line<'_>,
+) -> Result<(), Problem> {
+    for (slash, byte) in line.pointer.as_bytes().iter().enumerate() {
+        if *byte == b'/' {
+            let gap = match next_gap(line, slash) {
+                Some(gap) => Some(gap),
+                None => new_gap(alloc, line, slash)?,
+            };
+            if let Some(gap) = gap {
+                check_size(alloc, name, line.number, gap)?;
+                filled.add_nulls(alloc, line.number, gap)?;
+            }
+        }
+    }
+    Ok(())
+}
+
+/// Fails if too many elements are missing.
+fn check_size(alloc: Global, name: &str, number: usize, gap: Gap<'_>) -> Result<(), Problem> {
+    if gap.to.saturating_sub(gap.from) <= MOST {
+        return Ok(());
+    }
+    let message = format!(in alloc; "line {number}: more than {MOST} elements are missing")?;
+    Err(Problem::new(alloc, NOT_APPLIED, name, message.as_str()))
+}
+
+impl Filled {
+    /// Returns the number that the line with this number had before.
+    pub fn number_of(&self, number: usize) -> usize {
+        match self.numbers.get(number.saturating_sub(1)) {
+            Some(before) => *before,
+            None => number,
+        }
+    }
+
+    /// Adds a line.
+    fn push(&mut self, number: usize, line: &str) -> Result<(), AllocError> {
+        if !self.numbers.is_empty() {
+            self.text.push('\n')?;
+        }
+        self.text.push_str(line)?;
+        self.numbers.push(number)?;
+        Ok(())
+    }
+
+    /// Adds a line with `null` for each element of the gap.
+    fn add_nulls(&mut self, alloc: Global, number: usize, gap: Gap<'_>) -> Result<(), AllocError> {
+        for index in gap.from..gap.to {
+            let above = gap.above;
+            let line = format!(in alloc; "{above}/{index}\tnull")?;
+            self.push(number, line.as_str())?;
+        }
+        Ok(())
+    }
+}
+
+/// Returns the text of the pointer of a line, or an empty one if it is a JSON string.
+fn pointer_of_line(line: &str) -> &str {
+    match line.split_once('\t') {
+        Some((pointer, _value)) if pointer.starts_with('/') => pointer,
+        _ => "",
+    }
+}
+
+/// Returns the gap before the element that the token after the slash names, in the array that the line
+/// before goes through too.
+fn next_gap<'t>(line: Line<'t>, slash: usize) -> Option<Gap<'t>> {
+    if !is_shared(line, slash) {
+        return None;
+    }
+    let to = index_after(line.pointer, slash)?;
+    let from = index_after(line.previous, slash)?.saturating_add(1);
+    let above = line.pointer.get(..slash)?;
+    if from < to {
+        Some(Gap { above, from, to })
+    } else {
+        None
+    }
+}
+
+/// Returns the gap before the element that the token after the slash names, in a container that no line
+/// before goes through.
+fn new_gap<'t>(alloc: Global, line: Line<'t>, slash: usize) -> Result<Option<Gap<'t>>, AllocError> {
+    if is_shared(line, slash) {
+        return Ok(None);
+    }
+    let (Some(to), Some(above)) = (index_after(line.pointer, slash), line.pointer.get(..slash))
+    else {
+        return Ok(None);
+    };
+    if to == 0 || is_known(alloc, line.earlier, above)? {
+        return Ok(None);
+    }
+    Ok(Some(Gap { above, from: 0, to }))
+}
+
+/// Returns whether the line before goes through the container above the slash.
+fn is_shared(line: Line<'_>, slash: usize) -> bool {
+    match line.pointer.get(..slash.saturating_add(1)) {
+        Some(front) => line.previous.starts_with(front),
+        None => false,
+    }
+}
+
+/// Returns the index that the token after the slash is.
+fn index_after(pointer: &str, slash: usize) -> Option<usize> {
+    let rest = pointer.get(slash.saturating_add(1)..)?;
+    let token = match rest.split_once('/') {
+        Some((token, _rest)) => token,
+        None => rest,
+    };
+    if token.starts_with('+') || (token.starts_with('0') && token != "0") {
+        return None;
+    }
+    token.parse::<usize>().ok()
+}
+
+/// Returns whether one of the lines goes through the container, or has a container as its value above it.
+fn is_known(alloc: Global, earlier: &str, above: &str) -> Result<bool, AllocError> {
+    if above.is_empty() {
+        return Ok(!earlier.is_empty());
+    }
+    if has_line(alloc, earlier, above, "/")? {
+        return Ok(true);
+    }
+    for (end, byte) in above.as_bytes().iter().enumerate() {
+        if *byte == b'/' && has_container(alloc, earlier, above.get(..end).unwrap_or(""))? {
+            return Ok(true);
+        }
+    }
+    has_container(alloc, earlier, above)
+}
+
+/// Returns whether one of the lines has a container as its value at the pointer.
+fn has_container(alloc: Global, lines: &str, pointer: &str) -> Result<bool, AllocError> {
+    Ok(has_line(alloc, lines, pointer, "\t{")? || has_line(alloc, lines, pointer, "\t[")?)
+}
+
+/// Returns whether one of the lines begins with the pointer and then with the other text.
+fn has_line(alloc: Global, lines: &str, pointer: &str, then: &str) -> Result<bool, AllocError> {
+    let front = format!(in alloc; "\n{pointer}{then}")?;
+    if lines.contains(front.as_str()) {
+        return Ok(true);
+    }
+    match front.strip_prefix('\n') {
+        Some(first) => Ok(lines.starts_with(first)),
+        None => Ok(false),
+    }
+}
+
+/// Returns the problem of a line before which elements are missing.
+fn problem(alloc: Global, name: &str, number: usize, gap: Gap<'_>) -> Problem {
+    match message(alloc, number, gap) {
+        Ok(message) => Problem::new(alloc, NOT_APPLIED, name, message.as_str()),
+        Err(_) => Problem::Memory,
+    }
+}
+
+/// Returns what is said of a line before which elements are missing.
+fn message(alloc: Global, number: usize, gap: Gap<'_>) -> Result<String, AllocError> {
+    let (above, to) = (gap.above, gap.to);
+    let at = if above.is_empty() { "" } else { " at " };
+    Ok(format!(in alloc;
+        "line {number}: no element is before {to} in an array{at}{above}: --fill adds null, and lines of paths --all tell an object"
+    )?)
+}

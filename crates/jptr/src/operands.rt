@@ -1,0 +1,81 @@
+//! The arguments of a command: pointers and files.
+
+use crate::problem::{Problem, USAGE};
+use crate::source::Source;
+use clap::ArgMatches;
+use jsonptr::Pointer;
+use simdutf8::basic::from_utf8;
+use std::alloc::{AllocError, Global};
+
+/// Returns the value of a required argument.
+pub fn argument<'a>(matches: &ArgMatches<'a>, name: &str) -> &'a str {
+    match matches.get_str(name) {
+        Some(text) => text,
+        None => "",
+    }
+}
+
+/// Returns the file of the command, if there is one: the last of its further words. After pairs of a
+/// pointer and a value it is there if one word is left.
+pub fn file_of<'a>(matches: &ArgMatches<'a>) -> Option<&'a str> {
+    let words = matches.get_strs("FILE")?;
+    if has_file(matches, words) {
+        words.last().copied()
+    } else {
+        None
+    }
+}
+
+/// Returns the words after the first pointer, or after the first pair of a pointer and a value, and
+/// before the file.
+pub fn more_operands<'a>(
+    alloc: Global,
+    matches: &ArgMatches<'a>,
+) -> Result<Vec<&'a str>, AllocError> {
+    let mut more = Vec::new(alloc);
+    let Some(words) = matches.get_strs("FILE") else {
+        return Ok(more);
+    };
+    let after = if has_file(matches, words) { 1 } else { 0 };
+    for word in words.iter().take(words.len().saturating_sub(after)) {
+        more.push(*word)?;
+    }
+    Ok(more)
+}
+
+/// Returns whether the last of the further words is the file.
+fn has_file(matches: &ArgMatches<'_>, words: &[&str]) -> bool {
+    matches.get_str("JSON").is_none() || words.len() % 2 == 1
+}
+
+/// Parses an argument as a pointer.
+pub fn pointer_of<'a>(alloc: Global, text: &'a str) -> Result<Pointer<'a>, Problem> {
+    match Pointer::parse(text) {
+        Ok(pointer) => Ok(pointer),
+        Err(error) => Err(Problem::of_pointer(alloc, text, error)),
+    }
+}
+
+/// Fails if the file of a command that takes JSON alone is TOML by its name.
+pub fn check_json(alloc: Global, command: &str, file: Option<&str>) -> Result<(), Problem> {
+    if is_toml_name(file) {
+        return Err(Problem::new(alloc, USAGE, command, "not on TOML"));
+    }
+    Ok(())
+}
+
+/// Returns whether the name of a file ends in `.toml`.
+fn is_toml_name(file: Option<&str>) -> bool {
+    match file {
+        Some(name) => name.ends_with(".toml"),
+        None => false,
+    }
+}
+
+/// Returns the text of a document. Bytes that are not UTF-8 are not JSON.
+pub fn json_text<'s>(alloc: Global, source: &'s Source<'_>) -> Result<&'s str, Problem> {
+    match from_utf8(&source.bytes) {
+        Ok(text) => Ok(text),
+        Err(_) => Err(Problem::of_bytes(alloc, source.name, &source.bytes)),
+    }
+}

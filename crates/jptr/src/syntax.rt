@@ -1,0 +1,349 @@
+//! Why a text is not JSON: what is found, and what may be there instead.
+
+use crate::position::Position;
+use crate::problem::shown;
+use std::alloc::{AllocError, Global};
+
+/// The greatest number of arrays and objects around a value.
+const MAX_DEPTH: usize = 127;
+
+/// The greatest number of characters that are drawn before and after a place.
+const MOST_DRAWN: usize = 60;
+
+/// What may come next in a JSON text.
+#[derive(Clone, Copy, PartialEq, Eq)]
+enum Next {
+    Value,
+    FirstElement,
+    FirstKey,
+    Key,
+    Colon,
+    AfterElement,
+    AfterMember,
+    End,
+}
+
+/// What is wrong at a place of a text.
+#[derive(Clone, Copy)]
+enum Fault {
+    /// This is expected there.
+    Expected(&'static str),
+    /// A character of a string is not escaped.
+    Control,
+    /// No escape of JSON begins so.
+    Escape,
+    /// An array or an object is too deep.
+    Depth,
+}
+
+/// Returns what is wrong with the text: the place, its line, and a caret below it. Returns `None` if
+/// nothing is found, as for a number out of range.
+pub fn explain(alloc: Global, text: &str) -> Result<Option<String>, AllocError> {
+    let mut scanner = Scanner {
+        bytes: text.as_bytes(),
+        at: 0,
+        open: Vec::new(alloc),
+        next: Next::Value,
+    };
+    match scanner.run()? {
+        Some(fault) => Ok(Some(drawn(alloc, text, scanner.at, fault)?)),
+        None => Ok(None),
+    }
+}
+
+/// A scanner of a text, up to its first fault.
+#[derive(Drop)]
+struct Scanner<'t> {
+    bytes: &'t [u8],
+    /// The offset of the next byte, or of the fault.
+    at: usize,
+    /// For each array or object around the next byte, whether it is an object.
+    open: Vec<bool>,
+    next: Next,
+}
+
+impl<'t> Scanner<'t> {
+    /// Scans the text, and returns its first fault.
+    fn run(&mut self) -> Result<Option<Fault>, AllocError> {
+        // Each step takes a byte.
+        for _ in 0..self.bytes.len() {
+            self.skip_space();
+            if self.at >= self.bytes.len() {
+                break;
+            }
+            if let Some(fault) = self.step()? {
+                return Ok(Some(fault));
+            }
+        }
+        self.skip_space();
+        if self.next == Next::End && self.at >= self.bytes.len() {
+            Ok(None)
+        } else {
+            Ok(Some(self.expected()))
+        }
+    }
+
+    /// Passes over white space.
+    fn skip_space(&mut self) {
+        let rest = self.bytes.get(self.at..).unwrap_or(&[]);
+        for byte in rest {
+            if !matches!(*byte, b' ' | b'\t' | b'\n' | b'\r') {
+                break;
+            }
+            self.at = self.at.saturating_add(1);
+        }
+    }
+
+    /// Returns the next byte, or 0 at the end.
+    fn byte(&self) -> u8 {
+        match self.bytes.get(self.at) {
+            Some(byte) => *byte,
+            None => 0,
+        }
+    }
+
+    /// Takes the next piece of the text.
+    fn step(&mut self) -> Result<Option<Fault>, AllocError> {
+        match (self.next, self.byte()) {
+            (Next::FirstElement, b']') | (Next::AfterElement, b']') => Ok(self.close()),
+            (Next::FirstKey, b'}') | (Next::AfterMember, b'}') => Ok(self.close()),
+            (Next::AfterElement, b',') => Ok(self.pass(Next::Value)),
+            (Next::AfterMember, b',') => Ok(self.pass(Next::Key)),
+            (Next::Colon, b':') => Ok(self.pass(Next::Value)),
+            (Next::FirstKey | Next::Key, b'"') => Ok(self.string(Next::Colon)),
+            (Next::Value | Next::FirstElement, b'[') => self.begin(false),
+            (Next::Value | Next::FirstElement, b'{') => self.begin(true),
+            (Next::Value | Next::FirstElement, b'"') => {
+                let next = self.after_value();
+                Ok(self.string(next))
+            }
+            (Next::Value | Next::FirstElement, _) => Ok(self.scalar()),
+            _ => Ok(Some(self.expected())),
+        }
+    }
+
+    /// Takes one byte.
+    fn pass(&mut self, next: Next) -> Option<Fault> {
+        self.at = self.at.saturating_add(1);
+        self.next = next;
+        None
+    }
+
+    /// Begins an array or an object.
+    fn begin(&mut self, is_object: bool) -> Result<Option<Fault>, AllocError> {
+        if self.open.len() >= MAX_DEPTH {
+            return Ok(Some(Fault::Depth));
+        }
+        self.open.push(is_object)?;
+        let first = if is_object {
+            Next::FirstKey
+        } else {
+            Next::FirstElement
+        };
+        Ok(self.pass(first))
+    }
+
+    /// Ends an array or an object.
+    fn close(&mut self) -> Option<Fault> {
+        self.open.pop();
+        let next = self.after_value();
+        self.pass(next)
+    }
+
+    /// Returns what may come after a value.
+    fn after_value(&self) -> Next {
+        match self.open.last() {
+            None => Next::End,
+            Some(true) => Next::AfterMember,
+            Some(false) => Next::AfterElement,
+        }
+    }
+
+    /// Takes a string.
+    fn string(&mut self, next: Next) -> Option<Fault> {
+        let rest = self.bytes.get(self.at.saturating_add(1)..).unwrap_or(&[]);
+        let mut is_escaped = false;
+        let mut digits: usize = 0;
+        self.next = next;
+        for byte in rest {
+            self.at = self.at.saturating_add(1);
+            if digits > 0 {
+                if !byte.is_ascii_hexdigit() {
+                    return Some(Fault::Expected("a hexadecimal digit"));
+                }
+                digits -= 1;
+            } else if is_escaped {
+                is_escaped = false;
+                match *byte {
+                    b'u' => digits = 4,
+                    b'"' | b'\\' | b'/' | b'b' | b'f' | b'n' | b'r' | b't' => {}
+                    _ => return Some(Fault::Escape),
+                }
+            } else if *byte == b'"' {
+                return self.pass(next);
+            } else if *byte < 32 {
+                return Some(Fault::Control);
+            } else {
+                is_escaped = *byte == b'\\';
+            }
+        }
+        self.at = self.bytes.len();
+        Some(Fault::Expected("the end of the string"))
+    }
+
+    /// Takes a number or a word.
+    fn scalar(&mut self) -> Option<Fault> {
+        self.next = self.after_value();
+        let rest = self.bytes.get(self.at..).unwrap_or(&[]);
+        for word in [b"true".as_slice(), b"false", b"null"] {
+            if rest.starts_with(word) {
+                self.at = self.at.saturating_add(word.len());
+                return None;
+            }
+        }
+        match self.byte() {
+            b'-' | b'0'..=b'9' => self.number(),
+            _ => Some(Fault::Expected("a value")),
+        }
+    }
+
+    /// Takes a number.
+    fn number(&mut self) -> Option<Fault> {
+        if self.byte() == b'-' {
+            self.at = self.at.saturating_add(1);
+        }
+        if self.byte() == b'0' {
+            self.at = self.at.saturating_add(1);
+        } else if let Some(fault) = self.digits() {
+            return Some(fault);
+        }
+        if self.byte() == b'.' {
+            self.at = self.at.saturating_add(1);
+            if let Some(fault) = self.digits() {
+                return Some(fault);
+            }
+        }
+        self.exponent()
+    }
+
+    /// Takes the exponent of a number, if there is one.
+    fn exponent(&mut self) -> Option<Fault> {
+        if !matches!(self.byte(), b'e' | b'E') {
+            return None;
+        }
+        self.at = self.at.saturating_add(1);
+        if matches!(self.byte(), b'+' | b'-') {
+            self.at = self.at.saturating_add(1);
+        }
+        self.digits()
+    }
+
+    /// Takes digits, at least one.
+    fn digits(&mut self) -> Option<Fault> {
+        if !self.byte().is_ascii_digit() {
+            return Some(Fault::Expected("a digit"));
+        }
+        let rest = self.bytes.get(self.at..).unwrap_or(&[]);
+        for byte in rest {
+            if !byte.is_ascii_digit() {
+                break;
+            }
+            self.at = self.at.saturating_add(1);
+        }
+        None
+    }
+
+    /// Returns that something else is expected.
+    fn expected(&self) -> Fault {
+        Fault::Expected(match self.next {
+            Next::Value => "a value",
+            Next::FirstElement => "a value or `]`",
+            Next::FirstKey => "a key or `}`",
+            Next::Key => "a key",
+            Next::Colon => "`:`",
+            Next::AfterElement => "`,` or `]`",
+            Next::AfterMember => "`,` or `}`",
+            Next::End => "the end",
+        })
+    }
+}
+
+/// Returns the text of the fault: what it is, the line and the column, and the line with a caret.
+fn drawn(alloc: Global, text: &str, offset: usize, fault: Fault) -> Result<String, AllocError> {
+    let before = text.get(..offset).unwrap_or(text);
+    let after = text.get(offset..).unwrap_or("");
+    let Position { line, column } = Position::after(before);
+    let reason = reason_of(alloc, after, fault)?;
+    let mut out = format!(in alloc; "{reason} at line {line} column {column}\n")?;
+    let row_start = last_row(before);
+    out.push_str(shown(alloc, row_start)?.as_str())?;
+    out.push_str(shown(alloc, first_row(after))?.as_str())?;
+    out.push('\n')?;
+    for _ in shown(alloc, row_start)?.as_str().chars() {
+        out.push(' ')?;
+    }
+    out.push('^')?;
+    Ok(out)
+}
+
+/// Returns what is wrong, in words.
+fn reason_of(alloc: Global, after: &str, fault: Fault) -> Result<String, AllocError> {
+    match fault {
+        Fault::Expected(what) => {
+            let found = found_in(alloc, after)?;
+            format!(in alloc; "not JSON: expected {what}, found {found}")
+        }
+        Fault::Control => format!(in alloc; "not JSON: a control character in a string"),
+        Fault::Escape => {
+            let found = found_in(alloc, after)?;
+            format!(in alloc; "not JSON: no escape of a string: {found}")
+        }
+        Fault::Depth => format!(in alloc; "JSON, but nested deeper than {MAX_DEPTH}"),
+    }
+}
+
+/// Returns the first character in quotes, or that there is none.
+fn found_in(alloc: Global, after: &str) -> Result<String, AllocError> {
+    match after.chars().next() {
+        Some(character) => {
+            let text = format!(in alloc; "{character}")?;
+            let text = shown(alloc, text.as_str())?;
+            format!(in alloc; "`{text}`")
+        }
+        None => format!(in alloc; "the end"),
+    }
+}
+
+/// Returns the last characters of the last line.
+fn last_row(before: &str) -> &str {
+    let row = match before.rfind('\n') {
+        Some(at) => before.get(at.saturating_add(1)..).unwrap_or(""),
+        None => before,
+    };
+    let mut start = row.len().saturating_sub(MOST_DRAWN);
+    // A character has at most four bytes.
+    for _ in 0..4 {
+        if row.is_char_boundary(start) {
+            break;
+        }
+        start = start.saturating_add(1);
+    }
+    row.get(start..).unwrap_or("")
+}
+
+/// Returns the first characters of the first line.
+fn first_row(after: &str) -> &str {
+    let row = match after.find('\n') {
+        Some(at) => after.get(..at).unwrap_or(""),
+        None => after,
+    };
+    let row = row.strip_suffix('\r').unwrap_or(row);
+    let mut end = row.len().min(MOST_DRAWN);
+    for _ in 0..4 {
+        if row.is_char_boundary(end) {
+            break;
+        }
+        end = end.saturating_sub(1);
+    }
+    row.get(..end).unwrap_or("")
+}

@@ -1,0 +1,325 @@
+//! The value that a pointer resolves to in the text of a document: its type, its length, its keys, and
+//! whether it equals another value.
+ghost use Rattle.std.specs.Prelude.{◌≡◌, map, length, MatchOption, IfOk, IfErr, chars, string_bytes};
+ghost use Rattle.serde_json.specs.View.{view};
+ghost use Rattle.jsonptr.specs.Pointer.{tokens};
+ghost use Rattle.jsonptr_tree.specs.Json.{nodes};
+ghost use Rattle.jsonptr_in_text.specs.InText.{FindsInText};
+ghost use Rattle.jptr_tasks.specs.Nodes.{type_of, name_of, length_of, HasType, HasLength, HasKeys, ListsKeys, IsNoObject, Tests, IsTested, FailsToFind, FailsToListKeys, scalar_of, HasAbove, FailsAbove};
+ghost use Rattle.jptr_tasks.specs.PrivateNodes.{ListsRest};
+
+use crate::failure::Failure;
+use json::{Reader, Scratch, Token};
+use jsonptr::{Fault, Pointer, PointerBuf};
+use jsonptr_edit_in_text::{LocateError, locate_in_text};
+use jsonptr_in_text::{InTextError, resolve_in_text};
+use jsonptr_json_search::outcome::ReadError;
+use jsonptr_json_search::skip::skip;
+use jsonptr_patch::{Comparison, Operation, apply_comparing};
+use serde_json::Value;
+use std::alloc::{AllocError, Global};
+
+/// The levels that a member of the outermost object may have.
+const MAX_DEPTH: usize = 126;
+
+/// The type of a JSON value (RFC 8259, section 3).
+#[derive(Clone, Copy, Debug, PartialEq, Eq)]
+pub enum NodeType {
+    /// `null`.
+    Null,
+    /// `true` or `false`.
+    Boolean,
+    /// A number.
+    Number,
+    /// A string.
+    String,
+    /// An array.
+    Array,
+    /// An object.
+    Object,
+}
+
+impl NodeType {
+    /// Returns the name of the type, in lower case.
+    ///
+    /// # Examples
+    ///
+    /// ```rust
+    /// assert_eq!(rt; NodeType::Boolean.name(), "boolean");
+    /// ```
+    pub fn name(self) -> &'static str
+        ensures { result.now ≡ name_of self }
+    {
+        match self {
+            NodeType::Null => "null",
+            NodeType::Boolean => "boolean",
+            NodeType::Number => "number",
+            NodeType::String => "string",
+            NodeType::Array => "array",
+            NodeType::Object => "object",
+        }
+    }
+}
+
+/// Returns the type of the value that the pointer resolves to in the text of a document.
+///
+/// # Errors
+///
+/// - [`Failure::NotJson`] if the text is not JSON.
+/// - [`Failure::NoValue`] if the pointer does not resolve to a value.
+/// - [`Failure::Memory`] if an allocation fails.
+///
+/// # Examples
+///
+/// ```rust
+/// let found = type_in_text(alloc, r#"{"a": [1.0]}"#, Pointer::parse("/a/0")?)?;
+/// assert_eq!(rt; found, NodeType::Number);
+/// ```
+pub fn type_in_text(alloc: Global, text: &str, pointer: Pointer<'_>) -> Result<NodeType, Failure>
+    ensures done { IfOk result (HasType text.now (tokens pointer.entry)) }
+    ensures failed { IfErr result (FailsToFind text.now (tokens pointer.entry)) }
+{
+    match found_value(alloc, text, pointer) {
+        Ok(value) => Ok(node_type(&value)),
+        Err(failure) => Err(failure),
+    }
+}
+
+/// Returns the length of the value that the pointer resolves to in the text of a document: the number
+/// of the elements of an array, of the members of an object, or of the characters of a string. Returns
+/// `None` for any other value.
+///
+/// A repeated key counts once.
+///
+/// # Errors
+///
+/// Those of [`type_in_text`].
+///
+/// # Examples
+///
+/// ```rust
+/// let text = r#"{"a": "né", "b": 1, "a": [true]}"#;
+/// assert_eq!(rt; length_in_text(alloc, text, Pointer::root())?, Some(2));
+/// assert_eq!(rt; length_in_text(alloc, text, Pointer::parse("/b")?)?, None);
+/// ```
+pub fn length_in_text(
+    alloc: Global,
+    text: &str,
+    pointer: Pointer<'_>,
+) -> Result<Option<usize>, Failure>
+    ensures done { IfOk result (HasLength text.now (tokens pointer.entry)) }
+    ensures failed { IfErr result (FailsToFind text.now (tokens pointer.entry)) }
+{
+    match found_value(alloc, text, pointer) {
+        Ok(value) => Ok(length_if_any(&value)),
+        Err(failure) => Err(failure),
+    }
+}
+
+/// Returns the keys of the object that the pointer resolves to in the text of a document, one for each
+/// member, in the order of the text. Returns `None` for any other value.
+///
+/// The keys are decoded. A repeated key comes as often as it is written. No document is built.
+///
+/// # Errors
+///
+/// - Those of [`type_in_text`].
+/// - [`Failure::NotLocated`] if the check of where the text of the value is fails. No text is known
+///   for which it does.
+///
+/// # Examples
+///
+/// ```rust
+/// let text = r#"{"b": {"z": 1, "a/b": {"c": 2}}}"#;
+/// let keys = keys_in_text(alloc, text, Pointer::parse("/b")?)?.ok_or("an object")?;
+/// assert_eq!(rt; (keys.len(), keys[0].as_str(), keys[1].as_str()), (2, "z", "a/b"));
+/// assert!(rt; keys_in_text(alloc, text, Pointer::parse("/b/z")?)?.is_none());
+/// ```
+pub fn keys_in_text(
+    alloc: Global,
+    text: &str,
+    pointer: Pointer<'_>,
+) -> Result<Option<Vec<String>>, Failure>
+    ensures done { IfOk result (HasKeys text.now (tokens pointer.entry)) }
+    ensures failed { IfErr result (FailsToListKeys text.now (tokens pointer.entry)) }
+{
+    match locate_in_text(alloc, text, pointer) {
+        Ok(located) => match keys_of(alloc, located.value) {
+            Ok(keys) => Ok(keys),
+            Err(ReadError::NotJson) => Err(Failure::NotLocated),
+            Err(ReadError::Memory) => Err(Failure::Memory(AllocError)),
+        },
+        Err(LocateError::NotLocated) => Err(Failure::NotLocated),
+        Err(LocateError::Failed(InTextError::Resolve(error))) => Err(Failure::NoValue(error)),
+        Err(LocateError::Failed(InTextError::NotJson)) => Err(Failure::NotJson),
+        Err(LocateError::Failed(InTextError::Memory(error))) => Err(Failure::Memory(error)),
+    }
+}
+
+/// Returns whether the value that the pointer resolves to in the text of a document equals the other
+/// value, as a `test` of a patch has it (RFC 6902, section 4.6): numbers are compared by their values.
+///
+/// # Errors
+///
+/// Those of [`type_in_text`].
+///
+/// # Examples
+///
+/// ```rust
+/// let text = r#"{"a": [1.0, 2]}"#;
+/// let value = Value::from_str(alloc, "[1, 2e0]")?;
+/// assert_eq!(rt; equals_in_text(alloc, text, Pointer::parse("/a")?, value)?, true);
+/// let other = Value::from_str(alloc, "\"1\"")?;
+/// assert_eq!(rt; equals_in_text(alloc, text, Pointer::parse("/a/0")?, other)?, false);
+/// ```
+pub fn equals_in_text(
+    alloc: Global,
+    text: &str,
+    pointer: Pointer<'_>,
+    value: Value,
+) -> Result<bool, Failure>
+    ensures done { IfOk result (Tests text.now (tokens pointer.entry) value) }
+    ensures failed { IfErr result (FailsToFind text.now (tokens pointer.entry)) }
+{
+    match found_value(alloc, text, pointer) {
+        Ok(found) => match is_equal(alloc, found, value) {
+            Ok(holds) => Ok(holds),
+            Err(error) => Err(Failure::Memory(error)),
+        },
+        Err(failure) => Err(failure),
+    }
+}
+
+/// Returns the type of the scalar that an assignment at the pointer would replace by a container. Returns
+/// `None` if it would replace none, and create no container on the way: the pointer is the root, or its
+/// parent resolves to an array or an object in the text of the document.
+///
+/// # Errors
+///
+/// Those of [`type_in_text`], for the parent of the pointer. With [`Failure::NoValue`] containers would
+/// be created.
+///
+/// # Examples
+///
+/// ```rust
+/// let text = r#"{"a": "x"}"#;
+/// assert_eq!(rt; scalar_above(alloc, text, Pointer::parse("/b")?)?, None);
+/// assert_eq!(rt; scalar_above(alloc, text, Pointer::parse("/a/b")?)?, Some(NodeType::String));
+/// let missing = scalar_above(alloc, text, Pointer::parse("/b/c")?);
+/// assert!(rt; matches!(missing, Err(Failure::NoValue(_))));
+/// ```
+pub fn scalar_above(
+    alloc: Global,
+    text: &str,
+    pointer: Pointer<'_>,
+) -> Result<Option<NodeType>, Failure>
+    ensures done { IfOk result (HasAbove text.now (tokens pointer.entry)) }
+    ensures failed { IfErr result (FailsAbove text.now (tokens pointer.entry)) }
+{
+    let Some(above) = pointer.parent() else {
+        return Ok(None);
+    };
+    match type_in_text(alloc, text, above) {
+        Ok(found) => Ok(scalar_of(found)),
+        Err(failure) => Err(failure),
+    }
+}
+
+/// Returns the type again if it is that of a scalar.
+fn scalar_of(found: NodeType) -> Option<NodeType>
+    ensures { result ≡ scalar_of found }
+{
+    match found {
+        NodeType::Array | NodeType::Object => None,
+        scalar => Some(scalar),
+    }
+}
+
+/// Returns the value that the pointer resolves to in the text of a document.
+fn found_value(alloc: Global, text: &str, pointer: Pointer<'_>) -> Result<Value, Failure>
+    ensures done { IfOk result (λ v. FindsInText text.now (tokens pointer.entry) (view v)) }
+    ensures failed { IfErr result (FailsToFind text.now (tokens pointer.entry)) }
+{
+    match resolve_in_text(alloc, text, pointer) {
+        Ok(value) => Ok(value),
+        Err(InTextError::NotJson) => Err(Failure::NotJson),
+        Err(InTextError::Resolve(error)) => Err(Failure::NoValue(error)),
+        Err(InTextError::Memory(error)) => Err(Failure::Memory(error)),
+    }
+}
+
+/// Returns the type of the value.
+fn node_type(value: &Value) -> NodeType
+    ensures { result ≡ type_of (view value.now) }
+{
+    match value {
+        Value::Null => NodeType::Null,
+        Value::Bool(_) => NodeType::Boolean,
+        Value::Number(_) => NodeType::Number,
+        Value::String(_) => NodeType::String,
+        Value::Array(_) => NodeType::Array,
+        Value::Object(_) => NodeType::Object,
+    }
+}
+
+/// Returns the length of the value, if it has one.
+fn length_if_any(value: &Value) -> Option<usize>
+    ensures { result ≡ length_of (view value.now) }
+{
+    match value {
+        Value::Null | Value::Bool(_) | Value::Number(_) => None,
+        Value::String(text) => Some(characters(text.as_str())),
+        Value::Array(elements) => Some(elements.len()),
+        Value::Object(members) => Some(members.len()),
+    }
+}
+
+/// Returns the number of characters of the text.
+fn characters(text: &str) -> usize
+    ensures { result ≡ length (chars text.now) }
+{
+    text.chars().count()
+}
+
+/// Returns the keys of the members of the object that the text is, or `None` if it is no object.
+fn keys_of(alloc: Global, text: &str) -> Result<Option<Vec<String>>, ReadError>
+    ensures { IfOk result (λ found. MatchOption found (IsNoObject text.now)
+        (λ v. ListsKeys text.now (map string_bytes v.items))) }
+{
+    let mut scratch = Scratch::new(alloc);
+    let mut reader = Reader::new(text, &mut scratch)?;
+    match reader.next() {
+        Some(Token::BeginObject) => {
+            let keys = read_keys(alloc, &mut reader)?;
+            Ok(Some(keys))
+        }
+        _ => Ok(None),
+    }
+}
+
+/// Reads the rest of an object, and returns the keys of its members.
+fn read_keys(alloc: Global, reader: &mut Reader<'_>) -> Result<Vec<String>, ReadError>
+    ensures { IfOk result (λ v. ListsRest reader.old (map string_bytes v.items)) }
+{
+    let mut keys = Vec::new(alloc);
+    'members: while let Some(name) = reader.next_key()? {
+        let key = String::from_str(alloc, name)?;
+        skip(reader, MAX_DEPTH)?;
+        keys.push(key)?;
+    }
+    Ok(keys)
+}
+
+/// Returns whether the value passes the test that it equals the other one.
+fn is_equal(alloc: Global, found: Value, value: Value) -> Result<bool, AllocError>
+    ensures { IfOk result (IsTested (nodes (view found)) value) }
+{
+    let mut document = found;
+    let path = PointerBuf::new(alloc);
+    let test = vec![in alloc; Operation::Test { path, value }]?;
+    match apply_comparing(alloc, &mut document, test, Comparison::Numeric) {
+        Ok(()) => Ok(true),
+        Err(Fault::Refused(_error)) => Ok(false),
+        Err(Fault::Memory(error)) => Err(error),
+    }
+}

@@ -1,0 +1,145 @@
+//! Which value of a text is at an offset.
+ghost use Rattle.std.specs.Prelude.{◌≡◌, [], false, IfOk, IfErr, IfSome, IsTrue, MatchOption};
+ghost use Rattle.jsonptr_edit_in_text.specs.Locating.{IsLocatedAt, IsOutside, Contains, IsLocateError};
+
+use crate::locate::{LocateError, Located, locate_in_text_with};
+use json::{Reader, Scratch};
+use jsonptr::{Pointer, PointerBuf};
+use jsonptr_in_text::InTextError;
+use jsonptr_in_text::path::Path;
+use jsonptr_json_edits::buffers::Buffers;
+use std::alloc::{AllocError, Global};
+
+/// A value of a text, and its pointer. It owns the pointer, and borrows the text.
+#[derive(Debug, Drop)]
+pub struct PointerAt<'t> {
+    /// The pointer.
+    pub pointer: PointerBuf,
+    /// The value.
+    pub located: Located<'t>,
+}
+
+/// Returns the pointer of the value whose text contains the byte at the offset, and where that text is.
+/// Returns `None` if the byte is before or after the document, or if the text ends before it.
+///
+/// The bytes of a value are those from its first to its last one, as in [`locate_in_text`]: the byte of a
+/// key, or of white space between the members of an object, is one of that object. Of all such values
+/// it is the innermost one. If a key is repeated, only the last member has a pointer.
+///
+/// Reads the text up to the offset, and twice for each value that is looked at: as a rule one or two.
+/// That the value contains the byte is proved, and that it is the innermost one is tested.
+///
+/// # Errors
+///
+/// Those of [`locate_in_text`] at the root.
+///
+/// # Examples
+///
+/// ```rust
+/// let text = r#"{"name": "app", "sizes": [1.0, 5]}"#;
+/// let at = pointer_at(alloc, text, 31)?.ok_or("a value")?;
+/// assert_eq!(rt; (at.pointer.as_ptr().as_str(), at.located.value), ("/sizes/1", "5"));
+/// let key = pointer_at(alloc, text, 2)?.ok_or("a value")?;
+/// assert_eq!(rt; key.pointer.as_ptr().as_str(), "");
+/// ```
+///
+/// [`locate_in_text`]: crate::locate_in_text
+pub fn pointer_at<'t>(
+    alloc: Global,
+    text: &'t str,
+    offset: usize,
+) -> Result<Option<PointerAt<'t>>, LocateError>
+    ensures located { IfOk result (λ found. MatchOption found (IsOutside text.now offset)
+        (λ at. IsLocatedAt text.now offset at.pointer
+        at.located.before.now at.located.value.now at.located.after.now)) }
+    ensures refused { IfErr result (IsLocateError text.now []) }
+{
+    let mut buffers = Buffers::new(alloc);
+    let deepest = path_to(alloc, text, offset)?;
+    if let Some(found) = value_at(alloc, &mut buffers, text, offset, deepest.as_ptr())? {
+        return Ok(Some(found));
+    }
+    if let Some(parent) = deepest.as_ptr().parent() {
+        if let Some(found) = value_at(alloc, &mut buffers, text, offset, parent)? {
+            return Ok(Some(found));
+        }
+    }
+    root_at(alloc, &mut buffers, text, offset)
+}
+
+/// Returns the pointer of the value that the last token before the offset, or at it, belongs to. It is a
+/// hint.
+///
+/// # Errors
+///
+/// [`AllocError`] if an allocation fails.
+fn path_to(alloc: Global, text: &str, offset: usize) -> Result<PointerBuf, AllocError> {
+    let mut scratch = Scratch::new(alloc);
+    let mut reader = Reader::new(text, &mut scratch)?;
+    let mut path = Path::new(alloc);
+    'tokens: while let Some(token) = reader.next() {
+        path.enter(alloc, token)?;
+        if reader.offset() > offset {
+            return Ok(path.into_pointer());
+        }
+        path.leave(alloc, token)?;
+    }
+    Ok(path.into_pointer())
+}
+
+/// Returns the value that the pointer resolves to, if its text contains the byte at the offset.
+///
+/// # Errors
+///
+/// [`AllocError`] if an allocation fails.
+fn value_at<'t>(
+    alloc: Global,
+    buffers: &mut Buffers,
+    text: &'t str,
+    offset: usize,
+    pointer: Pointer<'_>,
+) -> Result<Option<PointerAt<'t>>, AllocError>
+    ensures { IfOk result (λ found. IfSome found (λ at. IsLocatedAt text.now offset at.pointer
+        at.located.before.now at.located.value.now at.located.after.now)) }
+{
+    match locate_in_text_with(alloc, buffers, text, pointer) {
+        Ok(located) => if contains(&located, offset) {
+            let pointer = pointer.to_buf(alloc)?;
+            Ok(Some(PointerAt { pointer, located }))
+        } else {
+            Ok(None)
+        },
+        Err(LocateError::Failed(InTextError::Memory(error))) => Err(error),
+        Err(_) => Ok(None),
+    }
+}
+
+/// Returns the document, if its text contains the byte at the offset.
+fn root_at<'t>(
+    alloc: Global,
+    buffers: &mut Buffers,
+    text: &'t str,
+    offset: usize,
+) -> Result<Option<PointerAt<'t>>, LocateError>
+    ensures located { IfOk result (λ found. MatchOption found (IsOutside text.now offset)
+        (λ at. IsLocatedAt text.now offset at.pointer
+        at.located.before.now at.located.value.now at.located.after.now)) }
+    ensures refused { IfErr result (IsLocateError text.now []) }
+{
+    let located = locate_in_text_with(alloc, buffers, text, Pointer::root())?;
+    if contains(&located, offset) {
+        let pointer = PointerBuf::new(alloc);
+        Ok(Some(PointerAt { pointer, located }))
+    } else {
+        Ok(None)
+    }
+}
+
+/// Returns whether the text of the value contains the byte at the offset.
+fn contains(located: &Located<'_>, offset: usize) -> bool
+    ensures inside { IsTrue result → Contains located.now.before.now located.now.value.now offset }
+    ensures outside { result ≡ false → Contains located.now.before.now located.now.value.now offset → ⊥ }
+{
+    let from = located.before.len();
+    from <= offset && offset - from < located.value.len()
+}
