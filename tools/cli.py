@@ -15,7 +15,7 @@ from concurrent.futures import ThreadPoolExecutor
 from random import Random
 from typing import NamedTuple
 
-from call_cases import RESOLVE_NOT_FOUND
+from call_cases import ASSIGN_OUT_OF_BOUNDS, RESOLVE_NOT_FOUND
 from edits import spans
 from harness import TOOLS, TOP, CheckFailed, build_shim, program, run_with_shim
 
@@ -44,6 +44,7 @@ class Case(NamedTuple):
 
 TEXT = '{\n  "b": 1.0,\n  "a/b": [1, 2]\n}\n'
 NOT_FOUND = RESOLVE_NOT_FOUND.format(0)
+OUT_OF_BOUNDS = ASSIGN_OUT_OF_BOUNDS.format(5)
 # Errors of an empty text, and of an open brace.
 EMPTY = "not JSON: expected a value, found the end at line 1 column 1\n\n^\n"
 OPEN = "not JSON: expected a key or `}`, found the end at line 1 column 2\n{\n ^\n"
@@ -68,6 +69,7 @@ def cases():
     yield Case(("get", "--compact", "/s"), '{"s":"x\\n\\u00e9"}', '"x\\né"\n')
     yield Case(("get", "--raw", "/s"), '{"s":"x\\n\\u00e9"}', "x\né\n")
     yield Case(("get", "--raw", "/s"), '{"s":[1, "x"]}', '[1, "x"]\n')
+    yield Case(("get", "--raw", "--compact", "/s"), '{"s":"x\\n\\u00e9"}', "x\né\n")
     yield Case(("get", "--default", "-1", "/c"), TEXT, "-1\n")
     yield Case(("get", "--default", '"x"', "--raw", "/c"), TEXT, "x\n")
     yield Case(("get", "--default", "[1, 2]", "/b"), TEXT, "1.0\n")
@@ -91,6 +93,7 @@ def cases():
     drawn = "/a~b\n  ^^ '~' must be followed by '0' or '1'"
     yield Case(("patch", "-", "/dev/null"), bad, "", f"jptr: standard input: {message}\n{drawn}\n", 1)
     yield Case(("diff", "/dev/null", "-"), "1", "", f"jptr: /dev/null: {EMPTY}", 3)
+    yield Case(("set", "--create", "/a", "1"), TEXT, "", "jptr: --create: needs a file\n", 2)
     yield Case(("tokens", "/a~1b//~0"), "", '["a/b","","~"]\n')
     yield Case(("tokens", "--raw", "/a~1b/x"), "", "a/b\nx\n")
     yield Case(("tokens", ""), "", "[]\n")
@@ -102,7 +105,98 @@ def cases():
     yield from nodes()
     yield from several()
     yield from unexpanded()
+    yield from operations()
+    yield from commented()
+    yield from drawings()
     yield from failing()
+
+
+def operations():
+    """Commands that are one operation of a patch (RFC 6902, section 4)."""
+    yield Case(("insert", "/a~1b/0", "0"), TEXT, TEXT.replace("[1, 2]", "[0, 1, 2]"))
+    yield Case(("insert", "/a~1b/2", "1.50"), TEXT, TEXT.replace("2]", "2, 1.50]"))
+    yield Case(("insert", "/a~1b/-", "-3"), TEXT, TEXT.replace("2]", "2, -3]"))
+    yield Case(("insert", "/b", "2"), TEXT, TEXT.replace("1.0", "2"))
+    yield Case(("insert", "--string", "/c", "x y"), TEXT, TEXT.replace("2]\n", '2],\n  "c": "x y"\n'))
+    yield Case(("insert", "--compact", "/c", '{"y": 1, "x": 1e5}'), TEXT, '{"b":1.0,"a/b":[1,2],"c":{"y":1,"x":1e5}}\n')
+    yield Case(("insert", "--lines", "/0", "0"), "[]\n[1]\n", "[0]\n[0,1]\n")
+    yield Case(("insert", "/c", "x"), TEXT, "", "jptr: JSON: not JSON: expected a value, found `x` at line 1 column 1; a string needs quotes, or --string\nx\n^\n", 3)
+    yield Case(("insert", "/a", "1", "x.toml"), "", "", "jptr: insert: not on TOML\n", 2)
+    yield Case(("insert", "/a~1b/3", "0"), TEXT, "", f"jptr: standard input: {OUT_OF_BOUNDS}\n/a~1b/3\n      ^ 3 is out of bounds (len: 2)\n", 1)
+    yield Case(("insert", "/c", "[" * 125 + "]" * 125, "--compact"), "{}", '{"c":' + "[" * 125 + "]" * 125 + "}\n")
+    yield Case(("insert", "/c", "[" * 126 + "]" * 126), "{}", "", "jptr: JSON: the patch would nest deeper than 127\n", 3)
+    yield Case(("move", "/b", "/c"), TEXT, '{\n  "a/b": [1, 2],\n  "c": 1.0\n}\n')
+    yield Case(("move", "/a~1b/1", "/a~1b/0"), TEXT, TEXT.replace("1, 2", "2, 1"))
+    yield Case(("copy", "/b", "/a~1b/0"), TEXT, TEXT.replace("[1", "[1.0, 1"))
+    yield Case(("copy", "/b", "/a~1b", "--compact"), TEXT, '{"b":1.0,"a/b":1.0}\n')
+    yield Case(("rename", "/b", "x/y"), TEXT, '{\n  "a/b": [1, 2],\n  "x/y": 1.0\n}\n')
+    yield Case(("rename", "/a~1b", "-x", "--compact"), TEXT, '{"b":1.0,"-x":[1,2]}\n')
+    yield Case(("move", "/a~1b", "/a~1b/0"), TEXT, "", "jptr: standard input: patch failed at operation 0: from is a proper prefix of path\n", 1)
+    yield Case(("rename", "/b", "a/b"), TEXT, "", "jptr: standard input: there is a member with this key\n", 1)
+    yield Case(("rename", "/a~1b/0", "x"), TEXT, "", "jptr: standard input: not a member of an object\n", 1)
+    yield Case(("rename", "", "x"), TEXT, "", "jptr: POINTER: the root has no key\n", 2)
+
+
+COMMENTED = '{\n  // first\n  "a": 1.0, // one\n  "b": [1, /* x */ 2],\n}\n'
+LOSES_COMMENTS = "jptr: standard input: the document has comments, which another layout would lose\n"
+
+
+def commented():
+    """Commands on JSON with comments and trailing commas, and on JSON with a byte order mark."""
+    yield Case(("get", "--comments", "/a"), COMMENTED, "1.0\n")
+    yield Case(("get", "--comments", "/b"), COMMENTED, "[\n  1,\n  2\n]\n")
+    yield Case(("get", "--comments", "--compact", ""), COMMENTED, '{"a":1.0,"b":[1,2]}\n')
+    yield Case(("get", "--comments", "/a", "/b/1", "-"), COMMENTED, "1.0\n2\n")
+    yield Case(("set", "--comments", "/a", "2.50"), COMMENTED, COMMENTED.replace("1.0", "2.50"))
+    yield Case(("set", "--comments", "/c", "true"), COMMENTED, COMMENTED.replace("2],\n", '2],\n  "c": true,\n'))
+    yield Case(("set", "--comments", "/b/-", "3", "/a", "null", "-"), COMMENTED, COMMENTED.replace("2]", "2, 3]").replace("1.0", "null"))
+    yield Case(("delete", "--comments", "/a"), COMMENTED, COMMENTED.replace('  "a": 1.0, // one\n', ""))
+    yield Case(("keys", "--comments", ""), COMMENTED, '"a"\n"b"\n')
+    yield Case(("length", "--comments", "/b"), COMMENTED, "2\n")
+    yield Case(("test", "--comments", "/b/1", "2"), COMMENTED, "")
+    yield Case(("paths", "--comments"), COMMENTED, "/a\t1.0\n/b/0\t1\n/b/1\t2\n")
+    yield Case(("locate", "--comments", "/b/1"), COMMENTED, "4:20\n")
+    yield Case(("locate", "--comments", "--at", "4:20"), COMMENTED, "/b/1\n")
+    yield Case(("set", "--comments", "--compact", "/a", "2"), COMMENTED, "", LOSES_COMMENTS, 1)
+    yield Case(("set", "--comments", "--compact", "/a", "2"), '{"a": 1}', '{"a":2}\n')
+    yield Case(("format", "--comments"), COMMENTED, "", LOSES_COMMENTS, 1)
+    yield Case(("format", "--comments"), "[1]", "[\n  1\n]\n")
+    missing = f"jptr: standard input: {NOT_FOUND}\n/c\n ^ not found in value\n"
+    yield Case(("get", "--comments", "/c"), COMMENTED, "", missing, 1)
+    hint = "not JSON: expected a key or `}`, found `/` at line 2 column 3; with --comments, comments are read"
+    yield Case(("get", "/a"), COMMENTED, "", f"jptr: standard input: {hint}\n  // first\n  ^\n", 3)
+    yield Case(("get", "--comments", "/0"), "[1 /* x", "", "jptr: standard input: comment is not closed at line 1 column 4\n[1 /* x\n   ^\n", 3)
+    marked = '\ufeff{"a": [1]}\n'
+    yield Case(("get", "/a"), marked, "[1]\n")
+    yield Case(("set", "/a/0", "2"), marked, marked.replace("1", "2"))
+    yield Case(("delete", "--comments", "/a"), f"{marked}// x\n", "\ufeff{}\n// x\n")
+    yield Case(("paths",), marked, "/a/0\t1\n")
+
+
+def drawings():
+    """What is at fault with a deletion."""
+    fails = "jptr: standard input: delete failed: json pointer does not resolve\n"
+    yield Case(("delete", "/a~1b/2"), TEXT, "", f"{fails}/a~1b/2\n      ^ index 2 out of bounds (len: 2)\n", 1)
+
+
+# Operations after one that applies to `TEXT`, why each fails, and what is drawn (RFC 6902, section 4).
+FIRST = '{"op": "add", "path": "/x", "value": 1}'
+MISSING = f"{NOT_FOUND}\n/y\n ^ not found in value\n"
+FAILING = [
+    ('{"op": "remove", "path": "/y"}', MISSING),
+    ('{"op": "replace", "path": "/y", "value": 1}', MISSING),
+    ('{"op": "test", "path": "/y", "value": 1}', MISSING),
+    ('{"op": "move", "from": "/y", "path": "/z"}', MISSING),
+    ('{"op": "copy", "from": "/y", "path": "/z/z"}', MISSING),
+    ('{"op": "add", "path": "/y/z", "value": 1}', MISSING.replace("/y\n", "/y/z\n")),
+    ('{"op": "copy", "from": "/x", "path": "/y/z"}', MISSING.replace("/y\n", "/y/z\n")),
+    ('{"op": "add", "path": "/a~1b/3", "value": 1}', f"{OUT_OF_BOUNDS}\n/a~1b/3\n      ^ 3 is out of bounds (len: 2)\n"),
+    ('{"op": "move", "from": "/x", "path": "/x/y"}', "from is a proper prefix of path\n"),
+    ('{"op": "test", "path": "/x", "value": 2}', "test failed\n/x is 1, and not 2\n"),
+    ('{"op": "test", "path": "/a~1b", "value": {"é": "y"}}', 'test failed\n/a~1b is [1,2], and not {"é":"y"}\n'),
+    ('{"op": "test", "path": "", "value": []}', 'test failed\nthe document is {"a/b":[1,2],"b":1.0,"x":1}, and not []\n'),
+    (f'{{"op": "test", "path": "/b", "value": "{"é" * 70}"}}', f'test failed\n/b is 1.0, and not "{"é" * 59}..\n'),
+]
 
 
 def layouts():
@@ -185,7 +279,7 @@ def several():
     yield Case(("get", "--sort-keys", "/a", "/b", "-"), long, "", "jptr: standard input: the number loses digits: use --lossy\n", 3)
     yield Case(("delete", "/a~1b/0", "/a~1b/0", "-"), TEXT, TEXT.replace("1, 2", ""))
     yield Case(("delete", "/a~1b/0", "/b", "-", "--compact"), TEXT, '{"a/b":[2]}\n')
-    yield Case(("delete", "/b", "/b", "-"), TEXT, "", "jptr: standard input: delete failed: json pointer does not resolve\n", 1)
+    yield Case(("delete", "/b", "/b", "-"), TEXT, "", "jptr: standard input: delete failed: json pointer does not resolve\n/b\n ^ not found in value\n", 1)
     yield Case(("set", "/b", "2", "/a~1b/0", "-3.10"), TEXT, TEXT.replace("1.0", "2").replace("1,", "-3.10,"))
     yield Case(("set", "/b", "[]", "/b/-", "1e5", "/b/-", "null", "-"), '{"b": 1}', '{"b": [1e5, null]}')
     yield Case(("set", "--string", "/b", "@-", "/c", "@-", "-", "--compact"), "{}", '{"b":"@-","c":"@-"}\n')
@@ -349,7 +443,6 @@ SYNTAX = [
     ('{"a" 1}', "not JSON: expected `:`, found `1`", 1, 6),
     ("{a: 1}", "not JSON: expected a key or `}`, found `a`", 1, 2),
     ("[", "not JSON: expected a value or `]`, found the end", 1, 2),
-    ("1 // one", "not JSON: expected the end, found `/`", 1, 3),
     ('["a', "not JSON: expected the end of the string, found the end", 1, 4),
     ('["\\x"]', "not JSON: no escape of a string: `x`", 1, 4),
     ('["\\u12g4"]', "not JSON: expected a hexadecimal digit, found `g`", 1, 7),
@@ -385,7 +478,7 @@ def failing():
     """Errors: a line that names the input, and the pointer with carets below the token at fault."""
     missing = f"jptr: standard input: {NOT_FOUND}\n/c\n ^ not found in value\n"
     yield Case(("get", "/c"), TEXT, "", missing, 1)
-    yield Case(("delete", "/c"), TEXT, "", "jptr: standard input: delete failed: json pointer does not resolve\n", 1)
+    yield Case(("delete", "/c"), TEXT, "", "jptr: standard input: delete failed: json pointer does not resolve\n/c\n ^ not found in value\n", 1)
     not_json = f"jptr: standard input: {OPEN}"
     for words in [("get", "/a"), ("set", "/a", "1"), ("delete", "/a")]:
         yield Case(words, "{", "", not_json, 3)
@@ -410,6 +503,8 @@ def usage():
     yield ("get", "--raw", "--indent", "2", "/a")
     yield ("get", "--compact", "--indent", "2", "/a")
     yield ("get", "--lines", "--indent", "2", "/a")
+    yield ("get", "--lines", "--pretty", "/a")
+    yield ("get", "--pretty", "--compact", "/a")
     for indent in ["0", "17", "-1", "x", "", "Tab"]:
         yield ("format", "--indent", indent)
     yield ("format", "f", "g")
@@ -424,6 +519,7 @@ def usage():
     yield ("set", "/a", "1", "--lines", "--reformat")
     yield ("get", "--lines", "--raw", "--default", '"a\\nb"', "/a")
     yield ("set", "/a", "1", "--lines", "--no-expand")
+    yield ("set", "/a", "1", "--lines", "--create")
     yield ("delete", "/a", "--no-expand")
     yield ("delete", "/a", "--unknown")
     yield ("keys",)
@@ -437,10 +533,17 @@ def usage():
     yield ("relayout",)
     yield ("relayout", "-", "f", "-i")
     yield ("relayout", "f", "g", "--lines")
+    yield ("get", "/a", "--lines", "--comments")
+    yield ("get", "/a", "--toml", "--comments")
+    yield ("paths", "--toml", "--comments")
+    yield ("diff", "f", "g", "--color", "always")
     yield ("paths", "/a", "f")
     yield ("paths", "--pretty")
     yield ("from-paths", "--all")
     yield ("patch", "x", "y", "--check", "-i")
+    yield ("patch", "x", "y", "--check", "--lines")
+    yield ("diff", "x", "y", "--text", "--pretty")
+    yield ("diff", "x", "y", "--text", "--compact")
     yield ("patch", "x", "y", "--inverse", "u", "--check")
     yield ("patch", "x", "y", "--inverse", "u", "--lines")
     yield ("patch", "x", "y", "--inverse")
@@ -490,14 +593,36 @@ def commands():
 
 def flags(command):
     """Returns the flags that the help of a command lists."""
-    return sorted(set(re.findall(r"--[a-z][a-z-]*", run((command, "--help")).stdout.decode())))
+    return sorted(re.findall(r"^ +(?:-\w, +)?(--[a-z-]+)", run((command, "--help")).stdout.decode(), re.MULTILINE))
+
+
+def flags_by_command(name, text):
+    """Returns the flags of each command in the synopsis of the man page, or in the completions for bash."""
+    if name == "man page":
+        text = re.sub(r"Fl -(?=[a-z])", "--", text.partition(".Sh DESCRIPTION")[0])
+        rows = re.findall(r"^\.Cm (.*)\n((?:(?!\.Nm$).*\n)*)", text, re.MULTILINE)
+    else:
+        rows = re.findall(r'^ +([a-z| -]+)\) .*words="(.*)"', text, re.MULTILINE)
+    found = {}
+    for names, row in rows:
+        for command in names.split(" | "):
+            found.setdefault(command, {"--help"}).update(re.findall(r"--[a-z-]+", row))
+    return found
 
 
 def check_documents():
-    """Checks that the man page, the completions and the guide name each command and flag."""
+    """Checks that the man page, the completions and the guide name each command and flag.
+
+    The synopsis of the man page and the completions for bash give each command its flags, and no others.
+    """
     for name, path in [*INSTALLED.items(), ("guide", GUIDE)]:
         with open(path, encoding="utf-8") as file:
             text = file.read()
+        if name in ("man page", "completions for bash"):
+            given = flags_by_command(name, text)
+            wrong = [it for it in commands() if given.get(it, set()) != set(flags(it))]
+            if wrong:
+                raise CheckFailed(f"the {name} has other flags than `--help` for {wrong}")
         if path.endswith(".1"):
             text = re.sub(r"Fl -(?=[a-z])", "--", text)
         for command in commands():
@@ -513,6 +638,7 @@ COMPLETIONS = [
     ("set /a --st", "--string --strict"), ("set /a 1 app", "app.json"), ("delete --indent t", "tab"), ("keys app", ""),
     ("keys /a app", "app.json"), ("test /a app", ""), ("test /a 1 app", "app.json"), ("patch app", "app.json"),
     ("patch --inverse app", "app.json"), ("format --in", "--indent --in-place"), ("tokens app", ""), ("escape app", ""),
+    ("locate app", ""), ("locate /a app", "app.json"), ("locate --at 1:1 app", "app.json"),
 ]
 
 
@@ -996,6 +1122,88 @@ LONG = [
 ]
 
 
+def check_drawings(folder):
+    """Checks `FAILING`: what an operation has at fault is drawn, however the patch is applied. Returns the number of runs."""
+    patch, path, undo = f"{folder}/p.json", f"{folder}/d.json", f"{folder}/u.json"
+    missing = f"jptr: standard input: {NOT_FOUND}\n/c\n ^ not found in value\n"
+    for words in [("move", "/c", "/d"), ("copy", "/c", "/b"), ("rename", "/c", "d")]:
+        check_result(Case(words, TEXT, "", missing, 1), run(words, TEXT))
+    check_result(Case((), TEXT, "", missing.replace("/c", "/c/d"), 1), run(("copy", "/b", "/c/d"), TEXT))
+    runs = 4
+    for operation, error in FAILING:
+        for many, flags in [(1, ()), (1, ("--check",)), (1, ("-i",)), (1, ("--compact",)), (1, ("--inverse", undo)), (20, ()), (20, ("--check",))]:
+            write(patch, f"[{', '.join([FIRST] * many)}, {operation}]")
+            write(path, TEXT)
+            text = f"jptr: {path}: patch failed at operation {many}: {error}"
+            check_result(Case((), "", "", text, 1), run(("patch", patch, path, *flags)))
+            expect_files(folder, {patch: read(patch), path: TEXT})
+            runs += 1
+    return runs
+
+
+# Two documents, and the changes from one to the other.
+CHANGES = [
+    ("1", "2", '~ "": 1 -> 2\n'),
+    ('{"a": 1, "b/c": [1, 2, 3], "d": null}', '{"a": {"x": "y"}, "b/c": [1, 3], "e": []}', '~ /a: 1 -> {"x":"y"}\n- /b~1c/1: 2\n- /d: null\n+ /e: []\n'),
+    ('{"a\\nb": 1}', '{"a\\nb": true}', "~ /a\\nb: 1 -> true\n"),
+    ("[1]", "[1]", ""),
+]
+
+
+def check_commented(folder):
+    """Checks files with comments, which are changed in place, and a byte order mark. Returns the number of runs."""
+    path, marked = f"{folder}/x.jsonc", f"{folder}/m.json"
+    write(path, COMMENTED)
+    write(marked, '\ufeff{"a": 1}\n')
+    check_result(Case((), "", "1.0\n"), run(("get", "/a", path)))
+    check_result(Case((), "", ""), run(("set", "/a", "2", path, "-i")))
+    check_result(Case((), "", ""), run(("set", "/a", "2", marked, "-i")))
+    check_result(Case((), "", ""), run(("format", marked, "-i")))
+    error = f"jptr: {path}: the document has comments, which another layout would lose\n"
+    check_result(Case((), "", "", error, 1), run(("format", path, "-i")))
+    check_result(Case((), "", "", error, 1), run(("relayout", path, marked)))
+    check_result(Case((), "", "- /b: [1,2]\n", "", 1), run(("diff", "--text", path, marked)))
+    error = f"jptr: {path}: only set and delete change a text with comments\n"
+    check_result(Case((), "", "", error, 1), run(("insert", "/b/0", "0", path)))
+    expect_files(folder, {path: COMMENTED.replace("1.0", "2"), marked: '\ufeff{\n  "a": 2\n}\n'})
+    return 8
+
+
+def check_changes(folder):
+    """Checks `diff --text`, and `set --create`. Returns the number of runs."""
+    old, new, path = f"{folder}/old.json", f"{folder}/new.json", f"{folder}/made.json"
+    for before, after, changes in CHANGES:
+        write(old, before)
+        write(new, after)
+        check_result(Case((), "", changes, "", 1 if changes else 0), run(("diff", "--text", old, new)))
+    write(old, '{"a": 1, "b": 2}')
+    write(new, '{"b": 3, "c": 4}')
+    colors = "\x1b[31m- /a: 1\x1b[0m\n\x1b[33m~ /b: 2 -> 3\x1b[0m\n\x1b[32m+ /c: 4\x1b[0m\n"
+    for when, changes in [("always", colors), ("never", re.sub("\x1b.{1,3}m", "", colors)), ("auto", re.sub("\x1b.{1,3}m", "", colors))]:
+        check_result(Case((), "", changes, "", 1), run(("diff", "--text", "--color", when, old, new)))
+    error = "jptr: --color: needs always, never or auto\n"
+    check_result(Case((), "", "", error, 2), run(("diff", "--text", "--color", "x", old, new)))
+    before, after = read(old), read(new)
+    pretty = '{\n  "a": {\n    "b": 1.10\n  },\n  "c": []\n}\n'
+    words = ("set", "--create", "/a/b", "1.10", "/c", "[]", path)
+    check_result(Case((), "", pretty), run(words))
+    expect_files(folder, {old: before, new: after})
+    check_result(Case((), "", ""), run((*words, "-i")))
+    check_result(Case((), "", ""), run(("set", "--create", "/c/-", "2", path, "-i")))
+    added = pretty.replace("[]", "[\n    2\n  ]")
+    expect_files(folder, {old: before, new: after, path: added})
+    check_result(Case((), "", '{"x":1}\n'), run(("set", "--create", "--compact", "/x", "1", f"{folder}/none.json")))
+    check_result(Case((), "", ""), run(("set", "--create", "/x/y", "1", f"{folder}/t.toml", "-i")))
+    if read(f"{folder}/t.toml") not in ("x.y = 1\n", "[x]\ny = 1\n"):
+        raise CheckFailed(f"--create made {read(f'{folder}/t.toml')!r}")
+    missing = f"{folder}/no/made.json"
+    error = f"jptr: {missing}: No such file or directory (os error 2)\n"
+    check_result(Case((), "", "", error, 5), run(("set", "--create", "/x", "1", missing, "-i")))
+    os.remove(f"{folder}/t.toml")
+    expect_files(folder, {old: before, new: after, path: added})
+    return len(CHANGES) + 10
+
+
 def check_long(folder, shim):
     """Checks patches of many operations, also where a memory request fails. Returns the number of runs."""
     patch, path = f"{folder}/p.json", f"{folder}/d.json"
@@ -1072,7 +1280,7 @@ def check_inverse_fails(folder, patch, path, undo):
     for old in (None, "{}"):
         for text, operations, words, errors, status in [
             (deepest, '[{"op": "remove", "path": ""}]', (), f"jptr: {undo}: the patch would nest deeper than 127\n", 3),
-            (BEFORE, '[{"op": "remove", "path": "/x"}]', (), f"jptr: {path}: patch failed at operation 0: {NOT_FOUND}\n", 1),
+            (BEFORE, '[{"op": "remove", "path": "/x"}]', (), f"jptr: {path}: patch failed at operation 0: {NOT_FOUND}\n/x\n ^ not found in value\n", 1),
             ("{", "[]", (), f"jptr: {path}: {OPEN}", 3),
             ('{"a": 1e-400}', "[]", (), f"jptr: {path}: the number at /a loses digits: use --lossy\n", 3),
             ("{}", LOST_AGAIN, (), "jptr: PATCHFILE: operation 0: the number loses digits: use --lossy\n", 3),
@@ -1203,17 +1411,26 @@ def read(path):
 
 
 def check_memory(case, shim):
-    """Runs a case once for each memory request, with that one failing, and returns the number of requests."""
+    """Runs a case once for each memory request, with that one failing, and returns the number of requests.
+
+    With `--lines`, the results of the lines before are already written.
+    """
     words = [PROGRAM, *case.words]
     usual, requests, _ = run_with_shim(words, case.input, shim, 0, count="run", may_keep=True)
     check_result(case, usual)
-    without = Case(case.words, case.input, "", "jptr: out of memory\n", 4)
     for fail in [*range(1, requests + 1), "all"]:
         given, _, _ = run_with_shim(words, case.input, shim, fail, count="run", may_keep=True)
         if (given.stdout, given.returncode) == (case.output.encode(), case.status):
             continue
-        check_result(without, given)
+        written = given.stdout.decode()
+        before = written if "--lines" in case.words and is_lines_of(case.output, written) else ""
+        check_result(Case(case.words, case.input, before, "jptr: out of memory\n", 4), given)
     return requests
+
+
+def is_lines_of(text, start):
+    """Returns whether `start` is some of the first lines of `text`."""
+    return text.startswith(start) and (not start or start.endswith("\n"))
 
 
 def examples():
@@ -1266,12 +1483,13 @@ def main():
         shim = build_shim(folder)
         # First, and alone: a process that another thread starts can hold the end of a pipe that is closed here.
         runs = check_streams() + check_usage()
-        for name in ["files", "in_place", "inverse", "layouts", "long", "guide", "completions"]:
+        for name in ["files", "in_place", "inverse", "drawings", "changes", "commented", "layouts", "long", "guide", "completions"]:
             os.mkdir(f"{folder}/{name}")
         runs += check_completions(f"{folder}/completions")
         runs += check_files(f"{folder}/files") + check_in_place(f"{folder}/in_place") + check_lines()
         runs += check_inverse(f"{folder}/inverse", shim) + check_relayout(f"{folder}/layouts", shim)
-        runs += check_patched(f"{folder}/inverse")
+        runs += check_patched(f"{folder}/inverse") + check_drawings(f"{folder}/drawings") + check_changes(f"{folder}/changes")
+        runs += check_commented(f"{folder}/commented")
         runs += check_long(f"{folder}/long", shim)
         runs += check_round_trips() + check_raw_values() + check_located(pool)
         all_cases = list(cases())

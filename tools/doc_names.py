@@ -59,9 +59,11 @@ def sources():
 
 @functools.cache
 def functions():
-    """Returns the names of the clauses of each function, by the function's name."""
+    """Returns the names of the clauses of each function of a library or program, by the function's name."""
     found = {}
-    for text in sources().values():
+    for path, text in sources().items():
+        if "/jsonptr_tool_" in path:
+            continue
         heads = list(FUNCTION.finditer(text))
         for head, following in zip(heads, [*heads[1:], None]):
             contract = text[head.end() : following.start() if following else len(text)]

@@ -36,7 +36,7 @@ OTHERS = {
     ],
     "edits in text": [
         *((f"jsonptr_edit_in_text/src/{it}.rt", [f"{it}_in_text"]) for it in EDITS),
-        ("jsonptr_edit_in_text/src/in_place.rt", [f"{it}_in_place" for it in EDITS]),
+        ("jsonptr_edit_in_text/src/in_place.rt", [*(f"{it}_in_place" for it in EDITS), "assign_raw_in_place", "apply_raw_in_place"]),
         ("jsonptr_edit_in_text/src/locate.rt", ["locate_in_text"]),
     ],
     "documents as lines": [
@@ -62,8 +62,9 @@ OTHERS = {
         ("jsonptr_c_calls/src/pointers.rt", ["count", "token", "escape", "push", "pop"]),
         ("jsonptr_c_calls/src/documents.rt", ["parse", "parse_exactly", "free", "print_at", "string_at", "node_at", "assign", "delete", "patch", "diff"]),
         ("jsonptr_c_calls/src/texts.rt", ["print_in", "lost_number_in"]),
+        ("jsonptr_c_calls/src/locations.rt", ["locate_in", "pointer_at_in"]),
         ("jsonptr_c_calls/src/outcome.rt", ["succeed", "fail", "fail_with_length"]),
-        ("jsonptr_c_calls/src/record.rt", ["message"]),
+        ("jsonptr_c_calls/src/message.rt", ["message"]),
     ],
 }
 # Files of a few lines that nearly every statement needs, in one sentence of the page.

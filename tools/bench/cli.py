@@ -4,7 +4,9 @@
     tools/bench/cli.py [--rounds N] [--only WORD] JPTR [--jq PROGRAM]
 
 JPTR is the built program of crates/jptr. Both programs run on each file. A result is the least processor
-time of all rounds, and the peak memory, which `/usr/bin/time` measures (Debian: `time`).
+time of all rounds, and the peak memory, which `/usr/bin/time` measures (Debian: `time`). The last line has the
+times of `jptr get --comments` on an array of records with comments, and of `jptr get` on the same text with
+spaces instead of them.
 """
 import argparse
 import json
@@ -76,6 +78,22 @@ def shown(result):
     return f"{time}, {memory / 2**20:.1f} MiB"
 
 
+def print_comments(jptr, rounds):
+    """Prints how long a text with comments takes, beside the same text with spaces instead of them."""
+    record = '  {"id": 1, /* %s */ "name": "x", "tags": ["y", "z"]}, // %s\n'
+    count = 100_000
+    commented = "[\n" + record % ("key", "each") * count + '  {"name": "last"}\n]\n'
+    bare = commented.replace("/* key */", " " * 9).replace("// each", " " * 7)
+    times = []
+    for text, flags in [(commented, ["--comments"]), (bare, [])]:
+        with tempfile.NamedTemporaryFile() as file:
+            file.write(text.encode())
+            file.flush()
+            command = [jptr, "get", *flags, f"/{count}/name"]
+            times.append(min(run(command, file.name)[0] for _ in range(rounds)))
+    print(f"comments, {len(commented) / 1e6:.1f} MB: {1000 * times[0]:.1f} ms, without {1000 * times[1]:.1f} ms, {times[0] / times[1]:.2f}")
+
+
 def main():
     parser = argparse.ArgumentParser(description=__doc__, formatter_class=argparse.RawDescriptionHelpFormatter)
     parser.add_argument("--rounds", type=int, default=5)
@@ -98,6 +116,8 @@ def main():
         (ours, our_memory), (theirs, their_memory) = found["jptr"], found["jq"]
         ratios = f"{ours / theirs:.2f} | {our_memory / their_memory:.2f}"
         print(f"| {row.name} | {shown(found['jptr'])} | {shown(found['jq'])} | {ratios} |", flush=True)
+    if words.only in "comments":
+        print_comments(words.jptr, words.rounds)
 
 
 if __name__ == "__main__":

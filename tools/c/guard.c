@@ -38,6 +38,10 @@ uint32_t jsonptrcore_text_print(const char *text, size_t text_length, const char
                                 bool is_pretty, char *out, size_t capacity, size_t *length, jsonptr_error *error);
 uint32_t jsonptrcore_text_lost_number(const char *text, size_t text_length, bool *found, char *out, size_t capacity,
                                       size_t *length, jsonptr_error *error);
+uint32_t jsonptrcore_text_locate(const char *text, size_t text_length, const char *pointer, size_t pointer_length,
+                                 size_t *start, size_t *end, jsonptr_error *error);
+uint32_t jsonptrcore_text_pointer_at(const char *text, size_t text_length, size_t offset, char *out, size_t capacity,
+                                     size_t *length, jsonptr_error *error);
 
 /* Whether a pointer and a length can be a slice: NULL only with length 0. */
 static bool is_slice(const void *start, size_t length) {
@@ -53,7 +57,7 @@ static const char *start_of(const char *start) {
 /* What is written for an optional argument that is NULL, and where an empty buffer starts. */
 typedef struct unwanted {
     jsonptr_error error;
-    size_t length;
+    size_t length, end;
     bool found;
     char buffer;
 } unwanted;
@@ -259,6 +263,26 @@ jsonptr_status jsonptr_lost_number_in_text(const char *text, size_t text_length,
     }
     return jsonptrcore_text_lost_number(start_of(text), text_length, OR(found, none.found), OR(out, none.buffer),
                                         capacity, OR(length, none.length), OR(error, none.error));
+}
+
+jsonptr_status jsonptr_locate_in_text(const char *text, size_t text_length, const char *pointer, size_t pointer_length,
+                                      size_t *start, size_t *end, jsonptr_error *error) {
+    unwanted none;
+    if (!is_slice(text, text_length) || !is_slice(pointer, pointer_length)) {
+        return refuse(error);
+    }
+    return jsonptrcore_text_locate(start_of(text), text_length, start_of(pointer), pointer_length,
+                                   OR(start, none.length), OR(end, none.end), OR(error, none.error));
+}
+
+jsonptr_status jsonptr_pointer_at_in_text(const char *text, size_t text_length, size_t offset, char *out, size_t capacity,
+                                          size_t *length, jsonptr_error *error) {
+    unwanted none;
+    if (!is_slice(text, text_length) || !is_slice(out, capacity)) {
+        return refuse(error);
+    }
+    return jsonptrcore_text_pointer_at(start_of(text), text_length, offset, OR(out, none.buffer), capacity,
+                                       OR(length, none.length), OR(error, none.error));
 }
 
 const char *jsonptr_version(void) {

@@ -76,9 +76,9 @@
  *             the order of their keys.
  * Threads     There are no globals. Two threads may use two documents at once.
  *             ONE DOCUMENT IS FOR ONE CALL AT A TIME, READING INCLUDED: a lock
- *             is needed even if all threads only read. jsonptr_resolve_in_text
- *             and the calls on pointers have no document, and need no lock. No
- *             call may be made in a signal handler.
+ *             is needed even if all threads only read. The calls on pointers,
+ *             and those that end in _in_text, have no document, and need no lock.
+ *             No call may be made in a signal handler.
  * Never       The library never prints, exits, aborts or waits.
  *
  * WHAT THE CALLER MUST UPHOLD
@@ -156,6 +156,8 @@ typedef uint32_t jsonptr_status;
 #define JSONPTR_PATCH_FAILED 13u  /* an operation of the patch fails */
 #define JSONPTR_TOO_DEEP     14u  /* the document would nest deeper than 10,127 */
 #define JSONPTR_NOT_EXACT    15u  /* a number of a text loses digits */
+#define JSONPTR_NOT_LOCATED  16u  /* the value is in the text, but its bytes are not found */
+#define JSONPTR_NO_VALUE     17u  /* no value of the text is at the offset */
 
 /* ---- Errors ------------------------------------------------------------ */
 
@@ -219,6 +221,7 @@ typedef uint32_t jsonptr_status;
  *                   TEST_FAILED                   kind, operation
  *     TOO_DEEP      0, DEEP_INVERSE               kind
  *     NOT_EXACT     0                             offset, length
+ *     NO_VALUE      0                             offset, which was passed
  *     others        0                             none
  *
  * The offset of NOT_EXACT is that of the number in the text, and its length is
@@ -269,7 +272,8 @@ typedef struct jsonptr_error {
  * offset 6 is out of bounds". The number after "token at", "token at offset" or
  * "starting at offset" is `slash`, and that after "operation" is `operation`.
  * NOT_UTF8 and NOT_JSON have no number in the message: print `offset` beside it.
- * The message of NOT_EXACT is "the number at offset 7 loses digits".
+ * The message of NOT_EXACT is "the number at offset 7 loses digits", and that of
+ * NO_VALUE "no value is at offset 7".
  * The message of a success is "no error".
  *
  * The message is made of the struct alone, which may be copied and kept after
@@ -632,6 +636,51 @@ jsonptr_status jsonptr_lost_number_in_text(const char *text, size_t text_length,
                                            bool *found,
                                            char *out, size_t capacity, size_t *length,
                                            jsonptr_error *error);
+
+/* Says where the value that a pointer resolves to is in a JSON text, in bytes: from
+ * the offset of its first byte to the offset after its last one. These bytes are
+ * the value as it is written, with its digits, its escapes and the white space
+ * within it, but not around it. Of a repeated key the last member counts.
+ *
+ *     {"sizes": [3.0, 5]}     has "/sizes/0", which is 3.0, from 11 to 14
+ *
+ * start     may be NULL, and so may `end` and `error`.
+ * Returns   JSONPTR_OK, those of jsonptr_pointer_count for the pointer,
+ *           JSONPTR_NOT_UTF8 with offset and JSONPTR_NOT_JSON with offset for the
+ *           text, JSONPTR_NOT_FOUND with kind, position, slash, offset and
+ *           length, JSONPTR_NOT_LOCATED if the value is there but its bytes do
+ *           not pass the check of the library, for which no text is known,
+ *           JSONPTR_NO_MEMORY. An error leaves `*start` and `*end`.
+ * Cost      linear in the text. */
+JSONPTR_API JSONPTR_NODISCARD
+jsonptr_status jsonptr_locate_in_text(const char *text, size_t text_length,
+                                      const char *pointer, size_t pointer_length,
+                                      size_t *start, size_t *end,
+                                      jsonptr_error *error);
+
+/* Copies the pointer of the innermost value at an offset of a JSON text: of the
+ * smallest value, from its first to its last byte as jsonptr_locate_in_text has
+ * it, that contains the byte there. The byte of a key, of a comma or of white space
+ * between two members is one of their object.
+ *
+ *     {"sizes": [3.0, 5]}     has "/sizes/0" at 11, 12 and 13, "/sizes" at 14, "" at 1
+ *
+ * If a key is repeated, the values of the other members have no pointer: there
+ * the result is the pointer of a value around them, which need not be the smallest.
+ *
+ * offset    in bytes, from 0.
+ * Returns   JSONPTR_OK, JSONPTR_NOT_UTF8 with offset and JSONPTR_NOT_JSON with
+ *           offset, JSONPTR_NOT_LOCATED as jsonptr_locate_in_text of "",
+ *           JSONPTR_NO_VALUE with offset if the byte is before or after the
+ *           document or the text ends before it, JSONPTR_NO_ROOM,
+ *           JSONPTR_NO_MEMORY.
+ * length    may be NULL, and so may `error`.
+ * Cost      linear in the text. */
+JSONPTR_API JSONPTR_NODISCARD
+jsonptr_status jsonptr_pointer_at_in_text(const char *text, size_t text_length,
+                                          size_t offset,
+                                          char *out, size_t capacity, size_t *length,
+                                          jsonptr_error *error);
 
 /* The version of the library, such as "0.2.0", with a closing zero. */
 JSONPTR_API const char *jsonptr_version(void);

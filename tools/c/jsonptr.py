@@ -32,6 +32,14 @@ A number that is no integer of 64 bits is the nearest double, so its digits may 
     >>> jsonptr.lost_number(text)
     '/id'
 
+Where a value is in a text, and which value is at an offset, both in bytes:
+
+    >>> start, end = jsonptr.locate('{"sizes": [3.0, 5]}', "/sizes/0")
+    >>> start, end, '{"sizes": [3.0, 5]}'[start:end]
+    (11, 14, '3.0')
+    >>> jsonptr.pointer_at('{"sizes": [3.0, 5]}', 12)
+    '/sizes/0'
+
 Each error that a call raises is a `JsonPointerError`, or a `TypeError` or `MemoryError`. Errors, documents and patches
 can be copied and pickled.
 
@@ -42,17 +50,19 @@ may share a `Document`, which has a lock; the lock of Python is free while the l
 import ctypes
 import ctypes.util
 import json
+import operator
 import os
+import sys
 import threading
-from typing import Any, Dict, Iterator, List, NoReturn, Optional, Tuple, Type, Union
+from typing import Any, Dict, Iterator, List, NamedTuple, NoReturn, Optional, SupportsIndex, Tuple, Type, Union
 
-__all__ = ["Document", "JsonPointerError", "JsonPatchError", "NotExact", "NotFound", "Patch", "TooDeep", "escape",
-           "lost_number", "make_patch", "resolve", "resolve_in_text", "tokens", "version"]
+__all__ = ["Document", "JsonPointerError", "JsonPatchError", "NotExact", "NotFound", "Patch", "Span", "TooDeep", "escape",
+           "locate", "lost_number", "make_patch", "pointer_at", "resolve", "resolve_in_text", "tokens", "version"]
 
 Text = Union[str, bytes]
 
 OK, NO_MEMORY, NO_ROOM, BAD_ARGUMENT, NO_DOCUMENT, NOT_UTF8, NOT_JSON, NOT_POINTER, NO_TOKEN, NOT_FOUND, OTHER_KIND, \
-    NOT_ASSIGNED, NOT_PATCH, PATCH_FAILED, TOO_DEEP, NOT_EXACT = range(16)
+    NOT_ASSIGNED, NOT_PATCH, PATCH_FAILED, TOO_DEEP, NOT_EXACT, NOT_LOCATED, NO_VALUE = range(18)
 MEMBERS = [None, "op", "path", "from", "value", "pointer", "token", "text"]
 
 
@@ -97,6 +107,7 @@ def _function(name: str, result: Any = ctypes.c_uint32) -> Any:
 _lib = _library()
 _get, _in_text, _parse = _function("document_get"), _function("resolve_in_text"), _function("document_parse_with")
 _lost_number = _function("lost_number_in_text")
+_locate, _pointer_at = _function("locate_in_text"), _function("pointer_at_in_text")
 _assign, _delete, _patch = _function("document_assign"), _function("document_delete"), _function("document_patch")
 _patch_with_inverse = _function("document_patch_with_inverse")
 _diff, _free = _function("document_diff"), _function("document_free", None)
@@ -136,7 +147,7 @@ class JsonPointerError(ValueError):
 
 
 class NotFound(JsonPointerError, LookupError):
-    """The pointer does not resolve to a value."""
+    """The pointer does not resolve to a value, or no value is at the offset."""
 
 
 class JsonPatchError(JsonPointerError):
@@ -158,7 +169,7 @@ class NotExact(JsonPointerError):
 
 
 _CLASSES: Dict[int, Type[JsonPointerError]] = {
-    NOT_FOUND: NotFound, NOT_PATCH: JsonPatchError, PATCH_FAILED: JsonPatchError, TOO_DEEP: TooDeep,
+    NOT_FOUND: NotFound, NO_VALUE: NotFound, NOT_PATCH: JsonPatchError, PATCH_FAILED: JsonPatchError, TOO_DEEP: TooDeep,
     NOT_EXACT: NotExact}
 
 
@@ -299,6 +310,51 @@ def lost_number(text: Text) -> Optional[str]:
     found = ctypes.c_bool()
     pointer = _Buffer().fill(_lost_number, *_text(text), _at(found))
     return pointer.decode() if found.value else None
+
+
+class Span(NamedTuple):
+    """The bytes of a value in a JSON text: the offset of the first one, and the offset after the last one."""
+
+    start: int
+    end: int
+
+
+def locate(text: Text, pointer: Text) -> Span:
+    """Returns where the value that the pointer resolves to is in a JSON text, in bytes of its UTF-8.
+
+    The bytes from `start` to `end` are the value as it is written, without white space around it:
+
+        >>> text = '["\u00e9", 1.00]'.encode()
+        >>> span = locate(text, "/1")
+        >>> span, text[span.start:span.end]
+        (Span(start=7, end=11), b'1.00')
+
+    Of a repeated key the last member counts. If both the text and the pointer are at fault, the error is the pointer's.
+    The status of the error is NOT_LOCATED if the value is there but its bytes do not pass the check of the library, for
+    which no text is known.
+    """
+    start, end, error = _size(), _size(), _Error()
+    status = _locate(*_text(text), *_text(pointer), _at(start), _at(end), _at(error))
+    if status:
+        _fail(status, error)
+    return Span(start.value, end.value)
+
+
+def pointer_at(text: Text, offset: SupportsIndex) -> str:
+    """Returns the pointer of the innermost value of a JSON text that contains the byte at the offset.
+
+        >>> pointer_at('{"sizes": [3.0, 5]}', 12), pointer_at('{"sizes": [3.0, 5]}', 14)
+        ('/sizes/0', '/sizes')
+
+    The byte of a key, of a comma or of white space between two members is one of their object. The offset is in bytes of
+    the UTF-8 of the text. In a member whose key comes again, the result is the pointer of a value around it, which need not
+    be the smallest. The error is `NotFound` if no value is there: the byte is before or after the document, or is none of
+    the text.
+    """
+    data, at = _text(text), operator.index(offset)
+    if not 0 <= at <= sys.maxsize:
+        raise NotFound(f"no value is at offset {at}", status=NO_VALUE, offset=at)
+    return _Buffer().fill(_pointer_at, *data, _size(at)).decode()
 
 
 def _with_pointer(error: NotExact, text: bytes) -> NotExact:

@@ -17,6 +17,18 @@ pub fn command<'a>(alloc: Global) -> Result<Command<'a>, AllocError> {
         .subcommand(get(alloc)?)?
         .subcommand(set(alloc)?)?
         .subcommand(delete(alloc)?)?
+        .subcommand(insert(alloc)?)?
+        .subcommand(transfer(
+            alloc,
+            "move",
+            "Prints the document with a value moved to another pointer",
+        )?)?
+        .subcommand(transfer(
+            alloc,
+            "copy",
+            "Prints the document with a copy of a value at another pointer",
+        )?)?
+        .subcommand(rename(alloc)?)?
         .subcommand(keys(alloc)?)?
         .subcommand(length(alloc)?)?
         .subcommand(node_type(alloc)?)?
@@ -50,8 +62,8 @@ fn get<'a>(alloc: Global) -> Result<Command<'a>, AllocError> {
                 .conflicts_with("indent")?
                 .conflicts_with("sort-keys")?,
         )?
-        .arg(toml_flag(alloc))?;
-    with_lines(alloc, with_order(alloc, command)?)
+        .arg(toml_flag(alloc)?)?;
+    with_comments(alloc, with_lines(alloc, with_order(alloc, command)?)?)
 }
 
 /// Returns the command `set`.
@@ -59,25 +71,26 @@ fn set<'a>(alloc: Global) -> Result<Command<'a>, AllocError> {
     let command = Command::new(alloc, "set")
         .about("Prints the document with the value assigned at the pointer, or several values")
         .arg(pointer(alloc))?
-        .arg(
-            arg!(in alloc; <JSON> "The value, or @FILE for that of a file").allow_negative_numbers(
-                true,
-            ),
-        )?
+        .arg(value(alloc))?
         .arg(
             arg!(in alloc; [FILE] ... "Further pairs of POINTER and JSON, and then the file; standard input if it is missing or -").allow_negative_numbers(
                 true,
             ),
         )?
-        .arg(arg!(in alloc; --string "Takes the value as a string, without quotes and escapes"))?
+        .arg(string_flag(alloc))?
         .arg(
             arg!(in alloc; --"no-expand" "Creates no container on the way to the value, and replaces no scalar there").conflicts_with(
                 "lines",
             )?,
         )?
-        .arg(toml_flag(alloc))?
-        .arg(reformat(alloc)?)?;
-    with_lines(alloc, with_in_place(alloc, with_order(alloc, command)?)?)
+        .arg(
+            arg!(in alloc; --create "Makes the document if FILE is missing").conflicts_with(
+                "lines",
+            )?,
+        )?
+        .arg(toml_flag(alloc)?)?
+        .arg(toml_reformat_flag(alloc)?)?;
+    with_comments(alloc, with_edits(alloc, command)?)
 }
 
 /// Returns the command `delete`.
@@ -88,9 +101,51 @@ fn delete<'a>(alloc: Global) -> Result<Command<'a>, AllocError> {
         )
         .arg(pointer(alloc))?
         .arg(files(alloc))?
-        .arg(toml_flag(alloc))?
-        .arg(reformat(alloc)?)?;
-    with_lines(alloc, with_in_place(alloc, with_order(alloc, command)?)?)
+        .arg(toml_flag(alloc)?)?
+        .arg(toml_reformat_flag(alloc)?)?;
+    with_comments(alloc, with_edits(alloc, command)?)
+}
+
+/// Returns the command `insert`.
+fn insert<'a>(alloc: Global) -> Result<Command<'a>, AllocError> {
+    let command = Command::new(alloc, "insert")
+        .about(
+            "Prints the document with the value inserted before the element at the pointer, or added as a member",
+        )
+        .arg(pointer(alloc))?
+        .arg(value(alloc))?
+        .arg(file(alloc))?
+        .arg(string_flag(alloc))?
+        .arg(reformat_flag(alloc)?)?;
+    with_edits(alloc, command)
+}
+
+/// Returns the command `move` or `copy`.
+fn transfer<'a>(
+    alloc: Global,
+    name: &'static str,
+    about: &'static str,
+) -> Result<Command<'a>, AllocError> {
+    let command = Command::new(alloc, name)
+        .about(about)
+        .arg(arg!(in alloc; <FROM> "The pointer of the value"))?
+        .arg(arg!(in alloc; <POINTER> "The pointer where it is put, as by insert"))?
+        .arg(file(alloc))?
+        .arg(reformat_flag(alloc)?)?;
+    with_edits(alloc, command)
+}
+
+/// Returns the command `rename`.
+fn rename<'a>(alloc: Global) -> Result<Command<'a>, AllocError> {
+    let command = Command::new(alloc, "rename")
+        .about(
+            "Prints the document with another key for the member at the pointer, which then comes last",
+        )
+        .arg(pointer(alloc))?
+        .arg(arg!(in alloc; <KEY> "The new key, as it is").allow_hyphen_values(true))?
+        .arg(file(alloc))?
+        .arg(reformat_flag(alloc)?)?;
+    with_in_place(alloc, with_order(alloc, command)?)
 }
 
 /// Returns the command `keys`.
@@ -99,7 +154,8 @@ fn keys<'a>(alloc: Global) -> Result<Command<'a>, AllocError> {
         .about("Prints the keys of the object that the pointer resolves to, each on a line")
         .arg(pointer(alloc))?
         .arg(file(alloc))?
-        .arg(arg!(in alloc; --raw "Prints each key without quotes"))
+        .arg(arg!(in alloc; --raw "Prints each key without quotes"))?
+        .arg(comments_flag(alloc))
 }
 
 /// Returns the command `length`.
@@ -107,7 +163,8 @@ fn length<'a>(alloc: Global) -> Result<Command<'a>, AllocError> {
     Command::new(alloc, "length")
         .about("Prints the number of elements, members or characters of the value")
         .arg(pointer(alloc))?
-        .arg(file(alloc))
+        .arg(file(alloc))?
+        .arg(comments_flag(alloc))
 }
 
 /// Returns the command `type`.
@@ -115,7 +172,8 @@ fn node_type<'a>(alloc: Global) -> Result<Command<'a>, AllocError> {
     Command::new(alloc, "type")
         .about("Prints the type of the value: null, boolean, number, string, array or object")
         .arg(pointer(alloc))?
-        .arg(file(alloc))
+        .arg(file(alloc))?
+        .arg(comments_flag(alloc))
 }
 
 /// Returns the command `test`.
@@ -135,7 +193,8 @@ fn test<'a>(alloc: Global) -> Result<Command<'a>, AllocError> {
             arg!(in alloc; --string "Takes JSON as a string, without quotes and escapes").requires_arg(
                 "JSON",
             )?,
-        )
+        )?
+        .arg(comments_flag(alloc))
 }
 
 /// Returns the command `paths`.
@@ -147,9 +206,12 @@ fn paths<'a>(alloc: Global) -> Result<Command<'a>, AllocError> {
             arg!(in alloc; --all "Prints a line for each node, from which from-paths makes the document"),
         )?
         .arg(
-            arg!(in alloc; --toml "Takes TOML, as for a file whose name ends in .toml, and prints TOML values"),
+            arg!(in alloc; --toml "Takes TOML, as for a file whose name ends in .toml, and prints TOML values").conflicts_with(
+                "comments",
+            )?,
         )?
-        .arg(lossy(alloc))
+        .arg(lossy_flag(alloc))?
+        .arg(comments_flag(alloc))
 }
 
 /// Returns the command `from-paths`.
@@ -177,8 +239,8 @@ fn patch<'a>(alloc: Global) -> Result<Command<'a>, AllocError> {
                 .conflicts_with("check")?
                 .conflicts_with("lines")?,
         )?
-        .arg(reformat(alloc)?)?;
-    with_lines(alloc, with_in_place(alloc, with_order(alloc, command)?)?)
+        .arg(reformat_flag(alloc)?)?;
+    with_edits(alloc, command)
 }
 
 /// Returns the command `format`.
@@ -186,7 +248,7 @@ fn format<'a>(alloc: Global) -> Result<Command<'a>, AllocError> {
     let command = Command::new(alloc, "format")
         .about("Prints the document with a line for each member and element")
         .arg(file(alloc))?;
-    with_lines(alloc, with_in_place(alloc, with_order(alloc, command)?)?)
+    with_comments(alloc, with_edits(alloc, command)?)
 }
 
 /// Returns the command `relayout`.
@@ -195,11 +257,12 @@ fn relayout<'a>(alloc: Global) -> Result<Command<'a>, AllocError> {
         .about("Prints a new document in the layout of the file that it was made from")
         .arg(arg!(in alloc; <FILE> "The file with the layout, or - for standard input"))?
         .arg(arg!(in alloc; [NEW] "The new document; standard input if it is missing or -"))?
-        .arg(lossy(alloc))?
+        .arg(lossy_flag(alloc))?
         .arg(
             arg!(in alloc; --reformat "Takes a document as it is that cannot be laid out as the file"),
         )?
-        .arg(in_place_flag(alloc)?)
+        .arg(in_place_flag(alloc)?)?
+        .arg(comments_flag(alloc))
 }
 
 /// Returns the command `locate`.
@@ -216,9 +279,10 @@ fn locate<'a>(alloc: Global) -> Result<Command<'a>, AllocError> {
                 .value_name("LINE:COLUMN")
                 .action(ArgAction::Set)
                 .help(
-                    "Prints the pointer of the innermost value at this place of the file instead",
+                    "Prints the pointer of the innermost value at this place instead; FILE is then the only argument",
                 ),
-        )
+        )?
+        .arg(comments_flag(alloc))
 }
 
 /// Returns the command `diff`.
@@ -228,7 +292,18 @@ fn diff<'a>(alloc: Global) -> Result<Command<'a>, AllocError> {
             "Prints a JSON Patch (RFC 6902) that turns one document into another. The exit status is 1 if they differ",
         )
         .arg(arg!(in alloc; <OLD> "The document before, or - for standard input"))?
-        .arg(arg!(in alloc; <NEW> "The document after, or - for standard input"))?;
+        .arg(arg!(in alloc; <NEW> "The document after, or - for standard input"))?
+        .arg(
+            arg!(in alloc; --text "Prints a line for each change instead: its pointer, and the values before and after it")
+                .conflicts_with("pretty")?
+                .conflicts_with("compact")?,
+        )?
+        .arg(
+            arg!(in alloc; --color <WHEN> "Colours the lines of --text: always, never, or auto, on a terminal if NO_COLOR is not set").requires_arg(
+                "text",
+            )?,
+        )?
+        .arg(comments_flag(alloc))?;
     with_layout(alloc, command)
 }
 
@@ -269,20 +344,51 @@ fn files<'a>(alloc: Global) -> Arg<'a> {
     arg!(in alloc; [FILE] ... "Further pointers, and then the file, which must be there after them; standard input if it is missing or -")
 }
 
+/// Returns the argument for the value.
+fn value<'a>(alloc: Global) -> Arg<'a> {
+    arg!(in alloc; <JSON> "The value, or @FILE for that of a file, @- of standard input").allow_negative_numbers(
+        true,
+    )
+}
+
+/// Returns the flag for a value that is a string.
+fn string_flag<'a>(alloc: Global) -> Arg<'a> {
+    arg!(in alloc; --string "Takes the value as a string, without quotes and escapes, also after @")
+}
+
 /// Returns the flag for TOML.
-fn toml_flag<'a>(alloc: Global) -> Arg<'a> {
-    arg!(in alloc; --toml "Takes TOML, as for a file whose name ends in .toml")
+fn toml_flag<'a>(alloc: Global) -> Result<Arg<'a>, AllocError> {
+    arg!(in alloc; --toml "Takes TOML, as for a file whose name ends in .toml").conflicts_with(
+        "comments",
+    )
+}
+
+/// Returns the flag for JSON with comments.
+fn comments_flag<'a>(alloc: Global) -> Arg<'a> {
+    arg!(in alloc; --comments "Takes JSON with comments and trailing commas, as for a file whose name ends in .jsonc")
+}
+
+/// Adds the flag for JSON with comments to a command that takes lines.
+fn with_comments<'a>(alloc: Global, command: Command<'a>) -> Result<Command<'a>, AllocError> {
+    command.arg(comments_flag(alloc).conflicts_with("lines")?)
 }
 
 /// Returns the flag that allows a document to lose its layout.
-fn reformat<'a>(alloc: Global) -> Result<Arg<'a>, AllocError> {
+fn reformat_flag<'a>(alloc: Global) -> Result<Arg<'a>, AllocError> {
+    arg!(in alloc; --reformat "Prints a document anew that cannot be edited in its text").conflicts_with(
+        "lines",
+    )
+}
+
+/// Returns the flag that allows a document to lose its layout, of a command that takes TOML too.
+fn toml_reformat_flag<'a>(alloc: Global) -> Result<Arg<'a>, AllocError> {
     arg!(in alloc; --reformat "Prints a document anew that cannot be edited in its text; on TOML, lets --in-place do so").conflicts_with(
         "lines",
     )
 }
 
 /// Returns the flag that allows numbers to lose digits.
-fn lossy<'a>(alloc: Global) -> Arg<'a> {
+fn lossy_flag<'a>(alloc: Global) -> Arg<'a> {
     arg!(in alloc; --lossy "Takes the nearest double for a number that loses digits")
 }
 
@@ -295,7 +401,7 @@ fn with_layout<'a>(alloc: Global, command: Command<'a>) -> Result<Command<'a>, A
             )?,
         )?
         .arg(arg!(in alloc; --compact "Prints without white space"))?
-        .arg(lossy(alloc))
+        .arg(lossy_flag(alloc))
 }
 
 /// Adds the flags for the layout of a text, and for the order of its members.
@@ -334,6 +440,12 @@ fn with_lines<'a>(alloc: Global, command: Command<'a>) -> Result<Command<'a>, Al
                 .action(ArgAction::SetTrue)
                 .requires_arg("lines")?,
         )
+}
+
+/// Adds the flags of a command that edits, or lays out, and takes lines.
+fn with_edits<'a>(alloc: Global, command: Command<'a>) -> Result<Command<'a>, AllocError> {
+    let command = with_in_place(alloc, with_order(alloc, command)?)?;
+    with_lines(alloc, command)
 }
 
 /// Adds the flag for changing the file to a command that takes lines.

@@ -1,21 +1,24 @@
 //! The commands.
 
+use crate::changes::changes_of;
+use crate::colors::{are_colored, colored};
 use crate::digits::{check_bytes, is_lossy};
-use crate::input::{is_standard, name_of, read_all};
+use crate::input::is_standard;
 use crate::inverse::patch_with_inverse;
 use crate::locate::locate;
 use crate::long_patch::patch_long;
-use crate::node::{print_keys, print_length, print_type, test};
-use crate::operands::{argument, check_json, more_operands, pointer_of};
+use crate::node::{print_node, test};
+use crate::operands::{argument, check_json, is_toml_name, more_operands, pointer_of};
+use crate::operation::{insert, rename, transfer};
 use crate::output::{print_line, print_text};
 use crate::patch_file::PatchFile;
 use crate::paths::{from_paths, paths};
-use crate::problem::{FILE, NOT_APPLIED, NOT_JSON, Problem, USAGE};
+use crate::program_error::{NOT_APPLIED, ProgramError, USAGE};
 use crate::relayout::relayout;
 use crate::several::{delete_each, get_each, get_task, set_each, set_task};
+use crate::source::{Format, Source};
 use crate::style::{layout_of, style_of};
-use crate::task::{run_styled, run_task};
-use crate::toml_file::is_toml;
+use crate::task::{on_source, run_styled, run_task};
 use crate::{arguments, toml_file};
 use clap::error::ErrorKind;
 use clap::{ArgMatches, Error};
@@ -24,16 +27,15 @@ use jptr_tasks::layout::{Layout, show};
 use jptr_tasks::task::Task;
 use jsonptr::{Pointer, Token};
 use serde_json::Value;
-use std::alloc::Global;
 use std::borrow::CowStr;
 use std::{env, io};
 
 /// Runs the program, and returns its exit status.
-pub fn run(rt: &HostRuntime) -> Result<u8, Problem> {
+pub fn run(rt: &HostRuntime) -> Result<u8, ProgramError> {
     let words = words(rt)?;
     match arguments::command(rt.alloc())?.try_get_matches_from(words.as_slice()) {
         Ok(matches) => match matches.subcommand() {
-            Some((name, matches)) => run_command(rt, name, matches),
+            Some((name, matches)) => run_command(rt, matches, name),
             None => Ok(USAGE),
         },
         Err(error) => show_usage(rt, &error),
@@ -41,39 +43,40 @@ pub fn run(rt: &HostRuntime) -> Result<u8, Problem> {
 }
 
 /// Returns the words of the command line, of which the first is the program's name.
-fn words(rt: &HostRuntime) -> Result<Vec<String>, Problem> {
+fn words(rt: &HostRuntime) -> Result<Vec<String>, ProgramError> {
     match env::args(rt) {
         Ok(args) => Ok(args.collect(rt.alloc())?),
-        Err(error) if error.kind() == io::ErrorKind::OutOfMemory => Err(Problem::Memory),
+        Err(error) if error.kind() == io::ErrorKind::OutOfMemory => Err(ProgramError::Memory),
         Err(_) => {
             let message = "an argument is not UTF-8";
-            Err(Problem::new(rt.alloc(), USAGE, "command line", message))
+            Err(ProgramError::new(rt.alloc(), USAGE, "command line", message))
         }
     }
 }
 
-/// Prints the help, the version, or what is wrong with the command line.
-fn show_usage(rt: &HostRuntime, error: &Error) -> Result<u8, Problem> {
+/// Prints the help or the version, or returns what is wrong with the command line.
+fn show_usage(rt: &HostRuntime, error: &Error) -> Result<u8, ProgramError> {
     if error.kind() == ErrorKind::OutOfMemory {
-        return Err(Problem::Memory);
+        return Err(ProgramError::Memory);
     }
     let text = error.to_string(rt.alloc())?;
     if error.use_stderr() {
-        return Err(Problem::Other(USAGE, text));
+        return Err(ProgramError::Other(USAGE, text));
     }
     print_text(rt, text.as_str())?;
     Ok(0)
 }
 
 /// Runs the command with this name.
-fn run_command(rt: &HostRuntime, name: &str, matches: &ArgMatches<'_>) -> Result<u8, Problem> {
+fn run_command(rt: &HostRuntime, matches: &ArgMatches<'_>, name: &str) -> Result<u8, ProgramError> {
     match name {
         "get" => get(rt, matches),
         "set" => set(rt, matches),
         "delete" => delete(rt, matches),
-        "keys" => print_keys(rt, matches),
-        "length" => print_length(rt, matches),
-        "type" => print_type(rt, matches),
+        "insert" => insert(rt, matches),
+        "move" | "copy" => transfer(rt, matches, name),
+        "rename" => rename(rt, matches),
+        "keys" | "length" | "type" => print_node(rt, matches, name),
         "test" => test(rt, matches),
         "paths" => paths(rt, matches),
         "from-paths" => from_paths(rt, matches),
@@ -90,64 +93,58 @@ fn run_command(rt: &HostRuntime, name: &str, matches: &ArgMatches<'_>) -> Result
 }
 
 /// Finds a value, or several.
-fn get(rt: &HostRuntime, matches: &ArgMatches<'_>) -> Result<u8, Problem> {
+fn get(rt: &HostRuntime, matches: &ArgMatches<'_>) -> Result<u8, ProgramError> {
     let alloc = rt.alloc();
-    let more = more_operands(rt.alloc(), matches)?;
+    let more = more_operands(alloc, matches)?;
     if !more.is_empty() {
         return get_each(rt, matches, more.as_slice());
     }
     let text = argument(matches, "POINTER");
     let pointer = pointer_of(alloc, text)?;
-    if is_toml(matches) {
+    if Format::of(matches) == Format::Toml {
         return toml_file::get(rt, matches, pointer);
     }
-    run_task(rt, matches, get_task(alloc, matches, text)?, text)
+    run_task(rt, matches, get_task(alloc, matches, text)?)
 }
 
 /// Assigns a value, or several.
-fn set(rt: &HostRuntime, matches: &ArgMatches<'_>) -> Result<u8, Problem> {
+fn set(rt: &HostRuntime, matches: &ArgMatches<'_>) -> Result<u8, ProgramError> {
     let more = more_operands(rt.alloc(), matches)?;
     let text = argument(matches, "POINTER");
-    if more.is_empty() && is_toml(matches) {
+    if more.is_empty() && Format::of(matches) == Format::Toml {
         return toml_file::set(rt, matches, pointer_of(rt.alloc(), text)?);
     }
-    if !more.is_empty() || matches.get_flag("no-expand") {
+    if !more.is_empty() || matches.get_flag("no-expand") || matches.get_flag("create") {
         return set_each(rt, matches, more.as_slice());
     }
-    run_task(
-        rt,
-        matches,
-        set_task(rt, matches, text, argument(matches, "JSON"))?,
-        text,
-    )
+    let task = set_task(rt, matches, text, argument(matches, "JSON"))?;
+    run_task(rt, matches, task)
 }
 
 /// Deletes a value, or several.
-fn delete(rt: &HostRuntime, matches: &ArgMatches<'_>) -> Result<u8, Problem> {
+fn delete(rt: &HostRuntime, matches: &ArgMatches<'_>) -> Result<u8, ProgramError> {
     let more = more_operands(rt.alloc(), matches)?;
     if !more.is_empty() {
         return delete_each(rt, matches, more.as_slice());
     }
     let text = argument(matches, "POINTER");
     let pointer = pointer_of(rt.alloc(), text)?;
-    if is_toml(matches) {
+    if Format::of(matches) == Format::Toml {
         return toml_file::delete(rt, matches, pointer);
     }
-    run_task(rt, matches, Task::Delete(pointer), text)
+    run_task(rt, matches, Task::Delete(pointer))
 }
 
 /// Applies a patch document.
-fn patch(rt: &HostRuntime, matches: &ArgMatches<'_>) -> Result<u8, Problem> {
+fn patch(rt: &HostRuntime, matches: &ArgMatches<'_>) -> Result<u8, ProgramError> {
     let alloc = rt.alloc();
     let name = argument(matches, "PATCHFILE");
     if is_standard(Some(name)) && is_standard(matches.get_str("FILE")) {
         let message = "standard input cannot be the patch and the document";
-        return Err(Problem::new(alloc, USAGE, "PATCHFILE", message));
+        return Err(ProgramError::new(alloc, USAGE, "PATCHFILE", message));
     }
-    if let Some(file) = matches.get_str("FILE") {
-        if file.ends_with(".toml") {
-            return Err(Problem::new(alloc, USAGE, "patch", "not on TOML: use set and delete"));
-        }
+    if is_toml_name(matches.get_str("FILE")) {
+        return Err(ProgramError::new(alloc, USAGE, "patch", "not on TOML: use set and delete"));
     }
     let patch = PatchFile::read(rt, name)?;
     if let Some(undo) = matches.get_str("inverse") {
@@ -156,20 +153,26 @@ fn patch(rt: &HostRuntime, matches: &ArgMatches<'_>) -> Result<u8, Problem> {
     if patch.is_long() && !matches.get_flag("lines") {
         return patch_long(rt, matches, patch);
     }
-    run_task(rt, matches, Task::Patch(patch.into_raw(alloc)?), "")
+    run_task(rt, matches, Task::Patch(patch.into_raw(alloc)?))
 }
 
 /// Lays a document out anew.
-fn format(rt: &HostRuntime, matches: &ArgMatches<'_>) -> Result<u8, Problem> {
+fn format(rt: &HostRuntime, matches: &ArgMatches<'_>) -> Result<u8, ProgramError> {
     let alloc = rt.alloc();
     check_json(alloc, "format", matches.get_str("FILE"))?;
     let mut style = style_of(alloc, matches)?;
-    style.layout = format_layout(style.layout, matches);
-    run_styled(rt, matches, Task::Get(Pointer::root(), None), style, "")
+    style.layout = format_layout(matches, style.layout);
+    let task = Task::Get(Pointer::root(), None);
+    if Format::of(matches) == Format::Commented && !matches.get_flag("lines") {
+        let source = Source::open(rt, matches)?;
+        source.check_bare(alloc)?;
+        return on_source(rt, &task, style, &source);
+    }
+    run_styled(rt, matches, task, style)
 }
 
 /// Returns how a document is laid out anew: on lines, if no flag says otherwise.
-fn format_layout(layout: Layout, matches: &ArgMatches<'_>) -> Layout {
+fn format_layout(matches: &ArgMatches<'_>, layout: Layout) -> Layout {
     let is_flat = matches.get_flag("lines") || matches.get_flag("compact");
     match layout {
         Layout::Kept => if is_flat {
@@ -187,37 +190,56 @@ fn format_layout(layout: Layout, matches: &ArgMatches<'_>) -> Layout {
 }
 
 /// Prints the patch document that turns one document into another.
-fn diff(rt: &HostRuntime, matches: &ArgMatches<'_>) -> Result<u8, Problem> {
+fn diff(rt: &HostRuntime, matches: &ArgMatches<'_>) -> Result<u8, ProgramError> {
     let alloc = rt.alloc();
-    let (before, name) = (argument(matches, "OLD"), argument(matches, "NEW"));
-    let old_bytes = read_all(rt, Some(before))?;
-    let old = document_in(alloc, before, &old_bytes)?;
-    let new_bytes = read_all(rt, Some(name))?;
-    let new = document_in(alloc, name, &new_bytes)?;
-    if !is_lossy(matches) && old_bytes.as_slice() != new_bytes.as_slice() {
-        check_bytes(alloc, name_of(Some(before)), &old_bytes)?;
-        check_bytes(alloc, name_of(Some(name)), &new_bytes)?;
+    let before = read_side(rt, matches, "OLD")?;
+    let old = before.value(alloc)?;
+    let after = read_side(rt, matches, "NEW")?;
+    let new = after.value(alloc)?;
+    if !is_lossy(matches) && before.bytes.as_slice() != after.bytes.as_slice() {
+        check_bytes(alloc, before.name, &before.bytes)?;
+        check_bytes(alloc, after.name, &after.bytes)?;
     }
     match difference_of(alloc, &old, &new, layout_of(matches)) {
         Ok(difference) => {
-            print_line(rt, difference.text.as_str())?;
+            if matches.get_flag("text") {
+                print_changes(rt, matches, old, difference.text.as_str())?;
+            } else {
+                print_line(rt, difference.text.as_str())?;
+            }
             Ok(if difference.is_empty { 0 } else { NOT_APPLIED })
         }
-        Err(failure) => Err(Problem::of_failure(alloc, name_of(Some(name)), "", failure)),
+        Err(error) => Err(after.error(alloc, "", error)),
     }
 }
 
-/// Reads the document that the bytes of a file are.
-fn document_in(alloc: Global, file: &str, bytes: &[u8]) -> Result<Value, Problem> {
-    match Value::from_slice(alloc, bytes) {
-        Ok(value) => Ok(value),
-        Err(error) if error.is_memory() => Err(Problem::Memory),
-        Err(_) => Err(Problem::of_bytes(alloc, name_of(Some(file)), bytes)),
+/// Prints a line for each change of the document by the patch with this text.
+fn print_changes(
+    rt: &HostRuntime,
+    matches: &ArgMatches<'_>,
+    document: Value,
+    patch: &str,
+) -> Result<(), ProgramError> {
+    let is_colored = are_colored(rt, matches)?;
+    let mut lines = changes_of(rt.alloc(), document, patch)?;
+    if is_colored {
+        lines = colored(rt.alloc(), lines.as_str())?;
     }
+    print_text(rt, lines.as_str())
+}
+
+/// Reads one of the documents that are compared.
+fn read_side<'a>(
+    rt: &HostRuntime,
+    matches: &ArgMatches<'a>,
+    side: &str,
+) -> Result<Source<'a>, ProgramError> {
+    let file = Some(argument(matches, side));
+    Source::read_as(rt, Format::of_file(matches, file), file)
 }
 
 /// Prints the tokens of a pointer.
-fn tokens(rt: &HostRuntime, matches: &ArgMatches<'_>) -> Result<u8, Problem> {
+fn tokens(rt: &HostRuntime, matches: &ArgMatches<'_>) -> Result<u8, ProgramError> {
     let alloc = rt.alloc();
     let pointer = pointer_of(alloc, argument(matches, "POINTER"))?;
     let mut texts = Vec::new(alloc);
@@ -240,14 +262,14 @@ fn tokens(rt: &HostRuntime, matches: &ArgMatches<'_>) -> Result<u8, Problem> {
 }
 
 /// Prints a text as a token.
-fn escape(rt: &HostRuntime, matches: &ArgMatches<'_>) -> Result<u8, Problem> {
+fn escape(rt: &HostRuntime, matches: &ArgMatches<'_>) -> Result<u8, ProgramError> {
     let alloc = rt.alloc();
     let token = Token::new(alloc, CowStr::Borrowed(argument(matches, "TEXT")))?;
     print_line(rt, token.encoded())
 }
 
 /// Prints the text of a token.
-fn unescape(rt: &HostRuntime, matches: &ArgMatches<'_>) -> Result<u8, Problem> {
+fn unescape(rt: &HostRuntime, matches: &ArgMatches<'_>) -> Result<u8, ProgramError> {
     let alloc = rt.alloc();
     let text = argument(matches, "TOKEN");
     match Token::from_encoded(CowStr::Borrowed(text)) {
@@ -255,6 +277,6 @@ fn unescape(rt: &HostRuntime, matches: &ArgMatches<'_>) -> Result<u8, Problem> {
             let decoded = token.decoded(alloc)?.into_owned(alloc)?;
             print_line(rt, decoded.as_str())
         }
-        Err(error) => Err(Problem::of_token(alloc, text, error)),
+        Err(error) => Err(ProgramError::of_token(alloc, text, error)),
     }
 }

@@ -1,22 +1,16 @@
 //! Numbers whose digits would be lost.
 
-use crate::problem::{NOT_JSON, Problem};
+use crate::program_error::{NOT_JSON, ProgramError};
 use crate::style::Style;
 use clap::ArgMatches;
-use jptr_tasks::failure::Failure;
 use jptr_tasks::layout::Layout;
 use jptr_tasks::result::result_in_text;
 use jptr_tasks::task::Task;
+use jptr_tasks::task_error::TaskError;
 use jsonptr_edit_in_text::RawOperation;
 use jsonptr_numbers::{Lost, find_lost};
 use simdutf8::basic::from_utf8;
 use std::alloc::{AllocError, Global};
-
-/// The name of the argument with the value that is assigned.
-const VALUE: &str = "JSON";
-
-/// The name of the argument with the patch.
-const PATCH: &str = "PATCHFILE";
 
 /// Returns whether the flags allow that digits are lost.
 pub fn is_lossy(matches: &ArgMatches<'_>) -> bool {
@@ -24,15 +18,15 @@ pub fn is_lossy(matches: &ArgMatches<'_>) -> bool {
 }
 
 /// Fails if a number of the text with this name loses digits.
-pub fn check_text(alloc: Global, name: &str, text: &str) -> Result<(), Problem> {
+pub fn check_text(alloc: Global, name: &str, text: &str) -> Result<(), ProgramError> {
     match find_lost(alloc, text)? {
-        Some(lost) => Err(problem(alloc, name, &lost)),
+        Some(lost) => Err(LossError::Document(lost).error(alloc, name)),
         None => Ok(()),
     }
 }
 
 /// Fails if a number of the document that the bytes are loses digits.
-pub fn check_bytes(alloc: Global, name: &str, bytes: &[u8]) -> Result<(), Problem> {
+pub fn check_bytes(alloc: Global, name: &str, bytes: &[u8]) -> Result<(), ProgramError> {
     match from_utf8(bytes) {
         Ok(text) => check_text(alloc, name, text),
         // The command reports it.
@@ -40,21 +34,64 @@ pub fn check_bytes(alloc: Global, name: &str, bytes: &[u8]) -> Result<(), Proble
     }
 }
 
-/// The first number of a result that loses digits.
+/// A number that loses digits, and what it is in.
 #[derive(Drop)]
-pub enum Loss {
+pub enum LossError {
     /// A number of the document.
     Document(Lost),
     /// A number of the value that is assigned.
     Value(Lost),
     /// A number of the value of the patch's operation at this position.
     Operation(usize, Lost),
+    /// A number of the value of the line with this number.
+    Line(usize, Lost),
+}
+
+impl LossError {
+    /// Returns the name of the argument with the number, if it is in one.
+    fn argument(&self) -> Option<&'static str> {
+        match self {
+            LossError::Document(_) | LossError::Line(_, _) => None,
+            LossError::Value(_) => Some("JSON"),
+            LossError::Operation(_, _) => Some("PATCHFILE"),
+        }
+    }
+
+    /// Returns what is said of the number, without the name of an argument.
+    fn text(&self, alloc: Global) -> Result<String, AllocError> {
+        match self {
+            LossError::Document(lost) | LossError::Value(lost) => format!(in alloc;
+                "{lost}: use --lossy"
+            ),
+            LossError::Operation(position, lost) => {
+                format!(in alloc; "operation {position}: {lost}: use --lossy")
+            }
+            LossError::Line(number, lost) => format!(in alloc;
+                "line {number}: {lost}: use --lossy"
+            ),
+        }
+    }
+
+    /// Returns what is said of the number.
+    pub fn message(&self, alloc: Global) -> Result<String, AllocError> {
+        let text = self.text(alloc)?;
+        match self.argument() {
+            Some(name) => format!(in alloc; "{name}: {text}"),
+            None => Ok(text),
+        }
+    }
+
+    /// Returns the error of the number in the input with this name, if it is in no argument.
+    fn error(&self, alloc: Global, name: &str) -> ProgramError {
+        let name = self.argument().unwrap_or(name);
+        ProgramError::of_message(alloc, NOT_JSON, name, self.text(alloc))
+    }
 }
 
 /// Returns whether the result of the task may have numbers that are read, and may not lose digits.
 ///
-/// They are read to sort the members, and where an edit cannot be made in the text. Of all edits that is
-/// known of patches alone.
+/// They are read to sort the members, and where an edit cannot be made in the text, which is known to
+/// happen with patches alone.
 pub fn is_checked(task: &Task<'_>, style: Style) -> bool {
     if style.is_lossy {
         return false;
@@ -76,7 +113,7 @@ pub fn loss_of(
     task: &Task<'_>,
     style: Style,
     text: &str,
-) -> Result<Option<Loss>, AllocError> {
+) -> Result<Option<LossError>, AllocError> {
     if !is_checked(task, style) {
         return Ok(None);
     }
@@ -87,8 +124,8 @@ pub fn loss_of(
     }
     match result_in_text(alloc, task, Layout::Kept, text) {
         Ok(new) => loss_in_result(alloc, style.layout, new.as_str()),
-        Err(Failure::NotInPlace) => Ok(first_of(in_document, in_values)),
-        Err(Failure::Memory(error)) => Err(error),
+        Err(TaskError::NotInPlace) => Ok(first_of(in_document, in_values)),
+        Err(TaskError::Memory(error)) => Err(error),
         // The command reports it.
         Err(_) => Ok(None),
     }
@@ -96,10 +133,10 @@ pub fn loss_of(
 
 /// Returns the first number that loses digits in the text of a value that the task puts into the
 /// document, if there is one.
-fn loss_in_values(alloc: Global, task: &Task<'_>) -> Result<Option<Loss>, AllocError> {
+fn loss_in_values(alloc: Global, task: &Task<'_>) -> Result<Option<LossError>, AllocError> {
     match task {
         Task::Set(_, value) => match find_lost(alloc, value.text.flat.as_str())? {
-            Some(lost) => Ok(Some(Loss::Value(lost))),
+            Some(lost) => Ok(Some(LossError::Value(lost))),
             None => Ok(None),
         },
         Task::Patch(patch) => loss_in_operations(alloc, patch.operations.as_slice()),
@@ -111,11 +148,11 @@ fn loss_in_values(alloc: Global, task: &Task<'_>) -> Result<Option<Loss>, AllocE
 fn loss_in_operations(
     alloc: Global,
     operations: &[RawOperation],
-) -> Result<Option<Loss>, AllocError> {
+) -> Result<Option<LossError>, AllocError> {
     let mut position: usize = 0;
     for operation in operations {
         if let Some(lost) = lost_in_operation(alloc, operation)? {
-            return Ok(Some(Loss::Operation(position, lost)));
+            return Ok(Some(LossError::Operation(position, lost)));
         }
         position = position.saturating_add(1);
     }
@@ -131,7 +168,11 @@ fn lost_in_operation(alloc: Global, operation: &RawOperation) -> Result<Option<L
 }
 
 /// Returns the first number that loses digits if the result is laid out so.
-fn loss_in_result(alloc: Global, layout: Layout, text: &str) -> Result<Option<Loss>, AllocError> {
+fn loss_in_result(
+    alloc: Global,
+    layout: Layout,
+    text: &str,
+) -> Result<Option<LossError>, AllocError> {
     match layout {
         Layout::Sorted | Layout::SortedPretty => Ok(first_of(find_lost(alloc, text)?, None)),
         _ => Ok(None),
@@ -139,9 +180,9 @@ fn loss_in_result(alloc: Global, layout: Layout, text: &str) -> Result<Option<Lo
 }
 
 /// Returns the number of the document, or else that of a value.
-fn first_of(in_document: Option<Lost>, in_values: Option<Loss>) -> Option<Loss> {
+fn first_of(in_document: Option<Lost>, in_values: Option<LossError>) -> Option<LossError> {
     match in_document {
-        Some(lost) => Some(Loss::Document(lost)),
+        Some(lost) => Some(LossError::Document(lost)),
         None => in_values,
     }
 }
@@ -150,19 +191,17 @@ fn first_of(in_document: Option<Lost>, in_values: Option<Loss>) -> Option<Loss> 
 /// into the document.
 pub fn check_result(
     alloc: Global,
-    name: &str,
     task: &Task<'_>,
     style: Style,
+    name: &str,
     bytes: &[u8],
-) -> Result<(), Problem> {
+) -> Result<(), ProgramError> {
     let Ok(text) = from_utf8(bytes) else {
         // The command reports it.
         return Ok(());
     };
     match loss_of(alloc, task, style, text)? {
-        Some(Loss::Document(lost)) => Err(problem(alloc, name, &lost)),
-        Some(Loss::Value(lost)) => Err(problem(alloc, VALUE, &lost)),
-        Some(Loss::Operation(position, lost)) => Err(operation_problem(alloc, position, &lost)),
+        Some(loss) => Err(loss.error(alloc, name)),
         None => Ok(()),
     }
 }
@@ -174,30 +213,19 @@ pub fn check_inverse(
     name: &str,
     text: &str,
     operations: &[RawOperation],
-) -> Result<(), Problem> {
+) -> Result<(), ProgramError> {
     check_text(alloc, name, text)?;
     let Some((_last, earlier)) = operations.split_last() else {
         return Ok(());
     };
     match loss_in_operations(alloc, earlier)? {
-        Some(Loss::Operation(position, lost)) => Err(operation_problem(alloc, position, &lost)),
-        _ => Ok(()),
-    }
-}
-
-/// Returns what is said of a line that loses digits.
-pub fn loss_message(alloc: Global, loss: &Loss) -> Result<String, AllocError> {
-    match loss {
-        Loss::Document(lost) => message(alloc, lost),
-        Loss::Value(lost) => format!(in alloc; "{VALUE}: {lost}: use --lossy"),
-        Loss::Operation(position, lost) => {
-            format!(in alloc; "{PATCH}: operation {position}: {lost}: use --lossy")
-        }
+        Some(loss) => Err(loss.error(alloc, name)),
+        None => Ok(()),
     }
 }
 
 /// Fails if a number in the value of a line loses digits.
-pub fn check_lines(alloc: Global, name: &str, bytes: &[u8]) -> Result<(), Problem> {
+pub fn check_lines(alloc: Global, name: &str, bytes: &[u8]) -> Result<(), ProgramError> {
     let Ok(text) = from_utf8(bytes) else {
         return Ok(());
     };
@@ -210,51 +238,12 @@ pub fn check_lines(alloc: Global, name: &str, bytes: &[u8]) -> Result<(), Proble
 }
 
 /// Fails if a number in the value of the line with this number loses digits.
-fn check_line(alloc: Global, name: &str, number: usize, line: &str) -> Result<(), Problem> {
+fn check_line(alloc: Global, name: &str, number: usize, line: &str) -> Result<(), ProgramError> {
     let Some((_, value)) = line.split_once('\t') else {
         return Ok(());
     };
     match find_lost(alloc, value)? {
-        Some(lost) => Err(line_problem(alloc, name, number, &lost)),
+        Some(lost) => Err(LossError::Line(number, lost).error(alloc, name)),
         None => Ok(()),
     }
-}
-
-/// Returns the problem of a number that loses digits.
-fn problem(alloc: Global, name: &str, lost: &Lost) -> Problem {
-    match message(alloc, lost) {
-        Ok(message) => Problem::new(alloc, NOT_JSON, name, message.as_str()),
-        Err(_) => Problem::Memory,
-    }
-}
-
-/// Returns the problem of a number that loses digits in the value of the operation at this position.
-fn operation_problem(alloc: Global, position: usize, lost: &Lost) -> Problem {
-    match operation_message(alloc, position, lost) {
-        Ok(message) => Problem::new(alloc, NOT_JSON, PATCH, message.as_str()),
-        Err(_) => Problem::Memory,
-    }
-}
-
-/// Returns the problem of a number of a line that loses digits.
-fn line_problem(alloc: Global, name: &str, number: usize, lost: &Lost) -> Problem {
-    match line_message(alloc, number, lost) {
-        Ok(message) => Problem::new(alloc, NOT_JSON, name, message.as_str()),
-        Err(_) => Problem::Memory,
-    }
-}
-
-/// Returns what is said of a number that loses digits.
-fn message(alloc: Global, lost: &Lost) -> Result<String, AllocError> {
-    Ok(format!(in alloc; "{lost}: use --lossy")?)
-}
-
-/// Returns what is said of a number that loses digits in the value of the operation at this position.
-fn operation_message(alloc: Global, position: usize, lost: &Lost) -> Result<String, AllocError> {
-    Ok(format!(in alloc; "operation {position}: {lost}: use --lossy")?)
-}
-
-/// Returns what is said of a number of a line that loses digits.
-fn line_message(alloc: Global, number: usize, lost: &Lost) -> Result<String, AllocError> {
-    Ok(format!(in alloc; "line {number}: {lost}: use --lossy")?)
 }

@@ -1,33 +1,43 @@
-//! Running a task on each line of an input, of which no number may lose digits.
+//! Running a task on each line of an input, so that no number loses digits.
 
-use crate::digits::{Loss, loss_message, loss_of};
+use crate::digits::{LossError, is_checked, loss_of};
 use crate::style::Style;
-use jptr_tasks::failure::Failure;
-use jptr_tasks::line::{LineTask, put_line};
-use jptr_tasks::lines::Ended;
+use jptr_tasks::line::{Line, LineTask, put_fault, put_line};
+use jptr_tasks::lines::{Ended, run_lines};
+use jptr_tasks::task_error::TaskError;
 use jsonptr_edit_in_text::Buffers;
-use jsonptr_lines::read::{Ending, LineFault, next_line};
-use jsonptr_lines::write::write_bytes;
+use jsonptr_io::read::{Ending, NextLineError, next_line};
 use simdutf8::basic::from_utf8;
 use std::alloc::{AllocError, Global};
 use std::io::{BufRead, Write};
 
-/// Does the task on each line of the input, as [`run_lines`](jptr_tasks::lines::run_lines) does. A line
-/// is also at fault if a number of its result loses digits.
+/// A task for each line of an input, and how its results are printed.
+#[derive(Drop)]
+pub struct ExactTask<'a> {
+    /// The task, and what is printed.
+    pub run: LineTask<'a>,
+    /// How the results are printed.
+    pub style: Style,
+}
+
+/// Does the task on each line of the input, as [`run_lines`] does. A line is also at fault if a number of
+/// its result would lose digits and may not.
 pub fn run_exact_lines<R: BufRead, W: Write, E: Write>(
     alloc: Global,
-    run: &LineTask<'_>,
-    style: Style,
+    exact: &ExactTask<'_>,
     input: &mut R,
     output: &mut W,
     errors: &mut E,
-) -> Result<Ended, Failure> {
-    let outcome = read_lines(alloc, run, style, input, output, errors);
+) -> Result<Ended, TaskError> {
+    if !is_checked(&exact.run.task, exact.style) {
+        return run_lines(alloc, &exact.run, input, output, errors);
+    }
+    let outcome = read_lines(alloc, exact, input, output, errors);
     let first = output.flush();
     let second = errors.flush();
     let ended = outcome?;
     if first.is_err() || second.is_err() {
-        return Err(Failure::Write);
+        return Err(TaskError::Write);
     }
     Ok(ended)
 }
@@ -35,12 +45,11 @@ pub fn run_exact_lines<R: BufRead, W: Write, E: Write>(
 /// Does the task on each line, and does not flush.
 fn read_lines<R: BufRead, W: Write, E: Write>(
     alloc: Global,
-    run: &LineTask<'_>,
-    style: Style,
+    exact: &ExactTask<'_>,
     input: &mut R,
     output: &mut W,
     errors: &mut E,
-) -> Result<Ended, Failure> {
+) -> Result<Ended, TaskError> {
     let mut buffers = Buffers::new(alloc);
     let mut line = Vec::new(alloc);
     let mut ended = Ended::Fine;
@@ -49,17 +58,12 @@ fn read_lines<R: BufRead, W: Write, E: Write>(
         if ending == Ending::Nothing {
             return Ok(ended);
         }
-        if !put_exact_line(
-            alloc,
-            &mut buffers,
-            run,
-            style,
+        let read = Line {
             number,
-            &line,
-            output,
-            errors,
-        )? {
-            if run.is_strict {
+            bytes: &line,
+        };
+        if !put_exact_line(&mut buffers, exact, read, output, errors)? {
+            if exact.run.is_strict {
                 return Ok(Ended::Stopped);
             }
             ended = Ended::Faults;
@@ -68,76 +72,58 @@ fn read_lines<R: BufRead, W: Write, E: Write>(
             return Ok(ended);
         }
     }
-    Err(Failure::Read)
+    Err(TaskError::Read)
 }
 
 /// Reads the next line.
-fn read_line<R: BufRead>(input: &mut R, line: &mut Vec<u8>) -> Result<Ending, Failure> {
+fn read_line<R: BufRead>(input: &mut R, line: &mut Vec<u8>) -> Result<Ending, TaskError> {
     match next_line(input, line) {
         Ok(ending) => Ok(ending),
-        Err(LineFault::Memory(error)) => Err(Failure::Memory(error)),
-        Err(LineFault::Read) => Err(Failure::Read),
+        Err(NextLineError::Memory(error)) => Err(TaskError::Memory(error)),
+        Err(NextLineError::Read) => Err(TaskError::Read),
     }
 }
 
-/// Writes the result of the line with this number, or reports it. Returns whether the line has a result.
+/// Writes the result of the line, or reports it. Returns whether the line has a result.
 fn put_exact_line<W: Write, E: Write>(
-    alloc: Global,
     buffers: &mut Buffers,
-    run: &LineTask<'_>,
-    style: Style,
-    number: u64,
-    line: &[u8],
+    exact: &ExactTask<'_>,
+    line: Line<'_>,
     output: &mut W,
     errors: &mut E,
-) -> Result<bool, Failure> {
-    match line_loss(alloc, run, style, line)? {
+) -> Result<bool, TaskError> {
+    let run = &exact.run;
+    let alloc = *run.name.allocator();
+    match line_loss(alloc, exact, line.bytes)? {
         Some(loss) => {
-            let report = report_of(alloc, run.name.as_str(), number, &loss)?;
+            let report = report_of(alloc, run.name.as_str(), line.number, &loss)?;
             put_fault(&run.fallback, report.as_str(), output, errors)?;
             Ok(false)
         }
-        None => put_line(alloc, buffers, run, number, line, output, errors),
+        None => put_line(buffers, run, line, output, errors),
     }
 }
 
 /// Returns the first number that the task loses digits of in the line, if there is one.
 fn line_loss(
     alloc: Global,
-    run: &LineTask<'_>,
-    style: Style,
+    exact: &ExactTask<'_>,
     line: &[u8],
-) -> Result<Option<Loss>, AllocError> {
+) -> Result<Option<LossError>, AllocError> {
     match from_utf8(line) {
-        Ok(text) => loss_of(alloc, &run.task, style, text),
+        Ok(text) => loss_of(alloc, &exact.run.task, exact.style, text),
         // The run reports it.
         Err(_) => Ok(None),
     }
 }
 
 /// Returns the report of a line that loses digits.
-fn report_of(alloc: Global, name: &str, number: u64, loss: &Loss) -> Result<String, AllocError> {
-    let message = loss_message(alloc, loss)?;
+fn report_of(
+    alloc: Global,
+    name: &str,
+    number: u64,
+    loss: &LossError,
+) -> Result<String, AllocError> {
+    let message = loss.message(alloc)?;
     format!(in alloc; "{name}:{number}: {message}\n")
-}
-
-/// Writes what is printed for a line at fault, if there is such a text, and the report.
-fn put_fault<W: Write, E: Write>(
-    fallback: &Option<String>,
-    report: &str,
-    output: &mut W,
-    errors: &mut E,
-) -> Result<(), Failure> {
-    if let Some(text) = fallback {
-        put_text(output, text.as_str())?;
-    }
-    put_text(errors, report)
-}
-
-/// Writes the text.
-fn put_text<W: Write>(output: &mut W, text: &str) -> Result<(), Failure> {
-    match write_bytes(output, text.as_bytes()) {
-        Ok(()) => Ok(()),
-        Err(_) => Err(Failure::Write),
-    }
 }

@@ -1,9 +1,9 @@
 //! Arrays whose elements are missing in lines that build a document.
 
-use crate::problem::{NOT_APPLIED, Problem};
+use crate::program_error::{NOT_APPLIED, ProgramError};
 use std::alloc::{AllocError, Global};
 
-/// As many elements as are added to an array at once.
+/// The greatest number of elements that are added to an array at once.
 const MOST: usize = 1_048_576;
 
 /// A line, with what is before it.
@@ -19,12 +19,50 @@ struct Line<'t> {
     earlier: &'t str,
 }
 
+/// How far the lines of a text are read.
+#[derive(Clone, Copy, Drop)]
+struct Cursor {
+    /// The number of the last line that was read, or 0.
+    number: usize,
+    /// The offset of that line.
+    last: usize,
+    /// The offset of the next line.
+    next: usize,
+}
+
+impl Cursor {
+    /// Returns the cursor before the first line.
+    fn new() -> Cursor {
+        Cursor {
+            number: 0,
+            last: 0,
+            next: 0,
+        }
+    }
+
+    /// Returns the next line of the text, which is this one, and moves past it.
+    fn pass<'t>(&mut self, text: &'t str, line: &'t str) -> Line<'t> {
+        self.number = self.number.saturating_add(1);
+        let passed = Line {
+            number: self.number,
+            pointer: pointer_of_line(line),
+            previous: pointer_of_line(text.get(self.last..self.next).unwrap_or("")),
+            earlier: text.get(..self.next).unwrap_or(""),
+        };
+        self.last = self.next;
+        self.next = self.next.saturating_add(line.len()).saturating_add(1);
+        passed
+    }
+}
+
 /// Elements that are missing in an array: those from one index up to another.
 #[derive(Clone, Copy, Drop)]
 struct Gap<'t> {
     /// The text of the array's pointer.
     above: &'t str,
+    /// The index of the first one.
     from: usize,
+    /// The index of the element after the last one.
     to: usize,
 }
 
@@ -38,31 +76,20 @@ pub struct Filled {
 }
 
 /// Fails if a line makes an object of an array whose elements are missing. The lines build a document.
-pub fn check_gaps(alloc: Global, name: &str, text: &str) -> Result<(), Problem> {
-    let mut number: usize = 0;
-    let mut offset: usize = 0;
-    let mut before: usize = 0;
+pub fn check_gaps(alloc: Global, name: &str, text: &str) -> Result<(), ProgramError> {
+    let mut cursor = Cursor::new();
     for line in text.split('\n') {
-        number = number.saturating_add(1);
-        let line_here = Line {
-            number,
-            pointer: pointer_of_line(line),
-            previous: pointer_of_line(text.get(before..offset).unwrap_or("")),
-            earlier: text.get(..offset).unwrap_or(""),
-        };
-        check_line(alloc, name, line_here)?;
-        before = offset;
-        offset = offset.saturating_add(line.len()).saturating_add(1);
+        check_line(alloc, name, cursor.pass(text, line))?;
     }
     Ok(())
 }
 
 /// Fails if the line makes an object of an array whose elements are missing.
-fn check_line(alloc: Global, name: &str, line: Line<'_>) -> Result<(), Problem> {
+fn check_line(alloc: Global, name: &str, line: Line<'_>) -> Result<(), ProgramError> {
     for (slash, byte) in line.pointer.as_bytes().iter().enumerate() {
         if *byte == b'/' {
             if let Some(gap) = new_gap(alloc, line, slash)? {
-                return Err(problem(alloc, name, line.number, gap));
+                return Err(gap_error(alloc, name, line.number, gap));
             }
         }
     }
@@ -71,26 +98,15 @@ fn check_line(alloc: Global, name: &str, line: Line<'_>) -> Result<(), Problem> 
 
 /// Returns the lines with `null` for each element that is missing in an array, as far as the lines are in
 /// the order of a document.
-pub fn fill_gaps(alloc: Global, name: &str, text: &str) -> Result<Filled, Problem> {
+pub fn fill_gaps(alloc: Global, name: &str, text: &str) -> Result<Filled, ProgramError> {
     let mut filled = Filled {
         text: String::new(alloc),
         numbers: Vec::new(alloc),
     };
-    let mut number: usize = 0;
-    let mut offset: usize = 0;
-    let mut before: usize = 0;
+    let mut cursor = Cursor::new();
     for line in text.split('\n') {
-        number = number.saturating_add(1);
-        let line_here = Line {
-            number,
-            pointer: pointer_of_line(line),
-            previous: pointer_of_line(text.get(before..offset).unwrap_or("")),
-            earlier: text.get(..offset).unwrap_or(""),
-        };
-        fill_line(alloc, name, &mut filled, line_here)?;
-        filled.push(number, line)?;
-        before = offset;
-        offset = offset.saturating_add(line.len()).saturating_add(1);
+        fill_line(alloc, name, cursor.pass(text, line), &mut filled)?;
+        filled.push(cursor.number, line)?;
     }
     Ok(filled)
 }
@@ -99,9 +115,9 @@ pub fn fill_gaps(alloc: Global, name: &str, text: &str) -> Result<Filled, Proble
 fn fill_line(
     alloc: Global,
     name: &str,
-    filled: &mut Filled,
     line: Line<'_>,
-) -> Result<(), Problem> {
+    filled: &mut Filled,
+) -> Result<(), ProgramError> {
     for (slash, byte) in line.pointer.as_bytes().iter().enumerate() {
         if *byte == b'/' {
             let gap = match next_gap(line, slash) {
@@ -118,12 +134,12 @@ fn fill_line(
 }
 
 /// Fails if too many elements are missing.
-fn check_size(alloc: Global, name: &str, number: usize, gap: Gap<'_>) -> Result<(), Problem> {
+fn check_size(alloc: Global, name: &str, number: usize, gap: Gap<'_>) -> Result<(), ProgramError> {
     if gap.to.saturating_sub(gap.from) <= MOST {
         return Ok(());
     }
-    let message = format!(in alloc; "line {number}: more than {MOST} elements are missing")?;
-    Err(Problem::new(alloc, NOT_APPLIED, name, message.as_str()))
+    let message = format!(in alloc; "line {number}: more than {MOST} elements are missing");
+    Err(ProgramError::of_message(alloc, NOT_APPLIED, name, message))
 }
 
 impl Filled {
@@ -250,19 +266,16 @@ fn has_line(alloc: Global, lines: &str, pointer: &str, then: &str) -> Result<boo
     }
 }
 
-/// Returns the problem of a line before which elements are missing.
-fn problem(alloc: Global, name: &str, number: usize, gap: Gap<'_>) -> Problem {
-    match message(alloc, number, gap) {
-        Ok(message) => Problem::new(alloc, NOT_APPLIED, name, message.as_str()),
-        Err(_) => Problem::Memory,
-    }
+/// Returns the error of a line before which elements are missing.
+fn gap_error(alloc: Global, name: &str, number: usize, gap: Gap<'_>) -> ProgramError {
+    ProgramError::of_message(alloc, NOT_APPLIED, name, message(alloc, number, gap))
 }
 
 /// Returns what is said of a line before which elements are missing.
 fn message(alloc: Global, number: usize, gap: Gap<'_>) -> Result<String, AllocError> {
     let (above, to) = (gap.above, gap.to);
     let at = if above.is_empty() { "" } else { " at " };
-    Ok(format!(in alloc;
+    format!(in alloc;
         "line {number}: no element is before {to} in an array{at}{above}: --fill adds null, and lines of paths --all tell an object"
-    )?)
+    )
 }

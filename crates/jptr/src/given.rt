@@ -1,8 +1,10 @@
-//! The value that `set` assigns: an argument, a file, or standard input.
+//! The values that the command line gives: texts, those of files, and strings.
 
-use crate::input::{is_standard, name_of, read_all};
+use crate::digits::{check_text, is_lossy};
+use crate::input::{is_standard, name_of, read_all, value_in};
 use crate::operands::file_of;
-use crate::problem::{NOT_JSON, Problem, USAGE};
+use crate::program_error::{NOT_JSON, ProgramError, USAGE};
+use crate::source::past_mark;
 use clap::ArgMatches;
 use jsonptr_edit_in_text::RawValue;
 use jsonptr_in_text::InTextError;
@@ -10,67 +12,144 @@ use serde_json::Value;
 use simdutf8::basic::from_utf8;
 use std::alloc::Global;
 
-/// The text of a value, and its name in errors.
+/// The name of `--default` in errors.
+const DEFAULT: &str = "--default";
+
+/// A value that is given on the command line.
 #[derive(Drop)]
-pub struct Given<'a> {
-    /// The name of the argument, or of the file.
-    pub name: &'a str,
-    /// The text.
-    pub text: String,
+pub enum Given<'a> {
+    /// A string, which is the argument as it is.
+    String(&'a str),
+    /// A text, after its name in errors: that of the argument, or of the file.
+    Text(&'a str, String),
 }
 
-/// Returns the text of the value: that of the argument, or after `@` that of a file.
-pub fn read_given<'a>(
-    rt: &HostRuntime,
-    matches: &ArgMatches<'_>,
-    argument: &'a str,
-) -> Result<Given<'a>, Problem> {
-    let alloc = rt.alloc();
-    let Some(file) = argument.strip_prefix('@') else {
-        return Ok(Given {
-            name: "JSON",
-            text: String::from_str(alloc, argument)?,
-        });
-    };
-    if is_standard(Some(file)) && is_standard(file_of(matches)) {
-        let message = "standard input cannot be the value and the document";
-        return Err(Problem::new(alloc, USAGE, "JSON", message));
+impl<'a> Given<'a> {
+    /// Reads the value: the argument as a string if the flag `--string` is there, after `@` the text of a
+    /// file, and else the text of the argument.
+    pub fn read(
+        rt: &HostRuntime,
+        matches: &ArgMatches<'_>,
+        argument: &'a str,
+    ) -> Result<Given<'a>, ProgramError> {
+        if matches.get_flag("string") {
+            return Ok(Given::String(argument));
+        }
+        match argument.strip_prefix('@') {
+            Some(file) => Given::read_file(rt, matches, file),
+            None => Ok(Given::Text("JSON", String::from_str(rt.alloc(), argument)?)),
+        }
     }
-    let name = name_of(Some(file));
-    let bytes = read_all(rt, Some(file))?;
-    match from_utf8(&bytes) {
-        Ok(text) => Ok(Given {
-            name,
-            text: String::from_str(alloc, text)?,
-        }),
-        Err(_) => Err(Problem::new(alloc, NOT_JSON, name, "not UTF-8")),
-    }
-}
 
-/// Returns the value that is assigned: the argument as a string if the flag `--string` is there, and
-/// else the JSON text that is given.
-pub fn raw_value(
-    rt: &HostRuntime,
-    matches: &ArgMatches<'_>,
-    argument: &str,
-) -> Result<RawValue, Problem> {
-    let alloc = rt.alloc();
-    if matches.get_flag("string") {
-        return string_value(alloc, argument);
+    /// Reads the text of a file, or of standard input if the document is not read from there.
+    fn read_file(
+        rt: &HostRuntime,
+        matches: &ArgMatches<'_>,
+        file: &'a str,
+    ) -> Result<Given<'a>, ProgramError> {
+        let alloc = rt.alloc();
+        if is_standard(Some(file)) && is_standard(file_of(matches)) {
+            let message = "standard input cannot be the value and the document";
+            return Err(ProgramError::new(alloc, USAGE, "JSON", message));
+        }
+        let name = name_of(Some(file));
+        let bytes = read_all(rt, Some(file))?;
+        match from_utf8(&bytes) {
+            Ok(text) => Ok(Given::Text(name, String::from_str(alloc, past_mark(text))?)),
+            Err(_) => Err(ProgramError::new(alloc, NOT_JSON, name, "not UTF-8")),
+        }
     }
-    let given = read_given(rt, matches, argument)?;
-    match RawValue::parse(alloc, given.text.as_str()) {
-        Ok(value) => Ok(value),
-        Err(InTextError::Memory(_)) => Err(Problem::Memory),
-        Err(_) => Err(Problem::of_value(alloc, given.name, given.text.as_str())),
+
+    /// Returns it as a JSON value.
+    pub fn json(self, alloc: Global) -> Result<Value, ProgramError> {
+        match self {
+            Given::String(text) => Ok(Value::String(String::from_str(alloc, text)?)),
+            Given::Text(name, text) => match Value::from_str(alloc, text.as_str()) {
+                Ok(value) => Ok(value),
+                Err(error) if error.is_memory() => Err(ProgramError::Memory),
+                Err(_) => Err(ProgramError::of_value(alloc, name, text.as_str())),
+            },
+        }
+    }
+
+    /// Returns it as a JSON value with its text.
+    pub fn raw(self, alloc: Global) -> Result<RawValue, ProgramError> {
+        match self {
+            Given::String(text) => string_value(alloc, text),
+            Given::Text(name, text) => match RawValue::parse(alloc, text.as_str()) {
+                Ok(value) => Ok(value),
+                Err(InTextError::Memory(_)) => Err(ProgramError::Memory),
+                Err(_) => Err(ProgramError::of_value(alloc, name, text.as_str())),
+            },
+        }
+    }
+
+    /// Returns it as a TOML value. Fails if a number loses digits, unless the flag `--lossy` is there.
+    pub fn toml(
+        self,
+        alloc: Global,
+        matches: &ArgMatches<'_>,
+    ) -> Result<toml::Value, ProgramError> {
+        match self {
+            Given::String(text) => Ok(toml::Value::String(String::from_str(alloc, text)?)),
+            Given::Text(name, text) => toml_value(alloc, matches, name, text.as_str()),
+        }
     }
 }
 
 /// Returns the text as a JSON string.
-fn string_value(alloc: Global, text: &str) -> Result<RawValue, Problem> {
+fn string_value(alloc: Global, text: &str) -> Result<RawValue, ProgramError> {
     let string = Value::String(String::from_str(alloc, text)?);
     match RawValue::from_value(alloc, &string)? {
         Some(value) => Ok(value),
-        None => Err(Problem::Memory),
+        None => Err(ProgramError::Memory),
     }
+}
+
+/// Returns the JSON value of `--default`, whose numbers are printed anew. Fails if one loses digits,
+/// unless the flag `--lossy` is there.
+pub fn json_default(
+    alloc: Global,
+    matches: &ArgMatches<'_>,
+) -> Result<Option<Value>, ProgramError> {
+    let Some(text) = matches.get_str("default") else {
+        return Ok(None);
+    };
+    let value = value_in(alloc, DEFAULT, text.as_bytes())?;
+    if !is_lossy(matches) {
+        check_text(alloc, DEFAULT, text)?;
+    }
+    Ok(Some(value))
+}
+
+/// Returns the TOML value of `--default`. Fails if a number loses digits, unless the flag `--lossy` is
+/// there.
+pub fn toml_default(
+    alloc: Global,
+    matches: &ArgMatches<'_>,
+) -> Result<Option<toml::Value>, ProgramError> {
+    match matches.get_str("default") {
+        Some(text) => Ok(Some(toml_value(alloc, matches, DEFAULT, text)?)),
+        None => Ok(None),
+    }
+}
+
+/// Parses a text with this name as a TOML value, whose floats are printed anew.
+///
+/// A number that loses digits is found as far as the text is JSON too.
+fn toml_value(
+    alloc: Global,
+    matches: &ArgMatches<'_>,
+    name: &str,
+    text: &str,
+) -> Result<toml::Value, ProgramError> {
+    let value = match toml::Value::from_str(alloc, text) {
+        Ok(value) => value,
+        Err(error) if error.is_memory() => return Err(ProgramError::Memory),
+        Err(_) => return Err(ProgramError::new(alloc, NOT_JSON, name, "not a TOML value")),
+    };
+    if !is_lossy(matches) {
+        check_text(alloc, name, text)?;
+    }
+    Ok(value)
 }

@@ -1,19 +1,32 @@
 //! Editing a file in place: it is locked and read, and its text is replaced.
 ghost use Rattle.std.specs.Prelude.{reverse};
 
-use crate::input::problem;
-use crate::problem::{Problem, shown};
+use crate::input::file_error;
+use crate::program_error::{ProgramError, shown};
 use jptr_tasks::replacement::{Event, FileSystem, Replaced, replace};
+use std::alloc::{AllocError, Global};
 use std::fs::{File, Metadata, OpenOptions, Permissions, TryLockError};
 use std::io::{ErrorKind, Read, Write};
 use std::os::unix::fs::{MetadataExt, OpenOptionsExt, PermissionsExt, fchown};
 use std::{fs, io};
 
+/// The number of names that are tried for a file beside another one.
+pub const NAMES: u32 = 1_000;
+
+/// The rights of the group.
+const GROUP: u32 = 0o070;
+
+/// The right to run a program as the owner of its file.
+const SET_USER: u32 = 0o4000;
+
+/// The right to run a program as the group of its file.
+const SET_GROUP: u32 = 0o2000;
+
 /// Opens the file for an edit, and reads its text.
-pub fn open_file(rt: &HostRuntime, path: &str) -> Result<(Target, Vec<u8>), Problem> {
+pub fn open_file(rt: &HostRuntime, path: &str) -> Result<(Target, Vec<u8>), ProgramError> {
     match Target::open(rt, path) {
         Ok(opened) => Ok(opened),
-        Err(error) => Err(problem(rt.alloc(), path, &error)),
+        Err(error) => Err(file_error(rt.alloc(), path, &error)),
     }
 }
 
@@ -23,7 +36,7 @@ pub fn replace_text(
     path: &str,
     target: &Target,
     text: &str,
-) -> Result<(), Problem> {
+) -> Result<(), ProgramError> {
     match target.replace(rt, text) {
         Ok(Replaced::Durable) => Ok(()),
         Ok(Replaced::NotSynced(error)) => {
@@ -33,25 +46,19 @@ pub fn replace_text(
             );
             Ok(())
         }
-        Err(error) => Err(problem(rt.alloc(), path, &error)),
+        Err(error) => Err(file_error(rt.alloc(), path, &error)),
     }
 }
 
-/// The number of names that are tried for the temporary file.
-const NAMES: u32 = 1_000;
-
-/// The rights of the group, and those that run a program as the owner or the group of its file.
-const GROUP: u32 = 0o070;
-
-const SET_USER: u32 = 0o4000;
-
-const SET_GROUP: u32 = 0o2000;
-
-/// A regular file that is open for an edit. While it is, no other edit of this program opens it.
+/// A regular file that is open for an edit. While it is, no other edit of this program opens it, if the
+/// file system has locks.
 #[derive(Drop)]
 pub struct Target {
+    /// Its path, without links.
     path: String,
+    /// The open file, which has the lock.
     file: File,
+    /// What the system said of it when it was opened.
     seen: Metadata,
 }
 
@@ -103,17 +110,24 @@ impl Target {
 /// A file and its folder, as the system has them, and the calls that were made.
 #[derive(Drop)]
 struct System<'t> {
+    /// The runtime.
     rt: &'t HostRuntime,
+    /// The file that is replaced.
     target: &'t Target,
+    /// The new text.
     text: &'t str,
+    /// The temporary file, once it is there.
     temporary: Option<Temporary>,
+    /// The calls that were made, and whether each succeeded.
     log: Vec<Event>,
 }
 
-/// The temporary file, and its path.
+/// The temporary file, which is renamed over the file.
 #[derive(Drop)]
 struct Temporary {
+    /// Its path.
     path: String,
+    /// The open file.
     file: File,
 }
 
@@ -202,22 +216,31 @@ impl FileSystem for System<'_> {
 /// Creates the temporary file beside the file, which only its owner can read. No link is followed.
 fn create_beside(rt: &HostRuntime, target: &str) -> io::Result<Temporary> {
     for number in 0..NAMES {
-        let path = format!(in rt.alloc(); "{target}.jptr-{number}")?;
-        let opened = OpenOptions::new()
-            .write(true)
-            .create_new(true)
-            .mode(0o600)
-            .open(rt, path.as_str());
-        match opened {
-            Ok(file) => return Ok(Temporary { path, file }),
-            Err(error) => {
-                if error.kind() != ErrorKind::AlreadyExists {
-                    return Err(error);
-                }
-            }
+        let path = path_beside(rt.alloc(), target, number)?;
+        if let Some(file) = create_if_free(rt, path.as_str())? {
+            return Ok(Temporary { path, file });
         }
     }
     Err(io::Error::from(ErrorKind::AlreadyExists))
+}
+
+/// Returns the path with this number of a file beside another one.
+pub fn path_beside(alloc: Global, path: &str, number: u32) -> Result<String, AllocError> {
+    format!(in alloc; "{path}.jptr-{number}")
+}
+
+/// Creates a file that only its owner can read, or returns `None` if the path is taken.
+fn create_if_free(rt: &HostRuntime, path: &str) -> io::Result<Option<File>> {
+    let opened = OpenOptions::new()
+        .write(true)
+        .create_new(true)
+        .mode(0o600)
+        .open(rt, path);
+    match opened {
+        Ok(file) => Ok(Some(file)),
+        Err(error) if error.kind() == ErrorKind::AlreadyExists => Ok(None),
+        Err(error) => Err(error),
+    }
 }
 
 /// Returns the error of a call before the temporary file is there.

@@ -1,16 +1,23 @@
 //! The input of a command: a file, or standard input.
 
-use crate::problem::{FILE, Problem};
+use crate::program_error::{FILE, ProgramError};
+use serde_json::Value;
+use simdutf8::basic::from_utf8;
 use std::alloc::Global;
 use std::fs::File;
 use std::io;
 use std::io::Read;
 
+/// The name of standard input in errors.
+const STANDARD: &str = "standard input";
+
 /// The input of a command, which notes why a read failed.
 #[derive(Drop)]
 pub struct Input {
+    /// Where it is from.
     stream: Stream,
-    failure: Option<i32>,
+    /// The number of the system's error of the last failed read.
+    reason: Option<i32>,
 }
 
 /// Where the input is from.
@@ -22,64 +29,77 @@ enum Stream {
     File(File),
 }
 
-/// The name of standard input in errors.
-const STANDARD: &str = "standard input";
+/// Returns the path of the file, or `None` if the argument stands for standard input.
+fn path_of<'a>(file: Option<&'a str>) -> Option<&'a str> {
+    match file {
+        None | Some("-") => None,
+        Some(path) => Some(path),
+    }
+}
 
 /// Returns whether the argument stands for standard input.
 pub fn is_standard(file: Option<&str>) -> bool {
-    matches!(file, None | Some("-"))
+    path_of(file).is_none()
 }
 
 /// Returns the name of the input in errors.
 pub fn name_of<'a>(file: Option<&'a str>) -> &'a str {
-    match file {
-        None | Some("-") => STANDARD,
-        Some(path) => path,
-    }
+    path_of(file).unwrap_or(STANDARD)
 }
 
 /// Opens the input.
-pub fn open(rt: &HostRuntime, file: Option<&str>) -> Result<Input, Problem> {
-    match file {
-        None | Some("-") => Ok(Input::of(Stream::Standard(rt.stdin()))),
+pub fn open(rt: &HostRuntime, file: Option<&str>) -> Result<Input, ProgramError> {
+    match path_of(file) {
+        None => Ok(Input::of(Stream::Standard(rt.stdin()))),
         Some(path) => match File::open(rt, path) {
             Ok(file) => Ok(Input::of(Stream::File(file))),
-            Err(error) => Err(problem(rt.alloc(), path, &error)),
+            Err(error) => Err(file_error(rt.alloc(), path, &error)),
         },
     }
 }
 
 /// Reads all of the input.
-pub fn read_all(rt: &HostRuntime, file: Option<&str>) -> Result<Vec<u8>, Problem> {
+pub fn read_all(rt: &HostRuntime, file: Option<&str>) -> Result<Vec<u8>, ProgramError> {
     let mut input = open(rt, file)?;
     let mut bytes = Vec::new(rt.alloc());
     match input.read_to_end(&mut bytes) {
         Ok(_) => Ok(bytes),
-        Err(error) => Err(problem(rt.alloc(), name_of(file), &error)),
+        Err(error) => Err(file_error(rt.alloc(), name_of(file), &error)),
     }
 }
 
-/// Returns the problem of a file that cannot be read or written.
-pub fn problem(alloc: Global, name: &str, error: &io::Error) -> Problem {
+/// Returns the text that the bytes of a JSON document are. Bytes that are not UTF-8 are not JSON.
+pub fn text_in<'a>(alloc: Global, name: &str, bytes: &'a [u8]) -> Result<&'a str, ProgramError> {
+    match from_utf8(bytes) {
+        Ok(text) => Ok(text),
+        Err(_) => Err(ProgramError::of_bytes(alloc, name, bytes)),
+    }
+}
+
+/// Returns the value that the bytes of a JSON document are.
+pub fn value_in(alloc: Global, name: &str, bytes: &[u8]) -> Result<Value, ProgramError> {
+    match Value::from_slice(alloc, bytes) {
+        Ok(value) => Ok(value),
+        Err(error) if error.is_memory() => Err(ProgramError::Memory),
+        Err(_) => Err(ProgramError::of_bytes(alloc, name, bytes)),
+    }
+}
+
+/// Returns the error of a file that cannot be read or written.
+pub fn file_error(alloc: Global, name: &str, error: &io::Error) -> ProgramError {
     if error.kind() == io::ErrorKind::OutOfMemory {
-        return Problem::Memory;
+        return ProgramError::Memory;
     }
-    match error.to_string(alloc) {
-        Ok(message) => Problem::new(alloc, FILE, name, message.as_str()),
-        Err(_) => Problem::Memory,
-    }
+    ProgramError::of_message(alloc, FILE, name, error.to_string(alloc))
 }
 
-/// Returns the problem of a stream, with the reason of the system if there is one.
-pub fn stream_problem(alloc: Global, name: &str, message: &str, reason: Option<i32>) -> Problem {
+/// Returns the error of a stream, with the reason of the system if there is one.
+pub fn stream_error(alloc: Global, name: &str, message: &str, reason: Option<i32>) -> ProgramError {
     let Some(code) = reason else {
-        return Problem::new(alloc, FILE, name, message);
+        return ProgramError::new(alloc, FILE, name, message);
     };
     let error = io::Error::from_raw_os_error(code);
-    match format!(in alloc; "{message}: {error}") {
-        Ok(message) => Problem::new(alloc, FILE, name, message.as_str()),
-        Err(_) => Problem::Memory,
-    }
+    ProgramError::of_message(alloc, FILE, name, format!(in alloc; "{message}: {error}"))
 }
 
 impl Input {
@@ -87,13 +107,13 @@ impl Input {
     fn of(stream: Stream) -> Input {
         Input {
             stream,
-            failure: None,
+            reason: None,
         }
     }
 
-    /// Returns the problem of a failed read.
-    pub fn read_problem(&self, alloc: Global, name: &str) -> Problem {
-        stream_problem(alloc, name, "reading failed", self.failure)
+    /// Returns the error of a failed read.
+    pub fn read_error(&self, alloc: Global, name: &str) -> ProgramError {
+        stream_error(alloc, name, "reading failed", self.reason)
     }
 }
 
@@ -104,7 +124,7 @@ impl Read for Input {
             Stream::File(file) => file.read(buf),
         };
         if let Err(error) = &read {
-            self.failure = error.raw_os_error();
+            self.reason = error.raw_os_error();
         }
         read
     }

@@ -1,18 +1,17 @@
 //! The flag `--inverse`: a patch, and a file with the patch that takes it back.
 
-use crate::digits::{check_inverse, check_result};
+use crate::digits::check_inverse;
 use crate::input::{is_standard, name_of};
-use crate::problem::{Problem, USAGE};
+use crate::program_error::{ProgramError, USAGE};
 use crate::source::Source;
 use crate::style::{Style, style_of};
-use crate::task::{document_problem, edited};
+use crate::task::source_result;
 use crate::written::Written;
 use clap::ArgMatches;
-use jptr_tasks::failure::Failure;
 use jptr_tasks::inverse::inverse_of;
 use jptr_tasks::raw_patch::RawPatch;
 use jptr_tasks::task::Task;
-use simdutf8::basic::from_utf8;
+use jptr_tasks::task_error::TaskError;
 use std::alloc::Global;
 use std::fs;
 use std::os::unix::fs::MetadataExt;
@@ -20,15 +19,20 @@ use std::os::unix::fs::MetadataExt;
 /// A patch of a document, and the name of the file for its inverse.
 #[derive(Drop)]
 struct Patching<'a> {
+    /// The patch.
     patch: RawPatch,
+    /// How the new document and the inverse are printed.
     style: Style,
+    /// The name of the file for the inverse.
     undo: &'a str,
 }
 
 /// The texts of the new document and of the patch that takes the patch back.
 #[derive(Drop)]
 struct Texts {
+    /// The text of the new document.
     new: String,
+    /// The text of the inverse.
     undo: String,
 }
 
@@ -39,7 +43,7 @@ pub fn patch_with_inverse(
     matches: &ArgMatches<'_>,
     patch: RawPatch,
     undo: &str,
-) -> Result<u8, Problem> {
+) -> Result<u8, ProgramError> {
     check_name(rt, undo, matches.get_str("FILE"))?;
     let patching = Patching {
         patch,
@@ -55,13 +59,13 @@ pub fn patch_with_inverse(
 }
 
 /// Fails if the inverse would go to standard output, or to the file of the document.
-fn check_name(rt: &HostRuntime, undo: &str, file: Option<&str>) -> Result<(), Problem> {
+fn check_name(rt: &HostRuntime, undo: &str, file: Option<&str>) -> Result<(), ProgramError> {
     let alloc = rt.alloc();
     if is_standard(Some(undo)) {
-        return Err(Problem::new(alloc, USAGE, "--inverse", "needs a file"));
+        return Err(ProgramError::new(alloc, USAGE, "--inverse", "needs a file"));
     }
     if !is_standard(file) && is_same_file(rt, undo, name_of(file)) {
-        return Err(Problem::new(alloc, USAGE, "--inverse", "names the document"));
+        return Err(ProgramError::new(alloc, USAGE, "--inverse", "names the document"));
     }
     Ok(())
 }
@@ -75,15 +79,16 @@ fn is_same_file(rt: &HostRuntime, left: &str, right: &str) -> bool {
 }
 
 /// Returns the texts of the new document and of the patch that takes the patch back.
-fn texts_of(alloc: Global, patching: Patching<'_>, source: &Source<'_>) -> Result<Texts, Problem> {
+fn texts_of(
+    alloc: Global,
+    patching: Patching<'_>,
+    source: &Source<'_>,
+) -> Result<Texts, ProgramError> {
     let undo = undo_text(alloc, &patching, source)?;
     let style = patching.style;
     let task = Task::Patch(patching.patch);
-    check_result(alloc, source.name, &task, style, &source.bytes)?;
-    match edited(alloc, &task, style, &source.bytes) {
-        Ok(new) => Ok(Texts { new, undo }),
-        Err(failure) => Err(document_problem(alloc, source.name, "", &source.bytes, failure)),
-    }
+    let new = source_result(alloc, &task, style, source)?;
+    Ok(Texts { new, undo })
 }
 
 /// Returns the text of the patch that takes the patch back, with a line break at its end.
@@ -91,10 +96,8 @@ fn undo_text(
     alloc: Global,
     patching: &Patching<'_>,
     source: &Source<'_>,
-) -> Result<String, Problem> {
-    let Ok(text) = from_utf8(&source.bytes) else {
-        return Err(Problem::of_bytes(alloc, source.name, &source.bytes));
-    };
+) -> Result<String, ProgramError> {
+    let text = source.text(alloc)?;
     match inverse_of(alloc, text, &patching.patch.document, patching.style.layout) {
         Ok(inverse) => {
             if !patching.style.is_lossy {
@@ -105,12 +108,12 @@ fn undo_text(
             text.push('\n')?;
             Ok(text)
         }
-        Err(Failure::PatchTooDeep) => Err(Problem::of_failure(
+        Err(TaskError::PatchTooDeep) => Err(ProgramError::of_error(
             alloc,
             patching.undo,
             "",
-            Failure::PatchTooDeep,
+            TaskError::PatchTooDeep,
         )),
-        Err(failure) => Err(document_problem(alloc, source.name, "", &source.bytes, failure)),
+        Err(error) => Err(source.patch_error(alloc, &patching.patch.document, error)),
     }
 }

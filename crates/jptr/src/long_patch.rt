@@ -1,15 +1,15 @@
 //! A patch of many operations: the new document in the layout of the text.
 
 use crate::patch_file::PatchFile;
-use crate::problem::Problem;
+use crate::program_error::ProgramError;
 use crate::source::Source;
 use crate::style::{Style, indented, style_of};
-use crate::task::{checked, document_problem, on_source};
+use crate::task::{checked, on_source};
 use clap::ArgMatches;
-use jptr_tasks::failure::Failure;
 use jptr_tasks::layout::Layout;
 use jptr_tasks::long_patch::patch_in_layout;
 use jptr_tasks::task::Task;
+use jptr_tasks::task_error::TaskError;
 use jsonptr_numbers::find_lost;
 use simdutf8::basic::from_utf8;
 use std::alloc::{AllocError, Global};
@@ -22,7 +22,7 @@ pub fn patch_long(
     rt: &HostRuntime,
     matches: &ArgMatches<'_>,
     patch: PatchFile<'_>,
-) -> Result<u8, Problem> {
+) -> Result<u8, ProgramError> {
     let alloc = rt.alloc();
     let source = Source::open(rt, matches)?;
     let mut style = style_of(alloc, matches)?;
@@ -30,25 +30,28 @@ pub fn patch_long(
     if is_check {
         style.layout = Layout::Compact;
     }
-    match new_text(alloc, &source.bytes, &patch, style) {
+    if source.commented.is_some() {
+        return one_by_one(rt, style, is_check, &source, patch);
+    }
+    match new_text(alloc, style, &source.bytes, &patch) {
         Ok(Some(_)) if is_check => Ok(0),
         Ok(Some(new)) => {
             source.put(rt, new.as_str())?;
             Ok(0)
         }
-        Ok(None) => one_by_one(rt, &source, patch, style, is_check),
-        Err(failure) => Err(document_problem(alloc, source.name, "", &source.bytes, failure)),
+        Ok(None) => one_by_one(rt, style, is_check, &source, patch),
+        Err(error) => Err(source.patch_error(alloc, &patch.document, error)),
     }
 }
 
 /// Returns the new document, or `None` if the operations have to be applied in the text, one by one.
 fn new_text(
     alloc: Global,
+    style: Style,
     bytes: &[u8],
     patch: &PatchFile<'_>,
-    style: Style,
-) -> Result<Option<String>, Failure> {
-    let (Ok(text), Ok(given)) = (from_utf8(bytes), from_utf8(&patch.bytes)) else {
+) -> Result<Option<String>, TaskError> {
+    let (Ok(text), Ok(given)) = (from_utf8(bytes), from_utf8(&patch.source.bytes)) else {
         return Ok(None);
     };
     if loses_digits(alloc, text)? || loses_digits(alloc, given)? {
@@ -61,8 +64,8 @@ fn new_text(
             }
             Ok(Some(indented(alloc, style, new)?))
         }
-        Err(Failure::NotInPlace) => Ok(None),
-        Err(failure) => Err(failure),
+        Err(TaskError::NotInPlace) => Ok(None),
+        Err(error) => Err(error),
     }
 }
 
@@ -74,15 +77,15 @@ fn loses_digits(alloc: Global, text: &str) -> Result<bool, AllocError> {
 /// Applies the operations in the text.
 fn one_by_one(
     rt: &HostRuntime,
-    source: &Source<'_>,
-    patch: PatchFile<'_>,
     style: Style,
     is_check: bool,
-) -> Result<u8, Problem> {
+    source: &Source<'_>,
+    patch: PatchFile<'_>,
+) -> Result<u8, ProgramError> {
     let task = Task::Patch(patch.into_raw(rt.alloc())?);
     if is_check {
-        checked(rt.alloc(), source.name, &task, &source.bytes)
+        checked(rt.alloc(), &task, source)
     } else {
-        on_source(rt, source, &task, style, "")
+        on_source(rt, &task, style, source)
     }
 }

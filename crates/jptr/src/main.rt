@@ -1,13 +1,18 @@
 //! The program `jptr`: finds and changes values of JSON documents by JSON Pointers (RFC 6901).
 //!
-//! What a command prints is stated and proved in `jptr_tasks`. Here are the command line, the
-//! files, the standard streams and the texts of errors.
+//! What is proved of the results of its commands is stated in `jptr_tasks` and the crates below it. Here
+//! are the command line, the files, the standard streams and the texts of errors.
 #![tactic(auto)]
 
 mod arguments;
+mod changes;
+mod colors;
 mod commands;
+mod comments;
 mod digits;
+mod drawn;
 mod exact_lines;
+mod expansion;
 mod gaps;
 mod given;
 mod in_place;
@@ -17,11 +22,12 @@ mod locate;
 mod long_patch;
 mod node;
 mod operands;
+mod operation;
 mod output;
 mod patch_file;
 mod paths;
 mod position;
-mod problem;
+mod program_error;
 mod relayout;
 mod several;
 mod source;
@@ -31,18 +37,18 @@ mod task;
 mod toml_file;
 mod written;
 
-use crate::problem::Problem;
 use std::process::ExitCode;
 
+/// Runs the program, prints its error if there is one, and returns the exit status.
 fn main(rt: HostRuntime) -> ExitCode {
     match commands::run(&rt) {
         Ok(status) => ExitCode::from(status),
-        Err(problem) => {
-            if let Some(text) = problem.text() {
+        Err(error) => {
+            if let Some(text) = error.text() {
                 // If standard error fails too, there is nowhere to report it.
                 let _ = eprint!(rt; "{text}");
             }
-            ExitCode::from(problem.status())
+            ExitCode::from(error.status())
         }
     }
 }

@@ -1,98 +1,90 @@
 //! Commands on the value that a pointer resolves to: its type, its length, its keys, and a test.
 
-use crate::given::read_given;
-use crate::operands::{argument, check_json, json_text, pointer_of};
-use crate::output::{print_line, print_text};
-use crate::problem::{NOT_APPLIED, Problem};
+use crate::given::Given;
+use crate::operands::{argument, pointer_of};
+use crate::output::print_text;
+use crate::program_error::{NOT_APPLIED, ProgramError};
 use crate::source::Source;
 use crate::style::layout_of;
-use crate::task::document_problem;
 use clap::ArgMatches;
-use jptr_tasks::failure::Failure;
 use jptr_tasks::layout::{Layout, show};
 use jptr_tasks::node::{NodeType, equals_in_text, keys_in_text, length_in_text, type_in_text};
+use jptr_tasks::task_error::TaskError;
 use jsonptr::Pointer;
 use jsonptr_in_text::exists_in_text;
 use serde_json::{Map, Value};
 use std::alloc::{AllocError, Global};
 
-/// Prints the type of the value.
-pub fn print_type(rt: &HostRuntime, matches: &ArgMatches<'_>) -> Result<u8, Problem> {
+/// Prints the type, the length or the keys of the value, as the command with this name says.
+pub fn print_node(
+    rt: &HostRuntime,
+    matches: &ArgMatches<'_>,
+    command: &str,
+) -> Result<u8, ProgramError> {
     let alloc = rt.alloc();
     let pointer = pointer_of(alloc, argument(matches, "POINTER"))?;
-    let source = open_json(rt, "type", matches)?;
-    match type_in_text(alloc, json_text(alloc, &source)?, pointer) {
-        Ok(found) => print_line(rt, found.name()),
-        Err(failure) => Err(problem(alloc, &source, pointer, failure)),
-    }
-}
-
-/// Prints the length of the value.
-pub fn print_length(rt: &HostRuntime, matches: &ArgMatches<'_>) -> Result<u8, Problem> {
-    let alloc = rt.alloc();
-    let pointer = pointer_of(alloc, argument(matches, "POINTER"))?;
-    let source = open_json(rt, "length", matches)?;
-    match length_in_text(alloc, json_text(alloc, &source)?, pointer) {
-        Ok(Some(length)) => print_line(rt, format!(in alloc; "{length}")?.as_str()),
-        Ok(None) => Err(lacking(alloc, &source, pointer, "length")),
-        Err(failure) => Err(problem(alloc, &source, pointer, failure)),
-    }
-}
-
-/// Prints the keys of the object, each on a line.
-pub fn print_keys(rt: &HostRuntime, matches: &ArgMatches<'_>) -> Result<u8, Problem> {
-    let alloc = rt.alloc();
-    let pointer = pointer_of(alloc, argument(matches, "POINTER"))?;
-    let source = open_json(rt, "keys", matches)?;
-    match keys_in_text(alloc, json_text(alloc, &source)?, pointer) {
-        Ok(Some(keys)) => {
-            print_text(rt, lines_of(alloc, keys, layout_of(matches))?.as_str())?;
+    let source = Source::open_json(rt, matches, command)?;
+    let text = source.text(alloc)?;
+    let lines = match command {
+        "type" => type_line(alloc, text, pointer),
+        "length" => length_line(alloc, text, pointer),
+        _ => key_lines(alloc, layout_of(matches), text, pointer),
+    };
+    match lines {
+        Ok(Some(lines)) => {
+            print_text(rt, lines.as_str())?;
             Ok(0)
         }
-        Ok(None) => Err(lacking(alloc, &source, pointer, "keys")),
-        Err(failure) => Err(problem(alloc, &source, pointer, failure)),
+        Ok(None) => Err(lacking(alloc, &source, pointer, command)),
+        Err(error) => Err(source.error(alloc, pointer.as_str(), error)),
+    }
+}
+
+/// Returns a line with the type of the value.
+fn type_line(alloc: Global, text: &str, pointer: Pointer<'_>) -> Result<Option<String>, TaskError> {
+    let name = type_in_text(alloc, text, pointer)?.name();
+    Ok(Some(format!(in alloc; "{name}\n")?))
+}
+
+/// Returns a line with the length of the value, or `None` if it has none.
+fn length_line(
+    alloc: Global,
+    text: &str,
+    pointer: Pointer<'_>,
+) -> Result<Option<String>, TaskError> {
+    match length_in_text(alloc, text, pointer)? {
+        Some(length) => Ok(Some(format!(in alloc; "{length}\n")?)),
+        None => Ok(None),
+    }
+}
+
+/// Returns a line for each key of the value, in this layout, or `None` if it has none.
+fn key_lines(
+    alloc: Global,
+    layout: Layout,
+    text: &str,
+    pointer: Pointer<'_>,
+) -> Result<Option<String>, TaskError> {
+    match keys_in_text(alloc, text, pointer)? {
+        Some(keys) => Ok(Some(lines_of_keys(alloc, layout, keys)?)),
+        None => Ok(None),
     }
 }
 
 /// Says by the status whether the value is there, or whether it equals another one.
-pub fn test(rt: &HostRuntime, matches: &ArgMatches<'_>) -> Result<u8, Problem> {
+pub fn test(rt: &HostRuntime, matches: &ArgMatches<'_>) -> Result<u8, ProgramError> {
     let alloc = rt.alloc();
     let pointer = pointer_of(alloc, argument(matches, "POINTER"))?;
     let value = match matches.get_str("JSON") {
-        Some(_) => Some(given_value(rt, matches)?),
+        Some(word) => Some(Given::read(rt, matches, word)?.json(alloc)?),
         None => None,
     };
-    let source = open_json(rt, "test", matches)?;
-    match passes(alloc, json_text(alloc, &source)?, pointer, value) {
+    let source = Source::open_json(rt, matches, "test")?;
+    match passes(alloc, source.text(alloc)?, pointer, value) {
         Ok(true) => Ok(0),
         Ok(false) => Ok(NOT_APPLIED),
-        Err(Failure::NoValue(_error)) => Ok(NOT_APPLIED),
-        Err(failure) => Err(problem(alloc, &source, pointer, failure)),
-    }
-}
-
-/// Reads the document, which is JSON.
-fn open_json<'a>(
-    rt: &HostRuntime,
-    command: &str,
-    matches: &ArgMatches<'a>,
-) -> Result<Source<'a>, Problem> {
-    check_json(rt.alloc(), command, matches.get_str("FILE"))?;
-    Source::open(rt, matches)
-}
-
-/// Returns the value that is compared with.
-fn given_value(rt: &HostRuntime, matches: &ArgMatches<'_>) -> Result<Value, Problem> {
-    let alloc = rt.alloc();
-    let word = argument(matches, "JSON");
-    if matches.get_flag("string") {
-        return Ok(Value::String(String::from_str(alloc, word)?));
-    }
-    let given = read_given(rt, matches, word)?;
-    match Value::from_str(alloc, given.text.as_str()) {
-        Ok(value) => Ok(value),
-        Err(error) if error.is_memory() => Err(Problem::Memory),
-        Err(_) => Err(Problem::of_value(alloc, given.name, given.text.as_str())),
+        Err(TaskError::NoValue(_error)) => Ok(NOT_APPLIED),
+        Err(error) => Err(source.error(alloc, pointer.as_str(), error)),
     }
 }
 
@@ -102,20 +94,20 @@ fn passes(
     text: &str,
     pointer: Pointer<'_>,
     value: Option<Value>,
-) -> Result<bool, Failure> {
+) -> Result<bool, TaskError> {
     match value {
-        Some(value) => equals_in_text(alloc, text, pointer, value),
+        Some(value) => equals_in_text(alloc, text, pointer, &value),
         None => Ok(exists_in_text(alloc, text, pointer)?),
     }
 }
 
 /// Returns a line for each key, in this layout. A repeated key has one, where it comes first.
-fn lines_of(alloc: Global, keys: Vec<String>, layout: Layout) -> Result<String, AllocError> {
+fn lines_of_keys(alloc: Global, layout: Layout, keys: Vec<String>) -> Result<String, AllocError> {
     let mut lines = String::new(alloc);
     let mut seen = Map::new(alloc);
     for key in keys {
         if !seen.contains_key(key.as_str()) {
-            push_line(alloc, &mut lines, key.as_str(), layout)?;
+            push_line(alloc, layout, key.as_str(), &mut lines)?;
             drop(seen.insert(key, Value::Null)?);
         }
     }
@@ -125,9 +117,9 @@ fn lines_of(alloc: Global, keys: Vec<String>, layout: Layout) -> Result<String, 
 /// Appends a line with the key in this layout.
 fn push_line(
     alloc: Global,
-    lines: &mut String,
-    key: &str,
     layout: Layout,
+    key: &str,
+    lines: &mut String,
 ) -> Result<(), AllocError> {
     let value = Value::String(String::from_str(alloc, key)?);
     let text = show(alloc, &value, layout)?;
@@ -135,23 +127,18 @@ fn push_line(
     lines.push('\n')
 }
 
-/// Returns the problem of a failure on the document.
-fn problem(alloc: Global, source: &Source<'_>, pointer: Pointer<'_>, failure: Failure) -> Problem {
-    document_problem(alloc, source.name, pointer.as_str(), &source.bytes, failure)
-}
-
-/// Returns the problem of a value that has no length, or no keys.
-fn lacking(alloc: Global, source: &Source<'_>, pointer: Pointer<'_>, what: &str) -> Problem {
-    let text = match json_text(alloc, source) {
+/// Returns the error of a value that has no length, or no keys.
+fn lacking(alloc: Global, source: &Source<'_>, pointer: Pointer<'_>, what: &str) -> ProgramError {
+    let text = match source.text(alloc) {
         Ok(text) => text,
-        Err(problem) => return problem,
+        Err(error) => return error,
     };
     match type_in_text(alloc, text, pointer) {
-        Ok(found) => match format!(in alloc; "{} has no {what}", described(found)) {
-            Ok(message) => Problem::new(alloc, NOT_APPLIED, source.name, message.as_str()),
-            Err(_) => Problem::Memory,
-        },
-        Err(failure) => problem(alloc, source, pointer, failure),
+        Ok(found) => {
+            let message = format!(in alloc; "{} has no {what}", described(found));
+            ProgramError::of_message(alloc, NOT_APPLIED, source.name, message)
+        }
+        Err(error) => source.error(alloc, pointer.as_str(), error),
     }
 }
 

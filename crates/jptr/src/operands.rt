@@ -1,10 +1,8 @@
 //! The arguments of a command: pointers and files.
 
-use crate::problem::{Problem, USAGE};
-use crate::source::Source;
+use crate::program_error::{ProgramError, USAGE};
 use clap::ArgMatches;
 use jsonptr::Pointer;
-use simdutf8::basic::from_utf8;
 use std::alloc::{AllocError, Global};
 
 /// Returns the value of a required argument.
@@ -49,33 +47,33 @@ fn has_file(matches: &ArgMatches<'_>, words: &[&str]) -> bool {
 }
 
 /// Parses an argument as a pointer.
-pub fn pointer_of<'a>(alloc: Global, text: &'a str) -> Result<Pointer<'a>, Problem> {
+pub fn pointer_of<'a>(alloc: Global, text: &'a str) -> Result<Pointer<'a>, ProgramError> {
     match Pointer::parse(text) {
         Ok(pointer) => Ok(pointer),
-        Err(error) => Err(Problem::of_pointer(alloc, text, error)),
+        Err(error) => Err(ProgramError::of_pointer(alloc, text, error)),
     }
 }
 
 /// Fails if the file of a command that takes JSON alone is TOML by its name.
-pub fn check_json(alloc: Global, command: &str, file: Option<&str>) -> Result<(), Problem> {
+pub fn check_json(alloc: Global, command: &str, file: Option<&str>) -> Result<(), ProgramError> {
     if is_toml_name(file) {
-        return Err(Problem::new(alloc, USAGE, command, "not on TOML"));
+        return Err(ProgramError::new(alloc, USAGE, command, "not on TOML"));
     }
     Ok(())
 }
 
 /// Returns whether the name of a file ends in `.toml`.
-fn is_toml_name(file: Option<&str>) -> bool {
+pub fn is_toml_name(file: Option<&str>) -> bool {
     match file {
         Some(name) => name.ends_with(".toml"),
         None => false,
     }
 }
 
-/// Returns the text of a document. Bytes that are not UTF-8 are not JSON.
-pub fn json_text<'s>(alloc: Global, source: &'s Source<'_>) -> Result<&'s str, Problem> {
-    match from_utf8(&source.bytes) {
-        Ok(text) => Ok(text),
-        Err(_) => Err(Problem::of_bytes(alloc, source.name, &source.bytes)),
+/// Returns whether the name of a file ends in `.jsonc`.
+pub fn is_commented_name(file: Option<&str>) -> bool {
+    match file {
+        Some(name) => name.ends_with(".jsonc"),
+        None => false,
     }
 }

@@ -1,17 +1,20 @@
 //! Standard output.
 
-use crate::input::stream_problem;
-use crate::problem::Problem;
+use crate::input::stream_error;
+use crate::program_error::ProgramError;
 use std::alloc::Global;
 use std::io;
-use std::io::{BufWriter, ErrorKind, Write};
+use std::io::{ErrorKind, Write};
 
 /// Standard output, which notes that nobody reads it any more, and why a write failed.
 #[derive(Drop)]
 pub struct Output {
+    /// The stream.
     stream: io::Stdout,
+    /// Whether nobody reads it any more.
     is_closed: bool,
-    failure: Option<i32>,
+    /// The number of the system's error of the last failed write.
+    reason: Option<i32>,
 }
 
 impl Output {
@@ -20,16 +23,16 @@ impl Output {
         Output {
             stream: rt.stdout(),
             is_closed: false,
-            failure: None,
+            reason: None,
         }
     }
 
-    /// Returns the problem of a failed write.
-    pub fn problem(&self, alloc: Global) -> Problem {
+    /// Returns the error of a failed write.
+    pub fn error(&self, alloc: Global) -> ProgramError {
         if self.is_closed {
-            Problem::OutputClosed
+            ProgramError::OutputClosed
         } else {
-            stream_problem(alloc, "standard output", "writing failed", self.failure)
+            stream_error(alloc, "standard output", "writing failed", self.reason)
         }
     }
 }
@@ -39,7 +42,7 @@ impl Write for Output {
         let written = self.stream.write(buf);
         if let Err(error) = &written {
             self.is_closed = self.is_closed || error.kind() == ErrorKind::BrokenPipe;
-            self.failure = error.raw_os_error();
+            self.reason = error.raw_os_error();
         }
         written
     }
@@ -50,7 +53,7 @@ impl Write for Output {
 }
 
 /// Prints a text and a line break.
-pub fn print_line(rt: &HostRuntime, text: &str) -> Result<u8, Problem> {
+pub fn print_line(rt: &HostRuntime, text: &str) -> Result<u8, ProgramError> {
     let mut line = String::from_str(rt.alloc(), text)?;
     line.push('\n')?;
     print_text(rt, line.as_str())?;
@@ -58,10 +61,10 @@ pub fn print_line(rt: &HostRuntime, text: &str) -> Result<u8, Problem> {
 }
 
 /// Prints a text.
-pub fn print_text(rt: &HostRuntime, text: &str) -> Result<(), Problem> {
+pub fn print_text(rt: &HostRuntime, text: &str) -> Result<(), ProgramError> {
     let mut output = Output::new(rt);
     match output.write_all(text.as_bytes()) {
         Ok(()) => Ok(()),
-        Err(_) => Err(output.problem(rt.alloc())),
+        Err(_) => Err(output.error(rt.alloc())),
     }
 }

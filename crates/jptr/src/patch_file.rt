@@ -1,11 +1,10 @@
 //! Reading a patch document.
 
-use crate::input::{name_of, read_all};
-use crate::problem::Problem;
+use crate::program_error::ProgramError;
+use crate::source::Source;
 use jptr_tasks::patching::{operations_of, raw_patch};
 use jptr_tasks::raw_patch::RawPatch;
 use serde_json::Value;
-use simdutf8::basic::from_utf8;
 use std::alloc::Global;
 
 /// The number of operations above which a patch is not applied one by one in the text. Each of them
@@ -15,32 +14,21 @@ const MOST_IN_TEXT: usize = 16;
 /// A patch document.
 #[derive(Drop)]
 pub struct PatchFile<'a> {
-    /// The name of its file in errors.
-    name: &'a str,
-    /// The bytes of the file.
-    pub bytes: Vec<u8>,
+    /// Its name and its bytes.
+    pub source: Source<'a>,
     /// The document, which is a patch.
     pub document: Value,
 }
 
 impl<'a> PatchFile<'a> {
     /// Reads a patch document from a file or from standard input.
-    pub fn read(rt: &HostRuntime, file: &'a str) -> Result<PatchFile<'a>, Problem> {
+    pub fn read(rt: &HostRuntime, file: &'a str) -> Result<PatchFile<'a>, ProgramError> {
         let alloc = rt.alloc();
-        let name = name_of(Some(file));
-        let bytes = read_all(rt, Some(file))?;
-        let document = match Value::from_slice(alloc, &bytes) {
-            Ok(value) => value,
-            Err(error) if error.is_memory() => return Err(Problem::Memory),
-            Err(_) => return Err(Problem::of_bytes(alloc, name, &bytes)),
-        };
+        let source = Source::read(rt, Some(file))?;
+        let document = source.value(alloc)?;
         match operations_of(alloc, &document) {
-            Ok(_) => Ok(PatchFile {
-                name,
-                bytes,
-                document,
-            }),
-            Err(failure) => Err(Problem::of_patch(alloc, name, &document, failure)),
+            Ok(_) => Ok(PatchFile { source, document }),
+            Err(error) => Err(ProgramError::of_patch(alloc, source.name, &document, error)),
         }
     }
 
@@ -53,18 +41,11 @@ impl<'a> PatchFile<'a> {
     }
 
     /// Returns the patch with the texts of its values.
-    pub fn into_raw(self, alloc: Global) -> Result<RawPatch, Problem> {
-        let PatchFile {
-            name,
-            bytes,
-            document,
-        } = self;
-        let Ok(text) = from_utf8(&bytes) else {
-            return Err(Problem::of_bytes(alloc, name, &bytes));
-        };
-        match raw_patch(alloc, document, text) {
+    pub fn into_raw(self, alloc: Global) -> Result<RawPatch, ProgramError> {
+        let PatchFile { source, document } = self;
+        match raw_patch(alloc, document, source.text(alloc)?) {
             Ok(patch) => Ok(patch),
-            Err(failure) => Err(Problem::of_failure(alloc, name, "", failure)),
+            Err(error) => Err(ProgramError::of_error(alloc, source.name, "", error)),
         }
     }
 }

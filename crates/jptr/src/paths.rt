@@ -2,75 +2,87 @@
 
 use crate::digits::{check_bytes, check_lines, is_lossy};
 use crate::gaps::{check_gaps, fill_gaps};
-use crate::input::{name_of, read_all};
 use crate::output::print_text;
-use crate::problem::Problem;
+use crate::program_error::ProgramError;
+use crate::source::{Format, Source};
 use crate::style::layout_of;
-use crate::toml_file::{self, is_toml};
+use crate::toml_file;
 use clap::ArgMatches;
-use jptr_tasks::failure::Failure;
 use jptr_tasks::paths::{built_text, listed_text};
+use jptr_tasks::task_error::TaskError;
 use jsonptr_paths::listing::Listed;
 use simdutf8::basic::from_utf8;
+use std::alloc::Global;
 
 /// Prints a line for each leaf of a document, or for each node.
-pub fn paths(rt: &HostRuntime, matches: &ArgMatches<'_>) -> Result<u8, Problem> {
+pub fn paths(rt: &HostRuntime, matches: &ArgMatches<'_>) -> Result<u8, ProgramError> {
     let alloc = rt.alloc();
-    let file = matches.get_str("FILE");
+    let source = Source::open(rt, matches)?;
     let which = if matches.get_flag("all") {
         Listed::AllNodes
     } else {
         Listed::Leaves
     };
-    if is_toml(matches) {
-        return toml_file::paths(rt, matches, which);
-    }
-    let bytes = read_all(rt, file)?;
-    match listed_text(alloc, which, &bytes) {
+    let lines = match source.format {
+        Format::Json | Format::Commented => lines_of(alloc, which, is_lossy(matches), &source)?,
+        Format::Toml => toml_file::lines_of(alloc, which, &source)?,
+    };
+    print_text(rt, lines.as_str())?;
+    Ok(0)
+}
+
+/// Returns a line for each leaf of a JSON document, or for each node.
+fn lines_of(
+    alloc: Global,
+    which: Listed,
+    is_lossy: bool,
+    source: &Source<'_>,
+) -> Result<String, ProgramError> {
+    match listed_text(alloc, which, &source.bytes) {
         Ok(lines) => {
-            if !is_lossy(matches) {
-                check_bytes(alloc, name_of(file), &bytes)?;
+            if !is_lossy {
+                check_bytes(alloc, source.name, &source.bytes)?;
             }
-            print_text(rt, lines.as_str())?;
-            Ok(0)
+            Ok(lines)
         }
-        Err(Failure::NotJson) => Err(Problem::of_bytes(alloc, name_of(file), &bytes)),
-        Err(failure) => Err(Problem::of_failure(alloc, name_of(file), "", failure)),
+        Err(error) => Err(source.error(alloc, "", error)),
     }
 }
 
 /// Prints the document that lines build.
-pub fn from_paths(rt: &HostRuntime, matches: &ArgMatches<'_>) -> Result<u8, Problem> {
+pub fn from_paths(rt: &HostRuntime, matches: &ArgMatches<'_>) -> Result<u8, ProgramError> {
     let alloc = rt.alloc();
-    let name = name_of(matches.get_str("FILE"));
-    let bytes = read_all(rt, matches.get_str("FILE"))?;
+    let lines = Source::read(rt, matches.get_str("FILE"))?;
     if matches.get_flag("fill") {
-        return from_filled(rt, matches, &bytes);
+        return from_filled(rt, matches, &lines);
     }
-    match built_text(alloc, layout_of(matches), &bytes) {
+    match built_text(alloc, layout_of(matches), &lines.bytes) {
         Ok(text) => {
-            check_gaps(alloc, name, from_utf8(&bytes).unwrap_or(""))?;
-            put_built(rt, matches, &bytes, text.as_str())
+            check_gaps(alloc, lines.name, from_utf8(&lines.bytes).unwrap_or(""))?;
+            put_built(rt, matches, &lines, text.as_str())
         }
-        Err(failure) => Err(Problem::of_failure(alloc, name, "", failure)),
+        Err(error) => Err(lines.error(alloc, "", error)),
     }
 }
 
 /// Prints the document that lines build after `null` was added for each element that is missing.
-fn from_filled(rt: &HostRuntime, matches: &ArgMatches<'_>, bytes: &[u8]) -> Result<u8, Problem> {
+fn from_filled(
+    rt: &HostRuntime,
+    matches: &ArgMatches<'_>,
+    lines: &Source<'_>,
+) -> Result<u8, ProgramError> {
     let alloc = rt.alloc();
-    let name = name_of(matches.get_str("FILE"));
-    let Ok(text) = from_utf8(bytes) else {
-        return Err(Problem::of_failure(alloc, name, "", Failure::NotUtf8));
+    let Ok(text) = from_utf8(&lines.bytes) else {
+        return Err(lines.error(alloc, "", TaskError::NotUtf8));
     };
-    let filled = fill_gaps(alloc, name, text)?;
+    let filled = fill_gaps(alloc, lines.name, text)?;
     match built_text(alloc, layout_of(matches), filled.text.as_bytes()) {
-        Ok(text) => put_built(rt, matches, bytes, text.as_str()),
-        Err(Failure::BadLine(number, error)) => {
-            let failure = Failure::BadLine(filled.number_of(number), error);
-            Err(Problem::of_failure(alloc, name, "", failure))
+        Ok(text) => put_built(rt, matches, lines, text.as_str()),
+        Err(TaskError::BadLine(number, error)) => {
+            let error = TaskError::BadLine(filled.number_of(number), error);
+            Err(lines.error(alloc, "", error))
         }
-        Err(failure) => Err(Problem::of_failure(alloc, name, "", failure)),
+        Err(error) => Err(lines.error(alloc, "", error)),
     }
 }
 
@@ -78,11 +90,11 @@ fn from_filled(rt: &HostRuntime, matches: &ArgMatches<'_>, bytes: &[u8]) -> Resu
 fn put_built(
     rt: &HostRuntime,
     matches: &ArgMatches<'_>,
-    lines: &[u8],
+    lines: &Source<'_>,
     text: &str,
-) -> Result<u8, Problem> {
+) -> Result<u8, ProgramError> {
     if !is_lossy(matches) {
-        check_lines(rt.alloc(), name_of(matches.get_str("FILE")), lines)?;
+        check_lines(rt.alloc(), lines.name, &lines.bytes)?;
     }
     print_text(rt, text)?;
     Ok(0)

@@ -3,15 +3,25 @@
 /// A place in a text: the numbers of its line, and of its character in that line, from 1.
 #[derive(Clone, Copy)]
 pub struct Position {
+    /// The number of the line.
     pub line: usize,
+    /// The number of the character in the line.
     pub column: usize,
 }
 
 impl Position {
     /// Returns the place after this text.
     pub fn after(before: &str) -> Position {
+        Position::at(before, before.len())
+    }
+
+    /// Returns the place of this offset in the text, in bytes.
+    pub fn at(text: &str, offset: usize) -> Position {
         let mut position = Position { line: 1, column: 1 };
-        for character in before.chars() {
+        for (start, character) in text.char_indices() {
+            if start >= offset {
+                break;
+            }
             if character == '\n' {
                 position.line = position.line.saturating_add(1);
                 position.column = 1;

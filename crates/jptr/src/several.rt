@@ -1,57 +1,48 @@
-//! Commands with several pointers: all of them apply, or nothing is printed or changed.
+//! The tasks of `get`, `set` and `delete`, also of several pointers: all of them apply, or nothing is
+//! printed or changed.
 
-use crate::digits::{check_result, check_text, is_lossy};
-use crate::given::raw_value;
-use crate::operands::{argument, json_text, pointer_of};
+use crate::expansion::check_expansion;
+use crate::given::{Given, json_default};
+use crate::operands::{argument, pointer_of};
 use crate::output::print_text;
-use crate::problem::{NOT_APPLIED, Problem, USAGE};
-use crate::source::Source;
+use crate::program_error::{ProgramError, USAGE};
+use crate::source::{Format, Source};
 use crate::style::{Style, style_of};
-use crate::task::{document_problem, edited};
-use crate::toml_file::is_toml;
+use crate::task::{result_of, source_result};
 use clap::ArgMatches;
-use jptr_tasks::failure::Failure;
 use jptr_tasks::layout::Layout;
-use jptr_tasks::node::scalar_above;
 use jptr_tasks::task::Task;
 use jsonptr::Pointer;
-use serde_json::Value;
 use std::alloc::Global;
-
-/// What `--no-expand` says of a scalar on the way to a value.
-const SCALAR: &str = "a scalar is on the way, and --no-expand replaces none";
-
-/// What it says after the error of a container that is missing on the way.
-const MISSING: &str = "; --no-expand creates no container";
 
 /// Returns the task of finding the value at the pointer with this text.
 pub fn get_task<'a>(
     alloc: Global,
     matches: &ArgMatches<'_>,
-    text: &'a str,
-) -> Result<Task<'a>, Problem> {
-    let pointer = pointer_of(alloc, text)?;
-    let fallback = match matches.get_str("default") {
-        Some(json) => Some(default_of(alloc, matches, json)?),
-        None => None,
-    };
-    Ok(Task::Get(pointer, fallback))
+    pointer: &'a str,
+) -> Result<Task<'a>, ProgramError> {
+    let pointer = pointer_of(alloc, pointer)?;
+    Ok(Task::Get(pointer, json_default(alloc, matches)?))
 }
 
 /// Returns the task of assigning a value at the pointer with this text.
 pub fn set_task<'a>(
     rt: &HostRuntime,
     matches: &ArgMatches<'_>,
-    text: &'a str,
+    pointer: &'a str,
     value: &str,
-) -> Result<Task<'a>, Problem> {
-    let pointer = pointer_of(rt.alloc(), text)?;
-    let value = raw_value(rt, matches, value)?;
+) -> Result<Task<'a>, ProgramError> {
+    let pointer = pointer_of(rt.alloc(), pointer)?;
+    let value = Given::read(rt, matches, value)?.raw(rt.alloc())?;
     Ok(Task::Set(pointer, value))
 }
 
 /// Prints the value that each pointer resolves to.
-pub fn get_each(rt: &HostRuntime, matches: &ArgMatches<'_>, more: &[&str]) -> Result<u8, Problem> {
+pub fn get_each(
+    rt: &HostRuntime,
+    matches: &ArgMatches<'_>,
+    more: &[&str],
+) -> Result<u8, ProgramError> {
     let alloc = rt.alloc();
     check_several(alloc, matches)?;
     let mut tasks = Vec::new(alloc);
@@ -63,7 +54,7 @@ pub fn get_each(rt: &HostRuntime, matches: &ArgMatches<'_>, more: &[&str]) -> Re
     let source = Source::open(rt, matches)?;
     print_text(
         rt,
-        values_of(alloc, &source, tasks.as_slice(), style)?.as_str(),
+        values_of(alloc, tasks.as_slice(), style, &source)?.as_str(),
     )?;
     Ok(0)
 }
@@ -71,13 +62,13 @@ pub fn get_each(rt: &HostRuntime, matches: &ArgMatches<'_>, more: &[&str]) -> Re
 /// Returns the results of the tasks on the document, one after another.
 fn values_of(
     alloc: Global,
-    source: &Source<'_>,
     tasks: &[Task<'_>],
     style: Style,
-) -> Result<String, Problem> {
+    source: &Source<'_>,
+) -> Result<String, ProgramError> {
     let mut values = String::new(alloc);
     for task in tasks {
-        let value = result_of(alloc, source.name, task, style, &source.bytes)?;
+        let value = source_result(alloc, task, style, source)?;
         values.push_str(value.as_str())?;
     }
     Ok(values)
@@ -88,7 +79,7 @@ pub fn delete_each(
     rt: &HostRuntime,
     matches: &ArgMatches<'_>,
     more: &[&str],
-) -> Result<u8, Problem> {
+) -> Result<u8, ProgramError> {
     let alloc = rt.alloc();
     check_several(alloc, matches)?;
     let mut tasks = Vec::new(alloc);
@@ -100,7 +91,11 @@ pub fn delete_each(
 }
 
 /// Assigns each value at the pointer before it, in order.
-pub fn set_each(rt: &HostRuntime, matches: &ArgMatches<'_>, more: &[&str]) -> Result<u8, Problem> {
+pub fn set_each(
+    rt: &HostRuntime,
+    matches: &ArgMatches<'_>,
+    more: &[&str],
+) -> Result<u8, ProgramError> {
     let alloc = rt.alloc();
     if !more.is_empty() {
         check_several(alloc, matches)?;
@@ -133,17 +128,23 @@ fn edit_each(
     rt: &HostRuntime,
     matches: &ArgMatches<'_>,
     tasks: &[Task<'_>],
-) -> Result<u8, Problem> {
+) -> Result<u8, ProgramError> {
     let alloc = rt.alloc();
     let style = style_of(alloc, matches)?;
     let expands = !matches.get_flag("no-expand");
     let source = Source::open(rt, matches)?;
-    let edited = edited_by_each(alloc, &source, tasks, style, expands)?;
+    let style = if source.missing.is_some() {
+        style.for_new()
+    } else {
+        style
+    };
+    let edited = edited_by_each(alloc, tasks, style, expands, &source)?;
     if style.layout == Layout::Kept {
         source.put(rt, edited.as_str())?;
     } else {
+        source.check_bare(alloc)?;
         let whole = Task::Get(Pointer::root(), None);
-        let new = result_of(alloc, source.name, &whole, style, edited.as_bytes())?;
+        let new = result_of(alloc, &whole, style, source.name, edited.as_bytes())?;
         source.put(rt, new.as_str())?;
     }
     Ok(0)
@@ -153,109 +154,42 @@ fn edit_each(
 /// is possible.
 fn edited_by_each(
     alloc: Global,
-    source: &Source<'_>,
     tasks: &[Task<'_>],
     style: Style,
     expands: bool,
-) -> Result<String, Problem> {
-    let in_text = Style {
-        layout: Layout::Kept,
-        indent: None,
-        reformats: style.reformats || style.layout != Layout::Kept,
-        is_lossy: style.is_lossy,
-    };
-    let mut text = String::from_str(alloc, json_text(alloc, source)?)?;
+    source: &Source<'_>,
+) -> Result<String, ProgramError> {
+    let mut text = source.whole_text(alloc)?;
     for task in tasks {
+        let before = Source::of(alloc, source.name, source.format, text.into_bytes())?;
         if !expands {
-            check_above(alloc, source.name, task, text.as_str())?;
+            check_expansion(alloc, task, before.name, before.text(alloc)?)?;
         }
-        text = result_of(alloc, source.name, task, in_text, text.as_bytes())?;
+        text = source_result(alloc, task, style.for_edit(), &before)?;
     }
     Ok(text)
 }
 
-/// Fails if the task would create a container in the text, or replace a scalar by one.
-fn check_above(alloc: Global, name: &str, task: &Task<'_>, text: &str) -> Result<(), Problem> {
-    let Task::Set(pointer, _) = task else {
-        return Ok(());
-    };
-    match scalar_above(alloc, text, *pointer) {
-        Ok(None) => Ok(()),
-        Ok(Some(_)) => Err(Problem::new(alloc, NOT_APPLIED, name, SCALAR)),
-        Err(Failure::NotJson) => Err(Problem::of_bytes(alloc, name, text.as_bytes())),
-        Err(failure) => Err(Problem::of_failure_so(
-            alloc,
-            name,
-            pointer.as_str(),
-            failure,
-            MISSING,
-        )),
-    }
-}
-
-/// Returns the result of the task on the bytes of the document with this name.
-fn result_of(
-    alloc: Global,
-    name: &str,
-    task: &Task<'_>,
-    style: Style,
-    bytes: &[u8],
-) -> Result<String, Problem> {
-    check_result(alloc, name, task, style, bytes)?;
-    match edited(alloc, task, style, bytes) {
-        Ok(new) => Ok(new),
-        Err(failure) => Err(document_problem(alloc, name, pointer_text(task), bytes, failure)),
-    }
-}
-
-/// Returns the text of the pointer of the task.
-fn pointer_text<'t>(task: &'t Task<'_>) -> &'t str {
-    match task {
-        Task::Get(pointer, _) => pointer.as_str(),
-        Task::Set(pointer, _) => pointer.as_str(),
-        Task::Delete(pointer) => pointer.as_str(),
-        Task::Patch(_) => "",
-    }
-}
-
 /// Fails if the flags or the file do not allow several pointers.
-fn check_several(alloc: Global, matches: &ArgMatches<'_>) -> Result<(), Problem> {
+fn check_several(alloc: Global, matches: &ArgMatches<'_>) -> Result<(), ProgramError> {
     if matches.get_flag("lines") {
-        return Err(Problem::new(alloc, USAGE, "--lines", "takes one pointer"));
+        return Err(ProgramError::new(alloc, USAGE, "--lines", "takes one pointer"));
     }
-    if is_toml(matches) {
-        return Err(Problem::new(alloc, USAGE, "POINTER", "on TOML, one alone"));
+    if Format::of(matches) == Format::Toml {
+        return Err(ProgramError::new(alloc, USAGE, "POINTER", "on TOML, one alone"));
     }
     Ok(())
 }
 
 /// Fails if standard input would be more than one value.
-fn check_values(alloc: Global, first: &str, more: &[&str]) -> Result<(), Problem> {
+fn check_values(alloc: Global, first: &str, more: &[&str]) -> Result<(), ProgramError> {
     let mut is_read = first == "@-";
     for word in more {
         if is_read && *word == "@-" {
             let message = "standard input cannot be two values";
-            return Err(Problem::new(alloc, USAGE, "JSON", message));
+            return Err(ProgramError::new(alloc, USAGE, "JSON", message));
         }
         is_read = is_read || *word == "@-";
     }
     Ok(())
-}
-
-/// Parses the value of `--default`, whose numbers are printed anew.
-fn default_of(alloc: Global, matches: &ArgMatches<'_>, text: &str) -> Result<Value, Problem> {
-    let value = value_of(alloc, "--default", text)?;
-    if !is_lossy(matches) {
-        check_text(alloc, "--default", text)?;
-    }
-    Ok(value)
-}
-
-/// Parses an argument as a JSON text.
-fn value_of(alloc: Global, name: &str, text: &str) -> Result<Value, Problem> {
-    match Value::from_str(alloc, text) {
-        Ok(value) => Ok(value),
-        Err(error) if error.is_memory() => Err(Problem::Memory),
-        Err(_) => Err(Problem::of_bytes(alloc, name, text.as_bytes())),
-    }
 }

@@ -1,14 +1,14 @@
 //! How results are printed.
 
 use crate::digits::is_lossy;
-use crate::problem::{Problem, USAGE};
+use crate::program_error::{ProgramError, USAGE};
 use clap::ArgMatches;
-use jptr_tasks::failure::Failure;
 use jptr_tasks::layout::Layout;
+use jptr_tasks::task_error::TaskError;
 use jsonptr_edit_in_text::{Buffers, IndentError, indent_text};
 use std::alloc::Global;
 
-/// As many spaces as a level may have.
+/// The most spaces by which a level can be indented.
 const SPACES: &str = "                ";
 
 /// How the document is edited and printed.
@@ -22,6 +22,27 @@ pub struct Style {
     pub reformats: bool,
     /// Whether numbers may lose digits.
     pub is_lossy: bool,
+}
+
+impl Style {
+    /// Returns the style of a document that is made: on lines, unless another layout is asked for.
+    pub fn for_new(self) -> Style {
+        let mut style = self;
+        if style.layout == Layout::Kept {
+            style.layout = Layout::Pretty;
+        }
+        style
+    }
+
+    /// Returns the style of an edit of a document that is laid out after the last edit. If that is done
+    /// anew, an edit is too where it cannot be made in the text.
+    pub fn for_edit(self) -> Style {
+        let mut style = self;
+        style.reformats = self.reformats || self.layout != Layout::Kept;
+        style.layout = Layout::Kept;
+        style.indent = None;
+        style
+    }
 }
 
 /// Returns how results are printed, except for the indentation.
@@ -54,7 +75,7 @@ fn is_pretty(matches: &ArgMatches<'_>) -> bool {
 }
 
 /// Returns how the document is edited and printed.
-pub fn style_of(alloc: Global, matches: &ArgMatches<'_>) -> Result<Style, Problem> {
+pub fn style_of(alloc: Global, matches: &ArgMatches<'_>) -> Result<Style, ProgramError> {
     let indent = match matches.get_str("indent") {
         Some(text) => Some(indent_of(alloc, text)?),
         None => None,
@@ -68,7 +89,7 @@ pub fn style_of(alloc: Global, matches: &ArgMatches<'_>) -> Result<Style, Proble
 }
 
 /// Returns the indentation of a level: a tab, or spaces.
-fn indent_of(alloc: Global, text: &str) -> Result<&'static str, Problem> {
+fn indent_of(alloc: Global, text: &str) -> Result<&'static str, ProgramError> {
     if text == "tab" {
         return Ok("\t");
     }
@@ -77,13 +98,13 @@ fn indent_of(alloc: Global, text: &str) -> Result<&'static str, Problem> {
         Some(spaces) if count > 0 => Ok(spaces),
         _ => {
             let message = "needs a number of spaces, 1 to 16, or tab";
-            Err(Problem::new(alloc, USAGE, "--indent", message))
+            Err(ProgramError::new(alloc, USAGE, "--indent", message))
         }
     }
 }
 
 /// Returns what is printed, with the indentation of the style.
-pub fn indented(alloc: Global, style: Style, printed: String) -> Result<String, Failure> {
+pub fn indented(alloc: Global, style: Style, printed: String) -> Result<String, TaskError> {
     let Some(indent) = style.indent else {
         return Ok(printed);
     };
@@ -93,7 +114,7 @@ pub fn indented(alloc: Global, style: Style, printed: String) -> Result<String, 
             new.push('\n')?;
             Ok(new)
         }
-        Err(IndentError::Memory(error)) => Err(Failure::Memory(error)),
-        Err(IndentError::NotJson | IndentError::NotWhiteSpace) => Err(Failure::NotJson),
+        Err(IndentError::Memory(error)) => Err(TaskError::Memory(error)),
+        Err(IndentError::NotJson | IndentError::NotWhiteSpace) => Err(TaskError::NotJson),
     }
 }

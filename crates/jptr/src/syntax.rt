@@ -1,31 +1,40 @@
 //! Why a text is not JSON: what is found, and what may be there instead.
 
 use crate::position::Position;
-use crate::problem::shown;
+use crate::program_error::shown;
+use jsonptr_value::MAX_DEPTH;
 use std::alloc::{AllocError, Global};
-
-/// The greatest number of arrays and objects around a value.
-const MAX_DEPTH: usize = 127;
 
 /// The greatest number of characters that are drawn before and after a place.
 const MOST_DRAWN: usize = 60;
 
+/// What to do about a comment.
+const COMMENTS: &str = "; with --comments, comments are read";
+
 /// What may come next in a JSON text.
 #[derive(Clone, Copy, PartialEq, Eq)]
 enum Next {
+    /// A value.
     Value,
+    /// The first element of an array, or its end.
     FirstElement,
+    /// The first key of an object, or its end.
     FirstKey,
+    /// A key.
     Key,
+    /// A colon.
     Colon,
+    /// A comma or the end of an array.
     AfterElement,
+    /// A comma or the end of an object.
     AfterMember,
+    /// The end of the text.
     End,
 }
 
 /// What is wrong at a place of a text.
 #[derive(Clone, Copy)]
-enum Fault {
+enum SyntaxError {
     /// This is expected there.
     Expected(&'static str),
     /// A character of a string is not escaped.
@@ -34,6 +43,8 @@ enum Fault {
     Escape,
     /// An array or an object is too deep.
     Depth,
+    /// A block comment is not closed.
+    Comment,
 }
 
 /// Returns what is wrong with the text: the place, its line, and a caret below it. Returns `None` if
@@ -51,21 +62,28 @@ pub fn explain(alloc: Global, text: &str) -> Result<Option<String>, AllocError> 
     }
 }
 
+/// Returns that the block comment at the offset is not closed: its place, its line, and a caret below it.
+pub fn unclosed_comment(alloc: Global, text: &str, offset: usize) -> Result<String, AllocError> {
+    drawn(alloc, text, offset, SyntaxError::Comment)
+}
+
 /// A scanner of a text, up to its first fault.
 #[derive(Drop)]
 struct Scanner<'t> {
+    /// The text.
     bytes: &'t [u8],
     /// The offset of the next byte, or of the fault.
     at: usize,
     /// For each array or object around the next byte, whether it is an object.
     open: Vec<bool>,
+    /// What may come next.
     next: Next,
 }
 
 impl<'t> Scanner<'t> {
     /// Scans the text, and returns its first fault.
-    fn run(&mut self) -> Result<Option<Fault>, AllocError> {
-        // Each step takes a byte.
+    fn run(&mut self) -> Result<Option<SyntaxError>, AllocError> {
+        // Each step takes at least one byte.
         for _ in 0..self.bytes.len() {
             self.skip_space();
             if self.at >= self.bytes.len() {
@@ -103,7 +121,7 @@ impl<'t> Scanner<'t> {
     }
 
     /// Takes the next piece of the text.
-    fn step(&mut self) -> Result<Option<Fault>, AllocError> {
+    fn step(&mut self) -> Result<Option<SyntaxError>, AllocError> {
         match (self.next, self.byte()) {
             (Next::FirstElement, b']') | (Next::AfterElement, b']') => Ok(self.close()),
             (Next::FirstKey, b'}') | (Next::AfterMember, b'}') => Ok(self.close()),
@@ -123,16 +141,16 @@ impl<'t> Scanner<'t> {
     }
 
     /// Takes one byte.
-    fn pass(&mut self, next: Next) -> Option<Fault> {
+    fn pass(&mut self, next: Next) -> Option<SyntaxError> {
         self.at = self.at.saturating_add(1);
         self.next = next;
         None
     }
 
     /// Begins an array or an object.
-    fn begin(&mut self, is_object: bool) -> Result<Option<Fault>, AllocError> {
+    fn begin(&mut self, is_object: bool) -> Result<Option<SyntaxError>, AllocError> {
         if self.open.len() >= MAX_DEPTH {
-            return Ok(Some(Fault::Depth));
+            return Ok(Some(SyntaxError::Depth));
         }
         self.open.push(is_object)?;
         let first = if is_object {
@@ -144,7 +162,7 @@ impl<'t> Scanner<'t> {
     }
 
     /// Ends an array or an object.
-    fn close(&mut self) -> Option<Fault> {
+    fn close(&mut self) -> Option<SyntaxError> {
         self.open.pop();
         let next = self.after_value();
         self.pass(next)
@@ -160,7 +178,7 @@ impl<'t> Scanner<'t> {
     }
 
     /// Takes a string.
-    fn string(&mut self, next: Next) -> Option<Fault> {
+    fn string(&mut self, next: Next) -> Option<SyntaxError> {
         let rest = self.bytes.get(self.at.saturating_add(1)..).unwrap_or(&[]);
         let mut is_escaped = false;
         let mut digits: usize = 0;
@@ -169,30 +187,29 @@ impl<'t> Scanner<'t> {
             self.at = self.at.saturating_add(1);
             if digits > 0 {
                 if !byte.is_ascii_hexdigit() {
-                    return Some(Fault::Expected("a hexadecimal digit"));
+                    return Some(SyntaxError::Expected("a hexadecimal digit"));
                 }
                 digits -= 1;
             } else if is_escaped {
                 is_escaped = false;
-                match *byte {
-                    b'u' => digits = 4,
-                    b'"' | b'\\' | b'/' | b'b' | b'f' | b'n' | b'r' | b't' => {}
-                    _ => return Some(Fault::Escape),
+                match digits_of_escape(*byte) {
+                    Some(count) => digits = count,
+                    None => return Some(SyntaxError::Escape),
                 }
             } else if *byte == b'"' {
                 return self.pass(next);
             } else if *byte < 32 {
-                return Some(Fault::Control);
+                return Some(SyntaxError::Control);
             } else {
                 is_escaped = *byte == b'\\';
             }
         }
         self.at = self.bytes.len();
-        Some(Fault::Expected("the end of the string"))
+        Some(SyntaxError::Expected("the end of the string"))
     }
 
     /// Takes a number or a word.
-    fn scalar(&mut self) -> Option<Fault> {
+    fn scalar(&mut self) -> Option<SyntaxError> {
         self.next = self.after_value();
         let rest = self.bytes.get(self.at..).unwrap_or(&[]);
         for word in [b"true".as_slice(), b"false", b"null"] {
@@ -203,12 +220,12 @@ impl<'t> Scanner<'t> {
         }
         match self.byte() {
             b'-' | b'0'..=b'9' => self.number(),
-            _ => Some(Fault::Expected("a value")),
+            _ => Some(SyntaxError::Expected("a value")),
         }
     }
 
     /// Takes a number.
-    fn number(&mut self) -> Option<Fault> {
+    fn number(&mut self) -> Option<SyntaxError> {
         if self.byte() == b'-' {
             self.at = self.at.saturating_add(1);
         }
@@ -227,7 +244,7 @@ impl<'t> Scanner<'t> {
     }
 
     /// Takes the exponent of a number, if there is one.
-    fn exponent(&mut self) -> Option<Fault> {
+    fn exponent(&mut self) -> Option<SyntaxError> {
         if !matches!(self.byte(), b'e' | b'E') {
             return None;
         }
@@ -239,9 +256,9 @@ impl<'t> Scanner<'t> {
     }
 
     /// Takes digits, at least one.
-    fn digits(&mut self) -> Option<Fault> {
+    fn digits(&mut self) -> Option<SyntaxError> {
         if !self.byte().is_ascii_digit() {
-            return Some(Fault::Expected("a digit"));
+            return Some(SyntaxError::Expected("a digit"));
         }
         let rest = self.bytes.get(self.at..).unwrap_or(&[]);
         for byte in rest {
@@ -254,8 +271,8 @@ impl<'t> Scanner<'t> {
     }
 
     /// Returns that something else is expected.
-    fn expected(&self) -> Fault {
-        Fault::Expected(match self.next {
+    fn expected(&self) -> SyntaxError {
+        SyntaxError::Expected(match self.next {
             Next::Value => "a value",
             Next::FirstElement => "a value or `]`",
             Next::FirstKey => "a key or `}`",
@@ -268,13 +285,28 @@ impl<'t> Scanner<'t> {
     }
 }
 
+/// Returns the number of hexadecimal digits after this byte of an escape, or `None` if no escape has it.
+fn digits_of_escape(byte: u8) -> Option<usize> {
+    match byte {
+        b'u' => Some(4),
+        b'"' | b'\\' | b'/' | b'b' | b'f' | b'n' | b'r' | b't' => Some(0),
+        _ => None,
+    }
+}
+
 /// Returns the text of the fault: what it is, the line and the column, and the line with a caret.
-fn drawn(alloc: Global, text: &str, offset: usize, fault: Fault) -> Result<String, AllocError> {
+fn drawn(
+    alloc: Global,
+    text: &str,
+    offset: usize,
+    fault: SyntaxError,
+) -> Result<String, AllocError> {
     let before = text.get(..offset).unwrap_or(text);
     let after = text.get(offset..).unwrap_or("");
     let Position { line, column } = Position::after(before);
     let reason = reason_of(alloc, after, fault)?;
-    let mut out = format!(in alloc; "{reason} at line {line} column {column}\n")?;
+    let hint = hint_at(after, fault);
+    let mut out = format!(in alloc; "{reason} at line {line} column {column}{hint}\n")?;
     let row_start = last_row(before);
     out.push_str(shown(alloc, row_start)?.as_str())?;
     out.push_str(shown(alloc, first_row(after))?.as_str())?;
@@ -287,18 +319,27 @@ fn drawn(alloc: Global, text: &str, offset: usize, fault: Fault) -> Result<Strin
 }
 
 /// Returns what is wrong, in words.
-fn reason_of(alloc: Global, after: &str, fault: Fault) -> Result<String, AllocError> {
+fn reason_of(alloc: Global, after: &str, fault: SyntaxError) -> Result<String, AllocError> {
     match fault {
-        Fault::Expected(what) => {
+        SyntaxError::Expected(what) => {
             let found = found_in(alloc, after)?;
             format!(in alloc; "not JSON: expected {what}, found {found}")
         }
-        Fault::Control => format!(in alloc; "not JSON: a control character in a string"),
-        Fault::Escape => {
+        SyntaxError::Control => format!(in alloc; "not JSON: a control character in a string"),
+        SyntaxError::Escape => {
             let found = found_in(alloc, after)?;
             format!(in alloc; "not JSON: no escape of a string: {found}")
         }
-        Fault::Depth => format!(in alloc; "JSON, but nested deeper than {MAX_DEPTH}"),
+        SyntaxError::Depth => format!(in alloc; "JSON, but nested deeper than {MAX_DEPTH}"),
+        SyntaxError::Comment => format!(in alloc; "comment is not closed"),
+    }
+}
+
+/// Returns what to do about the fault, before this text.
+fn hint_at(after: &str, fault: SyntaxError) -> &'static str {
+    match fault {
+        SyntaxError::Expected(_) if after.starts_with("//") || after.starts_with("/*") => COMMENTS,
+        _ => "",
     }
 }
 

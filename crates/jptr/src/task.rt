@@ -1,22 +1,24 @@
 //! Running a task: on one document, on each line, or on a file in place.
 
+use crate::comments::{edited_with_comments, not_in_place, other_layout};
 use crate::digits::{check_result, is_checked};
-use crate::exact_lines::run_exact_lines;
-use crate::input::{name_of, open, read_all};
+use crate::drawn::fault_of_task;
+use crate::exact_lines::{ExactTask, run_exact_lines};
+use crate::input::{name_of, open};
 use crate::operands::file_of;
 use crate::output::{Output, print_text};
-use crate::problem::{NOT_APPLIED, Problem, USAGE};
-use crate::source::Source;
+use crate::program_error::{NOT_APPLIED, ProgramError, USAGE};
+use crate::source::{Format, Source};
 use crate::style::{Style, indented, style_of};
 use clap::ArgMatches;
 use jptr_tasks::document::{document_result, run_document};
-use jptr_tasks::failure::Failure;
 use jptr_tasks::layout::{Layout, show};
 use jptr_tasks::line::LineTask;
-use jptr_tasks::lines::{Ended, run_lines};
+use jptr_tasks::lines::Ended;
 use jptr_tasks::task::Task;
+use jptr_tasks::task_error::TaskError;
 use std::alloc::Global;
-use std::io::{BufReader, BufWriter};
+use std::io::{BufReader, BufWriter, IsTerminal};
 
 /// The bytes that are read or written at once where each line is a document.
 const BLOCK: usize = 65_536;
@@ -26,10 +28,9 @@ pub fn run_task(
     rt: &HostRuntime,
     matches: &ArgMatches<'_>,
     task: Task<'_>,
-    pointer: &str,
-) -> Result<u8, Problem> {
+) -> Result<u8, ProgramError> {
     let style = style_of(rt.alloc(), matches)?;
-    run_styled(rt, matches, task, style, pointer)
+    run_styled(rt, matches, task, style)
 }
 
 /// Runs the task as the flags say, with results in this style, and returns the exit status.
@@ -38,72 +39,65 @@ pub fn run_styled(
     matches: &ArgMatches<'_>,
     task: Task<'_>,
     style: Style,
-    pointer: &str,
-) -> Result<u8, Problem> {
+) -> Result<u8, ProgramError> {
     let file = file_of(matches);
     if matches.get_flag("check") {
-        check(rt, file, &task)
+        checked(rt.alloc(), &task, &Source::open(rt, matches)?)
     } else if matches.get_flag("lines") {
         on_lines(rt, matches, task, style)
-    } else if matches.get_flag("in-place") || is_read_first(&task, style) {
-        on_source(rt, &Source::open(rt, matches)?, &task, style, pointer)
+    } else if is_read_first(matches, &task, style) {
+        on_source(rt, &task, style, &Source::open(rt, matches)?)
     } else {
-        on_document(rt, file, &task, style, pointer)
+        on_document(rt, &task, style, file)
     }
 }
 
-/// Returns whether the document is read before anything is printed: to look for numbers that lose digits,
-/// or to print the result with an indentation of its own.
-fn is_read_first(task: &Task<'_>, style: Style) -> bool {
-    style.indent.is_some() || (style.layout != Layout::Kept && is_checked(task, style))
+/// Returns whether the document is read before anything is printed: to change its file, to read past
+/// comments, to look for numbers that lose digits, or to print the result with an indentation of its own.
+fn is_read_first(matches: &ArgMatches<'_>, task: &Task<'_>, style: Style) -> bool {
+    matches.get_flag("in-place")
+        || Format::of(matches) == Format::Commented
+        || style.indent.is_some()
+        || (style.layout != Layout::Kept && is_checked(task, style))
 }
 
-/// Runs the task on one document, and prints nothing.
-fn check(rt: &HostRuntime, file: Option<&str>, task: &Task<'_>) -> Result<u8, Problem> {
-    let bytes = read_all(rt, file)?;
-    checked(rt.alloc(), name_of(file), task, &bytes)
-}
-
-/// Runs the task on the bytes of the document with this name, and prints nothing.
-pub fn checked(alloc: Global, name: &str, task: &Task<'_>, bytes: &[u8]) -> Result<u8, Problem> {
-    match document_result(alloc, task, Layout::Kept, bytes) {
+/// Runs the task on a document that is read, and prints nothing.
+pub fn checked(alloc: Global, task: &Task<'_>, source: &Source<'_>) -> Result<u8, ProgramError> {
+    match document_result(alloc, task, Layout::Kept, &source.bytes) {
         Ok(_new) => Ok(0),
-        Err(failure) => match failure {
-            // The operations apply, but not in place.
-            Failure::NotInPlace => Ok(0),
-            failure => Err(document_problem(alloc, name, "", bytes, failure)),
-        },
+        // The operations apply, but not in place.
+        Err(TaskError::NotInPlace) => Ok(0),
+        Err(error) => Err(task_error(alloc, task, source.name, &source.bytes, error)),
     }
 }
 
 /// Runs the task on one document, and prints the result.
 fn on_document(
     rt: &HostRuntime,
-    file: Option<&str>,
     task: &Task<'_>,
     style: Style,
-    pointer: &str,
-) -> Result<u8, Problem> {
+    file: Option<&str>,
+) -> Result<u8, ProgramError> {
     let alloc = rt.alloc();
     let mut input = open(rt, file)?;
     let mut output = Output::new(rt);
     let mut bytes = Vec::new(alloc);
-    match run_document(
-        alloc,
-        task,
-        style.layout,
-        &mut input,
-        &mut bytes,
-        &mut output,
-    ) {
+    match run_document(task, style.layout, &mut input, &mut bytes, &mut output) {
         Ok(()) => Ok(0),
-        Err(Failure::Read) => Err(input.read_problem(alloc, name_of(file))),
-        Err(Failure::Write) => Err(output.problem(alloc)),
-        Err(Failure::NotInPlace) if style.reformats => {
-            check_result(alloc, name_of(file), task, style, &bytes)?;
-            print_anew(rt, name_of(file), task, &bytes, pointer)
+        Err(TaskError::Read) => Err(input.read_error(alloc, name_of(file))),
+        Err(TaskError::Write) => Err(output.error(alloc)),
+        Err(TaskError::NotInPlace) if style.reformats => {
+            let new = result_of(alloc, task, style, name_of(file), &bytes)?;
+            print_text(rt, new.as_str())?;
+            Ok(0)
         }
-        Err(failure) => Err(document_problem(alloc, name_of(file), pointer, &bytes, failure)),
+        Err(error) => {
+            let source = Source::of(alloc, name_of(file), Format::Json, bytes)?;
+            if source.has_mark {
+                return on_source(rt, task, style, &source);
+            }
+            Err(task_error(alloc, task, source.name, &source.bytes, error))
+        }
     }
 }
 
@@ -111,36 +105,77 @@ fn on_document(
 /// file by it.
 pub fn on_source(
     rt: &HostRuntime,
-    source: &Source<'_>,
     task: &Task<'_>,
     style: Style,
-    pointer: &str,
-) -> Result<u8, Problem> {
-    let alloc = rt.alloc();
-    check_result(alloc, source.name, task, style, &source.bytes)?;
-    match edited(alloc, task, style, &source.bytes) {
-        Ok(new) => {
-            source.put(rt, new.as_str())?;
-            Ok(0)
-        }
-        Err(failure) => Err(document_problem(alloc, source.name, pointer, &source.bytes, failure)),
+    source: &Source<'_>,
+) -> Result<u8, ProgramError> {
+    let new = source_result(rt.alloc(), task, style, source)?;
+    match task {
+        Task::Get(_, _) if source.target.is_none() => print_text(rt, new.as_str())?,
+        _ => source.put(rt, new.as_str())?,
+    }
+    Ok(0)
+}
+
+/// Returns the document after the task, with its comments. Fails if the task loses digits of a number.
+pub fn source_result(
+    alloc: Global,
+    task: &Task<'_>,
+    style: Style,
+    source: &Source<'_>,
+) -> Result<String, ProgramError> {
+    match tried(alloc, task, style, source)? {
+        Ok(new) => Ok(new),
+        Err(error) => Err(task_error(alloc, task, source.name, &source.bytes, error)),
     }
 }
 
-/// Runs the task on the bytes of a document that cannot be edited in place, and prints the result anew.
-fn print_anew(
-    rt: &HostRuntime,
-    name: &str,
+/// Returns the document after the task, with its comments, or the error of the task. Fails if the task
+/// would lose digits of a number, or comments.
+pub fn tried(
+    alloc: Global,
     task: &Task<'_>,
-    bytes: &[u8],
-    pointer: &str,
-) -> Result<u8, Problem> {
-    match document_result(rt.alloc(), task, Layout::Compact, bytes) {
-        Ok(new) => {
-            print_text(rt, new.as_str())?;
-            Ok(0)
+    style: Style,
+    source: &Source<'_>,
+) -> Result<Result<String, TaskError>, ProgramError> {
+    match &source.commented {
+        Some(text) if keeps_comments(task, style, source) => {
+            if style.layout != Layout::Kept {
+                return Err(other_layout(alloc, source.name));
+            }
+            match edited_with_comments(alloc, task, text.as_str(), source.text(alloc)?) {
+                Err(TaskError::NotInPlace) => Err(not_in_place(alloc, task, source.name)),
+                result => Ok(result),
+            }
         }
-        Err(failure) => Err(document_problem(rt.alloc(), name, pointer, bytes, failure)),
+        _ => {
+            check_result(alloc, task, style, source.name, &source.bytes)?;
+            Ok(edited(alloc, task, style, &source.bytes))
+        }
+    }
+}
+
+/// Returns whether the result of the task has the comments of the document, or may be a text of it.
+fn keeps_comments(task: &Task<'_>, style: Style, source: &Source<'_>) -> bool {
+    match task {
+        Task::Get(_, _) => source.target.is_some() || style.layout == Layout::Kept,
+        Task::Set(_, _) | Task::Delete(_) | Task::Patch(_) => true,
+    }
+}
+
+/// Returns the document after the task on the bytes of the one with this name. Fails if the task loses
+/// digits of a number.
+pub fn result_of(
+    alloc: Global,
+    task: &Task<'_>,
+    style: Style,
+    name: &str,
+    bytes: &[u8],
+) -> Result<String, ProgramError> {
+    check_result(alloc, task, style, name, bytes)?;
+    match edited(alloc, task, style, bytes) {
+        Ok(new) => Ok(new),
+        Err(error) => Err(task_error(alloc, task, name, bytes, error)),
     }
 }
 
@@ -151,27 +186,50 @@ pub fn edited(
     task: &Task<'_>,
     style: Style,
     bytes: &[u8],
-) -> Result<String, Failure> {
+) -> Result<String, TaskError> {
     match document_result(alloc, task, style.layout, bytes) {
         Ok(new) => indented(alloc, style, new),
-        Err(Failure::NotInPlace) if style.reformats => {
+        Err(TaskError::NotInPlace) if style.reformats => {
             document_result(alloc, task, Layout::Compact, bytes)
         }
-        Err(failure) => Err(failure),
+        Err(error) => Err(error),
     }
 }
 
-/// Returns the problem of a task that failed on the bytes of the document with this name.
-pub fn document_problem(
+/// Returns the error of a task that failed on the bytes of the document with this name, with what is at
+/// fault.
+fn task_error(
+    alloc: Global,
+    task: &Task<'_>,
+    name: &str,
+    bytes: &[u8],
+    error: TaskError,
+) -> ProgramError {
+    let drawing = fault_of_task(alloc, task, bytes, &error);
+    document_error(alloc, name, bytes, pointer_text(task), error).with_drawing(drawing)
+}
+
+/// Returns the text of the pointer of the task.
+fn pointer_text<'t>(task: &'t Task<'_>) -> &'t str {
+    match task {
+        Task::Get(pointer, _) => pointer.as_str(),
+        Task::Set(pointer, _) => pointer.as_str(),
+        Task::Delete(pointer) => pointer.as_str(),
+        Task::Patch(_) => "",
+    }
+}
+
+/// Returns the error at this pointer in the bytes of the document with this name.
+pub fn document_error(
     alloc: Global,
     name: &str,
-    pointer: &str,
     bytes: &[u8],
-    failure: Failure,
-) -> Problem {
-    match failure {
-        Failure::NotJson => Problem::of_bytes(alloc, name, bytes),
-        failure => Problem::of_failure(alloc, name, pointer, failure),
+    pointer: &str,
+    error: TaskError,
+) -> ProgramError {
+    match error {
+        TaskError::NotJson => ProgramError::of_bytes(alloc, name, bytes),
+        error => ProgramError::of_error(alloc, name, pointer, error),
     }
 }
 
@@ -181,62 +239,67 @@ fn on_lines(
     matches: &ArgMatches<'_>,
     task: Task<'_>,
     style: Style,
-) -> Result<u8, Problem> {
+) -> Result<u8, ProgramError> {
     let alloc = rt.alloc();
-    let file = matches.get_str("FILE");
+    let file = file_of(matches);
     // A writer without a buffer writes each line at once.
-    let block = if matches.get_flag("line-buffered") {
+    let block = if matches.get_flag("line-buffered") || rt.stdout().is_terminal() {
         0
     } else {
         BLOCK
     };
-    let fallback = fallback_of(rt, &task, style.layout)?;
-    let name = format!(in alloc; "jptr: {}", name_of(file))?;
-    let run = LineTask {
+    let run = line_task(alloc, matches, task, style.layout)?;
+    let source = open(rt, file)?;
+    let Ok(mut input) = BufReader::with_capacity(alloc, BLOCK, source) else {
+        return Err(ProgramError::Memory);
+    };
+    let Ok(mut output) = BufWriter::with_capacity(alloc, block, Output::new(rt)) else {
+        return Err(ProgramError::Memory);
+    };
+    let Ok(mut errors) = BufWriter::with_capacity(alloc, block, rt.stderr()) else {
+        return Err(ProgramError::Memory);
+    };
+    let exact = ExactTask { run, style };
+    match run_exact_lines(alloc, &exact, &mut input, &mut output, &mut errors) {
+        Ok(Ended::Fine) => Ok(0),
+        Ok(Ended::Faults | Ended::Stopped) => Ok(NOT_APPLIED),
+        Err(TaskError::Read) => Err(input.get_ref().read_error(alloc, name_of(file))),
+        Err(TaskError::Write) => Err(output.get_ref().error(alloc)),
+        Err(_) => Err(ProgramError::Memory),
+    }
+}
+
+/// Returns the task for each line, with results in this layout.
+fn line_task<'a>(
+    alloc: Global,
+    matches: &ArgMatches<'_>,
+    task: Task<'a>,
+    layout: Layout,
+) -> Result<LineTask<'a>, ProgramError> {
+    let fallback = fallback_of(alloc, &task, layout)?;
+    let name = format!(in alloc; "jptr: {}", name_of(file_of(matches)))?;
+    Ok(LineTask {
         task,
-        layout: style.layout,
+        layout,
         fallback,
         name,
         is_strict: matches.get_flag("strict"),
-    };
-    let source = open(rt, file)?;
-    let Ok(mut input) = BufReader::with_capacity(alloc, BLOCK, source) else {
-        return Err(Problem::Memory);
-    };
-    let Ok(mut output) = BufWriter::with_capacity(alloc, block, Output::new(rt)) else {
-        return Err(Problem::Memory);
-    };
-    let Ok(mut errors) = BufWriter::with_capacity(alloc, block, rt.stderr()) else {
-        return Err(Problem::Memory);
-    };
-    let ended = if is_checked(&run.task, style) {
-        run_exact_lines(alloc, &run, style, &mut input, &mut output, &mut errors)
-    } else {
-        run_lines(alloc, &run, &mut input, &mut output, &mut errors)
-    };
-    match ended {
-        Ok(Ended::Fine) => Ok(0),
-        Ok(Ended::Faults | Ended::Stopped) => Ok(NOT_APPLIED),
-        Err(Failure::Read) => Err(input.get_ref().read_problem(alloc, name_of(file))),
-        Err(Failure::Write) => Err(output.get_ref().problem(alloc)),
-        Err(_) => Err(Problem::Memory),
-    }
+    })
 }
 
 /// Returns what is printed for a line at fault: the value of `--default`, which must be one line.
 fn fallback_of(
-    rt: &HostRuntime,
+    alloc: Global,
     task: &Task<'_>,
     layout: Layout,
-) -> Result<Option<String>, Problem> {
-    let alloc = rt.alloc();
+) -> Result<Option<String>, ProgramError> {
     let Task::Get(_, Some(value)) = task else {
         return Ok(None);
     };
     let mut text = show(alloc, value, layout)?;
     if text.as_bytes().contains(&b'\n') {
         let message = "contains a line break, which --lines does not allow";
-        return Err(Problem::new(alloc, USAGE, "--default", message));
+        return Err(ProgramError::new(alloc, USAGE, "--default", message));
     }
     text.push('\n')?;
     Ok(Some(text))

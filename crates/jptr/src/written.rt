@@ -1,18 +1,16 @@
 //! A file that is written beside another result, whole or not at all.
 
-use crate::in_place::{open_file, replace_text};
-use crate::input::problem;
-use crate::problem::Problem;
+use crate::in_place::{NAMES, open_file, path_beside, replace_text};
+use crate::input::file_error;
+use crate::program_error::ProgramError;
 use std::fs::OpenOptions;
 use std::io::ErrorKind;
 use std::{fs, io};
 
-/// The number of names that are tried for the link to the old file.
-const NAMES: u32 = 1_000;
-
 /// A file that was written. It stays, or what was there before comes back.
 #[derive(Drop)]
 pub struct Written {
+    /// Its path, or that of the file that a link leads to.
     path: String,
     /// A link to the file that was there before, if one was.
     old: Option<String>,
@@ -22,13 +20,13 @@ impl Written {
     /// Writes the text to the file, which is created if it is missing, and else replaced.
     ///
     /// A symbolic link is followed, and stays. After an error the file is what it was before.
-    pub fn write(rt: &HostRuntime, path: &str, text: &str) -> Result<Written, Problem> {
+    pub fn write(rt: &HostRuntime, path: &str, text: &str) -> Result<Written, ProgramError> {
         match Written::prepare(rt, path) {
             Ok(written) => {
                 let replaced = replace(rt, path, text);
                 written.settle(rt, replaced)
             }
-            Err(error) => Err(problem(rt.alloc(), path, &error)),
+            Err(error) => Err(file_error(rt.alloc(), path, &error)),
         }
     }
 
@@ -55,30 +53,29 @@ impl Written {
             return Err(io::Error::new(ErrorKind::InvalidInput, "not a regular file"));
         }
         for number in 0..NAMES {
-            let old = format!(in rt.alloc(); "{path}.jptr-{number}")?;
-            match fs::hard_link(rt, path.as_str(), old.as_str()) {
-                Ok(()) => return Ok(Written {
+            let old = path_beside(rt.alloc(), path.as_str(), number)?;
+            if link_if_free(rt, path.as_str(), old.as_str())? {
+                return Ok(Written {
                     path,
                     old: Some(old),
-                }),
-                Err(error) => {
-                    if error.kind() != ErrorKind::AlreadyExists {
-                        return Err(error);
-                    }
-                }
+                });
             }
         }
         Err(io::Error::from(ErrorKind::AlreadyExists))
     }
 
     /// Lets the file stay if the change was made, and else brings back what was there before.
-    pub fn settle(self, rt: &HostRuntime, change: Result<(), Problem>) -> Result<Written, Problem> {
+    pub fn settle(
+        self,
+        rt: &HostRuntime,
+        change: Result<(), ProgramError>,
+    ) -> Result<Written, ProgramError> {
         match change {
             Ok(()) => Ok(self),
-            Err(problem) => {
+            Err(error) => {
                 // The first error is the one to report.
                 let _ = self.take_back(rt);
-                Err(problem)
+                Err(error)
             }
         }
     }
@@ -104,8 +101,17 @@ impl Written {
     }
 }
 
+/// Links the file under a new path, or returns `false` if that is taken.
+fn link_if_free(rt: &HostRuntime, path: &str, new: &str) -> io::Result<bool> {
+    match fs::hard_link(rt, path, new) {
+        Ok(()) => Ok(true),
+        Err(error) if error.kind() == ErrorKind::AlreadyExists => Ok(false),
+        Err(error) => Err(error),
+    }
+}
+
 /// Replaces the text of the file.
-fn replace(rt: &HostRuntime, path: &str, text: &str) -> Result<(), Problem> {
+fn replace(rt: &HostRuntime, path: &str, text: &str) -> Result<(), ProgramError> {
     let (target, _) = open_file(rt, path)?;
     replace_text(rt, path, &target, text)
 }

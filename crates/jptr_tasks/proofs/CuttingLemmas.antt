@@ -1,10 +1,10 @@
 -- Runs over the parts of an input that is cut after a line feed.
 use Rattle.std.proofs.Common.{◌≡◌, ◌≢◌, inl, inr, ℕ, ◌+◌, List, [], ◌∷◌, ◌++◌, length, refl, sym, ap, ap₂, ◌∙◌, subst, arith, append-nil, append_assoc, codes, decimal, string_bytes}
 use Rattle.std.specs.Prelude.{◌↔◌}
-use Rattle.jsonptr_grammar.specs.Text.{Text}
-use Rattle.jsonptr_lines.specs.Lines.{IsOneLine, AreLines}
-use Rattle.jsonptr_lines.specs.PrivateLines.{joined, AreAllLines}
-use Rattle.jsonptr_lines.proofs.LineLemmas.{some_lines, one_lines, lines_after, no_feed}
+use Rattle.jsonptr.specs.Text.{Text}
+use Rattle.jsonptr_io.specs.Lines.{IsOneLine, AreLines}
+use Rattle.jsonptr_io.specs.PrivateLines.{joined, AreAllLines}
+use Rattle.jsonptr_io.proofs.LineLemmas.{some_lines, one_lines, lines_after, no_feed}
 use Rattle.jptr_tasks.specs.LineResults.{LineGives, LinesGive}
 use Rattle.jptr_tasks.specs.Cutting.{EndsInLineFeed, InputGives, reports, IsShifted}
 use Rattle.jptr_tasks.specs.declared.line.LineTask.{LineTask}

@@ -5,11 +5,11 @@ use Rattle.serde_json.specs.Data.{Data, depth}
 use Rattle.serde_json.specs.Find.{as_str}
 use Rattle.serde_json.specs.Read.{read, max_depth}
 use Rattle.serde_json.proofs.Nesting.{depth-read}
-use Rattle.jsonptr_grammar.specs.Text.{Text}
+use Rattle.jsonptr.specs.Text.{Text}
 use Rattle.jsonptr.specs.Documents.{IsDocument}
 use Rattle.jsonptr.proofs.Calling.{map_of-IsTree, map_of-finite}
-use Rattle.jsonptr_tree.specs.Node.{NodeMap}
-use Rattle.jsonptr_tree.specs.Json.{nodes, content}
+use Rattle.jsonptr.specs.Node.{NodeMap}
+use Rattle.jsonptr.specs.Json.{nodes, content}
 use Rattle.jsonptr_patch.specs.Patching.{Patches, PatchesBy, RefusesPatchBy}
 use Rattle.jsonptr_patch.specs.declared.comparison.Comparison.TheVariants.{Numeric}
 use Rattle.jsonptr_patch.specs.declared.operation.Operation.{Operation}
@@ -25,11 +25,12 @@ use Rattle.jptr_tasks.specs.PrivateResults.{IsPatchTextFault}
 use Rattle.jsonptr_in_text.specs.Format.{IsFormatted}
 use Rattle.jsonptr_in_text.specs.declared.format.Format.{Format}
 use Rattle.jsonptr_in_text.specs.declared.format.Format.TheVariants as format
-use Rattle.jptr_tasks.specs.Layouts.{IsCompact, Shows, Lays, ReadsBack}
+use Rattle.jsonptr_value.specs.JsonText.{IsCompact}
+use Rattle.jptr_tasks.specs.Layouts.{ShowsInLayout, Lays, ReadsBack}
 use Rattle.jptr_tasks.specs.Results.{FailsToPatch}
 use Rattle.jptr_tasks.specs.declared.difference.Difference.{Difference}
-use Rattle.jptr_tasks.specs.declared.failure.Failure.{Failure}
-use Rattle.jptr_tasks.specs.declared.failure.Failure.TheVariants.{BadPointer, NotPatch, NoValue, BadPlace, NotThere, BadPatch, TooDeep, NotInPlace, NotLocated, PatchTooDeep, LineBreak, BadLine, NotUtf8, NotJson, ArgumentNotJson, Memory, Read, Write}
+use Rattle.jptr_tasks.specs.declared.task_error.TaskError.{TaskError}
+use Rattle.jptr_tasks.specs.declared.task_error.TaskError.TheVariants.{NotPatch, BadPatch, TooDeep, NotInPlace, PatchTooDeep, NotJson, Memory, Read}
 use Rattle.jptr_tasks.specs.declared.layout.Layout.{Layout}
 use Rattle.jptr_tasks.specs.declared.layout.Layout.TheVariants.{Kept, Compact, Pretty, Sorted, SortedPretty, Raw}
 
@@ -37,7 +38,7 @@ raw_reads : (value : Data) (text : Text) (o : Option Text) → depth value ≤ m
 raw_reads value text None le h = h.reads_back le
 raw_reads value text (Some s) le h = h
 
-pub reads_back : (layout : Layout) (value : Data) (text : Text) → depth value ≤ max_depth → Shows layout value text → ReadsBack layout value text
+pub reads_back : (layout : Layout) (value : Data) (text : Text) → depth value ≤ max_depth → ShowsInLayout layout value text → ReadsBack layout value text
 reads_back Kept value text le h = h.reads_back le
 reads_back Compact value text le h = h.reads_back le
 reads_back Pretty value text le h = h.reads_back le
@@ -45,7 +46,7 @@ reads_back Sorted value text le h = h.reads_back le
 reads_back SortedPretty value text le h = h.reads_back le
 reads_back Raw value text le h = raw_reads value text (as_str value) le h
 
-pub patch_reads : (layout : Layout) (os : List Operation) (text : Text) → depth (document_of os) ≤ max_depth → Shows layout (document_of os) text → read text ≡ Some (document_of os)
+pub patch_reads : (layout : Layout) (os : List Operation) (text : Text) → depth (document_of os) ≤ max_depth → ShowsInLayout layout (document_of os) text → read text ≡ Some (document_of os)
 patch_reads Kept os text le h = h.reads_back le
 patch_reads Compact os text le h = h.reads_back le
 patch_reads Pretty os text le h = h.reads_back le
@@ -53,27 +54,12 @@ patch_reads Sorted os text le h = h.reads_back le
 patch_reads SortedPretty os text le h = h.reads_back le
 patch_reads Raw os text le h = h.reads_back le
 
-pub patch_fault : (n m : NodeMap) (os : List Operation) (e : Failure) → Patches n os m → IsPatchTextFault os e → FailsToDiffer n m e
-patch_fault n m os (BadPointer f) turns h = absurd h
-patch_fault n m os (NotPatch f) turns h = absurd h
-patch_fault n m os (NoValue f) turns h = absurd h
-patch_fault n m os (BadPlace f) turns h = absurd h
-patch_fault n m os NotThere turns h = absurd h
-patch_fault n m os (BadPatch f) turns h = absurd h
-patch_fault n m os TooDeep turns h = absurd h
-patch_fault n m os NotInPlace turns h = absurd h
-patch_fault n m os NotLocated turns h = absurd h
+pub patch_fault : (n m : NodeMap) (os : List Operation) (e : TaskError) → Patches n os m → IsPatchTextFault os e → FailsToDiffer n m e
 patch_fault n m os PatchTooDeep turns h = (os, turns, h)
-patch_fault n m os LineBreak turns h = absurd h
-patch_fault n m os (BadLine number f) turns h = absurd h
-patch_fault n m os NotUtf8 turns h = absurd h
-patch_fault n m os NotJson turns h = absurd h
-patch_fault n m os ArgumentNotJson turns h = absurd h
 patch_fault n m os (Memory f) turns h = tt
-patch_fault n m os Read turns h = absurd h
-patch_fault n m os Write turns h = absurd h
+patch_fault n m os other turns h = absurd h
 
-shown_reads : (layout : Layout) (text out : Text) (d e : Data) → read text ≡ Some d → read text ≡ Some e → Shows layout e out → ReadsBack layout d out
+shown_reads : (layout : Layout) (text out : Text) (d e : Data) → read text ≡ Some d → read text ≡ Some e → ShowsInLayout layout e out → ReadsBack layout d out
 shown_reads layout text out d e reads again h =
     let whole : Some e ≡ Some d = sym again ∙ reads in
     let same : e ≡ d = cc in
@@ -100,25 +86,14 @@ restyled Raw text out d reads h =
     unquoted text out d (as_str d) reads (subst (λ (v : Data). MatchOption (as_str v) (out ≡ text) (λ s. out ≡ s)) same h.2)
 
 -- without these four reasons, only a failed allocation is left, and that the edit is not made in place
-pub no_fault : (a : Text) (p : Data) (layout : Layout) (e : Failure) → ((f : PatchDocumentError) → IsNoPatch p f → ⊥) → (read a ≡ None → ⊥) → ((os : List Operation) (d : Data) (f : PatchError) → IsPatch p os → read a ≡ Some d → RefusesPatchBy Numeric (nodes d) os f → ⊥) → ((os : List Operation) → IsPatch p os → IsPatchFault a os edit.TooDeep → ⊥) → FailsToPatch a p layout e → ((f : AllocError) × (e ≡ Memory f)) ⊎ ((layout ≡ Kept) × (e ≡ NotInPlace))
-no_fault a p layout (BadPointer f) patch json refused deep h = absurd h
+pub no_fault : (a : Text) (p : Data) (layout : Layout) (e : TaskError) → ((f : PatchDocumentError) → IsNoPatch p f → ⊥) → (read a ≡ None → ⊥) → ((os : List Operation) (d : Data) (f : PatchError) → IsPatch p os → read a ≡ Some d → RefusesPatchBy Numeric (nodes d) os f → ⊥) → ((os : List Operation) → IsPatch p os → IsPatchFault a os edit.TooDeep → ⊥) → FailsToPatch a p layout e → ((f : AllocError) × (e ≡ Memory f)) ⊎ ((layout ≡ Kept) × (e ≡ NotInPlace))
 no_fault a p layout (NotPatch f) patch json refused deep h = absurd (patch f h)
-no_fault a p layout (NoValue f) patch json refused deep h = absurd h
-no_fault a p layout (BadPlace f) patch json refused deep h = absurd h
-no_fault a p layout NotThere patch json refused deep h = absurd h
 no_fault a p layout (BadPatch f) patch json refused deep h = absurd (refused h.0 h.1 f h.2 h.3 h.4)
 no_fault a p layout TooDeep patch json refused deep h = absurd (deep h.0 h.1 h.2)
 no_fault a p layout NotInPlace patch json refused deep h = inr (h.0, refl)
-no_fault a p layout NotLocated patch json refused deep h = absurd h
-no_fault a p layout PatchTooDeep patch json refused deep h = absurd h
-no_fault a p layout LineBreak patch json refused deep h = absurd h
-no_fault a p layout (BadLine number f) patch json refused deep h = absurd h
-no_fault a p layout NotUtf8 patch json refused deep h = absurd h
 no_fault a p layout NotJson patch json refused deep h = absurd (json h.1)
-no_fault a p layout ArgumentNotJson patch json refused deep h = absurd h
 no_fault a p layout (Memory f) patch json refused deep h = inl (f, refl)
-no_fault a p layout Read patch json refused deep h = absurd h
-no_fault a p layout Write patch json refused deep h = absurd h
+no_fault a p layout other patch json refused deep h = absurd h
 
 -- a text is read as one document
 pub one_read : (text : Text) (d e : Data) → read text ≡ Some d → read text ≡ Some e → d ≡ e

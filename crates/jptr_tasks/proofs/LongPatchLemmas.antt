@@ -3,15 +3,15 @@ use Rattle.std.proofs.Common.{◌≡◌, Some, Result, Ok, Err, IfOk, String, st
 use Rattle.std.specs.declared.alloc.Global.{Global}
 use Rattle.serde_json.specs.Data.{Data}
 use Rattle.serde_json.specs.Read.{read}
-use Rattle.jsonptr_grammar.specs.Text.{Text}
-use Rattle.jsonptr_tree.specs.Json.{nodes}
-use Rattle.jsonptr_tree.specs.Node.{NodeMap}
+use Rattle.jsonptr.specs.Text.{Text}
+use Rattle.jsonptr.specs.Json.{nodes}
+use Rattle.jsonptr.specs.Node.{NodeMap}
 use Rattle.jsonptr_patch.specs.Patching.{PatchesBy}
 use Rattle.jsonptr_patch.specs.declared.comparison.Comparison.TheVariants.{Numeric}
 use Rattle.jsonptr_edit_in_text.specs.InPlace.{StaysOneLine}
 use Rattle.jptr_tasks.specs.Results.{PatchesInLayout}
 use Rattle.jptr_tasks.specs.PrivateResults.{PatchedBy, Remakes, ReadsSame}
-use Rattle.jptr_tasks.specs.declared.failure.Failure.{Failure}
+use Rattle.jptr_tasks.specs.declared.task_error.TaskError.{TaskError}
 use Rattle.jptr_tasks.specs.declared.layout.Layout.{Layout}
 use Rattle.jptr_tasks.specs.declared.layout.Layout.TheVariants.{Kept}
 
@@ -23,12 +23,12 @@ read_same text patch printed new h same =
     let map : nodes h.2.1 ≡ nodes same.2.0 = ap nodes one ∙ sym same.2.2 in
     (h.0, h.1, (h.2.0, same.2.0, h.2.2, same.2.1, subst (λ (m : NodeMap). PatchesBy Numeric (nodes h.2.0) h.0 m) map h.2.4))
 
-pub long_kept : (text : Text) (patch : Data) (r : Result (String Global) Failure)
+pub long_kept : (text : Text) (patch : Data) (r : Result (String Global) TaskError)
     → IfOk r (λ s. PatchedBy text patch (string_bytes s)) → IfOk r (λ s. StaysOneLine text (string_bytes s)) → IfOk r (λ s. PatchesInLayout text patch Kept (string_bytes s))
 long_kept text patch (Ok s) h line = (h.0, string_bytes s, h.1, h.2, refl, λ e. line)
 long_kept text patch (Err f) h line = tt
 
-pub long_laid_out : (text : Text) (patch : Data) (layout : Layout) (r : Result (String Global) Failure)
+pub long_laid_out : (text : Text) (patch : Data) (layout : Layout) (r : Result (String Global) TaskError)
     → (layout ≡ Kept → ⊥) → IfOk r (λ s. Remakes (PatchedBy text patch) layout (string_bytes s)) → IfOk r (λ s. PatchesInLayout text patch layout (string_bytes s))
 long_laid_out text patch layout (Ok s) other h = (h.1.0, h.0, h.1.1, h.1.2, h.2, λ e. absurd (other e))
 long_laid_out text patch layout (Err f) other h = tt

@@ -7,13 +7,13 @@ use Rattle.json.specs.Reads.{token_of}
 use Rattle.json.specs.declared.token.Token.{Token}
 use Rattle.json.specs.declared.token.Token.TheVariants.{BeginObject, EndObject, BeginArray, EndArray, Key, String as text, Number, Bool as truth, Null, Bad}
 use Rattle.serde_json.specs.Data.{Data}
-use Rattle.jsonptr_grammar.specs.Text.{Text}
-use Rattle.jsonptr_json_search.specs.Reading.{Reads}
+use Rattle.jsonptr.specs.Text.{Text}
+use Rattle.jsonptr_json_search.specs.Reading.{ReadsTokens}
 use Rattle.jptr_tasks.specs.Nodes.{AreMembers}
 
 -- one member more
 one_member : (old : List spec.Token) (ks : List Text) (mid at new : List spec.Token) (k : Text) (d : Data)
-    → AreMembers old ks mid → read_key mid ≡ Some (Some k, at) → Reads 126 at d new → AreMembers old (ks ++ k ∷ []) new
+    → AreMembers old ks mid → read_key mid ≡ Some (Some k, at) → ReadsTokens 126 at d new → AreMembers old (ks ++ k ∷ []) new
 one_member old [] mid at new k d h r s = (at, new, d, subst (λ (ts : List spec.Token). read_key ts ≡ Some (Some k, at)) h r, s, refl)
 one_member old (x ∷ ks) mid at new k d h r s = (h.0, h.1, h.2, h.3, h.4, one_member h.1 ks mid at new k d h.5 r s)
 
@@ -24,7 +24,7 @@ mapped (s ∷ before) key = ap (λ (ts : List Text). string_bytes s ∷ ts) (map
 
 -- the same with the keys as strings
 pub one_key : (old : List spec.Token) (before after : List (String Global)) (key : String Global) (mid at new : List spec.Token) (k : Text) (d : Data)
-    → AreMembers old (map string_bytes before) mid → after ≡ before ++ key ∷ [] → string_bytes key ≡ k → read_key mid ≡ Some (Some k, at) → Reads 126 at d new
+    → AreMembers old (map string_bytes before) mid → after ≡ before ++ key ∷ [] → string_bytes key ≡ k → read_key mid ≡ Some (Some k, at) → ReadsTokens 126 at d new
     → AreMembers old (map string_bytes after) new
 one_key old before after key mid at new k d h e n r s =
     let there : read_key mid ≡ Some (Some (string_bytes key), at) = r ∙ ap (λ (t : Text). Some (Some t, at)) (sym n) in

@@ -7,12 +7,12 @@ use Rattle.serde_json.specs.Read.{read, max_depth}
 use Rattle.serde_json.specs.View.{view}
 use Rattle.serde_json.specs.declared.value.Value.{Value}
 use Rattle.serde_json.proofs.Nesting.{depth-read}
-use Rattle.jsonptr_grammar.specs.Text.{Text}
-use Rattle.jsonptr_lines.specs.Lines.{IsOneLine}
-use Rattle.jsonptr_tree.specs.Assigning.{Assigns}
-use Rattle.jsonptr_tree.specs.Following.{Finds}
-use Rattle.jsonptr_tree.specs.Json.{nodes, FindsValue, HasSortedKeys}
-use Rattle.jsonptr_tree.specs.Node.{NodeMap, Names}
+use Rattle.jsonptr.specs.Text.{Text}
+use Rattle.jsonptr_io.specs.Lines.{IsOneLine}
+use Rattle.jsonptr.specs.Assigning.{Assigns}
+use Rattle.jsonptr.specs.Following.{Finds}
+use Rattle.jsonptr.specs.Json.{nodes, FindsValue, HasSortedKeys}
+use Rattle.jsonptr.specs.Node.{NodeMap, Names}
 use Rattle.jsonptr_tree.proofs.JsonLemmas.{FindsValue-Finds}
 use Rattle.jsonptr.specs.Assign.{RefusesAssign}
 use Rattle.jsonptr.specs.Documents.{IsDocument}
@@ -33,17 +33,17 @@ use Rattle.jsonptr_patch_document.specs.Same.{AreSameOperations}
 use Rattle.jsonptr_patch_document.proofs.SameLemmas.{same_effects}
 use Rattle.jsonptr_patch_document.specs.declared.error.PatchDocumentError.{PatchDocumentError}
 use Rattle.jsonptr_in_text.specs.InText.{FindsInText, RefusesInText}
-use Rattle.jsonptr_edit_in_text.specs.Carrying.{value_of}
+use Rattle.jsonptr_edit_in_text.specs.Carrying.{value_of_raw}
 use Rattle.jsonptr_edit_in_text.specs.EditInText.{AssignsInText, DeletesInText, IsAssignError, LacksInText}
 use Rattle.jsonptr_edit_in_text.specs.PatchInText.{PatchesInText, IsPatchFault}
 use Rattle.jsonptr_edit_in_text.specs.declared.edited.EditError.TheVariants as edit
-use Rattle.jptr_tasks.specs.Documents.{FailsOn}
+use Rattle.jptr_tasks.specs.Documents.{TaskFailsOn}
 use Rattle.jptr_tasks.specs.Layouts.{CanBreak}
 use Rattle.jptr_tasks.specs.LineResults.{IsLineFault, StopsRun}
 use Rattle.jptr_tasks.specs.OneError.{TaskHasSortedKeys, IsOfPlace}
 use Rattle.jptr_tasks.specs.Results.{Gets, FailsToGet, FailsToSet, FailsToDelete, FailsToPatch, Yields, Fails}
-use Rattle.jptr_tasks.specs.declared.failure.Failure.{Failure}
-use Rattle.jptr_tasks.specs.declared.failure.Failure.TheVariants.{NotPatch, NoValue, BadPlace, NotThere, BadPatch, TooDeep, NotInPlace, NotLocated, LineBreak, NotJson, Memory, Read, Write}
+use Rattle.jptr_tasks.specs.declared.task_error.TaskError.{TaskError}
+use Rattle.jptr_tasks.specs.declared.task_error.TaskError.TheVariants.{NotPatch, NoValue, BadPlace, NotThere, BadPatch, TooDeep, NotInPlace, NotLocated, LineBreak, NotJson, Memory, Read, Write}
 use Rattle.jptr_tasks.specs.declared.layout.Layout.{Layout}
 use Rattle.jptr_tasks.specs.declared.layout.Layout.TheVariants.{Kept}
 use Rattle.jptr_tasks.specs.declared.task.Task.{Task}
@@ -71,14 +71,14 @@ module _
   found_refused v e h k =
       not_both (nodes k.0) ts (nodes v) e (FindsValue-Finds k.0 ts v (subst (λ (d : Data). FindsValue d ts v) (one_read text h.0 k.0 h.1 k.1) h.2)) k.2
 
-  get_json : (f : Failure) → (StopsRun f → ⊥) → read text ≡ None → FailsToGet text ts fallback f → NotJson ≡ f
+  get_json : (f : TaskError) → (StopsRun f → ⊥) → read text ≡ None → FailsToGet text ts fallback f → NotJson ≡ f
   get_json NotJson going none h = refl
   get_json (NoValue e) going none h = absurd (is_json text h.1.0 h.1.1 none)
   get_json NotLocated going none h = absurd (is_json text h.1.0 h.1.1 none)
   get_json (Memory e) going none h = absurd (going tt)
   get_json f going none h = absurd h
 
-  get_value : (e : resolve.Error) (f : Failure) → (StopsRun f → ⊥) → RefusesInText text ts e → FailsToGet text ts fallback f → NoValue e ≡ f
+  get_value : (e : resolve.Error) (f : TaskError) → (StopsRun f → ⊥) → RefusesInText text ts e → FailsToGet text ts fallback f → NoValue e ≡ f
   get_value e NotJson going refused h = absurd (is_json text refused.0 refused.1 h)
   get_value e (NoValue g) going refused h =
       ap NoValue (one (nodes h.1.0) ts e g (subst (λ (d : Data). Refuses (nodes d) ts e) (one_read text refused.0 h.1.0 refused.1 h.1.1) refused.2) h.1.2)
@@ -86,14 +86,14 @@ module _
   get_value e (Memory g) going refused h = absurd (going tt)
   get_value e f going refused h = absurd h
 
-  get_located : (v : Data) (f : Failure) → (StopsRun f → ⊥) → FindsInText text ts v → FailsToGet text ts fallback f → NotLocated ≡ f
+  get_located : (v : Data) (f : TaskError) → (StopsRun f → ⊥) → FindsInText text ts v → FailsToGet text ts fallback f → NotLocated ≡ f
   get_located v NotJson going found h = absurd (is_json text found.0 found.1 h)
   get_located v (NoValue g) going found h = absurd (found_refused v g found h.1)
   get_located v NotLocated going found h = refl
   get_located v (Memory g) going found h = absurd (going tt)
   get_located v f going found h = absurd h
 
-  get_one : (e f : Failure) → (StopsRun e → ⊥) → (StopsRun f → ⊥) → FailsToGet text ts fallback e → FailsToGet text ts fallback f → e ≡ f
+  get_one : (e f : TaskError) → (StopsRun e → ⊥) → (StopsRun f → ⊥) → FailsToGet text ts fallback e → FailsToGet text ts fallback f → e ≡ f
   get_one NotJson f going on h k = get_json f on h k
   get_one (NoValue e) f going on h k = get_value e f on h.1 k
   get_one NotLocated f going on h k = get_located h.0 f on h.1 k
@@ -111,7 +111,7 @@ module _
       let wrong : ⊥ = cc in
       wrong
 
-  get_not_both : (layout : Layout) (out : Text) (e : Failure) → Gets text ts fallback layout out → FailsToGet text ts fallback e → StopsRun e ⊎ (e ≡ NotLocated)
+  get_not_both : (layout : Layout) (out : Text) (e : TaskError) → Gets text ts fallback layout out → FailsToGet text ts fallback e → StopsRun e ⊎ (e ≡ NotLocated)
   get_not_both layout out NotJson got h = absurd (got_read layout out got h)
   get_not_both layout out (NoValue e) got h = absurd (got_value layout out e got h.0 h.1)
   get_not_both layout out NotLocated got h = inr refl
@@ -146,7 +146,7 @@ module _
       let same = one_made (nodes k.0) ts (nodes v) h.1 (nodes k.1) h.2 k.4 again k.5 in
       h.5 sorted (subst (NestsWithin max_depth) (sym same.0) (within new k.1 k.3))
 
-  set_json : (f : Failure) → (StopsRun f → ⊥) → read text ≡ None → FailsToSet text ts v layout f → NotJson ≡ f
+  set_json : (f : TaskError) → (StopsRun f → ⊥) → read text ≡ None → FailsToSet text ts v layout f → NotJson ≡ f
   set_json NotJson going none h = refl
   set_json (BadPlace e) going none h = absurd (is_json text h.0 h.1 none)
   set_json TooDeep going none h = absurd (is_json text h.0 h.3 none)
@@ -154,7 +154,7 @@ module _
   set_json (Memory e) going none h = absurd (going tt)
   set_json f going none h = absurd h
 
-  set_place : (e : assign.Error) (f : Failure) → (StopsRun f → ⊥) → Misplaced e → FailsToSet text ts v layout f → BadPlace e ≡ f
+  set_place : (e : assign.Error) (f : TaskError) → (StopsRun f → ⊥) → Misplaced e → FailsToSet text ts v layout f → BadPlace e ≡ f
   set_place e NotJson going at h = absurd (is_json text at.0 at.1 h)
   set_place e (BadPlace g) going at h =
       ap BadPlace (one (nodes h.0) ts e g (subst (λ (d : Data). RefusesAssign (nodes d) ts e) (one_read text at.0 h.0 at.1 h.1) at.2) h.2)
@@ -163,7 +163,7 @@ module _
   set_place e (Memory g) going at h = absurd (going tt)
   set_place e f going at h = absurd h
 
-  set_deep : (f : Failure) → (StopsRun f → ⊥) → IsDeep → FailsToSet text ts v layout f → TooDeep ≡ f
+  set_deep : (f : TaskError) → (StopsRun f → ⊥) → IsDeep → FailsToSet text ts v layout f → TooDeep ≡ f
   set_deep NotJson going deep h = absurd (is_json text deep.0 deep.3 h)
   set_deep (BadPlace g) going deep h = absurd (place_deep g h deep)
   set_deep TooDeep going deep h = refl
@@ -171,7 +171,7 @@ module _
   set_deep (Memory g) going deep h = absurd (going tt)
   set_deep f going deep h = absurd h
 
-  set_done : (new : Text) (f : Failure) → Assigned new → FailsToSet text ts v layout f → StopsRun f ⊎ ((layout ≡ Kept) × (f ≡ NotInPlace))
+  set_done : (new : Text) (f : TaskError) → Assigned new → FailsToSet text ts v layout f → StopsRun f ⊎ ((layout ≡ Kept) × (f ≡ NotInPlace))
   set_done new NotJson done h = absurd (is_json text done.0 done.2 h)
   set_done new (BadPlace g) done h = absurd (place_assigned g new h done)
   set_done new TooDeep done h = absurd (deep_assigned new h done)
@@ -179,11 +179,11 @@ module _
   set_done new (Memory g) done h = inl tt
   set_done new f done h = absurd h
 
-  set_in_place : (f : Failure) → (StopsRun f → ⊥) → StopsRun f ⊎ ((layout ≡ Kept) × (f ≡ NotInPlace)) → NotInPlace ≡ f
+  set_in_place : (f : TaskError) → (StopsRun f → ⊥) → StopsRun f ⊎ ((layout ≡ Kept) × (f ≡ NotInPlace)) → NotInPlace ≡ f
   set_in_place f going (inl x) = absurd (going x)
   set_in_place f going (inr x) = sym x.1
 
-  set_one : (e f : Failure) → (StopsRun e → ⊥) → (StopsRun f → ⊥) → FailsToSet text ts v layout e → FailsToSet text ts v layout f → e ≡ f
+  set_one : (e f : TaskError) → (StopsRun e → ⊥) → (StopsRun f → ⊥) → FailsToSet text ts v layout e → FailsToSet text ts v layout f → e ≡ f
   set_one NotJson f going on h k = set_json f on h k
   set_one (BadPlace e) f going on h k = set_place e f on h k
   set_one TooDeep f going on h k = set_deep f on h k
@@ -197,32 +197,32 @@ module _ (text : Text) (ts : List Text) (layout : Layout) where
   lacks_deleted : (new : Text) → LacksInText text ts → DeletesInText text ts new → ⊥
   lacks_deleted new h k = h.2 k.4.0 (subst (λ (d : Data). Names (nodes d) ts k.4.0) (one_read text k.0 h.0 k.2 h.1) k.4.1)
 
-  delete_json : (f : Failure) → (StopsRun f → ⊥) → read text ≡ None → FailsToDelete text ts layout f → NotJson ≡ f
+  delete_json : (f : TaskError) → (StopsRun f → ⊥) → read text ≡ None → FailsToDelete text ts layout f → NotJson ≡ f
   delete_json NotJson going none h = refl
   delete_json NotThere going none h = absurd (is_json text h.0 h.1 none)
   delete_json NotInPlace going none h = absurd (is_json text h.1.1.0 h.1.1.2 none)
   delete_json (Memory e) going none h = absurd (going tt)
   delete_json f going none h = absurd h
 
-  delete_there : (f : Failure) → (StopsRun f → ⊥) → LacksInText text ts → FailsToDelete text ts layout f → NotThere ≡ f
+  delete_there : (f : TaskError) → (StopsRun f → ⊥) → LacksInText text ts → FailsToDelete text ts layout f → NotThere ≡ f
   delete_there NotJson going lacks h = absurd (is_json text lacks.0 lacks.1 h)
   delete_there NotThere going lacks h = refl
   delete_there NotInPlace going lacks h = absurd (lacks_deleted h.1.0 lacks h.1.1)
   delete_there (Memory e) going lacks h = absurd (going tt)
   delete_there f going lacks h = absurd h
 
-  delete_done : (new : Text) (f : Failure) → DeletesInText text ts new → FailsToDelete text ts layout f → StopsRun f ⊎ ((layout ≡ Kept) × (f ≡ NotInPlace))
+  delete_done : (new : Text) (f : TaskError) → DeletesInText text ts new → FailsToDelete text ts layout f → StopsRun f ⊎ ((layout ≡ Kept) × (f ≡ NotInPlace))
   delete_done new NotJson done h = absurd (is_json text done.0 done.2 h)
   delete_done new NotThere done h = absurd (lacks_deleted new h done)
   delete_done new NotInPlace done h = inr (h.0, refl)
   delete_done new (Memory e) done h = inl tt
   delete_done new f done h = absurd h
 
-  delete_in_place : (f : Failure) → (StopsRun f → ⊥) → StopsRun f ⊎ ((layout ≡ Kept) × (f ≡ NotInPlace)) → NotInPlace ≡ f
+  delete_in_place : (f : TaskError) → (StopsRun f → ⊥) → StopsRun f ⊎ ((layout ≡ Kept) × (f ≡ NotInPlace)) → NotInPlace ≡ f
   delete_in_place f going (inl x) = absurd (going x)
   delete_in_place f going (inr x) = sym x.1
 
-  delete_one : (e f : Failure) → (StopsRun e → ⊥) → (StopsRun f → ⊥) → FailsToDelete text ts layout e → FailsToDelete text ts layout f → e ≡ f
+  delete_one : (e f : TaskError) → (StopsRun e → ⊥) → (StopsRun f → ⊥) → FailsToDelete text ts layout e → FailsToDelete text ts layout f → e ≡ f
   delete_one NotJson f going on h k = delete_json f on h k
   delete_one NotThere f going on h k = delete_there f on h k
   delete_one NotInPlace f going on h k = delete_in_place f on (delete_done h.1.0 f h.1.1 k)
@@ -267,7 +267,7 @@ module _
       let same = one_map (nodes k.0) h.2.1 (nodes k.1) ps (is_document k.0) (again_patched h.0 ps h.2.0 k.0 h.2.1 h.1 is h.2.2 k.2 h.2.3) k.4 in
       h.2.4 (keys patch h.0 sorted h.1) (subst (NestsWithin max_depth) (sym same) (within new k.1 k.3))
 
-  patch_not : (e : PatchDocumentError) (f : Failure) → (StopsRun f → ⊥) → IsNoPatch patch e → FailsToPatch text patch layout f → NotPatch e ≡ f
+  patch_not : (e : PatchDocumentError) (f : TaskError) → (StopsRun f → ⊥) → IsNoPatch patch e → FailsToPatch text patch layout f → NotPatch e ≡ f
   patch_not e (NotPatch g) going bad h = ap NotPatch (one_no patch e g bad h)
   patch_not e NotJson going bad h = absurd (no_both patch h.0.0 e h.0.1 bad)
   patch_not e (BadPatch g) going bad h = absurd (no_both patch h.0 e h.2 bad)
@@ -276,7 +276,7 @@ module _
   patch_not e (Memory g) going bad h = absurd (going tt)
   patch_not e f going bad h = absurd h
 
-  patch_json : (os : List Operation) (f : Failure) → (StopsRun f → ⊥) → IsPatch patch os → read text ≡ None → FailsToPatch text patch layout f → NotJson ≡ f
+  patch_json : (os : List Operation) (f : TaskError) → (StopsRun f → ⊥) → IsPatch patch os → read text ≡ None → FailsToPatch text patch layout f → NotJson ≡ f
   patch_json os (NotPatch g) going is none h = absurd (no_both patch os g is h)
   patch_json os NotJson going is none h = refl
   patch_json os (BadPatch g) going is none h = absurd (is_json text h.1 h.3 none)
@@ -285,7 +285,7 @@ module _
   patch_json os (Memory g) going is none h = absurd (going tt)
   patch_json os f going is none h = absurd h
 
-  patch_stuck : (e : PatchError) (f : Failure) → (StopsRun f → ⊥) → Stuck e → FailsToPatch text patch layout f → BadPatch e ≡ f
+  patch_stuck : (e : PatchError) (f : TaskError) → (StopsRun f → ⊥) → Stuck e → FailsToPatch text patch layout f → BadPatch e ≡ f
   patch_stuck e (NotPatch g) going at h = absurd (no_both patch at.0 g at.2 h)
   patch_stuck e NotJson going at h = absurd (is_json text at.1 at.3 h.1)
   patch_stuck e (BadPatch g) going at h =
@@ -295,7 +295,7 @@ module _
   patch_stuck e (Memory g) going at h = absurd (going tt)
   patch_stuck e f going at h = absurd h
 
-  patch_deep : (f : Failure) → (StopsRun f → ⊥) → IsDeepPatch → FailsToPatch text patch layout f → TooDeep ≡ f
+  patch_deep : (f : TaskError) → (StopsRun f → ⊥) → IsDeepPatch → FailsToPatch text patch layout f → TooDeep ≡ f
   patch_deep (NotPatch g) going deep h = absurd (no_both patch deep.0 g deep.1 h)
   patch_deep NotJson going deep h = absurd (is_json text deep.2.0 deep.2.2 h.1)
   patch_deep (BadPatch g) going deep h = absurd (stuck_deep g h deep)
@@ -304,7 +304,7 @@ module _
   patch_deep (Memory g) going deep h = absurd (going tt)
   patch_deep f going deep h = absurd h
 
-  patch_done : (ps : List Operation) (new : Text) (f : Failure) → IsPatch patch ps → PatchesInText text ps new → FailsToPatch text patch layout f → StopsRun f ⊎ ((layout ≡ Kept) × (f ≡ NotInPlace))
+  patch_done : (ps : List Operation) (new : Text) (f : TaskError) → IsPatch patch ps → PatchesInText text ps new → FailsToPatch text patch layout f → StopsRun f ⊎ ((layout ≡ Kept) × (f ≡ NotInPlace))
   patch_done ps new (NotPatch g) is done h = absurd (no_both patch ps g is h)
   patch_done ps new NotJson is done h = absurd (is_json text done.0 done.2 h.1)
   patch_done ps new (BadPatch g) is done h = absurd (stuck_patched g ps new h is done)
@@ -313,11 +313,11 @@ module _
   patch_done ps new (Memory g) is done h = inl tt
   patch_done ps new f is done h = absurd h
 
-  patch_in_place : (f : Failure) → (StopsRun f → ⊥) → StopsRun f ⊎ ((layout ≡ Kept) × (f ≡ NotInPlace)) → NotInPlace ≡ f
+  patch_in_place : (f : TaskError) → (StopsRun f → ⊥) → StopsRun f ⊎ ((layout ≡ Kept) × (f ≡ NotInPlace)) → NotInPlace ≡ f
   patch_in_place f going (inl x) = absurd (going x)
   patch_in_place f going (inr x) = sym x.1
 
-  patch_one : (e f : Failure) → (StopsRun e → ⊥) → (StopsRun f → ⊥) → FailsToPatch text patch layout e → FailsToPatch text patch layout f → e ≡ f
+  patch_one : (e f : TaskError) → (StopsRun e → ⊥) → (StopsRun f → ⊥) → FailsToPatch text patch layout e → FailsToPatch text patch layout f → e ≡ f
   patch_one (NotPatch e) f going on h k = patch_not e f on h k
   patch_one NotJson f going on h k = patch_json h.0.0 f on h.0.1 h.1 k
   patch_one (BadPatch e) f going on h k = patch_stuck e f on h k
@@ -341,25 +341,25 @@ module _
     (patched_both : (n m : NodeMap) (os : List Operation) (e : PatchError) → IsDocument n → PatchesBy Numeric n os m → RefusesPatchBy Numeric n os e → ⊥)
     (patched_one : (n m l : NodeMap) (os : List Operation) → IsDocument n → PatchesBy Numeric n os m → PatchesBy Numeric n os l → m ≡ l)
     (stuck_one : (n : NodeMap) (os : List Operation) (e f : PatchError) → IsDocument n → RefusesPatchBy Numeric n os e → RefusesPatchBy Numeric n os f → e ≡ f) where
-  pub one_error : (task : Task) (layout : Layout) (text : Text) (e f : Failure) → TaskHasSortedKeys task → (StopsRun e → ⊥) → (StopsRun f → ⊥) → Fails task layout text e → Fails task layout text f → e ≡ f
+  pub one_error : (task : Task) (layout : Layout) (text : Text) (e f : TaskError) → TaskHasSortedKeys task → (StopsRun e → ⊥) → (StopsRun f → ⊥) → Fails task layout text e → Fails task layout text f → e ≡ f
   one_error (Get p fallback) layout text e f sorted = get_one found_both found_one text (tokens p) fallback e f
-  one_error (Set p v) layout text e f sorted = set_one made_both made_one place_one text (tokens p) (value_of v) layout sorted e f
+  one_error (Set p v) layout text e f sorted = set_one made_both made_one place_one text (tokens p) (value_of_raw v) layout sorted e f
   one_error (Delete p) layout text e f sorted = delete_one text (tokens p) layout e f
   one_error (Patch p) layout text e f sorted = patch_one one_patch one_no no_both keys patched_both patched_one stuck_one text (view p.document) layout sorted e f
 
-  pub no_error : (task : Task) (layout : Layout) (text out : Text) (e : Failure) → TaskHasSortedKeys task → Yields task layout text out → Fails task layout text e → StopsRun e ⊎ IsOfPlace task layout e
+  pub no_error : (task : Task) (layout : Layout) (text out : Text) (e : TaskError) → TaskHasSortedKeys task → Yields task layout text out → Fails task layout text e → StopsRun e ⊎ IsOfPlace task layout e
   no_error (Get p fallback) layout text out e sorted h = get_not_both found_both found_one text (tokens p) fallback layout out e h
-  no_error (Set p v) layout text out e sorted h = set_done made_both made_one place_one text (tokens p) (value_of v) layout sorted h.0 e h.1
+  no_error (Set p v) layout text out e sorted h = set_done made_both made_one place_one text (tokens p) (value_of_raw v) layout sorted h.0 e h.1
   no_error (Delete p) layout text out e sorted h = delete_done text (tokens p) layout h.0 e h.1
   no_error (Patch p) layout text out e sorted h = patch_done one_patch one_no no_both keys patched_both patched_one stuck_one text (view p.document) layout sorted h.0.0 h.0.1 e h.0.2 h.0.3
 
   -- of bytes
-  on_bytes : (task : Task) (layout : Layout) (bytes : List ℕ) (e : Failure) → (StopsRun e → ⊥) → FailsOn task layout bytes e → (IsUtf8 bytes → Fails task layout bytes e) × ((e ≡ NotJson) ⊎ IsUtf8 bytes)
+  on_bytes : (task : Task) (layout : Layout) (bytes : List ℕ) (e : TaskError) → (StopsRun e → ⊥) → TaskFailsOn task layout bytes e → (IsUtf8 bytes → Fails task layout bytes e) × ((e ≡ NotJson) ⊎ IsUtf8 bytes)
   on_bytes task layout bytes NotJson going h = (h, inl refl)
   on_bytes task layout bytes (Memory e) going h = absurd (going tt)
   on_bytes task layout bytes e going h = ((λ utf8. h.1), inr h.0)
 
-  bytes_one : (task : Task) (layout : Layout) (bytes : List ℕ) (e f : Failure) → TaskHasSortedKeys task → (StopsRun e → ⊥) → (StopsRun f → ⊥) → (IsUtf8 bytes → Fails task layout bytes e) × ((e ≡ NotJson) ⊎ IsUtf8 bytes) → (IsUtf8 bytes → Fails task layout bytes f) × ((f ≡ NotJson) ⊎ IsUtf8 bytes) → e ≡ f
+  bytes_one : (task : Task) (layout : Layout) (bytes : List ℕ) (e f : TaskError) → TaskHasSortedKeys task → (StopsRun e → ⊥) → (StopsRun f → ⊥) → (IsUtf8 bytes → Fails task layout bytes e) × ((e ≡ NotJson) ⊎ IsUtf8 bytes) → (IsUtf8 bytes → Fails task layout bytes f) × ((f ≡ NotJson) ⊎ IsUtf8 bytes) → e ≡ f
   bytes_one task layout bytes e f sorted going on h k =
       elim h.1 [
         | inl x ↦ elim k.1 [
@@ -369,7 +369,7 @@ module _
         | inr x ↦ one_error task layout bytes e f sorted going on (h.0 x) (k.0 x)
       ]
 
-  pub one_error_on : (task : Task) (layout : Layout) (bytes : List ℕ) (e f : Failure) → TaskHasSortedKeys task → (StopsRun e → ⊥) → (StopsRun f → ⊥) → FailsOn task layout bytes e → FailsOn task layout bytes f → e ≡ f
+  pub one_error_on : (task : Task) (layout : Layout) (bytes : List ℕ) (e f : TaskError) → TaskHasSortedKeys task → (StopsRun e → ⊥) → (StopsRun f → ⊥) → TaskFailsOn task layout bytes e → TaskFailsOn task layout bytes f → e ≡ f
   one_error_on task layout bytes e f sorted going on h k = bytes_one task layout bytes e f sorted going on (on_bytes task layout bytes e going h) (on_bytes task layout bytes f on k)
 
   -- of a line: no error of a stream is one of a text
@@ -388,7 +388,7 @@ module _
   abbrev BreaksLine : Task → Layout → Text → Type 0
   BreaksLine task layout l = IsLineFault task layout l LineBreak
 
-  on_line : (task : Task) (layout : Layout) (l : Text) (e : Failure) → IsLineFault task layout l e → ((e ≡ LineBreak) × BreaksLine task layout l) ⊎ ((StopsRun e → ⊥) × FailsOn task layout l e)
+  on_line : (task : Task) (layout : Layout) (l : Text) (e : TaskError) → IsLineFault task layout l e → ((e ≡ LineBreak) × BreaksLine task layout l) ⊎ ((StopsRun e → ⊥) × TaskFailsOn task layout l e)
   on_line task layout l NotJson h = inr ((λ s. s), h)
   on_line task layout l LineBreak h = inl (refl, h)
   on_line task layout l (Memory e) h = absurd h
@@ -397,13 +397,13 @@ module _
   on_line task layout l e h = inr ((λ s. s), h)
 
   -- an edit whose result has a line break has a layout that can break
-  not_kept : (task : Task) (layout : Layout) (f : Failure) → CanBreak layout → IsOfPlace task layout f → f ≡ NotLocated
+  not_kept : (task : Task) (layout : Layout) (f : TaskError) → CanBreak layout → IsOfPlace task layout f → f ≡ NotLocated
   not_kept (Get p fallback) layout f breaks h = h
   not_kept (Set p v) layout f breaks h = absurd (subst CanBreak h.0 breaks)
   not_kept (Delete p) layout f breaks h = absurd (subst CanBreak h.0 breaks)
   not_kept (Patch d) layout f breaks h = absurd (subst CanBreak h.0 breaks)
 
-  broken : (task : Task) (layout : Layout) (l : Text) (f : Failure) → TaskHasSortedKeys task → IsOneLine l → BreaksLine task layout l → (StopsRun f → ⊥) → FailsOn task layout l f → f ≡ NotLocated
+  broken : (task : Task) (layout : Layout) (l : Text) (f : TaskError) → TaskHasSortedKeys task → IsOneLine l → BreaksLine task layout l → (StopsRun f → ⊥) → TaskFailsOn task layout l f → f ≡ NotLocated
   broken task layout l f sorted one h going k =
       let fails : Fails task layout l f = (on_bytes task layout l f going k).0 h.0 in
       elim (no_error task layout l h.2.0 f sorted h.2.1 fails) [
@@ -411,7 +411,7 @@ module _
         | inr x ↦ not_kept task layout f (h.1 one) x
       ]
 
-  pub one_line_error : (task : Task) (layout : Layout) (l : Text) (e f : Failure) → TaskHasSortedKeys task → IsOneLine l → IsLineFault task layout l e → IsLineFault task layout l f → (e ≡ f) ⊎ ((e ≡ NotLocated) ⊎ (f ≡ NotLocated))
+  pub one_line_error : (task : Task) (layout : Layout) (l : Text) (e f : TaskError) → TaskHasSortedKeys task → IsOneLine l → IsLineFault task layout l e → IsLineFault task layout l f → (e ≡ f) ⊎ ((e ≡ NotLocated) ⊎ (f ≡ NotLocated))
   one_line_error task layout l e f sorted one h k =
       elim (on_line task layout l e h) [
         | inl x ↦ elim (on_line task layout l f k) [

@@ -1,6 +1,7 @@
 -- What a replacement leaves, step by step.
 use Rattle.std.proofs.Common.{◌≡◌, ◌⊎◌, inl, inr, ⊎_elim, List, [], ◌∷◌, true, false, Result, Ok, Err, OnErr, refl, sym, subst, arith}
-use Rattle.jptr_tasks.specs.Replacement.{Text, AtEachMoment, IsGuarded, LeavesEither, Tries}
+use Rattle.jsonptr.specs.Text.{Text}
+use Rattle.jptr_tasks.specs.Replacement.{AtEachMoment, IsGuarded, LeavesEither, Tries}
 use Rattle.jptr_tasks.specs.PrivateReplacement.{IsSafe, all_calls}
 use Rattle.jptr_tasks.specs.declared.replacement.Event.{Event}
 use Rattle.jptr_tasks.specs.declared.replacement.Event.TheVariants.{Create, Write, TakeRights, Sync, Look, Rename, SyncFolder, Remove}

@@ -5,8 +5,8 @@ use Rattle.std.proofs.lemmas.List.{get_or-append-add, get_or_append_left}
 use Rattle.std.specs.Io.KnownBytes.{Appends}
 use Rattle.std.proofs.KnownBytes.{Appends-nil}
 use Rattle.serde_json.specs.Data.{Data}
-use Rattle.jsonptr_grammar.specs.Text.{Text}
-use Rattle.jsonptr_tree.specs.Json.{nodes}
+use Rattle.jsonptr.specs.Text.{Text}
+use Rattle.jsonptr.specs.Json.{nodes}
 use Rattle.jsonptr_edit_in_text.specs.Bytes.{AssignsBytes}
 use Rattle.jsonptr_edit_in_text.specs.EditInText.{AssignsInText, IsAssignError, DeletesInText}
 use Rattle.jsonptr_edit_in_text.specs.InPlace.{IsInPlaceError, StaysOneLine}
@@ -20,26 +20,27 @@ use Rattle.jsonptr.specs.Pointer.{tokens}
 use Rattle.jsonptr_edit_in_text.specs.declared.edited.EditError.TheVariants as edit
 use Rattle.jsonptr_edit_in_text.specs.declared.in_place.InPlaceError.{InPlaceError}
 use Rattle.jsonptr_edit_in_text.specs.declared.in_place.InPlaceError.TheVariants as in_place
-use Rattle.jsonptr_lines.specs.Lines.{IsOneLine}
+use Rattle.jsonptr_io.specs.Lines.{IsOneLine}
 use Rattle.jsonptr_json_edits.specs.Spacing.{IsBlank}
-use Rattle.jsonptr_lines.specs.Streams.{AppendsPrefix}
+use Rattle.jsonptr_io.specs.Streams.{AppendsPrefix}
 use Rattle.jsonptr_paths.proofs.PlainLemmas.{plain_printed}
 use Rattle.jsonptr.specs.declared.assign.Error as assign
 use Rattle.jsonptr_patch.specs.declared.operation.Operation.{Operation}
 use Rattle.jsonptr_patch_document.specs.Document.{IsPatch}
-use Rattle.jsonptr_edit_in_text.specs.Carrying.{value_of, Carries}
+use Rattle.jsonptr_edit_in_text.specs.Carrying.{value_of_raw, Carries}
 use Rattle.jsonptr_edit_in_text.specs.PatchInText.{PatchesInText}
 use Rattle.jsonptr_edit_in_text.specs.RawPatching.{operations_in, RawPatchBytes}
 use Rattle.jsonptr_edit_in_text.specs.declared.raw_value.RawValue.{RawValue}
 use Rattle.jsonptr_edit_in_text.proofs.RawLemmas.{patch_bytes}
-use Rattle.jptr_tasks.specs.Layouts.{IsCompact, Lays, CanBreak}
+use Rattle.jsonptr_value.specs.JsonText.{IsCompact}
+use Rattle.jptr_tasks.specs.Layouts.{Lays, CanBreak}
 use Rattle.jptr_tasks.specs.Failures.{of_strict_assign_error}
-use Rattle.jptr_tasks.specs.Results.{Gets, Sets, Deletes, Patches, Yields, FailsToGet, FailsToSet, FailsToPatch}
-use Rattle.jptr_tasks.specs.PrivateResults.{Remakes, FailsToApply, IsRestyleError, PatchedBy}
+use Rattle.jptr_tasks.specs.Results.{Gets, Sets, DeletesInLayout, PatchesRawInLayout, Yields, FailsToGet, FailsToSet, FailsToPatch}
+use Rattle.jptr_tasks.specs.PrivateResults.{Remakes, FailsToApply, IsLayoutError, PatchedBy}
 use Rattle.jptr_tasks.specs.LineResults.{YieldsLine, IsLineFault, IsReport, StopsRun, fallback_line}
 use Rattle.jptr_tasks.specs.PrivateLineResults.{Known, OrMemory, IsNoMemory, IsPut, StopsPut}
-use Rattle.jptr_tasks.specs.declared.failure.Failure.{Failure}
-use Rattle.jptr_tasks.specs.declared.failure.Failure.TheVariants.{BadPointer, NotPatch, NoValue, BadPlace, NotThere, BadPatch, TooDeep, NotInPlace, NotLocated, PatchTooDeep, LineBreak, BadLine, NotUtf8, NotJson, ArgumentNotJson, Memory, Read, Write}
+use Rattle.jptr_tasks.specs.declared.task_error.TaskError.{TaskError}
+use Rattle.jptr_tasks.specs.declared.task_error.TaskError.TheVariants.{NotPatch, BadPatch, TooDeep, NotInPlace, NotJson, Memory, Write}
 use Rattle.jptr_tasks.specs.declared.layout.Layout.{Layout}
 use Rattle.jptr_tasks.specs.declared.layout.Layout.TheVariants.{Kept, Compact, Pretty, Sorted, SortedPretty, Raw}
 use Rattle.jptr_tasks.specs.declared.line.LineTask.{LineTask}
@@ -50,37 +51,37 @@ use Rattle.jptr_tasks.specs.declared.task.Task.TheVariants.{Get, Set, Delete, Pa
 -- ---- edits in place
 
 pub set_kept : (text : Text) (ts : List Text) (raw : RawValue) (out : Text)
-    → AssignsInText text ts (nodes (value_of raw)) out → AssignsBytes text ts (value_of raw) out → Carries (string_bytes raw.text.flat) out → StaysOneLine text out → Sets text ts raw Kept out
+    → AssignsInText text ts (nodes (value_of_raw raw)) out → AssignsBytes text ts (value_of_raw raw) out → Carries (string_bytes raw.text.flat) out → StaysOneLine text out → Sets text ts raw Kept out
 set_kept text ts raw out meaning bytes carries line = (out, meaning, refl, λ e. (bytes, carries, line))
 
-pub patch_kept : (text : Text) (p : RawPatch) (r : Result (String Global) Failure)
-    → IfOk r (λ s. PatchesInText text (operations_in p.operations.items) (string_bytes s)) → IfOk r (λ s. RawPatchBytes text p.operations.items (string_bytes s)) → IfOk r (λ s. StaysOneLine text (string_bytes s)) → IfOk r (λ s. Patches text p Kept (string_bytes s))
+pub patch_kept : (text : Text) (p : RawPatch) (r : Result (String Global) TaskError)
+    → IfOk r (λ s. PatchesInText text (operations_in p.operations.items) (string_bytes s)) → IfOk r (λ s. RawPatchBytes text p.operations.items (string_bytes s)) → IfOk r (λ s. StaysOneLine text (string_bytes s)) → IfOk r (λ s. PatchesRawInLayout text p Kept (string_bytes s))
 patch_kept text p (Ok s) meaning bytes line = ((operations_in p.operations.items, string_bytes s, p.is_patch, meaning, refl, λ e. (patch_bytes text (string_bytes s) p.operations.items bytes, line)), λ e. bytes)
 patch_kept text p (Err f) meaning bytes line = tt
 
 -- ---- documents that are printed anew
 
-pub remade : (P : Text → Type 0) (layout : Layout) (t new : Text) (r : Result (String Global) Failure)
+pub remade : (P : Text → Type 0) (layout : Layout) (t new : Text) (r : Result (String Global) TaskError)
     → P t → new ≡ t → IfOk r (λ s. Lays layout new (string_bytes s)) → IfOk r (λ s. Remakes P layout (string_bytes s))
 remade P layout t new (Ok s) p same h = (new, subst P (sym same) p, h)
 remade P layout t new (Err f) p same h = tt
 
-pub set_anew : (text : Text) (ts : List Text) (raw : RawValue) (layout : Layout) (r : Result (String Global) Failure)
-    → (layout ≡ Kept → ⊥) → IfOk r (λ s. Remakes (AssignsInText text ts (nodes (value_of raw))) layout (string_bytes s)) → IfOk r (λ s. Sets text ts raw layout (string_bytes s))
+pub set_anew : (text : Text) (ts : List Text) (raw : RawValue) (layout : Layout) (r : Result (String Global) TaskError)
+    → (layout ≡ Kept → ⊥) → IfOk r (λ s. Remakes (AssignsInText text ts (nodes (value_of_raw raw))) layout (string_bytes s)) → IfOk r (λ s. Sets text ts raw layout (string_bytes s))
 set_anew text ts raw layout (Ok s) other h = (h.0, h.1, h.2, λ e. absurd (other e))
 set_anew text ts raw layout (Err f) other h = tt
 
-pub delete_anew : (text : Text) (ts : List Text) (layout : Layout) (r : Result (String Global) Failure)
-    → (layout ≡ Kept → ⊥) → IfOk r (λ s. Remakes (DeletesInText text ts) layout (string_bytes s)) → IfOk r (λ s. Deletes text ts layout (string_bytes s))
+pub delete_anew : (text : Text) (ts : List Text) (layout : Layout) (r : Result (String Global) TaskError)
+    → (layout ≡ Kept → ⊥) → IfOk r (λ s. Remakes (DeletesInText text ts) layout (string_bytes s)) → IfOk r (λ s. DeletesInLayout text ts layout (string_bytes s))
 delete_anew text ts layout (Ok s) other h = (h.0, h.1, h.2, λ e. absurd (other e))
 delete_anew text ts layout (Err f) other h = tt
 
-pub patch_anew : (text : Text) (p : RawPatch) (layout : Layout) (r : Result (String Global) Failure)
-    → (layout ≡ Kept → ⊥) → IfOk r (λ s. Remakes (PatchedBy text (view p.document)) layout (string_bytes s)) → IfOk r (λ s. Patches text p layout (string_bytes s))
+pub patch_anew : (text : Text) (p : RawPatch) (layout : Layout) (r : Result (String Global) TaskError)
+    → (layout ≡ Kept → ⊥) → IfOk r (λ s. Remakes (PatchedBy text (view p.document)) layout (string_bytes s)) → IfOk r (λ s. PatchesRawInLayout text p layout (string_bytes s))
 patch_anew text p layout (Ok s) other h = ((h.1.0, h.0, h.1.1, h.1.2, h.2, λ e. absurd (other e)), λ e. absurd (other e))
 patch_anew text p layout (Err f) other h = tt
 
-pub patched_by : (text : Text) (patch : Data) (os : List Operation) (r : Result (String Global) Failure)
+pub patched_by : (text : Text) (patch : Data) (os : List Operation) (r : Result (String Global) TaskError)
     → IsPatch patch os → IfOk r (λ s. PatchesInText text os (string_bytes s)) → IfOk r (λ s. PatchedBy text patch (string_bytes s))
 patched_by text patch os (Ok s) is h = (os, is, h)
 patched_by text patch os (Err f) is h = tt
@@ -96,74 +97,36 @@ set_fails text ts v (in_place.Failed edit.TooDeep) h = h
 set_fails text ts v (in_place.Failed (edit.Memory f)) h = tt
 
 -- the document of a patch that applies is read, so only memory can lack
-pub relaid_fails : (text : Text) (patch : Data) (layout : Layout) (new : Text) (e : Failure) → PatchedBy text patch new → IsRestyleError new e → FailsToPatch text patch layout e
-relaid_fails text patch layout new (BadPointer f) h r = absurd r
-relaid_fails text patch layout new (NotPatch f) h r = absurd r
-relaid_fails text patch layout new (NoValue f) h r = absurd r
-relaid_fails text patch layout new (BadPlace f) h r = absurd r
-relaid_fails text patch layout new NotThere h r = absurd r
-relaid_fails text patch layout new (BadPatch f) h r = absurd r
-relaid_fails text patch layout new TooDeep h r = absurd r
-relaid_fails text patch layout new NotInPlace h r = absurd r
-relaid_fails text patch layout new NotLocated h r = absurd r
-relaid_fails text patch layout new PatchTooDeep h r = absurd r
-relaid_fails text patch layout new LineBreak h r = absurd r
-relaid_fails text patch layout new (BadLine number f) h r = absurd r
-relaid_fails text patch layout new NotUtf8 h r = absurd r
+pub relaid_fails : (text : Text) (patch : Data) (layout : Layout) (new : Text) (e : TaskError) → PatchedBy text patch new → IsLayoutError new e → FailsToPatch text patch layout e
 relaid_fails text patch layout new NotJson h r =
     let whole : Some h.2.1 ≡ None = sym h.2.3 ∙ r in
     let never : ⊥ = cc in
     absurd never
-relaid_fails text patch layout new ArgumentNotJson h r = absurd r
 relaid_fails text patch layout new (Memory f) h r = tt
-relaid_fails text patch layout new Read h r = absurd r
-relaid_fails text patch layout new Write h r = absurd r
+relaid_fails text patch layout new other h r = absurd r
 
 -- what fails in another layout than the one that is kept fails in each
-pub fails_anew : (text : Text) (patch : Data) (layout : Layout) (e : Failure) → FailsToPatch text patch Compact e → FailsToPatch text patch layout e
-fails_anew text patch layout (BadPointer f) h = absurd h
+pub fails_anew : (text : Text) (patch : Data) (layout : Layout) (e : TaskError) → FailsToPatch text patch Compact e → FailsToPatch text patch layout e
 fails_anew text patch layout (NotPatch f) h = h
-fails_anew text patch layout (NoValue f) h = absurd h
-fails_anew text patch layout (BadPlace f) h = absurd h
-fails_anew text patch layout NotThere h = absurd h
 fails_anew text patch layout (BadPatch f) h = h
 fails_anew text patch layout TooDeep h = h
 fails_anew text patch layout NotInPlace h =
     let other : Compact ≡ Kept = h.0 in
     let never : ⊥ = cc in
     absurd never
-fails_anew text patch layout NotLocated h = absurd h
-fails_anew text patch layout PatchTooDeep h = absurd h
-fails_anew text patch layout LineBreak h = absurd h
-fails_anew text patch layout (BadLine number f) h = absurd h
-fails_anew text patch layout NotUtf8 h = absurd h
 fails_anew text patch layout NotJson h = h
-fails_anew text patch layout ArgumentNotJson h = absurd h
 fails_anew text patch layout (Memory f) h = tt
-fails_anew text patch layout Read h = absurd h
-fails_anew text patch layout Write h = absurd h
+fails_anew text patch layout other h = absurd h
 
-patch_fails : (text : Text) (patch : Data) (os : List Operation) (layout : Layout) (e : Failure) → IsPatch patch os → FailsToApply text os layout e → FailsToPatch text patch layout e
-patch_fails text patch os layout (NotPatch f) is h = absurd h
+patch_fails : (text : Text) (patch : Data) (os : List Operation) (layout : Layout) (e : TaskError) → IsPatch patch os → FailsToApply text os layout e → FailsToPatch text patch layout e
 patch_fails text patch os layout (BadPatch f) is h = (os, h.0, is, h.1, h.2)
 patch_fails text patch os layout TooDeep is h = (os, is, h)
 patch_fails text patch os layout NotInPlace is h = (h.0, (os, h.1.0, is, h.1.1))
 patch_fails text patch os layout NotJson is h = ((os, is), h)
 patch_fails text patch os layout (Memory f) is h = tt
-patch_fails text patch os layout (BadPointer f) is h = absurd h
-patch_fails text patch os layout (NoValue f) is h = absurd h
-patch_fails text patch os layout (BadPlace f) is h = absurd h
-patch_fails text patch os layout NotThere is h = absurd h
-patch_fails text patch os layout NotLocated is h = absurd h
-patch_fails text patch os layout PatchTooDeep is h = absurd h
-patch_fails text patch os layout LineBreak is h = absurd h
-patch_fails text patch os layout (BadLine number f) is h = absurd h
-patch_fails text patch os layout NotUtf8 is h = absurd h
-patch_fails text patch os layout ArgumentNotJson is h = absurd h
-patch_fails text patch os layout Read is h = absurd h
-patch_fails text patch os layout Write is h = absurd h
+patch_fails text patch os layout other is h = absurd h
 
-pub patch_not_made : (text : Text) (patch : Data) (os : List Operation) (layout : Layout) (r : Result (String Global) Failure)
+pub patch_not_made : (text : Text) (patch : Data) (os : List Operation) (layout : Layout) (r : Result (String Global) TaskError)
     → IsPatch patch os → IfErr r (FailsToApply text os layout) → IfErr r (FailsToPatch text patch layout)
 patch_not_made text patch os layout (Ok s) is h = tt
 patch_not_made text patch os layout (Err e) is h = patch_fails text patch os layout e is h
@@ -234,53 +197,38 @@ can_break task Raw l out h several one = tt
 -- ---- the text of a value
 
 -- a value that is located has a text that is read, so only memory can lack
-pub located_fails : (text : Text) (ts : List Text) (fallback : Option Value) (before piece after : Text) (e : Failure) → IsLocated text ts before piece after → IsRestyleError piece e → FailsToGet text ts fallback e
-located_fails text ts fallback before piece after (BadPointer f) h r = absurd r
-located_fails text ts fallback before piece after (NotPatch f) h r = absurd r
-located_fails text ts fallback before piece after (NoValue f) h r = absurd r
-located_fails text ts fallback before piece after (BadPlace f) h r = absurd r
-located_fails text ts fallback before piece after NotThere h r = absurd r
-located_fails text ts fallback before piece after (BadPatch f) h r = absurd r
-located_fails text ts fallback before piece after TooDeep h r = absurd r
-located_fails text ts fallback before piece after NotInPlace h r = absurd r
-located_fails text ts fallback before piece after NotLocated h r = absurd r
-located_fails text ts fallback before piece after PatchTooDeep h r = absurd r
-located_fails text ts fallback before piece after LineBreak h r = absurd r
-located_fails text ts fallback before piece after (BadLine number f) h r = absurd r
-located_fails text ts fallback before piece after NotUtf8 h r = absurd r
+pub located_fails : (text : Text) (ts : List Text) (fallback : Option Value) (before piece after : Text) (e : TaskError) → IsLocated text ts before piece after → IsLayoutError piece e → FailsToGet text ts fallback e
 located_fails text ts fallback before piece after NotJson h r =
     let whole : Some h.value ≡ None = sym h.whole.reads ∙ r in
     let never : ⊥ = cc in
     absurd never
-located_fails text ts fallback before piece after ArgumentNotJson h r = absurd r
 located_fails text ts fallback before piece after (Memory f) h r = tt
-located_fails text ts fallback before piece after Read h r = absurd r
-located_fails text ts fallback before piece after Write h r = absurd r
+located_fails text ts fallback before piece after other h r = absurd r
 
 -- the write of a result failed
-pub result_stops : (run : LineTask) (n : ℕ) (l : Text) (w0 w1 e0 : Known) (s text : Text) (e : Failure)
+pub result_stops : (run : LineTask) (n : ℕ) (l : Text) (w0 w1 e0 : Known) (s text : Text) (e : TaskError)
     → YieldsLine run.task run.layout l s → text ≡ s ++ 10 ∷ [] → e ≡ Write → AppendsPrefix w0 w1 text → StopsPut run n l w0 w1 e0 e0 e
 result_stops run n l w0 w1 e0 s text e yields same is prefix =
     (subst StopsRun (sym is) tt, inr (text, [], inl (s, yields, same, refl), prefix, (0, Appends-nil e0)))
 
-or_memory : (f : Failure) (P : Type 0) → OrMemory f P → IsNoMemory f → P
+or_memory : (f : TaskError) (P : Type 0) → OrMemory f P → IsNoMemory f → P
 or_memory (Memory e) P h bad = absurd bad
 or_memory f P h other = h
 
 -- a failure that is no failed allocation is a fault of the line
-pub line_fault : (run : LineTask) (l : Text) (f e : Failure) → OrMemory f (IsLineFault run.task run.layout l f) → (e ≡ f) × IsNoMemory e → IsLineFault run.task run.layout l e
+pub line_fault : (run : LineTask) (l : Text) (f e : TaskError) → OrMemory f (IsLineFault run.task run.layout l f) → (e ≡ f) × IsNoMemory e → IsLineFault run.task run.layout l e
 line_fault run l f e h same =
     subst (IsLineFault run.task run.layout l) (sym same.0) (or_memory f (IsLineFault run.task run.layout l f) h (subst IsNoMemory same.0 same.1))
 
 -- a fault is written
-pub fault_put : (run : LineTask) (n : ℕ) (l : Text) (w0 w1 e0 e1 : Known) (f : Failure) (report : Text)
+pub fault_put : (run : LineTask) (n : ℕ) (l : Text) (w0 w1 e0 e1 : Known) (f : TaskError) (report : Text)
     → IsLineFault run.task run.layout l f → (IsBlank l → ⊥) → IsReport (string_bytes run.name) n report
     → Appends w0 w1 (fallback_line run.fallback) → Appends e0 e1 report → IsPut run n l w0 w1 e0 e1 false
 fault_put run n l w0 w1 e0 e1 f report fault filled is_report wrote told =
     (fallback_line run.fallback, report, inr (inl (f, fault, filled, refl, is_report)), wrote, told, is_report)
 
 -- the write of a fault failed
-pub fault_stops : (run : LineTask) (n : ℕ) (l : Text) (w0 w1 e0 e1 : Known) (f : Failure) (report : Text) (e : Failure)
+pub fault_stops : (run : LineTask) (n : ℕ) (l : Text) (w0 w1 e0 e1 : Known) (f : TaskError) (report : Text) (e : TaskError)
     → IsLineFault run.task run.layout l f → (IsBlank l → ⊥) → IsReport (string_bytes run.name) n report → e ≡ Write
     → AppendsPrefix w0 w1 (fallback_line run.fallback) → AppendsPrefix e0 e1 report → StopsPut run n l w0 w1 e0 e1 e
 fault_stops run n l w0 w1 e0 e1 f report e fault filled is_report is wrote told =

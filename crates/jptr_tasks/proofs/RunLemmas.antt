@@ -3,19 +3,20 @@ use Rattle.std.proofs.Common.{◌≡◌, ◌≢◌, ◌⊎◌, inl, inr, ℕ, �
 use Rattle.std.specs.Prelude.{IfSome, ◌&&◌}
 use Rattle.std.specs.Io.KnownBytes.{Appends, Consumes, IsAtEnd, Keeps}
 use Rattle.std.proofs.KnownBytes.{Appends-nil, Appends-trans, Appends-kept, Consumes-nil, Consumes-trans}
-use Rattle.std.proofs.Math.Seq.{take-append-add, take-length}
-use Rattle.jsonptr_grammar.specs.Text.{Text}
-use Rattle.jsonptr_lines.specs.Lines.{AreLines, IsNextLine}
-use Rattle.jsonptr_lines.specs.PrivateLines.{joined, AreAllLines}
-use Rattle.jsonptr_lines.specs.Streams.{ForInput, AppendsPrefix}
-use Rattle.jsonptr_lines.specs.declared.read.Ending.TheVariants.{Break, Input}
-use Rattle.jsonptr_lines.proofs.LineLemmas.{some_lines, all_lines-push, joined-push, lines_after}
+use Rattle.std.proofs.Math.Seq.{take-append-add}
+use Rattle.jsonptr.specs.Text.{Text}
+use Rattle.jsonptr_io.specs.Lines.{AreLines, IsNextLine}
+use Rattle.jsonptr_io.specs.PrivateLines.{joined, AreAllLines}
+use Rattle.jsonptr_io.specs.Streams.{ForInput, AppendsPrefix}
+use Rattle.jsonptr_io.specs.declared.read.Ending.TheVariants.{Break, Input}
+use Rattle.jsonptr_io.proofs.StreamLemmas.{prefix_all, prefix_kept}
+use Rattle.jsonptr_io.proofs.LineLemmas.{some_lines, all_lines-push, joined-push, lines_after}
 use Rattle.jptr_tasks.specs.LineResults.{LineGives, LinesGive, IsReport, StopsRun}
 use Rattle.jptr_tasks.specs.PrivateLineResults.{Known, IsPut, StopsPut}
-use Rattle.jptr_tasks.specs.Runs.{AreFirstLines, IsEnd, IsRun, StopsIn}
+use Rattle.jptr_tasks.specs.Runs.{AreFirstLines, IsEnd, IsRun, RunStopsIn}
 use Rattle.jptr_tasks.specs.PrivateRuns.{Progress, IsTurn, StopsTurn, ended_as}
-use Rattle.jptr_tasks.specs.declared.failure.Failure.{Failure}
-use Rattle.jptr_tasks.specs.declared.failure.Failure.TheVariants.{Write}
+use Rattle.jptr_tasks.specs.declared.task_error.TaskError.{TaskError}
+use Rattle.jptr_tasks.specs.declared.task_error.TaskError.TheVariants.{Write}
 use Rattle.jptr_tasks.specs.declared.line.LineTask.{LineTask}
 use Rattle.jptr_tasks.specs.declared.lines.Ended.{Ended}
 use Rattle.jptr_tasks.specs.declared.lines.Ended.TheVariants.{Fine, Faults, Stopped}
@@ -47,18 +48,12 @@ for_map : (known : Known) (P Q : List ℕ → Type 0) → ((bytes : List ℕ) �
 for_map None P Q f h = (h.0, f h.0 h.1)
 for_map (Some bytes) P Q f h = f bytes h
 
-pub prefix_all : (a b : Known) (bs : Text) → Appends a b bs → AppendsPrefix a b bs
-prefix_all a b bs h = (length bs, subst (Appends a b) (sym (take-length bs)) h)
-
-pub prefix_kept : (a b c : Known) (bs : Text) → AppendsPrefix a b bs → Keeps b c → AppendsPrefix a c bs
-prefix_kept a b c bs h k = (h.0, Appends-kept a b c (take h.0 bs) h.1 k)
-
 prefix_after : (a b c : Known) (bs cs : Text) → Appends a b bs → AppendsPrefix b c cs → AppendsPrefix a c (bs ++ cs)
 prefix_after a b c bs cs h k =
     (length bs + k.0, subst (Appends a c) (sym (take-append-add bs cs k.0)) (Appends-trans a b c bs (take k.0 cs) h k.1))
 
 -- a turn stops where what its line writes does
-pub stops_turn : (run : LineTask) (n : ℕ) (r0 r1 w0 w1 e0 e1 : Known) (l : Text) (e : Failure)
+pub stops_turn : (run : LineTask) (n : ℕ) (r0 r1 w0 w1 e0 e1 : Known) (l : Text) (e : TaskError)
     → IsNextLine r0 r1 l Break ⊎ IsNextLine r0 r1 l Input → StopsPut run n l w0 w1 e0 e1 e → StopsTurn run n r0 r1 w0 w1 e0 e1 e
 stops_turn run n r0 r1 w0 w1 e0 e1 l e next h = (
   h.0,
@@ -265,7 +260,7 @@ module _ (run : LineTask) (n : ℕ) (fine : Bool) (r0 r w0 w e0 e : Known) (p : 
         (first_lines r0 r1 (p.lines ++ t.0 ∷ []) (all_lines-push p.lines t.0 p.are t.1.0) (with_next r0 r p.lines p.are p.read r1 t.0 t.1))
 
     -- a turn that fails
-    pub fail : (x : Failure) → StopsTurn run n r r1 w w1 e e1 x → StopsIn run r0 w0 w1 e0 e1 x
+    pub fail : (x : TaskError) → StopsTurn run n r r1 w w1 e e1 x → RunStopsIn run r0 w0 w1 e0 e1 x
     fail x t = (t.0, by t.1)
       where
         Left : List ℕ → Type 0
@@ -295,7 +290,7 @@ module _ (run : LineTask) (n : ℕ) (fine : Bool) (r0 r w0 w e0 e : Known) (p : 
             (first_with h.0 h.3)
 
   -- no further turn
-  pub give_up : (x : Failure) → StopsRun x → StopsIn run r0 w0 w e0 e x
+  pub give_up : (x : TaskError) → StopsRun x → RunStopsIn run r0 w0 w e0 e x
   give_up x stops = (
     stops,
     for_map r0 (λ bytes. AreFirstLines bytes p.lines) _
@@ -309,7 +304,7 @@ module _ (run : LineTask) (r0 w0 w1 w2 e0 e1 e2 : Known) (kw : Keeps w1 w2) (ke 
   pub run_kept : (ended : Ended) → IsRun run r0 w0 w1 e0 e1 ended → IsRun run r0 w0 w2 e0 e2 ended
   run_kept ended h = for_map r0 _ _ (λ bytes x. (x.0, x.1, x.2, x.3, x.4, Appends-kept w0 w1 w2 x.1 x.5 kw, Appends-kept e0 e1 e2 x.2 x.6 ke)) h
 
-  pub stop_kept : (x : Failure) → StopsIn run r0 w0 w1 e0 e1 x → StopsIn run r0 w0 w2 e0 e2 x
+  pub stop_kept : (x : TaskError) → RunStopsIn run r0 w0 w1 e0 e1 x → RunStopsIn run r0 w0 w2 e0 e2 x
   stop_kept x h = (h.0, for_map r0 _ _ (λ bytes x. (x.0, x.1, x.2, x.3, x.4, prefix_kept w0 w1 w2 x.1 x.5 kw, prefix_kept e0 e1 e2 x.2 x.6 ke)) h.1)
 
   first_of : (bytes : Text) (ls : List Text) (err : Text) (ended : Ended) → IsEnd run bytes ls err ended → AreFirstLines bytes ls
@@ -318,7 +313,7 @@ module _ (run : LineTask) (r0 w0 w1 w2 e0 e1 e2 : Known) (kw : Keeps w1 w2) (ke 
   first_of bytes ls err Stopped h = h.0
 
   -- the run ended, and the flush failed
-  pub flush_stops : (ended : Ended) (x : Failure) → IsRun run r0 w0 w1 e0 e1 ended → x ≡ Write → StopsIn run r0 w0 w2 e0 e2 x
+  pub flush_stops : (ended : Ended) (x : TaskError) → IsRun run r0 w0 w1 e0 e1 ended → x ≡ Write → RunStopsIn run r0 w0 w2 e0 e2 x
   flush_stops ended x h is = (
     subst StopsRun (sym is) tt,
     for_map r0 _ _

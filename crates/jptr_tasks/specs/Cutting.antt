@@ -1,7 +1,7 @@
 -- Runs over the parts of an input that is cut after a line feed.
 use Rattle.std.specs.Prelude.{◌≡◌, ◌⊎◌, ℕ, ◌+◌, List, [], ◌∷◌, ◌++◌, codes, decimal}
-use Rattle.jsonptr_grammar.specs.Text.{Text}
-use Rattle.jsonptr_lines.specs.Lines.{AreLines}
+use Rattle.jsonptr.specs.Text.{Text}
+use Rattle.jsonptr_io.specs.Lines.{AreLines}
 use Rattle.jptr_tasks.specs.LineResults.{LinesGive}
 use Rattle.jptr_tasks.specs.declared.line.LineTask.{LineTask}
 

@@ -2,14 +2,14 @@
 use Rattle.std.specs.Prelude.{◌≡◌, ◌↔◌, ◌<◌, List, [], true, Some, ⊤, string_bytes}
 use Rattle.serde_json.specs.Data.{depth}
 use Rattle.serde_json.specs.Read.{read, max_depth}
-use Rattle.jsonptr_tree.specs.Node.{NodeMap}
+use Rattle.jsonptr.specs.Node.{NodeMap}
 use Rattle.jsonptr_patch.specs.Patching.{Patches}
 use Rattle.jsonptr_patch.specs.declared.operation.Operation.{Operation}
 use Rattle.jsonptr_patch_document.specs.Writing.{document_of}
-use Rattle.jptr_tasks.specs.Layouts.{Shows}
+use Rattle.jptr_tasks.specs.Layouts.{ShowsInLayout}
 use Rattle.jptr_tasks.specs.declared.difference.Difference.{Difference}
-use Rattle.jptr_tasks.specs.declared.failure.Failure.{Failure}
-use Rattle.jptr_tasks.specs.declared.failure.Failure.TheVariants.{PatchTooDeep, Memory}
+use Rattle.jptr_tasks.specs.declared.task_error.TaskError.{TaskError}
+use Rattle.jptr_tasks.specs.declared.task_error.TaskError.TheVariants.{PatchTooDeep, Memory}
 use Rattle.jptr_tasks.specs.declared.layout.Layout.{Layout}
 
 -- `IsDifference n m layout d`: the text of `d` is the patch document of operations that turn `n` into `m`, and is read as it.
@@ -18,12 +18,12 @@ abbrev pub IsDifference : NodeMap → NodeMap → Layout → Difference → Type
 IsDifference n m layout d =
     (os : List Operation)
     × Patches n os m
-    × Shows layout (document_of os) (string_bytes d.text)
+    × ShowsInLayout layout (document_of os) (string_bytes d.text)
     × (read (string_bytes d.text) ≡ Some (document_of os))
     × ((d.is_empty ≡ true) ↔ (os ≡ []))
 
 -- `FailsToDiffer n m e`: `e` is why no patch document of operations that turn `n` into `m` is printed, if it is not for memory
-abbrev pub FailsToDiffer : NodeMap → NodeMap → Failure → Type 0
+abbrev pub FailsToDiffer : NodeMap → NodeMap → TaskError → Type 0
 FailsToDiffer n m PatchTooDeep = (os : List Operation) × Patches n os m × (max_depth < depth (document_of os))
 FailsToDiffer n m (Memory f) = ⊤
 FailsToDiffer n m e = ⊥

@@ -2,11 +2,11 @@
 use Rattle.std.specs.Prelude.{◌≡◌, ◌≢◌, ◌⊎◌, ℕ, List, [], ◌∷◌, ◌++◌, Option, ⊤}
 use Rattle.std.specs.Io.KnownBytes.{Appends, Keeps}
 use Rattle.std.specs.Str.{IsUtf8}
-use Rattle.jsonptr_grammar.specs.Text.{Text}
-use Rattle.jsonptr_lines.specs.Streams.{ForInput, AppendsPrefix}
+use Rattle.jsonptr.specs.Text.{Text}
+use Rattle.jsonptr_io.specs.Streams.{ForInput, AppendsPrefix}
 use Rattle.jptr_tasks.specs.Results.{Yields, Fails}
-use Rattle.jptr_tasks.specs.declared.failure.Failure.{Failure}
-use Rattle.jptr_tasks.specs.declared.failure.Failure.TheVariants.{NotJson, Memory, Read, Write}
+use Rattle.jptr_tasks.specs.declared.task_error.TaskError.{TaskError}
+use Rattle.jptr_tasks.specs.declared.task_error.TaskError.TheVariants.{NotJson, Memory, Read, Write}
 use Rattle.jptr_tasks.specs.declared.layout.Layout.{Layout}
 use Rattle.jptr_tasks.specs.declared.layout.Layout.TheVariants.{Kept}
 use Rattle.jptr_tasks.specs.declared.task.Task.{Task}
@@ -26,12 +26,12 @@ Prints task layout bytes out =
     × ((EndsInBreak task layout × ((new : Text) × Yields task layout bytes new × (out ≡ new ++ 10 ∷ [])))
     ⊎ ((EndsInBreak task layout → ⊥) × Yields task layout bytes out))
 
--- `FailsOn task layout bytes e`: `e` is why the task has no result on the document `bytes`, if it is not for memory. Bytes that
+-- `TaskFailsOn task layout bytes e`: `e` is why the task has no result on the document `bytes`, if it is not for memory. Bytes that
 -- are not UTF-8 are not JSON
-abbrev pub FailsOn : Task → Layout → List ℕ → Failure → Type 0
-FailsOn task layout bytes NotJson = IsUtf8 bytes → Fails task layout bytes NotJson
-FailsOn task layout bytes (Memory e) = ⊤
-FailsOn task layout bytes e = IsUtf8 bytes × Fails task layout bytes e
+abbrev pub TaskFailsOn : Task → Layout → List ℕ → TaskError → Type 0
+TaskFailsOn task layout bytes NotJson = IsUtf8 bytes → Fails task layout bytes NotJson
+TaskFailsOn task layout bytes (Memory e) = ⊤
+TaskFailsOn task layout bytes e = IsUtf8 bytes × Fails task layout bytes e
 
 -- `PutsDocument task layout known w0 w1`: what is printed for the input is written
 abbrev pub PutsDocument : Task → Layout → Option (List ℕ) → Option (List ℕ) → Option (List ℕ) → Type 0
@@ -40,8 +40,8 @@ PutsDocument task layout known w0 w1 =
 
 -- `StopsDocument task layout known w0 w1 e`: the run fails with `e`. Nothing is written, or `e` is a failed write and a
 -- prefix of what is printed is written
-abbrev pub StopsDocument : Task → Layout → Option (List ℕ) → Option (List ℕ) → Option (List ℕ) → Failure → Type 0
+abbrev pub StopsDocument : Task → Layout → Option (List ℕ) → Option (List ℕ) → Option (List ℕ) → TaskError → Type 0
 StopsDocument task layout known w0 w1 Write =
     ForInput known (λ bytes. (out : Text) × Prints task layout bytes out × AppendsPrefix w0 w1 out)
 StopsDocument task layout known w0 w1 Read = Keeps w0 w1
-StopsDocument task layout known w0 w1 e = Keeps w0 w1 × ForInput known (λ bytes. FailsOn task layout bytes e)
+StopsDocument task layout known w0 w1 e = Keeps w0 w1 × ForInput known (λ bytes. TaskFailsOn task layout bytes e)

@@ -13,8 +13,8 @@ use Rattle.jsonptr_paths.specs.declared.reading.LineError.{LineError}
 use Rattle.jsonptr_paths.specs.declared.reading.LineError.TheVariants as line
 use Rattle.jsonptr_paths.specs.declared.reading.BuildError.{BuildError}
 use Rattle.jsonptr_paths.specs.declared.reading.BuildError.TheVariants as build
-use Rattle.jptr_tasks.specs.declared.failure.Failure.{Failure}
-use Rattle.jptr_tasks.specs.declared.failure.Failure.TheVariants.{BadPointer, NotPatch, NoValue, BadPlace, NotThere, BadPatch, TooDeep, NotInPlace, NotLocated, PatchTooDeep, LineBreak, BadLine, NotUtf8, NotJson, ArgumentNotJson, Memory, Read, Write}
+use Rattle.jptr_tasks.specs.declared.task_error.TaskError.{TaskError}
+use Rattle.jptr_tasks.specs.declared.task_error.TaskError.TheVariants.{NotPatch, NoValue, BadPlace, NotThere, BadPatch, TooDeep, NotInPlace, NotLocated, PatchTooDeep, LineBreak, BadLine, NotUtf8, NotJson, Memory, Read, Write}
 
 -- `status_of_line e`: the exit status if a line adds no value, for the reason `e`
 abbrev pub status_of_line : LineError → ℕ
@@ -24,69 +24,63 @@ status_of_line line.TooDeep = 1
 status_of_line line.NotJson = 3
 status_of_line (line.BadPlace e) = 1
 
--- `status_of e`: the exit status of the program after the error `e`
-abbrev pub status_of : Failure → ℕ
-status_of (BadPointer e) = 1
-status_of (NotPatch e) = 1
-status_of (NoValue e) = 1
-status_of (BadPlace e) = 1
-status_of NotThere = 1
-status_of (BadPatch e) = 1
-status_of TooDeep = 1
-status_of NotInPlace = 1
-status_of NotLocated = 1
-status_of PatchTooDeep = 3
-status_of LineBreak = 1
-status_of (BadLine number e) = status_of_line e
-status_of NotUtf8 = 3
-status_of NotJson = 3
-status_of ArgumentNotJson = 3
-status_of (Memory e) = 4
-status_of Read = 5
-status_of Write = 5
+-- `status_of_task e`: the exit status of the program after the error `e`
+abbrev pub status_of_task : TaskError → ℕ
+status_of_task (NotPatch e) = 1
+status_of_task (NoValue e) = 1
+status_of_task (BadPlace e) = 1
+status_of_task NotThere = 1
+status_of_task (BadPatch e) = 1
+status_of_task TooDeep = 1
+status_of_task NotInPlace = 1
+status_of_task NotLocated = 1
+status_of_task PatchTooDeep = 3
+status_of_task LineBreak = 1
+status_of_task (BadLine number e) = status_of_line e
+status_of_task NotUtf8 = 3
+status_of_task NotJson = 3
+status_of_task (Memory e) = 4
+status_of_task Read = 5
+status_of_task Write = 5
 
--- `of_in_text_error e`: the error of the command if a pointer does not resolve in a text
-abbrev pub of_in_text_error : InTextError → Failure
-of_in_text_error in_text.NotJson = NotJson
-of_in_text_error (in_text.Resolve e) = NoValue e
-of_in_text_error (in_text.Memory e) = Memory e
+-- `error_of_resolving e`: the error of the command if a pointer does not resolve in a text
+abbrev pub error_of_resolving : InTextError → TaskError
+error_of_resolving in_text.NotJson = NotJson
+error_of_resolving (in_text.Resolve e) = NoValue e
+error_of_resolving (in_text.Memory e) = Memory e
 
 -- `of_assign_error e`: the error of the command if a value cannot be assigned in a text
-abbrev pub of_assign_error : EditError assign.Error → Failure
+abbrev pub of_assign_error : EditError assign.Error → TaskError
 of_assign_error edit.NotJson = NotJson
 of_assign_error (edit.Refused e) = BadPlace e
 of_assign_error edit.TooDeep = TooDeep
 of_assign_error (edit.Memory e) = Memory e
 
 -- `of_delete_error e`: the error of the command if a text cannot be searched for a value to delete
-abbrev pub of_delete_error : EditError Infallible → Failure
+abbrev pub of_delete_error : EditError Infallible → TaskError
 of_delete_error edit.NotJson = NotJson
 of_delete_error (edit.Refused e) = elim e [ ]
 of_delete_error edit.TooDeep = TooDeep
 of_delete_error (edit.Memory e) = Memory e
 
 -- `of_patch_error e`: the error of the command if a patch is not applied in a text
-abbrev pub of_patch_error : EditError PatchError → Failure
+abbrev pub of_patch_error : EditError PatchError → TaskError
 of_patch_error edit.NotJson = NotJson
 of_patch_error (edit.Refused e) = BadPatch e
 of_patch_error edit.TooDeep = TooDeep
 of_patch_error (edit.Memory e) = Memory e
 
--- `of_strict_assign_error e`, `of_strict_delete_error e`, `of_strict_patch_error e`: the same of edits that are made in place
+-- `of_strict_assign_error e`, `of_strict_delete_error e`: the same of edits that are made in place
 -- or not at all
-abbrev pub of_strict_assign_error : InPlaceError assign.Error → Failure
+abbrev pub of_strict_assign_error : InPlaceError assign.Error → TaskError
 of_strict_assign_error in_place.NotInPlace = NotInPlace
 of_strict_assign_error (in_place.Failed e) = of_assign_error e
 
-abbrev pub of_strict_delete_error : InPlaceError Infallible → Failure
+abbrev pub of_strict_delete_error : InPlaceError Infallible → TaskError
 of_strict_delete_error in_place.NotInPlace = NotInPlace
 of_strict_delete_error (in_place.Failed e) = of_delete_error e
 
-abbrev pub of_strict_patch_error : InPlaceError PatchError → Failure
-of_strict_patch_error in_place.NotInPlace = NotInPlace
-of_strict_patch_error (in_place.Failed e) = of_patch_error e
-
 -- `of_build_error e`: the error of the command if lines build no document
-abbrev pub of_build_error : BuildError → Failure
+abbrev pub of_build_error : BuildError → TaskError
 of_build_error (build.Line number e) = BadLine number e
 of_build_error (build.Memory e) = Memory e

@@ -2,9 +2,9 @@
 use Rattle.std.specs.Prelude.{◌≡◌, ◌<◌, List, Some, None, ⊤}
 use Rattle.serde_json.specs.Data.{Data, depth}
 use Rattle.serde_json.specs.Read.{read, max_depth}
-use Rattle.jsonptr_grammar.specs.Text.{Text}
-use Rattle.jsonptr_tree.specs.Json.{nodes}
-use Rattle.jsonptr_tree.specs.Node.{NodeMap}
+use Rattle.jsonptr.specs.Text.{Text}
+use Rattle.jsonptr.specs.Json.{nodes}
+use Rattle.jsonptr.specs.Node.{NodeMap}
 use Rattle.jsonptr_patch.specs.Patching.{Patches, PatchesBy, RefusesPatchBy}
 use Rattle.jsonptr_patch.specs.declared.comparison.Comparison.TheVariants.{Numeric}
 use Rattle.jsonptr_patch.specs.declared.operation.Operation.{Operation}
@@ -12,8 +12,8 @@ use Rattle.jsonptr_patch_document.specs.Document.{IsPatch, IsNoPatch}
 use Rattle.jsonptr_patch_document.specs.Writing.{document_of}
 use Rattle.jptr_tasks.specs.Differences.{IsDifference}
 use Rattle.jptr_tasks.specs.declared.difference.Difference.{Difference}
-use Rattle.jptr_tasks.specs.declared.failure.Failure.{Failure}
-use Rattle.jptr_tasks.specs.declared.failure.Failure.TheVariants.{NotPatch, BadPatch, PatchTooDeep, NotJson, Memory}
+use Rattle.jptr_tasks.specs.declared.task_error.TaskError.{TaskError}
+use Rattle.jptr_tasks.specs.declared.task_error.TaskError.TheVariants.{NotPatch, BadPatch, PatchTooDeep, NotJson, Memory}
 use Rattle.jptr_tasks.specs.declared.layout.Layout.{Layout}
 
 -- `IsInverse text patch layout u`: `u` turns the document of `text` after the operations that the document `patch` is into
@@ -26,7 +26,7 @@ IsInverse text patch layout u =
 
 -- `FailsToInvert text patch e`: `e` is why no patch is printed that takes `patch` back, if it is not for memory. The document
 -- `patch` is read first
-abbrev pub FailsToInvert : Text → Data → Failure → Type 0
+abbrev pub FailsToInvert : Text → Data → TaskError → Type 0
 FailsToInvert text patch (NotPatch f) = IsNoPatch patch f
 FailsToInvert text patch NotJson = ((os : List Operation) × IsPatch patch os) × (read text ≡ None)
 FailsToInvert text patch (BadPatch f) =

@@ -1,40 +1,23 @@
 -- The text of a value in each layout.
-use Rattle.std.specs.Prelude.{◌≡◌, ◌≤◌, false, Some, MatchOption, ⊤}
-use Rattle.json.specs.Lex as lex
-use Rattle.json.specs.Print.{print}
-use Rattle.json.specs.Layout.{pretty}
-use Rattle.serde_json.specs.Data.{Data, depth}
+use Rattle.std.specs.Prelude.{◌≡◌, Some, MatchOption, ⊤}
+use Rattle.serde_json.specs.Data.{Data}
 use Rattle.serde_json.specs.Find.{as_str}
-use Rattle.serde_json.specs.Read.{read, max_depth}
-use Rattle.serde_json.specs.Written.{has_float, compact_text, IsInOrder}
-use Rattle.jsonptr_grammar.specs.Text.{Text}
+use Rattle.serde_json.specs.Read.{read}
+use Rattle.jsonptr.specs.Text.{Text}
+use Rattle.jsonptr_value.specs.JsonText.{IsCompact, IsPretty}
 use Rattle.jsonptr_in_text.specs.Format.{IsFormatted}
 use Rattle.jsonptr_in_text.specs.declared.format.Format.TheVariants as format
 use Rattle.jptr_tasks.specs.declared.layout.Layout.{Layout}
 use Rattle.jptr_tasks.specs.declared.layout.Layout.TheVariants.{Kept, Compact, Pretty, Sorted, SortedPretty, Raw}
 
--- `IsCompact value text`: `text` is the JSON text of `value` without white space. Only the digits of floats are left
--- open
-pub record IsCompact (value : Data) (text : Text) : Type 0 where
-  pub exact : has_float value ≡ false → text ≡ compact_text value
-  pub compact : text ≡ print (lex.tokens text)
-  pub order : IsInOrder text value
-  pub reads_back : depth value ≤ max_depth → read text ≡ Some value
-
--- `IsPretty value text`: `text` is the JSON text of `value` with a line for each member and element
-pub record IsPretty (value : Data) (text : Text) : Type 0 where
-  pub lines : text ≡ pretty (lex.tokens text)
-  pub order : IsInOrder text value
-  pub reads_back : depth value ≤ max_depth → read text ≡ Some value
-
--- `Shows layout value text`: `text` is what is printed for a `value` that has no text of its own, in this layout
-abbrev pub Shows : Layout → Data → Text → Type 0
-Shows Kept value text = IsCompact value text
-Shows Compact value text = IsCompact value text
-Shows Pretty value text = IsPretty value text
-Shows Sorted value text = IsCompact value text
-Shows SortedPretty value text = IsPretty value text
-Shows Raw value text = MatchOption (as_str value) (IsCompact value text) (λ s. text ≡ s)
+-- `ShowsInLayout layout value text`: `text` is what is printed for a `value` that has no text of its own, in this layout
+abbrev pub ShowsInLayout : Layout → Data → Text → Type 0
+ShowsInLayout Kept value text = IsCompact value text
+ShowsInLayout Compact value text = IsCompact value text
+ShowsInLayout Pretty value text = IsPretty value text
+ShowsInLayout Sorted value text = IsCompact value text
+ShowsInLayout SortedPretty value text = IsPretty value text
+ShowsInLayout Raw value text = MatchOption (as_str value) (IsCompact value text) (λ s. text ≡ s)
 
 -- `Lays layout text out`: `out` is the JSON text `text` in this layout: as it is, with its tokens laid out anew, one for one,
 -- with its members sorted, or as the string that it is

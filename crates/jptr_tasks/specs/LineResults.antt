@@ -2,13 +2,13 @@
 use Rattle.std.specs.Prelude.{◌≡◌, ◌⊎◌, ℕ, ◌+◌, List, [], ◌∷◌, ◌++◌, String, Option, Some, None, codes, decimal, string_bytes, ⊤}
 use Rattle.std.specs.Str.{IsUtf8}
 use Rattle.std.specs.declared.alloc.Global.{Global}
-use Rattle.jsonptr_grammar.specs.Text.{Text}
-use Rattle.jsonptr_lines.specs.Lines.{IsOneLine}
+use Rattle.jsonptr.specs.Text.{Text}
+use Rattle.jsonptr_io.specs.Lines.{IsOneLine}
 use Rattle.jsonptr_json_edits.specs.Spacing.{IsBlank}
 use Rattle.jptr_tasks.specs.Layouts.{CanBreak}
 use Rattle.jptr_tasks.specs.Results.{Yields, Fails}
-use Rattle.jptr_tasks.specs.declared.failure.Failure.{Failure}
-use Rattle.jptr_tasks.specs.declared.failure.Failure.TheVariants.{NotJson, LineBreak, Memory, Read, Write}
+use Rattle.jptr_tasks.specs.declared.task_error.TaskError.{TaskError}
+use Rattle.jptr_tasks.specs.declared.task_error.TaskError.TheVariants.{NotJson, LineBreak, Memory, Read, Write}
 use Rattle.jptr_tasks.specs.declared.layout.Layout.{Layout}
 use Rattle.jptr_tasks.specs.declared.line.LineTask.{LineTask}
 use Rattle.jptr_tasks.specs.declared.task.Task.{Task}
@@ -20,7 +20,7 @@ YieldsLine task layout l out = IsUtf8 l × Yields task layout l out × IsOneLine
 -- `IsLineFault task layout l e`: the line `l` is at fault: `e` is why the task has no result on it, or the result is not one
 -- line. If the line `l` is one, as each line of an input is, that takes a layout that can break. A failed allocation is not a
 -- fault of the line
-abbrev pub IsLineFault : Task → Layout → Text → Failure → Type 0
+abbrev pub IsLineFault : Task → Layout → Text → TaskError → Type 0
 IsLineFault task layout l NotJson = IsUtf8 l → Fails task layout l NotJson
 IsLineFault task layout l LineBreak =
     IsUtf8 l × (IsOneLine l → CanBreak layout) × ((out : Text) × Yields task layout l out × (IsOneLine out → ⊥))
@@ -42,7 +42,7 @@ IsReport name n text =
 abbrev pub LineGives : LineTask → ℕ → Text → Text → Text → Type 0
 LineGives run n l out err =
     ((s : Text) × YieldsLine run.task run.layout l s × (out ≡ s ++ 10 ∷ []) × (err ≡ []))
-    ⊎ (((e : Failure) × IsLineFault run.task run.layout l e × (IsBlank l → ⊥) × (out ≡ fallback_line run.fallback)
+    ⊎ (((e : TaskError) × IsLineFault run.task run.layout l e × (IsBlank l → ⊥) × (out ≡ fallback_line run.fallback)
     × IsReport (string_bytes run.name) n err)
     ⊎ (IsBlank l × (out ≡ []) × (err ≡ [])))
 
@@ -58,7 +58,7 @@ LinesGive run n (l ∷ ls) out err =
     × (err ≡ r ++ rs)
 
 -- `StopsRun e`: the error `e` ends the run, whichever line it comes at
-abbrev pub StopsRun : Failure → Type 0
+abbrev pub StopsRun : TaskError → Type 0
 StopsRun (Memory e) = ⊤
 StopsRun Read = ⊤
 StopsRun Write = ⊤

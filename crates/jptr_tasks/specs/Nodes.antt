@@ -1,5 +1,5 @@
 -- The value that tokens identify in the text of a document: its type, its length, its keys, and what it equals.
-use Rattle.std.specs.Prelude.{◌≡◌, ◌⊎◌, ℕ, List, [], ◌∷◌, ◌++◌, map, length, Bool, MatchBool, Option, Some, None, MatchOption, Vec, String, chars, codes, string_bytes, ⊤}
+use Rattle.std.specs.Prelude.{◌≡◌, ◌⊎◌, ℕ, List, [], ◌∷◌, ◌++◌, map, length, Bool, IsTrue, ◌↔◌, Option, Some, None, MatchOption, Vec, String, chars, codes, string_bytes, ⊤}
 use Rattle.std.specs.declared.alloc.Global.{Global}
 use Rattle.json.specs.Json.{read_key}
 use Rattle.json.specs.Lex as lex
@@ -7,19 +7,15 @@ use Rattle.json.specs.Token.{Token, begin_object}
 use Rattle.serde_json.specs.Data.{Data, null, boolean, number, string, array, object}
 use Rattle.serde_json.specs.Events.{items_len, members_len}
 use Rattle.serde_json.specs.Read.{read}
-use Rattle.serde_json.specs.declared.value.Value.{Value}
-use Rattle.jsonptr_grammar.specs.Text.{Text}
-use Rattle.jsonptr_tree.specs.Node.{NodeMap}
-use Rattle.jsonptr_tree.specs.Json.{nodes}
-use Rattle.jsonptr_json_search.specs.Reading.{Reads}
+use Rattle.jsonptr.specs.Text.{Text}
+use Rattle.jsonptr.specs.Json.{nodes}
+use Rattle.jsonptr_json_search.specs.Reading.{ReadsTokens}
 use Rattle.jsonptr_in_text.specs.InText.{FindsInText, RefusesInText}
-use Rattle.jsonptr_patch.specs.Patching.{PatchesBy, RefusesPatchBy}
+use Rattle.jsonptr_patch.specs.Testing.{IsEqualBy}
 use Rattle.jsonptr_patch.specs.declared.comparison.Comparison.TheVariants.{Numeric}
-use Rattle.jsonptr_patch.specs.declared.operation.Operation.TheVariants.{Test}
-use Rattle.jsonptr_patch.specs.declared.operation.PatchError.{PatchError}
 use Rattle.jsonptr_edit_in_text.specs.Locating.{IsLocated}
-use Rattle.jptr_tasks.specs.declared.failure.Failure.{Failure}
-use Rattle.jptr_tasks.specs.declared.failure.Failure.TheVariants.{NotJson, NoValue, NotLocated, Memory}
+use Rattle.jptr_tasks.specs.declared.task_error.TaskError.{TaskError}
+use Rattle.jptr_tasks.specs.declared.task_error.TaskError.TheVariants.{NotJson, NoValue, NotLocated, Memory}
 use Rattle.jptr_tasks.specs.declared.node.NodeType.{NodeType}
 use Rattle.jptr_tasks.specs.declared.node.NodeType.TheVariants as variant
 
@@ -32,37 +28,37 @@ type_of (string s) = variant.String
 type_of (array ds) = variant.Array
 type_of (object ms) = variant.Object
 
--- `name_of t`: the name of the type `t`
-abbrev pub name_of : NodeType → Text
-name_of variant.Null = codes "null"
-name_of variant.Boolean = codes "boolean"
-name_of variant.Number = codes "number"
-name_of variant.String = codes "string"
-name_of variant.Array = codes "array"
-name_of variant.Object = codes "object"
+-- `type_name t`: the name of the type `t`
+abbrev pub type_name : NodeType → Text
+type_name variant.Null = codes "null"
+type_name variant.Boolean = codes "boolean"
+type_name variant.Number = codes "number"
+type_name variant.String = codes "string"
+type_name variant.Array = codes "array"
+type_name variant.Object = codes "object"
 
--- `length_of d`: the number of elements or members of the value `d`, or of the characters of a string. No other value has one
-abbrev pub length_of : Data → Option ℕ
-length_of null = None
-length_of (boolean b) = None
-length_of (number n) = None
-length_of (string s) = Some (length (chars s))
-length_of (array ds) = Some (items_len ds)
-length_of (object ms) = Some (members_len ms)
+-- `length_of_value d`: the number of elements or members of the value `d`, or of the characters of a string. No other value has one
+abbrev pub length_of_value : Data → Option ℕ
+length_of_value null = None
+length_of_value (boolean b) = None
+length_of_value (number n) = None
+length_of_value (string s) = Some (length (chars s))
+length_of_value (array ds) = Some (items_len ds)
+length_of_value (object ms) = Some (members_len ms)
 
 -- `HasType text ts t`: the value that the tokens `ts` identify in the document of `text` has the type `t`
 abbrev pub HasType : Text → List Text → NodeType → Type 0
 HasType text ts t = (d : Data) × FindsInText text ts d × (t ≡ type_of d)
 
--- `HasLength text ts n`: that value has the length `n`, or there is none
-abbrev pub HasLength : Text → List Text → Option ℕ → Type 0
-HasLength text ts n = (d : Data) × FindsInText text ts d × (n ≡ length_of d)
+-- `ValueHasLength text ts n`: that value has the length `n`, or there is none
+abbrev pub ValueHasLength : Text → List Text → Option ℕ → Type 0
+ValueHasLength text ts n = (d : Data) × FindsInText text ts d × (n ≡ length_of_value d)
 
 -- `AreMembers ts ks rest`: the tokens `ts` are members with the keys `ks`, in this order, and then `rest`
 abbrev pub AreMembers : List Token → List Text → List Token → Type 0
 AreMembers ts [] rest = rest ≡ ts
 AreMembers ts (k ∷ ks) rest =
-    (at next : List Token) × (d : Data) × (read_key ts ≡ Some (Some k, at)) × Reads 126 at d next × AreMembers next ks rest
+    (at next : List Token) × (d : Data) × (read_key ts ≡ Some (Some k, at)) × ReadsTokens 126 at d next × AreMembers next ks rest
 
 -- `ListsKeys piece ks`: `piece` is an object, and `ks` are the keys of its members, in their order
 abbrev pub ListsKeys : Text → List Text → Type 0
@@ -81,26 +77,20 @@ HasKeys text ts found =
     (before piece after : Text) × IsLocated text ts before piece after
     × MatchOption found (IsNoObject piece) (λ v. ListsKeys piece (map string_bytes v.items))
 
--- `IsTested n v b`: a patch that tests that the document `n` equals `v` (RFC 6902, section 4.6) applies, or fails if `b` is
--- false
-abbrev pub IsTested : NodeMap → Value → Bool → Type 0
-IsTested n v b = MatchBool b
-    ((m : NodeMap) × PatchesBy Numeric n (Test [] v ∷ []) m)
-    ((e : PatchError) × RefusesPatchBy Numeric n (Test [] v ∷ []) e)
-
--- `Tests text ts v b`: so it is for the value that the tokens `ts` identify in the document of `text`
-abbrev pub Tests : Text → List Text → Value → Bool → Type 0
-Tests text ts v b = (d : Data) × FindsInText text ts d × IsTested (nodes d) v b
+-- `Tests text ts v b`: `b` is whether the value that the tokens `ts` identify in the document of `text` equals `v`, as a test of
+-- a patch compares numbers by their values (RFC 6902, section 4.6)
+abbrev pub Tests : Text → List Text → Data → Bool → Type 0
+Tests text ts v b = (d : Data) × FindsInText text ts d × (IsTrue b ↔ IsEqualBy Numeric (nodes d) (nodes v))
 
 -- `FailsToFind text ts e`: `e` is why no value is found, if it is not for memory
-abbrev pub FailsToFind : Text → List Text → Failure → Type 0
+abbrev pub FailsToFind : Text → List Text → TaskError → Type 0
 FailsToFind text ts NotJson = read text ≡ None
 FailsToFind text ts (NoValue f) = RefusesInText text ts f
 FailsToFind text ts (Memory f) = ⊤
 FailsToFind text ts e = ⊥
 
 -- `FailsToListKeys text ts e`: `e` is why no keys are listed, if it is not for memory. With `NotLocated` the value is there
-abbrev pub FailsToListKeys : Text → List Text → Failure → Type 0
+abbrev pub FailsToListKeys : Text → List Text → TaskError → Type 0
 FailsToListKeys text ts NotLocated = (d : Data) × FindsInText text ts d
 FailsToListKeys text ts e = FailsToFind text ts e
 
@@ -122,5 +112,5 @@ HasAbove text ts found =
     × (ts ≡ front ++ last ∷ []) × HasType text front t × (found ≡ scalar_of t))
 
 -- `FailsAbove text ts e`: `e` is why all but the last of the tokens `ts` identify no value, if it is not for memory
-abbrev pub FailsAbove : Text → List Text → Failure → Type 0
+abbrev pub FailsAbove : Text → List Text → TaskError → Type 0
 FailsAbove text ts e = (front : List Text) × (last : Text) × (ts ≡ front ++ last ∷ []) × FailsToFind text front e

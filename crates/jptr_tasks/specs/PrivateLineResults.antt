@@ -1,23 +1,23 @@
 -- What one line writes. Used only by private contracts.
 use Rattle.std.specs.Prelude.{◌⊎◌, ℕ, List, [], Bool, true, false, Option, ⊤, string_bytes}
 use Rattle.std.specs.Io.KnownBytes.{Appends, Keeps}
-use Rattle.jsonptr_grammar.specs.Text.{Text}
-use Rattle.jsonptr_lines.specs.Streams.{AppendsPrefix}
+use Rattle.jsonptr.specs.Text.{Text}
+use Rattle.jsonptr_io.specs.Streams.{AppendsPrefix}
 use Rattle.jptr_tasks.specs.LineResults.{LineGives, IsReport, StopsRun}
-use Rattle.jptr_tasks.specs.declared.failure.Failure.{Failure}
-use Rattle.jptr_tasks.specs.declared.failure.Failure.TheVariants.{Memory}
+use Rattle.jptr_tasks.specs.declared.task_error.TaskError.{TaskError}
+use Rattle.jptr_tasks.specs.declared.task_error.TaskError.TheVariants.{Memory}
 use Rattle.jptr_tasks.specs.declared.line.LineTask.{LineTask}
 
 abbrev pub Known : Type 0
 Known = Option (List ℕ)
 
 -- `OrMemory e P`: `P` holds, or `e` is a failed allocation
-abbrev pub OrMemory : Failure → Type 0 → Type 0
+abbrev pub OrMemory : TaskError → Type 0 → Type 0
 OrMemory (Memory f) P = ⊤
 OrMemory e P = P
 
 -- `IsNoMemory e`: `e` is not a failed allocation
-abbrev pub IsNoMemory : Failure → Type 0
+abbrev pub IsNoMemory : TaskError → Type 0
 IsNoMemory (Memory f) = ⊥
 IsNoMemory e = ⊤
 
@@ -33,7 +33,7 @@ IsPut run n l w0 w1 e0 e1 false =
     × IsReport (string_bytes run.name) n err
 
 -- `StopsPut run n l w0 w1 e0 e1 e`: the run ends with `e`. Nothing is written of what the line gives, or a part of it
-abbrev pub StopsPut : LineTask → ℕ → Text → Known → Known → Known → Known → Failure → Type 0
+abbrev pub StopsPut : LineTask → ℕ → Text → Known → Known → Known → Known → TaskError → Type 0
 StopsPut run n l w0 w1 e0 e1 e =
     StopsRun e
     × ((Keeps w0 w1 × Keeps e0 e1)

@@ -2,7 +2,7 @@
 use Rattle.std.specs.Prelude.{◌≡◌, List, Some, None}
 use Rattle.json.specs.Json.{read_key}
 use Rattle.json.specs.Token.{Token}
-use Rattle.jsonptr_grammar.specs.Text.{Text}
+use Rattle.jsonptr.specs.Text.{Text}
 use Rattle.jptr_tasks.specs.Nodes.{AreMembers}
 
 -- `ListsRest ts ks`: the tokens `ts` are members with the keys `ks`, in this order, and then the end of an object

@@ -3,9 +3,9 @@
 use Rattle.std.specs.Prelude.{◌≡◌, ◌<◌, List, Some, None, ⊤}
 use Rattle.serde_json.specs.Data.{Data, depth}
 use Rattle.serde_json.specs.Read.{read, max_depth}
-use Rattle.jsonptr_grammar.specs.Text.{Text}
-use Rattle.jsonptr_tree.specs.Node.{NodeMap}
-use Rattle.jsonptr_tree.specs.Json.{nodes}
+use Rattle.jsonptr.specs.Text.{Text}
+use Rattle.jsonptr.specs.Node.{NodeMap}
+use Rattle.jsonptr.specs.Json.{nodes}
 use Rattle.jsonptr_patch.specs.Patching.{RefusesPatchBy}
 use Rattle.jsonptr_patch.specs.declared.comparison.Comparison.TheVariants.{Numeric}
 use Rattle.jsonptr_patch.specs.declared.operation.Operation.{Operation}
@@ -15,8 +15,8 @@ use Rattle.jsonptr_edit_in_text.specs.PatchInText.{PatchesInText, IsPatchFault}
 use Rattle.jsonptr_edit_in_text.specs.declared.edited.EditError.TheVariants as edit
 use Rattle.jsonptr_relayout.specs.Relaying.{ReadsAs}
 use Rattle.jptr_tasks.specs.Layouts.{Lays}
-use Rattle.jptr_tasks.specs.declared.failure.Failure.{Failure}
-use Rattle.jptr_tasks.specs.declared.failure.Failure.TheVariants.{NotPatch, BadPatch, TooDeep, NotInPlace, PatchTooDeep, NotJson, Memory}
+use Rattle.jptr_tasks.specs.declared.task_error.TaskError.{TaskError}
+use Rattle.jptr_tasks.specs.declared.task_error.TaskError.TheVariants.{NotPatch, BadPatch, TooDeep, NotInPlace, PatchTooDeep, NotJson, Memory}
 use Rattle.jptr_tasks.specs.declared.layout.Layout.{Layout}
 use Rattle.jptr_tasks.specs.declared.layout.Layout.TheVariants.{Kept}
 
@@ -32,21 +32,21 @@ PatchedBy text patch new = (os : List Operation) × IsPatch patch os × PatchesI
 abbrev pub ReadsSame : Text → Text → Type 0
 ReadsSame text new = (d : Data) × (read text ≡ Some d) × ReadsAs new (nodes d)
 
--- `IsRestyleError text e`: `e` is why the document of `text` is not printed, if it is not for memory
-abbrev pub IsRestyleError : Text → Failure → Type 0
-IsRestyleError text NotJson = read text ≡ None
-IsRestyleError text (Memory f) = ⊤
-IsRestyleError text e = ⊥
+-- `IsLayoutError text e`: `e` is why the document of `text` is not printed, if it is not for memory
+abbrev pub IsLayoutError : Text → TaskError → Type 0
+IsLayoutError text NotJson = read text ≡ None
+IsLayoutError text (Memory f) = ⊤
+IsLayoutError text e = ⊥
 
 -- `IsNotPatch patch e`: `e` is why the document `patch` is not read as a patch, if it is not for memory
-abbrev pub IsNotPatch : Data → Failure → Type 0
+abbrev pub IsNotPatch : Data → TaskError → Type 0
 IsNotPatch patch (NotPatch f) = IsNoPatch patch f
 IsNotPatch patch (Memory f) = ⊤
 IsNotPatch patch e = ⊥
 
 -- `FailsToApply text os layout e`: `e` is why the operations `os` are not applied, if it is not for memory. With `NotInPlace` they
 -- apply, but not in place
-abbrev pub FailsToApply : Text → List Operation → Layout → Failure → Type 0
+abbrev pub FailsToApply : Text → List Operation → Layout → TaskError → Type 0
 FailsToApply text os layout NotJson = read text ≡ None
 FailsToApply text os layout (BadPatch f) = (d : Data) × (read text ≡ Some d) × RefusesPatchBy Numeric (nodes d) os f
 FailsToApply text os layout TooDeep = IsPatchFault text os edit.TooDeep
@@ -55,13 +55,13 @@ FailsToApply text os layout (Memory f) = ⊤
 FailsToApply text os layout e = ⊥
 
 -- `IsPatchTextFault os e`: `e` is why the patch document of the operations `os` is not printed, if it is not for memory
-abbrev pub IsPatchTextFault : List Operation → Failure → Type 0
+abbrev pub IsPatchTextFault : List Operation → TaskError → Type 0
 IsPatchTextFault os PatchTooDeep = max_depth < depth (document_of os)
 IsPatchTextFault os (Memory f) = ⊤
 IsPatchTextFault os e = ⊥
 
 -- `IsApplyFault n os e`: `e` is why the operations `os` are not applied to `n`, if it is not for memory
-abbrev pub IsApplyFault : NodeMap → List Operation → Failure → Type 0
+abbrev pub IsApplyFault : NodeMap → List Operation → TaskError → Type 0
 IsApplyFault n os (BadPatch f) = RefusesPatchBy Numeric n os f
 IsApplyFault n os (Memory f) = ⊤
 IsApplyFault n os e = ⊥

@@ -1,14 +1,14 @@
 -- One turn of a run, and what is known after some turns. Used only by private contracts.
 use Rattle.std.specs.Prelude.{◌≡◌, ◌≢◌, ◌⊎◌, ℕ, ◌+◌, List, [], length, Bool, true, false}
 use Rattle.std.specs.Io.KnownBytes.{Appends, Consumes, IsAtEnd, Keeps}
-use Rattle.jsonptr_grammar.specs.Text.{Text}
-use Rattle.jsonptr_lines.specs.Lines.{IsNextLine}
-use Rattle.jsonptr_lines.specs.PrivateLines.{joined, AreAllLines}
-use Rattle.jsonptr_lines.specs.Streams.{AppendsPrefix}
-use Rattle.jsonptr_lines.specs.declared.read.Ending.TheVariants.{Break, Input}
+use Rattle.jsonptr.specs.Text.{Text}
+use Rattle.jsonptr_io.specs.Lines.{IsNextLine}
+use Rattle.jsonptr_io.specs.PrivateLines.{joined, AreAllLines}
+use Rattle.jsonptr_io.specs.Streams.{AppendsPrefix}
+use Rattle.jsonptr_io.specs.declared.read.Ending.TheVariants.{Break, Input}
 use Rattle.jptr_tasks.specs.LineResults.{LineGives, LinesGive, StopsRun}
 use Rattle.jptr_tasks.specs.PrivateLineResults.{Known, IsPut}
-use Rattle.jptr_tasks.specs.declared.failure.Failure.{Failure}
+use Rattle.jptr_tasks.specs.declared.task_error.TaskError.{TaskError}
 use Rattle.jptr_tasks.specs.declared.line.LineTask.{LineTask}
 use Rattle.jptr_tasks.specs.declared.lines.Ended.{Ended}
 use Rattle.jptr_tasks.specs.declared.lines.Ended.TheVariants.{Fine, Faults}
@@ -29,7 +29,7 @@ IsTurn run n r0 r1 w0 w1 e0 e1 (LastLine fine) =
 IsTurn run n r0 r1 w0 w1 e0 e1 NoLine = IsAtEnd r0 × Keeps w0 w1 × Keeps e0 e1
 
 -- `StopsTurn run n r0 r1 w0 w1 e0 e1 e`: the turn fails with `e`. Nothing is written, or a part of what the next line gives
-abbrev pub StopsTurn : LineTask → ℕ → Known → Known → Known → Known → Known → Known → Failure → Type 0
+abbrev pub StopsTurn : LineTask → ℕ → Known → Known → Known → Known → Known → Known → TaskError → Type 0
 StopsTurn run n r0 r1 w0 w1 e0 e1 e =
     StopsRun e
     × ((Keeps w0 w1 × Keeps e0 e1)

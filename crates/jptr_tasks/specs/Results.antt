@@ -4,8 +4,8 @@ use Rattle.serde_json.specs.Data.{Data}
 use Rattle.serde_json.specs.Read.{read}
 use Rattle.serde_json.specs.View.{view}
 use Rattle.serde_json.specs.declared.value.Value.{Value}
-use Rattle.jsonptr_grammar.specs.Text.{Text}
-use Rattle.jsonptr_tree.specs.Json.{nodes}
+use Rattle.jsonptr.specs.Text.{Text}
+use Rattle.jsonptr.specs.Json.{nodes}
 use Rattle.jsonptr.specs.Pointer.{tokens}
 use Rattle.jsonptr.specs.declared.resolve.Error.{Error}
 use Rattle.jsonptr_patch.specs.Patching.{RefusesPatchBy}
@@ -14,7 +14,7 @@ use Rattle.jsonptr_patch.specs.declared.operation.Operation.{Operation}
 use Rattle.jsonptr_patch_document.specs.Document.{IsPatch, IsNoPatch}
 use Rattle.jsonptr_in_text.specs.InText.{FindsInText, RefusesInText}
 use Rattle.jsonptr_edit_in_text.specs.Bytes.{AssignsBytes, DeletesBytes}
-use Rattle.jsonptr_edit_in_text.specs.Carrying.{value_of, Carries}
+use Rattle.jsonptr_edit_in_text.specs.Carrying.{value_of_raw, Carries}
 use Rattle.jsonptr_edit_in_text.specs.InPlace.{StaysOneLine}
 use Rattle.jsonptr_edit_in_text.specs.Locating.{IsLocated}
 use Rattle.jsonptr_edit_in_text.specs.EditInText.{AssignsInText, IsAssignError, DeletesInText, LacksInText}
@@ -22,9 +22,9 @@ use Rattle.jsonptr_edit_in_text.specs.PatchInText.{PatchesInText, PatchBytes, Is
 use Rattle.jsonptr_edit_in_text.specs.RawPatching.{RawPatchBytes}
 use Rattle.jsonptr_edit_in_text.specs.declared.edited.EditError.TheVariants as edit
 use Rattle.jsonptr_edit_in_text.specs.declared.raw_value.RawValue.{RawValue}
-use Rattle.jptr_tasks.specs.Layouts.{Shows, Lays}
-use Rattle.jptr_tasks.specs.declared.failure.Failure.{Failure}
-use Rattle.jptr_tasks.specs.declared.failure.Failure.TheVariants.{NotPatch, NoValue, BadPlace, NotThere, BadPatch, TooDeep, NotInPlace, NotLocated, NotJson, Memory}
+use Rattle.jptr_tasks.specs.Layouts.{ShowsInLayout, Lays}
+use Rattle.jptr_tasks.specs.declared.task_error.TaskError.{TaskError}
+use Rattle.jptr_tasks.specs.declared.task_error.TaskError.TheVariants.{NotPatch, NoValue, BadPlace, NotThere, BadPatch, TooDeep, NotInPlace, NotLocated, NotJson, Memory}
 use Rattle.jptr_tasks.specs.declared.layout.Layout.{Layout}
 use Rattle.jptr_tasks.specs.declared.layout.Layout.TheVariants.{Kept}
 use Rattle.jptr_tasks.specs.declared.raw_patch.RawPatch.{RawPatch}
@@ -38,28 +38,28 @@ abbrev pub Gets : Text → List Text → Option Value → Layout → Text → Ty
 Gets text ts fallback layout out =
     ((before piece after : Text) × IsLocated text ts before piece after × Lays layout piece out)
     ⊎ ((other : Value) × (e : Error)
-    × (fallback ≡ Some other) × RefusesInText text ts e × Shows layout (view other) out)
+    × (fallback ≡ Some other) × RefusesInText text ts e × ShowsInLayout layout (view other) out)
 
 -- `Sets text ts raw layout out`: `out` is the document of `text` with the value `raw` assigned at the tokens, in this layout. In
 -- the layout `Kept` only the bytes of the assignment change, the new text carries the tokens of the value's own text, and a
 -- text of one line stays one line
 abbrev pub Sets : Text → List Text → RawValue → Layout → Text → Type 0
 Sets text ts raw layout out =
-    (new : Text) × AssignsInText text ts (nodes (value_of raw)) new × Lays layout new out
+    (new : Text) × AssignsInText text ts (nodes (value_of_raw raw)) new × Lays layout new out
     × (layout ≡ Kept
-    → AssignsBytes text ts (value_of raw) new × Carries (string_bytes raw.text.flat) new × StaysOneLine text new)
+    → AssignsBytes text ts (value_of_raw raw) new × Carries (string_bytes raw.text.flat) new × StaysOneLine text new)
 
--- `Deletes text ts layout out`: `out` is the document of `text` without the value at the tokens, in this layout. In the
+-- `DeletesInLayout text ts layout out`: `out` is the document of `text` without the value at the tokens, in this layout. In the
 -- layout `Kept` only the bytes of the deletion change, and a text of one line stays one line
-abbrev pub Deletes : Text → List Text → Layout → Text → Type 0
-Deletes text ts layout out =
+abbrev pub DeletesInLayout : Text → List Text → Layout → Text → Type 0
+DeletesInLayout text ts layout out =
     (new : Text) × DeletesInText text ts new × Lays layout new out
     × (layout ≡ Kept → DeletesBytes text ts new × StaysOneLine text new)
 
--- `PatchesBy text patch layout out`: `out` is the document of `text` after the operations that the document `patch` is,
+-- `PatchesByInLayout text patch layout out`: `out` is the document of `text` after the operations that the document `patch` is,
 -- in this layout. In the layout `Kept` only the bytes of the operations change, and a text of one line stays one line
-abbrev pub PatchesBy : Text → Data → Layout → Text → Type 0
-PatchesBy text patch layout out =
+abbrev pub PatchesByInLayout : Text → Data → Layout → Text → Type 0
+PatchesByInLayout text patch layout out =
     (os : List Operation) × (new : Text)
     × IsPatch patch os × PatchesInText text os new × Lays layout new out
     × (layout ≡ Kept → PatchBytes text os new × StaysOneLine text new)
@@ -71,21 +71,21 @@ PatchesInLayout text patch layout out =
     (os : List Operation) × (new : Text)
     × IsPatch patch os × PatchesInText text os new × Lays layout new out × (layout ≡ Kept → StaysOneLine text new)
 
--- `Patches text p layout out`: `PatchesBy` for the patch `p`. In the layout `Kept` what an operation puts into the text holds the
+-- `PatchesRawInLayout text p layout out`: `PatchesByInLayout` for the patch `p`. In the layout `Kept` what an operation puts into the text holds the
 -- tokens of the text that comes with it
-abbrev pub Patches : Text → RawPatch → Layout → Text → Type 0
-Patches text p layout out =
-    PatchesBy text (view p.document) layout out × (layout ≡ Kept → RawPatchBytes text p.operations.items out)
+abbrev pub PatchesRawInLayout : Text → RawPatch → Layout → Text → Type 0
+PatchesRawInLayout text p layout out =
+    PatchesByInLayout text (view p.document) layout out × (layout ≡ Kept → RawPatchBytes text p.operations.items out)
 
 -- `Yields task layout text out`: `out` is the result of the task on `text`, in this layout
 abbrev pub Yields : Task → Layout → Text → Text → Type 0
 Yields (Get p fallback) layout text out = Gets text (tokens p) fallback layout out
 Yields (Set p v) layout text out = Sets text (tokens p) v layout out
-Yields (Delete p) layout text out = Deletes text (tokens p) layout out
-Yields (Patch p) layout text out = Patches text p layout out
+Yields (Delete p) layout text out = DeletesInLayout text (tokens p) layout out
+Yields (Patch p) layout text out = PatchesRawInLayout text p layout out
 
 -- `FailsToGet text ts fallback e`: `e` is why no value is found, if it is not for memory. With `NotLocated` the value is there
-abbrev pub FailsToGet : Text → List Text → Option Value → Failure → Type 0
+abbrev pub FailsToGet : Text → List Text → Option Value → TaskError → Type 0
 FailsToGet text ts fallback NotJson = read text ≡ None
 FailsToGet text ts fallback (NoValue f) = (fallback ≡ None) × RefusesInText text ts f
 FailsToGet text ts fallback NotLocated = (v : Data) × FindsInText text ts v
@@ -94,7 +94,7 @@ FailsToGet text ts fallback e = ⊥
 
 -- `FailsToSet text ts v layout e`: `e` is why `v` is not assigned at the tokens, if it is not for memory. With `NotInPlace` the
 -- assignment is possible, but not in place
-abbrev pub FailsToSet : Text → List Text → Data → Layout → Failure → Type 0
+abbrev pub FailsToSet : Text → List Text → Data → Layout → TaskError → Type 0
 FailsToSet text ts v layout NotJson = read text ≡ None
 FailsToSet text ts v layout (BadPlace f) = IsAssignError text ts v (edit.Refused f)
 FailsToSet text ts v layout TooDeep = IsAssignError text ts v edit.TooDeep
@@ -104,7 +104,7 @@ FailsToSet text ts v layout e = ⊥
 
 -- `FailsToDelete text ts layout e`: `e` is why nothing is deleted, if it is not for memory. With `NotInPlace` the deletion is
 -- possible, but not in place
-abbrev pub FailsToDelete : Text → List Text → Layout → Failure → Type 0
+abbrev pub FailsToDelete : Text → List Text → Layout → TaskError → Type 0
 FailsToDelete text ts layout NotJson = read text ≡ None
 FailsToDelete text ts layout NotThere = LacksInText text ts
 FailsToDelete text ts layout NotInPlace = (layout ≡ Kept) × ((new : Text) × DeletesInText text ts new)
@@ -113,7 +113,7 @@ FailsToDelete text ts layout e = ⊥
 
 -- `FailsToPatch text patch layout e`: `e` is why the patch is not applied, if it is not for memory. The document `patch` is read
 -- first. With `NotInPlace` the operations apply, but not in place
-abbrev pub FailsToPatch : Text → Data → Layout → Failure → Type 0
+abbrev pub FailsToPatch : Text → Data → Layout → TaskError → Type 0
 FailsToPatch text patch layout (NotPatch f) = IsNoPatch patch f
 FailsToPatch text patch layout NotJson = ((os : List Operation) × IsPatch patch os) × (read text ≡ None)
 FailsToPatch text patch layout (BadPatch f) =
@@ -128,15 +128,15 @@ FailsToPatch text patch layout e = ⊥
 
 -- `FailsToReadPatch patch e`: `e` is why the patch of the document `patch` is not read with the texts of its values, if it is
 -- not for memory. With `NotLocated` the document is a patch
-abbrev pub FailsToReadPatch : Data → Failure → Type 0
+abbrev pub FailsToReadPatch : Data → TaskError → Type 0
 FailsToReadPatch patch (NotPatch f) = IsNoPatch patch f
 FailsToReadPatch patch NotLocated = (os : List Operation) × IsPatch patch os
 FailsToReadPatch patch (Memory f) = ⊤
 FailsToReadPatch patch e = ⊥
 
 -- `Fails task layout text e`: `e` is why the task has no result on `text`, if it is not for memory
-abbrev pub Fails : Task → Layout → Text → Failure → Type 0
+abbrev pub Fails : Task → Layout → Text → TaskError → Type 0
 Fails (Get p fallback) layout text e = FailsToGet text (tokens p) fallback e
-Fails (Set p v) layout text e = FailsToSet text (tokens p) (value_of v) layout e
+Fails (Set p v) layout text e = FailsToSet text (tokens p) (value_of_raw v) layout e
 Fails (Delete p) layout text e = FailsToDelete text (tokens p) layout e
 Fails (Patch p) layout text e = FailsToPatch text (view p.document) layout e

@@ -1,11 +1,11 @@
 -- A run over the lines of an input.
 use Rattle.std.specs.Prelude.{◌≡◌, ◌≢◌, ℕ, List, [], ◌++◌, length, true, Option, string_bytes}
 use Rattle.std.specs.Io.KnownBytes.{Appends}
-use Rattle.jsonptr_grammar.specs.Text.{Text}
-use Rattle.jsonptr_lines.specs.Lines.{AreLines}
-use Rattle.jsonptr_lines.specs.Streams.{ForInput, AppendsPrefix}
+use Rattle.jsonptr.specs.Text.{Text}
+use Rattle.jsonptr_io.specs.Lines.{AreLines}
+use Rattle.jsonptr_io.specs.Streams.{ForInput, AppendsPrefix}
 use Rattle.jptr_tasks.specs.LineResults.{LinesGive, IsReport, StopsRun}
-use Rattle.jptr_tasks.specs.declared.failure.Failure.{Failure}
+use Rattle.jptr_tasks.specs.declared.task_error.TaskError.{TaskError}
 use Rattle.jptr_tasks.specs.declared.line.LineTask.{LineTask}
 use Rattle.jptr_tasks.specs.declared.lines.Ended.{Ended}
 use Rattle.jptr_tasks.specs.declared.lines.Ended.TheVariants.{Fine, Faults, Stopped}
@@ -31,10 +31,10 @@ IsRun run known w0 w1 e0 e1 ended =
     × Appends w0 w1 out
     × Appends e0 e1 err)
 
--- `StopsIn run known w0 w1 e0 e1 e`: the run fails with `e`. To both outputs a prefix is appended of what some first lines
+-- `RunStopsIn run known w0 w1 e0 e1 e`: the run fails with `e`. To both outputs a prefix is appended of what some first lines
 -- of the input give
-abbrev pub StopsIn : LineTask → Option (List ℕ) → Option (List ℕ) → Option (List ℕ) → Option (List ℕ) → Option (List ℕ) → Failure → Type 0
-StopsIn run known w0 w1 e0 e1 e =
+abbrev pub RunStopsIn : LineTask → Option (List ℕ) → Option (List ℕ) → Option (List ℕ) → Option (List ℕ) → Option (List ℕ) → TaskError → Type 0
+RunStopsIn run known w0 w1 e0 e1 e =
     StopsRun e
     × ForInput known (λ bytes. (ls : List Text) × (out err : Text)
     × AreFirstLines bytes ls

@@ -2,14 +2,14 @@
 ghost use Rattle.std.specs.Prelude.{◌≡◌, Some, IfOk, IfErr, string_bytes};
 ghost use Rattle.serde_json.specs.Read.{read};
 ghost use Rattle.serde_json.specs.View.{view};
-ghost use Rattle.jsonptr_tree.specs.Json.{nodes};
+ghost use Rattle.jsonptr.specs.Json.{nodes};
 ghost use Rattle.jsonptr_patch_document.specs.Writing.{document_of};
-ghost use Rattle.jptr_tasks.specs.Layouts.{Shows};
+ghost use Rattle.jptr_tasks.specs.Layouts.{ShowsInLayout};
 ghost use Rattle.jptr_tasks.specs.PrivateResults.{IsPatchTextFault};
 ghost use Rattle.jptr_tasks.specs.Differences.{IsDifference, IsNoneIfSame, FailsToDiffer};
 
-use crate::failure::Failure;
 use crate::layout::{Layout, show};
+use crate::task_error::TaskError;
 use jsonptr_diff::diff;
 use jsonptr_patch::Operation;
 use jsonptr_patch_document::write_patch;
@@ -35,9 +35,9 @@ pub struct Difference {
 ///
 /// # Errors
 ///
-/// - [`Failure::PatchTooDeep`] if the patch document nests deeper than 127. A value is two levels
+/// - [`TaskError::PatchTooDeep`] if the patch document nests deeper than 127. A value is two levels
 ///   deeper in it than in `new`, less the levels of its pointer.
-/// - [`Failure::Memory`] if an allocation fails.
+/// - [`TaskError::Memory`] if an allocation fails.
 ///
 /// # Examples
 ///
@@ -54,12 +54,12 @@ pub fn difference_of(
     old: &Value,
     new: &Value,
     layout: Layout,
-) -> Result<Difference, Failure>
+) -> Result<Difference, TaskError>
     ensures patch { IfOk result
         (IsDifference (nodes (view old.now)) (nodes (view new.now)) layout) }
     ensures same { IfOk result
         (IsNoneIfSame (nodes (view old.now)) (nodes (view new.now))) }
-    ensures failed { IfErr result (FailsToDiffer (nodes (view old.now)) (nodes (view new.now))) }
+    ensures refused { IfErr result (FailsToDiffer (nodes (view old.now)) (nodes (view new.now))) }
 {
     let patch = diff(alloc, old, new)?;
     let text = patch_text(alloc, &patch, layout)?;
@@ -71,22 +71,22 @@ pub fn difference_of(
 ///
 /// # Errors
 ///
-/// [`Failure::PatchTooDeep`] if it nests deeper than 127, and [`Failure::Memory`] if an allocation
+/// [`TaskError::PatchTooDeep`] if it nests deeper than 127, and [`TaskError::Memory`] if an allocation
 /// fails.
 pub(crate) fn patch_text(
     alloc: Global,
     patch: &Vec<Operation>,
     layout: Layout,
-) -> Result<String, Failure>
+) -> Result<String, TaskError>
     ensures shown { IfOk result
-        (λ s. Shows layout (document_of patch.now.items) (string_bytes s)) }
+        (λ s. ShowsInLayout layout (document_of patch.now.items) (string_bytes s)) }
     ensures read_back { IfOk result
         (λ s. read (string_bytes s) ≡ Some (document_of patch.now.items)) }
-    ensures failed { IfErr result (IsPatchTextFault patch.now.items) }
+    ensures refused { IfErr result (IsPatchTextFault patch.now.items) }
 {
     let document = write_patch(alloc, patch)?;
     if !nests_within(&document, MAX_DEPTH) {
-        return Err(Failure::PatchTooDeep);
+        return Err(TaskError::PatchTooDeep);
     }
     let text = show(alloc, &document, layout)?;
     Ok(text)

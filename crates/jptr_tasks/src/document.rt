@@ -1,16 +1,16 @@
 //! A task on one document.
 ghost use Rattle.std.specs.Prelude.{◌≡◌, ◌↔◌, IfOk, IfErr, IfSome, IsTrue, OnOk, string_bytes};
 ghost use Rattle.std.specs.Io.KnownBytes.{Appends};
-ghost use Rattle.jsonptr_lines.specs.Streams.{AppendsPrefix};
-ghost use Rattle.jptr_tasks.specs.Documents.{Prints, FailsOn, PutsDocument, StopsDocument, EndsInBreak};
+ghost use Rattle.jsonptr_io.specs.Streams.{AppendsPrefix};
+ghost use Rattle.jptr_tasks.specs.Documents.{Prints, TaskFailsOn, PutsDocument, StopsDocument, EndsInBreak};
 ghost use Rattle.jptr_tasks.specs.PrivateDocuments.{IsReadFailure};
-ghost use Rattle.jptr_tasks.specs.declared.failure.Failure.TheVariants.{Write};
+ghost use Rattle.jptr_tasks.specs.declared.task_error.TaskError.TheVariants.{Write};
 
-use crate::failure::Failure;
 use crate::layout::Layout;
 use crate::result::result_in_text;
 use crate::task::Task;
-use jsonptr_lines::write::write_bytes;
+use crate::task_error::TaskError;
+use jsonptr_io::write::write_and_flush;
 use simdutf8::basic::from_utf8;
 use std::alloc::{AllocError, Global};
 use std::io;
@@ -38,12 +38,12 @@ pub fn document_result(
     task: &Task<'_>,
     layout: Layout,
     bytes: &[u8],
-) -> Result<String, Failure>
-    ensures done { IfOk result (λ s. Prints task.now layout bytes.now (string_bytes s)) }
-    ensures failed { IfErr result (FailsOn task.now layout bytes.now) }
+) -> Result<String, TaskError>
+    ensures yielded { IfOk result (λ s. Prints task.now layout bytes.now (string_bytes s)) }
+    ensures refused { IfErr result (TaskFailsOn task.now layout bytes.now) }
 {
     let Ok(text) = from_utf8(bytes) else {
-        return Err(Failure::NotJson);
+        return Err(TaskError::NotJson);
     };
     let mut new = result_in_text(alloc, task, layout, text)?;
     if ends_in_break(task, layout) {
@@ -65,12 +65,12 @@ fn ends_in_break(task: &Task<'_>, layout: Layout) -> bool
 /// Reads the input to its end, and writes what the task gives for its document.
 ///
 /// The bytes of the input are left in `bytes`, so that the caller can say more about an error. What
-/// `bytes` had before is removed.
+/// `bytes` had before is removed. All memory is that of the allocator of `bytes`.
 ///
 /// # Errors
 ///
 /// - Those of [`document_result`]; nothing is written then.
-/// - [`Failure::Read`] if a read fails, and [`Failure::Write`] if a write or the flush fails.
+/// - [`TaskError::Read`] if a read fails, and [`TaskError::Write`] if a write or the flush fails.
 ///
 /// # Examples
 ///
@@ -79,54 +79,47 @@ fn ends_in_break(task: &Task<'_>, layout: Layout) -> bool
 /// let mut input = b"{\"a\": [1, 2]}".as_slice();
 /// let mut output = Vec::new(alloc);
 /// let mut bytes = Vec::new(alloc);
-/// run_document(alloc, &task, Layout::Kept, &mut input, &mut bytes, &mut output)?;
+/// run_document(&task, Layout::Kept, &mut input, &mut bytes, &mut output)?;
 /// assert_eq!(rt; output.as_slice(), b"[1, 2]\n".as_slice());
 /// ```
 pub fn run_document<R: io::Read, W: io::Write>(
-    alloc: Global,
     task: &Task<'_>,
     layout: Layout,
     input: &mut R,
     bytes: &mut Vec<u8>,
     output: &mut W,
-) -> Result<(), Failure>
-    ensures done { IfOk result (λ _. PutsDocument task.now layout (R.remaining input.old)
+) -> Result<(), TaskError>
+    ensures written { IfOk result (λ _. PutsDocument task.now layout (R.remaining input.old)
         (W.contents output.old) (W.contents output.new)) }
-    ensures failed { IfErr result (StopsDocument task.now layout (R.remaining input.old)
+    ensures refused { IfErr result (StopsDocument task.now layout (R.remaining input.old)
         (W.contents output.old) (W.contents output.new)) }
 {
     read_all(input, bytes)?;
-    let new = document_result(alloc, task, layout, bytes)?;
+    let new = document_result(*bytes.allocator(), task, layout, bytes)?;
     put_all(output, new.as_str())
 }
 
 /// Reads all of the input into `bytes`.
-pub(crate) fn read_all<R: io::Read>(input: &mut R, bytes: &mut Vec<u8>) -> Result<(), Failure>
-    ensures done { OnOk result (IfSome (R.remaining input.old) (λ xs. bytes.new.items ≡ xs)) }
-    ensures failed { IfErr result IsReadFailure }
+pub(crate) fn read_all<R: io::Read>(input: &mut R, bytes: &mut Vec<u8>) -> Result<(), TaskError>
+    ensures read { OnOk result (IfSome (R.remaining input.old) (λ xs. bytes.new.items ≡ xs)) }
+    ensures refused { IfErr result IsReadFailure }
 {
     bytes.clear();
     match input.read_to_end(bytes) {
         Ok(_) => Ok(()),
-        Err(error) if error.kind() == io::ErrorKind::OutOfMemory => Err(Failure::Memory(
+        Err(error) if error.kind() == io::ErrorKind::OutOfMemory => Err(TaskError::Memory(
             AllocError,
         )),
-        Err(_) => Err(Failure::Read),
+        Err(_) => Err(TaskError::Read),
     }
 }
 
 /// Writes all of the text, and flushes.
-pub(crate) fn put_all<W: io::Write>(output: &mut W, text: &str) -> Result<(), Failure>
-    ensures done { OnOk result
+pub(crate) fn put_all<W: io::Write>(output: &mut W, text: &str) -> Result<(), TaskError>
+    ensures written { OnOk result
         (Appends (W.contents output.old) (W.contents output.new) text.now) }
-    ensures failed { IfErr result (λ e. (e ≡ Write)
+    ensures refused { IfErr result (λ e. (e ≡ Write)
         × AppendsPrefix (W.contents output.old) (W.contents output.new) text.now) }
 {
-    match write_bytes(output, text.as_bytes()) {
-        Ok(()) => match output.flush() {
-            Ok(()) => Ok(()),
-            Err(_) => Err(Failure::Write),
-        },
-        Err(_) => Err(Failure::Write),
-    }
+    write_and_flush(output, text.as_bytes()).map_err(|_| TaskError::Write)
 }

@@ -1,14 +1,14 @@
 //! Changing a document in its text: in place, or by printing it anew where that is wanted.
 ghost use Rattle.std.specs.Prelude.{IfOk, IfErr, string_bytes};
 ghost use Rattle.jsonptr.specs.Pointer.{tokens};
-ghost use Rattle.jsonptr_tree.specs.Json.{nodes};
-ghost use Rattle.jsonptr_edit_in_text.specs.Carrying.{value_of};
+ghost use Rattle.jsonptr.specs.Json.{nodes};
+ghost use Rattle.jsonptr_edit_in_text.specs.Carrying.{value_of_raw};
 ghost use Rattle.jsonptr_edit_in_text.specs.EditInText.{AssignsInText, DeletesInText};
-ghost use Rattle.jptr_tasks.specs.Results.{Sets, Deletes, FailsToSet, FailsToDelete};
+ghost use Rattle.jptr_tasks.specs.Results.{Sets, DeletesInLayout, FailsToSet, FailsToDelete};
 ghost use Rattle.jptr_tasks.specs.PrivateResults.{Remakes};
 
-use crate::failure::Failure;
 use crate::layout::{Layout, lay_out};
+use crate::task_error::TaskError;
 use jsonptr::Pointer;
 use jsonptr_edit_in_text::{
     Buffers, RawValue, assign_raw_in_place, assign_raw_in_text_with, delete_in_place,
@@ -23,60 +23,59 @@ use std::alloc::Global;
 ///
 /// # Errors
 ///
-/// Those of [`Task::Set`](crate::task::Task::Set).
+/// Those of [`result_in_text`](crate::result::result_in_text) for `Task::Set`.
 pub fn set(
-    alloc: Global,
     buffers: &mut Buffers,
     text: &str,
     pointer: Pointer<'_>,
     value: &RawValue,
     layout: Layout,
-) -> Result<String, Failure>
-    ensures done { IfOk result (λ s. Sets text.now (tokens pointer.entry) value.now layout
+) -> Result<String, TaskError>
+    ensures assigned { IfOk result (λ s. Sets text.now (tokens pointer.entry) value.now layout
         (string_bytes s)) }
-    ensures failed { IfErr result
-        (FailsToSet text.now (tokens pointer.entry) (value_of value.now) layout) }
+    ensures refused { IfErr result
+        (FailsToSet text.now (tokens pointer.entry) (value_of_raw value.now) layout) }
 {
     match layout {
-        Layout::Kept => set_in_place(alloc, buffers, text, pointer, value),
-        _ => set_anew(alloc, buffers, text, pointer, value, layout),
+        Layout::Kept => set_in_place(buffers, text, pointer, value),
+        _ => set_anew(buffers, text, pointer, value, layout),
     }
 }
 
 /// Assigns the value at the pointer in the text, in place.
 fn set_in_place(
-    alloc: Global,
     buffers: &mut Buffers,
     text: &str,
     pointer: Pointer<'_>,
     value: &RawValue,
-) -> Result<String, Failure>
-    ensures done { IfOk result (λ s. Sets text.now (tokens pointer.entry) value.now
+) -> Result<String, TaskError>
+    ensures assigned { IfOk result (λ s. Sets text.now (tokens pointer.entry) value.now
         Layout.Kept (string_bytes s)) }
-    ensures failed { IfErr result
-        (FailsToSet text.now (tokens pointer.entry) (value_of value.now) Layout.Kept) }
+    ensures refused { IfErr result
+        (FailsToSet text.now (tokens pointer.entry) (value_of_raw value.now) Layout.Kept) }
 {
+    let alloc = *value.text.flat.allocator();
     match assign_raw_in_place(alloc, buffers, text, pointer, value) {
         Ok(new) => Ok(new),
-        Err(error) => Err(Failure::from(error)),
+        Err(error) => Err(TaskError::from(error)),
     }
 }
 
 /// Assigns the value at the pointer in the text, and prints the new document in this layout.
 fn set_anew(
-    alloc: Global,
     buffers: &mut Buffers,
     text: &str,
     pointer: Pointer<'_>,
     value: &RawValue,
     layout: Layout,
-) -> Result<String, Failure>
-    ensures done { IfOk result (λ s. Remakes
-        (AssignsInText text.now (tokens pointer.entry) (nodes (value_of value.now))) layout
+) -> Result<String, TaskError>
+    ensures assigned { IfOk result (λ s. Remakes
+        (AssignsInText text.now (tokens pointer.entry) (nodes (value_of_raw value.now))) layout
         (string_bytes s)) }
-    ensures failed { IfErr result
-        (FailsToSet text.now (tokens pointer.entry) (value_of value.now) layout) }
+    ensures refused { IfErr result
+        (FailsToSet text.now (tokens pointer.entry) (value_of_raw value.now) layout) }
 {
+    let alloc = *value.text.flat.allocator();
     let edited = assign_raw_in_text_with(alloc, buffers, text, pointer, value)?;
     lay_out(alloc, &mut buffers.old, edited.as_str(), layout)
 }
@@ -89,17 +88,17 @@ fn set_anew(
 ///
 /// # Errors
 ///
-/// Those of [`Task::Delete`](crate::task::Task::Delete).
+/// Those of [`result_in_text`](crate::result::result_in_text) for `Task::Delete`.
 pub fn delete(
     alloc: Global,
     buffers: &mut Buffers,
     text: &str,
     pointer: Pointer<'_>,
     layout: Layout,
-) -> Result<String, Failure>
-    ensures done { IfOk result (λ s. Deletes text.now (tokens pointer.entry) layout
+) -> Result<String, TaskError>
+    ensures deleted { IfOk result (λ s. DeletesInLayout text.now (tokens pointer.entry) layout
         (string_bytes s)) }
-    ensures failed { IfErr result (FailsToDelete text.now (tokens pointer.entry) layout) }
+    ensures refused { IfErr result (FailsToDelete text.now (tokens pointer.entry) layout) }
 {
     match layout {
         Layout::Kept => cut_out(alloc, buffers, text, pointer),
@@ -113,15 +112,15 @@ fn cut_out(
     buffers: &mut Buffers,
     text: &str,
     pointer: Pointer<'_>,
-) -> Result<String, Failure>
-    ensures done { IfOk result (λ s. Deletes text.now (tokens pointer.entry) Layout.Kept
+) -> Result<String, TaskError>
+    ensures deleted { IfOk result (λ s. DeletesInLayout text.now (tokens pointer.entry) Layout.Kept
         (string_bytes s)) }
-    ensures failed { IfErr result
+    ensures refused { IfErr result
         (FailsToDelete text.now (tokens pointer.entry) Layout.Kept) }
 {
     match delete_in_place(alloc, buffers, text, pointer)? {
         Some(new) => Ok(new),
-        None => Err(Failure::NotThere),
+        None => Err(TaskError::NotThere),
     }
 }
 
@@ -133,13 +132,13 @@ fn delete_anew(
     text: &str,
     pointer: Pointer<'_>,
     layout: Layout,
-) -> Result<String, Failure>
-    ensures done { IfOk result (λ s. Remakes (DeletesInText text.now (tokens pointer.entry)) layout
+) -> Result<String, TaskError>
+    ensures deleted { IfOk result (λ s. Remakes (DeletesInText text.now (tokens pointer.entry)) layout
         (string_bytes s)) }
-    ensures failed { IfErr result (FailsToDelete text.now (tokens pointer.entry) layout) }
+    ensures refused { IfErr result (FailsToDelete text.now (tokens pointer.entry) layout) }
 {
     match delete_in_text_with(alloc, buffers, text, pointer)? {
         Some(edited) => lay_out(alloc, &mut buffers.old, edited.as_str(), layout),
-        None => Err(Failure::NotThere),
+        None => Err(TaskError::NotThere),
     }
 }

@@ -1,16 +1,16 @@
 //! The patch document that takes a patch back.
 ghost use Rattle.std.specs.Prelude.{IfOk, IfErr};
 ghost use Rattle.serde_json.specs.View.{view};
-ghost use Rattle.jsonptr_tree.specs.Json.{nodes};
+ghost use Rattle.jsonptr.specs.Json.{nodes};
 ghost use Rattle.jsonptr_patch.specs.Patching.{Patches, PatchesBy};
 ghost use Rattle.jsonptr_patch.specs.declared.comparison.Comparison.TheVariants.{Numeric};
 ghost use Rattle.jptr_tasks.specs.Inverting.{IsInverse, FailsToInvert};
 ghost use Rattle.jptr_tasks.specs.PrivateResults.{IsApplyFault};
 
 use crate::difference::{Difference, patch_text};
-use crate::failure::Failure;
 use crate::layout::{Layout, read_text};
 use crate::patching::operations_of;
+use crate::task_error::TaskError;
 use jsonptr::Fault;
 use jsonptr_patch::{Comparison, Operation, apply_comparing_with_inverse};
 use serde_json::Value;
@@ -24,12 +24,12 @@ use std::alloc::Global;
 ///
 /// # Errors
 ///
-/// - [`Failure::NotPatch`] if the patch document is not a patch, and [`Failure::BadPatch`] if an
+/// - [`TaskError::NotPatch`] if the patch document is not a patch, and [`TaskError::BadPatch`] if an
 ///   operation fails.
-/// - [`Failure::NotJson`] if the text is not JSON.
-/// - [`Failure::PatchTooDeep`] if the inverse nests deeper than 127. A value of the document is two
+/// - [`TaskError::NotJson`] if the text is not JSON.
+/// - [`TaskError::PatchTooDeep`] if the inverse nests deeper than 127. A value of the document is two
 ///   levels deeper in it, less the levels of its pointer.
-/// - [`Failure::Memory`] if an allocation fails.
+/// - [`TaskError::Memory`] if an allocation fails.
 ///
 /// # Examples
 ///
@@ -44,9 +44,9 @@ pub fn inverse_of(
     text: &str,
     patch: &Value,
     layout: Layout,
-) -> Result<Difference, Failure>
+) -> Result<Difference, TaskError>
     ensures inverse { IfOk result (IsInverse text.now (view patch.now) layout) }
-    ensures failed { IfErr result (FailsToInvert text.now (view patch.now)) }
+    ensures refused { IfErr result (FailsToInvert text.now (view patch.now)) }
 {
     let operations = operations_of(alloc, patch)?;
     let mut document = read_text(alloc, text)?;
@@ -60,22 +60,22 @@ pub fn inverse_of(
 ///
 /// # Errors
 ///
-/// [`Failure::BadPatch`] if an operation fails, and [`Failure::Memory`] if an allocation fails.
+/// [`TaskError::BadPatch`] if an operation fails, and [`TaskError::Memory`] if an allocation fails.
 fn take_back(
     alloc: Global,
     document: &mut Value,
     operations: Vec<Operation>,
-) -> Result<Vec<Operation>, Failure>
+) -> Result<Vec<Operation>, TaskError>
     ensures applied { IfOk result (λ _.
         PatchesBy Numeric (nodes (view document.old)) operations.items
         (nodes (view document.new))) }
     ensures inverse { IfOk result (λ back.
         Patches (nodes (view document.new)) back.items (nodes (view document.old))) }
-    ensures failed { IfErr result (IsApplyFault (nodes (view document.old)) operations.items) }
+    ensures refused { IfErr result (IsApplyFault (nodes (view document.old)) operations.items) }
 {
     match apply_comparing_with_inverse(alloc, document, operations, Comparison::Numeric) {
         Ok(back) => Ok(back),
-        Err(Fault::Refused(error)) => Err(Failure::BadPatch(error)),
-        Err(Fault::Memory(error)) => Err(Failure::Memory(error)),
+        Err(Fault::Refused(error)) => Err(TaskError::BadPatch(error)),
+        Err(Fault::Memory(error)) => Err(TaskError::Memory(error)),
     }
 }

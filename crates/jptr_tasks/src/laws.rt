@@ -7,24 +7,24 @@ ghost use Rattle.std.specs.declared.alloc.AllocError.{AllocError};
 ghost use Rattle.serde_json.specs.Data.{Data};
 ghost use Rattle.serde_json.specs.Read.{read};
 ghost use Rattle.serde_json.specs.View.{view};
-ghost use Rattle.jsonptr_grammar.specs.Text.{Text};
-ghost use Rattle.jsonptr_tree.specs.Json.{nodes};
-ghost use Rattle.jsonptr_lines.specs.Lines.{AreLines};
+ghost use Rattle.jsonptr.specs.Text.{Text};
+ghost use Rattle.jsonptr.specs.Json.{nodes};
+ghost use Rattle.jsonptr_io.specs.Lines.{AreLines};
 ghost use Rattle.jsonptr_patch_document.specs.Document.{IsNoPatch};
 ghost use Rattle.jsonptr_patch_document.specs.declared.error.PatchDocumentError.{PatchDocumentError};
 ghost use Rattle.jsonptr_paths.specs.declared.listing.Listed.TheVariants.{AllNodes};
 ghost use Rattle.jsonptr_paths.specs.declared.reading.LineError.{LineError};
 ghost use Rattle.jptr_tasks.specs.Cutting.{EndsInLineFeed, InputGives, IsShifted};
-ghost use Rattle.jptr_tasks.specs.Documents.{FailsOn};
+ghost use Rattle.jptr_tasks.specs.Documents.{TaskFailsOn};
 ghost use Rattle.jptr_tasks.specs.LineResults.{IsLineFault, LinesGive, StopsRun};
 ghost use Rattle.jptr_tasks.specs.Differences.{IsDifference};
 ghost use Rattle.jptr_tasks.specs.Inverting.{IsInverse};
-ghost use Rattle.jptr_tasks.specs.Layouts.{Shows, ReadsBack};
+ghost use Rattle.jptr_tasks.specs.Layouts.{ShowsInLayout, ReadsBack};
 ghost use Rattle.jptr_tasks.specs.Paths.{ListsText, BuildsText, FailsToBuild};
-ghost use Rattle.jptr_tasks.specs.Results.{PatchesBy, FailsToPatch};
+ghost use Rattle.jptr_tasks.specs.Results.{PatchesByInLayout, FailsToPatch};
 ghost use Rattle.jptr_tasks.specs.declared.difference.Difference.{Difference};
-ghost use Rattle.jptr_tasks.specs.declared.failure.Failure.{Failure};
-ghost use Rattle.jptr_tasks.specs.declared.failure.Failure.TheVariants.{BadLine, NotInPlace, NotJson, Memory};
+ghost use Rattle.jptr_tasks.specs.declared.task_error.TaskError.{TaskError};
+ghost use Rattle.jptr_tasks.specs.declared.task_error.TaskError.TheVariants.{BadLine, NotInPlace, NotJson, Memory};
 ghost use Rattle.jptr_tasks.specs.declared.layout.Layout.{Layout};
 ghost use Rattle.jptr_tasks.specs.declared.line.LineTask.{LineTask};
 ghost use Rattle.jptr_tasks.specs.declared.raw_patch.RawPatch.{RawPatch};
@@ -46,7 +46,7 @@ pub fn paths_law()
     ensures printed { (layout : Layout) (bytes : List ℕ) (lines out : Text)
         → ListsText AllNodes bytes lines
         → BuildsText layout lines out
-        → (d : Data) × (shown : Text) × (read bytes ≡ Some d) × Shows layout d shown
+        → (d : Data) × (shown : Text) × (read bytes ≡ Some d) × ShowsInLayout layout d shown
         × ReadsBack layout d shown
         × (out ≡ shown ++ 10 ∷ []) }
     ensures no_error { (bytes : List ℕ) (lines : Text) (number : ℕ) (e : LineError)
@@ -61,16 +61,16 @@ pub fn paths_law()
 ///
 /// Let `a` and `b` be texts of documents, and let the text of their difference be applied to `a`. Then
 /// the text that is printed reads as the document of `b`, in each layout. There is no error but a
-/// failed allocation, and [`Failure::NotInPlace`](crate::failure::Failure::NotInPlace) in the layout
+/// failed allocation, and [`TaskError::NotInPlace`](crate::task_error::TaskError::NotInPlace) in the layout
 /// [`Layout::Kept`](crate::layout::Layout::Kept).
 pub fn difference_law()
     ensures patched { (a b out : Text) (n m p : Data) (style layout : Layout) (d : Difference)
         → read a ≡ Some n → read b ≡ Some m
         → IsDifference (nodes n) (nodes m) style d
         → read (string_bytes d.text) ≡ Some p
-        → PatchesBy a p layout out
+        → PatchesByInLayout a p layout out
         → ReadsBack layout m out }
-    ensures never_fails { (a b : Text) (n m p : Data) (style layout : Layout) (d : Difference) (e : Failure)
+    ensures never_fails { (a b : Text) (n m p : Data) (style layout : Layout) (d : Difference) (e : TaskError)
         → read a ≡ Some n → read b ≡ Some m
         → IsDifference (nodes n) (nodes m) style d
         → read (string_bytes d.text) ≡ Some p
@@ -88,19 +88,19 @@ pub fn difference_law()
 ///
 /// Let a patch be applied to the text `a`, and let its inverse be applied to the text that is printed.
 /// Then the text that is printed reads as the document of `a`, in each layout. There is no error but a
-/// failed allocation, and [`Failure::NotInPlace`](crate::failure::Failure::NotInPlace) in the layout
+/// failed allocation, and [`TaskError::NotInPlace`](crate::task_error::TaskError::NotInPlace) in the layout
 /// [`Layout::Kept`](crate::layout::Layout::Kept). The first of the two does not print in the layout
 /// [`Layout::Raw`](crate::layout::Layout::Raw), since a string is not JSON without its quotes.
 pub fn inverse_law()
     ensures undone { (a b out : Text) (d patch back : Data) (style first layout : Layout) (u : Difference)
         → read a ≡ Some d
-        → PatchesBy a patch first b → first ≢ Raw
+        → PatchesByInLayout a patch first b → first ≢ Raw
         → IsInverse a patch style u → read (string_bytes u.text) ≡ Some back
-        → PatchesBy b back layout out
+        → PatchesByInLayout b back layout out
         → ReadsBack layout d out }
-    ensures never_fails { (a b : Text) (d patch back : Data) (style first layout : Layout) (u : Difference) (e : Failure)
+    ensures never_fails { (a b : Text) (d patch back : Data) (style first layout : Layout) (u : Difference) (e : TaskError)
         → read a ≡ Some d
-        → PatchesBy a patch first b → first ≢ Raw
+        → PatchesByInLayout a patch first b → first ≢ Raw
         → IsInverse a patch style u → read (string_bytes u.text) ≡ Some back
         → FailsToPatch b back layout e
         → ((f : AllocError) × (e ≡ Memory f)) ⊎ ((layout ≡ Kept) × (e ≡ NotInPlace)) }
@@ -141,9 +141,9 @@ pub fn cut_law()
 /// Bytes that are not UTF-8 are not JSON, whatever else is wrong (`bytes`, `line`). Of a text, the patch
 /// document is looked at first: if it is not a patch, no error says that the text is not JSON.
 pub fn order_law()
-    ensures bytes { (task : Task) (layout : Layout) (bytes : List ℕ) (e : Failure)
-        → (IsUtf8 bytes → ⊥) → (StopsRun e → ⊥) → FailsOn task layout bytes e → e ≡ NotJson }
-    ensures line { (task : Task) (layout : Layout) (l : Text) (e : Failure)
+    ensures bytes { (task : Task) (layout : Layout) (bytes : List ℕ) (e : TaskError)
+        → (IsUtf8 bytes → ⊥) → (StopsRun e → ⊥) → TaskFailsOn task layout bytes e → e ≡ NotJson }
+    ensures line { (task : Task) (layout : Layout) (l : Text) (e : TaskError)
         → (IsUtf8 l → ⊥) → IsLineFault task layout l e → e ≡ NotJson }
     ensures patch { (text : Text) (patch : Data) (layout : Layout) (e : PatchDocumentError)
         → IsNoPatch patch e → FailsToPatch text patch layout NotJson → ⊥ }
@@ -152,7 +152,7 @@ pub fn order_law()
         → IsUtf8 l → IsNoPatch (view patch.document) e → IsLineFault (Patch patch) layout l NotJson → ⊥ }
     ensures patch_of_bytes { (patch : RawPatch) (layout : Layout) (bytes : List ℕ)
         (e : PatchDocumentError)
-        → IsUtf8 bytes → IsNoPatch (view patch.document) e → FailsOn (Patch patch) layout bytes NotJson
+        → IsUtf8 bytes → IsNoPatch (view patch.document) e → TaskFailsOn (Patch patch) layout bytes NotJson
         → ⊥ }
 {
     patch_document_law();

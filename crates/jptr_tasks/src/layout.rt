@@ -3,11 +3,12 @@ ghost use Rattle.std.specs.Prelude.{◌≡◌, Some, IfOk, IfErr, string_bytes};
 ghost use Rattle.serde_json.specs.Read.{read};
 ghost use Rattle.jsonptr_in_text.specs.Format.{IsFormatted};
 ghost use Rattle.serde_json.specs.View.{view};
-ghost use Rattle.jptr_tasks.specs.Layouts.{Shows, Lays};
-ghost use Rattle.jptr_tasks.specs.PrivateResults.{IsRestyleError};
+ghost use Rattle.jptr_tasks.specs.Layouts.{ShowsInLayout, Lays};
+ghost use Rattle.jptr_tasks.specs.PrivateResults.{IsLayoutError};
 
-use crate::failure::Failure;
+use crate::task_error::TaskError;
 use jsonptr_in_text::{Format, InTextError, Scratch, format_text};
+use jsonptr_value::ReadError;
 use serde_json::Value;
 use std::alloc::{AllocError, Global};
 
@@ -45,7 +46,7 @@ pub enum Layout {
 /// assert_eq!(rt; show(alloc, &name, Layout::Raw)?.as_str(), "Ada");
 /// ```
 pub fn show(alloc: Global, value: &Value, layout: Layout) -> Result<String, AllocError>
-    ensures { IfOk result (λ s. Shows layout (view value.now) (string_bytes s)) }
+    ensures { IfOk result (λ s. ShowsInLayout layout (view value.now) (string_bytes s)) }
 {
     match layout {
         Layout::Kept | Layout::Compact | Layout::Sorted => value.to_string(alloc),
@@ -56,7 +57,7 @@ pub fn show(alloc: Global, value: &Value, layout: Layout) -> Result<String, Allo
 
 /// Returns the string that the value is, or the JSON text of another value.
 fn show_raw(alloc: Global, value: &Value) -> Result<String, AllocError>
-    ensures { IfOk result (λ s. Shows Layout.Raw (view value.now) (string_bytes s)) }
+    ensures { IfOk result (λ s. ShowsInLayout Layout.Raw (view value.now) (string_bytes s)) }
 {
     match value.as_str() {
         Some(text) => String::from_str(alloc, text),
@@ -64,20 +65,19 @@ fn show_raw(alloc: Global, value: &Value) -> Result<String, AllocError>
     }
 }
 
-/// Returns the JSON text in this layout.
+/// Returns the JSON text in this layout. With [`Layout::Kept`] that is the text as it is.
 ///
 /// # Errors
 ///
-/// [`Failure::NotJson`] if the text is not JSON, and [`Failure::Memory`] if an allocation fails. With
-/// [`Layout::Kept`] the text is returned as it is.
+/// [`TaskError::NotJson`] if the text is not JSON, and [`TaskError::Memory`] if an allocation fails.
 pub(crate) fn lay_out(
     alloc: Global,
     scratch: &mut Scratch,
     text: &str,
     layout: Layout,
-) -> Result<String, Failure>
-    ensures done { IfOk result (λ s. Lays layout text.now (string_bytes s)) }
-    ensures failed { IfErr result (IsRestyleError text.now) }
+) -> Result<String, TaskError>
+    ensures laid_out { IfOk result (λ s. Lays layout text.now (string_bytes s)) }
+    ensures refused { IfErr result (IsLayoutError text.now) }
 {
     match layout {
         Layout::Kept => Ok(String::from_str(alloc, text)?),
@@ -104,14 +104,14 @@ fn formatted(
     scratch: &mut Scratch,
     text: &str,
     format: Format,
-) -> Result<String, Failure>
-    ensures done { IfOk result (λ s. IsFormatted format text.now (string_bytes s)) }
-    ensures failed { IfErr result (IsRestyleError text.now) }
+) -> Result<String, TaskError>
+    ensures laid_out { IfOk result (λ s. IsFormatted format text.now (string_bytes s)) }
+    ensures refused { IfErr result (IsLayoutError text.now) }
 {
     match format_text(alloc, scratch, text, format) {
         Ok(new) => Ok(new),
-        Err(InTextError::Memory(error)) => Err(Failure::Memory(error)),
-        Err(InTextError::NotJson | InTextError::Resolve(_)) => Err(Failure::NotJson),
+        Err(InTextError::Memory(error)) => Err(TaskError::Memory(error)),
+        Err(InTextError::NotJson | InTextError::Resolve(_)) => Err(TaskError::NotJson),
     }
 }
 
@@ -119,14 +119,14 @@ fn formatted(
 ///
 /// # Errors
 ///
-/// [`Failure::NotJson`] if the text is not JSON, and [`Failure::Memory`] if an allocation fails.
-pub fn read_text(alloc: Global, text: &str) -> Result<Value, Failure>
-    ensures done { IfOk result (λ v. read text.now ≡ Some (view v)) }
-    ensures failed { IfErr result (IsRestyleError text.now) }
+/// [`TaskError::NotJson`] if the text is not JSON, and [`TaskError::Memory`] if an allocation fails.
+pub fn read_text(alloc: Global, text: &str) -> Result<Value, TaskError>
+    ensures read { IfOk result (λ v. read text.now ≡ Some (view v)) }
+    ensures refused { IfErr result (IsLayoutError text.now) }
 {
-    match Value::from_str(alloc, text) {
+    match jsonptr_value::read(alloc, text) {
         Ok(value) => Ok(value),
-        Err(error) if error.is_memory() => Err(Failure::Memory(AllocError)),
-        Err(_) => Err(Failure::NotJson),
+        Err(ReadError::Memory) => Err(TaskError::Memory(AllocError)),
+        Err(ReadError::NotJson) => Err(TaskError::NotJson),
     }
 }

@@ -7,20 +7,20 @@
 //! - [`difference`]: the patch document that turns one document into another.
 //! - [`inverse`]: the patch document that takes a patch back.
 //! - [`document`]: a task on one document, from a reader to a writer.
-//! - [`lines`]: a task on each line of an input.
+//! - [`line`]: a task on one line, and [`lines`]: on each line of an input.
 //! - [`node`]: the type, the length and the keys of a value, and whether it equals another one.
 //! - [`paths`]: a document as lines of pointers and values, and a document from such lines.
 //! - [`patching`]: applying a patch document, and [`long_patch`]: one of many operations.
 //! - [`raw_patch`]: a patch document, with the texts of its values.
 //! - [`replacement`]: replacing the text of a file, whatever moment the system stops at.
-//! - [`failure`]: the errors, and the exit status of each.
-//! - [`laws`]: that lines build the document that they list.
+//! - [`task_error`]: the errors, and the exit status of each.
+//! - [`laws`]: lines, differences and inverses as texts, inputs that are cut, and that each input has one
+//!   error.
 #![tactic(auto)]
 
 pub mod difference;
 pub mod document;
 mod edit;
-pub mod failure;
 pub mod inverse;
 pub mod laws;
 pub mod layout;
@@ -34,3 +34,4 @@ pub mod raw_patch;
 pub mod replacement;
 pub mod result;
 pub mod task;
+pub mod task_error;

@@ -1,18 +1,18 @@
 //! The result of a task on one line of an input.
 ghost use Rattle.std.specs.Prelude.{◌≡◌, ◌∷◌, ◌++◌, [], IfOk, IfErr, OnOk, string_bytes};
 ghost use Rattle.std.specs.Io.KnownBytes.{Appends};
-ghost use Rattle.jsonptr_lines.specs.Streams.{AppendsPrefix};
+ghost use Rattle.jsonptr_io.specs.Streams.{AppendsPrefix};
 ghost use Rattle.jptr_tasks.specs.LineResults.{YieldsLine, IsLineFault, IsReport, StopsRun, fallback_line};
 ghost use Rattle.jptr_tasks.specs.PrivateLineResults.{OrMemory, IsNoMemory, IsPut, StopsPut};
-ghost use Rattle.jptr_tasks.specs.declared.failure.Failure.TheVariants.{Write};
+ghost use Rattle.jptr_tasks.specs.declared.task_error.TaskError.TheVariants.{Write};
 
-use crate::failure::Failure;
 use crate::layout::Layout;
 use crate::result::result_in_text_with;
 use crate::task::Task;
+use crate::task_error::TaskError;
 use jsonptr_edit_in_text::Buffers;
+use jsonptr_io::write::write_bytes;
 use jsonptr_json_edits::spacing::are_blank;
-use jsonptr_lines::write::write_bytes;
 use serde_json::Value;
 use simdutf8::basic::from_utf8;
 use std::alloc::{AllocError, Global};
@@ -33,31 +33,39 @@ pub struct LineTask<'a> {
     pub is_strict: bool,
 }
 
-/// Writes the result of the line with this number. Of a line at fault it writes the fallback and, to
+/// A line of an input.
+#[derive(Clone, Copy, Debug)]
+pub struct Line<'l> {
+    /// Its number, from 1.
+    pub number: u64,
+    /// Its bytes, without its line break.
+    pub bytes: &'l [u8],
+}
+
+/// Writes the result of the line. Of a line at fault it writes the fallback and, to
 /// `errors`, a report. A line of white space is passed over. Returns whether the line is not at fault.
 ///
 /// # Errors
 ///
-/// [`Failure::Memory`] if an allocation fails, and then nothing is written. [`Failure::Write`] if a
+/// [`TaskError::Memory`] if an allocation fails, and then nothing is written. [`TaskError::Write`] if a
 /// write fails.
 pub fn put_line<W: io::Write, E: io::Write>(
-    alloc: Global,
     buffers: &mut Buffers,
     run: &LineTask<'_>,
-    number: u64,
-    line: &[u8],
+    line: Line<'_>,
     output: &mut W,
     errors: &mut E,
-) -> Result<bool, Failure>
-    ensures done { IfOk result (IsPut run.now number line.now (W.contents output.old)
+) -> Result<bool, TaskError>
+    ensures written { IfOk result (IsPut run.now line.entry.number line.entry.bytes.now (W.contents output.old)
         (W.contents output.new) (E.contents errors.old) (E.contents errors.new)) }
-    ensures failed { IfErr result (StopsPut run.now number line.now (W.contents output.old)
+    ensures refused { IfErr result (StopsPut run.now line.entry.number line.entry.bytes.now (W.contents output.old)
         (W.contents output.new) (E.contents errors.old) (E.contents errors.new)) }
 {
-    if are_blank(line) {
+    if are_blank(line.bytes) {
         return Ok(true);
     }
-    match line_result(alloc, buffers, &run.task, run.layout, line) {
+    let alloc = *run.name.allocator();
+    match line_result(alloc, buffers, &run.task, run.layout, line.bytes) {
         Ok(text) => {
             let text = with_break(text)?;
             put_text(output, text.as_str())?;
@@ -65,7 +73,7 @@ pub fn put_line<W: io::Write, E: io::Write>(
         }
         Err(failure) => {
             let failure = fault_of_line(failure)?;
-            let report = report_of(alloc, run.name.as_str(), number, line, &failure)?;
+            let report = report_of(alloc, run.name.as_str(), line, &failure)?;
             put_fault(&run.fallback, report.as_str(), output, errors)?;
             Ok(false)
         }
@@ -76,7 +84,7 @@ pub fn put_line<W: io::Write, E: io::Write>(
 ///
 /// # Errors
 ///
-/// Those of [`result_in_text`](crate::result::result_in_text), and [`Failure::LineBreak`] if the
+/// Those of [`result_in_text`](crate::result::result_in_text), and [`TaskError::LineBreak`] if the
 /// result contains a line break: that of a line in [`Layout::Raw`], [`Layout::Pretty`] or
 /// [`Layout::SortedPretty`].
 fn line_result(
@@ -85,28 +93,28 @@ fn line_result(
     task: &Task<'_>,
     layout: Layout,
     line: &[u8],
-) -> Result<String, Failure>
-    ensures done { IfOk result (λ s. YieldsLine task.now layout line.now (string_bytes s)) }
-    ensures failed { IfErr result (λ e. OrMemory e (IsLineFault task.now layout line.now e)) }
+) -> Result<String, TaskError>
+    ensures yielded { IfOk result (λ s. YieldsLine task.now layout line.now (string_bytes s)) }
+    ensures refused { IfErr result (λ e. OrMemory e (IsLineFault task.now layout line.now e)) }
 {
     let Ok(text) = from_utf8(line) else {
-        return Err(Failure::NotJson);
+        return Err(TaskError::NotJson);
     };
     let new = result_in_text_with(alloc, buffers, task, layout, text)?;
     if new.as_bytes().contains(&b'\n') {
-        return Err(Failure::LineBreak);
+        return Err(TaskError::LineBreak);
     }
     Ok(new)
 }
 
 /// Returns the failure again if it is a fault of the line, and as an error if it is a failed
 /// allocation.
-fn fault_of_line(failure: Failure) -> Result<Failure, Failure>
-    ensures fault { IfOk result (λ e. (e ≡ failure) × IsNoMemory e) }
-    ensures memory { IfErr result StopsRun }
+fn fault_of_line(failure: TaskError) -> Result<TaskError, TaskError>
+    ensures reported { IfOk result (λ e. (e ≡ failure) × IsNoMemory e) }
+    ensures refused { IfErr result StopsRun }
 {
     match failure {
-        Failure::Memory(error) => Err(Failure::Memory(error)),
+        TaskError::Memory(error) => Err(TaskError::Memory(error)),
         failure => Ok(failure),
     }
 }
@@ -121,29 +129,33 @@ fn with_break(text: String) -> Result<String, AllocError>
 }
 
 /// Writes the text.
-fn put_text<W: io::Write>(output: &mut W, text: &str) -> Result<(), Failure>
-    ensures done { OnOk result
+fn put_text<W: io::Write>(output: &mut W, text: &str) -> Result<(), TaskError>
+    ensures written { OnOk result
         (Appends (W.contents output.old) (W.contents output.new) text.now) }
-    ensures failed { IfErr result (λ e. (e ≡ Write)
+    ensures refused { IfErr result (λ e. (e ≡ Write)
         × AppendsPrefix (W.contents output.old) (W.contents output.new) text.now) }
 {
     match write_bytes(output, text.as_bytes()) {
         Ok(()) => Ok(()),
-        Err(_) => Err(Failure::Write),
+        Err(_) => Err(TaskError::Write),
     }
 }
 
-/// Writes the fallback, if there is one, and the report.
-fn put_fault<W: io::Write, E: io::Write>(
+/// Writes the fallback, if there is one, and to `errors` the report of a line at fault.
+///
+/// # Errors
+///
+/// [`TaskError::Write`] if a write fails.
+pub fn put_fault<W: io::Write, E: io::Write>(
     fallback: &Option<String>,
     report: &str,
     output: &mut W,
     errors: &mut E,
-) -> Result<(), Failure>
-    ensures done { OnOk result (
+) -> Result<(), TaskError>
+    ensures written { OnOk result (
         Appends (W.contents output.old) (W.contents output.new) (fallback_line fallback.now)
         × Appends (E.contents errors.old) (E.contents errors.new) report.now) }
-    ensures failed { IfErr result (λ e. (e ≡ Write)
+    ensures refused { IfErr result (λ e. (e ≡ Write)
         × AppendsPrefix (W.contents output.old) (W.contents output.new)
         (fallback_line fallback.now)
         × AppendsPrefix (E.contents errors.old) (E.contents errors.new) report.now) }
@@ -153,10 +165,10 @@ fn put_fault<W: io::Write, E: io::Write>(
 }
 
 /// Writes the fallback, if there is one.
-fn put_fallback<W: io::Write>(fallback: &Option<String>, output: &mut W) -> Result<(), Failure>
-    ensures done { OnOk result (Appends (W.contents output.old) (W.contents output.new)
+fn put_fallback<W: io::Write>(fallback: &Option<String>, output: &mut W) -> Result<(), TaskError>
+    ensures written { OnOk result (Appends (W.contents output.old) (W.contents output.new)
         (fallback_line fallback.now)) }
-    ensures failed { IfErr result (λ e. (e ≡ Write)
+    ensures refused { IfErr result (λ e. (e ≡ Write)
         × AppendsPrefix (W.contents output.old) (W.contents output.new)
         (fallback_line fallback.now)) }
 {
@@ -171,21 +183,21 @@ fn put_fallback<W: io::Write>(fallback: &Option<String>, output: &mut W) -> Resu
 fn report_of(
     alloc: Global,
     name: &str,
-    number: u64,
-    line: &[u8],
-    failure: &Failure,
+    line: Line<'_>,
+    failure: &TaskError,
 ) -> Result<String, AllocError>
-    ensures { IfOk result (λ s. IsReport name.now number (string_bytes s)) }
+    ensures { IfOk result (λ s. IsReport name.now line.entry.number (string_bytes s)) }
 {
-    let message = message_of(alloc, line, failure)?;
+    let message = message_of(alloc, line.bytes, failure)?;
+    let number = line.number;
     format!(in alloc; "{name}:{number}: {message}\n")
 }
 
 /// Returns the text of the error. Of a line that is not JSON it has the column, in bytes from 1, where
 /// reading ends.
-fn message_of(alloc: Global, line: &[u8], failure: &Failure) -> Result<String, AllocError> {
+fn message_of(alloc: Global, line: &[u8], failure: &TaskError) -> Result<String, AllocError> {
     let text = failure.to_string(alloc)?;
-    if !matches!(failure, Failure::NotJson) {
+    if !matches!(failure, TaskError::NotJson) {
         return Ok(text);
     }
     match Value::from_slice(alloc, line) {

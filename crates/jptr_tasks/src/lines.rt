@@ -1,14 +1,15 @@
 //! A task on each line of an input.
 ghost use Rattle.std.specs.Prelude.{◌≡◌, ◌&&◌, not, IfOk, IfErr};
 ghost use Rattle.std.specs.Io.KnownBytes.{Keeps};
-ghost use Rattle.jptr_tasks.specs.Runs.{IsRun, StopsIn};
+ghost use Rattle.jptr_tasks.specs.Runs.{IsRun, RunStopsIn};
+ghost use Rattle.jptr_tasks.specs.PrivateLineResults.{IsPut, StopsPut};
 ghost use Rattle.jptr_tasks.specs.PrivateRuns.{IsTurn, StopsTurn, ended_as};
-ghost use Rattle.jptr_tasks.specs.declared.failure.Failure.TheVariants.{Write};
+ghost use Rattle.jptr_tasks.specs.declared.task_error.TaskError.TheVariants.{Write};
 
-use crate::failure::Failure;
-use crate::line::{LineTask, put_line};
+use crate::line::{Line, LineTask, put_line};
+use crate::task_error::TaskError;
 use jsonptr_edit_in_text::Buffers;
-use jsonptr_lines::read::{Ending, LineFault, next_line};
+use jsonptr_io::read::{Ending, NextLineError, next_line};
 use std::alloc::Global;
 use std::io;
 
@@ -21,6 +22,17 @@ pub enum Ended {
     Faults,
     /// At the first line at fault, since the run is strict.
     Stopped,
+}
+
+/// The line that a run is at, and the memory to read it.
+#[derive(Drop)]
+struct State {
+    /// The memory to read the document on the line.
+    buffers: Buffers,
+    /// The number of the line, from 1.
+    number: u64,
+    /// The bytes of the line, without its line break.
+    bytes: Vec<u8>,
 }
 
 /// What is known after a turn of the run.
@@ -46,9 +58,9 @@ enum Turn {
 ///
 /// # Errors
 ///
-/// - [`Failure::Read`] if a read fails.
-/// - [`Failure::Write`] if a write or a flush fails.
-/// - [`Failure::Memory`] if an allocation fails.
+/// - [`TaskError::Read`] if a read fails.
+/// - [`TaskError::Write`] if a write or a flush fails.
+/// - [`TaskError::Memory`] if an allocation fails.
 ///
 /// What was written is then a prefix of what some first lines of the input give.
 ///
@@ -76,10 +88,10 @@ pub fn run_lines<R: io::BufRead, W: io::Write, E: io::Write>(
     input: &mut R,
     output: &mut W,
     errors: &mut E,
-) -> Result<Ended, Failure>
-    ensures done { IfOk result (IsRun run.now (R.remaining input.old) (W.contents output.old)
+) -> Result<Ended, TaskError>
+    ensures written { IfOk result (IsRun run.now (R.remaining input.old) (W.contents output.old)
         (W.contents output.new) (E.contents errors.old) (E.contents errors.new)) }
-    ensures stopped { IfErr result (StopsIn run.now (R.remaining input.old) (W.contents output.old)
+    ensures refused { IfErr result (RunStopsIn run.now (R.remaining input.old) (W.contents output.old)
         (W.contents output.new) (E.contents errors.old) (E.contents errors.new)) }
 {
     let outcome = read_lines(alloc, run, input, output, errors);
@@ -96,26 +108,21 @@ fn read_lines<R: io::BufRead, W: io::Write, E: io::Write>(
     input: &mut R,
     output: &mut W,
     errors: &mut E,
-) -> Result<Ended, Failure>
-    ensures done { IfOk result (IsRun run.now (R.remaining input.old) (W.contents output.old)
+) -> Result<Ended, TaskError>
+    ensures written { IfOk result (IsRun run.now (R.remaining input.old) (W.contents output.old)
         (W.contents output.new) (E.contents errors.old) (E.contents errors.new)) }
-    ensures stopped { IfErr result (StopsIn run.now (R.remaining input.old) (W.contents output.old)
+    ensures refused { IfErr result (RunStopsIn run.now (R.remaining input.old) (W.contents output.old)
         (W.contents output.new) (E.contents errors.old) (E.contents errors.new)) }
 {
-    let mut buffers = Buffers::new(alloc);
-    let mut line = Vec::new(alloc);
+    let mut state = State {
+        buffers: Buffers::new(alloc),
+        number: 0,
+        bytes: Vec::new(alloc),
+    };
     let mut is_fine = true;
     for number in 1..u64::MAX {
-        let is_next_fine = match take_turn(
-            alloc,
-            &mut buffers,
-            run,
-            number,
-            &mut line,
-            input,
-            output,
-            errors,
-        )? {
+        state.number = number;
+        let is_next_fine = match take_turn(run, &mut state, input, output, errors)? {
             Turn::NoLine => return Ok(end_of(is_fine)),
             Turn::LastLine(is_last_fine) => return Ok(end_of(both(is_fine, is_last_fine))),
             Turn::Line(is_next_fine) => is_next_fine,
@@ -125,7 +132,7 @@ fn read_lines<R: io::BufRead, W: io::Write, E: io::Write>(
         }
         is_fine = both(is_fine, is_next_fine);
     }
-    Err(Failure::Read)
+    Err(TaskError::Read)
 }
 
 /// Returns whether both parts of a run are fine.
@@ -149,49 +156,67 @@ fn end_of(is_fine: bool) -> Ended
     if is_fine { Ended::Fine } else { Ended::Faults }
 }
 
-/// Reads the next line, and writes what it gives.
+/// Reads the next line, which has the number of the state, and writes what it gives.
 fn take_turn<R: io::BufRead, W: io::Write, E: io::Write>(
-    alloc: Global,
-    buffers: &mut Buffers,
     run: &LineTask<'_>,
-    number: u64,
-    line: &mut Vec<u8>,
+    state: &mut State,
     input: &mut R,
     output: &mut W,
     errors: &mut E,
-) -> Result<Turn, Failure>
-    ensures done { IfOk result (IsTurn run.now number (R.remaining input.old)
+) -> Result<Turn, TaskError>
+    ensures written { IfOk result (IsTurn run.now state.old.number (R.remaining input.old)
         (R.remaining input.new) (W.contents output.old) (W.contents output.new)
         (E.contents errors.old) (E.contents errors.new)) }
-    ensures stopped { IfErr result (StopsTurn run.now number (R.remaining input.old)
+    ensures refused { IfErr result (StopsTurn run.now state.old.number (R.remaining input.old)
         (R.remaining input.new) (W.contents output.old) (W.contents output.new)
         (E.contents errors.old) (E.contents errors.new)) }
 {
-    match next_line(input, line) {
+    match next_line(input, &mut state.bytes) {
         Ok(Ending::Nothing) => Ok(Turn::NoLine),
         Ok(Ending::Break) => {
-            let is_fine = put_line(alloc, buffers, run, number, line, output, errors)?;
+            let is_fine = put_read(run, state, output, errors)?;
             Ok(Turn::Line(is_fine))
         }
         Ok(Ending::Input) => {
-            let is_fine = put_line(alloc, buffers, run, number, line, output, errors)?;
+            let is_fine = put_read(run, state, output, errors)?;
             Ok(Turn::LastLine(is_fine))
         }
-        Err(LineFault::Memory(error)) => Err(Failure::Memory(error)),
-        Err(LineFault::Read) => Err(Failure::Read),
+        Err(NextLineError::Memory(error)) => Err(TaskError::Memory(error)),
+        Err(NextLineError::Read) => Err(TaskError::Read),
     }
 }
 
+/// Writes what the line gives that was read.
+fn put_read<W: io::Write, E: io::Write>(
+    run: &LineTask<'_>,
+    state: &mut State,
+    output: &mut W,
+    errors: &mut E,
+) -> Result<bool, TaskError>
+    ensures written { IfOk result (IsPut run.now state.old.number state.old.bytes.items
+        (W.contents output.old) (W.contents output.new)
+        (E.contents errors.old) (E.contents errors.new)) }
+    ensures refused { IfErr result (StopsPut run.now state.old.number state.old.bytes.items
+        (W.contents output.old) (W.contents output.new)
+        (E.contents errors.old) (E.contents errors.new)) }
+{
+    let line = Line {
+        number: state.number,
+        bytes: &state.bytes,
+    };
+    put_line(&mut state.buffers, run, line, output, errors)
+}
+
 /// Flushes both writers, the second one also if the first one fails.
-fn flush_both<W: io::Write, E: io::Write>(output: &mut W, errors: &mut E) -> Result<(), Failure>
+fn flush_both<W: io::Write, E: io::Write>(output: &mut W, errors: &mut E) -> Result<(), TaskError>
     ensures output { Keeps (W.contents output.old) (W.contents output.new) }
     ensures errors { Keeps (E.contents errors.old) (E.contents errors.new) }
-    ensures failed { IfErr result (λ e. e ≡ Write) }
+    ensures refused { IfErr result (λ e. e ≡ Write) }
 {
     let first = output.flush();
     let second = errors.flush();
     if first.is_err() || second.is_err() {
-        return Err(Failure::Write);
+        return Err(TaskError::Write);
     }
     Ok(())
 }

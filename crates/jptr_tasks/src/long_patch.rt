@@ -1,15 +1,15 @@
 //! Applying a patch of many operations to the text of a document.
 ghost use Rattle.std.specs.Prelude.{IfOk, IfErr, IfSome, string_bytes};
 ghost use Rattle.serde_json.specs.View.{view};
-ghost use Rattle.jsonptr_tree.specs.Json.{nodes};
-ghost use Rattle.jsonptr_relayout.specs.Relaying.{text_of, ReadsAs};
+ghost use Rattle.jsonptr.specs.Json.{nodes};
+ghost use Rattle.jsonptr_relayout.specs.Relaying.{text_of_relaid, ReadsAs};
 ghost use Rattle.jsonptr_edit_in_text.specs.InPlace.{StaysOneLine};
 ghost use Rattle.jptr_tasks.specs.Results.{PatchesInLayout, FailsToPatch};
 ghost use Rattle.jptr_tasks.specs.PrivateResults.{PatchedBy, Remakes, ReadsSame};
 
-use crate::failure::Failure;
 use crate::layout::{Layout, lay_out, read_text};
 use crate::patching::print_anew;
+use crate::task_error::TaskError;
 use jsonptr_edit_in_text::stays_one_line;
 use jsonptr_in_text::Scratch;
 use jsonptr_relayout::{Relaid, RelayoutError, relayout_with};
@@ -30,8 +30,8 @@ use std::alloc::{AllocError, Global};
 ///
 /// # Errors
 ///
-/// Those of [`Task::Patch`](crate::task::Task::Patch). [`Failure::NotInPlace`] says that no text in the
-/// layout of the old one is found.
+/// Those of [`result_in_text`](crate::result::result_in_text) for `Task::Patch`.
+/// [`TaskError::NotInPlace`] says that no text in the layout of the old one is found.
 ///
 /// # Examples
 ///
@@ -47,10 +47,10 @@ pub fn patch_in_layout(
     patch: &Value,
     given: &str,
     layout: Layout,
-) -> Result<String, Failure>
-    ensures done { IfOk result
+) -> Result<String, TaskError>
+    ensures patched { IfOk result
         (λ s. PatchesInLayout text.now (view patch.now) layout (string_bytes s)) }
-    ensures failed { IfErr result (FailsToPatch text.now (view patch.now) layout) }
+    ensures refused { IfErr result (FailsToPatch text.now (view patch.now) layout) }
 {
     match layout {
         Layout::Kept => patch_kept(alloc, text, patch, given),
@@ -59,16 +59,16 @@ pub fn patch_in_layout(
 }
 
 /// Applies the patch document to the text, and returns the new document in the layout of the text.
-fn patch_kept(alloc: Global, text: &str, patch: &Value, given: &str) -> Result<String, Failure>
-    ensures done { IfOk result (λ s. PatchedBy text.now (view patch.now) (string_bytes s)) }
+fn patch_kept(alloc: Global, text: &str, patch: &Value, given: &str) -> Result<String, TaskError>
+    ensures patched { IfOk result (λ s. PatchedBy text.now (view patch.now) (string_bytes s)) }
     ensures line { IfOk result (λ s. StaysOneLine text.now (string_bytes s)) }
-    ensures failed { IfErr result (FailsToPatch text.now (view patch.now) Layout.Kept) }
+    ensures refused { IfErr result (FailsToPatch text.now (view patch.now) Layout.Kept) }
 {
     match patched(alloc, text, patch, given) {
         Ok(new) => if is_kept(&new) && stays_one_line(text, new.as_str()) {
             Ok(new.into_string())
         } else {
-            Err(Failure::NotInPlace)
+            Err(TaskError::NotInPlace)
         },
         Err(failure) => Err(failure),
     }
@@ -81,10 +81,10 @@ fn patch_laid_out(
     patch: &Value,
     given: &str,
     layout: Layout,
-) -> Result<String, Failure>
-    ensures done { IfOk result
+) -> Result<String, TaskError>
+    ensures patched { IfOk result
         (λ s. Remakes (PatchedBy text.now (view patch.now)) layout (string_bytes s)) }
-    ensures failed { IfErr result (FailsToPatch text.now (view patch.now) layout) }
+    ensures refused { IfErr result (FailsToPatch text.now (view patch.now) layout) }
 {
     match patched(alloc, text, patch, given) {
         Ok(new) => lay_out(alloc, &mut Scratch::new(alloc), new.as_str(), layout),
@@ -94,9 +94,9 @@ fn patch_laid_out(
 
 /// Applies the patch document to the text, and returns the new document in the layout of the text, or
 /// printed if there is no such text.
-fn patched(alloc: Global, text: &str, patch: &Value, given: &str) -> Result<Relaid, Failure>
-    ensures done { IfOk result (λ new. PatchedBy text.now (view patch.now) (text_of new)) }
-    ensures failed { IfErr result (FailsToPatch text.now (view patch.now) Layout.Compact) }
+fn patched(alloc: Global, text: &str, patch: &Value, given: &str) -> Result<Relaid, TaskError>
+    ensures patched { IfOk result (λ new. PatchedBy text.now (view patch.now) (text_of_relaid new)) }
+    ensures refused { IfErr result (FailsToPatch text.now (view patch.now) Layout.Compact) }
 {
     let printed = print_anew(alloc, text, patch)?;
     let relaid = relaid(alloc, text, printed.as_str(), given)?;
@@ -121,7 +121,7 @@ fn relaid(
 {
     match read_text(alloc, printed) {
         Ok(document) => relaid_document(alloc, text, &document, given),
-        Err(Failure::Memory(error)) => Err(error),
+        Err(TaskError::Memory(error)) => Err(error),
         Err(_) => Ok(None),
     }
 }

@@ -3,24 +3,20 @@
 ghost use Rattle.std.specs.Prelude.{◌≡◌, map, length, MatchOption, IfOk, IfErr, chars, string_bytes};
 ghost use Rattle.serde_json.specs.View.{view};
 ghost use Rattle.jsonptr.specs.Pointer.{tokens};
-ghost use Rattle.jsonptr_tree.specs.Json.{nodes};
 ghost use Rattle.jsonptr_in_text.specs.InText.{FindsInText};
-ghost use Rattle.jptr_tasks.specs.Nodes.{type_of, name_of, length_of, HasType, HasLength, HasKeys, ListsKeys, IsNoObject, Tests, IsTested, FailsToFind, FailsToListKeys, scalar_of, HasAbove, FailsAbove};
+ghost use Rattle.jptr_tasks.specs.Nodes.{type_of, type_name, length_of_value, HasType, ValueHasLength, HasKeys, ListsKeys, IsNoObject, Tests, FailsToFind, FailsToListKeys, scalar_of, HasAbove, FailsAbove};
 ghost use Rattle.jptr_tasks.specs.PrivateNodes.{ListsRest};
 
-use crate::failure::Failure;
+use crate::task_error::TaskError;
 use json::{Reader, Scratch, Token};
-use jsonptr::{Fault, Pointer, PointerBuf};
+use jsonptr::Pointer;
 use jsonptr_edit_in_text::{LocateError, locate_in_text};
 use jsonptr_in_text::{InTextError, resolve_in_text};
-use jsonptr_json_search::outcome::ReadError;
 use jsonptr_json_search::skip::skip;
-use jsonptr_patch::{Comparison, Operation, apply_comparing};
+use jsonptr_patch::{Comparison, is_equal};
+use jsonptr_value::{MAX_DEPTH, ReadError};
 use serde_json::Value;
 use std::alloc::{AllocError, Global};
-
-/// The levels that a member of the outermost object may have.
-const MAX_DEPTH: usize = 126;
 
 /// The type of a JSON value (RFC 8259, section 3).
 #[derive(Clone, Copy, Debug, PartialEq, Eq)]
@@ -48,7 +44,7 @@ impl NodeType {
     /// assert_eq!(rt; NodeType::Boolean.name(), "boolean");
     /// ```
     pub fn name(self) -> &'static str
-        ensures { result.now ≡ name_of self }
+        ensures { result.now ≡ type_name self }
     {
         match self {
             NodeType::Null => "null",
@@ -65,9 +61,9 @@ impl NodeType {
 ///
 /// # Errors
 ///
-/// - [`Failure::NotJson`] if the text is not JSON.
-/// - [`Failure::NoValue`] if the pointer does not resolve to a value.
-/// - [`Failure::Memory`] if an allocation fails.
+/// - [`TaskError::NotJson`] if the text is not JSON.
+/// - [`TaskError::NoValue`] if the pointer does not resolve to a value.
+/// - [`TaskError::Memory`] if an allocation fails.
 ///
 /// # Examples
 ///
@@ -75,9 +71,9 @@ impl NodeType {
 /// let found = type_in_text(alloc, r#"{"a": [1.0]}"#, Pointer::parse("/a/0")?)?;
 /// assert_eq!(rt; found, NodeType::Number);
 /// ```
-pub fn type_in_text(alloc: Global, text: &str, pointer: Pointer<'_>) -> Result<NodeType, Failure>
-    ensures done { IfOk result (HasType text.now (tokens pointer.entry)) }
-    ensures failed { IfErr result (FailsToFind text.now (tokens pointer.entry)) }
+pub fn type_in_text(alloc: Global, text: &str, pointer: Pointer<'_>) -> Result<NodeType, TaskError>
+    ensures found { IfOk result (HasType text.now (tokens pointer.entry)) }
+    ensures refused { IfErr result (FailsToFind text.now (tokens pointer.entry)) }
 {
     match found_value(alloc, text, pointer) {
         Ok(value) => Ok(node_type(&value)),
@@ -106,9 +102,9 @@ pub fn length_in_text(
     alloc: Global,
     text: &str,
     pointer: Pointer<'_>,
-) -> Result<Option<usize>, Failure>
-    ensures done { IfOk result (HasLength text.now (tokens pointer.entry)) }
-    ensures failed { IfErr result (FailsToFind text.now (tokens pointer.entry)) }
+) -> Result<Option<usize>, TaskError>
+    ensures found { IfOk result (ValueHasLength text.now (tokens pointer.entry)) }
+    ensures refused { IfErr result (FailsToFind text.now (tokens pointer.entry)) }
 {
     match found_value(alloc, text, pointer) {
         Ok(value) => Ok(length_if_any(&value)),
@@ -124,7 +120,7 @@ pub fn length_in_text(
 /// # Errors
 ///
 /// - Those of [`type_in_text`].
-/// - [`Failure::NotLocated`] if the check of where the text of the value is fails. No text is known
+/// - [`TaskError::NotLocated`] if the check of where the text of the value is fails. No text is known
 ///   for which it does.
 ///
 /// # Examples
@@ -139,20 +135,20 @@ pub fn keys_in_text(
     alloc: Global,
     text: &str,
     pointer: Pointer<'_>,
-) -> Result<Option<Vec<String>>, Failure>
-    ensures done { IfOk result (HasKeys text.now (tokens pointer.entry)) }
-    ensures failed { IfErr result (FailsToListKeys text.now (tokens pointer.entry)) }
+) -> Result<Option<Vec<String>>, TaskError>
+    ensures found { IfOk result (HasKeys text.now (tokens pointer.entry)) }
+    ensures refused { IfErr result (FailsToListKeys text.now (tokens pointer.entry)) }
 {
     match locate_in_text(alloc, text, pointer) {
         Ok(located) => match keys_of(alloc, located.value) {
             Ok(keys) => Ok(keys),
-            Err(ReadError::NotJson) => Err(Failure::NotLocated),
-            Err(ReadError::Memory) => Err(Failure::Memory(AllocError)),
+            Err(ReadError::NotJson) => Err(TaskError::NotLocated),
+            Err(ReadError::Memory) => Err(TaskError::Memory(AllocError)),
         },
-        Err(LocateError::NotLocated) => Err(Failure::NotLocated),
-        Err(LocateError::Failed(InTextError::Resolve(error))) => Err(Failure::NoValue(error)),
-        Err(LocateError::Failed(InTextError::NotJson)) => Err(Failure::NotJson),
-        Err(LocateError::Failed(InTextError::Memory(error))) => Err(Failure::Memory(error)),
+        Err(LocateError::NotLocated) => Err(TaskError::NotLocated),
+        Err(LocateError::Failed(InTextError::Resolve(error))) => Err(TaskError::NoValue(error)),
+        Err(LocateError::Failed(InTextError::NotJson)) => Err(TaskError::NotJson),
+        Err(LocateError::Failed(InTextError::Memory(error))) => Err(TaskError::Memory(error)),
     }
 }
 
@@ -168,26 +164,21 @@ pub fn keys_in_text(
 /// ```rust
 /// let text = r#"{"a": [1.0, 2]}"#;
 /// let value = Value::from_str(alloc, "[1, 2e0]")?;
-/// assert_eq!(rt; equals_in_text(alloc, text, Pointer::parse("/a")?, value)?, true);
+/// assert_eq!(rt; equals_in_text(alloc, text, Pointer::parse("/a")?, &value)?, true);
 /// let other = Value::from_str(alloc, "\"1\"")?;
-/// assert_eq!(rt; equals_in_text(alloc, text, Pointer::parse("/a/0")?, other)?, false);
+/// assert_eq!(rt; equals_in_text(alloc, text, Pointer::parse("/a/0")?, &other)?, false);
 /// ```
 pub fn equals_in_text(
     alloc: Global,
     text: &str,
     pointer: Pointer<'_>,
-    value: Value,
-) -> Result<bool, Failure>
-    ensures done { IfOk result (Tests text.now (tokens pointer.entry) value) }
-    ensures failed { IfErr result (FailsToFind text.now (tokens pointer.entry)) }
+    value: &Value,
+) -> Result<bool, TaskError>
+    ensures found { IfOk result (Tests text.now (tokens pointer.entry) (view value.now)) }
+    ensures refused { IfErr result (FailsToFind text.now (tokens pointer.entry)) }
 {
-    match found_value(alloc, text, pointer) {
-        Ok(found) => match is_equal(alloc, found, value) {
-            Ok(holds) => Ok(holds),
-            Err(error) => Err(Failure::Memory(error)),
-        },
-        Err(failure) => Err(failure),
-    }
+    let found = found_value(alloc, text, pointer)?;
+    Ok(is_equal(Comparison::Numeric, &found, value))
 }
 
 /// Returns the type of the scalar that an assignment at the pointer would replace by a container. Returns
@@ -196,7 +187,7 @@ pub fn equals_in_text(
 ///
 /// # Errors
 ///
-/// Those of [`type_in_text`], for the parent of the pointer. With [`Failure::NoValue`] containers would
+/// Those of [`type_in_text`], for the parent of the pointer. With [`TaskError::NoValue`] containers would
 /// be created.
 ///
 /// # Examples
@@ -206,15 +197,15 @@ pub fn equals_in_text(
 /// assert_eq!(rt; scalar_above(alloc, text, Pointer::parse("/b")?)?, None);
 /// assert_eq!(rt; scalar_above(alloc, text, Pointer::parse("/a/b")?)?, Some(NodeType::String));
 /// let missing = scalar_above(alloc, text, Pointer::parse("/b/c")?);
-/// assert!(rt; matches!(missing, Err(Failure::NoValue(_))));
+/// assert!(rt; matches!(missing, Err(TaskError::NoValue(_))));
 /// ```
 pub fn scalar_above(
     alloc: Global,
     text: &str,
     pointer: Pointer<'_>,
-) -> Result<Option<NodeType>, Failure>
-    ensures done { IfOk result (HasAbove text.now (tokens pointer.entry)) }
-    ensures failed { IfErr result (FailsAbove text.now (tokens pointer.entry)) }
+) -> Result<Option<NodeType>, TaskError>
+    ensures found { IfOk result (HasAbove text.now (tokens pointer.entry)) }
+    ensures refused { IfErr result (FailsAbove text.now (tokens pointer.entry)) }
 {
     let Some(above) = pointer.parent() else {
         return Ok(None);
@@ -236,15 +227,15 @@ fn scalar_of(found: NodeType) -> Option<NodeType>
 }
 
 /// Returns the value that the pointer resolves to in the text of a document.
-fn found_value(alloc: Global, text: &str, pointer: Pointer<'_>) -> Result<Value, Failure>
-    ensures done { IfOk result (λ v. FindsInText text.now (tokens pointer.entry) (view v)) }
-    ensures failed { IfErr result (FailsToFind text.now (tokens pointer.entry)) }
+fn found_value(alloc: Global, text: &str, pointer: Pointer<'_>) -> Result<Value, TaskError>
+    ensures found { IfOk result (λ v. FindsInText text.now (tokens pointer.entry) (view v)) }
+    ensures refused { IfErr result (FailsToFind text.now (tokens pointer.entry)) }
 {
     match resolve_in_text(alloc, text, pointer) {
         Ok(value) => Ok(value),
-        Err(InTextError::NotJson) => Err(Failure::NotJson),
-        Err(InTextError::Resolve(error)) => Err(Failure::NoValue(error)),
-        Err(InTextError::Memory(error)) => Err(Failure::Memory(error)),
+        Err(InTextError::NotJson) => Err(TaskError::NotJson),
+        Err(InTextError::Resolve(error)) => Err(TaskError::NoValue(error)),
+        Err(InTextError::Memory(error)) => Err(TaskError::Memory(error)),
     }
 }
 
@@ -264,7 +255,7 @@ fn node_type(value: &Value) -> NodeType
 
 /// Returns the length of the value, if it has one.
 fn length_if_any(value: &Value) -> Option<usize>
-    ensures { result ≡ length_of (view value.now) }
+    ensures { result ≡ length_of_value (view value.now) }
 {
     match value {
         Value::Null | Value::Bool(_) | Value::Number(_) => None,
@@ -304,22 +295,8 @@ fn read_keys(alloc: Global, reader: &mut Reader<'_>) -> Result<Vec<String>, Read
     let mut keys = Vec::new(alloc);
     'members: while let Some(name) = reader.next_key()? {
         let key = String::from_str(alloc, name)?;
-        skip(reader, MAX_DEPTH)?;
+        skip(reader, MAX_DEPTH - 1)?;
         keys.push(key)?;
     }
     Ok(keys)
-}
-
-/// Returns whether the value passes the test that it equals the other one.
-fn is_equal(alloc: Global, found: Value, value: Value) -> Result<bool, AllocError>
-    ensures { IfOk result (IsTested (nodes (view found)) value) }
-{
-    let mut document = found;
-    let path = PointerBuf::new(alloc);
-    let test = vec![in alloc; Operation::Test { path, value }]?;
-    match apply_comparing(alloc, &mut document, test, Comparison::Numeric) {
-        Ok(()) => Ok(true),
-        Err(Fault::Refused(_error)) => Ok(false),
-        Err(Fault::Memory(error)) => Err(error),
-    }
 }

@@ -5,12 +5,12 @@ ghost use Rattle.jsonptr_patch_document.specs.Document.{IsPatch};
 ghost use Rattle.jsonptr_edit_in_text.specs.PatchInText.{PatchesInText};
 ghost use Rattle.jsonptr_edit_in_text.specs.RawPatching.{operations_in, RawPatchBytes, IsGivenIn};
 ghost use Rattle.jsonptr_edit_in_text.specs.InPlace.{StaysOneLine};
-ghost use Rattle.jptr_tasks.specs.Results.{Patches, FailsToPatch, FailsToReadPatch};
+ghost use Rattle.jptr_tasks.specs.Results.{PatchesRawInLayout, FailsToPatch, FailsToReadPatch};
 ghost use Rattle.jptr_tasks.specs.PrivateResults.{Remakes, FailsToApply, IsNotPatch, PatchedBy};
 
-use crate::failure::Failure;
 use crate::layout::{Layout, lay_out};
 use crate::raw_patch::RawPatch;
+use crate::task_error::TaskError;
 use jsonptr::Fault;
 use jsonptr_edit_in_text::{
     Buffers, RawOperation, apply_and_print, raw_operations, stays_one_line, try_apply_raw,
@@ -27,16 +27,16 @@ use std::alloc::{AllocError, Global};
 ///
 /// # Errors
 ///
-/// Those of [`Task::Patch`](crate::task::Task::Patch).
+/// Those of [`result_in_text`](crate::result::result_in_text) for `Task::Patch`.
 pub fn patch(
     alloc: Global,
     buffers: &mut Buffers,
     text: &str,
     patch: &RawPatch,
     layout: Layout,
-) -> Result<String, Failure>
-    ensures done { IfOk result (λ s. Patches text.now patch.now layout (string_bytes s)) }
-    ensures failed { IfErr result (FailsToPatch text.now (view patch.now.document) layout) }
+) -> Result<String, TaskError>
+    ensures patched { IfOk result (λ s. PatchesRawInLayout text.now patch.now layout (string_bytes s)) }
+    ensures refused { IfErr result (FailsToPatch text.now (view patch.now.document) layout) }
 {
     match layout {
         Layout::Kept => patch_in_place(alloc, buffers, text, patch),
@@ -49,10 +49,10 @@ pub fn patch(
 ///
 /// # Errors
 ///
-/// - [`Failure::NotPatch`] if the document is not a patch.
-/// - [`Failure::NotLocated`] if the text of a value is not found in the text. That is not known to
+/// - [`TaskError::NotPatch`] if the document is not a patch.
+/// - [`TaskError::NotLocated`] if the text of a value is not found in the text. That is not known to
 ///   happen in a text that is read as the document.
-/// - [`Failure::Memory`] if an allocation fails.
+/// - [`TaskError::Memory`] if an allocation fails.
 ///
 /// # Examples
 ///
@@ -62,15 +62,15 @@ pub fn patch(
 /// let new = result_in_text(alloc, &Task::Patch(patch), Layout::Kept, r#"{"a": 1}"#)?;
 /// assert_eq!(rt; new.as_str(), r#"{"a": 1, "b": {"z": 1.10, "y": 1e5}}"#);
 /// ```
-pub fn raw_patch(alloc: Global, document: Value, text: &str) -> Result<RawPatch, Failure>
+pub fn raw_patch(alloc: Global, document: Value, text: &str) -> Result<RawPatch, TaskError>
     ensures document { IfOk result (λ p. p.document ≡ document) }
     ensures texts { IfOk result (λ p. All (IsGivenIn text.now) p.operations.items) }
-    ensures failed { IfErr result (FailsToReadPatch (view document)) }
+    ensures refused { IfErr result (FailsToReadPatch (view document)) }
 {
     match read_patch(alloc, &document) {
         Ok(operations) => with_texts(alloc, document, operations, text),
-        Err(Fault::Refused(error)) => Err(Failure::NotPatch(error)),
-        Err(Fault::Memory(error)) => Err(Failure::Memory(error)),
+        Err(Fault::Refused(error)) => Err(TaskError::NotPatch(error)),
+        Err(Fault::Memory(error)) => Err(TaskError::Memory(error)),
     }
 }
 
@@ -80,11 +80,11 @@ fn with_texts(
     document: Value,
     operations: Vec<Operation>,
     text: &str,
-) -> Result<RawPatch, Failure>
+) -> Result<RawPatch, TaskError>
     requires { IsPatch (view document) operations.items }
     ensures document { IfOk result (λ p. p.document ≡ document) }
     ensures texts { IfOk result (λ p. All (IsGivenIn text.now) p.operations.items) }
-    ensures failed { IfErr result (FailsToReadPatch (view document)) }
+    ensures refused { IfErr result (FailsToReadPatch (view document)) }
 {
     let mut buffers = Buffers::new(alloc);
     let found = raw_operations(alloc, &mut buffers, text, operations)?;
@@ -93,7 +93,7 @@ fn with_texts(
             document,
             operations,
         }),
-        None => Err(Failure::NotLocated),
+        None => Err(TaskError::NotLocated),
     }
 }
 
@@ -101,15 +101,15 @@ fn with_texts(
 ///
 /// # Errors
 ///
-/// [`Failure::NotPatch`] if it is not a patch, and [`Failure::Memory`] if an allocation fails.
-pub fn operations_of(alloc: Global, document: &Value) -> Result<Vec<Operation>, Failure>
-    ensures done { IfOk result (λ v. IsPatch (view document.now) v.items) }
-    ensures failed { IfErr result (IsNotPatch (view document.now)) }
+/// [`TaskError::NotPatch`] if it is not a patch, and [`TaskError::Memory`] if an allocation fails.
+pub fn operations_of(alloc: Global, document: &Value) -> Result<Vec<Operation>, TaskError>
+    ensures read { IfOk result (λ v. IsPatch (view document.now) v.items) }
+    ensures refused { IfErr result (IsNotPatch (view document.now)) }
 {
     match read_patch(alloc, document) {
         Ok(operations) => Ok(operations),
-        Err(Fault::Refused(error)) => Err(Failure::NotPatch(error)),
-        Err(Fault::Memory(error)) => Err(Failure::Memory(error)),
+        Err(Fault::Refused(error)) => Err(TaskError::NotPatch(error)),
+        Err(Fault::Memory(error)) => Err(TaskError::Memory(error)),
     }
 }
 
@@ -119,13 +119,13 @@ fn patch_in_place(
     buffers: &mut Buffers,
     text: &str,
     patch: &RawPatch,
-) -> Result<String, Failure>
-    ensures done { IfOk result (λ s.
+) -> Result<String, TaskError>
+    ensures patched { IfOk result (λ s.
         PatchesInText text.now (operations_in patch.now.operations.items) (string_bytes s)) }
     ensures bytes { IfOk result (λ s.
         RawPatchBytes text.now patch.now.operations.items (string_bytes s)) }
     ensures line { IfOk result (λ s. StaysOneLine text.now (string_bytes s)) }
-    ensures failed { IfErr result (FailsToPatch text.now (view patch.now.document) Layout.Kept) }
+    ensures refused { IfErr result (FailsToPatch text.now (view patch.now.document) Layout.Kept) }
 {
     let made = try_in_place(alloc, buffers, text, patch.operations.as_slice())?;
     match made {
@@ -142,7 +142,7 @@ fn try_in_place(
     text: &str,
     operations: &[RawOperation],
 ) -> Result<Option<String>, AllocError>
-    ensures done { IfOk result (λ new. IfSome new (λ s.
+    ensures patched { IfOk result (λ new. IfSome new (λ s.
         PatchesInText text.now (operations_in operations.now) (string_bytes s))) }
     ensures bytes { IfOk result (λ new. IfSome new (λ s.
         RawPatchBytes text.now operations.now (string_bytes s))) }
@@ -160,11 +160,11 @@ fn try_in_place(
 }
 
 /// Returns why the patch document is not applied in place.
-fn why_not_in_place(alloc: Global, text: &str, document: &Value) -> Failure
+fn why_not_in_place(alloc: Global, text: &str, document: &Value) -> TaskError
     ensures { FailsToPatch text.now (view document.now) Layout.Kept result }
 {
     match print_anew(alloc, text, document) {
-        Ok(_new) => Failure::NotInPlace,
+        Ok(_new) => TaskError::NotInPlace,
         Err(failure) => failure,
     }
 }
@@ -177,10 +177,10 @@ fn patch_anew(
     text: &str,
     patch: &RawPatch,
     layout: Layout,
-) -> Result<String, Failure>
-    ensures done { IfOk result
+) -> Result<String, TaskError>
+    ensures patched { IfOk result
         (λ s. Remakes (PatchedBy text.now (view patch.now.document)) layout (string_bytes s)) }
-    ensures failed { IfErr result (FailsToPatch text.now (view patch.now.document) layout) }
+    ensures refused { IfErr result (FailsToPatch text.now (view patch.now.document) layout) }
 {
     match patched(alloc, buffers, text, patch) {
         Ok(new) => lay_out(alloc, &mut buffers.old, new.as_str(), layout),
@@ -194,10 +194,10 @@ fn patched(
     buffers: &mut Buffers,
     text: &str,
     patch: &RawPatch,
-) -> Result<String, Failure>
-    ensures done { IfOk result
+) -> Result<String, TaskError>
+    ensures patched { IfOk result
         (λ s. PatchedBy text.now (view patch.now.document) (string_bytes s)) }
-    ensures failed { IfErr result (FailsToPatch text.now (view patch.now.document) Layout.Compact) }
+    ensures refused { IfErr result (FailsToPatch text.now (view patch.now.document) Layout.Compact) }
 {
     let made = try_apply_raw(alloc, buffers, text, patch.operations.as_slice())?;
     match made {
@@ -207,20 +207,20 @@ fn patched(
 }
 
 /// Reads the document of the text, applies the patch document, and prints it. No error is
-/// [`Failure::NotInPlace`].
-pub(crate) fn print_anew(alloc: Global, text: &str, document: &Value) -> Result<String, Failure>
-    ensures done { IfOk result (λ s. PatchedBy text.now (view document.now) (string_bytes s)) }
-    ensures failed { IfErr result (FailsToPatch text.now (view document.now) Layout.Compact) }
+/// [`TaskError::NotInPlace`].
+pub(crate) fn print_anew(alloc: Global, text: &str, document: &Value) -> Result<String, TaskError>
+    ensures patched { IfOk result (λ s. PatchedBy text.now (view document.now) (string_bytes s)) }
+    ensures refused { IfErr result (FailsToPatch text.now (view document.now) Layout.Compact) }
 {
     let operations = operations_of(alloc, document)?;
     apply_anew(alloc, text, operations)
 }
 
 /// Reads the document of the text, applies the operations, and prints it.
-fn apply_anew(alloc: Global, text: &str, operations: Vec<Operation>) -> Result<String, Failure>
-    ensures done { IfOk result
+fn apply_anew(alloc: Global, text: &str, operations: Vec<Operation>) -> Result<String, TaskError>
+    ensures patched { IfOk result
         (λ s. PatchesInText text.now operations.items (string_bytes s)) }
-    ensures failed { IfErr result (FailsToApply text.now operations.items Layout.Compact) }
+    ensures refused { IfErr result (FailsToApply text.now operations.items Layout.Compact) }
 {
     Ok(apply_and_print(alloc, text, operations)?)
 }

@@ -3,12 +3,12 @@ ghost use Rattle.std.specs.Prelude.{IfOk, IfErr, string_bytes};
 ghost use Rattle.jptr_tasks.specs.Paths.{ListsText, FailsToList, BuildsText, FailsToBuild, PutsText, StopsText};
 
 use crate::document::{put_all, read_all};
-use crate::failure::Failure;
 use crate::layout::{Layout, show};
-use jsonptr_json_search::outcome::ReadError;
+use crate::task_error::TaskError;
 use jsonptr_paths::listing::Listed;
 use jsonptr_paths::reading::build;
 use jsonptr_paths::text_listing::list_text;
+use jsonptr_value::ReadError;
 use simdutf8::basic::from_utf8;
 use std::alloc::{AllocError, Global};
 use std::io;
@@ -18,7 +18,7 @@ use std::io;
 ///
 /// # Errors
 ///
-/// [`Failure::NotJson`] if the bytes are not JSON, and [`Failure::Memory`] if an allocation fails.
+/// [`TaskError::NotJson`] if the bytes are not JSON, and [`TaskError::Memory`] if an allocation fails.
 ///
 /// # Examples
 ///
@@ -26,17 +26,17 @@ use std::io;
 /// let lines = listed_text(alloc, Listed::Leaves, b"{\"a\": [1, 2]}")?;
 /// assert_eq!(rt; lines.as_str(), "/a/0\t1\n/a/1\t2\n");
 /// ```
-pub fn listed_text(alloc: Global, which: Listed, bytes: &[u8]) -> Result<String, Failure>
-    ensures done { IfOk result (λ s. ListsText which bytes.now (string_bytes s)) }
-    ensures failed { IfErr result (FailsToList bytes.now) }
+pub fn listed_text(alloc: Global, which: Listed, bytes: &[u8]) -> Result<String, TaskError>
+    ensures listed { IfOk result (λ s. ListsText which bytes.now (string_bytes s)) }
+    ensures refused { IfErr result (FailsToList bytes.now) }
 {
     let Ok(text) = from_utf8(bytes) else {
-        return Err(Failure::NotJson);
+        return Err(TaskError::NotJson);
     };
     match list_text(alloc, text, which) {
         Ok(lines) => Ok(lines),
-        Err(ReadError::NotJson) => Err(Failure::NotJson),
-        Err(ReadError::Memory) => Err(Failure::Memory(AllocError)),
+        Err(ReadError::NotJson) => Err(TaskError::NotJson),
+        Err(ReadError::Memory) => Err(TaskError::Memory(AllocError)),
     }
 }
 
@@ -45,9 +45,9 @@ pub fn listed_text(alloc: Global, which: Listed, bytes: &[u8]) -> Result<String,
 ///
 /// # Errors
 ///
-/// - [`Failure::NotUtf8`] if the bytes are not UTF-8.
-/// - [`Failure::BadLine`] if a line adds no value.
-/// - [`Failure::Memory`] if an allocation fails.
+/// - [`TaskError::NotUtf8`] if the bytes are not UTF-8.
+/// - [`TaskError::BadLine`] if a line adds no value.
+/// - [`TaskError::Memory`] if an allocation fails.
 ///
 /// # Examples
 ///
@@ -55,12 +55,12 @@ pub fn listed_text(alloc: Global, which: Listed, bytes: &[u8]) -> Result<String,
 /// let document = built_text(alloc, Layout::Compact, b"/a/0\t1\n/a/1\t2\n")?;
 /// assert_eq!(rt; document.as_str(), "{\"a\":[1,2]}\n");
 /// ```
-pub fn built_text(alloc: Global, layout: Layout, bytes: &[u8]) -> Result<String, Failure>
-    ensures done { IfOk result (λ s. BuildsText layout bytes.now (string_bytes s)) }
-    ensures failed { IfErr result (FailsToBuild bytes.now) }
+pub fn built_text(alloc: Global, layout: Layout, bytes: &[u8]) -> Result<String, TaskError>
+    ensures built { IfOk result (λ s. BuildsText layout bytes.now (string_bytes s)) }
+    ensures refused { IfErr result (FailsToBuild bytes.now) }
 {
     let Ok(text) = from_utf8(bytes) else {
-        return Err(Failure::NotUtf8);
+        return Err(TaskError::NotUtf8);
     };
     let document = build(alloc, text)?;
     let mut new = show(alloc, &document, layout)?;
@@ -76,7 +76,7 @@ pub fn built_text(alloc: Global, layout: Layout, bytes: &[u8]) -> Result<String,
 /// # Errors
 ///
 /// - Those of [`listed_text`]; nothing is written then.
-/// - [`Failure::Read`] if a read fails, and [`Failure::Write`] if a write or the flush fails.
+/// - [`TaskError::Read`] if a read fails, and [`TaskError::Write`] if a write or the flush fails.
 ///
 /// # Examples
 ///
@@ -93,10 +93,10 @@ pub fn run_list<R: io::Read, W: io::Write>(
     input: &mut R,
     bytes: &mut Vec<u8>,
     output: &mut W,
-) -> Result<(), Failure>
-    ensures done { IfOk result (λ _. PutsText (ListsText which) (R.remaining input.old)
+) -> Result<(), TaskError>
+    ensures written { IfOk result (λ _. PutsText (ListsText which) (R.remaining input.old)
         (W.contents output.old) (W.contents output.new)) }
-    ensures failed { IfErr result (StopsText (ListsText which) FailsToList (R.remaining input.old)
+    ensures refused { IfErr result (StopsText (ListsText which) FailsToList (R.remaining input.old)
         (W.contents output.old) (W.contents output.new)) }
 {
     read_all(input, bytes)?;
@@ -109,7 +109,7 @@ pub fn run_list<R: io::Read, W: io::Write>(
 /// # Errors
 ///
 /// - Those of [`built_text`]; nothing is written then.
-/// - [`Failure::Read`] if a read fails, and [`Failure::Write`] if a write or the flush fails.
+/// - [`TaskError::Read`] if a read fails, and [`TaskError::Write`] if a write or the flush fails.
 ///
 /// # Examples
 ///
@@ -124,10 +124,10 @@ pub fn run_build<R: io::Read, W: io::Write>(
     layout: Layout,
     input: &mut R,
     output: &mut W,
-) -> Result<(), Failure>
-    ensures done { IfOk result (λ _. PutsText (BuildsText layout) (R.remaining input.old)
+) -> Result<(), TaskError>
+    ensures written { IfOk result (λ _. PutsText (BuildsText layout) (R.remaining input.old)
         (W.contents output.old) (W.contents output.new)) }
-    ensures failed { IfErr result (StopsText (BuildsText layout) FailsToBuild
+    ensures refused { IfErr result (StopsText (BuildsText layout) FailsToBuild
         (R.remaining input.old) (W.contents output.old) (W.contents output.new)) }
 {
     let mut bytes = Vec::new(alloc);

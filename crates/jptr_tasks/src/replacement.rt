@@ -2,8 +2,7 @@
 //! whole.
 //!
 //! The new text is written to a temporary file beside the file, which is then renamed over it. The
-//! order of the calls is proved here, over any [`FileSystem`]: the real one, or one in memory that
-//! fails or stops at any call.
+//! order of the calls is proved here, over any [`FileSystem`].
 ghost use Rattle.std.specs.Prelude.{◌≡◌, [], ◌∷◌, List, true, Ok, OnErr, OnOk};
 ghost use Rattle.jptr_tasks.specs.Replacement.{AtEachMoment, IsDurable, IsGuarded, IsReplaced, IsUnchanged};
 ghost use Rattle.jptr_tasks.specs.PrivateReplacement.{IsSafe, all_calls};
@@ -121,7 +120,7 @@ pub fn replace<S: FileSystem>(system: &mut S) -> Result<Replaced<S::Error>, S::E
 fn fill<S: FileSystem>(system: &mut S) -> Result<(), S::Error>
     requires { S.events system.old ≡ event.Create true ∷ [] }
     ensures filled { OnOk result (S.events system.new ≡ all_calls) }
-    ensures failed { OnErr result (IsSafe (S.events system.new)) }
+    ensures refused { OnErr result (IsSafe (S.events system.new)) }
 {
     system.write()?;
     system.take_rights()?;

@@ -4,10 +4,10 @@ ghost use Rattle.jsonptr.specs.Pointer.{tokens};
 ghost use Rattle.jptr_tasks.specs.Results.{Yields, Fails, Gets, FailsToGet};
 
 use crate::edit::{delete, set};
-use crate::failure::Failure;
 use crate::layout::{Layout, lay_out, show};
 use crate::patching::patch;
 use crate::task::Task;
+use crate::task_error::TaskError;
 use jsonptr::Pointer;
 use jsonptr_edit_in_text::{Buffers, LocateError, locate_in_text_with};
 use jsonptr_in_text::InTextError;
@@ -23,17 +23,17 @@ use std::alloc::Global;
 ///
 /// # Errors
 ///
-/// - [`Failure::NotJson`] if the text is not JSON.
-/// - [`Failure::NoValue`], [`Failure::BadPlace`] and [`Failure::NotThere`] if the pointer does not
+/// - [`TaskError::NotJson`] if the text is not JSON.
+/// - [`TaskError::NoValue`], [`TaskError::BadPlace`] and [`TaskError::NotThere`] if the pointer does not
 ///   apply.
-/// - [`Failure::NotPatch`] if the patch document is not a patch, and [`Failure::BadPatch`] if an
+/// - [`TaskError::NotPatch`] if the patch document is not a patch, and [`TaskError::BadPatch`] if an
 ///   operation fails.
-/// - [`Failure::TooDeep`] if the new document nests deeper than 127.
-/// - [`Failure::NotInPlace`] if the edit is possible, but not in place. In a layout other than
+/// - [`TaskError::TooDeep`] if the new document nests deeper than 127.
+/// - [`TaskError::NotInPlace`] if the edit is possible, but not in place. In a layout other than
 ///   [`Layout::Kept`] that is no error.
-/// - [`Failure::NotLocated`] if the check of where the text of a value is fails. No text is known for
+/// - [`TaskError::NotLocated`] if the check of where the text of a value is fails. No text is known for
 ///   which it does.
-/// - [`Failure::Memory`] if an allocation fails.
+/// - [`TaskError::Memory`] if an allocation fails.
 ///
 /// # Examples
 ///
@@ -50,9 +50,9 @@ pub fn result_in_text(
     task: &Task<'_>,
     layout: Layout,
     text: &str,
-) -> Result<String, Failure>
-    ensures done { IfOk result (λ s. Yields task.now layout text.now (string_bytes s)) }
-    ensures failed { IfErr result (Fails task.now layout text.now) }
+) -> Result<String, TaskError>
+    ensures yielded { IfOk result (λ s. Yields task.now layout text.now (string_bytes s)) }
+    ensures refused { IfErr result (Fails task.now layout text.now) }
 {
     let mut buffers = Buffers::new(alloc);
     result_in_text_with(alloc, &mut buffers, task, layout, text)
@@ -84,16 +84,29 @@ pub fn result_in_text_with(
     task: &Task<'_>,
     layout: Layout,
     text: &str,
-) -> Result<String, Failure>
-    ensures done { IfOk result (λ s. Yields task.now layout text.now (string_bytes s)) }
-    ensures failed { IfErr result (Fails task.now layout text.now) }
+) -> Result<String, TaskError>
+    ensures yielded { IfOk result (λ s. Yields task.now layout text.now (string_bytes s)) }
+    ensures refused { IfErr result (Fails task.now layout text.now) }
 {
     match task {
-        Task::Get(pointer, fallback) => get(alloc, buffers, text, *pointer, fallback, layout),
-        Task::Set(pointer, value) => set(alloc, buffers, text, *pointer, value, layout),
+        Task::Get(pointer, fallback) => {
+            let lookup = Lookup {
+                text,
+                pointer: *pointer,
+            };
+            get(alloc, buffers, lookup, fallback, layout)
+        }
+        Task::Set(pointer, value) => set(buffers, text, *pointer, value, layout),
         Task::Delete(pointer) => delete(alloc, buffers, text, *pointer, layout),
         Task::Patch(raw) => patch(alloc, buffers, text, raw, layout),
     }
+}
+
+/// A text, and a pointer to resolve in it.
+#[derive(Clone, Copy)]
+struct Lookup<'t> {
+    text: &'t str,
+    pointer: Pointer<'t>,
 }
 
 /// Returns the text of the value that the pointer resolves to in the text, or else that of the other
@@ -101,27 +114,27 @@ pub fn result_in_text_with(
 ///
 /// # Errors
 ///
-/// Those of [`Task::Get`].
+/// Those of [`result_in_text`] for `Task::Get`.
 fn get(
     alloc: Global,
     buffers: &mut Buffers,
-    text: &str,
-    pointer: Pointer<'_>,
+    lookup: Lookup<'_>,
     fallback: &Option<Value>,
     layout: Layout,
-) -> Result<String, Failure>
-    ensures done { IfOk result (λ s. Gets text.now (tokens pointer.entry) fallback.now layout
-        (string_bytes s)) }
-    ensures failed { IfErr result (FailsToGet text.now (tokens pointer.entry) fallback.now) }
+) -> Result<String, TaskError>
+    ensures found { IfOk result (λ s. Gets lookup.entry.text.now (tokens lookup.entry.pointer)
+        fallback.now layout (string_bytes s)) }
+    ensures refused { IfErr result
+        (FailsToGet lookup.entry.text.now (tokens lookup.entry.pointer) fallback.now) }
 {
-    match locate_in_text_with(alloc, buffers, text, pointer) {
+    match locate_in_text_with(alloc, buffers, lookup.text, lookup.pointer) {
         Ok(located) => lay_out(alloc, &mut buffers.old, located.value, layout),
-        Err(LocateError::NotLocated) => Err(Failure::NotLocated),
+        Err(LocateError::NotLocated) => Err(TaskError::NotLocated),
         Err(LocateError::Failed(InTextError::Resolve(error))) => match fallback {
             Some(value) => Ok(show(alloc, value, layout)?),
-            None => Err(Failure::NoValue(error)),
+            None => Err(TaskError::NoValue(error)),
         },
-        Err(LocateError::Failed(InTextError::NotJson)) => Err(Failure::NotJson),
-        Err(LocateError::Failed(InTextError::Memory(error))) => Err(Failure::Memory(error)),
+        Err(LocateError::Failed(InTextError::NotJson)) => Err(TaskError::NotJson),
+        Err(LocateError::Failed(InTextError::Memory(error))) => Err(TaskError::Memory(error)),
     }
 }

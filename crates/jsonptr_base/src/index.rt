@@ -360,7 +360,7 @@ impl<'a> Token<'a> {
 /// # Examples
 ///
 /// ```rust
-/// let error = Index::Num(6).for_len(4).err().ok_or("a refusal")?;
+/// let error = Index::Num(6).for_len(4).err().ok_or("an error")?;
 /// assert_eq!(rt; (error.index, error.length), (6, 4));
 /// assert_eq!(rt;
 ///     error.to_string(alloc)?.as_str(),
@@ -602,7 +602,7 @@ pub enum IntegerCause {
 /// ```rust
 /// match "12px".parse::<Index>() {
 ///     Err(ParseIndexError::InvalidCharacter(error)) => assert_eq!(rt; error.offset(), 2),
-///     _ => return Err("a refusal".into()),
+///     _ => return Err("another error".into()),
 /// }
 /// ```
 #[derive(Clone, Debug, PartialEq, Eq, Drop)]

@@ -106,7 +106,7 @@ impl<'a> Token<'a> {
     pub fn from_encoded(s: CowStr<'a>) -> Result<Token<'a>, EncodingError>
         ensures token { IsOk result ↔ IsToken (cow_str_bytes s.entry) }
         ensures text { IfOk result (λ t. esc t ≡ cow_str_bytes s.entry) }
-        ensures fault { IfErr result (IsEncodingErrorOf (cow_str_bytes s.entry)) }
+        ensures refused { IfErr result (IsEncodingErrorOf (cow_str_bytes s.entry)) }
     {
         match scan::first_fault(s.as_str().as_bytes()) {
             None => Ok(Token { inner: s }),

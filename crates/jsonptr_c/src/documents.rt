@@ -3,42 +3,42 @@ ghost use Rattle.std.specs.Prelude.{◌≡◌, ◌≢◌, ◌⊎◌, [], IsFalse
 ghost use Rattle.serde_json.specs.Read.{read as read_text};
 ghost use Rattle.serde_json.specs.View.{view};
 ghost use Rattle.serde_json.specs.declared.value.Value.{Value};
-ghost use Rattle.jsonptr_c_handle.specs.Document.{IsEmpty, Keeps};
+ghost use Rattle.jsonptr_c_handle.specs.Handle.{IsEmpty, Keeps};
 ghost use Rattle.jsonptr_c_calls.specs.Depths.{IsBounded};
 ghost use Rattle.jsonptr_numbers.specs.Digits.{KeepsDigits};
 ghost use Rattle.jsonptr_numbers.specs.Lost.{Loses};
 ghost use Rattle.jsonptr_numbers.specs.declared.lost.Lost.{Lost};
-ghost use Rattle.jsonptr_c_calls.specs.Editing.{AssignsAt, DeletesAt, IsNotDeleted, IsTextNotAssigned};
+ghost use Rattle.jsonptr_c_calls.specs.Editing.{AssignsAtPointer, DeletesAtPointer, IsNotDeleted, IsTextNotAssigned};
 ghost use Rattle.jsonptr_c_calls.specs.Exactness.{IsNotParsedBy, IsNotPointedTo, PointsTo};
-ghost use Rattle.jsonptr_c_calls.specs.Failures.{FailsOn, IsNotParsed, IsNotPrinted, IsNotRead, Unfound};
+ghost use Rattle.jsonptr_c_calls.specs.Failures.{FailsOnHandle, IsNotParsed, IsNotPrinted, IsNotRead, Unfound};
 ghost use Rattle.jsonptr_c_calls.specs.InTexts.{FindsTextIn, IsNotPrintedFrom};
 ghost use Rattle.jsonptr_c_calls.specs.Nodes.{FindsNode};
 ghost use Rattle.jsonptr_c_calls.specs.Outcomes.{IsLengthOf, Reports};
 ghost use Rattle.jsonptr_c_calls.specs.Patches.{AppliesText, AppliesWithBack, IsDiffText, IsNotApplied, IsNotAppliedWithBack, IsNotCompared, IsNotPatchText};
-ghost use Rattle.jsonptr_c_calls.specs.Rows.{no_error};
+ghost use Rattle.jsonptr_c_calls.specs.ErrorNumbers.{no_error};
 ghost use Rattle.jsonptr_c_calls.specs.Values.{Changes, FindsTextOf, FindsString, HoldsWith, ReadsInto, layout_of};
-ghost use Rattle.jsonptr_c_calls.specs.declared.failure.Failure.{Failure};
+ghost use Rattle.jsonptr_c_calls.specs.declared.call_error.CallError.{CallError};
 
 use jsonptr_c_calls::documents::{
     assign, delete, diff, free, node_at, parse, parse_exactly, patch, patch_with_inverse, print_at,
     string_at,
 };
-use jsonptr_c_calls::node::Node;
+use jsonptr_c_calls::error_numbers::ErrorRecord;
+use jsonptr_c_calls::node::NodeInfo;
 use jsonptr_c_calls::outcome::{fail, fail_with_length, succeed};
-use jsonptr_c_calls::record::ErrorRecord;
 use jsonptr_c_calls::texts::{lost_number_in, print_in};
-use jsonptr_c_calls::values::Layout;
-use jsonptr_c_handle::document::Document;
+use jsonptr_c_calls::values::TextLayout;
+use jsonptr_c_handle::handle::Handle;
 use std::alloc::Global;
 
 /// Returns the layout of a text.
-fn layout(is_pretty: bool) -> Layout
+fn layout(is_pretty: bool) -> TextLayout
     ensures { result ≡ layout_of is_pretty }
 {
     if is_pretty {
-        Layout::Pretty
+        TextLayout::Pretty
     } else {
-        Layout::Compact
+        TextLayout::Compact
     }
 }
 
@@ -46,14 +46,14 @@ fn layout(is_pretty: bool) -> Layout
 #[unsafe(no_mangle)]
 pub extern "C" fn jsonptrcore_document_parse(
     alloc: Global,
-    document: &mut Document,
+    document: &mut Handle,
     text: &[u8],
     error: &mut ErrorRecord,
 ) -> u32
     ensures success { result ≡ 0 → error.new ≡ no_error }
     ensures parsed { result ≡ 0 → ReadsInto text.now document.new }
     ensures bounded { result ≡ 0 → HoldsWith document.new (λ v. IsBounded (view v)) }
-    ensures refused { result ≢ 0 → (e : Failure) × Reports e [] result error.new
+    ensures refused { result ≢ 0 → (e : CallError) × Reports e [] result error.new
         × IsNotParsed text.now e }
     ensures unchanged { result ≢ 0 → document.new ≡ document.old }
 {
@@ -67,16 +67,16 @@ pub extern "C" fn jsonptrcore_document_parse(
 #[unsafe(no_mangle)]
 pub extern "C" fn jsonptrcore_document_parse_with(
     alloc: Global,
-    document: &mut Document,
+    document: &mut Handle,
     text: &[u8],
     is_exact: bool,
     error: &mut ErrorRecord,
 ) -> u32
     ensures success { result ≡ 0 → error.new ≡ no_error }
     ensures parsed { result ≡ 0 → ReadsInto text.now document.new }
-    ensures kept { result ≡ 0 → IsTrue is_exact → KeepsDigits text.now }
+    ensures digits { result ≡ 0 → IsTrue is_exact → KeepsDigits text.now }
     ensures bounded { result ≡ 0 → HoldsWith document.new (λ v. IsBounded (view v)) }
-    ensures refused { result ≢ 0 → (e : Failure) × Reports e [] result error.new
+    ensures refused { result ≢ 0 → (e : CallError) × Reports e [] result error.new
         × IsNotParsedBy is_exact text.now e }
     ensures unchanged { result ≢ 0 → document.new ≡ document.old }
 {
@@ -94,7 +94,7 @@ pub extern "C" fn jsonptrcore_document_parse_with(
 
 /// Frees the document in the handle.
 #[unsafe(no_mangle)]
-pub extern "C" fn jsonptrcore_document_free(alloc: Global, document: &mut Document)
+pub extern "C" fn jsonptrcore_document_free(alloc: Global, document: &mut Handle)
     ensures { IsEmpty document.new }
 {
     free(alloc, document);
@@ -104,7 +104,7 @@ pub extern "C" fn jsonptrcore_document_free(alloc: Global, document: &mut Docume
 #[unsafe(no_mangle)]
 pub extern "C" fn jsonptrcore_document_print(
     alloc: Global,
-    document: &mut Document,
+    document: &mut Handle,
     pointer: &[u8],
     is_pretty: bool,
     out: &mut [u8],
@@ -114,12 +114,12 @@ pub extern "C" fn jsonptrcore_document_print(
     ensures success { result ≡ 0 → error.new ≡ no_error }
     ensures printed { result ≡ 0 → HoldsWith document.old
         (λ v. FindsTextOf (layout_of is_pretty) (view v) pointer.now (take length.new out.new)) }
-    ensures refused { result ≢ 0 → (e : Failure) × Reports e pointer.now result error.new
-        × FailsOn document.old
+    ensures refused { result ≢ 0 → (e : CallError) × Reports e pointer.now result error.new
+        × FailsOnHandle document.old
         (λ v. IsNotPrinted (layout_of is_pretty) (view v) pointer.now (list_length out.old) e) e }
     ensures unchanged { result ≢ 0 → out.new ≡ out.old }
     ensures length { result ≢ 0 → IsLengthOf error.new length.old length.new }
-    ensures kept { Keeps document.old document.new }
+    ensures value_unchanged { Keeps document.old document.new }
 {
     match print_at(alloc, document, pointer, layout(is_pretty), out) {
         Ok(copied) => {
@@ -134,7 +134,7 @@ pub extern "C" fn jsonptrcore_document_print(
 #[unsafe(no_mangle)]
 pub extern "C" fn jsonptrcore_document_string(
     alloc: Global,
-    document: &mut Document,
+    document: &mut Handle,
     pointer: &[u8],
     out: &mut [u8],
     length: &mut usize,
@@ -143,12 +143,12 @@ pub extern "C" fn jsonptrcore_document_string(
     ensures success { result ≡ 0 → error.new ≡ no_error }
     ensures string { result ≡ 0 → HoldsWith document.old
         (λ v. FindsString (view v) pointer.now (take length.new out.new)) }
-    ensures refused { result ≢ 0 → (e : Failure) × Reports e pointer.now result error.new
-        × FailsOn document.old
+    ensures refused { result ≢ 0 → (e : CallError) × Reports e pointer.now result error.new
+        × FailsOnHandle document.old
         (λ v. IsNotRead (view v) pointer.now (list_length out.old) e) e }
     ensures unchanged { result ≢ 0 → out.new ≡ out.old }
     ensures length { result ≢ 0 → IsLengthOf error.new length.old length.new }
-    ensures kept { Keeps document.old document.new }
+    ensures value_unchanged { Keeps document.old document.new }
 {
     match string_at(alloc, document, pointer, out) {
         Ok(copied) => {
@@ -163,17 +163,17 @@ pub extern "C" fn jsonptrcore_document_string(
 #[unsafe(no_mangle)]
 pub extern "C" fn jsonptrcore_document_node(
     alloc: Global,
-    document: &mut Document,
+    document: &mut Handle,
     pointer: &[u8],
-    node: &mut Node,
+    node: &mut NodeInfo,
     error: &mut ErrorRecord,
 ) -> u32
     ensures success { result ≡ 0 → error.new ≡ no_error }
     ensures described { result ≡ 0 → HoldsWith document.old
         (λ v. FindsNode (view v) pointer.now node.new) }
-    ensures refused { result ≢ 0 → (e : Failure) × Reports e pointer.now result error.new
-        × FailsOn document.old (λ v. Unfound (view v) pointer.now e) e }
-    ensures kept { Keeps document.old document.new }
+    ensures refused { result ≢ 0 → (e : CallError) × Reports e pointer.now result error.new
+        × FailsOnHandle document.old (λ v. Unfound (view v) pointer.now e) e }
+    ensures value_unchanged { Keeps document.old document.new }
 {
     match node_at(alloc, document, pointer) {
         Ok(found) => {
@@ -188,19 +188,19 @@ pub extern "C" fn jsonptrcore_document_node(
 #[unsafe(no_mangle)]
 pub extern "C" fn jsonptrcore_document_assign(
     alloc: Global,
-    document: &mut Document,
+    document: &mut Handle,
     pointer: &[u8],
     text: &[u8],
     error: &mut ErrorRecord,
 ) -> u32
     ensures success { result ≡ 0 → error.new ≡ no_error }
     ensures assigned { result ≡ 0 → (v : Value) × (read_text text.now ≡ Some (view v))
-        × Changes document.old (λ d n. AssignsAt d pointer.now (view v) n) document.new }
+        × Changes document.old (λ d n. AssignsAtPointer d pointer.now (view v) n) document.new }
     ensures bounded { result ≡ 0
         → Changes document.old (λ d n. IsBounded d → IsBounded n) document.new }
-    ensures refused { result ≢ 0 → (e : Failure) × Reports e pointer.now result error.new
+    ensures refused { result ≢ 0 → (e : CallError) × Reports e pointer.now result error.new
         × IsTextNotAssigned text.now document.old pointer.now e }
-    ensures kept { result ≢ 0 → Keeps document.old document.new }
+    ensures value_unchanged { result ≢ 0 → Keeps document.old document.new }
 {
     match assign(alloc, document, pointer, text) {
         Ok(()) => succeed(error),
@@ -212,19 +212,19 @@ pub extern "C" fn jsonptrcore_document_assign(
 #[unsafe(no_mangle)]
 pub extern "C" fn jsonptrcore_document_delete(
     alloc: Global,
-    document: &mut Document,
+    document: &mut Handle,
     pointer: &[u8],
     found: &mut bool,
     error: &mut ErrorRecord,
 ) -> u32
     ensures success { result ≡ 0 → error.new ≡ no_error }
     ensures deleted { result ≡ 0 → Changes document.old
-        (λ d n. DeletesAt d pointer.now found.new n) document.new }
+        (λ d n. DeletesAtPointer d pointer.now found.new n) document.new }
     ensures bounded { result ≡ 0
         → Changes document.old (λ d n. IsBounded d → IsBounded n) document.new }
-    ensures refused { result ≢ 0 → (e : Failure) × Reports e pointer.now result error.new
-        × FailsOn document.old (λ v. IsNotDeleted pointer.now e) e }
-    ensures kept { result ≢ 0 → Keeps document.old document.new }
+    ensures refused { result ≢ 0 → (e : CallError) × Reports e pointer.now result error.new
+        × FailsOnHandle document.old (λ v. IsNotDeleted pointer.now e) e }
+    ensures value_unchanged { result ≢ 0 → Keeps document.old document.new }
 {
     match delete(alloc, document, pointer) {
         Ok(deleted) => {
@@ -239,7 +239,7 @@ pub extern "C" fn jsonptrcore_document_delete(
 #[unsafe(no_mangle)]
 pub extern "C" fn jsonptrcore_document_patch(
     alloc: Global,
-    document: &mut Document,
+    document: &mut Handle,
     text: &[u8],
     error: &mut ErrorRecord,
 ) -> u32
@@ -248,9 +248,9 @@ pub extern "C" fn jsonptrcore_document_patch(
         → Changes document.old (λ d n. AppliesText text.now d n) document.new }
     ensures bounded { result ≡ 0
         → Changes document.old (λ d n. IsBounded d → IsBounded n) document.new }
-    ensures refused { result ≢ 0 → (e : Failure) × Reports e [] result error.new
+    ensures refused { result ≢ 0 → (e : CallError) × Reports e [] result error.new
         × (IsNotPatchText text.now e ⊎ IsNotApplied text.now document.old e) }
-    ensures kept { result ≢ 0 → Keeps document.old document.new }
+    ensures value_unchanged { result ≢ 0 → Keeps document.old document.new }
 {
     match patch(alloc, document, text) {
         Ok(()) => succeed(error),
@@ -263,7 +263,7 @@ pub extern "C" fn jsonptrcore_document_patch(
 #[unsafe(no_mangle)]
 pub extern "C" fn jsonptrcore_document_patch_with_inverse(
     alloc: Global,
-    document: &mut Document,
+    document: &mut Handle,
     text: &[u8],
     is_pretty: bool,
     out: &mut [u8],
@@ -276,12 +276,12 @@ pub extern "C" fn jsonptrcore_document_patch_with_inverse(
         document.new }
     ensures bounded { result ≡ 0
         → Changes document.old (λ d n. IsBounded d → IsBounded n) document.new }
-    ensures refused { result ≢ 0 → (e : Failure) × Reports e [] result error.new
+    ensures refused { result ≢ 0 → (e : CallError) × Reports e [] result error.new
         × (IsNotPatchText text.now e ⊎ IsNotAppliedWithBack (layout_of is_pretty) text.now
         document.old (list_length out.old) e) }
     ensures unchanged { result ≢ 0 → out.new ≡ out.old }
     ensures length { result ≢ 0 → IsLengthOf error.new length.old length.new }
-    ensures kept { result ≢ 0 → Keeps document.old document.new }
+    ensures value_unchanged { result ≢ 0 → Keeps document.old document.new }
 {
     match patch_with_inverse(alloc, document, text, layout(is_pretty), out) {
         Ok(copied) => {
@@ -296,8 +296,8 @@ pub extern "C" fn jsonptrcore_document_patch_with_inverse(
 #[unsafe(no_mangle)]
 pub extern "C" fn jsonptrcore_document_diff(
     alloc: Global,
-    old: &mut Document,
-    new: &mut Document,
+    old: &mut Handle,
+    new: &mut Handle,
     is_pretty: bool,
     out: &mut [u8],
     length: &mut usize,
@@ -306,8 +306,8 @@ pub extern "C" fn jsonptrcore_document_diff(
     ensures success { result ≡ 0 → error.new ≡ no_error }
     ensures differing { result ≡ 0 → HoldsWith old.old (λ v. HoldsWith new.old
         (λ w. IsDiffText (layout_of is_pretty) (view v) (view w) (take length.new out.new))) }
-    ensures refused { result ≢ 0 → (e : Failure) × Reports e [] result error.new
-        × FailsOn old.old (λ v. FailsOn new.old
+    ensures refused { result ≢ 0 → (e : CallError) × Reports e [] result error.new
+        × FailsOnHandle old.old (λ v. FailsOnHandle new.old
         (λ w. IsNotCompared (layout_of is_pretty) (view v) (view w) (list_length out.old) e) e) e }
     ensures unchanged { result ≢ 0 → out.new ≡ out.old }
     ensures length { result ≢ 0 → IsLengthOf error.new length.old length.new }
@@ -337,7 +337,7 @@ pub extern "C" fn jsonptrcore_text_print(
     ensures success { result ≡ 0 → error.new ≡ no_error }
     ensures printed { result ≡ 0
         → FindsTextIn (layout_of is_pretty) text.now pointer.now (take length.new out.new) }
-    ensures refused { result ≢ 0 → (e : Failure) × Reports e pointer.now result error.new
+    ensures refused { result ≢ 0 → (e : CallError) × Reports e pointer.now result error.new
         × IsNotPrintedFrom (layout_of is_pretty) text.now pointer.now (list_length out.old) e }
     ensures unchanged { result ≢ 0 → out.new ≡ out.old }
     ensures length { result ≢ 0 → IsLengthOf error.new length.old length.new }
@@ -366,7 +366,7 @@ pub extern "C" fn jsonptrcore_text_lost_number(
     ensures pointer { result ≡ 0 → IsTrue found.new
         → (lost : Lost) × Loses text.now lost × PointsTo (take length.new out.new) lost }
     ensures none { result ≡ 0 → IsFalse found.new → KeepsDigits text.now }
-    ensures refused { result ≢ 0 → (e : Failure) × Reports e [] result error.new
+    ensures refused { result ≢ 0 → (e : CallError) × Reports e [] result error.new
         × IsNotPointedTo text.now (list_length out.old) e }
     ensures unchanged { result ≢ 0 → out.new ≡ out.old }
     ensures length { result ≢ 0 → IsLengthOf error.new length.old length.new }

@@ -7,4 +7,5 @@
 
 mod documents;
 mod errors;
+mod locations;
 mod pointers;

@@ -3,13 +3,13 @@ ghost use Rattle.std.specs.Prelude.{◌≡◌, ◌≢◌, [], take, length as li
 ghost use Rattle.jsonptr.specs.Text.{esc};
 ghost use Rattle.jsonptr_c_calls.specs.Failures.{IsNoPointer, IsNoToken, IsNotEscaped, IsNotPopped, IsNotPushed};
 ghost use Rattle.jsonptr_c_calls.specs.Outcomes.{IsLengthOf, Reports};
-ghost use Rattle.jsonptr_c_calls.specs.Rows.{no_error};
+ghost use Rattle.jsonptr_c_calls.specs.ErrorNumbers.{no_error};
 ghost use Rattle.jsonptr_c_calls.specs.Pointers.{HasCount, HasToken, Extends, Shortens};
-ghost use Rattle.jsonptr_c_calls.specs.declared.failure.Failure.{Failure};
+ghost use Rattle.jsonptr_c_calls.specs.declared.call_error.CallError.{CallError};
 
+use jsonptr_c_calls::error_numbers::ErrorRecord;
 use jsonptr_c_calls::outcome::{fail, fail_with_length, succeed};
 use jsonptr_c_calls::pointers::{count, escape, pop, push, token};
-use jsonptr_c_calls::record::ErrorRecord;
 use std::alloc::Global;
 
 /// Counts the tokens of the pointer.
@@ -21,7 +21,7 @@ pub extern "C" fn jsonptrcore_pointer_count(
 ) -> u32
     ensures success { result ≡ 0 → error.new ≡ no_error }
     ensures count { result ≡ 0 → HasCount pointer.now tokens.new }
-    ensures refused { result ≢ 0 → (e : Failure) × Reports e pointer.now result error.new
+    ensures refused { result ≢ 0 → (e : CallError) × Reports e pointer.now result error.new
         × IsNoPointer pointer.now e }
 {
     match count(pointer) {
@@ -45,7 +45,7 @@ pub extern "C" fn jsonptrcore_pointer_token(
 ) -> u32
     ensures success { result ≡ 0 → error.new ≡ no_error }
     ensures token { result ≡ 0 → HasToken pointer.now position (take length.new out.new) }
-    ensures refused { result ≢ 0 → (e : Failure) × Reports e pointer.now result error.new
+    ensures refused { result ≢ 0 → (e : CallError) × Reports e pointer.now result error.new
         × IsNoToken pointer.now position (list_length out.old) e }
     ensures unchanged { result ≢ 0 → out.new ≡ out.old }
     ensures length { result ≢ 0 → IsLengthOf error.new length.old length.new }
@@ -70,7 +70,7 @@ pub extern "C" fn jsonptrcore_pointer_escape(
 ) -> u32
     ensures success { result ≡ 0 → error.new ≡ no_error }
     ensures escaped { result ≡ 0 → take length.new out.new ≡ esc text.now }
-    ensures refused { result ≢ 0 → (e : Failure) × Reports e [] result error.new
+    ensures refused { result ≢ 0 → (e : CallError) × Reports e [] result error.new
         × IsNotEscaped text.now (list_length out.old) e }
     ensures unchanged { result ≢ 0 → out.new ≡ out.old }
     ensures length { result ≢ 0 → IsLengthOf error.new length.old length.new }
@@ -97,7 +97,7 @@ pub extern "C" fn jsonptrcore_pointer_push(
     ensures success { result ≡ 0 → error.new ≡ no_error }
     ensures pushed { result ≡ 0
         → Extends (take length.old buffer.old) text.now (take length.new buffer.new) }
-    ensures refused { result ≢ 0 → (e : Failure)
+    ensures refused { result ≢ 0 → (e : CallError)
         × Reports e (take length.old buffer.old) result error.new
         × IsNotPushed length.old buffer.old text.now e }
     ensures unchanged { result ≢ 0 → buffer.new ≡ buffer.old }
@@ -124,7 +124,7 @@ pub extern "C" fn jsonptrcore_pointer_pop(
 ) -> u32
     ensures success { result ≡ 0 → error.new ≡ no_error }
     ensures popped { result ≡ 0 → Shortens pointer.now length.new }
-    ensures refused { result ≢ 0 → (e : Failure) × Reports e pointer.now result error.new
+    ensures refused { result ≢ 0 → (e : CallError) × Reports e pointer.now result error.new
         × IsNotPopped pointer.now e }
     ensures same_length { result ≢ 0 → length.new ≡ length.old }
 {

@@ -10,7 +10,7 @@ use Rattle.jsonptr_value.specs.Nesting.{NestsWithin}
 use Rattle.jsonptr_value.proofs.LevelLemmas.{NestsWithin-depth, depth-within}
 use Rattle.jsonptr_value.proofs.NestingLemmas.{NestsWithin-more, Assigns-within, Deletes-within}
 use Rattle.jsonptr_c_calls.specs.Depths.{max_levels, IsParsed, IsBounded}
-use Rattle.jsonptr_c_calls.specs.Editing.{AssignsAt, DeletesAt, Removes}
+use Rattle.jsonptr_c_calls.specs.Editing.{AssignsAtPointer, DeletesAtPointer, Removes}
 
 -- a value that is read from a text
 pub parsed-read : (text : List ℕ) (d : Data) → read text ≡ Some d → IsParsed d
@@ -19,7 +19,7 @@ parsed-read text d is = (ascends_read text d is, depth-read text d is)
 pub bounded-parsed : (d : Data) → IsParsed d → IsBounded d
 bounded-parsed d parsed = let low : depth d ≤ max_depth = parsed.1 in (parsed.0, omega (arith, low))
 
-pub bounded-assign : (d : Data) (bytes : List ℕ) (v n : Data) → AssignsAt d bytes v n → IsParsed v → IsBounded d → HasSortedKeys n → IsBounded n
+pub bounded-assign : (d : Data) (bytes : List ℕ) (v n : Data) → AssignsAtPointer d bytes v n → IsParsed v → IsBounded d → HasSortedKeys n → IsBounded n
 bounded-assign d bytes v n made parsed bounded sorted =
     let most = max_depth + max_levels in
     let short : length made.0 ≤ max_levels = made.3 in
@@ -28,7 +28,7 @@ bounded-assign d bytes v n made parsed bounded sorted =
     let after : NestsWithin most (nodes n) = Assigns-within most (depth v) (nodes d) made.0 (nodes v) (nodes n) (option_map (λ r. nodes (view r)) made.1) made.4.assigned before (NestsWithin-depth v) (omega (arith, short, low)) in
     (sorted, depth-within n most sorted after)
 
-pub bounded-delete : (d : Data) (bytes : List ℕ) (found : Bool) (n : Data) → DeletesAt d bytes found n → IsBounded d → HasSortedKeys n → IsBounded n
+pub bounded-delete : (d : Data) (bytes : List ℕ) (found : Bool) (n : Data) → DeletesAtPointer d bytes found n → IsBounded d → HasSortedKeys n → IsBounded n
 bounded-delete d bytes found n (tokens, is, deleted, removes) bounded sorted = go found removes
   where
     go : (b : Bool) → Removes d tokens b n → IsBounded n

@@ -2,9 +2,9 @@
 use Rattle.std.proofs.Common.{◌≡◌, ℕ, ◌+◌, ◌^◌, ◌<◌, ◌≤◌, ◌==◌, ◌&&◌, ◌||◌, Bool, true, false, List, ◌++◌, length, arith, length-append, lit≤, lit<, refl, if◌then◌else◌}
 use Rattle.std.specs.Prelude.{codes, decimal}
 use Rattle.std.proofs.lemmas.Fmt.{length-decimal-le}
-use Rattle.jsonptr_c_calls.specs.declared.numbers.TheConstants as number
-use Rattle.jsonptr_c_calls.specs.declared.record.ErrorRecord.{ErrorRecord}
-use Rattle.jsonptr_c_calls.specs.Messages.{Fits, cause_message, document_message, fixed_message, member_name, message_of, message_room}
+use Rattle.jsonptr_c_calls.specs.declared.error_numbers.TheConstants as number
+use Rattle.jsonptr_c_calls.specs.declared.error_numbers.ErrorRecord.{ErrorRecord}
+use Rattle.jsonptr_c_calls.specs.Messages.{HasMessageNumbers, fault_message, document_message, fixed_message, member_name, message_of, message_room}
 
 -- one of two short texts
 either : (room : ℕ) (b : Bool) (x y : List ℕ) → length x ≤ room → length y ≤ room → length (if b then x else y) ≤ room
@@ -26,7 +26,7 @@ around room x y n low most =
     let number : length (decimal n) ≤ 20 = digits n low in
     omega (arith, all, start, number, most)
 
-cause_short : (kind slash : ℕ) → slash < 2 ^ 64 → length (cause_message kind slash) ≤ 125
+cause_short : (kind slash : ℕ) → slash < 2 ^ 64 → length (fault_message kind slash) ≤ 125
 cause_short kind slash low =
     either 125 (kind == number.KIND_NO_LEADING_SLASH) _ _ (lit≤ tt)
     (either 125 (kind == number.KIND_BAD_ESCAPE) _ _ (around 125 (codes "json pointer failed to parse; the first token in the partial-pointer starting at offset ") (codes " is malformed") slash low (lit≤ tt))
@@ -41,7 +41,7 @@ cause_short kind slash low =
     (either 125 (kind == number.KIND_TEST_FAILED) _ _ (lit≤ tt) (lit≤ tt)))))))))))
 
 -- a text that is not a pointer
-parse_short : (kind slash : ℕ) → slash < 2 ^ 64 → ((kind == number.KIND_NO_LEADING_SLASH) || (kind == number.KIND_BAD_ESCAPE)) ≡ true → length (cause_message kind slash) ≤ 121
+parse_short : (kind slash : ℕ) → slash < 2 ^ 64 → ((kind == number.KIND_NO_LEADING_SLASH) || (kind == number.KIND_BAD_ESCAPE)) ≡ true → length (fault_message kind slash) ≤ 121
 parse_short kind slash low is = go (kind == number.KIND_NO_LEADING_SLASH) (kind == number.KIND_BAD_ESCAPE) _ is
   where
     go : (a b : Bool) (rest : List ℕ) → (a || b) ≡ true → length (if a then codes "json pointer failed to parse; does not start with a slash ('/') and is not empty" else if b then codes "json pointer failed to parse; the first token in the partial-pointer starting at offset " ++ decimal slash ++ codes " is malformed" else rest) ≤ 121
@@ -67,7 +67,7 @@ of_member room m n y low most =
     let right : length (codes "` of operation ") ≤ 15 = lit≤ tt in
     omega (arith, all, one, two, name, left, right, most)
 
-document_short : (r : ErrorRecord) → Fits r → length (document_message r) ≤ 171
+document_short : (r : ErrorRecord) → HasMessageNumbers r → length (document_message r) ≤ 171
 document_short r fits =
     either 171 (r.kind == number.KIND_NOT_AN_ARRAY) _ _ (lit≤ tt)
     (either 171 (r.kind == number.KIND_NOT_AN_OBJECT) _ _ (around 171 (codes "operation ") (codes " is not an object") r.operation fits.0 (lit≤ tt))
@@ -85,12 +85,12 @@ document_short r fits =
         let end : length (codes "`") ≤ 1 = lit≤ tt in
         omega (arith, all, one, number, name, end)
 
-    go : (b : Bool) → (b ≡ true → length (cause_message r.kind r.slash) ≤ 121) → length (if b then codes "member `" ++ member_name r.member ++ codes "` of operation " ++ decimal r.operation ++ codes ": " ++ cause_message r.kind r.slash else codes "unknown kind") ≤ 171
+    go : (b : Bool) → (b ≡ true → length (fault_message r.kind r.slash) ≤ 121) → length (if b then codes "member `" ++ member_name r.member ++ codes "` of operation " ++ decimal r.operation ++ codes ": " ++ fault_message r.kind r.slash else codes "unknown kind") ≤ 171
     go true cause =
         let start = codes "member `" ++ member_name r.member ++ codes "` of operation " ++ decimal r.operation ++ codes ": " in
-        let all : length (start ++ cause_message r.kind r.slash) ≡ length start + length (cause_message r.kind r.slash) = length-append start (cause_message r.kind r.slash) in
+        let all : length (start ++ fault_message r.kind r.slash) ≡ length start + length (fault_message r.kind r.slash) = length-append start (fault_message r.kind r.slash) in
         let one : length start ≤ 50 = of_member 50 r.member r.operation (codes ": ") fits.0 (lit≤ tt) in
-        let two : length (cause_message r.kind r.slash) ≤ 121 = cause refl in
+        let two : length (fault_message r.kind r.slash) ≤ 121 = cause refl in
         omega (arith, all, one, two)
     go false cause = lit≤ tt
 
@@ -105,20 +105,24 @@ fixed_short status =
     (either 200 (status == number.NOT_JSON) _ _ (lit≤ tt)
     (either 200 (status == number.NO_TOKEN) _ _ (lit≤ tt)
     (either 200 (status == number.OTHER_KIND) _ _ (lit≤ tt)
-    (either 200 (status == number.TOO_DEEP) _ _ (lit≤ tt) (lit≤ tt))))))))))
+    (either 200 (status == number.NOT_LOCATED) _ _ (lit≤ tt)
+    (either 200 (status == number.TOO_DEEP) _ _ (lit≤ tt) (lit≤ tt)))))))))))
 
 -- a text before another one
 before : (room : ℕ) (x y : List ℕ) → length x + length y ≤ room → length (x ++ y) ≤ room
 before room x y most = let all : length (x ++ y) ≡ length x + length y = length-append x y in omega (arith, all, most)
 
-pub message_short : (r : ErrorRecord) → Fits r → length (message_of r) ≤ message_room
+pub message_short : (r : ErrorRecord) → HasMessageNumbers r → length (message_of r) ≤ message_room
 message_short r fits =
-    let cause : length (cause_message r.kind r.slash) ≤ 125 = cause_short r.kind r.slash fits.1 in
+    let cause : length (fault_message r.kind r.slash) ≤ 125 = cause_short r.kind r.slash fits.1 in
     let place : length (codes "patch failed at operation " ++ decimal r.operation ++ codes ": ") ≤ 75 = around 75 (codes "patch failed at operation ") (codes ": ") r.operation fits.0 (lit≤ tt) in
     let document : length (document_message r) ≤ 171 = document_short r fits in
     let start : length (codes "not a JSON Patch document: ") ≤ 27 = lit≤ tt in
+    let at : length (codes "no value is at offset ") ≤ 22 = lit≤ tt in
+    let offset : length (decimal r.offset) ≤ 20 = digits r.offset fits.2 in
     either 200 ((r.status == number.NOT_POINTER) || ((r.status == number.NOT_FOUND) || (r.status == number.NOT_ASSIGNED))) _ _ (omega (arith, cause))
     (either 200 (r.status == number.NOT_PATCH) _ _ (before 200 (codes "not a JSON Patch document: ") (document_message r) (omega (arith, start, document)))
-    (either 200 (r.status == number.PATCH_FAILED) _ _ (before 200 (codes "patch failed at operation " ++ decimal r.operation ++ codes ": ") (cause_message r.kind r.slash) (omega (arith, place, cause)))
+    (either 200 (r.status == number.PATCH_FAILED) _ _ (before 200 (codes "patch failed at operation " ++ decimal r.operation ++ codes ": ") (fault_message r.kind r.slash) (omega (arith, place, cause)))
     (either 200 (r.status == number.NOT_EXACT) _ _ (around 200 (codes "the number at offset ") (codes " loses digits") r.offset fits.2 (lit≤ tt))
-    (either 200 ((r.status == number.TOO_DEEP) && (r.kind == number.KIND_DEEP_INVERSE)) _ _ (lit≤ tt) (fixed_short r.status)))))
+    (either 200 (r.status == number.NO_VALUE) _ _ (before 200 (codes "no value is at offset ") (decimal r.offset) (omega (arith, at, offset)))
+    (either 200 ((r.status == number.TOO_DEEP) && (r.kind == number.KIND_DEEP_INVERSE)) _ _ (lit≤ tt) (fixed_short r.status))))))

@@ -15,52 +15,54 @@ use Rattle.jsonptr.specs.Text.{Text}
 use Rattle.jsonptr.specs.Types.ParseError.{ParseError}
 use Rattle.jsonptr.proofs.Calling.{IsPointer-text, text_one, FindsValue_one, Refuses-NamesNothing}
 use Rattle.jsonptr.specs.Grammar.{IsPointer}
-use Rattle.jsonptr_c_handle.specs.declared.document.Document.{Document}
+use Rattle.jsonptr_c_handle.specs.declared.handle.Handle.{Handle}
 use Rattle.jsonptr_c_calls.specs.Editing.{IsNotAssigned, IsNotDeleted, IsTextNotAssigned, RefusesAt}
 use Rattle.jsonptr_numbers.specs.declared.lost.Lost.{Lost}
-use Rattle.jsonptr_c_calls.specs.Exactness.{IsNotParsedExactly, LacksPointer}
-use Rattle.jsonptr_c_calls.specs.Failures.{FailsOn, IsNoPointer, IsNoToken, IsNotEscaped, IsNotExtended, IsNotParsed, IsNotPopped, IsNotPrinted, IsNotPushed, IsNotRead, IsNotUtf8, IsOutOfMemory, LacksRoom, LacksString, LacksToken, SameStatus, Unfound}
-use Rattle.jsonptr_c_calls.specs.InTexts.{FindsIn, IsNotInText, IsNotPrintedFrom, LacksValue}
+use Rattle.jsonptr_c_calls.specs.Exactness.{IsNotParsedExactly, LacksPointerOfNumber}
+use Rattle.jsonptr_c_calls.specs.Failures.{FailsOnHandle, IsNoPointer, IsNoToken, IsNotEscaped, IsNotExtended, IsNotParsed, IsNotPopped, IsNotPrinted, IsNotPushed, IsNotRead, IsNotUtf8, IsOutOfMemory, LacksRoom, LacksString, LacksToken, SameStatus, Unfound}
+use Rattle.jsonptr_in_text.specs.InText.{FindsInText}
+use Rattle.jsonptr_c_calls.specs.Locations.{IsNotLocated, LacksLocation}
+use Rattle.jsonptr_c_calls.specs.InTexts.{FindsAtPointerInText, IsNotInText, IsNotPrintedFrom, LacksValue}
 use Rattle.jsonptr_patch.specs.Patching.{PatchesBy, RefusesPatchBy}
 use Rattle.jsonptr_patch.specs.declared.operation.Operation.{Operation}
 use Rattle.jsonptr_patch.specs.declared.operation.PatchError.{PatchError}
 use Rattle.jsonptr_patch.specs.declared.comparison.Comparison.TheVariants.{Numeric}
 use Rattle.jsonptr_c_calls.specs.Patches.{IsNotAppliedList, IsNotPatched, IsNotPatchText, LacksBack}
 use Rattle.jsonptr_c_calls.specs.Pointers.{ParsesTo}
-use Rattle.jsonptr_c_calls.specs.Rows.{status_of}
-use Rattle.jsonptr_c_calls.specs.Values.{FindsAt}
-use Rattle.jsonptr_c_calls.specs.declared.failure.Argument.{Argument}
-use Rattle.jsonptr_c_calls.specs.declared.failure.Argument.TheVariants as argument
-use Rattle.jsonptr_c_calls.specs.declared.failure.Failure.{Failure}
-use Rattle.jsonptr_c_calls.specs.declared.failure.Failure.TheVariants.{NoRoom, NoDocument, NotUtf8, NotJson, NotExact, NotPointer, NoToken, NotFound, OtherKind, NotAssigned, NotPatch, PatchFailed, TooDeep, DeepInverse}
-use Rattle.jsonptr_c_calls.specs.declared.values.Layout.{Layout}
+use Rattle.jsonptr_c_calls.specs.ErrorNumbers.{status_number}
+use Rattle.jsonptr_c_calls.specs.Values.{FindsAtPointer}
+use Rattle.jsonptr_c_calls.specs.declared.call_error.Argument.{Argument}
+use Rattle.jsonptr_c_calls.specs.declared.call_error.Argument.TheVariants as argument
+use Rattle.jsonptr_c_calls.specs.declared.call_error.CallError.{CallError}
+use Rattle.jsonptr_c_calls.specs.declared.call_error.CallError.TheVariants.{NoRoom, NoDocument, NotUtf8, NotJson, NotExact, NotPointer, NoToken, NotFound, NotLocated, OtherKind, NotAssigned, NotPatch, PatchFailed, TooDeep, DeepInverse}
+use Rattle.jsonptr_c_calls.specs.declared.values.TextLayout.{TextLayout}
 use Rattle.jsonptr_c_calls.specs.Depths.{max_levels, StaysShallow}
 use Rattle.jsonptr_c_calls.proofs.SourceLemmas.{is_document}
 
-same : (e f x y : Failure) → e ≡ x → f ≡ y → status_of x ≡ status_of y → SameStatus e f
-same e f x y p q s = inr (inr (ap status_of p ∙ s ∙ sym (ap status_of q)))
+same : (e f x y : CallError) → e ≡ x → f ≡ y → status_number x ≡ status_number y → SameStatus e f
+same e f x y p q s = inr (inr (ap status_number p ∙ s ∙ sym (ap status_number q)))
 
-turned : (e f : Failure) → SameStatus e f → SameStatus f e
+turned : (e f : CallError) → SameStatus e f → SameStatus f e
 turned e f (inl h) = inr (inl h)
 turned e f (inr (inl h)) = inl h
 turned e f (inr (inr h)) = inr (inr (sym h))
 
-rooms : (e f : Failure) (n m room : ℕ) → LacksRoom n room e → LacksRoom m room f → SameStatus e f
+rooms : (e f : CallError) (n m room : ℕ) → LacksRoom n room e → LacksRoom m room f → SameStatus e f
 rooms e f n m room h k = same e f (NoRoom n) (NoRoom m) h.1 k.1 refl
 
-not_utf8 : (a : Argument) (bytes : List ℕ) (e f : Failure) → IsNotUtf8 a bytes e → IsNotUtf8 a bytes f → SameStatus e f
+not_utf8 : (a : Argument) (bytes : List ℕ) (e f : CallError) → IsNotUtf8 a bytes e → IsNotUtf8 a bytes f → SameStatus e f
 not_utf8 a bytes e f h k = same e f (NotUtf8 a _) (NotUtf8 a _) h.1 k.1 refl
 
 tokens_one : (bytes : List ℕ) (ts us : List Text) → ParsesTo bytes ts → ParsesTo bytes us → ts ≡ us
 tokens_one bytes ts us h k = text_one ts us (h.1 ∙ sym k.1)
 
-pub no_pointers : (bytes : List ℕ) (e f : Failure) → IsNoPointer bytes e → IsNoPointer bytes f → SameStatus e f
+pub no_pointers : (bytes : List ℕ) (e f : CallError) → IsNoPointer bytes e → IsNoPointer bytes f → SameStatus e f
 no_pointers bytes e f (inl h) (inl k) = not_utf8 _ bytes e f h k
 no_pointers bytes e f (inl h) (inr k) = absurd (h.0 k.1)
 no_pointers bytes e f (inr h) (inl k) = absurd (k.0 h.1)
 no_pointers bytes e f (inr h) (inr k) = same e f (NotPointer h.0) (NotPointer k.0) h.3 k.3 refl
 
-pub not_escaped : (token : List ℕ) (room : ℕ) (e f : Failure) → IsNotEscaped token room e → IsNotEscaped token room f → SameStatus e f
+pub not_escaped : (token : List ℕ) (room : ℕ) (e f : CallError) → IsNotEscaped token room e → IsNotEscaped token room f → SameStatus e f
 not_escaped token room e f (inr (inl h)) k = inl h
 not_escaped token room e f (inl h) (inr (inl k)) = inr (inl k)
 not_escaped token room e f (inr (inr h)) (inr (inl k)) = inr (inl k)
@@ -69,7 +71,7 @@ not_escaped token room e f (inl h) (inr (inr k)) = absurd (h.0 k.0)
 not_escaped token room e f (inr (inr h)) (inl k) = absurd (k.0 h.0)
 not_escaped token room e f (inr (inr h)) (inr (inr k)) = rooms e f _ _ room h.1 k.1
 
-pub not_parsed : (t : List ℕ) (e f : Failure) → IsNotParsed t e → IsNotParsed t f → SameStatus e f
+pub not_parsed : (t : List ℕ) (e f : CallError) → IsNotParsed t e → IsNotParsed t f → SameStatus e f
 not_parsed t e f (inr (inl h)) k = inl h
 not_parsed t e f (inl h) (inr (inl k)) = inr (inl k)
 not_parsed t e f (inr (inr h)) (inr (inl k)) = inr (inl k)
@@ -79,25 +81,25 @@ not_parsed t e f (inr (inr h)) (inl k) = absurd (k.0 h.1)
 not_parsed t e f (inr (inr h)) (inr (inr k)) = same e f (NotJson h.0) (NotJson k.0) h.3 k.3 refl
 
 -- a text that is read has no error
-no_read : (t : List ℕ) (d : Data) (e f : Failure) → IsNotParsed t e → IsUtf8 t → read t ≡ Some d → SameStatus e f
+no_read : (t : List ℕ) (d : Data) (e f : CallError) → IsNotParsed t e → IsUtf8 t → read t ≡ Some d → SameStatus e f
 no_read t d e f (inl h) u r = absurd (h.0 u)
 no_read t d e f (inr (inl h)) u r = inl h
 no_read t d e f (inr (inr h)) u r = absurd (let no : None ≡ Some d = sym h.2 ∙ r in cc)
 
-pub not_parsed_exactly : (t : List ℕ) (e f : Failure) → IsNotParsedExactly t e → IsNotParsedExactly t f → SameStatus e f
+pub not_parsed_exactly : (t : List ℕ) (e f : CallError) → IsNotParsedExactly t e → IsNotParsedExactly t f → SameStatus e f
 not_parsed_exactly t e f (inl h) (inl k) = not_parsed t e f h k
 not_parsed_exactly t e f (inl h) (inr k) = no_read t k.1.0 e f h k.1.1 k.1.2
 not_parsed_exactly t e f (inr h) (inl k) = turned f e (no_read t h.1.0 f e k h.1.1 h.1.2)
 not_parsed_exactly t e f (inr h) (inr k) = same e f (NotExact h.0) (NotExact k.0) h.2 k.2 refl
 
-pub pointer_lacked : (lost : Lost) (room : ℕ) (e f : Failure) → LacksPointer lost room e → LacksPointer lost room f → SameStatus e f
+pub pointer_lacked : (lost : Lost) (room : ℕ) (e f : CallError) → LacksPointerOfNumber lost room e → LacksPointerOfNumber lost room f → SameStatus e f
 pointer_lacked lost room e f (inl h) (inl k) = same e f (NotExact lost) (NotExact lost) h.1 k.1 refl
 pointer_lacked lost room e f (inl h) (inr k) = absurd (let no : None ≡ Some k.0 = sym h.0 ∙ k.1 in cc)
 pointer_lacked lost room e f (inr h) (inl k) = absurd (let no : None ≡ Some h.0 = sym k.0 ∙ h.1 in cc)
 pointer_lacked lost room e f (inr h) (inr k) = rooms e f _ _ room h.2 k.2
 
 -- what fails on the document in a handle
-on_document : (d : Document) (P : Value → Failure → Type 0) (e f : Failure) → ((v : Value) → P v e → P v f → SameStatus e f) → FailsOn d (λ v. P v e) e → FailsOn d (λ v. P v f) f → SameStatus e f
+on_document : (d : Handle) (P : Value → CallError → Type 0) (e f : CallError) → ((v : Value) → P v e → P v f → SameStatus e f) → FailsOnHandle d (λ v. P v e) e → FailsOnHandle d (λ v. P v f) f → SameStatus e f
 on_document d P e f one (inl h) (inl k) = same e f NoDocument NoDocument h.0 k.0 refl
 on_document d P e f one (inl h) (inr k) = absurd (false≢true (sym h.1 ∙ k.1.0))
 on_document d P e f one (inr h) (inl k) = absurd (false≢true (sym k.1 ∙ h.1.0))
@@ -108,17 +110,17 @@ on_document d P e f one (inr h) (inr k) =
 
 module _ (not_both : (s : Text) (e : ParseError) → IsPointer s → IsParseErrorOf s e → ⊥) where
   -- a pointer has no error
-  no_pointer-parses : (bytes : List ℕ) (ts : List Text) (e : Failure) → IsNoPointer bytes e → ParsesTo bytes ts → ⊥
+  no_pointer-parses : (bytes : List ℕ) (ts : List Text) (e : CallError) → IsNoPointer bytes e → ParsesTo bytes ts → ⊥
   no_pointer-parses bytes ts e (inl h) p = h.0 p.0
   no_pointer-parses bytes ts e (inr h) p = not_both bytes h.0 (subst IsPointer p.1 (IsPointer-text ts)) h.2
 
-  tokens_lacked : (ts : List Text) (position room : ℕ) (e f : Failure) → LacksToken ts position room e → LacksToken ts position room f → SameStatus e f
+  tokens_lacked : (ts : List Text) (position room : ℕ) (e f : CallError) → LacksToken ts position room e → LacksToken ts position room f → SameStatus e f
   tokens_lacked ts position room e f (inl h) (inl k) = same e f NoToken NoToken h.1 k.1 refl
   tokens_lacked ts position room e f (inl h) (inr k) = absurd (let no : None ≡ Some k.0 = sym h.0 ∙ k.1 in cc)
   tokens_lacked ts position room e f (inr h) (inl k) = absurd (let no : None ≡ Some h.0 = sym k.0 ∙ h.1 in cc)
   tokens_lacked ts position room e f (inr h) (inr k) = rooms e f _ _ room h.2 k.2
 
-  pub no_tokens : (bytes : List ℕ) (position room : ℕ) (e f : Failure) → IsNoToken bytes position room e → IsNoToken bytes position room f → SameStatus e f
+  pub no_tokens : (bytes : List ℕ) (position room : ℕ) (e f : CallError) → IsNoToken bytes position room e → IsNoToken bytes position room f → SameStatus e f
   no_tokens bytes position room e f (inr (inl h)) k = inl h
   no_tokens bytes position room e f (inl h) (inr (inl k)) = inr (inl k)
   no_tokens bytes position room e f (inr (inr h)) (inr (inl k)) = inr (inl k)
@@ -128,7 +130,7 @@ module _ (not_both : (s : Text) (e : ParseError) → IsPointer s → IsParseErro
   no_tokens bytes position room e f (inr (inr h)) (inr (inr k)) =
       tokens_lacked k.0 position room e f (subst (λ (ts : List Text). LacksToken ts position room e) (tokens_one bytes h.0 k.0 h.1 k.1) h.2) k.2
 
-  not_extended : (bytes token : List ℕ) (e f : Failure) → IsNotExtended bytes token e → IsNotExtended bytes token f → SameStatus e f
+  not_extended : (bytes token : List ℕ) (e f : CallError) → IsNotExtended bytes token e → IsNotExtended bytes token f → SameStatus e f
   not_extended bytes token e f (inr (inl h)) k = inl h
   not_extended bytes token e f (inl h) (inr (inl k)) = inr (inl k)
   not_extended bytes token e f (inr (inr h)) (inr (inl k)) = inr (inl k)
@@ -138,12 +140,12 @@ module _ (not_both : (s : Text) (e : ParseError) → IsPointer s → IsParseErro
   not_extended bytes token e f (inr (inr h)) (inr (inr k)) = not_utf8 _ token e f h.2 k.2
 
   -- a pointer that can be extended
-  extended : (bytes token : List ℕ) (ts : List Text) (e f : Failure) → IsNotExtended bytes token e → ParsesTo bytes ts → IsUtf8 token → SameStatus e f
+  extended : (bytes token : List ℕ) (ts : List Text) (e f : CallError) → IsNotExtended bytes token e → ParsesTo bytes ts → IsUtf8 token → SameStatus e f
   extended bytes token ts e f (inl h) p u = absurd (no_pointer-parses bytes ts e h p)
   extended bytes token ts e f (inr (inl h)) p u = inl h
   extended bytes token ts e f (inr (inr h)) p u = absurd (h.2.0 u)
 
-  pub not_pushed : (n : ℕ) (buffer token : List ℕ) (e f : Failure) → IsNotPushed n buffer token e → IsNotPushed n buffer token f → SameStatus e f
+  pub not_pushed : (n : ℕ) (buffer token : List ℕ) (e f : CallError) → IsNotPushed n buffer token e → IsNotPushed n buffer token f → SameStatus e f
   not_pushed n buffer token e f (inl h) (inl k) = rooms e f _ _ _ h k
   not_pushed n buffer token e f (inl h) (inr k) = absurd (omega (arith, h.0, k.0))
   not_pushed n buffer token e f (inr h) (inl k) = absurd (omega (arith, k.0, h.0))
@@ -153,13 +155,13 @@ module _ (not_both : (s : Text) (e : ParseError) → IsPointer s → IsParseErro
       turned f e (extended (take n buffer) token h.0 f e k h.1 h.2)
   not_pushed n buffer token e f (inr (low, inr h)) (inr (more, inr k)) = rooms e f _ _ _ h.3 k.3
 
-  pub not_popped : (bytes : List ℕ) (e f : Failure) → IsNotPopped bytes e → IsNotPopped bytes f → SameStatus e f
+  pub not_popped : (bytes : List ℕ) (e f : CallError) → IsNotPopped bytes e → IsNotPopped bytes f → SameStatus e f
   not_popped bytes e f (inl h) (inl k) = no_pointers bytes e f h k
   not_popped bytes e f (inl h) (inr k) = absurd (no_pointer-parses bytes [] e h k.0)
   not_popped bytes e f (inr h) (inl k) = absurd (no_pointer-parses bytes [] f k h.0)
   not_popped bytes e f (inr h) (inr k) = same e f NoToken NoToken h.1 k.1 refl
 
-  pub unfound : (d : Data) (bytes : List ℕ) (e f : Failure) → Unfound d bytes e → Unfound d bytes f → SameStatus e f
+  pub unfound : (d : Data) (bytes : List ℕ) (e f : CallError) → Unfound d bytes e → Unfound d bytes f → SameStatus e f
   unfound d bytes e f (inr (inl h)) k = inl h
   unfound d bytes e f (inl h) (inr (inl k)) = inr (inl k)
   unfound d bytes e f (inr (inr h)) (inr (inl k)) = inr (inl k)
@@ -169,23 +171,23 @@ module _ (not_both : (s : Text) (e : ParseError) → IsPointer s → IsParseErro
   unfound d bytes e f (inr (inr h)) (inr (inr k)) = same e f (NotFound h.1) (NotFound k.1) h.4 k.4 refl
 
   -- a value that is found
-  found : (d v : Data) (bytes : List ℕ) (e f : Failure) → Unfound d bytes e → IsUtf8 bytes → FindsAt d bytes v → SameStatus e f
+  found : (d v : Data) (bytes : List ℕ) (e f : CallError) → Unfound d bytes e → IsUtf8 bytes → FindsAtPointer d bytes v → SameStatus e f
   found d v bytes e f (inl h) u at = absurd (no_pointer-parses bytes at.0 e h (u, at.1))
   found d v bytes e f (inr (inl h)) u at = inl h
   found d v bytes e f (inr (inr h)) u at =
       let there : FindsValue d h.0 v = subst (λ (ts : List Text). FindsValue d ts v) (tokens_one bytes at.0 h.0 (u, at.1) h.2) at.2 in
       absurd (Refuses-NamesNothing (nodes d) h.0 h.1 h.3 there.path there.named)
 
-  pub not_printed : (layout : Layout) (d : Data) (bytes : List ℕ) (room : ℕ) (e f : Failure) → IsNotPrinted layout d bytes room e → IsNotPrinted layout d bytes room f → SameStatus e f
+  pub not_printed : (layout : TextLayout) (d : Data) (bytes : List ℕ) (room : ℕ) (e f : CallError) → IsNotPrinted layout d bytes room e → IsNotPrinted layout d bytes room f → SameStatus e f
   not_printed layout d bytes room e f (inl h) (inl k) = unfound d bytes e f h k
   not_printed layout d bytes room e f (inl h) (inr k) = found d k.0 bytes e f h k.2 k.3
   not_printed layout d bytes room e f (inr h) (inl k) = turned f e (found d h.0 bytes f e k h.2 h.3)
   not_printed layout d bytes room e f (inr h) (inr k) = rooms e f _ _ room h.5 k.5
 
-  pub not_printed_in : (d : Document) (layout : Layout) (bytes : List ℕ) (room : ℕ) (e f : Failure) → FailsOn d (λ v. IsNotPrinted layout (view v) bytes room e) e → FailsOn d (λ v. IsNotPrinted layout (view v) bytes room f) f → SameStatus e f
+  pub not_printed_in : (d : Handle) (layout : TextLayout) (bytes : List ℕ) (room : ℕ) (e f : CallError) → FailsOnHandle d (λ v. IsNotPrinted layout (view v) bytes room e) e → FailsOnHandle d (λ v. IsNotPrinted layout (view v) bytes room f) f → SameStatus e f
   not_printed_in d layout bytes room e f = on_document d (λ v x. IsNotPrinted layout (view v) bytes room x) e f (λ v. not_printed layout (view v) bytes room e f)
 
-  strings : (v w : Data) (room : ℕ) (e f : Failure) → v ≡ w → LacksString v room e → LacksString w room f → SameStatus e f
+  strings : (v w : Data) (room : ℕ) (e f : CallError) → v ≡ w → LacksString v room e → LacksString w room f → SameStatus e f
   strings v w room e f is (inl h) (inl k) = same e f OtherKind OtherKind h.1 k.1 refl
   strings v w room e f is (inl h) (inr k) =
       absurd (let no : None ≡ Some k.0 = sym h.0 ∙ ap as_str (is ∙ k.1) in cc)
@@ -193,7 +195,7 @@ module _ (not_both : (s : Text) (e : ParseError) → IsPointer s → IsParseErro
       absurd (let no : None ≡ Some h.0 = sym k.0 ∙ ap as_str (sym is ∙ h.1) in cc)
   strings v w room e f is (inr h) (inr k) = rooms e f _ _ room h.2 k.2
 
-  not_read : (d : Data) (bytes : List ℕ) (room : ℕ) (e f : Failure) → IsNotRead d bytes room e → IsNotRead d bytes room f → SameStatus e f
+  not_read : (d : Data) (bytes : List ℕ) (room : ℕ) (e f : CallError) → IsNotRead d bytes room e → IsNotRead d bytes room f → SameStatus e f
   not_read d bytes room e f (inl h) (inl k) = unfound d bytes e f h k
   not_read d bytes room e f (inl h) (inr k) = found d k.0 bytes e f h k.1 k.2
   not_read d bytes room e f (inr h) (inl k) = turned f e (found d h.0 bytes f e k h.1 h.2)
@@ -201,19 +203,19 @@ module _ (not_both : (s : Text) (e : ParseError) → IsPointer s → IsParseErro
       let tokens : h.2.0 ≡ k.2.0 = tokens_one bytes h.2.0 k.2.0 (h.1, h.2.1) (k.1, k.2.1) in
       strings h.0 k.0 room e f (FindsValue_one d k.2.0 h.0 k.0 (subst (λ (ts : List Text). FindsValue d ts h.0) tokens h.2.2) k.2.2) h.3 k.3
 
-  pub not_read_in : (d : Document) (bytes : List ℕ) (room : ℕ) (e f : Failure) → FailsOn d (λ v. IsNotRead (view v) bytes room e) e → FailsOn d (λ v. IsNotRead (view v) bytes room f) f → SameStatus e f
+  pub not_read_in : (d : Handle) (bytes : List ℕ) (room : ℕ) (e f : CallError) → FailsOnHandle d (λ v. IsNotRead (view v) bytes room e) e → FailsOnHandle d (λ v. IsNotRead (view v) bytes room f) f → SameStatus e f
   not_read_in d bytes room e f = on_document d (λ v x. IsNotRead (view v) bytes room x) e f (λ v. not_read (view v) bytes room e f)
 
-  pub unfound_in : (d : Document) (bytes : List ℕ) (e f : Failure) → FailsOn d (λ v. Unfound (view v) bytes e) e → FailsOn d (λ v. Unfound (view v) bytes f) f → SameStatus e f
+  pub unfound_in : (d : Handle) (bytes : List ℕ) (e f : CallError) → FailsOnHandle d (λ v. Unfound (view v) bytes e) e → FailsOnHandle d (λ v. Unfound (view v) bytes f) f → SameStatus e f
   unfound_in d bytes e f = on_document d (λ v x. Unfound (view v) bytes x) e f (λ v. unfound (view v) bytes e f)
 
-  refused_at : (d : Data) (ts : List Text) (e f : Failure) → RefusesAt d ts e → RefusesAt d ts f → SameStatus e f
+  refused_at : (d : Data) (ts : List Text) (e f : CallError) → RefusesAt d ts e → RefusesAt d ts f → SameStatus e f
   refused_at d ts e f (inl h) (inl k) = same e f TooDeep TooDeep h.1 k.1 refl
   refused_at d ts e f (inl h) (inr k) = absurd (let short : length ts ≤ max_levels = k.1 in omega (arith, h.0, short))
   refused_at d ts e f (inr h) (inl k) = absurd (let short : length ts ≤ max_levels = h.1 in omega (arith, k.0, short))
   refused_at d ts e f (inr h) (inr k) = same e f (NotAssigned h.0) (NotAssigned k.0) h.3 k.3 refl
 
-  not_assigned : (d : Data) (bytes : List ℕ) (e f : Failure) → IsNotAssigned d bytes e → IsNotAssigned d bytes f → SameStatus e f
+  not_assigned : (d : Data) (bytes : List ℕ) (e f : CallError) → IsNotAssigned d bytes e → IsNotAssigned d bytes f → SameStatus e f
   not_assigned d bytes e f (inr (inl h)) k = inl h
   not_assigned d bytes e f (inl h) (inr (inl k)) = inr (inl k)
   not_assigned d bytes e f (inr (inr h)) (inr (inl k)) = inr (inl k)
@@ -223,28 +225,28 @@ module _ (not_both : (s : Text) (e : ParseError) → IsPointer s → IsParseErro
   not_assigned d bytes e f (inr (inr h)) (inr (inr k)) =
       refused_at d k.0 e f (subst (λ (ts : List Text). RefusesAt d ts e) (tokens_one bytes h.0 k.0 h.1 k.1) h.2) k.2
 
-  pub not_assigned_in : (t : List ℕ) (d : Document) (bytes : List ℕ) (e f : Failure) → IsTextNotAssigned t d bytes e → IsTextNotAssigned t d bytes f → SameStatus e f
+  pub not_assigned_in : (t : List ℕ) (d : Handle) (bytes : List ℕ) (e f : CallError) → IsTextNotAssigned t d bytes e → IsTextNotAssigned t d bytes f → SameStatus e f
   not_assigned_in t d bytes e f (inl h) (inl k) = not_parsed t e f h k
   not_assigned_in t d bytes e f (inl h) (inr k) = no_read t k.0 e f h k.1 k.2
   not_assigned_in t d bytes e f (inr h) (inl k) = turned f e (no_read t h.0 f e k h.1 h.2)
   not_assigned_in t d bytes e f (inr h) (inr k) =
       on_document d (λ v x. IsNotAssigned (view v) bytes x) e f (λ v. not_assigned (view v) bytes e f) h.3 k.3
 
-  not_deleted : (bytes : List ℕ) (e f : Failure) → IsNotDeleted bytes e → IsNotDeleted bytes f → SameStatus e f
+  not_deleted : (bytes : List ℕ) (e f : CallError) → IsNotDeleted bytes e → IsNotDeleted bytes f → SameStatus e f
   not_deleted bytes e f (inr h) k = inl h
   not_deleted bytes e f (inl h) (inr k) = inr (inl k)
   not_deleted bytes e f (inl h) (inl k) = no_pointers bytes e f h k
 
-  pub not_deleted_in : (d : Document) (bytes : List ℕ) (e f : Failure) → FailsOn d (λ _. IsNotDeleted bytes e) e → FailsOn d (λ _. IsNotDeleted bytes f) f → SameStatus e f
+  pub not_deleted_in : (d : Handle) (bytes : List ℕ) (e f : CallError) → FailsOnHandle d (λ _. IsNotDeleted bytes e) e → FailsOnHandle d (λ _. IsNotDeleted bytes f) f → SameStatus e f
   not_deleted_in d bytes e f = on_document d (λ v x. IsNotDeleted bytes x) e f (λ v. not_deleted bytes e f)
 
-  pub not_patch : (t : List ℕ) (e f : Failure) → IsNotPatchText t e → IsNotPatchText t f → SameStatus e f
+  pub not_patch : (t : List ℕ) (e f : CallError) → IsNotPatchText t e → IsNotPatchText t f → SameStatus e f
   not_patch t e f (inl h) (inl k) = not_parsed t e f h k
   not_patch t e f (inl h) (inr k) = no_read t k.0 e f h k.2 k.3
   not_patch t e f (inr h) (inl k) = turned f e (no_read t h.0 f e k h.2 h.3)
   not_patch t e f (inr h) (inr k) = same e f (NotPatch h.1) (NotPatch k.1) h.5 k.5 refl
 
-  pub not_applied : (d : Data) (t : List ℕ) (os : List Operation) (e f : Failure) → IsNotAppliedList d t os e → IsNotAppliedList d t os f → SameStatus e f
+  pub not_applied : (d : Data) (t : List ℕ) (os : List Operation) (e f : CallError) → IsNotAppliedList d t os e → IsNotAppliedList d t os f → SameStatus e f
   not_applied d t os e f (inr (inl h)) k = inl h
   not_applied d t os e f (inl h) (inr (inl k)) = inr (inl k)
   not_applied d t os e f (inr (inr h)) (inr (inl k)) = inr (inl k)
@@ -253,28 +255,28 @@ module _ (not_both : (s : Text) (e : ParseError) → IsPointer s → IsParseErro
   not_applied d t os e f (inr (inr h)) (inl k) = absurd (k.0 h.0)
   not_applied d t os e f (inr (inr h)) (inr (inr k)) = same e f (PatchFailed h.1.0 h.1.1) (PatchFailed k.1.0 k.1.1) h.1.4 k.1.4 refl
 
-  no_back : ((n m : NodeMap) (os : List Operation) (e : PatchError) → IsDocument n → PatchesBy Numeric n os m → RefusesPatchBy Numeric n os e → ⊥) → (d : Data) (t : List ℕ) (os : List Operation) (e f : Failure) → IsNotAppliedList d t os e → ((n : Data) × StaysShallow d os × PatchesBy Numeric (nodes d) os (nodes n) × LacksBack d n f) → SameStatus e f
+  no_back : ((n m : NodeMap) (os : List Operation) (e : PatchError) → IsDocument n → PatchesBy Numeric n os m → RefusesPatchBy Numeric n os e → ⊥) → (d : Data) (t : List ℕ) (os : List Operation) (e f : CallError) → IsNotAppliedList d t os e → ((n : Data) × StaysShallow d os × PatchesBy Numeric (nodes d) os (nodes n) × LacksBack d n f) → SameStatus e f
   no_back apart d t os e f (inl h) k = absurd (h.0 k.1)
   no_back apart d t os e f (inr (inl h)) k = inl h
   no_back apart d t os e f (inr (inr h)) k = absurd (apart (nodes d) (nodes k.0) os h.1.0 (is_document d) k.2 h.1.2)
 
-  pub not_patched : ((n m : NodeMap) (os : List Operation) (e : PatchError) → IsDocument n → PatchesBy Numeric n os m → RefusesPatchBy Numeric n os e → ⊥) → (d : Data) (t : List ℕ) (os : List Operation) (e f : Failure) → IsNotPatched d t os e → IsNotPatched d t os f → SameStatus e f
+  pub not_patched : ((n m : NodeMap) (os : List Operation) (e : PatchError) → IsDocument n → PatchesBy Numeric n os m → RefusesPatchBy Numeric n os e → ⊥) → (d : Data) (t : List ℕ) (os : List Operation) (e f : CallError) → IsNotPatched d t os e → IsNotPatched d t os f → SameStatus e f
   not_patched apart d t os e f (inl h) (inl k) = not_applied d t os e f h k
   not_patched apart d t os e f (inl h) (inr k) = no_back apart d t os e f h k
   not_patched apart d t os e f (inr h) (inl k) = turned f e (no_back apart d t os f e k h)
   not_patched apart d t os e f (inr h) (inr k) = same e f DeepInverse DeepInverse h.3.3 k.3.3 refl
 
-  lacks_value : (t : List ℕ) (ts : List Text) (e f : Failure) → LacksValue t ts e → LacksValue t ts f → SameStatus e f
+  lacks_value : (t : List ℕ) (ts : List Text) (e f : CallError) → LacksValue t ts e → LacksValue t ts f → SameStatus e f
   lacks_value t ts e f (inl h) (inl k) = same e f (NotJson h.0) (NotJson k.0) h.2 k.2 refl
   lacks_value t ts e f (inl h) (inr k) = absurd (let no : None ≡ Some k.1.0 = sym h.1 ∙ k.1.1 in cc)
   lacks_value t ts e f (inr h) (inl k) = absurd (let no : None ≡ Some h.1.0 = sym k.1 ∙ h.1.1 in cc)
   lacks_value t ts e f (inr h) (inr k) = same e f (NotFound h.0) (NotFound k.0) h.2 k.2 refl
 
   -- the errors of a text in which these tokens are looked for
-  abbrev InText : List ℕ → List Text → Failure → Type 0
+  abbrev InText : List ℕ → List Text → CallError → Type 0
   InText t ts e = IsNotUtf8 argument.Text t e ⊎ (IsOutOfMemory e ⊎ (IsUtf8 t × LacksValue t ts e))
 
-  in_text : (t : List ℕ) (ts : List Text) (e f : Failure) → InText t ts e → InText t ts f → SameStatus e f
+  in_text : (t : List ℕ) (ts : List Text) (e f : CallError) → InText t ts e → InText t ts f → SameStatus e f
   in_text t ts e f (inr (inl h)) k = inl h
   in_text t ts e f (inl h) (inr (inl k)) = inr (inl k)
   in_text t ts e f (inr (inr h)) (inr (inl k)) = inr (inl k)
@@ -283,7 +285,7 @@ module _ (not_both : (s : Text) (e : ParseError) → IsPointer s → IsParseErro
   in_text t ts e f (inr (inr h)) (inl k) = absurd (k.0 h.0)
   in_text t ts e f (inr (inr h)) (inr (inr k)) = lacks_value t ts e f h.1 k.1
 
-  not_in_text : (t bytes : List ℕ) (e f : Failure) → IsNotInText t bytes e → IsNotInText t bytes f → SameStatus e f
+  not_in_text : (t bytes : List ℕ) (e f : CallError) → IsNotInText t bytes e → IsNotInText t bytes f → SameStatus e f
   not_in_text t bytes e f (inl h) (inl k) = no_pointers bytes e f h k
   not_in_text t bytes e f (inl h) (inr k) = absurd (no_pointer-parses bytes k.0 e h k.1)
   not_in_text t bytes e f (inr h) (inl k) = absurd (no_pointer-parses bytes h.0 f k h.1)
@@ -291,7 +293,7 @@ module _ (not_both : (s : Text) (e : ParseError) → IsPointer s → IsParseErro
       in_text t k.0 e f (subst (λ (ts : List Text). InText t ts e) (tokens_one bytes h.0 k.0 h.1 k.1) h.2) k.2
 
   -- a value that is found in a text
-  in_text-found : (t : List ℕ) (ts : List Text) (d v : Data) (e f : Failure) → InText t ts e → IsUtf8 t → read t ≡ Some d → FindsValue d ts v → SameStatus e f
+  in_text-found : (t : List ℕ) (ts : List Text) (d v : Data) (e f : CallError) → InText t ts e → IsUtf8 t → read t ≡ Some d → FindsValue d ts v → SameStatus e f
   in_text-found t ts d v e f (inl h) u r there = absurd (h.0 u)
   in_text-found t ts d v e f (inr (inl h)) u r there = inl h
   in_text-found t ts d v e f (inr (inr (w, inl h))) u r there = absurd (let no : None ≡ Some d = sym h.1 ∙ r in cc)
@@ -300,13 +302,13 @@ module _ (not_both : (s : Text) (e : ParseError) → IsPointer s → IsParseErro
       let one : h.1.0 ≡ d = cc in
       absurd (Refuses-NamesNothing (nodes d) ts h.0 (subst (λ (x : Data). Refuses (nodes x) ts h.0) one h.1.2) there.path there.named)
 
-  found_in_text : (t bytes : List ℕ) (v : Value) (e f : Failure) → IsNotInText t bytes e → IsUtf8 bytes → IsUtf8 t → FindsIn t bytes v → SameStatus e f
+  found_in_text : (t bytes : List ℕ) (v : Value) (e f : CallError) → IsNotInText t bytes e → IsUtf8 bytes → IsUtf8 t → FindsAtPointerInText t bytes v → SameStatus e f
   found_in_text t bytes v e f (inl h) u w there = absurd (no_pointer-parses bytes there.0 e h (u, there.1))
   found_in_text t bytes v e f (inr h) u w there =
       let tokens : h.0 ≡ there.0 = tokens_one bytes h.0 there.0 h.1 (u, there.1) in
       in_text-found t there.0 there.2.0 (view v) e f (subst (λ (ts : List Text). InText t ts e) tokens h.2) w there.2.1 there.2.2
 
-  pub not_printed_from : (layout : Layout) (t bytes : List ℕ) (room : ℕ) (e f : Failure) → IsNotPrintedFrom layout t bytes room e → IsNotPrintedFrom layout t bytes room f → SameStatus e f
+  pub not_printed_from : (layout : TextLayout) (t bytes : List ℕ) (room : ℕ) (e f : CallError) → IsNotPrintedFrom layout t bytes room e → IsNotPrintedFrom layout t bytes room f → SameStatus e f
   not_printed_from layout t bytes room e f (inr (inl h)) k = inl h
   not_printed_from layout t bytes room e f (inl h) (inr (inl k)) = inr (inl k)
   not_printed_from layout t bytes room e f (inr (inr h)) (inr (inl k)) = inr (inl k)
@@ -315,3 +317,36 @@ module _ (not_both : (s : Text) (e : ParseError) → IsPointer s → IsParseErro
   not_printed_from layout t bytes room e f (inr (inr h)) (inl k) =
       turned f e (found_in_text t bytes h.3.0 f e k h.1 h.2 h.3.1)
   not_printed_from layout t bytes room e f (inr (inr h)) (inr (inr k)) = rooms e f _ _ room h.4 k.4
+
+  -- a value that is found has no error
+  value-found : (t : List ℕ) (ts : List Text) (v : Data) (e : CallError) → LacksValue t ts e → FindsInText t ts v → ⊥
+  value-found t ts v e (inl h) there = let no : None ≡ Some there.0 = sym h.1 ∙ there.1 in cc
+  value-found t ts v e (inr h) there =
+      let again : Some h.1.0 ≡ Some there.0 = sym h.1.1 ∙ there.1 in
+      let one : h.1.0 ≡ there.0 = cc in
+      Refuses-NamesNothing (nodes there.0) ts h.0 (subst (λ (x : Data). Refuses (nodes x) ts h.0) one h.1.2) there.2.path there.2.named
+
+  pub lacks_location : (t : List ℕ) (ts : List Text) (e f : CallError) → LacksLocation t ts e → LacksLocation t ts f → SameStatus e f
+  lacks_location t ts e f (inl h) k = inl h
+  lacks_location t ts e f (inr h) (inl k) = inr (inl k)
+  lacks_location t ts e f (inr (inl h)) (inr (inl k)) = lacks_value t ts e f h k
+  lacks_location t ts e f (inr (inl h)) (inr (inr k)) = absurd (value-found t ts k.0 e h k.1)
+  lacks_location t ts e f (inr (inr h)) (inr (inl k)) = absurd (value-found t ts h.0 f k h.1)
+  lacks_location t ts e f (inr (inr h)) (inr (inr k)) = same e f NotLocated NotLocated h.2 k.2 refl
+
+  -- the errors of a text in which the bytes of a value are looked for
+  abbrev Unlocated : List ℕ → List Text → CallError → Type 0
+  Unlocated t ts e = IsNotUtf8 argument.Text t e ⊎ (IsUtf8 t × LacksLocation t ts e)
+
+  unlocated : (t : List ℕ) (ts : List Text) (e f : CallError) → Unlocated t ts e → Unlocated t ts f → SameStatus e f
+  unlocated t ts e f (inl h) (inl k) = not_utf8 _ t e f h k
+  unlocated t ts e f (inl h) (inr k) = absurd (h.0 k.0)
+  unlocated t ts e f (inr h) (inl k) = absurd (k.0 h.0)
+  unlocated t ts e f (inr h) (inr k) = lacks_location t ts e f h.1 k.1
+
+  pub not_located : (t bytes : List ℕ) (e f : CallError) → IsNotLocated t bytes e → IsNotLocated t bytes f → SameStatus e f
+  not_located t bytes e f (inl h) (inl k) = no_pointers bytes e f h k
+  not_located t bytes e f (inl h) (inr k) = absurd (no_pointer-parses bytes k.0 e h k.1)
+  not_located t bytes e f (inr h) (inl k) = absurd (no_pointer-parses bytes h.0 f k h.1)
+  not_located t bytes e f (inr h) (inr k) =
+      unlocated t k.0 e f (subst (λ (ts : List Text). Unlocated t ts e) (tokens_one bytes h.0 k.0 h.1 k.1) h.2) k.2

@@ -7,11 +7,11 @@ use Rattle.jsonptr_patch.specs.declared.operation.PatchError.TheVariants as patc
 use Rattle.jsonptr_patch_document.specs.declared.member.Member.TheVariants as member
 use Rattle.jsonptr_patch_document.specs.declared.error.PatchDocumentError.TheVariants as document_error
 use Rattle.jsonptr_c_calls.specs.Messages.{failure_message, message_of}
-use Rattle.jsonptr_c_calls.specs.Rows.{record_of}
-use Rattle.jsonptr_c_calls.specs.declared.failure.Failure.{Failure}
-use Rattle.jsonptr_c_calls.specs.declared.failure.Failure.TheVariants.{Memory, NoRoom, NoDocument, NotUtf8, NotJson, NotExact, NotPointer, NoToken, NotFound, OtherKind, NotAssigned, NotPatch, PatchFailed, TooDeep, DeepInverse}
+use Rattle.jsonptr_c_calls.specs.ErrorNumbers.{record_of}
+use Rattle.jsonptr_c_calls.specs.declared.call_error.CallError.{CallError}
+use Rattle.jsonptr_c_calls.specs.declared.call_error.CallError.TheVariants.{Memory, NoRoom, NoDocument, NotUtf8, NotJson, NotExact, NotPointer, NoToken, NotFound, NotLocated, NoValue, OtherKind, NotAssigned, NotPatch, PatchFailed, TooDeep, DeepInverse}
 
-pub message_one : (e : Failure) (bytes : List ℕ) → message_of (record_of e bytes) ≡ failure_message e
+pub message_one : (e : CallError) (bytes : List ℕ) → message_of (record_of e bytes) ≡ failure_message e
 message_one (Memory e) bytes = refl
 message_one (NoRoom needed) bytes = refl
 message_one NoDocument bytes = refl
@@ -25,6 +25,8 @@ message_one (NotFound (resolve_error.FailedToParseIndex position offset source))
 message_one (NotFound (resolve_error.OutOfBounds position offset source)) bytes = refl
 message_one (NotFound (resolve_error.NotFound position offset)) bytes = refl
 message_one (NotFound (resolve_error.Unreachable position offset)) bytes = refl
+message_one NotLocated bytes = refl
+message_one (NoValue offset) bytes = refl
 message_one OtherKind bytes = refl
 message_one (NotAssigned (assign_error.FailedToParseIndex position offset source)) bytes = refl
 message_one (NotAssigned (assign_error.OutOfBounds position offset source)) bytes = refl

@@ -26,7 +26,7 @@ use Rattle.jsonptr_patch.specs.Patching.{PatchesBy}
 use Rattle.jsonptr_patch.specs.declared.operation.Operation.{Operation}
 use Rattle.jsonptr_patch.specs.declared.operation.Operation.TheVariants.{Add, Remove, Replace, Move, Copy, Test}
 use Rattle.jsonptr_patch.specs.declared.comparison.Comparison.TheVariants.{Numeric}
-use Rattle.jsonptr_patch_document.specs.Object.{name_of, IsOperationObject}
+use Rattle.jsonptr_patch_document.specs.Object.{member_key, IsOperationObject}
 use Rattle.jsonptr_patch_document.specs.Document.{AreOperations, IsPatch}
 use Rattle.jsonptr_patch_document.specs.declared.member.Member.TheVariants.{Value}
 use Rattle.jsonptr_c_calls.specs.Depths.{max_levels, IsBounded, AddsParsed, level_of, descent_of, descent, StaysShallow}
@@ -167,9 +167,9 @@ get_depth k (array ds) e at = let no : ⊥ = cc in absurd no
 get_depth k (object ms) e at = let low : depth e ≤ members_depth ms = member_depth k ms e at in omega (arith, low)
 
 operation_parsed : (d : Data) (o : Operation) → IsOperationObject d o → depth d ≤ max_depth → OperationHasSortedKeys o → AddsParsed o
-operation_parsed d (Add path value) is low sorted = let under : depth (view value) ≤ depth d = get_depth (name_of Value) d (view value) is.2 in (sorted, omega (arith, under, low))
+operation_parsed d (Add path value) is low sorted = let under : depth (view value) ≤ depth d = get_depth (member_key Value) d (view value) is.2 in (sorted, omega (arith, under, low))
 operation_parsed d (Remove path) is low sorted = tt
-operation_parsed d (Replace path value) is low sorted = let under : depth (view value) ≤ depth d = get_depth (name_of Value) d (view value) is.2 in (sorted, omega (arith, under, low))
+operation_parsed d (Replace path value) is low sorted = let under : depth (view value) ≤ depth d = get_depth (member_key Value) d (view value) is.2 in (sorted, omega (arith, under, low))
 operation_parsed d (Move from path) is low sorted = tt
 operation_parsed d (Copy from path) is low sorted = tt
 operation_parsed d (Test path value) is low sorted = tt

@@ -1,8 +1,7 @@
 -- Which pointer of an operation is at fault.
-use Rattle.std.proofs.Common.{◌≡◌, ◌⊎◌, inl, inr, ℕ, zero, suc, ◌+◌, List, [], ◌∷◌, ◌++◌, IsUtf8, Option, Some, None, length, take, refl, sym, ap, ◌∙◌, subst}
+use Rattle.std.proofs.Common.{◌≡◌, ◌⊎◌, inl, inr, ℕ, zero, suc, List, [], ◌∷◌, ◌++◌, IsUtf8, Option, Some, None, length, take, refl, sym, ap, ◌∙◌, subst}
 use Rattle.std.proofs.lemmas.List.{take_at}
 use Rattle.serde_json.specs.Data.{Data}
-use Rattle.serde_json.specs.Read.{read}
 use Rattle.serde_json.specs.declared.value.Value.{Value}
 use Rattle.jsonptr.specs.Documents.{IsDocument}
 use Rattle.jsonptr.specs.Fault.{ForRefused}
@@ -30,8 +29,8 @@ use Rattle.jsonptr_c_calls.specs.Depths.{StaysShallow}
 use Rattle.jsonptr_c_calls.specs.Patches.{Blames, IsNotAppliedList, IsNotPatchText, IsPatchText}
 use Rattle.jsonptr_c_calls.specs.Sources.{IsFaultOf, SourceFault}
 use Rattle.jsonptr_c_calls.specs.PrivateSources.{told_by}
-use Rattle.jsonptr_c_calls.specs.declared.failure.Failure.{Failure}
-use Rattle.jsonptr_c_calls.specs.declared.failure.Failure.TheVariants.{PatchFailed}
+use Rattle.jsonptr_c_calls.specs.declared.call_error.CallError.{CallError}
+use Rattle.jsonptr_c_calls.specs.declared.call_error.CallError.TheVariants.{PatchFailed}
 
 -- a JSON value is a document
 pub is_document : (d : Data) → IsDocument (nodes d)
@@ -111,9 +110,9 @@ front_again one_patch same_effect text os ps k n left one other applied =
     let first : IsPatch other.0 os = subst (λ (d : Data). IsPatch d os) same_document one.2 in
     same_effect n left (take k os) (take k ps) (same_front k os ps (one_patch other.0 os ps first other.2)) applied
 
--- what was a patch document is not read again only for want of memory
+-- what was a patch document is not read again only if an allocation fails
 pub only_memory : ((d : Data) (os : List Operation) (e : PatchDocumentError) → IsPatch d os → IsNoPatch d e → ⊥)
-    → (text : List ℕ) (os : List Operation) (e : Failure)
+    → (text : List ℕ) (os : List Operation) (e : CallError)
     → IsUtf8 text → IsPatchText text os → IsNotPatchText text e → IsOutOfMemory e
 only_memory not_both text os e utf8 patch (inl (inl h)) = absurd (h.0 utf8)
 only_memory not_both text os e utf8 patch (inl (inr (inl h))) = h
@@ -183,7 +182,7 @@ told not_both one_map document n left ops from x v e doc applied refused = (
 )
 
 -- why a patch fails, with the pointer at fault
-pub apply_fails : (d now : Data) (text : List ℕ) (os : List Operation) (error : Fault PatchError) (e : Failure)
+pub apply_fails : (d now : Data) (text : List ℕ) (os : List Operation) (error : Fault PatchError) (e : CallError)
     → now ≡ d → StaysShallow d os
     → ForRefused error (RefusesPatchBy Numeric (nodes d) os)
     → (IsOutOfMemory e ⊎ ((x : PatchError) × (m : Option Member) × (error ≡ fault.Refused x) × Blames text (nodes now) x m × (e ≡ PatchFailed x m)))

@@ -31,9 +31,9 @@ AddsParsed (Move from path) = ⊤
 AddsParsed (Copy from path) = ⊤
 AddsParsed (Test path value) = ⊤
 
--- `IsShort tokens`: a value at a pointer with these tokens is at most `max_levels` deep in its document
-abbrev pub IsShort : List Text → Type 0
-IsShort tokens = length tokens ≤ max_levels
+-- `HasFewTokens tokens`: a value at a pointer with these tokens is at most `max_levels` deep in its document
+abbrev pub HasFewTokens : List Text → Type 0
+HasFewTokens tokens = length tokens ≤ max_levels
 
 -- `level_of o`: how deep in its document the operation `o` puts its own value, if it adds one
 abbrev pub level_of : Operation → ℕ

@@ -10,38 +10,38 @@ use Rattle.jsonptr.specs.Json.{nodes, FindsValue}
 use Rattle.jsonptr.specs.Removing.{Deletes}
 use Rattle.jsonptr.specs.Text.{Text}
 use Rattle.jsonptr.specs.declared.assign.Error as assign
-use Rattle.jsonptr_c_handle.specs.declared.document.Document.{Document}
-use Rattle.jsonptr_c_calls.specs.Depths.{IsShort, max_levels}
-use Rattle.jsonptr_c_calls.specs.Failures.{FailsOn, IsNoPointer, IsNotParsed, IsOutOfMemory}
+use Rattle.jsonptr_c_handle.specs.declared.handle.Handle.{Handle}
+use Rattle.jsonptr_c_calls.specs.Depths.{HasFewTokens, max_levels}
+use Rattle.jsonptr_c_calls.specs.Failures.{FailsOnHandle, IsNoPointer, IsNotParsed, IsOutOfMemory}
 use Rattle.jsonptr_c_calls.specs.Pointers.{HasTokens, ParsesTo}
-use Rattle.jsonptr_c_calls.specs.declared.failure.Failure.{Failure}
-use Rattle.jsonptr_c_calls.specs.declared.failure.Failure.TheVariants.{NotAssigned, TooDeep}
+use Rattle.jsonptr_c_calls.specs.declared.call_error.CallError.{CallError}
+use Rattle.jsonptr_c_calls.specs.declared.call_error.CallError.TheVariants.{NotAssigned, TooDeep}
 
--- `AssignsAt d bytes v n`: assigning the value `v` at the pointer `bytes` turns the document `d` into `n`. The pointer has
+-- `AssignsAtPointer d bytes v n`: assigning the value `v` at the pointer `bytes` turns the document `d` into `n`. The pointer has
 -- at most 10,000 tokens
-abbrev pub AssignsAt : Data → List ℕ → Data → Data → Type 0
-AssignsAt d bytes v n = (tokens : List Text) × (replaced : Option Value) × HasTokens bytes tokens × IsShort tokens
+abbrev pub AssignsAtPointer : Data → List ℕ → Data → Data → Type 0
+AssignsAtPointer d bytes v n = (tokens : List Text) × (replaced : Option Value) × HasTokens bytes tokens × HasFewTokens tokens
     × AssignsValue (nodes d) tokens (nodes v) (nodes n) (λ r. nodes (view r)) (λ ts r. FindsValue d ts (view r)) replaced
 
 -- `RefusesAt d tokens e`: there are more than 10,000 tokens, or nothing can be assigned at them in the document `d`, and
 -- `e` reports that
-abbrev pub RefusesAt : Data → List Text → Failure → Type 0
+abbrev pub RefusesAt : Data → List Text → CallError → Type 0
 RefusesAt d tokens e =
     ((max_levels < length tokens) × (e ≡ TooDeep))
-    ⊎ ((error : assign.Error) × IsShort tokens × RefusesAssign (nodes d) tokens error × (e ≡ NotAssigned error))
+    ⊎ ((error : assign.Error) × HasFewTokens tokens × RefusesAssign (nodes d) tokens error × (e ≡ NotAssigned error))
 
 -- `IsNotAssigned d bytes e`: nothing is assigned at the pointer `bytes` in the document `d`, and `e` reports why
-abbrev pub IsNotAssigned : Data → List ℕ → Failure → Type 0
+abbrev pub IsNotAssigned : Data → List ℕ → CallError → Type 0
 IsNotAssigned d bytes e =
     IsNoPointer bytes e
     ⊎ (IsOutOfMemory e ⊎ ((tokens : List Text) × ParsesTo bytes tokens × RefusesAt d tokens e))
 
 -- `IsTextNotAssigned text d bytes e`: the value that `text` is, is not assigned in the document in the handle `d`, and `e`
 -- reports why
-abbrev pub IsTextNotAssigned : List ℕ → Document → List ℕ → Failure → Type 0
+abbrev pub IsTextNotAssigned : List ℕ → Handle → List ℕ → CallError → Type 0
 IsTextNotAssigned text d bytes e =
     IsNotParsed text e
-    ⊎ ((v : Data) × IsUtf8 text × (read text ≡ Some v) × FailsOn d (λ w. IsNotAssigned (view w) bytes e) e)
+    ⊎ ((v : Data) × IsUtf8 text × (read text ≡ Some v) × FailsOnHandle d (λ w. IsNotAssigned (view w) bytes e) e)
 
 -- `Removes d tokens found n`: with `found`, the tokens identify a value of `d`. Without it they identify nothing, and
 -- `n` is `d`
@@ -49,12 +49,12 @@ abbrev pub Removes : Data → List Text → Bool → Data → Type 0
 Removes d tokens true n = (v : Data) × FindsValue d tokens v
 Removes d tokens false n = NamesNothing (nodes d) tokens × (n ≡ d)
 
--- `DeletesAt d bytes found n`: deleting the value at the pointer `bytes` turns the document `d` into `n`, and `found` says
+-- `DeletesAtPointer d bytes found n`: deleting the value at the pointer `bytes` turns the document `d` into `n`, and `found` says
 -- whether there is one. Deleting the root leaves `null`
-abbrev pub DeletesAt : Data → List ℕ → Bool → Data → Type 0
-DeletesAt d bytes found n = (tokens : List Text) × HasTokens bytes tokens
+abbrev pub DeletesAtPointer : Data → List ℕ → Bool → Data → Type 0
+DeletesAtPointer d bytes found n = (tokens : List Text) × HasTokens bytes tokens
     × Deletes (nodes d) tokens (nodes null) (nodes n) × Removes d tokens found n
 
 -- `IsNotDeleted bytes e`: `bytes` are not the text of a pointer, or an allocation failed, and `e` reports why
-abbrev pub IsNotDeleted : List ℕ → Failure → Type 0
+abbrev pub IsNotDeleted : List ℕ → CallError → Type 0
 IsNotDeleted bytes e = IsNoPointer bytes e ⊎ IsOutOfMemory e

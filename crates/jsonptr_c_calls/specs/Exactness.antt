@@ -7,37 +7,37 @@ use Rattle.jsonptr_numbers.specs.Lost.{Loses}
 use Rattle.jsonptr_numbers.specs.declared.lost.Lost.{Lost}
 use Rattle.jsonptr_c_calls.specs.Failures.{IsNotParsed, LacksRoom}
 use Rattle.jsonptr_c_calls.specs.Pointers.{HasTokens}
-use Rattle.jsonptr_c_calls.specs.declared.failure.Failure.{Failure}
-use Rattle.jsonptr_c_calls.specs.declared.failure.Failure.TheVariants.{NotExact}
+use Rattle.jsonptr_c_calls.specs.declared.call_error.CallError.{CallError}
+use Rattle.jsonptr_c_calls.specs.declared.call_error.CallError.TheVariants.{NotExact}
 
 -- `IsLossy t lost`: `t` is the text of a JSON document, and `lost` is the first of its numbers that loses digits
 abbrev pub IsLossy : List ℕ → Lost → Type 0
 IsLossy t lost = (d : Data) × IsUtf8 t × (read t ≡ Some d) × Loses t lost
 
 -- `LosesDigits t e`: a number of the JSON text `t` loses digits, and `e` reports the first one
-abbrev pub LosesDigits : List ℕ → Failure → Type 0
+abbrev pub LosesDigits : List ℕ → CallError → Type 0
 LosesDigits t e = (lost : Lost) × IsLossy t lost × (e ≡ NotExact lost)
 
 -- `IsNotParsedExactly t e`: `t` is not the text of a JSON document, or a number of it loses digits, or an allocation failed,
 -- and `e` reports that
-abbrev pub IsNotParsedExactly : List ℕ → Failure → Type 0
+abbrev pub IsNotParsedExactly : List ℕ → CallError → Type 0
 IsNotParsedExactly t e = IsNotParsed t e ⊎ LosesDigits t e
 
 -- `IsNotParsedBy is_exact t e`: the same of a call that looks for such numbers if `is_exact`
-abbrev pub IsNotParsedBy : Bool → List ℕ → Failure → Type 0
+abbrev pub IsNotParsedBy : Bool → List ℕ → CallError → Type 0
 IsNotParsedBy is_exact t e = IsNotParsed t e ⊎ (IsTrue is_exact × LosesDigits t e)
 
 -- `PointsTo bytes lost`: the pointer `bytes` is that of the number `lost`
 abbrev pub PointsTo : List ℕ → Lost → Type 0
 PointsTo bytes lost = (tokens : List Text) × (lost.pointer ≡ Some tokens) × HasTokens bytes tokens
 
--- `LacksPointer lost room e`: the number `lost` has no pointer, or it is longer than `room` bytes, and `e` reports that
-abbrev pub LacksPointer : Lost → ℕ → Failure → Type 0
-LacksPointer lost room e =
+-- `LacksPointerOfNumber lost room e`: the number `lost` has no pointer, or it is longer than `room` bytes, and `e` reports that
+abbrev pub LacksPointerOfNumber : Lost → ℕ → CallError → Type 0
+LacksPointerOfNumber lost room e =
     ((lost.pointer ≡ None) × (e ≡ NotExact lost))
     ⊎ ((tokens : List Text) × (lost.pointer ≡ Some tokens) × LacksRoom (length (text tokens)) room e)
 
 -- `IsNotPointedTo t room e`: no pointer of the first number of `t` that loses digits can be copied to `room` bytes, and `e`
 -- reports why
-abbrev pub IsNotPointedTo : List ℕ → ℕ → Failure → Type 0
-IsNotPointedTo t room e = IsNotParsed t e ⊎ ((lost : Lost) × IsLossy t lost × LacksPointer lost room e)
+abbrev pub IsNotPointedTo : List ℕ → ℕ → CallError → Type 0
+IsNotPointedTo t room e = IsNotParsed t e ⊎ ((lost : Lost) × IsLossy t lost × LacksPointerOfNumber lost room e)

@@ -11,67 +11,67 @@ use Rattle.jsonptr.specs.Types.ParseError.{ParseError}
 use Rattle.jsonptr.specs.ParseError.{IsParseErrorOf}
 use Rattle.jsonptr.specs.Resolve.{Refuses}
 use Rattle.jsonptr.specs.declared.resolve.Error as resolve
-use Rattle.jsonptr_c_handle.specs.Document.{Holds, IsEmpty}
-use Rattle.jsonptr_c_handle.specs.declared.document.Document.{Document}
+use Rattle.jsonptr_c_handle.specs.Handle.{Holds, IsEmpty}
+use Rattle.jsonptr_c_handle.specs.declared.handle.Handle.{Handle}
 use Rattle.jsonptr_c_calls.specs.Pointers.{ParsesTo}
-use Rattle.jsonptr_c_calls.specs.Rows.{status_of}
-use Rattle.jsonptr_c_calls.specs.Values.{FindsAt, IsTextOf}
-use Rattle.jsonptr_c_calls.specs.declared.values.Layout.{Layout}
-use Rattle.jsonptr_c_calls.specs.declared.failure.Argument.{Argument}
-use Rattle.jsonptr_c_calls.specs.declared.failure.Argument.TheVariants as argument
-use Rattle.jsonptr_c_calls.specs.declared.failure.Failure.{Failure}
-use Rattle.jsonptr_c_calls.specs.declared.failure.Failure.TheVariants.{Memory, NoRoom, NoDocument, NotUtf8, NotJson, NotPointer, NoToken, NotFound, OtherKind}
+use Rattle.jsonptr_c_calls.specs.ErrorNumbers.{status_number}
+use Rattle.jsonptr_c_calls.specs.Values.{FindsAtPointer, IsJsonText}
+use Rattle.jsonptr_c_calls.specs.declared.values.TextLayout.{TextLayout}
+use Rattle.jsonptr_c_calls.specs.declared.call_error.Argument.{Argument}
+use Rattle.jsonptr_c_calls.specs.declared.call_error.Argument.TheVariants as argument
+use Rattle.jsonptr_c_calls.specs.declared.call_error.CallError.{CallError}
+use Rattle.jsonptr_c_calls.specs.declared.call_error.CallError.TheVariants.{Memory, NoRoom, NoDocument, NotUtf8, NotJson, NotPointer, NoToken, NotFound, OtherKind}
 
 -- `IsOutOfMemory e`: an allocation failed
-abbrev pub IsOutOfMemory : Failure → Type 0
+abbrev pub IsOutOfMemory : CallError → Type 0
 IsOutOfMemory (Memory e) = ⊤
 IsOutOfMemory e = ⊥
 
 -- `LacksRoom needed room e`: a buffer of `room` bytes is shorter than the `needed` ones, and `e` reports that
-abbrev pub LacksRoom : ℕ → ℕ → Failure → Type 0
+abbrev pub LacksRoom : ℕ → ℕ → CallError → Type 0
 LacksRoom needed room e = (room < needed) × (e ≡ NoRoom needed)
 
 -- `IsNotUtf8 a bytes e`: the argument `a`, which is `bytes`, is not UTF-8, and `e` reports where
-abbrev pub IsNotUtf8 : Argument → List ℕ → Failure → Type 0
+abbrev pub IsNotUtf8 : Argument → List ℕ → CallError → Type 0
 IsNotUtf8 a bytes e = (IsUtf8 bytes → ⊥) × (e ≡ NotUtf8 a (utf8_valid_len bytes))
 
 -- `IsMalformed bytes e`: the `bytes` are UTF-8 but not the text of a pointer, and `e` reports why
-abbrev pub IsMalformed : List ℕ → Failure → Type 0
+abbrev pub IsMalformed : List ℕ → CallError → Type 0
 IsMalformed bytes e = (fault : ParseError) × IsUtf8 bytes × IsParseErrorOf bytes fault × (e ≡ NotPointer fault)
 
 -- `IsNoPointer bytes e`: the `bytes` are not the text of a pointer, and `e` reports why
-abbrev pub IsNoPointer : List ℕ → Failure → Type 0
+abbrev pub IsNoPointer : List ℕ → CallError → Type 0
 IsNoPointer bytes e = IsNotUtf8 argument.Pointer bytes e ⊎ IsMalformed bytes e
 
 -- `LacksToken tokens position room e`: there is no token at this position, or it is longer than `room` bytes, and `e`
 -- reports that
-abbrev pub LacksToken : List Text → ℕ → ℕ → Failure → Type 0
+abbrev pub LacksToken : List Text → ℕ → ℕ → CallError → Type 0
 LacksToken tokens position room e =
     ((slice_get tokens position ≡ None) × (e ≡ NoToken))
     ⊎ ((token : Text) × (slice_get tokens position ≡ Some token) × LacksRoom (length token) room e)
 
 -- `IsNoToken bytes position room e`: no token at this position of the pointer `bytes` can be copied to `room` bytes, and
 -- `e` reports why
-abbrev pub IsNoToken : List ℕ → ℕ → ℕ → Failure → Type 0
+abbrev pub IsNoToken : List ℕ → ℕ → ℕ → CallError → Type 0
 IsNoToken bytes position room e =
     IsNoPointer bytes e
     ⊎ (IsOutOfMemory e ⊎ ((tokens : List Text) × ParsesTo bytes tokens × LacksToken tokens position room e))
 
 -- `IsNotEscaped token room e`: the escaped text of `token` cannot be copied to `room` bytes, and `e` reports why
-abbrev pub IsNotEscaped : List ℕ → ℕ → Failure → Type 0
+abbrev pub IsNotEscaped : List ℕ → ℕ → CallError → Type 0
 IsNotEscaped token room e =
     IsNotUtf8 argument.Token token e
     ⊎ (IsOutOfMemory e ⊎ (IsUtf8 token × LacksRoom (length (esc token)) room e))
 
 -- `IsNotExtended bytes token e`: no pointer is the pointer `bytes` with the token, and `e` reports why
-abbrev pub IsNotExtended : List ℕ → List ℕ → Failure → Type 0
+abbrev pub IsNotExtended : List ℕ → List ℕ → CallError → Type 0
 IsNotExtended bytes token e =
     IsNoPointer bytes e
     ⊎ (IsOutOfMemory e ⊎ ((tokens : List Text) × ParsesTo bytes tokens × IsNotUtf8 argument.Token token e))
 
 -- `IsNotPushed n buffer token e`: the pointer in the first `n` bytes of the buffer does not become longer by the token,
 -- and `e` reports why: the buffer has no such bytes, there is no longer pointer, or it does not fit the buffer
-abbrev pub IsNotPushed : ℕ → List ℕ → List ℕ → Failure → Type 0
+abbrev pub IsNotPushed : ℕ → List ℕ → List ℕ → CallError → Type 0
 IsNotPushed n buffer token e =
     LacksRoom n (length buffer) e
     ⊎ ((n ≤ length buffer) × (IsNotExtended (take n buffer) token e
@@ -80,17 +80,17 @@ IsNotPushed n buffer token e =
 
 -- `IsNotPopped bytes e`: the pointer `bytes` has no last token, or `bytes` is not the text of a pointer, and `e` reports
 -- why
-abbrev pub IsNotPopped : List ℕ → Failure → Type 0
+abbrev pub IsNotPopped : List ℕ → CallError → Type 0
 IsNotPopped bytes e = IsNoPointer bytes e ⊎ (ParsesTo bytes [] × (e ≡ NoToken))
 
 -- `IsNotParsed text e`: the `text` is not that of a JSON document, or an allocation failed, and `e` reports that
-abbrev pub IsNotParsed : List ℕ → Failure → Type 0
+abbrev pub IsNotParsed : List ℕ → CallError → Type 0
 IsNotParsed text e =
     IsNotUtf8 argument.Text text e
     ⊎ (IsOutOfMemory e ⊎ ((offset : ℕ) × IsUtf8 text × (read text ≡ None) × (e ≡ NotJson offset)))
 
 -- `Unfound d bytes e`: the pointer `bytes` does not resolve in the document `d`, and `e` reports why
-abbrev pub Unfound : Data → List ℕ → Failure → Type 0
+abbrev pub Unfound : Data → List ℕ → CallError → Type 0
 Unfound d bytes e =
     IsNoPointer bytes e
     ⊎ (IsOutOfMemory e
@@ -99,32 +99,32 @@ Unfound d bytes e =
 
 -- `IsNotPrinted layout d bytes room e`: the text of the value that the pointer `bytes` resolves to does not come to
 -- `room` bytes, and `e` reports why
-abbrev pub IsNotPrinted : Layout → Data → List ℕ → ℕ → Failure → Type 0
+abbrev pub IsNotPrinted : TextLayout → Data → List ℕ → ℕ → CallError → Type 0
 IsNotPrinted layout d bytes room e =
     Unfound d bytes e
-    ⊎ ((v : Data) × (out : List ℕ) × IsUtf8 bytes × FindsAt d bytes v × IsTextOf layout v out
+    ⊎ ((v : Data) × (out : List ℕ) × IsUtf8 bytes × FindsAtPointer d bytes v × IsJsonText layout v out
     × LacksRoom (length out) room e)
 
 -- `LacksString v room e`: the value `v` is not a string, or one longer than `room` bytes, and `e` reports that
-abbrev pub LacksString : Data → ℕ → Failure → Type 0
+abbrev pub LacksString : Data → ℕ → CallError → Type 0
 LacksString v room e =
     ((as_str v ≡ None) × (e ≡ OtherKind)) ⊎ ((s : List ℕ) × (v ≡ string s) × LacksRoom (length s) room e)
 
 -- `IsNotRead d bytes room e`: the string that the pointer `bytes` resolves to does not come to `room` bytes, and `e`
 -- reports why: there is no value, or it is not a string, or it is longer
-abbrev pub IsNotRead : Data → List ℕ → ℕ → Failure → Type 0
+abbrev pub IsNotRead : Data → List ℕ → ℕ → CallError → Type 0
 IsNotRead d bytes room e =
-    Unfound d bytes e ⊎ ((v : Data) × IsUtf8 bytes × FindsAt d bytes v × LacksString v room e)
+    Unfound d bytes e ⊎ ((v : Data) × IsUtf8 bytes × FindsAtPointer d bytes v × LacksString v room e)
 
 -- `IsNotWritten out room e`: the text `out` is longer than `room` bytes, and `e` reports its length, or an allocation
 -- failed
-abbrev pub IsNotWritten : List ℕ → ℕ → Failure → Type 0
+abbrev pub IsNotWritten : List ℕ → ℕ → CallError → Type 0
 IsNotWritten out room e = IsOutOfMemory e ⊎ LacksRoom (length out) room e
 
--- `FailsOn d P e`: the handle `d` holds no document, and `e` reports that, or it holds one that meets `P`
-abbrev pub FailsOn : Document → (Value → Type 0) → Failure → Type 0
-FailsOn d P e = ((e ≡ NoDocument) × IsEmpty d) ⊎ ((v : Value) × Holds d v × P v)
+-- `FailsOnHandle d P e`: the handle `d` holds no document, and `e` reports that, or it holds one that meets `P`
+abbrev pub FailsOnHandle : Handle → (Value → Type 0) → CallError → Type 0
+FailsOnHandle d P e = ((e ≡ NoDocument) × IsEmpty d) ⊎ ((v : Value) × Holds d v × P v)
 
 -- `SameStatus e f`: the errors `e` and `f` have one status, unless one of them is a failed allocation
-abbrev pub SameStatus : Failure → Failure → Type 0
-SameStatus e f = IsOutOfMemory e ⊎ (IsOutOfMemory f ⊎ (status_of e ≡ status_of f))
+abbrev pub SameStatus : CallError → CallError → Type 0
+SameStatus e f = IsOutOfMemory e ⊎ (IsOutOfMemory f ⊎ (status_number e ≡ status_number f))

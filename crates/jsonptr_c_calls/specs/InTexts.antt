@@ -8,35 +8,35 @@ use Rattle.jsonptr_in_text.specs.InText.{FindsInText, RefusesInText}
 use Rattle.jsonptr.specs.declared.resolve.Error as resolve
 use Rattle.jsonptr_c_calls.specs.Failures.{IsNoPointer, IsNotUtf8, IsOutOfMemory, LacksRoom}
 use Rattle.jsonptr_c_calls.specs.Pointers.{HasTokens, ParsesTo}
-use Rattle.jsonptr_c_calls.specs.Values.{IsTextOf}
-use Rattle.jsonptr_c_calls.specs.declared.values.Layout.{Layout}
-use Rattle.jsonptr_c_calls.specs.declared.failure.Argument.TheVariants as argument
-use Rattle.jsonptr_c_calls.specs.declared.failure.Failure.{Failure}
-use Rattle.jsonptr_c_calls.specs.declared.failure.Failure.TheVariants.{NotJson, NotFound}
+use Rattle.jsonptr_c_calls.specs.Values.{IsJsonText}
+use Rattle.jsonptr_c_calls.specs.declared.values.TextLayout.{TextLayout}
+use Rattle.jsonptr_c_calls.specs.declared.call_error.Argument.TheVariants as argument
+use Rattle.jsonptr_c_calls.specs.declared.call_error.CallError.{CallError}
+use Rattle.jsonptr_c_calls.specs.declared.call_error.CallError.TheVariants.{NotJson, NotFound}
 
--- `FindsIn text bytes v`: the pointer `bytes` resolves to the value `v` in the document that `text` is
-abbrev pub FindsIn : List ℕ → List ℕ → Value → Type 0
-FindsIn text bytes v = (tokens : List Text) × HasTokens bytes tokens × FindsInText text tokens (view v)
+-- `FindsAtPointerInText text bytes v`: the pointer `bytes` resolves to the value `v` in the document that `text` is
+abbrev pub FindsAtPointerInText : List ℕ → List ℕ → Value → Type 0
+FindsAtPointerInText text bytes v = (tokens : List Text) × HasTokens bytes tokens × FindsInText text tokens (view v)
 
 -- `FindsTextIn layout text bytes out`: `out` is the JSON text of that value in this layout
-abbrev pub FindsTextIn : Layout → List ℕ → List ℕ → List ℕ → Type 0
-FindsTextIn layout text bytes out = (v : Value) × FindsIn text bytes v × IsTextOf layout (view v) out
+abbrev pub FindsTextIn : TextLayout → List ℕ → List ℕ → List ℕ → Type 0
+FindsTextIn layout text bytes out = (v : Value) × FindsAtPointerInText text bytes v × IsJsonText layout (view v) out
 
 -- `LacksValue text tokens e`: `text` is not JSON, or the tokens identify no value in it, and `e` reports why
-abbrev pub LacksValue : List ℕ → List Text → Failure → Type 0
+abbrev pub LacksValue : List ℕ → List Text → CallError → Type 0
 LacksValue text tokens e =
     ((offset : ℕ) × (read text ≡ None) × (e ≡ NotJson offset))
     ⊎ ((error : resolve.Error) × RefusesInText text tokens error × (e ≡ NotFound error))
 
 -- `IsNotInText text bytes e`: the pointer `bytes` does not resolve to a value in `text`, and `e` reports why
-abbrev pub IsNotInText : List ℕ → List ℕ → Failure → Type 0
+abbrev pub IsNotInText : List ℕ → List ℕ → CallError → Type 0
 IsNotInText text bytes e =
     IsNoPointer bytes e
     ⊎ ((tokens : List Text) × ParsesTo bytes tokens
     × (IsNotUtf8 argument.Text text e ⊎ (IsOutOfMemory e ⊎ (IsUtf8 text × LacksValue text tokens e))))
 
 -- `IsNotPrintedFrom layout text bytes room e`: the text of the value does not come to `room` bytes, and `e` reports why
-abbrev pub IsNotPrintedFrom : Layout → List ℕ → List ℕ → ℕ → Failure → Type 0
+abbrev pub IsNotPrintedFrom : TextLayout → List ℕ → List ℕ → ℕ → CallError → Type 0
 IsNotPrintedFrom layout text bytes room e =
     IsNotInText text bytes e
     ⊎ (IsOutOfMemory e

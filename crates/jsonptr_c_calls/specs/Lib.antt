@@ -7,10 +7,11 @@ pub mod Kinds
 pub mod Nodes
 pub mod Editing
 pub mod InTexts
+pub mod Locations
 pub mod Exactness
 pub mod Sources
 pub mod PrivateSources
 pub mod Patches
-pub mod Rows
+pub mod ErrorNumbers
 pub mod Messages
 pub mod Outcomes

@@ -6,13 +6,13 @@ use Rattle.jsonptr.specs.Resolve.{resolve_message}
 use Rattle.jsonptr.specs.Text.{Text}
 use Rattle.jsonptr_patch.specs.declared.operation.PatchError.{PatchError}
 use Rattle.jsonptr_patch.specs.declared.operation.PatchError.TheVariants as patch_error
-use Rattle.jsonptr_patch_document.specs.Object.{name_of}
+use Rattle.jsonptr_patch_document.specs.Object.{member_key}
 use Rattle.jsonptr_patch_document.specs.declared.error.PatchDocumentError.{PatchDocumentError}
 use Rattle.jsonptr_patch_document.specs.declared.error.PatchDocumentError.TheVariants as document_error
-use Rattle.jsonptr_c_calls.specs.declared.numbers.TheConstants as number
-use Rattle.jsonptr_c_calls.specs.declared.failure.Failure.{Failure}
-use Rattle.jsonptr_c_calls.specs.declared.failure.Failure.TheVariants.{Memory, NoRoom, NoDocument, NotUtf8, NotJson, NotExact, NotPointer, NoToken, NotFound, OtherKind, NotAssigned, NotPatch, PatchFailed, TooDeep, DeepInverse}
-use Rattle.jsonptr_c_calls.specs.declared.record.ErrorRecord.{ErrorRecord}
+use Rattle.jsonptr_c_calls.specs.declared.error_numbers.TheConstants as number
+use Rattle.jsonptr_c_calls.specs.declared.call_error.CallError.{CallError}
+use Rattle.jsonptr_c_calls.specs.declared.call_error.CallError.TheVariants.{Memory, NoRoom, NoDocument, NotUtf8, NotJson, NotExact, NotPointer, NoToken, NotFound, NotLocated, NoValue, OtherKind, NotAssigned, NotPatch, PatchFailed, TooDeep, DeepInverse}
+use Rattle.jsonptr_c_calls.specs.declared.error_numbers.ErrorRecord.{ErrorRecord}
 
 -- `patch_message e`: the message of an operation that fails
 abbrev pub patch_message : PatchError → Text
@@ -33,20 +33,20 @@ patch_document_message document_error.NotArray = codes "not a JSON Patch documen
 patch_document_message (document_error.NotObject i) =
     codes "not a JSON Patch document: " ++ codes "operation " ++ decimal i ++ codes " is not an object"
 patch_document_message (document_error.MissingMember i m) =
-    codes "not a JSON Patch document: " ++ codes "operation " ++ decimal i ++ codes " has no member `" ++ name_of m
+    codes "not a JSON Patch document: " ++ codes "operation " ++ decimal i ++ codes " has no member `" ++ member_key m
     ++ codes "`"
 patch_document_message (document_error.NotString i m) =
-    codes "not a JSON Patch document: " ++ codes "member `" ++ name_of m ++ codes "` of operation " ++ decimal i
+    codes "not a JSON Patch document: " ++ codes "member `" ++ member_key m ++ codes "` of operation " ++ decimal i
     ++ codes " is not a string"
 patch_document_message (document_error.UnknownOp i) =
     codes "not a JSON Patch document: " ++ codes "member `op` of operation " ++ decimal i
     ++ codes " is not an operation"
 patch_document_message (document_error.NotPointer i m cause) =
-    codes "not a JSON Patch document: " ++ codes "member `" ++ name_of m ++ codes "` of operation " ++ decimal i
+    codes "not a JSON Patch document: " ++ codes "member `" ++ member_key m ++ codes "` of operation " ++ decimal i
     ++ codes ": " ++ parse_message cause
 
 -- `failure_message e`: the message of the error `e`. Of an error of the library it is the text that this displays
-abbrev pub failure_message : Failure → Text
+abbrev pub failure_message : CallError → Text
 failure_message (Memory e) = codes "out of memory"
 failure_message (NoRoom needed) = codes "the buffer is too short"
 failure_message NoDocument = codes "the handle holds no document"
@@ -57,6 +57,8 @@ failure_message (NotExact l) =
 failure_message (NotPointer e) = parse_message e
 failure_message NoToken = codes "the pointer has no such token"
 failure_message (NotFound e) = resolve_message e
+failure_message NotLocated = codes "value cannot be located in the text"
+failure_message (NoValue offset) = codes "no value is at offset " ++ decimal offset
 failure_message OtherKind = codes "the value is of another kind"
 failure_message (NotAssigned e) = assign_message e
 failure_message (NotPatch e) = patch_document_message e
@@ -78,12 +80,13 @@ fixed_message status =
     else if status == number.NOT_JSON then codes "text is not JSON"
     else if status == number.NO_TOKEN then codes "the pointer has no such token"
     else if status == number.OTHER_KIND then codes "the value is of another kind"
+    else if status == number.NOT_LOCATED then codes "value cannot be located in the text"
     else if status == number.TOO_DEEP then codes "the document would nest deeper than 10,127"
     else codes "unknown status"
 
--- `cause_message kind slash`: what is at fault with a pointer or with an operation, by the kind and the slash
-abbrev pub cause_message : ℕ → ℕ → Text
-cause_message kind slash =
+-- `fault_message kind slash`: what is at fault with a pointer or with an operation, by the kind and the slash
+abbrev pub fault_message : ℕ → ℕ → Text
+fault_message kind slash =
     if kind == number.KIND_NO_LEADING_SLASH
     then codes "json pointer failed to parse; does not start with a slash ('/') and is not empty"
     else if kind == number.KIND_BAD_ESCAPE
@@ -131,26 +134,27 @@ document_message r =
     then codes "member `op` of operation " ++ decimal r.operation ++ codes " is not an operation"
     else if (r.kind == number.KIND_NO_LEADING_SLASH) || (r.kind == number.KIND_BAD_ESCAPE)
     then codes "member `" ++ member_name r.member ++ codes "` of operation " ++ decimal r.operation ++ codes ": "
-    ++ cause_message r.kind r.slash
+    ++ fault_message r.kind r.slash
     else codes "unknown kind"
 
 -- `message_of r`: the message of the record `r`
 abbrev pub message_of : ErrorRecord → Text
 message_of r =
     if (r.status == number.NOT_POINTER) || ((r.status == number.NOT_FOUND) || (r.status == number.NOT_ASSIGNED))
-    then cause_message r.kind r.slash
+    then fault_message r.kind r.slash
     else if r.status == number.NOT_PATCH then codes "not a JSON Patch document: " ++ document_message r
     else if r.status == number.PATCH_FAILED
-    then codes "patch failed at operation " ++ decimal r.operation ++ codes ": " ++ cause_message r.kind r.slash
+    then codes "patch failed at operation " ++ decimal r.operation ++ codes ": " ++ fault_message r.kind r.slash
     else if r.status == number.NOT_EXACT
     then codes "the number at offset " ++ decimal r.offset ++ codes " loses digits"
+    else if r.status == number.NO_VALUE then codes "no value is at offset " ++ decimal r.offset
     else if (r.status == number.TOO_DEEP) && (r.kind == number.KIND_DEEP_INVERSE)
     then codes "the inverse of the patch would nest deeper than 127"
     else fixed_message r.status
 
--- `Fits r`: the numbers of the record `r` that are in messages are those of an `u64`
-abbrev pub Fits : ErrorRecord → Type 0
-Fits r = (r.operation < 2 ^ 64) × (r.slash < 2 ^ 64) × (r.offset < 2 ^ 64)
+-- `HasMessageNumbers r`: the numbers of the record `r` that are in messages are those of an `u64`
+abbrev pub HasMessageNumbers : ErrorRecord → Type 0
+HasMessageNumbers r = (r.operation < 2 ^ 64) × (r.slash < 2 ^ 64) × (r.offset < 2 ^ 64)
 
 -- `message_room`: no message is longer
 abbrev pub message_room : ℕ

@@ -15,21 +15,21 @@ use Rattle.jsonptr_patch_document.specs.Writing.{document_of}
 use Rattle.jsonptr_patch_document.specs.declared.error.PatchDocumentError.{PatchDocumentError}
 use Rattle.jsonptr_patch_document.specs.declared.member.Member.{Member}
 use Rattle.jsonptr_patch_document.specs.declared.member.Member.TheVariants as member
-use Rattle.jsonptr_c_handle.specs.declared.document.Document.{Document}
+use Rattle.jsonptr_c_handle.specs.declared.handle.Handle.{Handle}
 use Rattle.jsonptr_c_calls.specs.Depths.{StaysShallow}
-use Rattle.jsonptr_c_calls.specs.Failures.{FailsOn, IsNotParsed, IsOutOfMemory, LacksRoom}
+use Rattle.jsonptr_c_calls.specs.Failures.{FailsOnHandle, IsNotParsed, IsOutOfMemory, LacksRoom}
 use Rattle.jsonptr_c_calls.specs.Sources.{IsFaultOf, source_at}
-use Rattle.jsonptr_c_calls.specs.Values.{IsTextOf}
-use Rattle.jsonptr_c_calls.specs.declared.values.Layout.{Layout}
-use Rattle.jsonptr_c_calls.specs.declared.failure.Failure.{Failure}
-use Rattle.jsonptr_c_calls.specs.declared.failure.Failure.TheVariants.{NotPatch, PatchFailed, TooDeep, DeepInverse}
+use Rattle.jsonptr_c_calls.specs.Values.{IsJsonText}
+use Rattle.jsonptr_c_calls.specs.declared.values.TextLayout.{TextLayout}
+use Rattle.jsonptr_c_calls.specs.declared.call_error.CallError.{CallError}
+use Rattle.jsonptr_c_calls.specs.declared.call_error.CallError.TheVariants.{NotPatch, PatchFailed, TooDeep, DeepInverse}
 
 -- `IsPatchText text os`: `text` is a patch document with the operations `os`
 abbrev pub IsPatchText : List ℕ → List Operation → Type 0
 IsPatchText text os = (d : Data) × (read text ≡ Some d) × IsPatch d os
 
 -- `IsNotPatchText text e`: `text` is not a patch document, or an allocation failed, and `e` reports why
-abbrev pub IsNotPatchText : List ℕ → Failure → Type 0
+abbrev pub IsNotPatchText : List ℕ → CallError → Type 0
 IsNotPatchText text e =
     IsNotParsed text e
     ⊎ ((d : Data) × (error : PatchDocumentError) × IsUtf8 text × (read text ≡ Some d) × IsNoPatch d error
@@ -54,68 +54,68 @@ Blames text n (patch_error.TestFailed k) m = m ≡ None
 
 -- `FailsText text n os e`: one of the operations `os` of the patch document `text` fails on `n`, and `e` reports why, and at
 -- which of its pointers
-abbrev pub FailsText : List ℕ → NodeMap → List Operation → Failure → Type 0
+abbrev pub FailsText : List ℕ → NodeMap → List Operation → CallError → Type 0
 FailsText text n os e =
     (error : PatchError) × (m : Option Member) × RefusesPatchBy Numeric n os error × Blames text n error m
     × (e ≡ PatchFailed error m)
 
 -- `IsNotAppliedList d text os e`: the operations `os` of the patch document `text` can nest the document `d` too deep, or one
 -- of them fails on it, or an allocation failed, and `e` reports why
-abbrev pub IsNotAppliedList : Data → List ℕ → List Operation → Failure → Type 0
+abbrev pub IsNotAppliedList : Data → List ℕ → List Operation → CallError → Type 0
 IsNotAppliedList d text os e =
     ((StaysShallow d os → ⊥) × (e ≡ TooDeep))
     ⊎ (IsOutOfMemory e ⊎ (StaysShallow d os × FailsText text (nodes d) os e))
 
 -- `IsNotApplied text d e`: the operations of the patch document `text` are not applied to the document in the handle `d`,
 -- and `e` reports why
-abbrev pub IsNotApplied : List ℕ → Document → Failure → Type 0
+abbrev pub IsNotApplied : List ℕ → Handle → CallError → Type 0
 IsNotApplied text d e = (os : List Operation) × IsUtf8 text × IsPatchText text os
-    × FailsOn d (λ v. IsNotAppliedList (view v) text os e) e
+    × FailsOnHandle d (λ v. IsNotAppliedList (view v) text os e) e
 
 -- `IsDiffText layout d n text`: `text` is that of a patch document whose operations turn the document `d` into `n`, in
 -- this layout
-abbrev pub IsDiffText : Layout → Data → Data → List ℕ → Type 0
+abbrev pub IsDiffText : TextLayout → Data → Data → List ℕ → Type 0
 IsDiffText layout d n text =
-    (os : List Operation) × Patches (nodes d) os (nodes n) × IsTextOf layout (document_of os) text
+    (os : List Operation) × Patches (nodes d) os (nodes n) × IsJsonText layout (document_of os) text
 
 -- `IsNotCompared layout d n room e`: the text of such a patch document does not come to `room` bytes, and `e` reports why
-abbrev pub IsNotCompared : Layout → Data → Data → ℕ → Failure → Type 0
+abbrev pub IsNotCompared : TextLayout → Data → Data → ℕ → CallError → Type 0
 IsNotCompared layout d n room e =
     IsOutOfMemory e ⊎ ((text : List ℕ) × IsDiffText layout d n text × LacksRoom (length text) room e)
 
 -- `IsBackText layout n d text`: `text` reads as a patch document whose operations turn the document `n` back into `d`. It is
 -- the text of their document, in this layout
-abbrev pub IsBackText : Layout → Data → Data → List ℕ → Type 0
+abbrev pub IsBackText : TextLayout → Data → Data → List ℕ → Type 0
 IsBackText layout n d text = (back : List Operation) × IsPatchText text back × Patches (nodes n) back (nodes d)
-    × IsTextOf layout (document_of back) text
+    × IsJsonText layout (document_of back) text
 
 -- `AppliesWithBack layout text d n out`: the operations of the patch document `text` turn the document `d` into `n`, and `out`
 -- is the text of a patch document that takes them back
-abbrev pub AppliesWithBack : Layout → List ℕ → Data → Data → List ℕ → Type 0
+abbrev pub AppliesWithBack : TextLayout → List ℕ → Data → Data → List ℕ → Type 0
 AppliesWithBack layout text d n out = AppliesText text d n × IsBackText layout n d out
 
 -- `LacksBack d n e`: operations that turn the document `n` back into `d` nest so deep that their text would not be read, and
 -- `e` reports that
-abbrev pub LacksBack : Data → Data → Failure → Type 0
+abbrev pub LacksBack : Data → Data → CallError → Type 0
 LacksBack d n e = (back : List Operation) × Patches (nodes n) back (nodes d) × (max_depth < depth (document_of back))
     × (e ≡ DeepInverse)
 
 -- `IsNotPatched d text os e`: the operations `os` of the patch document `text` are not applied to the document `d`, or what
 -- takes them back would not be read, and `e` reports why
-abbrev pub IsNotPatched : Data → List ℕ → List Operation → Failure → Type 0
+abbrev pub IsNotPatched : Data → List ℕ → List Operation → CallError → Type 0
 IsNotPatched d text os e =
     IsNotAppliedList d text os e
     ⊎ ((n : Data) × StaysShallow d os × PatchesBy Numeric (nodes d) os (nodes n) × LacksBack d n e)
 
 -- `IsNotTakenBack layout d text os room e`: those operations are not applied, or the text of what takes them back does not
 -- come to `room` bytes, and `e` reports why
-abbrev pub IsNotTakenBack : Layout → Data → List ℕ → List Operation → ℕ → Failure → Type 0
+abbrev pub IsNotTakenBack : TextLayout → Data → List ℕ → List Operation → ℕ → CallError → Type 0
 IsNotTakenBack layout d text os room e =
     IsNotPatched d text os e
     ⊎ ((n : Data) × (out : List ℕ) × StaysShallow d os × PatchesBy Numeric (nodes d) os (nodes n) × IsBackText layout n d out
     × LacksRoom (length out) room e)
 
 -- `IsNotAppliedWithBack layout text d room e`: the same of the document in the handle `d`
-abbrev pub IsNotAppliedWithBack : Layout → List ℕ → Document → ℕ → Failure → Type 0
+abbrev pub IsNotAppliedWithBack : TextLayout → List ℕ → Handle → ℕ → CallError → Type 0
 IsNotAppliedWithBack layout text d room e = (os : List Operation) × IsUtf8 text × IsPatchText text os
-    × FailsOn d (λ v. IsNotTakenBack layout (view v) text os room e) e
+    × FailsOnHandle d (λ v. IsNotTakenBack layout (view v) text os room e) e

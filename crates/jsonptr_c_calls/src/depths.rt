@@ -6,7 +6,7 @@
 ghost use Rattle.std.specs.Prelude.{◌≡◌, ◌+◌, ◌<◌, ◌≤◌, ◌↔◌, All, IsTrue, MatchOption, length};
 ghost use Rattle.serde_json.specs.View.{view};
 ghost use Rattle.jsonptr.specs.Pointer.{tokens};
-ghost use Rattle.jsonptr_c_calls.specs.Depths.{IsShort, StaysShallow, descent, descent_of, level_of, max_levels};
+ghost use Rattle.jsonptr_c_calls.specs.Depths.{HasFewTokens, StaysShallow, descent, descent_of, level_of, max_levels};
 
 use jsonptr::Pointer;
 use jsonptr_patch::Operation;
@@ -18,7 +18,7 @@ pub const MAX_LEVELS: usize = 10_000;
 
 /// Returns whether a value at the pointer is at most [`MAX_LEVELS`] deep in its document.
 pub(crate) fn is_short(pointer: &Pointer<'_>) -> bool
-    ensures { IsTrue result ↔ IsShort (tokens pointer.now) }
+    ensures { IsTrue result ↔ HasFewTokens (tokens pointer.now) }
 {
     pointer.count() <= MAX_LEVELS
 }

@@ -3,23 +3,23 @@ ghost use Rattle.std.specs.Prelude.{◌≡◌, ◌⊎◌, IfErr, IfOk, OnErr, On
 ghost use Rattle.serde_json.specs.Read.{read as read_text};
 ghost use Rattle.serde_json.specs.View.{view};
 ghost use Rattle.serde_json.specs.declared.value.Value.{Value as JsonValue};
-ghost use Rattle.jsonptr_c_handle.specs.Document.{Holds, IsEmpty, Keeps};
+ghost use Rattle.jsonptr_c_handle.specs.Handle.{Holds, IsEmpty, Keeps};
 ghost use Rattle.jsonptr_c_calls.specs.Depths.{IsBounded};
 ghost use Rattle.jsonptr_numbers.specs.Digits.{KeepsDigits};
 ghost use Rattle.jsonptr_c_calls.specs.Exactness.{IsNotParsedExactly};
-ghost use Rattle.jsonptr_c_calls.specs.Editing.{AssignsAt, DeletesAt, IsNotDeleted, IsTextNotAssigned};
-ghost use Rattle.jsonptr_c_calls.specs.Failures.{FailsOn, IsNotParsed, IsNotPrinted, IsNotRead, LacksRoom, Unfound};
+ghost use Rattle.jsonptr_c_calls.specs.Editing.{AssignsAtPointer, DeletesAtPointer, IsNotDeleted, IsTextNotAssigned};
+ghost use Rattle.jsonptr_c_calls.specs.Failures.{FailsOnHandle, IsNotParsed, IsNotPrinted, IsNotRead, LacksRoom, Unfound};
 ghost use Rattle.jsonptr_c_calls.specs.Nodes.{FindsNode};
 ghost use Rattle.jsonptr_c_calls.specs.Patches.{AppliesText, AppliesWithBack, IsDiffText, IsNotAppliedWithBack, IsNotApplied, IsNotCompared, IsNotPatchText};
 ghost use Rattle.jsonptr_c_calls.specs.Values.{Changes, FindsTextOf, FindsString, HoldsWith, ReadsInto};
 
-use crate::failure::Failure;
-use crate::node::Node;
+use crate::call_error::CallError;
+use crate::node::NodeInfo;
 use crate::patches::Patched;
 use crate::reading::{read, read_exactly};
-use crate::values::{self, Layout};
+use crate::values::{self, TextLayout};
 use crate::{editing, patches};
-use jsonptr_c_handle::document::Document;
+use jsonptr_c_handle::handle::Handle;
 use serde_json::Value;
 use std::alloc::{AllocError, Global};
 
@@ -27,18 +27,18 @@ use std::alloc::{AllocError, Global};
 ///
 /// # Errors
 ///
-/// - [`Failure::NotUtf8`] and [`Failure::NotJson`].
-/// - [`Failure::Memory`] if an allocation fails.
+/// - [`CallError::NotUtf8`] and [`CallError::NotJson`].
+/// - [`CallError::Memory`] if an allocation fails.
 ///
 /// The handle is unchanged.
-pub fn parse(alloc: Global, document: &mut Document, text: &[u8]) -> Result<(), Failure>
+pub fn parse(alloc: Global, document: &mut Handle, text: &[u8]) -> Result<(), CallError>
     ensures parsed { IfOk result (λ _. ReadsInto text.now document.new) }
     ensures bounded { IfOk result (λ _. HoldsWith document.new (λ v. IsBounded (view v))) }
     ensures refused { IfErr result (IsNotParsed text.now) }
     ensures unchanged { OnErr result (document.new ≡ document.old) }
 {
     let Ok(value) = Box::new(alloc, read(alloc, text)?) else {
-        return Err(Failure::Memory(AllocError));
+        return Err(CallError::Memory(AllocError));
     };
     free(alloc, document);
     document.put(value);
@@ -50,20 +50,20 @@ pub fn parse(alloc: Global, document: &mut Document, text: &[u8]) -> Result<(), 
 ///
 /// # Errors
 ///
-/// - [`Failure::NotUtf8`] and [`Failure::NotJson`].
-/// - [`Failure::NotExact`] with the first number that loses digits.
-/// - [`Failure::Memory`] if an allocation fails.
+/// - [`CallError::NotUtf8`] and [`CallError::NotJson`].
+/// - [`CallError::NotExact`] with the first number that loses digits.
+/// - [`CallError::Memory`] if an allocation fails.
 ///
 /// The handle is unchanged.
-pub fn parse_exactly(alloc: Global, document: &mut Document, text: &[u8]) -> Result<(), Failure>
+pub fn parse_exactly(alloc: Global, document: &mut Handle, text: &[u8]) -> Result<(), CallError>
     ensures parsed { IfOk result (λ _. ReadsInto text.now document.new) }
-    ensures kept { OnOk result (KeepsDigits text.now) }
+    ensures digits { OnOk result (KeepsDigits text.now) }
     ensures bounded { IfOk result (λ _. HoldsWith document.new (λ v. IsBounded (view v))) }
     ensures refused { IfErr result (IsNotParsedExactly text.now) }
     ensures unchanged { OnErr result (document.new ≡ document.old) }
 {
     let Ok(value) = Box::new(alloc, read_exactly(alloc, text)?) else {
-        return Err(Failure::Memory(AllocError));
+        return Err(CallError::Memory(AllocError));
     };
     free(alloc, document);
     document.put(value);
@@ -71,7 +71,7 @@ pub fn parse_exactly(alloc: Global, document: &mut Document, text: &[u8]) -> Res
 }
 
 /// Frees the document that the handle holds, if any.
-pub fn free(alloc: Global, document: &mut Document)
+pub fn free(alloc: Global, document: &mut Handle)
     ensures { IsEmpty document.new }
 {
     let _freed = document.take(alloc);
@@ -82,23 +82,23 @@ pub fn free(alloc: Global, document: &mut Document)
 ///
 /// # Errors
 ///
-/// [`Failure::NoDocument`], and those of [`values::print_at`]. The buffer is unchanged.
+/// [`CallError::NoDocument`], and those of [`values::print_at`]. The buffer is unchanged.
 pub fn print_at(
     alloc: Global,
-    document: &mut Document,
+    document: &mut Handle,
     pointer: &[u8],
-    layout: Layout,
+    layout: TextLayout,
     out: &mut [u8],
-) -> Result<usize, Failure>
+) -> Result<usize, CallError>
     ensures printed { IfOk result (λ n.
         HoldsWith document.old (λ v. FindsTextOf layout (view v) pointer.now (take n out.new))) }
     ensures refused { IfErr result (λ e.
-        FailsOn document.old (λ v. IsNotPrinted layout (view v) pointer.now (length out.old) e) e) }
+        FailsOnHandle document.old (λ v. IsNotPrinted layout (view v) pointer.now (length out.old) e) e) }
     ensures unchanged { OnErr result (out.new ≡ out.old) }
-    ensures kept { Keeps document.old document.new }
+    ensures value_unchanged { Keeps document.old document.new }
 {
     let Some(value) = document.take(alloc) else {
-        return Err(Failure::NoDocument);
+        return Err(CallError::NoDocument);
     };
     let printed = values::print_at(alloc, &value, pointer, layout, out);
     document.put(value);
@@ -109,22 +109,22 @@ pub fn print_at(
 ///
 /// # Errors
 ///
-/// [`Failure::NoDocument`], and those of [`values::string_at`]. The buffer is unchanged.
+/// [`CallError::NoDocument`], and those of [`values::string_at`]. The buffer is unchanged.
 pub fn string_at(
     alloc: Global,
-    document: &mut Document,
+    document: &mut Handle,
     pointer: &[u8],
     out: &mut [u8],
-) -> Result<usize, Failure>
+) -> Result<usize, CallError>
     ensures string { IfOk result (λ n.
         HoldsWith document.old (λ v. FindsString (view v) pointer.now (take n out.new))) }
     ensures refused { IfErr result (λ e.
-        FailsOn document.old (λ v. IsNotRead (view v) pointer.now (length out.old) e) e) }
+        FailsOnHandle document.old (λ v. IsNotRead (view v) pointer.now (length out.old) e) e) }
     ensures unchanged { OnErr result (out.new ≡ out.old) }
-    ensures kept { Keeps document.old document.new }
+    ensures value_unchanged { Keeps document.old document.new }
 {
     let Some(value) = document.take(alloc) else {
-        return Err(Failure::NoDocument);
+        return Err(CallError::NoDocument);
     };
     let copied = values::string_at(alloc, &value, pointer, out);
     document.put(value);
@@ -135,18 +135,18 @@ pub fn string_at(
 ///
 /// # Errors
 ///
-/// [`Failure::NoDocument`], and those of [`values::find`].
-pub fn node_at(alloc: Global, document: &mut Document, pointer: &[u8]) -> Result<Node, Failure>
+/// [`CallError::NoDocument`], and those of [`values::find`].
+pub fn node_at(alloc: Global, document: &mut Handle, pointer: &[u8]) -> Result<NodeInfo, CallError>
     ensures described { IfOk result (λ node.
         HoldsWith document.old (λ v. FindsNode (view v) pointer.now node)) }
     ensures refused { IfErr result (λ e.
-        FailsOn document.old (λ v. Unfound (view v) pointer.now e) e) }
-    ensures kept { Keeps document.old document.new }
+        FailsOnHandle document.old (λ v. Unfound (view v) pointer.now e) e) }
+    ensures value_unchanged { Keeps document.old document.new }
 {
     let Some(value) = document.take(alloc) else {
-        return Err(Failure::NoDocument);
+        return Err(CallError::NoDocument);
     };
-    let node = Node::at(alloc, &value, pointer);
+    let node = NodeInfo::at(alloc, &value, pointer);
     document.put(value);
     node
 }
@@ -156,26 +156,26 @@ pub fn node_at(alloc: Global, document: &mut Document, pointer: &[u8]) -> Result
 ///
 /// # Errors
 ///
-/// - [`Failure::NotUtf8`] and [`Failure::NotJson`] for the text, which is read first.
-/// - [`Failure::NoDocument`], and those of [`editing::assign`].
+/// - [`CallError::NotUtf8`] and [`CallError::NotJson`] for the text, which is read first.
+/// - [`CallError::NoDocument`], and those of [`editing::assign`].
 ///
 /// The document is unchanged.
 pub fn assign(
     alloc: Global,
-    document: &mut Document,
+    document: &mut Handle,
     pointer: &[u8],
     text: &[u8],
-) -> Result<(), Failure>
+) -> Result<(), CallError>
     ensures assigned { IfOk result (λ _. (v : JsonValue) × (read_text text.now ≡ Some (view v))
-        × Changes document.old (λ d n. AssignsAt d pointer.now (view v) n) document.new) }
+        × Changes document.old (λ d n. AssignsAtPointer d pointer.now (view v) n) document.new) }
     ensures bounded { IfOk result (λ _.
         Changes document.old (λ d n. IsBounded d → IsBounded n) document.new) }
     ensures refused { IfErr result (IsTextNotAssigned text.now document.old pointer.now) }
-    ensures kept { OnErr result (Keeps document.old document.new) }
+    ensures value_unchanged { OnErr result (Keeps document.old document.new) }
 {
     let assigned = read(alloc, text)?;
     let Some(mut value) = document.take(alloc) else {
-        return Err(Failure::NoDocument);
+        return Err(CallError::NoDocument);
     };
     let outcome = editing::assign(alloc, &mut value, pointer, assigned);
     document.put(value);
@@ -187,18 +187,18 @@ pub fn assign(
 ///
 /// # Errors
 ///
-/// [`Failure::NoDocument`], and those of [`editing::delete`]. The document is unchanged.
-pub fn delete(alloc: Global, document: &mut Document, pointer: &[u8]) -> Result<bool, Failure>
+/// [`CallError::NoDocument`], and those of [`editing::delete`]. The document is unchanged.
+pub fn delete(alloc: Global, document: &mut Handle, pointer: &[u8]) -> Result<bool, CallError>
     ensures deleted { IfOk result (λ found.
-        Changes document.old (λ d n. DeletesAt d pointer.now found n) document.new) }
+        Changes document.old (λ d n. DeletesAtPointer d pointer.now found n) document.new) }
     ensures bounded { IfOk result (λ _.
         Changes document.old (λ d n. IsBounded d → IsBounded n) document.new) }
     ensures refused { IfErr result (λ e.
-        FailsOn document.old (λ v. IsNotDeleted pointer.now e) e) }
-    ensures kept { OnErr result (Keeps document.old document.new) }
+        FailsOnHandle document.old (λ v. IsNotDeleted pointer.now e) e) }
+    ensures value_unchanged { OnErr result (Keeps document.old document.new) }
 {
     let Some(mut value) = document.take(alloc) else {
-        return Err(Failure::NoDocument);
+        return Err(CallError::NoDocument);
     };
     let outcome = editing::delete(alloc, &mut value, pointer);
     document.put(value);
@@ -210,21 +210,21 @@ pub fn delete(alloc: Global, document: &mut Document, pointer: &[u8]) -> Result<
 /// # Errors
 ///
 /// - Those of [`patches::read_text`], for the text, which is read first.
-/// - [`Failure::NoDocument`], and those of [`patches::apply_all`].
+/// - [`CallError::NoDocument`], and those of [`patches::apply_all`].
 ///
 /// The document is unchanged.
-pub fn patch(alloc: Global, document: &mut Document, text: &[u8]) -> Result<(), Failure>
+pub fn patch(alloc: Global, document: &mut Handle, text: &[u8]) -> Result<(), CallError>
     ensures applied { IfOk result (λ _.
         Changes document.old (λ d n. AppliesText text.now d n) document.new) }
     ensures bounded { IfOk result (λ _.
         Changes document.old (λ d n. IsBounded d → IsBounded n) document.new) }
     ensures refused { IfErr result (λ e.
         IsNotPatchText text.now e ⊎ IsNotApplied text.now document.old e) }
-    ensures kept { OnErr result (Keeps document.old document.new) }
+    ensures value_unchanged { OnErr result (Keeps document.old document.new) }
 {
     let operations = patches::read_text(alloc, text)?;
     let Some(mut value) = document.take(alloc) else {
-        return Err(Failure::NoDocument);
+        return Err(CallError::NoDocument);
     };
     let outcome = patches::apply_all(alloc, &mut value, text, operations);
     document.put(value);
@@ -241,17 +241,17 @@ pub fn patch(alloc: Global, document: &mut Document, text: &[u8]) -> Result<(), 
 /// # Errors
 ///
 /// - Those of [`patch`].
-/// - [`Failure::DeepInverse`] if the patch document that takes it back nests deeper than 127.
-/// - [`Failure::NoRoom`] if the buffer is shorter than its text.
+/// - [`CallError::DeepInverse`] if the patch document that takes it back nests deeper than 127.
+/// - [`CallError::NoRoom`] if the buffer is shorter than its text.
 ///
 /// The document and the buffer are unchanged.
 pub fn patch_with_inverse(
     alloc: Global,
-    document: &mut Document,
+    document: &mut Handle,
     text: &[u8],
-    layout: Layout,
+    layout: TextLayout,
     out: &mut [u8],
-) -> Result<usize, Failure>
+) -> Result<usize, CallError>
     ensures applied { IfOk result (λ n. Changes document.old
         (λ d m. AppliesWithBack layout text.now d m (take n out.new)) document.new) }
     ensures bounded { IfOk result (λ _.
@@ -259,11 +259,11 @@ pub fn patch_with_inverse(
     ensures refused { IfErr result (λ e. IsNotPatchText text.now e
         ⊎ IsNotAppliedWithBack layout text.now document.old (length out.old) e) }
     ensures unchanged { OnErr result (out.new ≡ out.old) }
-    ensures kept { OnErr result (Keeps document.old document.new) }
+    ensures value_unchanged { OnErr result (Keeps document.old document.new) }
 {
     let operations = patches::read_text(alloc, text)?;
     let Some(mut value) = document.take(alloc) else {
-        return Err(Failure::NoDocument);
+        return Err(CallError::NoDocument);
     };
     match patches::patched_copy(alloc, &mut value, text, operations, layout) {
         Ok(made) => put_patched(document, value, made, out),
@@ -279,19 +279,19 @@ pub fn patch_with_inverse(
 ///
 /// # Errors
 ///
-/// [`Failure::NoRoom`] if the buffer is shorter than the text. It is unchanged, and the old document
+/// [`CallError::NoRoom`] if the buffer is shorter than the text. It is unchanged, and the old document
 /// is put into the handle.
 fn put_patched(
-    document: &mut Document,
+    document: &mut Handle,
     old: Box<Value, Global>,
     made: Patched,
     out: &mut [u8],
-) -> Result<usize, Failure>
+) -> Result<usize, CallError>
     ensures copied { IfOk result (λ n. take n out.new ≡ made.back.items) }
     ensures held { OnOk result (Holds document.new made.document) }
     ensures refused { IfErr result (LacksRoom (length made.back.items) (length out.old)) }
     ensures unchanged { OnErr result (out.new ≡ out.old) }
-    ensures kept { OnErr result (Holds document.new old.value) }
+    ensures value_unchanged { OnErr result (Holds document.new old.value) }
 {
     let mut value = old;
     let outcome = patches::keep(&mut value, made, out);
@@ -304,29 +304,29 @@ fn put_patched(
 ///
 /// # Errors
 ///
-/// - [`Failure::NoDocument`] if one of the handles holds no document.
-/// - [`Failure::NoRoom`] if the buffer is shorter than the text.
-/// - [`Failure::Memory`] if an allocation fails.
+/// - [`CallError::NoDocument`] if one of the handles holds no document.
+/// - [`CallError::NoRoom`] if the buffer is shorter than the text.
+/// - [`CallError::Memory`] if an allocation fails.
 ///
 /// The buffer is unchanged.
 pub fn diff(
     alloc: Global,
-    old: &mut Document,
-    new: &mut Document,
-    layout: Layout,
+    old: &mut Handle,
+    new: &mut Handle,
+    layout: TextLayout,
     out: &mut [u8],
-) -> Result<usize, Failure>
+) -> Result<usize, CallError>
     ensures differing { IfOk result (λ n. HoldsWith old.old (λ v.
         HoldsWith new.old (λ w. IsDiffText layout (view v) (view w) (take n out.new)))) }
-    ensures refused { IfErr result (λ e. FailsOn old.old
-        (λ v. FailsOn new.old
+    ensures refused { IfErr result (λ e. FailsOnHandle old.old
+        (λ v. FailsOnHandle new.old
         (λ w. IsNotCompared layout (view v) (view w) (length out.old) e) e) e) }
     ensures unchanged { OnErr result (out.new ≡ out.old) }
     ensures old_kept { Keeps old.old old.new }
     ensures new_kept { Keeps new.old new.new }
 {
     let Some(value) = old.take(alloc) else {
-        return Err(Failure::NoDocument);
+        return Err(CallError::NoDocument);
     };
     let written = diff_with(alloc, &value, new, layout, out);
     old.put(value);
@@ -342,20 +342,20 @@ pub fn diff(
 fn diff_with(
     alloc: Global,
     old: &Value,
-    new: &mut Document,
-    layout: Layout,
+    new: &mut Handle,
+    layout: TextLayout,
     out: &mut [u8],
-) -> Result<usize, Failure>
+) -> Result<usize, CallError>
     ensures differing { IfOk result (λ n.
         HoldsWith new.old (λ w. IsDiffText layout (view old.now) (view w) (take n out.new))) }
     ensures refused { IfErr result (λ e.
-        FailsOn new.old
+        FailsOnHandle new.old
         (λ w. IsNotCompared layout (view old.now) (view w) (length out.old) e) e) }
     ensures unchanged { OnErr result (out.new ≡ out.old) }
-    ensures kept { Keeps new.old new.new }
+    ensures value_unchanged { Keeps new.old new.new }
 {
     let Some(value) = new.take(alloc) else {
-        return Err(Failure::NoDocument);
+        return Err(CallError::NoDocument);
     };
     let written = patches::diff_text(alloc, old, &value, layout, out);
     new.put(value);

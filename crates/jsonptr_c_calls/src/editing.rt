@@ -2,10 +2,10 @@
 ghost use Rattle.std.specs.Prelude.{◌≡◌, IfErr, IfOk, OnErr};
 ghost use Rattle.serde_json.specs.View.{view};
 ghost use Rattle.jsonptr.specs.Json.{HasSortedKeys};
-ghost use Rattle.jsonptr_c_calls.specs.Editing.{AssignsAt, DeletesAt, IsNotAssigned, IsNotDeleted};
+ghost use Rattle.jsonptr_c_calls.specs.Editing.{AssignsAtPointer, DeletesAtPointer, IsNotAssigned, IsNotDeleted};
 
+use crate::call_error::CallError;
 use crate::depths::is_short;
-use crate::failure::Failure;
 use crate::pointers::parse;
 use jsonptr::Fault;
 use serde_json::Value;
@@ -17,9 +17,9 @@ use std::alloc::Global;
 /// # Errors
 ///
 /// - Those of [`parse`].
-/// - [`Failure::TooDeep`] if the pointer has more than 10,000 tokens.
-/// - [`Failure::NotAssigned`] if the pointer leads to an array that has no such index.
-/// - [`Failure::Memory`] if an allocation fails.
+/// - [`CallError::TooDeep`] if the pointer has more than 10,000 tokens.
+/// - [`CallError::NotAssigned`] if the pointer leads to an array that has no such index.
+/// - [`CallError::Memory`] if an allocation fails.
 ///
 /// The document is unchanged.
 pub fn assign(
@@ -27,9 +27,9 @@ pub fn assign(
     document: &mut Value,
     pointer: &[u8],
     value: Value,
-) -> Result<(), Failure>
+) -> Result<(), CallError>
     ensures assigned { IfOk result (λ _.
-        AssignsAt (view document.old) pointer.now (view value) (view document.new)) }
+        AssignsAtPointer (view document.old) pointer.now (view value) (view document.new)) }
     ensures sorted { IfOk result (λ _. HasSortedKeys (view value)
         → HasSortedKeys (view document.old) → HasSortedKeys (view document.new)) }
     ensures refused { IfErr result (IsNotAssigned (view document.old) pointer.now) }
@@ -37,12 +37,12 @@ pub fn assign(
 {
     let pointer = parse(pointer)?;
     if !is_short(&pointer) {
-        return Err(Failure::TooDeep);
+        return Err(CallError::TooDeep);
     }
     match pointer.assign(alloc, document, value) {
         Ok(_replaced) => Ok(()),
-        Err(Fault::Refused(error)) => Err(Failure::NotAssigned(error)),
-        Err(Fault::Memory(error)) => Err(Failure::Memory(error)),
+        Err(Fault::Refused(error)) => Err(CallError::NotAssigned(error)),
+        Err(Fault::Memory(error)) => Err(CallError::Memory(error)),
     }
 }
 
@@ -51,12 +51,12 @@ pub fn assign(
 /// # Errors
 ///
 /// - Those of [`parse`].
-/// - [`Failure::Memory`] if an allocation fails. Only a token that contains `~` needs one.
+/// - [`CallError::Memory`] if an allocation fails. Only a token that contains `~` needs one.
 ///
 /// The document is unchanged.
-pub fn delete(alloc: Global, document: &mut Value, pointer: &[u8]) -> Result<bool, Failure>
+pub fn delete(alloc: Global, document: &mut Value, pointer: &[u8]) -> Result<bool, CallError>
     ensures deleted { IfOk result (λ found.
-        DeletesAt (view document.old) pointer.now found (view document.new)) }
+        DeletesAtPointer (view document.old) pointer.now found (view document.new)) }
     ensures sorted { IfOk result (λ _.
         HasSortedKeys (view document.old) → HasSortedKeys (view document.new)) }
     ensures refused { IfErr result (IsNotDeleted pointer.now) }

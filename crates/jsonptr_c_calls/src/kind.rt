@@ -1,7 +1,7 @@
 //! The kind and the length of a value.
 ghost use Rattle.std.specs.Prelude.{◌≡◌};
 ghost use Rattle.serde_json.specs.View.{view};
-ghost use Rattle.jsonptr_c_calls.specs.Kinds.{kind_of, length_of};
+ghost use Rattle.jsonptr_c_calls.specs.Kinds.{kind_number, size_of};
 
 use serde_json::Value;
 
@@ -25,7 +25,7 @@ pub const OBJECT: u32 = 5;
 
 /// Returns the kind of the value.
 pub fn kind(value: &Value) -> u32
-    ensures { result ≡ kind_of (view value.now) }
+    ensures { result ≡ kind_number (view value.now) }
 {
     match value {
         Value::Null => NULL,
@@ -39,7 +39,7 @@ pub fn kind(value: &Value) -> u32
 
 /// Returns the number of elements or members of the value, or of the bytes of a string.
 pub fn length(value: &Value) -> usize
-    ensures { result ≡ length_of (view value.now) }
+    ensures { result ≡ size_of (view value.now) }
 {
     match value {
         Value::Null | Value::Bool(_) | Value::Number(_) => 0,

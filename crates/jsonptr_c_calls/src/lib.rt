@@ -5,21 +5,20 @@
 #![tactic(auto)]
 
 pub mod buffer;
+pub mod call_error;
 pub mod depths;
 pub mod documents;
 pub mod editing;
-pub mod failure;
+pub mod error_numbers;
 pub mod kind;
 pub mod laws;
-mod message;
+pub mod locations;
+pub mod message;
 pub mod node;
-pub mod numbers;
 pub mod outcome;
 pub mod patches;
 pub mod pointers;
 pub mod reading;
-pub mod record;
-mod rows;
 mod sources;
 pub mod texts;
 pub mod values;

@@ -1,10 +1,33 @@
 //! The messages of errors, from their numbers.
-ghost use Rattle.std.specs.Prelude.{◌≡◌, Some};
-ghost use Rattle.jsonptr_c_calls.specs.Messages.{cause_message, document_message, fixed_message, member_name, message_of};
+ghost use Rattle.std.specs.Prelude.{◌≡◌, ◌≤◌, IfErr, IfOk, OnErr, Some, take, length as list_length};
+ghost use Rattle.jsonptr_c_calls.specs.Failures.{IsNotWritten};
+ghost use Rattle.jsonptr_c_calls.specs.Messages.{fault_message, document_message, fixed_message, member_name, message_of, message_room};
 
-use crate::numbers::*;
-use crate::record::ErrorRecord;
+use crate::buffer::copy_to;
+use crate::call_error::CallError;
+use crate::error_numbers::*;
+use crate::laws::message_law;
+use std::alloc::Global;
 use std::fmt;
+
+/// Copies the message of the error to the buffer, and returns its length, which is at most 200 bytes
+/// of each record.
+///
+/// # Errors
+///
+/// [`CallError::NoRoom`] if the buffer is shorter than the message, and [`CallError::Memory`] if an
+/// allocation fails. The buffer is unchanged.
+pub fn message(alloc: Global, error: &ErrorRecord, out: &mut [u8]) -> Result<usize, CallError>
+    ensures message { IfOk result (λ n. take n out.new ≡ message_of error.now) }
+    ensures length { IfOk result (λ n. n ≡ list_length (message_of error.now)) }
+    ensures short { list_length (message_of error.now) ≤ message_room }
+    ensures refused { IfErr result (IsNotWritten (message_of error.now) (list_length out.old)) }
+    ensures unchanged { OnErr result (out.new ≡ out.old) }
+{
+    message_law();
+    let (_operation, _slash, _offset) = (error.operation, error.slash, error.offset);
+    copy_to(error.to_string(alloc)?.as_str().as_bytes(), out)
+}
 
 impl fmt::Display for ErrorRecord {
     ghost output = { λ error. Some (message_of error) };
@@ -20,6 +43,10 @@ impl fmt::Display for ErrorRecord {
             NOT_EXACT => {
                 let offset = self.offset;
                 write!(f, "the number at offset {offset} loses digits")
+            }
+            NO_VALUE => {
+                let offset = self.offset;
+                write!(f, "no value is at offset {offset}")
             }
             TOO_DEEP if self.kind == KIND_DEEP_INVERSE => {
                 f.write_str("the inverse of the patch would nest deeper than 127")
@@ -44,6 +71,7 @@ fn fixed_message(status: u32) -> &'static str
         NOT_JSON => "text is not JSON",
         NO_TOKEN => "the pointer has no such token",
         OTHER_KIND => "the value is of another kind",
+        NOT_LOCATED => "value cannot be located in the text",
         TOO_DEEP => "the document would nest deeper than 10,127",
         _ => "unknown status",
     }
@@ -54,7 +82,7 @@ fn fixed_message(status: u32) -> &'static str
 struct Cause(ErrorRecord);
 
 impl fmt::Display for Cause {
-    ghost output = { λ cause. Some (cause_message cause.0.kind cause.0.slash) };
+    ghost output = { λ cause. Some (fault_message cause.0.kind cause.0.slash) };
 
     fn fmt<W: fmt::Write>(&self, f: &mut fmt::Formatter<W>) -> fmt::Result {
         let slash = self.0.slash;

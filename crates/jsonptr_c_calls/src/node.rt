@@ -3,7 +3,7 @@ ghost use Rattle.std.specs.Prelude.{◌≡◌, IfErr, IfOk};
 ghost use Rattle.serde_json.specs.View.{view};
 ghost use Rattle.jsonptr_c_calls.specs.Failures.{Unfound};
 
-use crate::failure::Failure;
+use crate::call_error::CallError;
 use crate::kind::{kind, length};
 use crate::values::find;
 use serde_json::Value;
@@ -12,7 +12,7 @@ use std::alloc::Global;
 /// What a value is.
 #[repr(C)]
 #[derive(Clone, Copy)]
-pub struct Node {
+pub struct NodeInfo {
     /// The kind of the value.
     pub kind: u32,
     /// Whether the value is a number that `integer` contains.
@@ -35,14 +35,14 @@ pub struct Node {
     pub reserved_2: u64,
 }
 
-impl Node {
+impl NodeInfo {
     ghost use Rattle.jsonptr_c_calls.specs.Nodes.{Describes, FindsNode};
 
     /// Returns what the value is.
-    pub fn of(value: &Value) -> Node
+    pub fn of(value: &Value) -> NodeInfo
         ensures { Describes (view value.now) result }
     {
-        Node {
+        NodeInfo {
             kind: kind(value),
             has_integer: value.as_i64().is_some(),
             has_natural: value.as_u64().is_some(),
@@ -61,10 +61,10 @@ impl Node {
     /// # Errors
     ///
     /// Those of [`find`].
-    pub fn at(alloc: Global, document: &Value, pointer: &[u8]) -> Result<Node, Failure>
+    pub fn at(alloc: Global, document: &Value, pointer: &[u8]) -> Result<NodeInfo, CallError>
         ensures described { IfOk result (FindsNode (view document.now) pointer.now) }
         ensures refused { IfErr result (Unfound (view document.now) pointer.now) }
     {
-        Ok(Node::of(find(alloc, document, pointer)?))
+        Ok(NodeInfo::of(find(alloc, document, pointer)?))
     }
 }

@@ -1,11 +1,10 @@
 //! The outcome of a call, as C receives it: a status, and the record of an error.
 ghost use Rattle.std.specs.Prelude.{◌≡◌, ◌≢◌};
 ghost use Rattle.jsonptr_c_calls.specs.Outcomes.{IsLengthOf, Reports, ReportsLength};
-ghost use Rattle.jsonptr_c_calls.specs.Rows.{no_error};
+ghost use Rattle.jsonptr_c_calls.specs.ErrorNumbers.{no_error};
 
-use crate::failure::Failure;
-use crate::numbers::OK;
-use crate::record::ErrorRecord;
+use crate::call_error::CallError;
+use crate::error_numbers::{ErrorRecord, OK};
 
 /// Returns the status of a call that succeeds, and clears the record.
 pub fn succeed(error: &mut ErrorRecord) -> u32
@@ -17,9 +16,9 @@ pub fn succeed(error: &mut ErrorRecord) -> u32
 }
 
 /// Returns the status of a call with this pointer that fails, and writes the record of the error.
-pub fn fail(failure: &Failure, pointer: &[u8], error: &mut ErrorRecord) -> u32
+pub fn fail(failure: &CallError, pointer: &[u8], error: &mut ErrorRecord) -> u32
     ensures reported { Reports failure.now pointer.now result error.new }
-    ensures failed { result ≢ 0 }
+    ensures refused { result ≢ 0 }
 {
     *error = ErrorRecord::of(failure, pointer);
     error.status
@@ -27,17 +26,17 @@ pub fn fail(failure: &Failure, pointer: &[u8], error: &mut ErrorRecord) -> u32
 
 /// Does what [`fail`] does, and writes the length that the result needs if the buffer is too short.
 pub fn fail_with_length(
-    failure: &Failure,
+    failure: &CallError,
     pointer: &[u8],
     length: &mut usize,
     error: &mut ErrorRecord,
 ) -> u32
     ensures reported { Reports failure.now pointer.now result error.new }
-    ensures failed { result ≢ 0 }
+    ensures refused { result ≢ 0 }
     ensures length { ReportsLength failure.now length.old length.new }
     ensures same_length { IsLengthOf error.new length.old length.new }
 {
-    if let Failure::NoRoom { needed } = failure {
+    if let CallError::NoRoom { needed } = failure {
         *length = *needed;
     }
     fail(failure, pointer, error)

@@ -11,15 +11,15 @@ ghost use Rattle.jsonptr_c_calls.specs.Depths.{AddsParsed, StaysShallow};
 ghost use Rattle.jsonptr_patch_document.specs.Writing.{document_of};
 ghost use Rattle.jsonptr_c_calls.specs.Failures.{IsOutOfMemory, LacksRoom};
 ghost use Rattle.jsonptr_c_calls.specs.Patches.{IsPatchText, IsNotPatchText, IsNotAppliedList, IsNotCompared, IsNotPatched, IsBackText, IsDiffText};
-ghost use Rattle.jsonptr_c_calls.specs.Values.{IsTextOf};
-ghost use Rattle.jsonptr_c_calls.specs.declared.failure.Failure.TheVariants.{DeepInverse};
+ghost use Rattle.jsonptr_c_calls.specs.Values.{IsJsonText};
+ghost use Rattle.jsonptr_c_calls.specs.declared.call_error.CallError.TheVariants.{DeepInverse};
 
 use crate::buffer::copy_to;
+use crate::call_error::CallError;
 use crate::depths::stays_shallow;
-use crate::failure::Failure;
 use crate::reading::read;
 use crate::sources::failure_of;
-use crate::values::{Layout, json_text};
+use crate::values::{TextLayout, json_text};
 use jsonptr::Fault;
 use jsonptr_diff::diff;
 use jsonptr_patch::{Comparison, Operation, apply_comparing, apply_comparing_with_inverse};
@@ -33,10 +33,10 @@ use std::alloc::{AllocError, Global};
 ///
 /// # Errors
 ///
-/// - [`Failure::NotUtf8`] and [`Failure::NotJson`].
-/// - [`Failure::NotPatch`] if the document is not a patch.
-/// - [`Failure::Memory`] if an allocation fails.
-pub fn read_text(alloc: Global, text: &[u8]) -> Result<Vec<Operation>, Failure>
+/// - [`CallError::NotUtf8`] and [`CallError::NotJson`].
+/// - [`CallError::NotPatch`] if the document is not a patch.
+/// - [`CallError::Memory`] if an allocation fails.
+pub fn read_text(alloc: Global, text: &[u8]) -> Result<Vec<Operation>, CallError>
     ensures read { IfOk result (λ patch. IsPatchText text.now patch.items) }
     ensures parsed { IfOk result (λ patch. All AddsParsed patch.items) }
     ensures utf8 { OnOk result (IsUtf8 text.now) }
@@ -45,8 +45,8 @@ pub fn read_text(alloc: Global, text: &[u8]) -> Result<Vec<Operation>, Failure>
     patch_document_law();
     match read_patch(alloc, &read(alloc, text)?) {
         Ok(patch) => Ok(patch),
-        Err(Fault::Refused(error)) => Err(Failure::NotPatch(error)),
-        Err(Fault::Memory(error)) => Err(Failure::Memory(error)),
+        Err(Fault::Refused(error)) => Err(CallError::NotPatch(error)),
+        Err(Fault::Memory(error)) => Err(CallError::Memory(error)),
     }
 }
 
@@ -54,11 +54,11 @@ pub fn read_text(alloc: Global, text: &[u8]) -> Result<Vec<Operation>, Failure>
 ///
 /// # Errors
 ///
-/// - [`Failure::TooDeep`] if the operations can nest the document deeper than 10,127. Each copy and
+/// - [`CallError::TooDeep`] if the operations can nest the document deeper than 10,127. Each copy and
 ///   each move counts with as many levels as its `path` has more tokens than its `from`.
-/// - [`Failure::PatchFailed`] with the first operation that fails, and which of its pointers is at
+/// - [`CallError::PatchFailed`] with the first operation that fails, and which of its pointers is at
 ///   fault. The text is then read once more, and the operations before that one are applied again.
-/// - [`Failure::Memory`] if an allocation fails.
+/// - [`CallError::Memory`] if an allocation fails.
 ///
 /// The document is unchanged.
 ///
@@ -70,7 +70,7 @@ pub fn apply_all(
     document: &mut Value,
     text: &[u8],
     patch: Vec<Operation>,
-) -> Result<(), Failure>
+) -> Result<(), CallError>
     requires utf8 { IsUtf8 text.now }
     requires read { IsPatchText text.now patch.items }
     ensures applied { IfOk result (λ _.
@@ -83,7 +83,7 @@ pub fn apply_all(
     ensures unchanged { OnErr result (view document.new ≡ view document.old) }
 {
     if !stays_shallow(document, &patch) {
-        return Err(Failure::TooDeep);
+        return Err(CallError::TooDeep);
     }
     match apply_comparing(alloc, document, patch, Comparison::Numeric) {
         Ok(()) => Ok(()),
@@ -106,7 +106,7 @@ pub struct Patched {
 /// # Errors
 ///
 /// - Those of [`apply_all`].
-/// - [`Failure::DeepInverse`] if the patch document that takes them back nests deeper than 127, so
+/// - [`CallError::DeepInverse`] if the patch document that takes them back nests deeper than 127, so
 ///   that its text would not be read.
 ///
 /// # Conditions
@@ -117,8 +117,8 @@ pub fn patched_copy(
     document: &mut Value,
     text: &[u8],
     patch: Vec<Operation>,
-    layout: Layout,
-) -> Result<Patched, Failure>
+    layout: TextLayout,
+) -> Result<Patched, CallError>
     requires utf8 { IsUtf8 text.now }
     requires read { IsPatchText text.now patch.items }
     ensures applied { IfOk result (λ made.
@@ -132,7 +132,7 @@ pub fn patched_copy(
     ensures unchanged { view document.new ≡ view document.old }
 {
     if !stays_shallow(document, &patch) {
-        return Err(Failure::TooDeep);
+        return Err(CallError::TooDeep);
     }
     let mut changed = copy(alloc, document)?;
     match apply_comparing_with_inverse(alloc, &mut changed, patch, Comparison::Numeric) {
@@ -149,13 +149,13 @@ pub fn patched_copy(
 ///
 /// # Errors
 ///
-/// [`Failure::NoRoom`] if the buffer is shorter than the text. Buffer and document are unchanged.
-pub fn keep(document: &mut Value, made: Patched, out: &mut [u8]) -> Result<usize, Failure>
+/// [`CallError::NoRoom`] if the buffer is shorter than the text. Buffer and document are unchanged.
+pub fn keep(document: &mut Value, made: Patched, out: &mut [u8]) -> Result<usize, CallError>
     ensures copied { IfOk result (λ n. take n out.new ≡ made.back.items) }
     ensures replaced { OnOk result (document.new ≡ made.document) }
     ensures refused { IfErr result (LacksRoom (length made.back.items) (length out.old)) }
     ensures unchanged { OnErr result (out.new ≡ out.old) }
-    ensures kept { OnErr result (document.new ≡ document.old) }
+    ensures document_unchanged { OnErr result (document.new ≡ document.old) }
 {
     let copied = copy_to(&made.back, out)?;
     *document = made.document;
@@ -166,19 +166,19 @@ pub fn keep(document: &mut Value, made: Patched, out: &mut [u8]) -> Result<usize
 ///
 /// # Errors
 ///
-/// - [`Failure::DeepInverse`] if the document nests deeper than 127, so that its text would not be
+/// - [`CallError::DeepInverse`] if the document nests deeper than 127, so that its text would not be
 ///   read.
-/// - [`Failure::Memory`] if an allocation fails.
-fn back_text(alloc: Global, back: &Vec<Operation>, layout: Layout) -> Result<Vec<u8>, Failure>
+/// - [`CallError::Memory`] if an allocation fails.
+fn back_text(alloc: Global, back: &Vec<Operation>, layout: TextLayout) -> Result<Vec<u8>, CallError>
     ensures text { IfOk result (λ text. IsPatchText text.items back.now.items
-        × IsTextOf layout (document_of back.now.items) text.items) }
+        × IsJsonText layout (document_of back.now.items) text.items) }
     ensures refused { IfErr result (λ e. IsOutOfMemory e
         ⊎ ((max_depth < depth (document_of back.now.items)) × (e ≡ DeepInverse))) }
 {
     writing_law();
     let document = write_patch(alloc, back)?;
     if !nests_within(&document, MAX_DEPTH) {
-        return Err(Failure::DeepInverse);
+        return Err(CallError::DeepInverse);
     }
     Ok(json_text(alloc, &document, layout)?)
 }
@@ -188,15 +188,15 @@ fn back_text(alloc: Global, back: &Vec<Operation>, layout: Layout) -> Result<Vec
 ///
 /// # Errors
 ///
-/// [`Failure::NoRoom`] if the buffer is shorter than the text, and [`Failure::Memory`] if an
+/// [`CallError::NoRoom`] if the buffer is shorter than the text, and [`CallError::Memory`] if an
 /// allocation fails. The buffer is unchanged.
 pub fn diff_text(
     alloc: Global,
     old: &Value,
     new: &Value,
-    layout: Layout,
+    layout: TextLayout,
     out: &mut [u8],
-) -> Result<usize, Failure>
+) -> Result<usize, CallError>
     ensures differing { IfOk result (λ n.
         IsDiffText layout (view old.now) (view new.now) (take n out.new)) }
     ensures refused { IfErr result
@@ -205,12 +205,17 @@ pub fn diff_text(
 {
     match diff_of(alloc, old, new, layout) {
         Ok(text) => copy_to(&text, out),
-        Err(error) => Err(Failure::Memory(error)),
+        Err(error) => Err(CallError::Memory(error)),
     }
 }
 
 /// Returns the text of a patch document that turns the document `old` into `new`.
-fn diff_of(alloc: Global, old: &Value, new: &Value, layout: Layout) -> Result<Vec<u8>, AllocError>
+fn diff_of(
+    alloc: Global,
+    old: &Value,
+    new: &Value,
+    layout: TextLayout,
+) -> Result<Vec<u8>, AllocError>
     ensures { IfOk result (λ text.
         IsDiffText layout (view old.now) (view new.now) text.items) }
 {

@@ -6,7 +6,7 @@ ghost use Rattle.jsonptr_c_calls.specs.Failures.{IsNotUtf8, IsNoPointer, IsNoTok
 ghost use Rattle.jsonptr_c_calls.specs.Pointers.{HasTokens, HasCount, HasToken, Extends, Shortens};
 
 use crate::buffer::copy_to;
-use crate::failure::{Argument, Failure};
+use crate::call_error::{Argument, CallError};
 use jsonptr::{Pointer, PointerBuf, Token};
 use simdutf8::compat::from_utf8;
 use std::alloc::Global;
@@ -16,15 +16,15 @@ use std::borrow::CowStr;
 ///
 /// # Errors
 ///
-/// [`Failure::NotUtf8`] if they are not UTF-8.
-pub fn text_of(argument: Argument, bytes: &[u8]) -> Result<&str, Failure>
+/// [`CallError::NotUtf8`] if they are not UTF-8.
+pub fn text_of(argument: Argument, bytes: &[u8]) -> Result<&str, CallError>
     ensures text { IfOk result (λ s. s.now ≡ bytes.now) }
     ensures utf8 { OnOk result (IsUtf8 bytes.now) }
     ensures refused { IfErr result (IsNotUtf8 argument bytes.now) }
 {
     match from_utf8(bytes) {
         Ok(text) => Ok(text),
-        Err(error) => Err(Failure::NotUtf8 {
+        Err(error) => Err(CallError::NotUtf8 {
             argument,
             offset: error.valid_up_to(),
         }),
@@ -35,15 +35,15 @@ pub fn text_of(argument: Argument, bytes: &[u8]) -> Result<&str, Failure>
 ///
 /// # Errors
 ///
-/// [`Failure::NotUtf8`] and [`Failure::NotPointer`].
-pub fn parse(bytes: &[u8]) -> Result<Pointer<'_>, Failure>
+/// [`CallError::NotUtf8`] and [`CallError::NotPointer`].
+pub fn parse(bytes: &[u8]) -> Result<Pointer<'_>, CallError>
     ensures pointer { IfOk result (λ p. HasTokens bytes.now (tokens p)) }
     ensures utf8 { OnOk result (IsUtf8 bytes.now) }
     ensures refused { IfErr result (IsNoPointer bytes.now) }
 {
     match Pointer::parse(text_of(Argument::Pointer, bytes)?) {
         Ok(pointer) => Ok(pointer),
-        Err(error) => Err(Failure::NotPointer(error)),
+        Err(error) => Err(CallError::NotPointer(error)),
     }
 }
 
@@ -52,7 +52,7 @@ pub fn parse(bytes: &[u8]) -> Result<Pointer<'_>, Failure>
 /// # Errors
 ///
 /// Those of [`parse`].
-pub fn count(bytes: &[u8]) -> Result<usize, Failure>
+pub fn count(bytes: &[u8]) -> Result<usize, CallError>
     ensures count { IfOk result (λ n. HasCount bytes.now n) }
     ensures refused { IfErr result (IsNoPointer bytes.now) }
 {
@@ -64,16 +64,21 @@ pub fn count(bytes: &[u8]) -> Result<usize, Failure>
 /// # Errors
 ///
 /// - Those of [`parse`].
-/// - [`Failure::NoToken`] if the pointer has no token there.
-/// - [`Failure::NoRoom`] if the buffer is shorter than the token.
-/// - [`Failure::Memory`] if an allocation fails. Only a token that contains `~` needs one.
-pub fn token(alloc: Global, bytes: &[u8], position: usize, out: &mut [u8]) -> Result<usize, Failure>
+/// - [`CallError::NoToken`] if the pointer has no token there.
+/// - [`CallError::NoRoom`] if the buffer is shorter than the token.
+/// - [`CallError::Memory`] if an allocation fails. Only a token that contains `~` needs one.
+pub fn token(
+    alloc: Global,
+    bytes: &[u8],
+    position: usize,
+    out: &mut [u8],
+) -> Result<usize, CallError>
     ensures token { IfOk result (λ n. HasToken bytes.now position (take n out.new)) }
     ensures refused { IfErr result (IsNoToken bytes.now position (list_length out.old)) }
     ensures unchanged { OnErr result (out.new ≡ out.old) }
 {
     let Some(token) = parse(bytes)?.get(position) else {
-        return Err(Failure::NoToken);
+        return Err(CallError::NoToken);
     };
     copy_to(token.decoded(alloc)?.as_str().as_bytes(), out)
 }
@@ -83,10 +88,10 @@ pub fn token(alloc: Global, bytes: &[u8], position: usize, out: &mut [u8]) -> Re
 ///
 /// # Errors
 ///
-/// - [`Failure::NotUtf8`] if the bytes are not UTF-8.
-/// - [`Failure::NoRoom`] if the buffer is shorter than the escaped text.
-/// - [`Failure::Memory`] if an allocation fails. Only a token that contains `~` or `/` needs one.
-pub fn escape(alloc: Global, bytes: &[u8], out: &mut [u8]) -> Result<usize, Failure>
+/// - [`CallError::NotUtf8`] if the bytes are not UTF-8.
+/// - [`CallError::NoRoom`] if the buffer is shorter than the escaped text.
+/// - [`CallError::Memory`] if an allocation fails. Only a token that contains `~` or `/` needs one.
+pub fn escape(alloc: Global, bytes: &[u8], out: &mut [u8]) -> Result<usize, CallError>
     ensures escaped { IfOk result (λ n. take n out.new ≡ esc bytes.now) }
     ensures refused { IfErr result (IsNotEscaped bytes.now (list_length out.old)) }
     ensures unchanged { OnErr result (out.new ≡ out.old) }
@@ -101,9 +106,14 @@ pub fn escape(alloc: Global, bytes: &[u8], out: &mut [u8]) -> Result<usize, Fail
 /// # Errors
 ///
 /// - Those of [`parse`], for the pointer and for the token, which must be UTF-8.
-/// - [`Failure::NoRoom`] if the buffer is shorter than the pointer or than the longer one.
-/// - [`Failure::Memory`] if an allocation fails.
-pub fn push(alloc: Global, buffer: &mut [u8], length: usize, token: &[u8]) -> Result<usize, Failure>
+/// - [`CallError::NoRoom`] if the buffer is shorter than the pointer or than the longer one.
+/// - [`CallError::Memory`] if an allocation fails.
+pub fn push(
+    alloc: Global,
+    buffer: &mut [u8],
+    length: usize,
+    token: &[u8],
+) -> Result<usize, CallError>
     ensures pushed { IfOk result (λ n.
         Extends (take length buffer.old) token.now (take n buffer.new)) }
     ensures refused { IfErr result
@@ -111,7 +121,7 @@ pub fn push(alloc: Global, buffer: &mut [u8], length: usize, token: &[u8]) -> Re
     ensures unchanged { OnErr result (buffer.new ≡ buffer.old) }
 {
     let Some(bytes) = buffer.get(..length) else {
-        return Err(Failure::NoRoom { needed: length });
+        return Err(CallError::NoRoom { needed: length });
     };
     match extended(alloc, bytes, token) {
         Ok(longer) => copy_to(longer.as_ptr().as_str().as_bytes(), buffer),
@@ -124,7 +134,7 @@ pub fn push(alloc: Global, buffer: &mut [u8], length: usize, token: &[u8]) -> Re
 /// # Errors
 ///
 /// Those of [`push`], except that of a short buffer.
-fn extended(alloc: Global, bytes: &[u8], token: &[u8]) -> Result<PointerBuf, Failure>
+fn extended(alloc: Global, bytes: &[u8], token: &[u8]) -> Result<PointerBuf, CallError>
     ensures pushed { IfOk result (λ p. Extends bytes.now token.now (text p)) }
     ensures pointer_utf8 { OnOk result (IsUtf8 bytes.now) }
     ensures token_utf8 { OnOk result (IsUtf8 token.now) }
@@ -139,13 +149,13 @@ fn extended(alloc: Global, bytes: &[u8], token: &[u8]) -> Result<PointerBuf, Fai
 ///
 /// # Errors
 ///
-/// Those of [`parse`], and [`Failure::NoToken`] if the pointer is the root.
-pub fn pop(bytes: &[u8]) -> Result<usize, Failure>
+/// Those of [`parse`], and [`CallError::NoToken`] if the pointer is the root.
+pub fn pop(bytes: &[u8]) -> Result<usize, CallError>
     ensures popped { IfOk result (Shortens bytes.now) }
     ensures refused { IfErr result (IsNotPopped bytes.now) }
 {
     match parse(bytes)?.parent() {
         Some(parent) => Ok(parent.as_str().len()),
-        None => Err(Failure::NoToken),
+        None => Err(CallError::NoToken),
     }
 }

@@ -8,7 +8,7 @@ ghost use Rattle.jsonptr_c_calls.specs.Failures.{IsNotParsed};
 ghost use Rattle.jsonptr_numbers.specs.Digits.{KeepsDigits};
 ghost use Rattle.jsonptr_numbers.specs.Lost.{Loses};
 
-use crate::failure::{Argument, Failure};
+use crate::call_error::{Argument, CallError};
 use crate::pointers::text_of;
 use jsonptr_numbers::{Lost, find_lost};
 use serde_json::{Error, Value};
@@ -18,9 +18,9 @@ use std::alloc::{AllocError, Global};
 ///
 /// # Errors
 ///
-/// - [`Failure::NotUtf8`] and [`Failure::NotJson`].
-/// - [`Failure::Memory`] if an allocation fails.
-pub fn read(alloc: Global, bytes: &[u8]) -> Result<Value, Failure>
+/// - [`CallError::NotUtf8`] and [`CallError::NotJson`].
+/// - [`CallError::Memory`] if an allocation fails.
+pub fn read(alloc: Global, bytes: &[u8]) -> Result<Value, CallError>
     ensures read { IfOk result (λ v. read_text bytes.now ≡ Some (view v)) }
     ensures parsed { IfOk result (λ v. IsParsed (view v)) }
     ensures utf8 { OnOk result (IsUtf8 bytes.now) }
@@ -31,9 +31,9 @@ pub fn read(alloc: Global, bytes: &[u8]) -> Result<Value, Failure>
         Ok(value) => Ok(value),
         Err(error) => {
             if error.is_memory() {
-                Err(Failure::Memory(AllocError))
+                Err(CallError::Memory(AllocError))
             } else {
-                Err(Failure::NotJson {
+                Err(CallError::NotJson {
                     offset: error_offset(bytes, &error),
                 })
             }
@@ -45,19 +45,19 @@ pub fn read(alloc: Global, bytes: &[u8]) -> Result<Value, Failure>
 ///
 /// # Errors
 ///
-/// - [`Failure::NotUtf8`] and [`Failure::NotJson`].
-/// - [`Failure::NotExact`] with the first number that loses digits.
-/// - [`Failure::Memory`] if an allocation fails.
-pub fn read_exactly(alloc: Global, bytes: &[u8]) -> Result<Value, Failure>
+/// - [`CallError::NotUtf8`] and [`CallError::NotJson`].
+/// - [`CallError::NotExact`] with the first number that loses digits.
+/// - [`CallError::Memory`] if an allocation fails.
+pub fn read_exactly(alloc: Global, bytes: &[u8]) -> Result<Value, CallError>
     ensures read { IfOk result (λ v. read_text bytes.now ≡ Some (view v)) }
     ensures parsed { IfOk result (λ v. IsParsed (view v)) }
-    ensures kept { OnOk result (KeepsDigits bytes.now) }
+    ensures digits { OnOk result (KeepsDigits bytes.now) }
     ensures utf8 { OnOk result (IsUtf8 bytes.now) }
     ensures refused { IfErr result (IsNotParsedExactly bytes.now) }
 {
     let value = read(alloc, bytes)?;
     match lost_of(alloc, bytes)? {
-        Some(lost) => Err(Failure::NotExact(lost)),
+        Some(lost) => Err(CallError::NotExact(lost)),
         None => Ok(value),
     }
 }
@@ -67,9 +67,9 @@ pub fn read_exactly(alloc: Global, bytes: &[u8]) -> Result<Value, Failure>
 ///
 /// # Errors
 ///
-/// - [`Failure::NotUtf8`].
-/// - [`Failure::Memory`] if an allocation fails.
-pub(crate) fn lost_of(alloc: Global, bytes: &[u8]) -> Result<Option<Lost>, Failure>
+/// - [`CallError::NotUtf8`].
+/// - [`CallError::Memory`] if an allocation fails.
+pub(crate) fn lost_of(alloc: Global, bytes: &[u8]) -> Result<Option<Lost>, CallError>
     ensures lost { IfOk result (λ o. MatchOption o (KeepsDigits bytes.now) (Loses bytes.now)) }
     ensures utf8 { OnOk result (IsUtf8 bytes.now) }
     ensures refused { IfErr result (IsNotParsed bytes.now) }
@@ -90,7 +90,7 @@ fn error_offset(bytes: &[u8], error: &Error) -> usize {
 /// Returns the offset at which reading the bytes stops, or 0 if they are the text of a document.
 pub fn stop(alloc: Global, bytes: &[u8]) -> usize {
     match read(alloc, bytes) {
-        Err(Failure::NotJson { offset }) => offset,
+        Err(CallError::NotJson { offset }) => offset,
         _ => 0,
     }
 }

@@ -21,9 +21,9 @@ ghost use Rattle.jsonptr_c_calls.specs.Failures.{IsOutOfMemory};
 ghost use Rattle.jsonptr_c_calls.specs.Patches.{Blames, IsPatchText};
 ghost use Rattle.jsonptr_c_calls.specs.Sources.{IsFaultOf, source_at};
 ghost use Rattle.jsonptr_c_calls.specs.PrivateSources.{told_by};
-ghost use Rattle.jsonptr_c_calls.specs.declared.failure.Failure.TheVariants.{PatchFailed};
+ghost use Rattle.jsonptr_c_calls.specs.declared.call_error.CallError.TheVariants.{PatchFailed};
 
-use crate::failure::Failure;
+use crate::call_error::CallError;
 use crate::patches::read_text;
 use jsonptr::{Fault, PointerBuf, Token};
 use jsonptr_patch::laws::operation::comparing_operation_law;
@@ -41,20 +41,20 @@ pub(crate) fn failure_of(
     document: &mut Value,
     text: &[u8],
     fault: Fault<PatchError>,
-) -> Failure
+) -> CallError
     requires utf8 { IsUtf8 text.now }
     requires read { (operations : List SpecOperation) × IsPatchText text.now operations
         × ForRefused fault (RefusesPatchBy Numeric (nodes (view document.old)) operations) }
-    ensures failed { IsOutOfMemory result
+    ensures refused { IsOutOfMemory result
         ⊎ ((error : SpecError) × (member : Option SpecMember) × (fault ≡ Refused error)
         × Blames text.now (nodes (view document.old)) error member
         × (result ≡ PatchFailed error member)) }
     ensures unchanged { view document.new ≡ view document.old }
 {
     match fault {
-        Fault::Memory(error) => Failure::Memory(error),
+        Fault::Memory(error) => CallError::Memory(error),
         Fault::Refused(error) => match at_fault(alloc, document, text, &error) {
-            Ok(member) => Failure::PatchFailed { error, member },
+            Ok(member) => CallError::PatchFailed { error, member },
             Err(failure) => failure,
         },
     }
@@ -64,18 +64,18 @@ pub(crate) fn failure_of(
 ///
 /// # Errors
 ///
-/// [`Failure::Memory`] if an allocation fails.
+/// [`CallError::Memory`] if an allocation fails.
 fn at_fault(
     alloc: Global,
     document: &mut Value,
     text: &[u8],
     error: &PatchError,
-) -> Result<Option<Member>, Failure>
+) -> Result<Option<Member>, CallError>
     requires utf8 { IsUtf8 text.now }
     requires refused { (operations : List SpecOperation) × IsPatchText text.now operations
         × RefusesPatchBy Numeric (nodes (view document.old)) operations error.now }
     ensures blamed { IfOk result (Blames text.now (nodes (view document.old)) error.now) }
-    ensures memory { IfErr result IsOutOfMemory }
+    ensures refused { IfErr result IsOutOfMemory }
     ensures unchanged { view document.new ≡ view document.old }
 {
     match error {
@@ -93,22 +93,22 @@ fn at_fault(
 ///
 /// # Errors
 ///
-/// [`Failure::Memory`] if an allocation fails.
+/// [`CallError::Memory`] if an allocation fails.
 fn pointer_at_fault(
     alloc: Global,
     document: &mut Value,
     text: &[u8],
     number: usize,
-) -> Result<Member, Failure>
+) -> Result<Member, CallError>
     requires utf8 { IsUtf8 text.now }
     requires applied { (operations : List SpecOperation) × (left : NodeMap)
         × IsPatchText text.now operations
         × PatchesBy Numeric (nodes (view document.old)) (take number operations) left }
-    ensures fault { IfOk result (λ m. (operations : List SpecOperation)
+    ensures member { IfOk result (λ m. (operations : List SpecOperation)
         × IsPatchText text.now operations
         × IsFaultOf (nodes (view document.old)) (take number operations)
         (source_at operations number) m) }
-    ensures memory { IfErr result IsOutOfMemory }
+    ensures refused { IfErr result IsOutOfMemory }
     ensures unchanged { view document.new ≡ view document.old }
 {
     patch_document_law();
@@ -141,17 +141,17 @@ fn source_at(operations: &Vec<Operation>, number: usize) -> Result<Option<Pointe
 ///
 /// # Errors
 ///
-/// [`Failure::Memory`] if an allocation fails.
+/// [`CallError::Memory`] if an allocation fails.
 fn member_at_fault(
     alloc: Global,
     document: &mut Value,
     operations: Vec<Operation>,
     from: PointerBuf,
-) -> Result<Member, Failure>
+) -> Result<Member, CallError>
     requires { (left : NodeMap) × PatchesBy Numeric (nodes (view document.old)) operations.items left }
-    ensures fault { IfOk result
+    ensures member { IfOk result
         (IsFaultOf (nodes (view document.old)) operations.items (Option.Some from)) }
-    ensures memory { IfErr result IsOutOfMemory }
+    ensures refused { IfErr result IsOutOfMemory }
     ensures unchanged { view document.new ≡ view document.old }
 {
     comparing_operation_law();
@@ -163,7 +163,7 @@ fn member_at_fault(
     ) {
         Ok(()) => unreachable!(),
         Err(Fault::Refused(error)) => Ok(told_by(&error)),
-        Err(Fault::Memory(error)) => Err(Failure::Memory(error)),
+        Err(Fault::Memory(error)) => Err(CallError::Memory(error)),
     }
 }
 

@@ -3,14 +3,14 @@ ghost use Rattle.std.specs.Prelude.{◌≡◌, IfErr, IfOk, IsUtf8, MatchOption,
 ghost use Rattle.jsonptr_numbers.specs.Digits.{KeepsDigits};
 ghost use Rattle.jsonptr_numbers.specs.Lost.{Loses};
 ghost use Rattle.jsonptr_numbers.specs.declared.lost.Lost.{Lost as SpecLost};
-ghost use Rattle.jsonptr_c_calls.specs.Exactness.{IsNotPointedTo, LacksPointer, PointsTo};
-ghost use Rattle.jsonptr_c_calls.specs.InTexts.{FindsIn, FindsTextIn, IsNotInText, IsNotPrintedFrom};
+ghost use Rattle.jsonptr_c_calls.specs.Exactness.{IsNotPointedTo, LacksPointerOfNumber, PointsTo};
+ghost use Rattle.jsonptr_c_calls.specs.InTexts.{FindsAtPointerInText, FindsTextIn, IsNotInText, IsNotPrintedFrom};
 
 use crate::buffer::copy_to;
-use crate::failure::{Argument, Failure};
+use crate::call_error::{Argument, CallError};
 use crate::pointers::{parse, text_of};
 use crate::reading::{lost_of, read, stop};
-use crate::values::{Layout, json_text};
+use crate::values::{TextLayout, json_text};
 use jsonptr_in_text::{InTextError, resolve_in_text};
 use jsonptr_numbers::Lost;
 use serde_json::Value;
@@ -21,12 +21,12 @@ use std::alloc::Global;
 /// # Errors
 ///
 /// - Those of [`parse`], for the pointer.
-/// - [`Failure::NotUtf8`] and [`Failure::NotJson`], for the text. It is read again to find where
+/// - [`CallError::NotUtf8`] and [`CallError::NotJson`], for the text. It is read again to find where
 ///   reading stops.
-/// - [`Failure::NotFound`] if the pointer does not resolve to a value.
-/// - [`Failure::Memory`] if an allocation fails.
-fn find_in(alloc: Global, text: &[u8], pointer: &[u8]) -> Result<Value, Failure>
-    ensures found { IfOk result (FindsIn text.now pointer.now) }
+/// - [`CallError::NotFound`] if the pointer does not resolve to a value.
+/// - [`CallError::Memory`] if an allocation fails.
+fn find_in(alloc: Global, text: &[u8], pointer: &[u8]) -> Result<Value, CallError>
+    ensures found { IfOk result (FindsAtPointerInText text.now pointer.now) }
     ensures pointer_utf8 { OnOk result (IsUtf8 pointer.now) }
     ensures text_utf8 { OnOk result (IsUtf8 text.now) }
     ensures refused { IfErr result (IsNotInText text.now pointer.now) }
@@ -34,11 +34,11 @@ fn find_in(alloc: Global, text: &[u8], pointer: &[u8]) -> Result<Value, Failure>
     let pointer = parse(pointer)?;
     match resolve_in_text(alloc, text_of(Argument::Text, text)?, pointer) {
         Ok(value) => Ok(value),
-        Err(InTextError::NotJson) => Err(Failure::NotJson {
+        Err(InTextError::NotJson) => Err(CallError::NotJson {
             offset: stop(alloc, text),
         }),
-        Err(InTextError::Resolve(error)) => Err(Failure::NotFound(error)),
-        Err(InTextError::Memory(error)) => Err(Failure::Memory(error)),
+        Err(InTextError::Resolve(error)) => Err(CallError::NotFound(error)),
+        Err(InTextError::Memory(error)) => Err(CallError::Memory(error)),
     }
 }
 
@@ -47,21 +47,21 @@ fn find_in(alloc: Global, text: &[u8], pointer: &[u8]) -> Result<Value, Failure>
 ///
 /// # Errors
 ///
-/// - [`Failure::NotUtf8`] and [`Failure::NotPointer`], for the pointer.
-/// - [`Failure::NotUtf8`] and [`Failure::NotJson`], for the text. It is read again to find where
+/// - [`CallError::NotUtf8`] and [`CallError::NotPointer`], for the pointer.
+/// - [`CallError::NotUtf8`] and [`CallError::NotJson`], for the text. It is read again to find where
 ///   reading stops.
-/// - [`Failure::NotFound`] if the pointer does not resolve to a value.
-/// - [`Failure::NoRoom`] if the buffer is shorter than the text of the value.
-/// - [`Failure::Memory`] if an allocation fails.
+/// - [`CallError::NotFound`] if the pointer does not resolve to a value.
+/// - [`CallError::NoRoom`] if the buffer is shorter than the text of the value.
+/// - [`CallError::Memory`] if an allocation fails.
 ///
 /// The buffer is unchanged.
 pub fn print_in(
     alloc: Global,
     text: &[u8],
     pointer: &[u8],
-    layout: Layout,
+    layout: TextLayout,
     out: &mut [u8],
-) -> Result<usize, Failure>
+) -> Result<usize, CallError>
     ensures printed { IfOk result (λ n. FindsTextIn layout text.now pointer.now (take n out.new)) }
     ensures refused { IfErr result (IsNotPrintedFrom layout text.now pointer.now (length out.old)) }
     ensures unchanged { OnErr result (out.new ≡ out.old) }
@@ -77,16 +77,20 @@ pub fn print_in(
 ///
 /// # Errors
 ///
-/// - [`Failure::NotUtf8`] and [`Failure::NotJson`].
-/// - [`Failure::NotExact`] if that number has no pointer: the key of a member that it is in comes again.
-/// - [`Failure::NoRoom`] if the buffer is shorter than the pointer.
-/// - [`Failure::Memory`] if an allocation fails.
+/// - [`CallError::NotUtf8`] and [`CallError::NotJson`].
+/// - [`CallError::NotExact`] if that number has no pointer: the key of a member that it is in comes again.
+/// - [`CallError::NoRoom`] if the buffer is shorter than the pointer.
+/// - [`CallError::Memory`] if an allocation fails.
 ///
 /// The buffer is unchanged.
-pub fn lost_number_in(alloc: Global, text: &[u8], out: &mut [u8]) -> Result<Option<usize>, Failure>
+pub fn lost_number_in(
+    alloc: Global,
+    text: &[u8],
+    out: &mut [u8],
+) -> Result<Option<usize>, CallError>
     ensures found { IfOk result (λ o. MatchOption o (KeepsDigits text.now)
         (λ n. (lost : SpecLost) × Loses text.now lost × PointsTo (take n out.new) lost)) }
-    ensures json { OnOk result (IsUtf8 text.now) }
+    ensures utf8 { OnOk result (IsUtf8 text.now) }
     ensures refused { IfErr result (IsNotPointedTo text.now (length out.old)) }
     ensures unchanged { OnErr result (out.new ≡ out.old) }
 {
@@ -101,15 +105,15 @@ pub fn lost_number_in(alloc: Global, text: &[u8], out: &mut [u8]) -> Result<Opti
 ///
 /// # Errors
 ///
-/// [`Failure::NotExact`] if the number has no pointer, and [`Failure::NoRoom`] if the buffer is shorter.
+/// [`CallError::NotExact`] if the number has no pointer, and [`CallError::NoRoom`] if the buffer is shorter.
 /// The buffer is unchanged.
-fn copy_pointer(lost: Lost, out: &mut [u8]) -> Result<usize, Failure>
+fn copy_pointer(lost: Lost, out: &mut [u8]) -> Result<usize, CallError>
     ensures copied { IfOk result (λ n. PointsTo (take n out.new) lost) }
-    ensures refused { IfErr result (LacksPointer lost (length out.old)) }
+    ensures refused { IfErr result (LacksPointerOfNumber lost (length out.old)) }
     ensures unchanged { OnErr result (out.new ≡ out.old) }
 {
     if let Some(pointer) = &lost.pointer {
         return copy_to(pointer.as_ptr().as_str().as_bytes(), out);
     }
-    Err(Failure::NotExact(lost))
+    Err(CallError::NotExact(lost))
 }

@@ -2,10 +2,10 @@
 ghost use Rattle.std.specs.Prelude.{◌≡◌, IfErr, IfOk, IsUtf8, OnErr, OnOk, take, length};
 ghost use Rattle.serde_json.specs.View.{view};
 ghost use Rattle.jsonptr_c_calls.specs.Failures.{Unfound, IsNotPrinted, IsNotRead};
-ghost use Rattle.jsonptr_c_calls.specs.Values.{FindsAt, IsTextOf, FindsTextOf, FindsString};
+ghost use Rattle.jsonptr_c_calls.specs.Values.{FindsAtPointer, IsJsonText, FindsTextOf, FindsString};
 
 use crate::buffer::copy_to;
-use crate::failure::Failure;
+use crate::call_error::CallError;
 use crate::pointers::parse;
 use jsonptr::Fault;
 use serde_json::Value;
@@ -16,23 +16,23 @@ use std::alloc::{AllocError, Global};
 /// # Errors
 ///
 /// - Those of [`parse`].
-/// - [`Failure::NotFound`] if the pointer does not resolve to a value.
-/// - [`Failure::Memory`] if an allocation fails. Only a token that contains `~` needs one.
-pub fn find<'v>(alloc: Global, document: &'v Value, pointer: &[u8]) -> Result<&'v Value, Failure>
-    ensures found { IfOk result (λ v. FindsAt (view document.now) pointer.now (view v.now)) }
+/// - [`CallError::NotFound`] if the pointer does not resolve to a value.
+/// - [`CallError::Memory`] if an allocation fails. Only a token that contains `~` needs one.
+pub fn find<'v>(alloc: Global, document: &'v Value, pointer: &[u8]) -> Result<&'v Value, CallError>
+    ensures found { IfOk result (λ v. FindsAtPointer (view document.now) pointer.now (view v.now)) }
     ensures utf8 { OnOk result (IsUtf8 pointer.now) }
     ensures refused { IfErr result (Unfound (view document.now) pointer.now) }
 {
     match parse(pointer)?.resolve(alloc, document) {
         Ok(value) => Ok(value),
-        Err(Fault::Refused(error)) => Err(Failure::NotFound(error)),
-        Err(Fault::Memory(error)) => Err(Failure::Memory(error)),
+        Err(Fault::Refused(error)) => Err(CallError::NotFound(error)),
+        Err(Fault::Memory(error)) => Err(CallError::Memory(error)),
     }
 }
 
 /// How a JSON text is laid out.
 #[derive(Clone, Copy)]
-pub enum Layout {
+pub enum TextLayout {
     /// Without spaces.
     Compact,
     /// On lines that are indented by two spaces.
@@ -44,12 +44,12 @@ pub enum Layout {
 /// # Errors
 ///
 /// [`AllocError`] if an allocation fails.
-pub fn json_text(alloc: Global, value: &Value, layout: Layout) -> Result<Vec<u8>, AllocError>
-    ensures { IfOk result (λ text. IsTextOf layout (view value.now) text.items) }
+pub fn json_text(alloc: Global, value: &Value, layout: TextLayout) -> Result<Vec<u8>, AllocError>
+    ensures { IfOk result (λ text. IsJsonText layout (view value.now) text.items) }
 {
     match layout {
-        Layout::Compact => value.to_vec(alloc),
-        Layout::Pretty => value.to_vec_pretty(alloc),
+        TextLayout::Compact => value.to_vec(alloc),
+        TextLayout::Pretty => value.to_vec_pretty(alloc),
     }
 }
 
@@ -58,15 +58,15 @@ pub fn json_text(alloc: Global, value: &Value, layout: Layout) -> Result<Vec<u8>
 ///
 /// # Errors
 ///
-/// Those of [`find`], and [`Failure::NoRoom`] if the buffer is shorter than the text. The buffer is
+/// Those of [`find`], and [`CallError::NoRoom`] if the buffer is shorter than the text. The buffer is
 /// unchanged.
 pub fn print_at(
     alloc: Global,
     document: &Value,
     pointer: &[u8],
-    layout: Layout,
+    layout: TextLayout,
     out: &mut [u8],
-) -> Result<usize, Failure>
+) -> Result<usize, CallError>
     ensures printed { IfOk result (λ n.
         FindsTextOf layout (view document.now) pointer.now (take n out.new)) }
     ensures refused { IfErr result
@@ -83,8 +83,8 @@ pub fn print_at(
 /// # Errors
 ///
 /// - Those of [`find`].
-/// - [`Failure::OtherKind`] if the value is not a string.
-/// - [`Failure::NoRoom`] if the buffer is shorter than the string.
+/// - [`CallError::OtherKind`] if the value is not a string.
+/// - [`CallError::NoRoom`] if the buffer is shorter than the string.
 ///
 /// The buffer is unchanged.
 pub fn string_at(
@@ -92,7 +92,7 @@ pub fn string_at(
     document: &Value,
     pointer: &[u8],
     out: &mut [u8],
-) -> Result<usize, Failure>
+) -> Result<usize, CallError>
     ensures string { IfOk result (λ n.
         FindsString (view document.now) pointer.now (take n out.new)) }
     ensures refused { IfErr result (IsNotRead (view document.now) pointer.now (length out.old)) }
@@ -100,6 +100,6 @@ pub fn string_at(
 {
     match find(alloc, document, pointer)?.as_str() {
         Some(text) => copy_to(text.as_bytes(), out),
-        None => Err(Failure::OtherKind),
+        None => Err(CallError::OtherKind),
     }
 }

@@ -1,3 +1,3 @@
 -- What the handle of a document owns.
 pub mod Slot
-pub mod Document
+pub mod Handle

@@ -2,5 +2,5 @@
 #![tactic(auto)]
 
 mod apart;
-pub mod document;
+pub mod handle;
 mod slot;

@@ -7,28 +7,27 @@ use Rattle.serde_json.specs.Data.{Data}
 use Rattle.serde_json.specs.View.{view}
 use Rattle.serde_json.specs.declared.value.Value.{Value}
 use Rattle.jsonptr.specs.Text.{Text}
-use Rattle.jsonptr.specs.declared.pointer.Pointer.{Pointer}
 use Rattle.jsonptr_in_text.specs.InText.{FindsInText, IsInSliceError}
 use Rattle.jsonptr_in_text.specs.declared.resolve.InTextError.{InTextError}
 use Rattle.jsonptr_in_text.specs.declared.resolve.InTextError.TheVariants.{NotJson}
 use Rattle.jsonptr_in_text.specs.declared.resolve.InTextError.TheVariants as in_text
 use Rattle.jsonptr_command.specs.JsonText.{json_of}
-use Rattle.jsonptr_command.specs.Streams.{ForBytes}
+use Rattle.jsonptr_io.specs.Streams.{ForInput}
 use Rattle.jsonptr_command.proofs.JsonLemmas.{json_of-utf8, json_of-None}
-use Rattle.jsonptr_command.specs.Run.{Asks, ComesAfterInput, ForRequest, Outcome, HasValueOf, IsOperationFault, IsRequestFault, IsWordsMemory, LeavesValue, NeedsInput, listing, splitting, SplitsInTwo, texts_value, OnDocument, Resolves, resolving}
+use Rattle.jsonptr_command.specs.Run.{ComesAfterInput, Outcome, HasValueOf, IsOperationFault, IsRequestFault, LeavesValue, NeedsInput, SplitsInTwo, OnDocument, Resolves, resolving}
 use Rattle.jsonptr_command.specs.Faults.{IsInputFault, of_in_text_error}
-use Rattle.jsonptr_command.specs.Private.{asked_by, request_of, Changes, ComesBeforeDocument, IsFaultOf, IsLineOf, IsNoValue}
+use Rattle.jsonptr_command.specs.Private.{asked_by, Changes, ComesBeforeDocument, IsFaultOf, IsLineOf, IsNoValue}
 use Rattle.jsonptr_command.specs.declared.run.Request as code
-use Rattle.jsonptr_command.specs.declared.run.Request.TheVariants.{Tokens, Split, Resolve}
+use Rattle.jsonptr_command.specs.declared.run.Request.TheVariants.{Resolve}
 use Rattle.jsonptr_command.specs.declared.run.Change.{Change}
 use Rattle.jsonptr_command.specs.declared.run.Change.TheVariants.{Assign, Delete, Patch}
 use Rattle.jsonptr_command.specs.declared.fault.RunFault.{RunFault}
 use Rattle.jsonptr_command.specs.declared.fault.RunFault.TheVariants.{Usage, BadPointer, ValueNotJson, NoValue, BadPlace, NotThere, BadSplit, BadPatch, InputNotJson, Memory, Read, Write}
 
 -- a property of the bytes, weakened
-pub ForBytes-map : (known : Option (List ℕ)) (P Q : List ℕ → Type 0) → ((bytes : List ℕ) → P bytes → Q bytes) → ForBytes known P → ForBytes known Q
-ForBytes-map None P Q f h = (h.0, f h.0 h.1)
-ForBytes-map (Some bytes) P Q f h = f bytes h
+pub ForInput-map : (known : Option (List ℕ)) (P Q : List ℕ → Type 0) → ((bytes : List ℕ) → P bytes → Q bytes) → ForInput known P → ForInput known Q
+ForInput-map None P Q f h = (h.0, f h.0 h.1)
+ForInput-map (Some bytes) P Q f h = f bytes h
 
 abbrev some : Data → Option Data
 some d = Some d
@@ -64,37 +63,37 @@ module _ (change : Change) (known : Option (List ℕ)) where
   input_fault_given e (inr (inl read)) = inr (inr (needs change, read))
   input_fault_given e (inr (inr h)) =
       inl
-      (ForBytes-map known (λ bytes. json_of bytes ≡ None) (λ bytes. Outcome (asked_by change) bytes (Err e))
+      (ForInput-map known (λ bytes. json_of bytes ≡ None) (λ bytes. Outcome (asked_by change) bytes (Err e))
       (λ bytes none. gives change bytes (Err e) (no_document bytes e (λ d. Changes change d (Err e)) none h.1)) h.0)
 
-  module _ (d : Data) (read : ForBytes known (λ bytes. json_of bytes ≡ Some d)) where
+  module _ (d : Data) (read : ForInput known (λ bytes. json_of bytes ≡ Some d)) where
     -- a line of the result on the document is one of the result on the bytes
-    pub line_given : (line : Text) → IsLineOf (Changes change d) line → ForBytes known (λ bytes. IsLineOf (Outcome (asked_by change) bytes) line)
+    pub line_given : (line : Text) → IsLineOf (Changes change d) line → ForInput known (λ bytes. IsLineOf (Outcome (asked_by change) bytes) line)
     line_given line h =
-        ForBytes-map known (λ bytes. json_of bytes ≡ Some d) (λ bytes. IsLineOf (Outcome (asked_by change) bytes) line)
+        ForInput-map known (λ bytes. json_of bytes ≡ Some d) (λ bytes. IsLineOf (Outcome (asked_by change) bytes) line)
         (λ bytes is. (h.0, gives change bytes (Ok h.0) (on_document bytes d (Ok h.0) (λ d. Changes change d (Ok h.0)) is h.1), h.2)) read
 
     -- and so is a fault
     pub fault_given : (e : RunFault) → IsFaultOf (Changes change d) e → IsRequestFault (asked_by change) known e
     fault_given e (inl h) =
         inl
-        (ForBytes-map known (λ bytes. json_of bytes ≡ Some d) (λ bytes. Outcome (asked_by change) bytes (Err e))
+        (ForInput-map known (λ bytes. json_of bytes ≡ Some d) (λ bytes. Outcome (asked_by change) bytes (Err e))
         (λ bytes is. gives change bytes (Err e) (on_document bytes d (Err e) (λ d. Changes change d (Err e)) is h)) read)
     fault_given e (inr memory) = inr (inl memory)
 
     -- the document after the change is the value of its request
-    pub value_given : (new : Data) → Changes change d (Ok new) → ForBytes known (λ bytes. HasValueOf (asked_by change) bytes (Some new))
+    pub value_given : (new : Data) → Changes change d (Ok new) → ForInput known (λ bytes. HasValueOf (asked_by change) bytes (Some new))
     value_given new h =
-        ForBytes-map known (λ bytes. json_of bytes ≡ Some d) (λ bytes. HasValueOf (asked_by change) bytes (Some new))
+        ForInput-map known (λ bytes. json_of bytes ≡ Some d) (λ bytes. HasValueOf (asked_by change) bytes (Some new))
         (λ bytes is. (new, refl, gives change bytes (Ok new) (on_document bytes d (Ok new) (λ d. Changes change d (Ok new)) is h))) read
 
     -- what is left where an allocation fails is the document before or after the change
-    pub either_given : (new : Data) → (new ≡ d) ⊎ Changes change d (Ok new) → ForBytes known (λ bytes. (some new ≡ json_of bytes) ⊎ HasValueOf (asked_by change) bytes (Some new))
+    pub either_given : (new : Data) → (new ≡ d) ⊎ Changes change d (Ok new) → ForInput known (λ bytes. (some new ≡ json_of bytes) ⊎ HasValueOf (asked_by change) bytes (Some new))
     either_given new (inl same) =
-        ForBytes-map known (λ bytes. json_of bytes ≡ Some d) (λ bytes. (some new ≡ json_of bytes) ⊎ HasValueOf (asked_by change) bytes (Some new))
+        ForInput-map known (λ bytes. json_of bytes ≡ Some d) (λ bytes. (some new ≡ json_of bytes) ⊎ HasValueOf (asked_by change) bytes (Some new))
         (λ bytes is. inl (ap some same ∙ sym is)) read
     either_given new (inr h) =
-        ForBytes-map known (λ bytes. HasValueOf (asked_by change) bytes (Some new)) (λ bytes. (some new ≡ json_of bytes) ⊎ HasValueOf (asked_by change) bytes (Some new))
+        ForInput-map known (λ bytes. HasValueOf (asked_by change) bytes (Some new)) (λ bytes. (some new ≡ json_of bytes) ⊎ HasValueOf (asked_by change) bytes (Some new))
         (λ bytes k. inr k) (value_given new h)
 
 -- ---- a pointer that is resolved in the bytes
@@ -110,7 +109,7 @@ error_given bytes ts (in_text.Resolve f) h = inl (on_document bytes h.1.0 (Err (
 error_given bytes ts (in_text.Memory e) h = inr refl
 
 -- what holds of the bytes that were read holds of those of the input
-pub for_read : (known : Option (List ℕ)) (bytes : List ℕ) (P : List ℕ → Type 0) → IfSome known (λ xs. bytes ≡ xs) → P bytes → ForBytes known P
+pub for_read : (known : Option (List ℕ)) (bytes : List ℕ) (P : List ℕ → Type 0) → IfSome known (λ xs. bytes ≡ xs) → P bytes → ForInput known P
 for_read None bytes P e h = (bytes, h)
 for_read (Some xs) bytes P e h = subst P e h
 
@@ -124,7 +123,7 @@ after_document (Delete p) d e (inl h) before = subst ComesBeforeDocument h.1 bef
 after_document (Patch patch) d e (inl h) before = subst ComesBeforeDocument h.4 before
 
 -- the bytes of which a property holds
-some_bytes : (known : Option (List ℕ)) (P : List ℕ → Type 0) → ForBytes known P → (bytes : List ℕ) × P bytes
+some_bytes : (known : Option (List ℕ)) (P : List ℕ → Type 0) → ForInput known P → (bytes : List ℕ) × P bytes
 some_bytes None P h = h
 some_bytes (Some bytes) P h = (bytes, h)
 
@@ -180,9 +179,9 @@ module _ (known : Option (List ℕ)) (P Q : List ℕ → Type 0) (more : (bytes 
   either_more bytes (inl is) = inl is
   either_more bytes (inr h) = inr (more bytes h)
 
-  memory_more : (new ≡ old) ⊎ ForBytes known (λ bytes. (new ≡ json_of bytes) ⊎ P bytes) → (new ≡ old) ⊎ ForBytes known (λ bytes. (new ≡ json_of bytes) ⊎ Q bytes)
+  memory_more : (new ≡ old) ⊎ ForInput known (λ bytes. (new ≡ json_of bytes) ⊎ P bytes) → (new ≡ old) ⊎ ForInput known (λ bytes. (new ≡ json_of bytes) ⊎ Q bytes)
   memory_more (inl is) = inl is
-  memory_more (inr h) = inr (ForBytes-map known (λ bytes. (new ≡ json_of bytes) ⊎ P bytes) (λ bytes. (new ≡ json_of bytes) ⊎ Q bytes) either_more h)
+  memory_more (inr h) = inr (ForInput-map known (λ bytes. (new ≡ json_of bytes) ⊎ P bytes) (λ bytes. (new ≡ json_of bytes) ⊎ Q bytes) either_more h)
 
   pub leaves_more : (e : RunFault) → LeavesValue known P old new e → LeavesValue known Q old new e
   leaves_more Usage h = h
@@ -226,8 +225,8 @@ module _ (change : Change) (known : Option (List ℕ)) (old new : Option Data) w
   Made bytes = HasValueOf (asked_by change) bytes new
 
   change_left : (e : RunFault) → IsRequestFault (asked_by change) known e → (ComesBeforeDocument e → new ≡ old)
-      → (IsOperationFault e → ForBytes known (λ bytes. new ≡ json_of bytes))
-      → (e ≡ Memory alloc_error → (new ≡ old) ⊎ ForBytes known (λ bytes. (new ≡ json_of bytes) ⊎ Made bytes))
+      → (IsOperationFault e → ForInput known (λ bytes. new ≡ json_of bytes))
+      → (e ≡ Memory alloc_error → (new ≡ old) ⊎ ForInput known (λ bytes. (new ≡ json_of bytes) ⊎ Made bytes))
       → LeavesValue known Made old new e
   change_left Usage fault before after memory = before tt
   change_left (BadPointer f) fault before after memory = before tt
@@ -244,8 +243,8 @@ module _ (change : Change) (known : Option (List ℕ)) (old new : Option Data) w
 
 pub value_left : (change : Change) (known : Option (List ℕ)) (old new : Option Value) (r : Result (String Global) RunFault)
     → IfErr r (IsRequestFault (asked_by change) known) → IfErr r (λ e. ComesBeforeDocument e → new ≡ old)
-    → IfErr r (λ e. IsOperationFault e → ForBytes known (λ bytes. some_value new ≡ json_of bytes))
-    → IfErr r (λ e. e ≡ Memory alloc_error → (new ≡ old) ⊎ ForBytes known (λ bytes. (some_value new ≡ json_of bytes) ⊎ HasValueOf (asked_by change) bytes (some_value new)))
+    → IfErr r (λ e. IsOperationFault e → ForInput known (λ bytes. some_value new ≡ json_of bytes))
+    → IfErr r (λ e. e ≡ Memory alloc_error → (new ≡ old) ⊎ ForInput known (λ bytes. (some_value new ≡ json_of bytes) ⊎ HasValueOf (asked_by change) bytes (some_value new)))
     → IfErr r (LeavesValue known (λ bytes. HasValueOf (asked_by change) bytes (some_value new)) (some_value old) (some_value new))
 value_left change known old new (Ok s) fault before after memory = tt
 value_left change known old new (Err e) fault before after memory =

@@ -33,7 +33,7 @@ use Rattle.jsonptr_command.proofs.MeantLemmas.{IsJson, one_value_json, mean_one,
 use Rattle.jsonptr_command.proofs.OrderLemmas.{ascends_json}
 use Rattle.jsonptr_command.specs.JsonText.{json_of, IsJsonLine}
 use Rattle.jsonptr_command.specs.Operations.{Form, words_of, pointers_of, Meant, meant, MeanAll}
-use Rattle.jsonptr_command.specs.Run.{Request, resolving, listing, assigning, deleting, splitting, patching, AskFor, HaveValue, HaveForms, HaveValues, TakePointer, TakePointers, IsWordsFault, IsPointerFault, IsValueFault, Asks, AssignsAt, DeletesAt, Outcome, PatchesBy, Resolves, texts_value}
+use Rattle.jsonptr_command.specs.Run.{Request, resolving, listing, assigning, deleting, splitting, patching, AskFor, HaveValue, HaveForms, HaveValues, TakePointer, TakePointers, IsWordsFault, IsPointerFault, IsValueFault, Asks, AssignsAt, DeletesAt, Outcome, PatchesOrFails, Resolves, texts_value}
 use Rattle.jsonptr_command.specs.declared.fault.RunFault.{RunFault}
 use Rattle.jsonptr_command.specs.declared.fault.RunFault.TheVariants.{BadPointer, NoValue, BadPlace, BadPatch, InputNotJson}
 
@@ -381,18 +381,18 @@ is_document d = (map_of-IsTree (content d), map_of-finite (content d))
 
 -- the result of a patch is a document or an error, and each is unique
 module _ (not_both : (n m : NodeMap) (os : List Operation) (e : PatchError) → IsDocument n → Patches n os m → RefusesPatch n os e → ⊥) (d : Data) (os : List Meant) where
-  pub patches_not_both : (value : Data) (e : RunFault) → PatchesBy d os (Ok value) → PatchesBy d os (Err e) → ⊥
+  pub patches_not_both : (value : Data) (e : RunFault) → PatchesOrFails d os (Ok value) → PatchesOrFails d os (Err e) → ⊥
   patches_not_both value e h k =
       not_both (nodes d) (nodes value) h.0 k.1 (is_document d) h.2 (refused_same (nodes d) k.0 h.0 k.1 (k.2 ∙ sym h.1) k.3)
 
 module _ (one : (n : NodeMap) (os : List Operation) (e f : PatchError) → IsDocument n → RefusesPatch n os e → RefusesPatch n os f → e ≡ f) (d : Data) (os : List Meant) where
-  pub patches_one_fault : (e f : RunFault) → PatchesBy d os (Err e) → PatchesBy d os (Err f) → e ≡ f
+  pub patches_one_fault : (e f : RunFault) → PatchesOrFails d os (Err e) → PatchesOrFails d os (Err f) → e ≡ f
   patches_one_fault e f h k =
       let same : h.1 ≡ k.1 = one (nodes d) k.0 h.1 k.1 (is_document d) (refused_same (nodes d) h.0 k.0 h.1 (h.2 ∙ sym k.2) h.3) k.3 in
       h.4 ∙ ap (λ (x : PatchError). BadPatch x) same ∙ sym k.4
 
 module _ (one : (n m l : NodeMap) (os : List Operation) → IsDocument n → Patches n os m → Patches n os l → m ≡ l) (d : Data) (os : List Meant) where
-  pub patches_one_map : (value other : Data) → PatchesBy d os (Ok value) → PatchesBy d os (Ok other) → nodes value ≡ nodes other
+  pub patches_one_map : (value other : Data) → PatchesOrFails d os (Ok value) → PatchesOrFails d os (Ok other) → nodes value ≡ nodes other
   patches_one_map value other h k =
       one (nodes d) (nodes value) (nodes other) k.0 (is_document d) (patches_same (nodes d) (nodes value) h.0 k.0 (h.1 ∙ sym k.1) h.2) k.2
 
@@ -421,7 +421,7 @@ module _ (resolved_one : OneResolved) (assign_not_both : (n : NodeMap) (tokens :
       (λ d a b. b.0 a.0.0 a.0.1) h k
   not_both (splitting ts n) bytes value e h k = value_or_fault value e ⊥ (splitting_one ts n bytes (Ok value) (Err e) h k)
   not_both (patching os) bytes value e h k =
-      on_both (json_of bytes) (λ d. PatchesBy d os (Ok value)) (λ d. PatchesBy d os (Err e)) (Ok value) (Err e) ⊥ (λ x y. value_or_fault value InputNotJson ⊥ x)
+      on_both (json_of bytes) (λ d. PatchesOrFails d os (Ok value)) (λ d. PatchesOrFails d os (Err e)) (Ok value) (Err e) ⊥ (λ x y. value_or_fault value InputNotJson ⊥ x)
       (λ d a b. patches_not_both patch_not_both d os value e a b) h k
 
 module _ (resolved_one : OneResolved) (refused_one : (n : NodeMap) (tokens : List Text) (e f : assign.Error) → RefusesAssign n tokens e → RefusesAssign n tokens f → e ≡ f)
@@ -436,7 +436,7 @@ module _ (resolved_one : OneResolved) (refused_one : (n : NodeMap) (tokens : Lis
       on_both (json_of bytes) (λ d. DeletesAt d ts (Err e)) (λ d. DeletesAt d ts (Err f)) (Err e) (Err f) (e ≡ f) (λ x y. fault_of e f (x ∙ sym y)) (λ d a b. a.1 ∙ sym b.1) h k
   one_fault (splitting ts n) bytes e f h k = fault_of e f (splitting_one ts n bytes (Err e) (Err f) h k)
   one_fault (patching os) bytes e f h k =
-      on_both (json_of bytes) (λ d. PatchesBy d os (Err e)) (λ d. PatchesBy d os (Err f)) (Err e) (Err f) (e ≡ f) (λ x y. fault_of e f (x ∙ sym y))
+      on_both (json_of bytes) (λ d. PatchesOrFails d os (Err e)) (λ d. PatchesOrFails d os (Err f)) (Err e) (Err f) (e ≡ f) (λ x y. fault_of e f (x ∙ sym y))
       (λ d a b. patches_one_fault patch_refused_one d os e f a b) h k
 
 module _ (resolved_one : OneResolved) (one_map : OneMap) (tree : (d : Data) → IsTree (nodes d))
@@ -456,6 +456,6 @@ module _ (resolved_one : OneResolved) (one_map : OneMap) (tree : (d : Data) → 
       (λ d order x y. one_map value other (x.2 order) (y.2 order) (deleted_one (nodes d) (nodes null) ts (nodes value) (nodes other) (tree d) x.1 y.1)) h k
   one_value words (splitting ts n) bytes value other asks h k = value_of value other (splitting_one ts n bytes (Ok value) (Ok other) h k)
   one_value words (patching os) bytes value other asks h k =
-      on_document bytes (λ d. PatchesBy d os (Ok value)) (λ d. PatchesBy d os (Ok other)) (Ok value) (Ok other) (value ≡ other) (λ x y. value_or_fault value InputNotJson (value ≡ other) x)
+      on_document bytes (λ d. PatchesOrFails d os (Ok value)) (λ d. PatchesOrFails d os (Ok other)) (Ok value) (Ok other) (value ≡ other) (λ x y. value_or_fault value InputNotJson (value ≡ other) x)
       (λ d order x y.
       one_map value other (x.3 (asked_in_order words os x.0 asks x.1) order) (y.3 (asked_in_order words os y.0 asks y.1) order) (patches_one_map patched_one d os value other x y)) h k

@@ -12,13 +12,13 @@ use Rattle.jsonptr_in_text.specs.declared.resolve.InTextError.TheVariants as in_
 use Rattle.jsonptr_patch.specs.declared.operation.PatchError.{PatchError}
 use Rattle.jsonptr_command.specs.declared.fault.RunFault.{RunFault}
 use Rattle.jsonptr_command.specs.declared.fault.RunFault.TheVariants.{ValueNotJson, NoValue, BadPlace, BadPatch, InputNotJson, Memory, Read}
-use Rattle.jsonptr_command.specs.declared.input.InputFault.{InputFault}
-use Rattle.jsonptr_command.specs.declared.input.InputFault.TheVariants as input
-use Rattle.jsonptr_command.specs.Streams.{ForBytes}
+use Rattle.jsonptr_io.specs.declared.input.InputError.{InputError}
+use Rattle.jsonptr_io.specs.declared.input.InputError.TheVariants as input
+use Rattle.jsonptr_io.specs.Streams.{ForInput}
 use Rattle.jsonptr_command.specs.JsonText.{json_of}
 
 -- `of_input_fault e`: the fault of the run if the input cannot be read.
-abbrev pub of_input_fault : InputFault → RunFault
+abbrev pub of_input_fault : InputError → RunFault
 of_input_fault (input.Memory e) = Memory e
 of_input_fault input.Read = Read
 
@@ -49,7 +49,7 @@ abbrev pub IsInputFault : Option (List ℕ) → RunFault → Type 0
 IsInputFault known e =
     (e ≡ Memory alloc_error)
     ⊎ (e ≡ Read)
-    ⊎ (ForBytes known (λ bytes. json_of bytes ≡ None) × (e ≡ InputNotJson))
+    ⊎ (ForInput known (λ bytes. json_of bytes ≡ None) × (e ≡ InputNotJson))
 
 -- `RefusesValue text e`: `text` is not JSON, and `e` reports that, or an allocation failed.
 abbrev pub RefusesValue : Text → RunFault → Type 0

@@ -1,5 +1,3 @@
--- Definitions of the program's contracts.
-pub mod Streams
 pub mod JsonText
 pub mod Faults
 pub mod Operations

@@ -19,7 +19,7 @@ use Rattle.jsonptr_command.specs.declared.run.Change.TheVariants.{Assign, Delete
 use Rattle.jsonptr_command.specs.JsonText.{IsJsonLine}
 use Rattle.jsonptr_command.specs.Faults.{RefusesValue}
 use Rattle.jsonptr_command.specs.Operations.{meant}
-use Rattle.jsonptr_command.specs.Run.{Request, resolving, listing, assigning, deleting, splitting, patching, AssignsAt, DeletesAt, HaveValue, PatchesBy, TakePointer}
+use Rattle.jsonptr_command.specs.Run.{Request, resolving, listing, assigning, deleting, splitting, patching, AssignsAt, DeletesAt, HaveValue, PatchesOrFails, TakePointer}
 
 -- `asked_by change`: the request that the program's `change` is.
 abbrev pub asked_by : Change → Request
@@ -31,7 +31,7 @@ asked_by (Patch patch) = patching (map meant patch.items)
 abbrev pub Changes : Change → Data → Result Data RunFault → Type 0
 Changes (Assign p v) d = AssignsAt d (tokens p) (view v)
 Changes (Delete p) d = DeletesAt d (tokens p)
-Changes (Patch patch) d = PatchesBy d (map meant patch.items)
+Changes (Patch patch) d = PatchesOrFails d (map meant patch.items)
 
 -- `request_of request`: the request that the program's `request` is.
 abbrev pub request_of : code.Request → Request

@@ -24,7 +24,7 @@ use Rattle.jsonptr_patch.specs.declared.operation.Operation.{Operation}
 use Rattle.jsonptr_patch.specs.declared.operation.PatchError.{PatchError}
 use Rattle.jsonptr_command.specs.declared.fault.RunFault.{RunFault}
 use Rattle.jsonptr_command.specs.declared.fault.RunFault.TheVariants.{Usage, BadPointer, ValueNotJson, NoValue, BadPlace, NotThere, BadSplit, BadPatch, InputNotJson, Memory, Read, Write}
-use Rattle.jsonptr_command.specs.Streams.{ForBytes}
+use Rattle.jsonptr_io.specs.Streams.{ForInput}
 use Rattle.jsonptr_command.specs.JsonText.{json_of, IsJsonLine}
 use Rattle.jsonptr_command.specs.Operations.{Form, words_of, pointers_of, values_of, Meant, meant, MeanAll}
 
@@ -238,15 +238,15 @@ SplitsInTwo ts n (Ok value) =
     × (value ≡ texts_value (text front ∷ text rest ∷ []))
 SplitsInTwo ts n (Err e) = (length ts < n) × (e ≡ BadSplit n (length ts))
 
--- `PatchesBy d os r`: `r` is the document `d` after a patch of the operations `os`, or why that fails. Keys stay
+-- `PatchesOrFails d os r`: `r` is the document `d` after a patch of the operations `os`, or why that fails. Keys stay
 -- sorted.
-abbrev pub PatchesBy : Data → List Meant → Result Data RunFault → Type 0
-PatchesBy d os (Ok new) =
+abbrev pub PatchesOrFails : Data → List Meant → Result Data RunFault → Type 0
+PatchesOrFails d os (Ok new) =
     (patch : List Operation)
     × (map meant patch ≡ os)
     × Patches (nodes d) patch (nodes new)
     × (All OperationHasSortedKeys patch → HasSortedKeys d → HasSortedKeys new)
-PatchesBy d os (Err e) =
+PatchesOrFails d os (Err e) =
     (patch : List Operation) × (f : PatchError)
     × (map meant patch ≡ os)
     × RefusesPatch (nodes d) patch f
@@ -259,7 +259,7 @@ Outcome (listing ts) bytes r = r ≡ Ok (texts_value ts)
 Outcome (assigning ts v) bytes r = OnDocument bytes r (λ d. AssignsAt d ts v r)
 Outcome (deleting ts) bytes r = OnDocument bytes r (λ d. DeletesAt d ts r)
 Outcome (splitting ts n) bytes r = SplitsInTwo ts n r
-Outcome (patching os) bytes r = OnDocument bytes r (λ d. PatchesBy d os r)
+Outcome (patching os) bytes r = OnDocument bytes r (λ d. PatchesOrFails d os r)
 
 -- `HasValueOf request bytes value`: `value` has the value of the request on an input of these bytes.
 abbrev pub HasValueOf : Request → List ℕ → Option Data → Type 0
@@ -269,7 +269,7 @@ HasValueOf request bytes value = (d : Data) × (value ≡ Some d) × Outcome req
 -- or, if it needs the input, a read.
 abbrev pub IsRequestFault : Request → Option (List ℕ) → RunFault → Type 0
 IsRequestFault request known e =
-    ForBytes known (λ bytes. Outcome request bytes (Err e))
+    ForInput known (λ bytes. Outcome request bytes (Err e))
     ⊎ (e ≡ Memory alloc_error)
     ⊎ (NeedsInput request × (e ≡ Read))
 
@@ -283,12 +283,12 @@ LeavesValue known Made old new (BadPointer e) = new ≡ old
 LeavesValue known Made old new ValueNotJson = new ≡ old
 LeavesValue known Made old new (BadSplit position count) = new ≡ old
 LeavesValue known Made old new (NoValue e) = new ≡ old
-LeavesValue known Made old new (BadPlace e) = ForBytes known (λ bytes. new ≡ json_of bytes)
-LeavesValue known Made old new NotThere = ForBytes known (λ bytes. new ≡ json_of bytes)
-LeavesValue known Made old new (BadPatch e) = ForBytes known (λ bytes. new ≡ json_of bytes)
+LeavesValue known Made old new (BadPlace e) = ForInput known (λ bytes. new ≡ json_of bytes)
+LeavesValue known Made old new NotThere = ForInput known (λ bytes. new ≡ json_of bytes)
+LeavesValue known Made old new (BadPatch e) = ForInput known (λ bytes. new ≡ json_of bytes)
 LeavesValue known Made old new InputNotJson = new ≡ old
 LeavesValue known Made old new (Memory e) =
-    (new ≡ old) ⊎ ForBytes known (λ bytes. (new ≡ json_of bytes) ⊎ Made bytes)
+    (new ≡ old) ⊎ ForInput known (λ bytes. (new ≡ json_of bytes) ⊎ Made bytes)
 LeavesValue known Made old new Read = new ≡ old
 LeavesValue known Made old new Write = ⊤
 
@@ -297,7 +297,7 @@ LeavesValue known Made old new Write = ⊤
 -- `ForLine words known P`: the words ask for a request with a value, and `P` holds of its line.
 abbrev pub ForLine : List Text → Option (List ℕ) → (Text → Type 0) → Type 0
 ForLine words known P =
-    ForRequest words (λ request. ForBytes known (λ bytes. (value : Data) × (line : Text)
+    ForRequest words (λ request. ForInput known (λ bytes. (value : Data) × (line : Text)
     × Outcome request bytes (Ok value)
     × IsJsonLine value line
     × P line))

@@ -5,10 +5,10 @@ ghost use Rattle.jsonptr_command.specs.Faults.{of_assign_fault, of_in_text_error
 ghost use Rattle.jsonptr_command.specs.Run.{status_of};
 ghost use Rattle.jsonptr_command.specs.declared.fault.RunFault.TheVariants.{BadPointer, Memory, Write};
 
-use crate::input::InputFault;
-use crate::output::WriteFailed;
 use jsonptr::{Fault, ParseError, assign, resolve};
 use jsonptr_in_text::InTextError;
+use jsonptr_io::input::InputError;
+use jsonptr_io::write::WriteError;
 use jsonptr_patch::PatchError;
 use std::alloc::AllocError;
 use std::process::ExitCode;
@@ -154,21 +154,21 @@ impl From<Fault<PatchError>> for RunFault {
     }
 }
 
-impl From<InputFault> for RunFault {
+impl From<InputError> for RunFault {
     ghost from_gives = { λ error fault. fault ≡ of_input_fault error };
 
-    fn from(error: InputFault) -> RunFault {
+    fn from(error: InputError) -> RunFault {
         match error {
-            InputFault::Memory(error) => RunFault::Memory(error),
-            InputFault::Read => RunFault::Read,
+            InputError::Memory(error) => RunFault::Memory(error),
+            InputError::Read => RunFault::Read,
         }
     }
 }
 
-impl From<WriteFailed> for RunFault {
+impl From<WriteError> for RunFault {
     ghost from_gives = { λ _ fault. fault ≡ Write };
 
-    fn from(_error: WriteFailed) -> RunFault {
+    fn from(_error: WriteError) -> RunFault {
         RunFault::Write
     }
 }

@@ -5,12 +5,12 @@ ghost use Rattle.serde_json.specs.Data.{depth};
 ghost use Rattle.serde_json.specs.Read.{max_depth};
 ghost use Rattle.serde_json.specs.View.{view};
 ghost use Rattle.jsonptr_command.specs.JsonText.{json_of, IsJsonLine};
-ghost use Rattle.jsonptr_command.specs.Streams.{ForBytes};
+ghost use Rattle.jsonptr_io.specs.Streams.{ForInput};
 ghost use Rattle.jsonptr_command.specs.Faults.{IsInputFault, RefusesValue};
 ghost use Rattle.jsonptr_command.specs.Run.{IsPastInput};
 
 use crate::fault::RunFault;
-use crate::input::read_all;
+use jsonptr_io::input::read_all;
 use jsonptr_value::to_string;
 use serde_json::Value;
 use std::alloc::{AllocError, Global};
@@ -25,7 +25,7 @@ pub fn read_json(alloc: Global, bytes: &[u8]) -> Result<Option<Value>, AllocErro
     ensures value { IfOk result (λ v. json_of bytes.now ≡ option_map view v) }
     ensures depth { IfOk result (λ v. IfSome v (λ value. depth (view value) ≤ max_depth)) }
     // No bytes need no allocation.
-    ensures memory { OnErr result (bytes.now ≢ []) }
+    ensures no_memory { OnErr result (bytes.now ≢ []) }
 {
     match Value::from_slice(alloc, bytes) {
         Ok(value) => Ok(Some(value)),
@@ -41,8 +41,8 @@ pub fn read_json(alloc: Global, bytes: &[u8]) -> Result<Option<Value>, AllocErro
 /// [`RunFault::ValueNotJson`] if it is not a JSON text, and [`RunFault::Memory`] if an allocation
 /// fails.
 pub fn read_value(alloc: Global, text: &str) -> Result<Value, RunFault>
-    ensures ok { IfOk result (λ v. json_of text.now ≡ Some (view v)) }
-    ensures err { IfErr result (RefusesValue text.now) }
+    ensures value { IfOk result (λ v. json_of text.now ≡ Some (view v)) }
+    ensures refused { IfErr result (RefusesValue text.now) }
 {
     read_json(alloc, text.as_bytes())?.ok_or(RunFault::ValueNotJson)
 }
@@ -56,9 +56,9 @@ pub fn read_value(alloc: Global, text: &str) -> Result<Value, RunFault>
 /// [`RunFault::Memory`] if an allocation fails.
 pub fn read_json_input<R: Read>(alloc: Global, input: &mut R) -> Result<Value, RunFault>
     ensures value { IfOk result
-        (λ v. ForBytes (R.remaining input.old) (λ bytes. json_of bytes ≡ Some (view v))) }
+        (λ v. ForInput (R.remaining input.old) (λ bytes. json_of bytes ≡ Some (view v))) }
     ensures depth { IfOk result (λ v. depth (view v) ≤ max_depth) }
-    ensures err { IfErr result (IsInputFault (R.remaining input.old)) }
+    ensures refused { IfErr result (IsInputFault (R.remaining input.old)) }
     ensures at_end { IsPastInput result → IsAtEnd (R.remaining input.new) }
 {
     let bytes = read_all(alloc, input)?;
@@ -73,7 +73,7 @@ pub fn read_json_input<R: Read>(alloc: Global, input: &mut R) -> Result<Value, R
 pub fn json_line(alloc: Global, value: &Value) -> Result<String, AllocError>
     ensures { IfOk result (λ line. IsJsonLine (view value.now) (string_bytes line)) }
 {
-    let mut line = to_string(value, alloc)?;
+    let mut line = to_string(alloc, value)?;
     line.push('\n')?;
     Ok(line)
 }

@@ -43,10 +43,10 @@ pub enum Form<'w> {
 ///
 /// [`RunFault::Memory`] if an allocation fails.
 pub fn read_operations(alloc: Global, words: &[String]) -> Result<Vec<Operation>, RunFault>
-    ensures ok { IfOk result (λ patch. (forms : List specs.Form)
+    ensures meant { IfOk result (λ patch. (forms : List specs.Form)
         × (map string_bytes words.now ≡ words_of forms)
         × MeanAll forms (map meant patch.items)) }
-    ensures err { IfErr result (RefusesOperations (map string_bytes words.now)) }
+    ensures refused { IfErr result (RefusesOperations (map string_bytes words.now)) }
 {
     let forms = read_forms(alloc, words)?;
     check_pointers(&forms)?;
@@ -60,9 +60,9 @@ pub fn read_operations(alloc: Global, words: &[String]) -> Result<Vec<Operation>
 /// [`RunFault::Usage`] if the words are not operations, and [`RunFault::Memory`] if an allocation
 /// fails.
 fn read_forms(alloc: Global, words: &[String]) -> Result<Vec<Form<'_>>, RunFault>
-    ensures ok { IfOk result
+    ensures forms { IfOk result
         (λ forms. map string_bytes words.now ≡ words_of (map form_of forms.items)) }
-    ensures err { IfErr result
+    ensures refused { IfErr result
         (λ e. RefusesForms (map string_bytes words.now) e ⊎ (e ≡ Memory alloc_error)) }
 {
     let mut forms = Vec::new(alloc);
@@ -115,8 +115,8 @@ fn form_with_two<'w>(name: &str, first: &'w str, second: &'w str) -> Option<Form
 ///
 /// The error of the first one that is not valid.
 fn check_pointers(forms: &[Form<'_>]) -> Result<(), ParseError>
-    ensures ok { IfOk result (λ _. All IsPointer (pointers_of (map form_of forms.now))) }
-    ensures err { IfErr result (IsFirstFault (pointers_of (map form_of forms.now))) }
+    ensures pointers { IfOk result (λ _. All IsPointer (pointers_of (map form_of forms.now))) }
+    ensures refused { IfErr result (IsFirstFault (pointers_of (map form_of forms.now))) }
 {
     for form in forms {
         check_pointers_in(form)?;
@@ -126,8 +126,8 @@ fn check_pointers(forms: &[Form<'_>]) -> Result<(), ParseError>
 
 /// Checks the pointers of one operation, from left to right.
 fn check_pointers_in(form: &Form<'_>) -> Result<(), ParseError>
-    ensures ok { IfOk result (λ _. All IsPointer (form_pointers (form_of form.now))) }
-    ensures err { IfErr result (IsFirstFault (form_pointers (form_of form.now))) }
+    ensures pointers { IfOk result (λ _. All IsPointer (form_pointers (form_of form.now))) }
+    ensures refused { IfErr result (IsFirstFault (form_pointers (form_of form.now))) }
 {
     match form {
         Form::Add(pointer, _) => check_one(pointer),
@@ -141,8 +141,8 @@ fn check_pointers_in(form: &Form<'_>) -> Result<(), ParseError>
 
 /// Checks one pointer.
 fn check_one(pointer: &str) -> Result<(), ParseError>
-    ensures ok { IfOk result (λ _. All IsPointer (pointer.now ∷ [])) }
-    ensures err { IfErr result (IsFirstFault (pointer.now ∷ [])) }
+    ensures pointers { IfOk result (λ _. All IsPointer (pointer.now ∷ [])) }
+    ensures refused { IfErr result (IsFirstFault (pointer.now ∷ [])) }
 {
     Pointer::parse(pointer)?;
     Ok(())
@@ -150,8 +150,8 @@ fn check_one(pointer: &str) -> Result<(), ParseError>
 
 /// Checks two pointers, from left to right.
 fn check_two(from: &str, pointer: &str) -> Result<(), ParseError>
-    ensures ok { IfOk result (λ _. All IsPointer (from.now ∷ pointer.now ∷ [])) }
-    ensures err { IfErr result (IsFirstFault (from.now ∷ pointer.now ∷ [])) }
+    ensures pointers { IfOk result (λ _. All IsPointer (from.now ∷ pointer.now ∷ [])) }
+    ensures refused { IfErr result (IsFirstFault (from.now ∷ pointer.now ∷ [])) }
 {
     Pointer::parse(from)?;
     Pointer::parse(pointer)?;
@@ -170,9 +170,9 @@ fn check_two(from: &str, pointer: &str) -> Result<(), ParseError>
 /// allocation fails.
 fn mean(alloc: Global, forms: Vec<Form<'_>>) -> Result<Vec<Operation>, RunFault>
     requires { All IsPointer (pointers_of (map form_of forms.items)) }
-    ensures ok { IfOk result
+    ensures meant { IfOk result
         (λ patch. MeanAll (map form_of forms.entry.items) (map meant patch.items)) }
-    ensures err { IfErr result (λ e.
+    ensures refused { IfErr result (λ e.
         RefusesOneOf (values_of (map form_of forms.entry.items)) e ⊎ (e ≡ Memory alloc_error)) }
 {
     let mut patch = Vec::new(alloc);
@@ -186,8 +186,8 @@ fn mean(alloc: Global, forms: Vec<Form<'_>>) -> Result<Vec<Operation>, RunFault>
 /// Converts the words of one operation to the operation, as [`mean`] does.
 fn mean_one(alloc: Global, form: Form<'_>) -> Result<Operation, RunFault>
     requires { All IsPointer (form_pointers (form_of form)) }
-    ensures ok { IfOk result (λ operation. Means (form_of form.entry) (meant operation)) }
-    ensures err { IfErr result (λ e.
+    ensures meant { IfOk result (λ operation. Means (form_of form.entry) (meant operation)) }
+    ensures refused { IfErr result (λ e.
         RefusesOneOf (form_values (form_of form.entry)) e ⊎ (e ≡ Memory alloc_error)) }
 {
     Ok(match form {

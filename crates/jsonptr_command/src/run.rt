@@ -8,21 +8,21 @@ ghost use Rattle.jsonptr.specs.Index.{Reads};
 ghost use Rattle.jsonptr.specs.Types.Index.TheVariants.{Num};
 ghost use Rattle.jsonptr.specs.Pointer.{tokens};
 ghost use Rattle.jsonptr_command.specs.JsonText.{json_of, IsJsonLine};
-ghost use Rattle.jsonptr_command.specs.Streams.{AppendsFront, ForBytes};
+ghost use Rattle.jsonptr_io.specs.Streams.{AppendsPrefix, ForInput};
 ghost use Rattle.jsonptr_command.specs.declared.fault.RunFault.{RunFault};
 ghost use Rattle.jsonptr_command.specs.declared.fault.RunFault.TheVariants.{Memory};
 ghost use Rattle.jsonptr_command.specs.Private.{request_of, asked_by, Changes, ComesBeforeDocument, IsFaultOf, IsLineOf, RefusesCommand, RefusesPosition};
 ghost use Rattle.jsonptr_command.specs.Operations.{meant};
-ghost use Rattle.jsonptr_command.specs.Run.{AskFor, Asks, AssignsAt, DeletesAt, ForLine, ForRequest, HasValueOf, IsOperationFault, Outcome, IsPastInput, IsRefusedSo, IsRequestFault, IsWordsMemory, LeavesValue, NeedInput, NeedNoInput, NeedsInput, PatchesBy, Resolves, SplitsInTwo, resolving, texts_value};
+ghost use Rattle.jsonptr_command.specs.Run.{AskFor, Asks, AssignsAt, DeletesAt, ForLine, ForRequest, HasValueOf, IsOperationFault, Outcome, IsPastInput, IsRefusedSo, IsRequestFault, IsWordsMemory, LeavesValue, NeedInput, NeedNoInput, NeedsInput, PatchesOrFails, Resolves, SplitsInTwo, resolving, texts_value};
 
 use crate::fault::RunFault;
-use crate::input::read_all;
 use crate::json_text::{json_line, read_json_input, read_value};
 use crate::operations::read_operations;
-use crate::output::write_line;
 use jsonptr::Pointer;
 use jsonptr::index::Index;
 use jsonptr_in_text::resolve_in_slice;
+use jsonptr_io::input::read_all;
+use jsonptr_io::write::write_and_flush;
 use jsonptr_patch::{Operation, apply};
 use jsonptr_value::discard;
 use serde_json::Value;
@@ -88,13 +88,13 @@ pub fn run_program<R: Read, W: Write>(
     input: &mut R,
     output: &mut W,
 ) -> Result<(), RunFault>
-    ensures done { OnOk result (ForLine (map string_bytes words.now) (R.remaining input.old)
+    ensures line { OnOk result (ForLine (map string_bytes words.now) (R.remaining input.old)
         (Appends (W.contents output.old) (W.contents output.new))) }
     ensures refused { IfErr result
         (IsRefusedSo (map string_bytes words.now) (R.remaining input.old)) }
     ensures front { IsErrOf result RunFault.Write
         → ForLine (map string_bytes words.now) (R.remaining input.old)
-        (AppendsFront (W.contents output.old) (W.contents output.new)) }
+        (AppendsPrefix (W.contents output.old) (W.contents output.new)) }
     ensures unwritten { IfErr result (λ e. e ≢ RunFault.Write → output.new ≡ output.old) }
     ensures unread { NeedNoInput (map string_bytes words.now) → input.new ≡ input.old }
     ensures at_end { NeedInput (map string_bytes words.now)
@@ -130,13 +130,13 @@ pub fn run_program_into<R: Read, W: Write>(
     output: &mut W,
     value: &mut Option<Value>,
 ) -> Result<(), RunFault>
-    ensures done { OnOk result (ForLine (map string_bytes words.now) (R.remaining input.old)
+    ensures line { OnOk result (ForLine (map string_bytes words.now) (R.remaining input.old)
         (Appends (W.contents output.old) (W.contents output.new))) }
     ensures refused { IfErr result
         (IsRefusedSo (map string_bytes words.now) (R.remaining input.old)) }
     ensures front { IsErrOf result RunFault.Write
         → ForLine (map string_bytes words.now) (R.remaining input.old)
-        (AppendsFront (W.contents output.old) (W.contents output.new)) }
+        (AppendsPrefix (W.contents output.old) (W.contents output.new)) }
     ensures unwritten { IfErr result (λ e. e ≢ RunFault.Write → output.new ≡ output.old) }
     ensures unread { NeedNoInput (map string_bytes words.now) → input.new ≡ input.old }
     ensures at_end { NeedInput (map string_bytes words.now)
@@ -144,11 +144,11 @@ pub fn run_program_into<R: Read, W: Write>(
         → IsAtEnd (R.remaining input.new) }
     ensures value { NeedInput (map string_bytes words.now)
         → OnOk result (ForRequest (map string_bytes words.now)
-        (λ request. ForBytes (R.remaining input.old)
+        (λ request. ForInput (R.remaining input.old)
         (λ bytes. HasValueOf request bytes (option_map view value.new)))) }
     ensures written { IsErrOf result RunFault.Write
         → ForRequest (map string_bytes words.now)
-        (λ request. NeedsInput request → ForBytes (R.remaining input.old)
+        (λ request. NeedsInput request → ForInput (R.remaining input.old)
         (λ bytes. HasValueOf request bytes (option_map view value.new))) }
     ensures left { IfErr result (LeavesValue (R.remaining input.old)
         (λ bytes. ForRequest (map string_bytes words.now)
@@ -158,14 +158,14 @@ pub fn run_program_into<R: Read, W: Write>(
 {
     let request = read_request(alloc, words)?;
     let line = line_of(alloc, request, input, value)?;
-    write_line(output, line.as_bytes())?;
+    write_and_flush(output, line.as_bytes())?;
     Ok(())
 }
 
 /// Parses the words.
 fn read_request(alloc: Global, words: &[String]) -> Result<Request<'_>, RunFault>
-    ensures ok { IfOk result (λ r. Asks (map string_bytes words.now) (Ok (request_of r))) }
-    ensures err { IfErr result (λ e. Asks (map string_bytes words.now) (Err e)
+    ensures asked { IfOk result (λ r. Asks (map string_bytes words.now) (Ok (request_of r))) }
+    ensures refused { IfErr result (λ e. Asks (map string_bytes words.now) (Err e)
         ⊎ IsWordsMemory (map string_bytes words.now) e) }
 {
     let Some((command, rest)) = words.split_first() else {
@@ -186,9 +186,9 @@ fn read_command<'w>(
     command: &str,
     rest: &'w [String],
 ) -> Result<Request<'w>, RunFault>
-    ensures ok { IfOk result
+    ensures asked { IfOk result
         (λ r. AskFor (command.now ∷ map string_bytes rest.now) (request_of r)) }
-    ensures err { IfErr result (RefusesCommand (command.now ∷ map string_bytes rest.now)) }
+    ensures refused { IfErr result (RefusesCommand (command.now ∷ map string_bytes rest.now)) }
 {
     match rest {
         [pointer] => read_two(command, pointer.as_str()),
@@ -199,8 +199,8 @@ fn read_command<'w>(
 
 /// Parses the words of a command that takes only a pointer.
 fn read_two<'w>(command: &str, pointer: &'w str) -> Result<Request<'w>, RunFault>
-    ensures ok { IfOk result (λ r. AskFor (command.now ∷ pointer.now ∷ []) (request_of r)) }
-    ensures err { IfErr result (RefusesCommand (command.now ∷ pointer.now ∷ [])) }
+    ensures asked { IfOk result (λ r. AskFor (command.now ∷ pointer.now ∷ []) (request_of r)) }
+    ensures refused { IfErr result (RefusesCommand (command.now ∷ pointer.now ∷ [])) }
 {
     match command {
         "resolve" => Ok(Request::Resolve(Pointer::parse(pointer)?)),
@@ -217,9 +217,9 @@ fn read_three<'w>(
     pointer: &'w str,
     third: &str,
 ) -> Result<Request<'w>, RunFault>
-    ensures ok { IfOk result
+    ensures asked { IfOk result
         (λ r. AskFor (command.now ∷ pointer.now ∷ third.now ∷ []) (request_of r)) }
-    ensures err { IfErr result (RefusesCommand (command.now ∷ pointer.now ∷ third.now ∷ [])) }
+    ensures refused { IfErr result (RefusesCommand (command.now ∷ pointer.now ∷ third.now ∷ [])) }
 {
     match command {
         "assign" => {
@@ -237,8 +237,8 @@ fn read_three<'w>(
 
 /// Parses the position to split at, which must be a decimal number.
 fn read_position(word: &str) -> Result<usize, RunFault>
-    ensures ok { IfOk result (λ n. Reads word.now (Ok (Num n))) }
-    ensures err { IfErr result (RefusesPosition word.now) }
+    ensures position { IfOk result (λ n. Reads word.now (Ok (Num n))) }
+    ensures refused { IfErr result (RefusesPosition word.now) }
 {
     match word.parse() {
         Ok(Index::Num(position)) => Ok(position),
@@ -255,16 +255,16 @@ fn line_of<R: Read>(
     input: &mut R,
     value: &mut Option<Value>,
 ) -> Result<String, RunFault>
-    ensures ok { IfOk result (λ line. ForBytes (R.remaining input.old)
+    ensures line { IfOk result (λ line. ForInput (R.remaining input.old)
         (λ bytes. IsLineOf (Outcome (request_of request.entry) bytes) (string_bytes line))) }
-    ensures err { IfErr result
+    ensures refused { IfErr result
         (IsRequestFault (request_of request.entry) (R.remaining input.old)) }
     ensures unread { (NeedsInput (request_of request.entry) → ⊥) → input.new ≡ input.old }
     ensures at_end { NeedsInput (request_of request.entry)
         → IsPastInput result
         → IsAtEnd (R.remaining input.new) }
     ensures value { NeedsInput (request_of request.entry)
-        → OnOk result (ForBytes (R.remaining input.old)
+        → OnOk result (ForInput (R.remaining input.old)
         (λ bytes. HasValueOf (request_of request.entry) bytes (option_map view value.new))) }
     ensures left { IfErr result (LeavesValue (R.remaining input.old)
         (λ bytes. HasValueOf (request_of request.entry) bytes (option_map view value.new))
@@ -287,12 +287,12 @@ fn found_line<R: Read>(
     input: &mut R,
     value: &mut Option<Value>,
 ) -> Result<String, RunFault>
-    ensures ok { IfOk result (λ line. ForBytes (R.remaining input.old)
+    ensures line { IfOk result (λ line. ForInput (R.remaining input.old)
         (λ bytes. IsLineOf (Outcome (resolving (tokens pointer.entry)) bytes) (string_bytes line))) }
-    ensures err { IfErr result
+    ensures refused { IfErr result
         (IsRequestFault (resolving (tokens pointer.entry)) (R.remaining input.old)) }
     ensures at_end { IsPastInput result → IsAtEnd (R.remaining input.new) }
-    ensures value { OnOk result (ForBytes (R.remaining input.old)
+    ensures value { OnOk result (ForInput (R.remaining input.old)
         (λ bytes. HasValueOf (resolving (tokens pointer.entry)) bytes (option_map view value.new))) }
     ensures unchanged { OnErr result (value.new ≡ value.old) }
 {
@@ -308,9 +308,9 @@ fn line_in_bytes(
     pointer: Pointer<'_>,
     value: &mut Option<Value>,
 ) -> Result<String, RunFault>
-    ensures ok { IfOk result (λ line.
+    ensures line { IfOk result (λ line.
         IsLineOf (Outcome (resolving (tokens pointer.entry)) bytes.now) (string_bytes line)) }
-    ensures err { IfErr result (IsFaultOf (Outcome (resolving (tokens pointer.entry)) bytes.now)) }
+    ensures refused { IfErr result (IsFaultOf (Outcome (resolving (tokens pointer.entry)) bytes.now)) }
     ensures value { OnOk result
         (HasValueOf (resolving (tokens pointer.entry)) bytes.now (option_map view value.new)) }
     ensures unchanged { OnErr result (value.new ≡ value.old) }
@@ -329,17 +329,17 @@ fn document_line<R: Read>(
     input: &mut R,
     value: &mut Option<Value>,
 ) -> Result<String, RunFault>
-    ensures ok { IfOk result (λ line. ForBytes (R.remaining input.old)
+    ensures line { IfOk result (λ line. ForInput (R.remaining input.old)
         (λ bytes. IsLineOf (Outcome (asked_by change.entry) bytes) (string_bytes line))) }
-    ensures err { IfErr result (IsRequestFault (asked_by change.entry) (R.remaining input.old)) }
+    ensures refused { IfErr result (IsRequestFault (asked_by change.entry) (R.remaining input.old)) }
     ensures at_end { IsPastInput result → IsAtEnd (R.remaining input.new) }
-    ensures value { OnOk result (ForBytes (R.remaining input.old)
+    ensures value { OnOk result (ForInput (R.remaining input.old)
         (λ bytes. HasValueOf (asked_by change.entry) bytes (option_map view value.new))) }
-    ensures restored { IfErr result (λ e. IsOperationFault e → ForBytes (R.remaining input.old)
+    ensures restored { IfErr result (λ e. IsOperationFault e → ForInput (R.remaining input.old)
         (λ bytes. option_map view value.new ≡ json_of bytes)) }
     ensures unchanged { IfErr result (λ e. ComesBeforeDocument e → value.new ≡ value.old) }
-    ensures memory { IfErr result (λ e. e ≡ Memory alloc_error → (value.new ≡ value.old)
-        ⊎ ForBytes (R.remaining input.old)
+    ensures out_of_memory { IfErr result (λ e. e ≡ Memory alloc_error → (value.new ≡ value.old)
+        ⊎ ForInput (R.remaining input.old)
         (λ bytes. (option_map view value.new ≡ json_of bytes)
         ⊎ HasValueOf (asked_by change.entry) bytes (option_map view value.new))) }
 {
@@ -351,9 +351,9 @@ fn document_line<R: Read>(
 
 /// Changes the document, and returns its line.
 fn changed_line(alloc: Global, document: &mut Value, change: Change<'_>) -> Result<String, RunFault>
-    ensures ok { IfOk result
+    ensures line { IfOk result
         (λ line. IsLineOf (Changes change.entry (view document.old)) (string_bytes line)) }
-    ensures err { IfErr result (IsFaultOf (Changes change.entry (view document.old))) }
+    ensures refused { IfErr result (IsFaultOf (Changes change.entry (view document.old))) }
     ensures changed { OnOk result
         (Changes change.entry (view document.old) (Ok (view document.new))) }
     ensures either { (view document.new ≡ view document.old)
@@ -375,10 +375,10 @@ fn line_with(
     pointer: Pointer<'_>,
     value: Value,
 ) -> Result<String, RunFault>
-    ensures ok { IfOk result (λ line.
+    ensures line { IfOk result (λ line.
         IsLineOf (AssignsAt (view document.old) (tokens pointer.entry) (view value))
         (string_bytes line)) }
-    ensures err { IfErr result
+    ensures refused { IfErr result
         (IsFaultOf (AssignsAt (view document.old) (tokens pointer.entry) (view value))) }
     ensures changed { OnOk result
         (AssignsAt (view document.old) (tokens pointer.entry) (view value) (Ok (view document.new))) }
@@ -397,9 +397,9 @@ fn line_without(
     document: &mut Value,
     pointer: Pointer<'_>,
 ) -> Result<String, RunFault>
-    ensures ok { IfOk result (λ line.
+    ensures line { IfOk result (λ line.
         IsLineOf (DeletesAt (view document.old) (tokens pointer.entry)) (string_bytes line)) }
-    ensures err { IfErr result (IsFaultOf (DeletesAt (view document.old) (tokens pointer.entry))) }
+    ensures refused { IfErr result (IsFaultOf (DeletesAt (view document.old) (tokens pointer.entry))) }
     ensures changed { OnOk result
         (DeletesAt (view document.old) (tokens pointer.entry) (Ok (view document.new))) }
     ensures either { (view document.new ≡ view document.old)
@@ -419,14 +419,14 @@ fn line_after(
     document: &mut Value,
     patch: Vec<Operation>,
 ) -> Result<String, RunFault>
-    ensures ok { IfOk result (λ line.
-        IsLineOf (PatchesBy (view document.old) (map meant patch.items)) (string_bytes line)) }
-    ensures err { IfErr result
-        (IsFaultOf (PatchesBy (view document.old) (map meant patch.items))) }
+    ensures line { IfOk result (λ line.
+        IsLineOf (PatchesOrFails (view document.old) (map meant patch.items)) (string_bytes line)) }
+    ensures refused { IfErr result
+        (IsFaultOf (PatchesOrFails (view document.old) (map meant patch.items))) }
     ensures changed { OnOk result
-        (PatchesBy (view document.old) (map meant patch.items) (Ok (view document.new))) }
+        (PatchesOrFails (view document.old) (map meant patch.items) (Ok (view document.new))) }
     ensures either { (view document.new ≡ view document.old)
-        ⊎ PatchesBy (view document.old) (map meant patch.items) (Ok (view document.new)) }
+        ⊎ PatchesOrFails (view document.old) (map meant patch.items) (Ok (view document.new)) }
     ensures restored { IfErr result
         (λ e. IsOperationFault e → view document.new ≡ view document.old) }
 {
@@ -437,9 +437,9 @@ fn line_after(
 /// Returns the line of the two parts of the pointer's text, as a JSON array. The first part has
 /// `position` tokens.
 fn split_line(alloc: Global, pointer: Pointer<'_>, position: usize) -> Result<String, RunFault>
-    ensures ok { IfOk result
+    ensures line { IfOk result
         (λ line. IsLineOf (SplitsInTwo (tokens pointer.entry) position) (string_bytes line)) }
-    ensures err { IfErr result (IsFaultOf (SplitsInTwo (tokens pointer.entry) position)) }
+    ensures refused { IfErr result (IsFaultOf (SplitsInTwo (tokens pointer.entry) position)) }
 {
     let Some((front, rest)) = pointer.split_at(position) else {
         let count = pointer.count();

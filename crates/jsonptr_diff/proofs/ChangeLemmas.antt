@@ -2,8 +2,8 @@
 use Rattle.std.proofs.Common.{◌≡◌, ◌↔◌, Bool, false, Vec, Global, IsTrue, ℕ, ◌<◌, ◌+◌, List, [], ◌∷◌, ◌++◌, length, get_or, All, Option, Some, None, is_some, IsSome, inl, inr, Result, Ok, Err, IfOk, refl, sym, ap, ◌∙◌, subst, true≢false, append_assoc, append-nil, length-append, arith}
 use Rattle.std.proofs.lemmas.List.Elements.{All-append, All-nil}
 use Rattle.jsonptr.specs.Text.{Text}
-use Rattle.jsonptr_tree.specs.Node.{key, Path, Label, an_object, an_array, a_leaf, NodeMap, sub}
-use Rattle.jsonptr_tree.specs.Json.{nodes}
+use Rattle.jsonptr.specs.Node.{key, Path, Label, an_object, an_array, a_leaf, NodeMap, sub}
+use Rattle.jsonptr.specs.Json.{nodes}
 use Rattle.jsonptr_document.proofs.JsonLevel.{leaf_of}
 use Rattle.serde_json.specs.Data as json
 use Rattle.serde_json.specs.Data.{Data}
@@ -14,7 +14,7 @@ use Rattle.jsonptr_patch.specs.PrivateTesting.{Object as Object'}
 use Rattle.jsonptr_patch.proofs.TestingLemmas.{object_label, array_label}
 use Rattle.jsonptr_patch.specs.declared.operation.Operation.{Operation}
 use Rattle.jsonptr_patch.specs.declared.operation.Operation.TheVariants.{Add, Remove, Replace, Move, Copy, Test}
-use Rattle.jsonptr_diff.specs.Differing.{keys, DifferAlong, AreOfOneKind, GoesThrough, IsChange}
+use Rattle.jsonptr_diff.specs.Differing.{keys, DifferAlong, AreOfOneKind, GoesThroughBoth, IsChange}
 use Rattle.jsonptr_diff.specs.PrivateDiff.{AppendsReplace, AppendsRemove, AppendsAdd, Appends, IsChangeBelow, AppendsChanges, IsPartBelow, AppendsParts, IsArray}
 use Rattle.jsonptr_diff.specs.PrivateSame.{IsSame}
 use Rattle.jsonptr_diff.proofs.SameLemmas.{twin_same, twin_made}
@@ -91,7 +91,7 @@ differ_under c d v w k ts first second there h = by_front
 -- ---- containers on the way
 
 -- no value is on the way to the root
-through_none : (c d : NodeMap) → GoesThrough c d []
+through_none : (c d : NodeMap) → GoesThroughBoth c d []
 through_none c d = by_front
   where
     by_front : (front : List Text) (x : Text) (rest : List Text) → [] ≡ front ++ x ∷ rest → IsSome (c (keys front)) → AreOfOneKind (c (keys front)) (d (keys front))
@@ -99,7 +99,7 @@ through_none c d = by_front
     by_front (y ∷ ys) x rest is some = let bad : ⊥ = cc in absurd bad
 
 -- the root is on the way to a child, and then what is on the way from the child on
-through_under : (c d v w : NodeMap) (k : Text) (ts : List Text) → sub c (key k ∷ []) ≡ v → sub d (key k ∷ []) ≡ w → AreOfOneKind (c []) (d []) → GoesThrough v w ts → GoesThrough c d (k ∷ ts)
+through_under : (c d v w : NodeMap) (k : Text) (ts : List Text) → sub c (key k ∷ []) ≡ v → sub d (key k ∷ []) ≡ w → AreOfOneKind (c []) (d []) → GoesThroughBoth v w ts → GoesThroughBoth c d (k ∷ ts)
 through_under c d v w k ts first second both h = by_front
   where
     by_front : (front : List Text) (x : Text) (rest : List Text) → k ∷ ts ≡ front ++ x ∷ rest → IsSome (c (keys front)) → AreOfOneKind (c (keys front)) (d (keys front))
@@ -113,7 +113,7 @@ through_under c d v w k ts first second both h = by_front
         subst (λ (t : Text). AreOfOneKind (c (key t ∷ keys ys)) (d (key t ∷ keys ys))) same.0 two
 
 -- the root alone is on the way, if nothing of the first is under a key
-through_inside : (c d : NodeMap) (x : Text) (rest : List Text) → ((y : Text) (front : List Text) → x ∷ rest ≡ y ∷ front → (ys : List Text) (z : Text) (more : List Text) → front ≡ ys ++ z ∷ more → IsSome (c (key y ∷ keys ys)) → ⊥) → AreOfOneKind (c []) (d []) → GoesThrough c d (x ∷ rest)
+through_inside : (c d : NodeMap) (x : Text) (rest : List Text) → ((y : Text) (front : List Text) → x ∷ rest ≡ y ∷ front → (ys : List Text) (z : Text) (more : List Text) → front ≡ ys ++ z ∷ more → IsSome (c (key y ∷ keys ys)) → ⊥) → AreOfOneKind (c []) (d []) → GoesThroughBoth c d (x ∷ rest)
 through_inside c d x rest none both = by_front
   where
     by_front : (front : List Text) (z : Text) (more : List Text) → x ∷ rest ≡ front ++ z ∷ more → IsSome (c (keys front)) → AreOfOneKind (c (keys front)) (d (keys front))
@@ -121,7 +121,7 @@ through_inside c d x rest none both = by_front
     by_front (y ∷ ys) z more is some = absurd (none y (ys ++ z ∷ more) is ys z more refl some)
 
 -- the root alone is on the way to a member
-through_one : (c d : NodeMap) (k : Text) → AreOfOneKind (c []) (d []) → GoesThrough c d (k ∷ [])
+through_one : (c d : NodeMap) (k : Text) → AreOfOneKind (c []) (d []) → GoesThroughBoth c d (k ∷ [])
 through_one c d k = through_inside c d k [] (λ y front is ys z more split some. no_more y front is ys z more split)
   where
     no_more : (y : Text) (front : List Text) → k ∷ [] ≡ y ∷ front → (ys : List Text) (z : Text) (more : List Text) → front ≡ ys ++ z ∷ more → ⊥
@@ -219,7 +219,7 @@ differ_inside c d x rest none apart = by_front
     by_front [] more is some same = apart same
     by_front (y ∷ ys) more is some same = some_none (c (key y ∷ keys ys)) some (none y (keys ys))
 
-through_array : (c d : NodeMap) (x : Text) (rest : List Text) → ((k : Text) (p : Path) → c (key k ∷ p) ≡ None) → AreOfOneKind (c []) (d []) → GoesThrough c d (x ∷ rest)
+through_array : (c d : NodeMap) (x : Text) (rest : List Text) → ((k : Text) (p : Path) → c (key k ∷ p) ≡ None) → AreOfOneKind (c []) (d []) → GoesThroughBoth c d (x ∷ rest)
 through_array c d x rest none both = through_inside c d x rest (λ y front is ys z more split some. some_none (c (key y ∷ keys ys)) some (none y (keys ys))) both
 
 part_change : (base : List Text) (c d : NodeMap) → AreOfOneKind (c []) (d []) → ((k : Text) (p : Path) → c (key k ∷ p) ≡ None) → ((k : Text) (p : Path) → d (key k ∷ p) ≡ None) → (c ≡ d → ⊥) → (o : Operation) → IsPartBelow base o → IsChangeBelow base c d o

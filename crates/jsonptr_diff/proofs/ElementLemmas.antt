@@ -9,10 +9,10 @@ use Rattle.serde_json.specs.Find.{as_array}
 use Rattle.serde_json.specs.View.{view, items_view}
 use Rattle.serde_json.specs.declared.value.Value.{Value, Null, Array}
 use Rattle.jsonptr.specs.Text.{Text, dec}
-use Rattle.jsonptr_tree.specs.Node.{Step, key, place, Path, Label, an_array, NodeMap, sub, NamesStep}
-use Rattle.jsonptr_tree.specs.Put.{same_step, put}
-use Rattle.jsonptr_tree.specs.Json.{nodes, HasSortedKeys}
-use Rattle.jsonptr_tree.specs.Removing.{one_less, without_place}
+use Rattle.jsonptr.specs.Node.{Step, key, place, Path, Label, an_array, NodeMap, sub, NamesStep}
+use Rattle.jsonptr.specs.Put.{same_step, put}
+use Rattle.jsonptr.specs.Json.{nodes, HasSortedKeys}
+use Rattle.jsonptr.specs.Removing.{one_less, without_place}
 use Rattle.jsonptr_tree.proofs.JsonLemmas.{content_of, content_one, array_is, ascends_part}
 use Rattle.jsonptr_tree.proofs.LevelLemmas.{content_at-Array}
 use Rattle.jsonptr_tree.proofs.PutLemmas.{cases_same, same_by_step, sub-put, put-other_step}

@@ -9,9 +9,9 @@ use Rattle.serde_json.specs.View.{view, members_view}
 use Rattle.serde_json.specs.declared.value.Value.{Value, Object}
 use Rattle.serde_json.proofs.Views.{Entry}
 use Rattle.jsonptr.specs.Text.{Text}
-use Rattle.jsonptr_tree.specs.Node.{key, Label, an_object, NodeMap, sub, NamesStep}
-use Rattle.jsonptr_tree.specs.Put.{put}
-use Rattle.jsonptr_tree.specs.Json.{nodes, HasSortedKeys}
+use Rattle.jsonptr.specs.Node.{key, Label, an_object, NodeMap, sub, NamesStep}
+use Rattle.jsonptr.specs.Put.{put}
+use Rattle.jsonptr.specs.Json.{nodes, HasSortedKeys}
 use Rattle.jsonptr_tree.proofs.JsonLemmas.{content_of, content_one, object_is, ascends_part}
 use Rattle.jsonptr_tree.proofs.LevelLemmas.{content_at-Object}
 use Rattle.jsonptr_document.proofs.JsonLevel.{object_at}

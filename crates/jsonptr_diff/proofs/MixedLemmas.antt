@@ -13,10 +13,10 @@ use Rattle.serde_json.specs.View.{view}
 use Rattle.serde_json.specs.declared.value.Value.{Value}
 use Rattle.serde_json.proofs.Views.{Entry}
 use Rattle.jsonptr.specs.Text.{Text}
-use Rattle.jsonptr_tree.specs.Node.{key, place, Path, Label, NodeMap, sub}
-use Rattle.jsonptr_tree.specs.Put.{same_step, label_or, put}
-use Rattle.jsonptr_tree.specs.Removing.{without_key}
-use Rattle.jsonptr_tree.specs.Json.{nodes}
+use Rattle.jsonptr.specs.Node.{key, place, Path, Label, NodeMap, sub}
+use Rattle.jsonptr.specs.Put.{same_step, label_or, put}
+use Rattle.jsonptr.specs.Removing.{without_key}
+use Rattle.jsonptr.specs.Json.{nodes}
 use Rattle.jsonptr_patch.specs.PrivateTesting as tested
 use Rattle.jsonptr_patch.proofs.TestingLemmas.{below_middle, found_middle, found_under, label_in, member_label, object_label, no_place_label}
 use Rattle.jsonptr_diff.specs.PrivateDiff.{object_map, pick, mixed}

@@ -14,9 +14,9 @@ use Rattle.serde_json.specs.Find.{as_null, as_bool, as_number, as_str, as_array,
 use Rattle.serde_json.specs.View.{view, items_view, members_view}
 use Rattle.serde_json.specs.declared.value.Value.{Value, Null, Array, Object}
 use Rattle.serde_json.proofs.Views.{Entry}
-use Rattle.jsonptr_tree.specs.Node.{key, place, Path, Scalar, of_json, Label, an_object, an_array, a_leaf, NodeMap}
-use Rattle.jsonptr_tree.specs.Content.{Content, scalar, map_of}
-use Rattle.jsonptr_tree.specs.Json.{content, nodes}
+use Rattle.jsonptr.specs.Node.{key, place, Path, Scalar, of_json, Label, an_object, an_array, a_leaf, NodeMap}
+use Rattle.jsonptr.specs.Content.{Content, scalar, map_of}
+use Rattle.jsonptr.specs.Json.{content, nodes}
 use Rattle.jsonptr_tree.proofs.JsonLemmas.{content_of, content_one}
 use Rattle.jsonptr_document.proofs.JsonLevel.{array_at, object_at}
 use Rattle.jsonptr_patch.specs.PrivateTesting as tested

@@ -4,10 +4,10 @@ use Rattle.std.proofs.lemmas.List.Elements.{All-append, All-nil}
 use Rattle.serde_json.specs.Data.{Data, null}
 use Rattle.serde_json.specs.View.{view}
 use Rattle.jsonptr.specs.Text.{Text, dec}
-use Rattle.jsonptr_tree.specs.Node.{Step, key, place, Path, Label, an_object, an_array, NodeMap, sub, NamesStep, Names}
-use Rattle.jsonptr_tree.specs.Put.{put}
-use Rattle.jsonptr_tree.specs.Json.{nodes, HasSortedKeys}
-use Rattle.jsonptr_tree.specs.Removing.{without_key, without_place, without_step, Deletes}
+use Rattle.jsonptr.specs.Node.{Step, key, place, Path, Label, an_object, an_array, NodeMap, sub, NamesStep, Names}
+use Rattle.jsonptr.specs.Put.{put}
+use Rattle.jsonptr.specs.Json.{nodes, HasSortedKeys}
+use Rattle.jsonptr.specs.Removing.{without_key, without_place, without_step, Deletes}
 use Rattle.jsonptr_tree.proofs.NodeLemmas.{sub-root, Names-push, sub-push}
 use Rattle.jsonptr_tree.proofs.PutLemmas.{put-sub, put-put, sub-put, put_below, Names-put}
 use Rattle.jsonptr_tree.proofs.RemovingLemmas.{Deletes_child}

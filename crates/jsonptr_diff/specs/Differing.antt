@@ -22,10 +22,10 @@ AreOfOneKind k l =
     ((k ≡ Some an_object) × (l ≡ Some an_object))
     ⊎ ((i j : ℕ) × (k ≡ Some (an_array i)) × (l ≡ Some (an_array j)))
 
--- `GoesThrough n m ts`: each value of `n` that a proper prefix of the tokens `ts` leads to through objects is an object in
+-- `GoesThroughBoth n m ts`: each value of `n` that a proper prefix of the tokens `ts` leads to through objects is an object in
 -- both maps, or an array in both
-abbrev pub GoesThrough : NodeMap → NodeMap → List Text → Type 0
-GoesThrough n m ts =
+abbrev pub GoesThroughBoth : NodeMap → NodeMap → List Text → Type 0
+GoesThroughBoth n m ts =
     (front : List Text) (x : Text) (rest : List Text) → ts ≡ front ++ x ∷ rest → IsSome (n (keys front))
     → AreOfOneKind (n (keys front)) (m (keys front))
 
@@ -33,17 +33,17 @@ GoesThrough n m ts =
 -- maps `n` and `m`, and is an object or an array in both. What it adds is no member of an object of `n`, and what it removes
 -- none of one of `m`. What it replaces is not an object in both, and not an array in both
 abbrev pub IsChange : NodeMap → NodeMap → Operation → Type 0
-IsChange n m (Add path value) = DifferAlong n m path × (n (keys path) ≡ None) × GoesThrough n m path
-IsChange n m (Remove path) = DifferAlong n m path × (m (keys path) ≡ None) × GoesThrough n m path
+IsChange n m (Add path value) = DifferAlong n m path × (n (keys path) ≡ None) × GoesThroughBoth n m path
+IsChange n m (Remove path) = DifferAlong n m path × (m (keys path) ≡ None) × GoesThroughBoth n m path
 IsChange n m (Replace path value) =
-    DifferAlong n m path × (AreOfOneKind (n (keys path)) (m (keys path)) → ⊥) × GoesThrough n m path
+    DifferAlong n m path × (AreOfOneKind (n (keys path)) (m (keys path)) → ⊥) × GoesThroughBoth n m path
 IsChange n m o = ⊥
 
--- `path_of o`: the tokens of the pointer of the operation `o`
-abbrev pub path_of : Operation → List Text
-path_of (Add path value) = path
-path_of (Remove path) = path
-path_of (Replace path value) = path
-path_of (Move from path) = path
-path_of (Copy from path) = path
-path_of (Test path value) = path
+-- `operation_path o`: the tokens of the pointer of the operation `o`
+abbrev pub operation_path : Operation → List Text
+operation_path (Add path value) = path
+operation_path (Remove path) = path
+operation_path (Replace path value) = path
+operation_path (Move from path) = path
+operation_path (Copy from path) = path
+operation_path (Test path value) = path

@@ -10,10 +10,10 @@ ghost use Rattle.jsonptr_diff.specs.Differing.{AreOfOneKind, IsChange};
 ghost use Rattle.jsonptr_diff.specs.PrivateDiff.{tokens_of, Turns, AppendsChanges, AppendsParts, object_map, mixed, array_map, Splices};
 ghost use Rattle.jsonptr_diff.specs.PrivateSame.{AreSameFrom};
 
-use crate::align::{Gap, next_gap};
-use crate::elements::{add_elements, remove_elements};
+use crate::align::next_gap;
+use crate::elements::{Span, add_elements, remove_elements};
 use crate::laws::difference_law;
-use crate::location::Location;
+use crate::location::Way;
 use crate::members::add_members;
 use crate::same::{is_same, is_small_same, same_suffix};
 use crate::write::{remove, replace};
@@ -83,7 +83,7 @@ pub fn diff(alloc: Global, old: &Value, new: &Value) -> Result<Vec<Operation>, A
     if is_same(old, new) {
         return Ok(patch);
     }
-    diff_at(alloc, old, new, &Location::Root, &mut patch)?;
+    diff_at(alloc, old, new, &Way::Root, &mut patch)?;
     Ok(patch)
 }
 
@@ -133,7 +133,7 @@ fn diff_at(
     alloc: Global,
     old: &Value,
     new: &Value,
-    at: &Location<'_>,
+    at: &Way<'_>,
     patch: &mut Vec<Operation>,
 ) -> Result<(), AllocError>
     ensures turns { IfOk result (λ _. Turns (view new.now) patch.old.items patch.new.items
@@ -164,7 +164,7 @@ fn diff_members(
     alloc: Global,
     old: &Map<String, Value>,
     new: &Map<String, Value>,
-    at: &Location<'_>,
+    at: &Way<'_>,
     patch: &mut Vec<Operation>,
 ) -> Result<(), AllocError>
     ensures turns { IfOk result (λ _. Turns (view (an_object new.now))
@@ -187,7 +187,7 @@ fn follow_members<'a>(
     alloc: Global,
     old: &'a Map<String, Value>,
     new: &Map<String, Value>,
-    at: &'a Location<'a>,
+    at: &'a Way<'a>,
     patch: &mut Vec<Operation>,
 ) -> Result<(), AllocError>
     ensures turns { IfOk result (λ _. Turns (view (an_object new.now))
@@ -197,7 +197,7 @@ fn follow_members<'a>(
         (object_map old.now) (object_map new.now) patch.old.items patch.new.items) }
 {
     for (key, member) in old.iter() {
-        let below = Location::Member(at, key.as_str());
+        let below = Way::Member(at, key.as_str());
         match new.get(key.as_str()) {
             Some(other) => diff_at(alloc, member, other, &below, patch)?,
             None => remove(alloc, &below, patch)?,
@@ -216,7 +216,7 @@ fn diff_elements(
     alloc: Global,
     old: &Vec<Value>,
     new: &Vec<Value>,
-    at: &Location<'_>,
+    at: &Way<'_>,
     patch: &mut Vec<Operation>,
 ) -> Result<(), AllocError>
     ensures turns { IfOk result (λ _. Turns (view (an_array new.now))
@@ -234,22 +234,57 @@ fn diff_elements(
             to += 1;
         } else {
             let gap = next_gap(&old[from..old_end], &new[to..new_end]);
-            diff_gap(alloc, old, new, Start { from, to }, gap, at, patch)?;
+            let stretch = Stretch {
+                from,
+                removed: gap.removed,
+                new,
+                to,
+                added: gap.added,
+            };
+            diff_gap(alloc, old, stretch, at, patch)?;
             from += gap.removed;
             to += gap.added;
         }
     }
     remove_elements(alloc, to, old_end - from, at, patch)?;
-    add_elements(alloc, new, to, new_end, at, patch)
+    add_elements(
+        alloc,
+        new,
+        Span {
+            from: to,
+            to: new_end,
+        },
+        at,
+        patch,
+    )
 }
 
-/// The indices at which a gap begins.
+/// Elements of an array, and those of a new one that come instead of them.
 #[derive(Clone, Copy)]
-struct Start {
-    /// The index in the old array.
+struct Stretch<'a> {
+    /// The index of the first element.
     from: usize,
-    /// The index in the new array.
+    /// The number of elements.
+    removed: usize,
+    /// The new array.
+    new: &'a Vec<Value>,
+    /// The index of the first new element.
     to: usize,
+    /// The number of new elements.
+    added: usize,
+}
+
+/// Elements of an array, and as many of a new one, side by side.
+#[derive(Clone, Copy)]
+struct Pairs<'a> {
+    /// The index of the first element.
+    from: usize,
+    /// The new array.
+    new: &'a Vec<Value>,
+    /// The index of the first new element.
+    to: usize,
+    /// The number of elements.
+    count: usize,
 }
 
 /// Appends the operations that turn the elements of `old` in the gap into those of `new`. The array
@@ -262,25 +297,23 @@ struct Start {
 fn diff_gap(
     alloc: Global,
     old: &Vec<Value>,
-    new: &Vec<Value>,
-    start: Start,
-    gap: Gap,
-    at: &Location<'_>,
+    gap: Stretch<'_>,
+    at: &Way<'_>,
     patch: &mut Vec<Operation>,
 ) -> Result<(), AllocError>
-    requires old { start.from + gap.removed ≤ length old.now.items }
-    requires new { start.to + gap.added ≤ length new.now.items }
+    requires old { gap.from + gap.removed ≤ length old.now.items }
+    requires new { gap.to + gap.added ≤ length gap.new.now.items }
     ensures splices { IfOk result (λ _. (first : List an_operation) (left : ℕ)
-        → start.from + (gap.removed + left) ≡ length old.now.items
-        → Splices (view (an_array new.now)) first patch.old.items (tokens_of at.now)
-        (array_map old.now) (array_map new.now) start.to start.from (gap.removed + left)
-        → Splices (view (an_array new.now)) first patch.new.items (tokens_of at.now)
-        (array_map old.now) (array_map new.now)
-        (start.to + gap.added) (start.from + gap.removed) left) }
+        → gap.entry.from + (gap.entry.removed + left) ≡ length old.now.items
+        → Splices (view (an_array gap.entry.new.now)) first patch.old.items (tokens_of at.now)
+        (array_map old.now) (array_map gap.entry.new.now) gap.entry.to gap.entry.from (gap.entry.removed + left)
+        → Splices (view (an_array gap.entry.new.now)) first patch.new.items (tokens_of at.now)
+        (array_map old.now) (array_map gap.entry.new.now)
+        (gap.entry.to + gap.entry.added) (gap.entry.from + gap.entry.removed) left) }
     ensures parts { IfOk result (λ _.
         AppendsParts (tokens_of at.now) patch.old.items patch.new.items) }
-    ensures kept { IfOk result (λ _. gap.removed ≡ gap.added
-        → AreSameFrom old.now.items start.from new.now.items start.to gap.removed
+    ensures kept { IfOk result (λ _. gap.entry.removed ≡ gap.entry.added
+        → AreSameFrom old.now.items gap.entry.from gap.entry.new.now.items gap.entry.to gap.entry.removed
         → patch.new.items ≡ patch.old.items) }
 {
     let both = if gap.removed < gap.added {
@@ -288,13 +321,28 @@ fn diff_gap(
     } else {
         gap.added
     };
-    follow_elements(alloc, old, new, start, both, at, patch)?;
-    let to = start.to + both;
+    let pairs = Pairs {
+        from: gap.from,
+        new: gap.new,
+        to: gap.to,
+        count: both,
+    };
+    follow_elements(alloc, old, pairs, at, patch)?;
+    let to = gap.to + both;
     remove_elements(alloc, to, gap.removed - both, at, patch)?;
-    add_elements(alloc, new, to, start.to + gap.added, at, patch)
+    add_elements(
+        alloc,
+        gap.new,
+        Span {
+            from: to,
+            to: gap.to + gap.added,
+        },
+        at,
+        patch,
+    )
 }
 
-/// Appends the operations that turn `count` elements of `old` into those of `new`, one by one. The
+/// Appends the operations that turn the elements of `old` in the pairs into those of `new`, one by one. The
 /// array at the location has the elements of `new` before them, and those of `old` from there on.
 ///
 /// # Errors
@@ -304,33 +352,31 @@ fn diff_gap(
 fn follow_elements(
     alloc: Global,
     old: &Vec<Value>,
-    new: &Vec<Value>,
-    start: Start,
-    count: usize,
-    at: &Location<'_>,
+    pairs: Pairs<'_>,
+    at: &Way<'_>,
     patch: &mut Vec<Operation>,
 ) -> Result<(), AllocError>
-    requires old { start.from + count ≤ length old.now.items }
-    requires new { start.to + count ≤ length new.now.items }
+    requires old { pairs.from + pairs.count ≤ length old.now.items }
+    requires new { pairs.to + pairs.count ≤ length pairs.new.now.items }
     ensures splices { IfOk result (λ _. (first : List an_operation) (left : ℕ)
-        → start.from + (count + left) ≡ length old.now.items
-        → Splices (view (an_array new.now)) first patch.old.items (tokens_of at.now)
-        (array_map old.now) (array_map new.now) start.to start.from (count + left)
-        → Splices (view (an_array new.now)) first patch.new.items (tokens_of at.now)
-        (array_map old.now) (array_map new.now) (start.to + count) (start.from + count) left) }
+        → pairs.entry.from + (pairs.entry.count + left) ≡ length old.now.items
+        → Splices (view (an_array pairs.entry.new.now)) first patch.old.items (tokens_of at.now)
+        (array_map old.now) (array_map pairs.entry.new.now) pairs.entry.to pairs.entry.from (pairs.entry.count + left)
+        → Splices (view (an_array pairs.entry.new.now)) first patch.new.items (tokens_of at.now)
+        (array_map old.now) (array_map pairs.entry.new.now) (pairs.entry.to + pairs.entry.count) (pairs.entry.from + pairs.entry.count) left) }
     ensures parts { IfOk result (λ _.
         AppendsParts (tokens_of at.now) patch.old.items patch.new.items) }
     ensures kept { IfOk result (λ _.
-        AreSameFrom old.now.items start.from new.now.items start.to count
+        AreSameFrom old.now.items pairs.entry.from pairs.entry.new.now.items pairs.entry.to pairs.entry.count
         → patch.new.items ≡ patch.old.items) }
 {
-    for done in 0..count {
-        let (from, to) = (start.from + done, start.to + done);
+    for done in 0..pairs.count {
+        let (from, to) = (pairs.from + done, pairs.to + done);
         diff_at(
             alloc,
             &old[from],
-            &new[to],
-            &Location::Element(&*at, to),
+            &pairs.new[to],
+            &Way::Element(&*at, to),
             patch,
         )?;
     }
@@ -346,7 +392,7 @@ fn replace_other(
     alloc: Global,
     value: &Value,
     new: &Value,
-    at: &Location<'_>,
+    at: &Way<'_>,
     patch: &mut Vec<Operation>,
 ) -> Result<(), AllocError>
     ensures turns { IfOk result (λ _. Turns (view new.now) patch.old.items patch.new.items

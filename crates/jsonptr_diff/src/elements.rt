@@ -7,7 +7,7 @@ ghost use Rattle.jsonptr.specs.Node.{NodeMap};
 ghost use Rattle.jsonptr_patch.specs.declared.operation.Operation.{Operation as an_operation};
 ghost use Rattle.jsonptr_diff.specs.PrivateDiff.{tokens_of, AppendsParts, IsArray, Splices, array_map};
 
-use crate::location::Location;
+use crate::location::Way;
 use crate::write::{add, remove};
 use jsonptr_patch::Operation;
 use serde_json::Value;
@@ -22,7 +22,7 @@ pub fn remove_elements(
     alloc: Global,
     index: usize,
     count: usize,
-    at: &Location<'_>,
+    at: &Way<'_>,
     patch: &mut Vec<Operation>,
 ) -> Result<(), AllocError>
     ensures splices { IfOk result (λ _.
@@ -32,16 +32,25 @@ pub fn remove_elements(
         → Splices goal first patch.new.items (tokens_of at.now) c d index (k + count) left) }
     ensures parts { IfOk result (λ _.
         AppendsParts (tokens_of at.now) patch.old.items patch.new.items) }
-    ensures kept { IfOk result (λ _. count ≡ 0 → patch.new.items ≡ patch.old.items) }
+    ensures unchanged { IfOk result (λ _. count ≡ 0 → patch.new.items ≡ patch.old.items) }
 {
     for _done in 0..count {
-        remove(alloc, &Location::Element(&*at, index), patch)?;
+        remove(alloc, &Way::Element(&*at, index), patch)?;
     }
     Ok(())
 }
 
-/// Appends the operations that insert the elements of `new` from index `from` up to `to` into the
-/// array at the location, at their indices.
+/// A part of an array.
+#[derive(Clone, Copy)]
+pub struct Span {
+    /// The index of its first element.
+    pub from: usize,
+    /// The index after its last element.
+    pub to: usize,
+}
+
+/// Appends the operations that insert the elements of `new` in the span into the array at the location,
+/// at their indices.
 ///
 /// # Errors
 ///
@@ -49,24 +58,23 @@ pub fn remove_elements(
 pub fn add_elements(
     alloc: Global,
     new: &Vec<Value>,
-    from: usize,
-    to: usize,
-    at: &Location<'_>,
+    span: Span,
+    at: &Way<'_>,
     patch: &mut Vec<Operation>,
 ) -> Result<(), AllocError>
-    requires order { from ≤ to }
-    requires within { to ≤ length new.now.items }
+    requires order { span.from ≤ span.to }
+    requires within { span.to ≤ length new.now.items }
     ensures splices { IfOk result (λ _. (first : List an_operation) (c : NodeMap) (k left : ℕ)
         → Splices (view (an_array new.now)) first patch.old.items (tokens_of at.now)
-        c (array_map new.now) from k left
+        c (array_map new.now) span.from k left
         → Splices (view (an_array new.now)) first patch.new.items (tokens_of at.now)
-        c (array_map new.now) to k left) }
+        c (array_map new.now) span.to k left) }
     ensures parts { IfOk result (λ _.
         AppendsParts (tokens_of at.now) patch.old.items patch.new.items) }
-    ensures kept { IfOk result (λ _. from ≡ to → patch.new.items ≡ patch.old.items) }
+    ensures unchanged { IfOk result (λ _. span.from ≡ span.to → patch.new.items ≡ patch.old.items) }
 {
-    for index in from..to {
-        add(alloc, &new[index], &Location::Element(&*at, index), patch)?;
+    for index in span.from..span.to {
+        add(alloc, &new[index], &Way::Element(&*at, index), patch)?;
     }
     Ok(())
 }

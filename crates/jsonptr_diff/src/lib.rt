@@ -15,6 +15,7 @@
 //!
 //! - [`diff`] returns the operations that turn one document into another.
 //! - [`change`] turns a document into another one by these operations.
+//! - [`are_same`] returns whether there is no difference.
 //! - [`laws`] states what applying such a patch does.
 //!
 //! Two floats are the same if they have the same bits. So `0.0` and `-0.0` differ, and so do `1` and
@@ -32,3 +33,4 @@ mod same;
 mod write;
 
 pub use difference::{change, diff};
+pub use same::are_same;

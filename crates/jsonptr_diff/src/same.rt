@@ -1,10 +1,31 @@
 //! Whether two values are the same, floats by their bits.
-ghost use Rattle.std.specs.Prelude.{◌↔◌, IsTrue};
+ghost use Rattle.std.specs.Prelude.{◌≡◌, ◌↔◌, IsTrue};
+ghost use Rattle.serde_json.specs.View.{view};
+ghost use Rattle.jsonptr.specs.Json.{nodes};
 ghost use Rattle.jsonptr_diff.specs.PrivateSame.{IsSame, SameElements, SameMembers, SameSuffix};
 
 use crate::likeness::is_small;
 use jsonptr_value::is_same_number;
 use serde_json::{Map, Value};
+
+/// Returns whether two documents are the same, so that [`diff`](crate::diff) makes no operation: `1` and
+/// `1.0` differ, and so do `0.0` and `-0.0`.
+///
+/// Takes time linear in the documents, and no memory. The stack is in proportion to their depth.
+///
+/// # Examples
+///
+/// ```rust
+/// let left = Value::from_str(alloc, r#"{"a": 1, "b": []}"#)?;
+/// let right = Value::from_str(alloc, r#"{"b": [], "a": 1}"#)?;
+/// assert!(rt; are_same(&left, &right));
+/// assert!(rt; !are_same(&left, &Value::Null));
+/// ```
+pub fn are_same(left: &Value, right: &Value) -> bool
+    ensures { IsTrue result ↔ (nodes (view left.now) ≡ nodes (view right.now)) }
+{
+    is_same(left, right)
+}
 
 /// Returns whether the two values are the same.
 #[cycle(same)]

@@ -7,26 +7,26 @@ use Rattle.serde_json.specs.Read.{read}
 use Rattle.serde_json.specs.View.{view}
 use Rattle.serde_json.specs.declared.value.Value.{Null}
 use Rattle.serde_json.specs.declared.value.Value.{Null, the_lemmas}
-use Rattle.jsonptr_grammar.specs.Text.{Text, dec}
-use Rattle.jsonptr_tree.specs.Node.{key, Label, an_object, NamesStep}
-use Rattle.jsonptr_tree.specs.Content.{Content, label_of, content_at}
-use Rattle.jsonptr_tree.specs.Growing.{grown}
-use Rattle.jsonptr_tree.specs.Json.{content, nodes}
+use Rattle.jsonptr.specs.Text.{Text, dec}
+use Rattle.jsonptr.specs.Node.{key, Label, an_object, NamesStep}
+use Rattle.jsonptr.specs.Content.{Content, label_of, content_at}
+use Rattle.jsonptr.specs.Growing.{grown}
+use Rattle.jsonptr.specs.Json.{content, nodes}
 use Rattle.jsonptr_tree.proofs.ContentLemmas.{content_at-push}
 use Rattle.jsonptr_tree.proofs.NodeLemmas.{Names-push}
 use Rattle.jsonptr_json_search.specs.Search as skim
 use Rattle.jsonptr_json_search.specs.Search.{Choice}
 use Rattle.jsonptr_in_text.specs.InText.{FindsInText}
 use Rattle.jsonptr_in_text.specs.Selecting.{IsChoiceOf}
-use Rattle.jsonptr_json_edits.specs.Alike.{Holds}
+use Rattle.jsonptr_json_edits.specs.Alike.{HoldsTokens}
 use Rattle.jsonptr_json_edits.proofs.AlikeLemmas.{holds_within}
-use Rattle.jsonptr_json_edits.specs.Editing.{InsertsItem, AddsMember, AddsElement, ChangesChild, Makes}
+use Rattle.jsonptr_json_edits.specs.Editing.{InsertsItem, AddsChosenMember, AddsElement, ChangesChild, Makes}
 use Rattle.jsonptr_json_edits.specs.declared.edit.Child.{Child}
 use Rattle.jsonptr_json_edits.specs.declared.edit.Edit.TheVariants as edit
 use Rattle.jsonptr_json_edits.specs.Spacing.{IsBlank, IsTrimmed, Splices}
 use Rattle.jsonptr_json_edits.specs.Child.{IsValueText, IsOneChild}
 use Rattle.jsonptr_edit_in_text.specs.Bytes.{IsScalar, ReplacesBytes, ExpandsBytes, GrowsBytes, CutsBytes, CutsInTurn, CutsMembers, CutsElement}
-use Rattle.jsonptr_edit_in_text.specs.Carrying.{value_of}
+use Rattle.jsonptr_edit_in_text.specs.Carrying.{value_of_raw}
 use Rattle.jsonptr_edit_in_text.specs.PatchInText.{AddsAtBytes}
 use Rattle.jsonptr_edit_in_text.specs.PrivateReaching.{ReachedInText, Trades, MemberAdded, ElementAppended, ReplacesByText, ReplacesScalarByText, AddsPieceByText, AddsByText}
 use Rattle.jsonptr_edit_in_text.specs.PrivateOperating.{ElementInserted, AddsAtByText}
@@ -56,10 +56,10 @@ found_is t tokens d e same h = subst (FindsInText t tokens) same h
 -- ---- a value replaced
 
 -- what the piece holds, the new text holds
-holds_new : (old new was piece flat : Text) → Splices old new was piece → Holds flat piece → Holds flat new
+holds_new : (old new was piece flat : Text) → Splices old new was piece → HoldsTokens flat piece → HoldsTokens flat new
 holds_new old new was piece flat splices h = holds_within flat piece new splices.before splices.after splices.new_is h
 
-pub replaced : (old new was piece flat : Text) (tokens : List Text) → Splices old new was piece → ReachedInText old new tokens (Trades was flat) → IsTrimmed was → ((e : Data) × (read flat ≡ Some e) × IsValueText e piece) → Holds flat piece → ReplacesByText old new tokens flat
+pub replaced : (old new was piece flat : Text) (tokens : List Text) → Splices old new was piece → ReachedInText old new tokens (Trades was flat) → IsTrimmed was → ((e : Data) × (read flat ≡ Some e) × IsValueText e piece) → HoldsTokens flat piece → ReplacesByText old new tokens flat
 replaced old new was piece flat tokens splices h trimmed p holds = (
   p.0,
   p.1,
@@ -68,7 +68,7 @@ replaced old new was piece flat tokens splices h trimmed p holds = (
   holds,
 )
 
-pub replaced_scalar : (old new was piece flat : Text) (tokens : List Text) (d : Data) → Splices old new was piece → ReachedInText old new tokens (Trades was flat) → IsTrimmed was → ((e : Data) × (read flat ≡ Some e) × IsValueText e piece) → Holds flat piece → read was ≡ Some d → IsScalar d
+pub replaced_scalar : (old new was piece flat : Text) (tokens : List Text) (d : Data) → Splices old new was piece → ReachedInText old new tokens (Trades was flat) → IsTrimmed was → ((e : Data) × (read flat ≡ Some e) × IsValueText e piece) → HoldsTokens flat piece → read was ≡ Some d → IsScalar d
     → ReplacesScalarByText old new tokens flat
 replaced_scalar old new was piece flat tokens d splices h trimmed p holds reads scalar = (
   p.0,
@@ -80,7 +80,7 @@ replaced_scalar old new was piece flat tokens d splices h trimmed p holds reads 
   holds_new old new was piece flat splices holds,
 )
 
-pub replaced_member : (old new : Text) (front : List Text) (x was piece flat : Text) → Splices old new was piece → ReachedInText old new front (ChangesChild (x, None) (Trades was flat)) → IsTrimmed was → ((e : Data) × (read flat ≡ Some e) × IsValueText e piece) → Holds flat piece
+pub replaced_member : (old new : Text) (front : List Text) (x was piece flat : Text) → Splices old new was piece → ReachedInText old new front (ChangesChild (x, None) (Trades was flat)) → IsTrimmed was → ((e : Data) × (read flat ≡ Some e) × IsValueText e piece) → HoldsTokens flat piece
     → ReplacesByText old new (front ++ x ∷ []) flat
 replaced_member old new front x was piece flat splices h trimmed p holds = at h.4.changes
   where
@@ -122,7 +122,7 @@ expands old new front more flat v e reads is h =
 
 -- ---- a child added
 
-pub piece_added : (old new was piece flat : Text) (k : Option Text) → Splices old new was piece → IsBlank was → ((e : Data) × (read flat ≡ Some e) × IsOneChild k e piece) → Holds flat piece → AddsPieceByText old new k flat
+pub piece_added : (old new was piece flat : Text) (k : Option Text) → Splices old new was piece → IsBlank was → ((e : Data) × (read flat ≡ Some e) × IsOneChild k e piece) → HoldsTokens flat piece → AddsPieceByText old new k flat
 piece_added old new was piece flat k splices blank p holds = (p.0, p.1, record { was = was; piece = piece; splices = splices; blank = blank; child = p.2 }, holds_new old new was piece flat splices holds, holds)
 
 pub adds_new_member : (old new : Text) (front : List Text) (x flat : Text) → ReachedInText old new front (MemberAdded x flat) → AddsPieceByText old new (Some x) flat → AddsByText old new front x flat
@@ -135,9 +135,9 @@ adds_last_element old new front x flat h p =
     let m = h.4.changes in
     (p.0, p.1, inr ((m.ds, found_is old front h.4.at (json.array m.ds) m.old (found_old old new front (ElementAppended x flat) h), place m.ds m.refers), p.2), p.3, p.4)
   where
-    place : (ds : json.Items) → (x ≡ codes "-") ⊎ (x ≡ dec (skim.items_len ds)) → (i : ℕ) × ((i ≤ skim.items_len ds) × ((x ≡ dec i) ⊎ ((x ≡ codes "-") × (i ≡ skim.items_len ds))))
-    place ds (inl dash) = (skim.items_len ds, (omega arith, inr (dash, refl)))
-    place ds (inr number) = (skim.items_len ds, (omega arith, inl number))
+    place : (ds : json.Items) → (x ≡ codes "-") ⊎ (x ≡ dec (skim.items_count ds)) → (i : ℕ) × ((i ≤ skim.items_count ds) × ((x ≡ dec i) ⊎ ((x ≡ codes "-") × (i ≡ skim.items_count ds))))
+    place ds (inl dash) = (skim.items_count ds, (omega arith, inr (dash, refl)))
+    place ds (inr number) = (skim.items_count ds, (omega arith, inl number))
 
 pub adds_new_element : (old new : Text) (front : List Text) (x flat : Text) → ReachedInText old new front (ElementInserted x flat) → AddsPieceByText old new None flat → AddsByText old new front x flat
 adds_new_element old new front x flat h p =
@@ -147,7 +147,7 @@ adds_new_element old new front x flat h p =
 pub element_appended : (child : Child) (x flat : Text) (i : ℕ) (d d2 : Data) → child.selector.index ≡ Some i → (x ≡ codes "-") ⊎ (x ≡ dec i) → string_bytes child.value ≡ flat → Makes (edit.Append child) d d2 → ElementAppended x flat d d2
 element_appended child x flat i d d2 index refers value m =
     let a = m.2 in
-    let same : i ≡ skim.items_len a.ds = one_index i a.i (sym index ∙ a.selects) ∙ a.last in record {
+    let same : i ≡ skim.items_count a.ds = one_index i a.i (sym index ∙ a.selects) ∙ a.last in record {
       ds = a.ds;
       ds2 = a.ds2;
       e = m.0;
@@ -177,15 +177,15 @@ pub adds_value_at : (old new : Text) (path : List Text) (flat : Text) (v : Data)
 adds_value_at old new path flat v reads h = subst (λ (e : Data). AddsAtBytes old path e new) (one_value flat h.0 v h.1 reads) h.2
 
 -- with the text of the value
-pub replaces_given : (old new : Text) (tokens : List Text) (raw : RawValue) → ReplacesByText old new tokens (string_bytes raw.text.flat) → ReplacesGiven old tokens (value_of raw) (Some raw) new
-replaces_given old new tokens raw h = subst (λ (e : Data). ReplacesGiven old tokens e (Some raw) new) (one_value (string_bytes raw.text.flat) h.0 (value_of raw) h.1 (raw_reads raw)) (h.2, h.4)
+pub replaces_given : (old new : Text) (tokens : List Text) (raw : RawValue) → ReplacesByText old new tokens (string_bytes raw.text.flat) → ReplacesGiven old tokens (value_of_raw raw) (Some raw) new
+replaces_given old new tokens raw h = subst (λ (e : Data). ReplacesGiven old tokens e (Some raw) new) (one_value (string_bytes raw.text.flat) h.0 (value_of_raw raw) h.1 (raw_reads raw)) (h.2, h.4)
 
-pub adds_given : (old new : Text) (tokens : List Text) (raw : RawValue) → AddsAtByText old tokens (string_bytes raw.text.flat) new → AddsGiven old tokens (value_of raw) (Some raw) new
-adds_given old new tokens raw h = subst (λ (e : Data). AddsGiven old tokens e (Some raw) new) (one_value (string_bytes raw.text.flat) h.0 (value_of raw) h.1 (raw_reads raw)) (h.2, h.4)
+pub adds_given : (old new : Text) (tokens : List Text) (raw : RawValue) → AddsAtByText old tokens (string_bytes raw.text.flat) new → AddsGiven old tokens (value_of_raw raw) (Some raw) new
+adds_given old new tokens raw h = subst (λ (e : Data). AddsGiven old tokens e (Some raw) new) (one_value (string_bytes raw.text.flat) h.0 (value_of_raw raw) h.1 (raw_reads raw)) (h.2, h.4)
 
 -- ---- a child cut out
 
-pub cuts_members : (old first new value : Text) (front : List Text) (x : Text) (c : Choice) → IsChoiceOf x c → ReachedInText new old front (λ at at2. (e : Data) × (read value ≡ Some e) × AddsMember c e at at2) → ((v : Data) × (read value ≡ Some v) × CutsBytes old first (Some x) v) → ((mids : List Text) × CutsInTurn x first mids new)
+pub cuts_members : (old first new value : Text) (front : List Text) (x : Text) (c : Choice) → IsChoiceOf x c → ReachedInText new old front (λ at at2. (e : Data) × (read value ≡ Some e) × AddsChosenMember c e at at2) → ((v : Data) × (read value ≡ Some v) × CutsBytes old first (Some x) v) → ((mids : List Text) × CutsInTurn x first mids new)
     → CutsMembers old new front x
 cuts_members old first new value front x c is h cut again =
     let m = h.4.changes.2 in record {
@@ -193,7 +193,7 @@ cuts_members old first new value front x c is h cut again =
       v = h.4.changes.0;
       first = first;
       mids = again.0;
-      found = found_is old front h.4.at2 (json.object m.ms2) m.new (found_new new old front (λ at at2. (e : Data) × (read value ≡ Some e) × AddsMember c e at at2) h);
+      found = found_is old front h.4.at2 (json.object m.ms2) m.new (found_new new old front (λ at at2. (e : Data) × (read value ≡ Some e) × AddsChosenMember c e at at2) h);
       was = subst (λ (k : Text). get_member k m.ms2 ≡ Some h.4.changes.0) is.key_is m.inserts.is;
       cuts = subst (CutsBytes old first (Some x)) (one_value value cut.0 h.4.changes.0 cut.1 h.4.changes.1) cut.2;
       again = again.1;

@@ -6,14 +6,14 @@ use Rattle.serde_json.specs.Data as json
 use Rattle.serde_json.specs.Data.{Data}
 use Rattle.serde_json.specs.Find as find
 use Rattle.serde_json.specs.Read.{read}
-use Rattle.jsonptr_grammar.specs.Text.{Text, dec}
-use Rattle.jsonptr_tree.specs.Node.{Step, key, place, Path, Label, Scalar, an_array, an_object, a_leaf, of_json, NodeMap, sub}
-use Rattle.jsonptr_tree.specs.Content as tree
-use Rattle.jsonptr_tree.specs.Content.{Content, scalar, items_len, label_of, content_at, map_of}
-use Rattle.jsonptr_tree.specs.Json.{content, items, nodes}
-use Rattle.jsonptr_tree.specs.Put.{put, same_step}
-use Rattle.jsonptr_tree.specs.Growing.{is_append_index, grown}
-use Rattle.jsonptr_tree.specs.Assigning.{Assigns}
+use Rattle.jsonptr.specs.Text.{Text, dec}
+use Rattle.jsonptr.specs.Node.{Step, key, place, Path, Label, Scalar, an_array, an_object, a_leaf, of_json, NodeMap, sub}
+use Rattle.jsonptr.specs.Content as tree
+use Rattle.jsonptr.specs.Content.{Content, scalar, items_len, label_of, content_at, map_of}
+use Rattle.jsonptr.specs.Json.{content, items, nodes}
+use Rattle.jsonptr.specs.Put.{put, same_step}
+use Rattle.jsonptr.specs.Growing.{is_append_index, grown}
+use Rattle.jsonptr.specs.Assigning.{Assigns}
 use Rattle.jsonptr_tree.proofs.ContentLemmas.{map_of-sub, content_at-push, map_of-IsTree}
 use Rattle.jsonptr_tree.proofs.FollowingLemmas.{stops_in, lacks_at_leaf, lacks_at_object}
 use Rattle.jsonptr_tree.proofs.LandingLemmas.{means_end-dash, means_end-dec, lacks_at_end}
@@ -109,7 +109,7 @@ end_index : (len n : ℕ) (x : Text) → len ≡ n → (x ≡ codes "-") ⊎ (x 
 end_index len n x same (inl dash) = means_end-dash len x dash
 end_index len n x same (inr number) = means_end-dec len x (number ∙ ap dec (sym same))
 
-none_past : (ds : json.Items) (j : ℕ) → skim.items_len ds ≤ j → find.get_item j ds ≡ None
+none_past : (ds : json.Items) (j : ℕ) → skim.items_count ds ≤ j → find.get_item j ds ≡ None
 none_past json.no_items j h = refl
 none_past (json.item d ds) zero h = absurd (omega (arith, h))
 none_past (json.item d ds) (suc j) h = none_past ds j (omega (arith, h))
@@ -120,14 +120,14 @@ cases_below zero (suc n) h = inl (omega arith)
 cases_below (suc j) zero h = inr (omega arith)
 cases_below (suc j) (suc n) h = ⊎_elim (λ a. inl (omega (arith, a))) (λ a. inr (omega (arith, a))) (cases_below j n (λ e. h (ap suc e)))
 
-other_items : (ds ds2 : json.Items) (e : Data) → InsertsItem (skim.items_len ds) e ds ds2 → (j : ℕ) → (j ≡ skim.items_len ds → ⊥) → find.get_item j ds2 ≡ find.get_item j ds
-other_items ds ds2 e h j apart = at (cases_below j (skim.items_len ds) apart)
+other_items : (ds ds2 : json.Items) (e : Data) → InsertsItem (skim.items_count ds) e ds ds2 → (j : ℕ) → (j ≡ skim.items_count ds → ⊥) → find.get_item j ds2 ≡ find.get_item j ds
+other_items ds ds2 e h j apart = at (cases_below j (skim.items_count ds) apart)
   where
-    at : (j < skim.items_len ds) ⊎ (skim.items_len ds < j) → find.get_item j ds2 ≡ find.get_item j ds
+    at : (j < skim.items_count ds) ⊎ (skim.items_count ds < j) → find.get_item j ds2 ≡ find.get_item j ds
     at (inl low) = h.before j low
     at (inr high) = none_past ds2 j (omega (arith, h.one_more, high)) ∙ sym (none_past ds j (omega (arith, high)))
 
-end_map : (ds ds2 : json.Items) (e : Data) → InsertsItem (skim.items_len ds) e ds ds2 → nodes (json.array ds2) ≡ made (nodes (json.array ds)) (place (items_len (items ds)) ∷ []) (nodes e)
+end_map : (ds ds2 : json.Items) (e : Data) → InsertsItem (skim.items_count ds) e ds ds2 → nodes (json.array ds2) ≡ made (nodes (json.array ds)) (place (items_len (items ds)) ∷ []) (nodes e)
 end_map ds ds2 e h = same_by_step (nodes (json.array ds2)) (made (nodes (json.array ds)) (place (items_len (items ds)) ∷ []) (nodes e)) label (λ t. at t (cases_same (place (items_len (items ds))) t))
   where
     label : nodes (json.array ds2) [] ≡ made (nodes (json.array ds)) (place (items_len (items ds)) ∷ []) (nodes e) []
@@ -137,7 +137,7 @@ end_map ds ds2 e h = same_by_step (nodes (json.array ds2)) (made (nodes (json.ar
         longest n = omega arith
 
     there : tree.child (place (items_len (items ds))) (content (json.array ds2)) ≡ Some (content e)
-    there = ap (λ (n : ℕ). tree.child (place n) (content (json.array ds2))) (len_same ds) ∙ item_content ds2 (skim.items_len ds) ∙ ap (option_map content) h.is
+    there = ap (λ (n : ℕ). tree.child (place n) (content (json.array ds2))) (len_same ds) ∙ item_content ds2 (skim.items_count ds) ∙ ap (option_map content) h.is
 
     others : (t : Step) → same_step (place (items_len (items ds))) t ≡ false → tree.child t (content (json.array ds2)) ≡ tree.child t (content (json.array ds))
     others (key k) apart = refl
@@ -155,7 +155,7 @@ assigns_end old new tokens front x rest e v split is h =
     let ds = a.0 in
     let there : content_at r.path (content h.0) ≡ Some (content (json.array ds)) = r.there ∙ ap (λ (d : Data). Some (content d)) a.2 in
     let label : nodes h.0 r.path ≡ Some (an_array (items_len (items ds))) = label_there h.0 (json.array ds) r.path there in
-    let means : is_append_index (items_len (items ds)) x ≡ true = end_index (items_len (items ds)) (skim.items_len ds) x (len_same ds) a.5 in
+    let means : is_append_index (items_len (items ds)) x ≡ true = end_index (items_len (items ds)) (skim.items_count ds) x (len_same ds) a.5 in
     let stops = stops_in (nodes h.0) tokens front x rest r.path split r.named (lacks_at_end (nodes h.0) r.path x (items_len (items ds)) label means) in
     let made2 : nodes r.at2 ≡ made (sub (nodes h.0) r.path) (place (items_len (items ds)) ∷ []) (grown rest v) =
     ap nodes a.3 ∙ end_map ds a.1 e a.4 ∙ ap (made (nodes (json.array ds)) (place (items_len (items ds)) ∷ [])) is ∙ ap (λ (n : NodeMap). made n (place (items_len (items ds)) ∷ []) (grown rest v)) (map_there h.0 (json.array ds) r.path there) in (
@@ -212,10 +212,10 @@ pub of_member : (old new : Text) (front : List Text) (x flat : Text) (e : Data) 
 of_member old new front x flat e is h = reached_so old new front (MemberAdded x flat) (AddsMemberAt x e) (λ d d2 m. subst (λ (y : Data). AddsMemberAt x y d d2) (same_data m.0 e (sym m.1 ∙ is)) m.2) h
 
 pub of_element : (old new : Text) (front : List Text) (x flat : Text) (e : Data) → read flat ≡ Some e → ReachedInText old new front (ElementAppended x flat) → ReachedInText old new front (AppendsAt x e)
-of_element old new front x flat e is h = reached_so old new front (ElementAppended x flat) (AppendsAt x e) (λ d d2 m. (m.ds, m.ds2, m.old, m.new, subst (λ (y : Data). InsertsItem (skim.items_len m.ds) y m.ds m.ds2) (same_data m.e e (sym m.reads ∙ is)) m.inserts, m.refers)) h
+of_element old new front x flat e is h = reached_so old new front (ElementAppended x flat) (AppendsAt x e) (λ d d2 m. (m.ds, m.ds2, m.old, m.new, subst (λ (y : Data). InsertsItem (skim.items_count m.ds) y m.ds m.ds2) (same_data m.e e (sym m.reads ∙ is)) m.inserts, m.refers)) h
 
-pub member_made : (child : Child) (x flat : Text) (d d2 : Data) → string_bytes child.selector.key ≡ x → child.selector.index ≡ None → string_bytes child.value ≡ flat → Makes (edit.Add child) d d2 → MemberAdded x flat d d2
-member_made child x flat d d2 named index value m = (
+pub member_made : (child : Child) (x flat : Text) (d d2 : Data) → string_bytes child.selector.key ≡ x → string_bytes child.value ≡ flat → Makes (edit.Add child) d d2 → MemberAdded x flat d d2
+member_made child x flat d d2 named value m = (
   m.0,
   ap read (sym value) ∙ m.1,
   record { ms = m.2.ms; ms2 = m.2.ms2; old = m.2.old; new = m.2.new; inserts = subst (λ (k : Text). InsertsMember k m.0 m.2.ms m.2.ms2) named m.2.inserts },

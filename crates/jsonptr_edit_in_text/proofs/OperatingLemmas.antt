@@ -7,14 +7,13 @@ use Rattle.serde_json.specs.Data.{Data}
 use Rattle.serde_json.specs.Read.{read}
 use Rattle.serde_json.specs.View.{view}
 use Rattle.serde_json.specs.declared.value.Value.{Value}
-use Rattle.jsonptr_grammar.specs.Text.{Text, dec}
-use Rattle.jsonptr_tree.specs.Node.{Step, key, place, Path, Label, an_array, an_object, NodeMap, Names, sub}
-use Rattle.jsonptr_tree.specs.Content as tree
-use Rattle.jsonptr_tree.specs.Content.{Content, items_len, label_of, content_at, map_of}
-use Rattle.jsonptr_tree.specs.Following.{Finds}
-use Rattle.jsonptr_tree.specs.Json.{content, items, nodes, FindsValue}
-use Rattle.jsonptr_tree.specs.Put.{put}
-use Rattle.jsonptr_tree.specs.Removing.{Deletes}
+use Rattle.jsonptr.specs.Text.{Text, dec}
+use Rattle.jsonptr.specs.Node.{Step, key, place, Path, Label, an_array, an_object, NodeMap, Names, sub}
+use Rattle.jsonptr.specs.Content as tree
+use Rattle.jsonptr.specs.Content.{Content, items_len, label_of, content_at}
+use Rattle.jsonptr.specs.Json.{content, items, nodes}
+use Rattle.jsonptr.specs.Put.{put}
+use Rattle.jsonptr.specs.Removing.{Deletes}
 use Rattle.jsonptr_tree.proofs.JsonLemmas.{FindsValue-Finds}
 use Rattle.jsonptr_tree.proofs.PutLemmas.{same_by_step, put_below}
 use Rattle.jsonptr_json_search.specs.Search as skim
@@ -23,7 +22,7 @@ use Rattle.jsonptr_in_text.specs.Selecting.{AreChoicesOf}
 use Rattle.jsonptr_in_text.proofs.SearchLemmas.{len_same, found}
 use Rattle.jsonptr_patch.specs.Adding.{MeansPlace, AddsUnder, AddsBelow, Adds}
 use Rattle.jsonptr_patch.specs.Inserting.{with_place}
-use Rattle.jsonptr_patch.specs.Operating.{IsProperFront, Takes, PassesBy, AppliesBy}
+use Rattle.jsonptr_patch.specs.Operating.{IsProperFront, Takes, AppliesBy}
 use Rattle.jsonptr_patch.specs.Patching.{PatchesBy}
 use Rattle.jsonptr_patch.specs.declared.operation.Operation.{Operation}
 use Rattle.jsonptr_patch.specs.declared.operation.Operation.TheVariants.{Test}
@@ -56,10 +55,10 @@ whole : (n m v : NodeMap) (w : Path) → Names n [] w → m ≡ put n w v → m 
 whole n m v [] named made = made
 whole n m v (s ∷ w) named made = absurd named
 
-pub adds_root : (old new flat : Text) → ReachedInText old new [] (Becomes flat) → AddsInText old [] flat new
-adds_root old new flat h =
+pub adds_root : (old new : Text) (tokens : List Text) (flat : Text) → tokens ≡ [] → ReachedInText old new tokens (Becomes flat) → AddsInText old tokens flat new
+adds_root old new tokens flat root h =
     let r = h.4 in
-    (h.0, h.1, r.at2, h.2, h.3, r.changes, inl (refl, whole (nodes h.0) (nodes h.1) (nodes r.at2) r.path r.named r.made))
+    (h.0, h.1, r.at2, h.2, h.3, r.changes, inl (root, whole (nodes h.0) (nodes h.1) (nodes r.at2) r.path (subst (λ (ts : List Text). Names (nodes h.0) ts r.path) root r.named) r.made))
 
 -- ---- a child added
 
@@ -138,7 +137,7 @@ pub adds_last : (old new : Text) (front : List Text) (x flat : Text) → Reached
 adds_last old new front x flat h =
     let r = h.4 in
     let a = r.changes in
-    (h.0, h.1, a.e, h.2, h.3, a.reads, inr (below_array h.0 h.1 r.at r.at2 a.e front x r.path a.ds (skim.items_len a.ds) r.named r.there r.made a.old (ap nodes a.new ∙ element_map a.ds a.ds2 (skim.items_len a.ds) a.e a.inserts) (means (skim.items_len a.ds) (items_len (items a.ds)) (len_same a.ds) a.refers)))
+    (h.0, h.1, a.e, h.2, h.3, a.reads, inr (below_array h.0 h.1 r.at r.at2 a.e front x r.path a.ds (skim.items_count a.ds) r.named r.there r.made a.old (ap nodes a.new ∙ element_map a.ds a.ds2 (skim.items_count a.ds) a.e a.inserts) (means (skim.items_count a.ds) (items_len (items a.ds)) (len_same a.ds) a.refers)))
   where
     means : (n len : ℕ) → len ≡ n → (x ≡ codes "-") ⊎ (x ≡ dec n) → MeansPlace len x n
     means n len same (inl dash) = (omega (arith, same), inr (dash, sym same))
@@ -239,15 +238,6 @@ removes old new tokens h = (
 )
 
 -- ---- a test
-
-pub passes_there : (d v : Data) (tokens : List Text) (w : NodeMap) → FindsValue d tokens v → PassesBy Numeric (nodes v) [] w → PassesBy Numeric (nodes d) tokens w
-passes_there d v tokens w found p =
-    let target : p.0 ≡ nodes v = p.1.below ∙ root (nodes v) p.1.path p.1.named in
-    (p.0, subst (λ (m : NodeMap). Finds (nodes d) tokens m) (sym target) (FindsValue-Finds d tokens v found), p.2)
-  where
-    root : (n : NodeMap) (u : Path) → Names n [] u → sub n u ≡ n
-    root n [] named = refl
-    root n (s ∷ u) named = absurd named
 
 pub tests : (old t : Text) (tokens path : List Text) (value : Value) → t ≡ old → tokens ≡ path → PassesInText t tokens (nodes (view value)) → OperatesInText old (Test path value) old
 tests old t tokens path value same there h =

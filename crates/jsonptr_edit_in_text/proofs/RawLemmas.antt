@@ -5,13 +5,13 @@ use Rattle.std.specs.declared.alloc.Global.{Global}
 use Rattle.serde_json.specs.Data.{Data}
 use Rattle.serde_json.specs.View.{view}
 use Rattle.serde_json.specs.declared.value.Value.{Value}
-use Rattle.jsonptr_grammar.specs.Text.{Text}
+use Rattle.jsonptr.specs.Text.{Text}
 use Rattle.jsonptr_patch.specs.declared.operation.Operation.{Operation}
 use Rattle.jsonptr_patch.specs.declared.operation.Operation.TheVariants.{Add, Remove, Replace, Move, Copy, Test}
 use Rattle.jsonptr_patch.specs.declared.operation.PatchError.{PatchError}
 use Rattle.jsonptr_edit_in_text.specs.Bytes.{KeepsBytes, ReplacesBytes}
-use Rattle.jsonptr_edit_in_text.specs.Carrying.{value_of}
-use Rattle.jsonptr_edit_in_text.specs.Fitting.{IsTextOf, Fits}
+use Rattle.jsonptr_edit_in_text.specs.Carrying.{value_of_raw}
+use Rattle.jsonptr_edit_in_text.specs.Fitting.{IsRawTextOf, HasFittingText}
 use Rattle.jsonptr_edit_in_text.specs.PatchInText.{AddsAtBytes, OperationBytes, PatchBytes}
 use Rattle.jsonptr_edit_in_text.specs.RawPatching.{operations_in, AddsGiven, ReplacesGiven, GivenBytes, RawPatchBytes}
 use Rattle.jsonptr_edit_in_text.specs.declared.edited.Edited.{Edited}
@@ -48,11 +48,11 @@ kept_bytes (Ok (Rewritten s)) old rs os same h = h
 -- ---- one operation
 
 -- a text that comes with a value is one of it
-pub text_is : (value : Value) (text : Option RawValue) (raw : RawValue) → text ≡ Some raw → IsTextOf value text → value_of raw ≡ view value
-text_is value text raw is h = subst (λ (o : Option RawValue). IsTextOf value o) is h
+pub text_is : (value : Value) (text : Option RawValue) (raw : RawValue) → text ≡ Some raw → IsRawTextOf value text → value_of_raw raw ≡ view value
+text_is value text raw is h = subst (λ (o : Option RawValue). IsRawTextOf value o) is h
 
-pub adds_some : (r : Result (Option (String Global)) AllocError) (old : Text) (ts : List Text) (value : Value) (text : Option RawValue) (raw : RawValue) → text ≡ Some raw → IsTextOf value text
-    → IfOk r (λ n. IfSome n (λ s. AddsGiven old ts (value_of raw) (Some raw) (string_bytes s))) → IfOk r (λ n. IfSome n (λ s. AddsGiven old ts (view value) text (string_bytes s)))
+pub adds_some : (r : Result (Option (String Global)) AllocError) (old : Text) (ts : List Text) (value : Value) (text : Option RawValue) (raw : RawValue) → text ≡ Some raw → IsRawTextOf value text
+    → IfOk r (λ n. IfSome n (λ s. AddsGiven old ts (value_of_raw raw) (Some raw) (string_bytes s))) → IfOk r (λ n. IfSome n (λ s. AddsGiven old ts (view value) text (string_bytes s)))
 adds_some r old ts value text raw is of h =
     subst (λ (o : Option RawValue). IfOk r (λ n. IfSome n (λ s. AddsGiven old ts (view value) o (string_bytes s)))) (sym is)
     (subst (λ (d : Data). IfOk r (λ n. IfSome n (λ s. AddsGiven old ts d (Some raw) (string_bytes s)))) (text_is value text raw is of) h)
@@ -63,8 +63,8 @@ adds_none r old ts value text is h =
     subst (λ (o : Option RawValue). IfOk r (λ n. IfSome n (λ s. AddsGiven old ts (view value) o (string_bytes s)))) (sym is)
     (if_new r (λ s. AddsAtBytes old ts (view value) (string_bytes s)) (λ s. AddsGiven old ts (view value) None (string_bytes s)) (λ s b. (b, tt)) h)
 
-pub replaces_some : (r : Result (Option (String Global)) AllocError) (old : Text) (ts : List Text) (value : Value) (text : Option RawValue) (raw : RawValue) → text ≡ Some raw → IsTextOf value text
-    → IfOk r (λ n. IfSome n (λ s. ReplacesGiven old ts (value_of raw) (Some raw) (string_bytes s))) → IfOk r (λ n. IfSome n (λ s. ReplacesGiven old ts (view value) text (string_bytes s)))
+pub replaces_some : (r : Result (Option (String Global)) AllocError) (old : Text) (ts : List Text) (value : Value) (text : Option RawValue) (raw : RawValue) → text ≡ Some raw → IsRawTextOf value text
+    → IfOk r (λ n. IfSome n (λ s. ReplacesGiven old ts (value_of_raw raw) (Some raw) (string_bytes s))) → IfOk r (λ n. IfSome n (λ s. ReplacesGiven old ts (view value) text (string_bytes s)))
 replaces_some r old ts value text raw is of h =
     subst (λ (o : Option RawValue). IfOk r (λ n. IfSome n (λ s. ReplacesGiven old ts (view value) o (string_bytes s)))) (sym is)
     (subst (λ (d : Data). IfOk r (λ n. IfSome n (λ s. ReplacesGiven old ts d (Some raw) (string_bytes s)))) (text_is value text raw is of) h)
@@ -76,7 +76,7 @@ replaces_none r old ts value text is h =
     (if_new r (λ s. ReplacesBytes old (string_bytes s) ts (view value)) (λ s. ReplacesGiven old ts (view value) None (string_bytes s)) (λ s b. (b, tt)) h)
 
 -- no text fits each operation
-pub fits_none : (o : Operation) → Fits o None
+pub fits_none : (o : Operation) → HasFittingText o None
 fits_none (Add path value) = tt
 fits_none (Remove path) = tt
 fits_none (Replace path value) = tt

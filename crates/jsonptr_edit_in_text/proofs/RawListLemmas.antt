@@ -3,10 +3,10 @@ use Rattle.std.proofs.Common.{◌≡◌, List, [], ◌∷◌, ◌++◌, Option, 
 use Rattle.std.specs.declared.alloc.AllocError.{AllocError}
 use Rattle.serde_json.specs.Data.{Data}
 use Rattle.serde_json.specs.Read.{read}
-use Rattle.jsonptr_grammar.specs.Text.{Text}
+use Rattle.jsonptr.specs.Text.{Text}
 use Rattle.jsonptr_patch.specs.declared.operation.Operation.{Operation}
-use Rattle.jsonptr_json_edits.specs.Alike.{Holds}
-use Rattle.jsonptr_edit_in_text.specs.Carrying.{or_null, value_of}
+use Rattle.jsonptr_json_edits.specs.Alike.{HoldsTokens}
+use Rattle.jsonptr_edit_in_text.specs.Carrying.{or_null, value_of_raw}
 use Rattle.jsonptr_edit_in_text.specs.Fitting.{brings_value}
 use Rattle.jsonptr_edit_in_text.specs.RawPatching.{operations_in, IsGivenIn}
 use Rattle.jsonptr_edit_in_text.specs.declared.raw_operation.RawOperation.{RawOperation}
@@ -17,7 +17,7 @@ operations_push [] r = refl
 operations_push (q ∷ rs) r = ap (λ (os : List Operation). q.operation ∷ os) (operations_push rs r)
 
 -- texts that are printed alike are of one value
-pub same_value : (p q own : RawValue) (v again : Data) → value_of p ≡ v → value_of q ≡ again → again ≡ value_of own → string_bytes p.text.flat ≡ string_bytes q.text.flat → value_of own ≡ v
+pub same_value : (p q own : RawValue) (v again : Data) → value_of_raw p ≡ v → value_of_raw q ≡ again → again ≡ value_of_raw own → string_bytes p.text.flat ≡ string_bytes q.text.flat → value_of_raw own ≡ v
 same_value p q own v again one two back same = sym back ∙ sym two ∙ ap (λ (t : Text). or_null (read t)) (sym same) ∙ one
 
 -- `Given o own r`: the operation `r` has the text `own`, if the operation `o` puts a value of its own into a document
@@ -34,7 +34,7 @@ given_none None o own h = tt
 given_none (Some r) o own h = λ brings. absurd (true≢false (sym brings ∙ h))
 
 -- the text that an operation is given comes from where it was found
-pub given_in : (text : Text) (r : RawOperation) (o : Operation) (own : Option RawValue) → r.operation ≡ o → Given o own r → IfSome own (λ raw. Holds (string_bytes raw.text.flat) text) → IsGivenIn text r
+pub given_in : (text : Text) (r : RawOperation) (o : Operation) (own : Option RawValue) → r.operation ≡ o → Given o own r → IfSome own (λ raw. HoldsTokens (string_bytes raw.text.flat) text) → IsGivenIn text r
 given_in text r o own is given found = λ brings.
     let g = given (subst (λ (x : Operation). IsTrue (brings_value x)) is brings) in
-    (g.0, g.2, subst (λ (p : Option RawValue). IfSome p (λ raw. Holds (string_bytes raw.text.flat) text)) g.1 found)
+    (g.0, g.2, subst (λ (p : Option RawValue). IfSome p (λ raw. HoldsTokens (string_bytes raw.text.flat) text)) g.1 found)

@@ -5,12 +5,12 @@ use Rattle.serde_json.specs.Data as json
 use Rattle.serde_json.specs.Data.{Data}
 use Rattle.serde_json.specs.Find as find
 use Rattle.serde_json.specs.Read.{read}
-use Rattle.jsonptr_grammar.specs.Text.{Text}
-use Rattle.jsonptr_tree.specs.Node.{Step, key, place, Path, Label, an_array, NodeMap, NamesStep, Names, sub}
-use Rattle.jsonptr_tree.specs.Content as tree
-use Rattle.jsonptr_tree.specs.Content.{Content, items_len, get_item, get_member, label_of, content_at, map_of}
-use Rattle.jsonptr_tree.specs.Json.{content, items, nodes}
-use Rattle.jsonptr_tree.specs.Put.{put, same_step}
+use Rattle.jsonptr.specs.Text.{Text}
+use Rattle.jsonptr.specs.Node.{Step, key, place, Path, Label, an_array, NodeMap, NamesStep, Names, sub}
+use Rattle.jsonptr.specs.Content as tree
+use Rattle.jsonptr.specs.Content.{Content, items_len, get_item, label_of, content_at, map_of}
+use Rattle.jsonptr.specs.Json.{content, items, nodes}
+use Rattle.jsonptr.specs.Put.{put, same_step}
 use Rattle.jsonptr_tree.proofs.ContentLemmas.{map_of-sub}
 use Rattle.jsonptr_tree.proofs.PutLemmas.{same_step-refl, cases_same, rest_after-shorter, put_none, same_by_step, put-step, put-other_step}
 use Rattle.jsonptr_json_search.specs.Search.{Choice}

@@ -5,13 +5,13 @@ use Rattle.serde_json.specs.Data as json
 use Rattle.serde_json.specs.Data.{Data}
 use Rattle.serde_json.specs.Find as find
 use Rattle.serde_json.specs.Read.{read}
-use Rattle.jsonptr_grammar.specs.Text.{Text}
-use Rattle.jsonptr_tree.specs.Node.{Step, key, place, Path, Label, an_array, NodeMap, NamesStep, Names, sub}
-use Rattle.jsonptr_tree.specs.Content as tree
-use Rattle.jsonptr_tree.specs.Content.{Content, items_len, label_of, content_at, map_of}
-use Rattle.jsonptr_tree.specs.Json.{content, items, nodes}
-use Rattle.jsonptr_tree.specs.Put.{put, same_step}
-use Rattle.jsonptr_tree.specs.Removing.{one_less, place_before, without_key, without_place, without_step, Deletes}
+use Rattle.jsonptr.specs.Text.{Text}
+use Rattle.jsonptr.specs.Node.{Step, key, place, Path, Label, an_array, NodeMap, NamesStep, Names, sub}
+use Rattle.jsonptr.specs.Content as tree
+use Rattle.jsonptr.specs.Content.{Content, items_len, label_of, content_at}
+use Rattle.jsonptr.specs.Json.{content, items, nodes}
+use Rattle.jsonptr.specs.Put.{put, same_step}
+use Rattle.jsonptr.specs.Removing.{one_less, place_before, without_key, without_place, without_step, Deletes}
 use Rattle.jsonptr_tree.proofs.NodeLemmas.{Names-push}
 use Rattle.jsonptr_tree.proofs.PutLemmas.{cases_same, same_by_step, put-sub, put-put, sub-put, put_at, Names-put}
 use Rattle.jsonptr_tree.proofs.AssigningLemmas.{Assigns-named}
@@ -20,7 +20,7 @@ use Rattle.jsonptr_json_search.specs.Search as skim
 use Rattle.jsonptr_json_search.specs.Search.{Choice}
 use Rattle.jsonptr_in_text.specs.Selecting.{IsChoiceOf}
 use Rattle.jsonptr_in_text.proofs.SearchLemmas.{len_same, member_content}
-use Rattle.jsonptr_json_edits.specs.Editing.{InsertsItem, InsertsMember, AddsMember, AddsElement}
+use Rattle.jsonptr_json_edits.specs.Editing.{InsertsItem, InsertsMember, AddsChosenMember, AddsElement}
 use Rattle.jsonptr_edit_in_text.specs.EditInText.{AssignsInText, DeletesInText}
 use Rattle.jsonptr_edit_in_text.specs.PrivateReaching.{ReachedInText}
 use Rattle.jsonptr_edit_in_text.proofs.ReachingLemmas.{item_content, other_key, reached_so}
@@ -63,7 +63,7 @@ without_element : (ds ds2 : json.Items) (i : ℕ) (e : Data) → InsertsItem i e
 without_element ds ds2 i e h = same_by_step (nodes (json.array ds)) (without_place i (nodes (json.array ds2))) label at
   where
     label : nodes (json.array ds) [] ≡ one_less (nodes (json.array ds2) [])
-    label = ap (λ (n : ℕ). Some (an_array n)) (len_same ds ∙ less (skim.items_len ds) ∙ ap (λ (n : ℕ). n - 1) (sym h.one_more) ∙ ap (λ (n : ℕ). n - 1) (sym (len_same ds2)))
+    label = ap (λ (n : ℕ). Some (an_array n)) (len_same ds ∙ less (skim.items_count ds) ∙ ap (λ (n : ℕ). n - 1) (sym h.one_more) ∙ ap (λ (n : ℕ). n - 1) (sym (len_same ds2)))
       where
         less : (n : ℕ) → n ≡ suc n - 1
         less n = omega arith
@@ -96,7 +96,7 @@ loses_element x c e d d2 is h = subst (λ (y : Data). Loses x d y) (sym h.new) (
     within : h.i < items_len (items h.ds2)
     within = omega (arith, len_same h.ds2, h.inserts.one_more, h.inserts.within)
 
-loses_member : (x : Text) (c : Choice) (e d d2 : Data) → IsChoiceOf x c → AddsMember c e d d2 → Loses x d d2
+loses_member : (x : Text) (c : Choice) (e d d2 : Data) → IsChoiceOf x c → AddsChosenMember c e d d2 → Loses x d d2
 loses_member x c e d d2 is h = subst (λ (y : Data). Loses x d y) (sym h.new) (subst (λ (y : Data). Loses x y (json.object h.ms2)) (sym h.old) (record {
   step = key c.0;
   named = is.key_is;
@@ -133,9 +133,9 @@ deletes old new tokens front x split h =
       subst (λ (m : NodeMap). Deletes (nodes d) tokens (nodes json.null) m) less (Deletes_child (nodes d) (nodes json.null) tokens r.path l.step all),
     )
 
-pub deletes_member : (old new value : Text) (front : List Text) (x : Text) (c : Choice) → IsChoiceOf x c → ReachedInText new old front (λ at at2. (e : Data) × (read value ≡ Some e) × AddsMember c e at at2) → DeletesInText old (front ++ x ∷ []) new
+pub deletes_member : (old new value : Text) (front : List Text) (x : Text) (c : Choice) → IsChoiceOf x c → ReachedInText new old front (λ at at2. (e : Data) × (read value ≡ Some e) × AddsChosenMember c e at at2) → DeletesInText old (front ++ x ∷ []) new
 deletes_member old new value front x c is h = deletes old new (front ++ x ∷ []) front x refl
-    (reached_so new old front (λ at at2. (e : Data) × (read value ≡ Some e) × AddsMember c e at at2) (Loses x) (λ d d2 m. loses_member x c m.0 d d2 is m.2) h)
+    (reached_so new old front (λ at at2. (e : Data) × (read value ≡ Some e) × AddsChosenMember c e at at2) (Loses x) (λ d d2 m. loses_member x c m.0 d d2 is m.2) h)
 
 pub deletes_element : (old new value : Text) (front : List Text) (x : Text) (c : Choice) → IsChoiceOf x c → ReachedInText new old front (λ at at2. (e : Data) × (read value ≡ Some e) × AddsElement c e at at2) → DeletesInText old (front ++ x ∷ []) new
 deletes_element old new value front x c is h = deletes old new (front ++ x ∷ []) front x refl

@@ -4,14 +4,14 @@ use Rattle.std.specs.declared.alloc.Global.{Global}
 use Rattle.serde_json.specs.Data.{Data, depth}
 use Rattle.serde_json.specs.Read.{read, max_depth}
 use Rattle.serde_json.proofs.Nesting.{depth-read}
-use Rattle.jsonptr_grammar.specs.Text.{Text}
-use Rattle.jsonptr_tree.specs.Node.{Step, key, place, Path, Label, an_object, an_array, a_leaf, NodeMap}
-use Rattle.jsonptr_tree.specs.Following.{StopsAt}
-use Rattle.jsonptr_tree.specs.Json.{nodes, HasSortedKeys}
-use Rattle.jsonptr_tree.specs.Put.{put}
-use Rattle.jsonptr_tree.specs.Growing.{is_append_index, with_one, grown}
-use Rattle.jsonptr_tree.specs.Landing.{LandsFrom, Lands}
-use Rattle.jsonptr_tree.specs.Assigning.{with_room, found_at, Assigns}
+use Rattle.jsonptr.specs.Text.{Text}
+use Rattle.jsonptr.specs.Node.{Step, key, place, Path, Label, an_object, an_array, a_leaf, NodeMap}
+use Rattle.jsonptr.specs.Following.{StopsAt}
+use Rattle.jsonptr.specs.Json.{nodes, HasSortedKeys}
+use Rattle.jsonptr.specs.Put.{put}
+use Rattle.jsonptr.specs.Growing.{is_append_index, with_one, grown}
+use Rattle.jsonptr.specs.Landing.{LandsFrom, Lands}
+use Rattle.jsonptr.specs.Assigning.{with_room, found_at, Assigns}
 use Rattle.jsonptr_tree.proofs.NodeLemmas.{Names-length}
 use Rattle.jsonptr_tree.proofs.FollowingLemmas.{stops_in, stops-lacks}
 use Rattle.jsonptr_tree.proofs.PutLemmas.{same_step-refl, put_behind}

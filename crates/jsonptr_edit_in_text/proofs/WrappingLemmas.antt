@@ -13,13 +13,13 @@ use Rattle.json.proofs.Printed.Trees.{value-json_tokens}
 use Rattle.json.proofs.Unique.Spelling.{value-json_tokens_back}
 use Rattle.serde_json.specs.Data.{Data, array, object, no_items, item, no_members, put}
 use Rattle.serde_json.specs.Read.{of_json, max_depth, read}
-use Rattle.jsonptr_grammar.specs.Text.{Text}
-use Rattle.jsonptr_tree.specs.Node.{key, place, Path, an_object, an_array}
-use Rattle.jsonptr_tree.specs.Growing.{is_append_index, with_one, grown}
-use Rattle.jsonptr_tree.specs.Content.{label_of, content_at}
-use Rattle.jsonptr_tree.specs.Json.{content, nodes}
-use Rattle.jsonptr_json_edits.specs.Alike.{Holds}
-use Rattle.jsonptr_edit_in_text.specs.Carrying.{or_null, value_of, Carries}
+use Rattle.jsonptr.specs.Text.{Text}
+use Rattle.jsonptr.specs.Node.{key, place, Path, an_object, an_array}
+use Rattle.jsonptr.specs.Growing.{is_append_index, with_one, grown}
+use Rattle.jsonptr.specs.Content.{label_of, content_at}
+use Rattle.jsonptr.specs.Json.{content, nodes}
+use Rattle.jsonptr_json_edits.specs.Alike.{HoldsTokens}
+use Rattle.jsonptr_edit_in_text.specs.Carrying.{or_null, value_of_raw, Carries}
 use Rattle.jsonptr_edit_in_text.specs.declared.raw_value.RawValue.{RawValue}
 use Rattle.jsonptr_json_edits.specs.declared.layout.ValueText.{ValueText}
 use Rattle.std.specs.declared.alloc.AllocError.{AllocError}
@@ -148,7 +148,7 @@ wrapped_means xs flat outer v e h g same =
     means_wrapped xs i.tree v e i.means (ap of_json (sym one) ∙ o.means)
 
 -- the text of a raw value is read as its value
-pub raw_reads : (raw : RawValue) → read (string_bytes raw.text.flat) ≡ Some (value_of raw)
+pub raw_reads : (raw : RawValue) → read (string_bytes raw.text.flat) ≡ Some (value_of_raw raw)
 raw_reads raw = at (read (string_bytes raw.text.flat)) raw.is_json
   where
     at : (o : Option Data) → is_some o ≡ true → o ≡ Some (or_null o)
@@ -156,11 +156,11 @@ raw_reads raw = at (read (string_bytes raw.text.flat)) raw.is_json
     at (Some d) h = refl
 
 pub expanded_if : (r : Result (Option ValueText) AllocError) (ts : List Text) (raw : RawValue) (flat : Text) → tokens flat ≡ wrapped ts (tokens (string_bytes raw.text.flat))
-    → IfOk r (λ o. IfSome o (λ t. tokens (string_bytes t.flat) ≡ tokens flat)) → IfOk r (λ o. IfSome o (λ t. (e : Data) × (read (string_bytes t.flat) ≡ Some e))) → IfOk r (λ o. IfSome o (IsExpanded ts (nodes (value_of raw))))
+    → IfOk r (λ o. IfSome o (λ t. tokens (string_bytes t.flat) ≡ tokens flat)) → IfOk r (λ o. IfSome o (λ t. (e : Data) × (read (string_bytes t.flat) ≡ Some e))) → IfOk r (λ o. IfSome o (IsExpanded ts (nodes (value_of_raw raw))))
 expanded_if (Err e) ts raw flat same h g = h
 expanded_if (Ok None) ts raw flat same h g = h
 expanded_if (Ok (Some t)) ts raw flat same h g =
-    (g.0, g.1, wrapped_means ts (string_bytes raw.text.flat) (string_bytes t.flat) (value_of raw) g.0 (raw_reads raw) g.1 (h ∙ same))
+    (g.0, g.1, wrapped_means ts (string_bytes raw.text.flat) (string_bytes t.flat) (value_of_raw raw) g.0 (raw_reads raw) g.1 (h ∙ same))
 
 -- the tokens of a text that is laid out
 pub tokens_if : (r : Result (Option ValueText) AllocError) (flat : Text) (ts : List Token) → tokens flat ≡ ts → IfOk r (λ o. IfSome o (λ t. tokens (string_bytes t.flat) ≡ tokens flat)) → IfOk r (λ o. IfSome o (λ t. tokens (string_bytes t.flat) ≡ ts))
@@ -191,10 +191,10 @@ within_wrapped (x ∷ xs) ts = at (within_wrapped xs ts) (is_append_index 0 x)
     at below true = longer (Token.begin_array ∷ []) ts (wrapped xs ts) (Token.end_array ∷ []) below
     at below false = longer (Token.begin_object ∷ Token.key x ∷ []) ts (wrapped xs ts) (Token.end_object ∷ []) below
 
-pub carries_wrapped : (xs : List Text) (flat outer new : Text) → tokens outer ≡ wrapped xs (tokens flat) → Holds outer new → Carries flat new
+pub carries_wrapped : (xs : List Text) (flat outer new : Text) → tokens outer ≡ wrapped xs (tokens flat) → HoldsTokens outer new → Carries flat new
 carries_wrapped xs flat outer new same h =
     let w = within_wrapped xs (tokens flat) in
     record { before = h.before; part = h.part; after = h.after; opened = w.opened; closed = w.closed; parts = h.parts; same = h.same ∙ same ∙ w.is; trimmed = h.trimmed }
 
-pub carries_all : (flat new : Text) → Holds flat new → Carries flat new
+pub carries_all : (flat new : Text) → HoldsTokens flat new → Carries flat new
 carries_all flat new h = carries_wrapped [] flat flat new refl h

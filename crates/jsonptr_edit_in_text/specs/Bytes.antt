@@ -3,12 +3,12 @@ use Rattle.std.specs.Prelude.{◌≡◌, ◌⊎◌, ℕ, List, [], ◌∷◌, �
 use mathlib.Core.Logic.{inl, inr}
 use Rattle.serde_json.specs.Data.{Data, null, array, object, Items, Members}
 use Rattle.serde_json.specs.Find.{get_member, get_item}
-use Rattle.jsonptr_grammar.specs.Text.{Text, dec}
-use Rattle.jsonptr_tree.specs.Node.{Scalar, a_leaf}
-use Rattle.jsonptr_tree.specs.Content.{label_of}
-use Rattle.jsonptr_tree.specs.Growing.{grown}
-use Rattle.jsonptr_tree.specs.Json.{content, nodes}
-use Rattle.jsonptr_json_search.specs.Search.{items_len}
+use Rattle.jsonptr.specs.Text.{Text, dec}
+use Rattle.jsonptr.specs.Node.{Scalar, a_leaf}
+use Rattle.jsonptr.specs.Content.{label_of}
+use Rattle.jsonptr.specs.Growing.{grown}
+use Rattle.jsonptr.specs.Json.{content, nodes}
+use Rattle.jsonptr_json_search.specs.Search.{items_count}
 use Rattle.jsonptr_in_text.specs.InText.{FindsInText}
 use Rattle.jsonptr_patch.specs.Adding.{MeansPlace}
 use Rattle.jsonptr_json_edits.specs.Spacing.{IsBlank, Splices}
@@ -54,7 +54,7 @@ LacksMember old front x = (ms : Members) × FindsInText old front (object ms) ×
 
 -- `HasPlace old front x`: `front` leads to an array, and `x` refers to an index of it, or to the one after its last element
 abbrev pub HasPlace : Text → List Text → Text → Type 0
-HasPlace old front x = (ds : Items) × FindsInText old front (array ds) × ((i : ℕ) × MeansPlace (items_len ds) x i)
+HasPlace old front x = (ds : Items) × FindsInText old front (array ds) × ((i : ℕ) × MeansPlace (items_count ds) x i)
 
 -- `AddsBytes old new front x e`: the text of one child is added to the value that `front` leads to: of a member with the key
 -- `x`, which was missing, or of an element

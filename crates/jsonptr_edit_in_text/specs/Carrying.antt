@@ -2,7 +2,7 @@
 use Rattle.std.specs.Prelude.{◌≡◌, List, ◌++◌, Option, Some, None, string_bytes}
 use Rattle.json.specs.Lex.{tokens}
 use Rattle.json.specs.Token.{Token}
-use Rattle.jsonptr_grammar.specs.Text.{Text}
+use Rattle.jsonptr.specs.Text.{Text}
 use Rattle.serde_json.specs.Data.{Data, null}
 use Rattle.serde_json.specs.Read.{read}
 use Rattle.jsonptr_json_edits.specs.Spacing.{IsTrimmed}
@@ -13,9 +13,9 @@ abbrev pub or_null : Option Data → Data
 or_null None = null
 or_null (Some d) = d
 
--- `value_of raw` is the value that the text of `raw` is read as
-abbrev pub value_of : RawValue → Data
-value_of raw = or_null (read (string_bytes raw.text.flat))
+-- `value_of_raw raw` is the value that the text of `raw` is read as
+abbrev pub value_of_raw : RawValue → Data
+value_of_raw raw = or_null (read (string_bytes raw.text.flat))
 
 -- `Carries given new`: a part of the text `new` has the tokens of the text `given`, all of them in their order, and before and
 -- after them those of the arrays and objects that path expansion makes around them. The part has no white space around it

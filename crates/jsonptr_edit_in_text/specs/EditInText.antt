@@ -2,11 +2,11 @@
 use Rattle.std.specs.Prelude.{◌≡◌, List, Option, Some, None, ⊤, string_bytes}
 use Rattle.serde_json.specs.Data.{Data, null}
 use Rattle.serde_json.specs.Read.{read, max_depth}
-use Rattle.jsonptr_grammar.specs.Text.{Text}
-use Rattle.jsonptr_tree.specs.Node.{Path, NodeMap, Names}
-use Rattle.jsonptr_tree.specs.Json.{nodes, HasSortedKeys}
-use Rattle.jsonptr_tree.specs.Assigning.{Assigns}
-use Rattle.jsonptr_tree.specs.Removing.{Deletes}
+use Rattle.jsonptr.specs.Text.{Text}
+use Rattle.jsonptr.specs.Node.{Path, NodeMap, Names}
+use Rattle.jsonptr.specs.Json.{nodes, HasSortedKeys}
+use Rattle.jsonptr.specs.Assigning.{Assigns}
+use Rattle.jsonptr.specs.Removing.{Deletes}
 use Rattle.jsonptr_value.specs.Nesting.{NestsWithin}
 use Rattle.jsonptr.specs.Assign.{RefusesAssign}
 use Rattle.jsonptr.specs.declared.assign.Error.{Error as AssignError}
@@ -15,10 +15,10 @@ use Rattle.jsonptr_edit_in_text.specs.declared.edited.Edited.TheVariants.{InPlac
 use Rattle.jsonptr_edit_in_text.specs.declared.edited.EditError.{EditError}
 use Rattle.jsonptr_edit_in_text.specs.declared.edited.EditError.TheVariants.{NotJson, Refused, TooDeep, Memory}
 
--- `text_of e`: the text of the edited document
-abbrev pub text_of : Edited → Text
-text_of (InPlace s) = string_bytes s
-text_of (Rewritten s) = string_bytes s
+-- `edited_text e`: the text of the edited document
+abbrev pub edited_text : Edited → Text
+edited_text (InPlace s) = string_bytes s
+edited_text (Rewritten s) = string_bytes s
 
 -- `AssignsInText old tokens v new`: the texts read as documents, and assigning `v` at the tokens turns the first document
 -- into the second
@@ -52,9 +52,9 @@ DeletesInText old tokens new =
 abbrev pub LacksInText : Text → List Text → Type 0
 LacksInText old tokens = (d : Data) × (read old ≡ Some d) × ((w : Path) → Names (nodes d) tokens w → ⊥)
 
--- `IsReadFault text e`: `e` is why the text is not read, if it is not for memory
-abbrev pub IsReadFault : {E : Type 0} → Text → EditError E → Type 0
-IsReadFault text NotJson = read text ≡ None
-IsReadFault text (Refused e) = ⊥
-IsReadFault text TooDeep = ⊥
-IsReadFault text (Memory e) = ⊤
+-- `IsEditReadError text e`: `e` is why the text is not read, if it is not for memory
+abbrev pub IsEditReadError : {E : Type 0} → Text → EditError E → Type 0
+IsEditReadError text NotJson = read text ≡ None
+IsEditReadError text (Refused e) = ⊥
+IsEditReadError text TooDeep = ⊥
+IsEditReadError text (Memory e) = ⊤

@@ -1,6 +1,6 @@
 -- Edits of a text that are made in place or not at all.
-use Rattle.jsonptr_grammar.specs.Text.{Text}
-use Rattle.jsonptr_lines.specs.Lines.{IsOneLine}
+use Rattle.jsonptr.specs.Text.{Text}
+use Rattle.jsonptr_io.specs.Lines.{IsOneLine}
 use Rattle.jsonptr_edit_in_text.specs.declared.edited.EditError.{EditError}
 use Rattle.jsonptr_edit_in_text.specs.declared.in_place.InPlaceError.{InPlaceError}
 use Rattle.jsonptr_edit_in_text.specs.declared.in_place.InPlaceError.TheVariants.{NotInPlace, Failed}

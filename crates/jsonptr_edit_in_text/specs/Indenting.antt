@@ -3,7 +3,7 @@ use Rattle.std.specs.Prelude.{◌≡◌, Some, None, ⊤}
 use Rattle.json.specs.Lex.{tokens}
 use Rattle.serde_json.specs.Data.{Data}
 use Rattle.serde_json.specs.Read.{read}
-use Rattle.jsonptr_grammar.specs.Text.{Text}
+use Rattle.jsonptr.specs.Text.{Text}
 use Rattle.jsonptr_edit_in_text.specs.declared.indent.IndentError.{IndentError}
 use Rattle.jsonptr_edit_in_text.specs.declared.indent.IndentError.TheVariants.{NotJson, NotWhiteSpace, Memory}
 

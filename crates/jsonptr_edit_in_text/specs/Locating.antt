@@ -1,7 +1,7 @@
 -- The bytes of a value in the text of a document.
 use Rattle.std.specs.Prelude.{◌≡◌, ◌≤◌, ◌<◌, ◌+◌, ℕ, List, [], ◌++◌, length}
 use Rattle.serde_json.specs.Data.{Data}
-use Rattle.jsonptr_grammar.specs.Text.{Text}
+use Rattle.jsonptr.specs.Text.{Text}
 use Rattle.jsonptr_in_text.specs.InText.{FindsInText, IsInTextError}
 use Rattle.jsonptr_json_edits.specs.Child.{IsValueText}
 use Rattle.jsonptr_edit_in_text.specs.declared.locate.LocateError.{LocateError}

@@ -2,14 +2,14 @@
 use Rattle.std.specs.Prelude.{◌≡◌, List, [], ◌∷◌, ◌++◌, Some, None}
 use Rattle.serde_json.specs.Data.{Data}
 use Rattle.serde_json.specs.Read.{read}
-use Rattle.jsonptr_grammar.specs.Text.{Text}
-use Rattle.jsonptr_tree.specs.Node.{NodeMap}
-use Rattle.jsonptr_tree.specs.Json.{nodes}
+use Rattle.jsonptr.specs.Text.{Text}
+use Rattle.jsonptr.specs.Node.{NodeMap}
+use Rattle.jsonptr.specs.Json.{nodes}
 use Rattle.jsonptr_walk.specs.Follow.{PutsAt}
 use Rattle.jsonptr_json_search.specs.Search.{Choice}
 use Rattle.jsonptr_in_text.specs.InText.{FindsInText}
 use Rattle.jsonptr_in_text.specs.Selecting.{IsChoiceOf, AreChoicesOf}
-use Rattle.jsonptr_json_edits.specs.Alike.{Holds}
+use Rattle.jsonptr_json_edits.specs.Alike.{HoldsTokens}
 use Rattle.jsonptr_json_edits.specs.Editing.{AddsElement}
 use Rattle.jsonptr_patch.specs.Adding.{Adds}
 use Rattle.jsonptr_patch.specs.Operating.{AppliesBy, Moves, Copies, PassesBy}
@@ -64,7 +64,7 @@ ElementInserted x piece d d2 =
 abbrev pub AddsAtByText : Text → List Text → Text → Text → Type 0
 AddsAtByText old tokens flat new =
     (e : Data) × (read flat ≡ Some e) × (b : AddsAtBytes old tokens e new)
-    × Holds flat new × Holds flat (added_piece old tokens e new b)
+    × HoldsTokens flat new × HoldsTokens flat (added_piece old tokens e new b)
 
 -- `AreMemberChoices tokens x cs`: `cs` are the selectors of `tokens`, and one of the member with the key `x`
 abbrev pub AreMemberChoices : List Text → Text → List Choice → Type 0

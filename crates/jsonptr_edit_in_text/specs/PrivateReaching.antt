@@ -2,15 +2,15 @@
 use Rattle.std.specs.Prelude.{◌≡◌, ◌⊎◌, List, Option, Some, None, codes, string_bytes}
 use Rattle.serde_json.specs.Data.{Data, array, Items}
 use Rattle.serde_json.specs.Read.{read}
-use Rattle.jsonptr_json_search.specs.Search.{items_len}
-use Rattle.jsonptr_json_edits.specs.Alike.{Holds}
-use Rattle.jsonptr_json_edits.specs.Editing.{AddsMember, InsertsItem}
-use Rattle.jsonptr_grammar.specs.Text.{Text, dec}
-use Rattle.jsonptr_tree.specs.Node.{Path, NodeMap, Names}
-use Rattle.jsonptr_tree.specs.Content.{content_at}
-use Rattle.jsonptr_tree.specs.Json.{content, nodes}
-use Rattle.jsonptr_tree.specs.Put.{put}
-use Rattle.jsonptr_tree.specs.Growing.{grown}
+use Rattle.jsonptr_json_search.specs.Search.{items_count}
+use Rattle.jsonptr_json_edits.specs.Alike.{HoldsTokens}
+use Rattle.jsonptr_json_edits.specs.Editing.{AddsChosenMember, InsertsItem}
+use Rattle.jsonptr.specs.Text.{Text, dec}
+use Rattle.jsonptr.specs.Node.{Path, NodeMap, Names}
+use Rattle.jsonptr.specs.Content.{content_at}
+use Rattle.jsonptr.specs.Json.{content, nodes}
+use Rattle.jsonptr.specs.Put.{put}
+use Rattle.jsonptr.specs.Growing.{grown}
 use Rattle.jsonptr_json_edits.specs.declared.layout.ValueText.{ValueText}
 use Rattle.jsonptr_edit_in_text.specs.Bytes.{IsScalar, ReplacesBytes, AddsPiece, AddsBytes, child_piece}
 
@@ -37,12 +37,12 @@ ReplacesScalar e d d2 = IsScalar d × (d2 ≡ e)
 
 -- `AddsMemberAt x e d d2`: `d2` is the object `d` with the member `e` under the key `x`, which `d` lacks
 abbrev pub AddsMemberAt : Text → Data → Data → Data → Type 0
-AddsMemberAt x e d d2 = AddsMember (x, None) e d d2
+AddsMemberAt x e d d2 = AddsChosenMember (x, None) e d d2
 
 -- `AppendsAt x e d d2`: `d2` is the array `d` with the element `e` after its last, to which the token `x` refers
 abbrev pub AppendsAt : Text → Data → Data → Data → Type 0
-AppendsAt x e d d2 = (ds ds2 : Items) × (d ≡ array ds) × (d2 ≡ array ds2) × InsertsItem (items_len ds) e ds ds2
-    × ((x ≡ codes "-") ⊎ (x ≡ dec (items_len ds)))
+AppendsAt x e d d2 = (ds ds2 : Items) × (d ≡ array ds) × (d2 ≡ array ds2) × InsertsItem (items_count ds) e ds ds2
+    × ((x ≡ codes "-") ⊎ (x ≡ dec (items_count ds)))
 
 -- `Trades was piece d d2`: `d` is the value of the text `was`, and `d2` that of the text `piece`
 abbrev pub Trades : Text → Text → Data → Data → Type 0
@@ -58,7 +58,7 @@ ScalarBecomes piece d d2 = IsScalar d × (read piece ≡ Some d2)
 
 -- `MemberAdded x piece d d2`: `d2` is the object `d` with the value of the text `piece` under the key `x`, which `d` lacks
 abbrev pub MemberAdded : Text → Text → Data → Data → Type 0
-MemberAdded x piece d d2 = (e : Data) × (read piece ≡ Some e) × AddsMember (x, None) e d d2
+MemberAdded x piece d d2 = (e : Data) × (read piece ≡ Some e) × AddsChosenMember (x, None) e d d2
 
 -- `ElementAppended x piece d d2`: `d2` is the array `d` with the value of the text `piece` after its last element, to which
 -- the token `x` refers
@@ -69,8 +69,8 @@ pub record ElementAppended (x piece : Text) (d d2 : Data) : Type 0 where
   pub reads : read piece ≡ Some e
   pub old : d ≡ array ds
   pub new : d2 ≡ array ds2
-  pub inserts : InsertsItem (items_len ds) e ds ds2
-  pub refers : (x ≡ codes "-") ⊎ (x ≡ dec (items_len ds))
+  pub inserts : InsertsItem (items_count ds) e ds ds2
+  pub refers : (x ≡ codes "-") ⊎ (x ≡ dec (items_count ds))
 
 -- `IsExpanded tokens v t`: the text `t` is that of `v`, expanded by `tokens`
 abbrev pub IsExpanded : List Text → NodeMap → ValueText → Type 0
@@ -83,20 +83,20 @@ IsExpanded tokens v t = (e : Data) × (read (string_bytes t.flat) ≡ Some e) ×
 -- tokens
 abbrev pub ReplacesByText : Text → Text → List Text → Text → Type 0
 ReplacesByText old new tokens flat =
-    (e : Data) × (read flat ≡ Some e) × (b : ReplacesBytes old new tokens e) × Holds flat new × Holds flat b.piece
+    (e : Data) × (read flat ≡ Some e) × (b : ReplacesBytes old new tokens e) × HoldsTokens flat new × HoldsTokens flat b.piece
 
 -- `ReplacesScalarByText old new tokens flat`: the same of a scalar
 abbrev pub ReplacesScalarByText : Text → Text → List Text → Text → Type 0
 ReplacesScalarByText old new tokens flat =
-    (e : Data) × (read flat ≡ Some e) × ((h : ReplacesBytes old new tokens e) × IsScalar h.value) × Holds flat new
+    (e : Data) × (read flat ≡ Some e) × ((h : ReplacesBytes old new tokens e) × IsScalar h.value) × HoldsTokens flat new
 
 -- `AddsPieceByText old new key flat`: one child is added, with the value of the text `flat`
 abbrev pub AddsPieceByText : Text → Text → Option Text → Text → Type 0
 AddsPieceByText old new key flat =
-    (e : Data) × (read flat ≡ Some e) × (b : AddsPiece old new key e) × Holds flat new × Holds flat b.piece
+    (e : Data) × (read flat ≡ Some e) × (b : AddsPiece old new key e) × HoldsTokens flat new × HoldsTokens flat b.piece
 
 -- `AddsByText old new front x flat`: the same of a child that `x` refers to
 abbrev pub AddsByText : Text → Text → List Text → Text → Text → Type 0
 AddsByText old new front x flat =
     (e : Data) × (read flat ≡ Some e) × (b : AddsBytes old new front x e)
-    × Holds flat new × Holds flat (child_piece old new front x e b)
+    × HoldsTokens flat new × HoldsTokens flat (child_piece old new front x e b)

@@ -2,10 +2,10 @@
 use Rattle.std.specs.Prelude.{◌≡◌, List, [], ◌∷◌, Option, Some, map, IfSome, IsTrue, string_bytes}
 use Rattle.serde_json.specs.Data.{Data}
 use Rattle.serde_json.specs.View.{view}
-use Rattle.jsonptr_grammar.specs.Text.{Text}
+use Rattle.jsonptr.specs.Text.{Text}
 use Rattle.jsonptr_patch.specs.declared.operation.Operation.{Operation}
 use Rattle.jsonptr_patch.specs.declared.operation.Operation.TheVariants.{Add, Remove, Replace, Move, Copy, Test}
-use Rattle.jsonptr_json_edits.specs.Alike.{Holds}
+use Rattle.jsonptr_json_edits.specs.Alike.{HoldsTokens}
 use Rattle.jsonptr_edit_in_text.specs.Bytes.{ReplacesBytes, DeletesBytes}
 use Rattle.jsonptr_edit_in_text.specs.Fitting.{brings_value}
 use Rattle.jsonptr_edit_in_text.specs.PatchInText.{AddsAtBytes, added_piece, MovesBytes, CopiesBytes}
@@ -18,7 +18,7 @@ operations_in rs = map (λ r. r.operation) rs
 
 -- `HoldsText text piece`: if there is a text, a part of `piece` has its tokens, one for one
 abbrev pub HoldsText : Option RawValue → Text → Type 0
-HoldsText text piece = IfSome text (λ raw. Holds (string_bytes raw.text.flat) piece)
+HoldsText text piece = IfSome text (λ raw. HoldsTokens (string_bytes raw.text.flat) piece)
 
 -- `AddsGiven old tokens e text new`: the value `e` is added, and what is put into the text `old` holds the text of the value,
 -- if there is one
@@ -49,4 +49,4 @@ RawPatchBytes old (r ∷ rs) new = (mid : Text) × GivenBytes old r.operation r.
 abbrev pub IsGivenIn : Text → RawOperation → Type 0
 IsGivenIn text r =
     IsTrue (brings_value r.operation)
-    → (raw : RawValue) × (r.text ≡ Some raw) × Holds (string_bytes raw.text.flat) text
+    → (raw : RawValue) × (r.text ≡ Some raw) × HoldsTokens (string_bytes raw.text.flat) text

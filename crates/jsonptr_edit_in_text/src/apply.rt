@@ -3,7 +3,7 @@ ghost use Rattle.std.specs.Prelude.{◌≡◌, [], Some, IfOk, IfErr, IfSome, Is
 ghost use Rattle.serde_json.specs.Data.{Data};
 ghost use Rattle.serde_json.specs.Read.{read};
 ghost use Rattle.jsonptr_edit_in_text.specs.Bytes.{KeepsBytes};
-ghost use Rattle.jsonptr_edit_in_text.specs.EditInText.{text_of};
+ghost use Rattle.jsonptr_edit_in_text.specs.EditInText.{edited_text};
 ghost use Rattle.jsonptr_edit_in_text.specs.PatchInText.{PatchesInText, PatchBytes, IsPatchFault};
 ghost use Rattle.jsonptr_edit_in_text.specs.RawPatching.{operations_in, RawPatchBytes};
 
@@ -57,7 +57,7 @@ pub fn apply_in_text(
     operations: Vec<Operation>,
 ) -> Result<Edited, EditError<PatchError>>
     ensures applied { IfOk result
-        (λ e. PatchesInText text.now operations.items (text_of e)) }
+        (λ e. PatchesInText text.now operations.items (edited_text e)) }
     ensures bytes { IfOk result (KeepsBytes (PatchBytes text.now operations.items)) }
     ensures refused { IfErr result (IsPatchFault text.now operations.items) }
 {
@@ -89,7 +89,7 @@ pub fn apply_in_text_with(
     operations: Vec<Operation>,
 ) -> Result<Edited, EditError<PatchError>>
     ensures applied { IfOk result
-        (λ e. PatchesInText text.now operations.items (text_of e)) }
+        (λ e. PatchesInText text.now operations.items (edited_text e)) }
     ensures bytes { IfOk result (KeepsBytes (PatchBytes text.now operations.items)) }
     ensures refused { IfErr result (IsPatchFault text.now operations.items) }
 {
@@ -130,7 +130,7 @@ pub fn apply_raw_in_text_with(
     operations: Vec<RawOperation>,
 ) -> Result<Edited, EditError<PatchError>>
     ensures applied { IfOk result
-        (λ e. PatchesInText text.now (operations_in operations.items) (text_of e)) }
+        (λ e. PatchesInText text.now (operations_in operations.items) (edited_text e)) }
     ensures bytes { IfOk result (KeepsBytes (RawPatchBytes text.now operations.items)) }
     ensures refused { IfErr result (IsPatchFault text.now (operations_in operations.items)) }
 {

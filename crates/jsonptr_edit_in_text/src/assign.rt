@@ -2,14 +2,14 @@
 ghost use Rattle.std.specs.Prelude.{◌≡◌, ◌∷◌, ◌++◌, List, ℕ, IfOk, IfErr, IfSome, string_bytes};
 ghost use Rattle.serde_json.specs.View.{view};
 ghost use Rattle.jsonptr.specs.Pointer.{tokens};
-ghost use Rattle.jsonptr_tree.specs.Json.{nodes};
+ghost use Rattle.jsonptr.specs.Json.{nodes};
 ghost use Rattle.jsonptr_edit_in_text.specs.Bytes.{KeepsBytes, AssignsBytes, ReplacesBytes, ExpandsBytes, GrowsBytes};
-ghost use Rattle.jsonptr_edit_in_text.specs.Carrying.{value_of, Carries};
-ghost use Rattle.jsonptr_edit_in_text.specs.EditInText.{text_of, AssignsInText, IsAssignError};
+ghost use Rattle.jsonptr_edit_in_text.specs.Carrying.{value_of_raw, Carries};
+ghost use Rattle.jsonptr_edit_in_text.specs.EditInText.{edited_text, AssignsInText, IsAssignError};
 
 use crate::edited::{EditError, Edited};
 use crate::insert::{add_member, append};
-use crate::place::place_of;
+use crate::place::{Site, place_of};
 use crate::raw::expanded_text;
 use crate::raw_value::RawValue;
 use crate::replace::{replace, replace_scalar};
@@ -17,8 +17,6 @@ use crate::rewrite::assign_and_print;
 use jsonptr::{Pointer, Token, assign};
 use jsonptr_in_text::selectors::selectors_of;
 use jsonptr_json_edits::buffers::Buffers;
-use jsonptr_json_edits::layout::slice;
-use jsonptr_json_edits::locate::Place;
 use jsonptr_value::{MAX_DEPTH, nests_within};
 use serde_json::Value;
 use std::alloc::{AllocError, Global};
@@ -57,7 +55,7 @@ pub fn assign_in_text(
     value: Value,
 ) -> Result<Edited, EditError<assign::Error>>
     ensures assigned { IfOk result (λ e. AssignsInText text.now (tokens pointer.entry)
-        (nodes (view value)) (text_of e)) }
+        (nodes (view value)) (edited_text e)) }
     ensures bytes { IfOk result
         (KeepsBytes (AssignsBytes text.now (tokens pointer.entry) (view value))) }
     ensures refused { IfErr result (IsAssignError text.now (tokens pointer.entry)
@@ -96,7 +94,7 @@ pub fn assign_in_text_with(
     value: Value,
 ) -> Result<Edited, EditError<assign::Error>>
     ensures assigned { IfOk result (λ e. AssignsInText text.now (tokens pointer.entry)
-        (nodes (view value)) (text_of e)) }
+        (nodes (view value)) (edited_text e)) }
     ensures bytes { IfOk result
         (KeepsBytes (AssignsBytes text.now (tokens pointer.entry) (view value))) }
     ensures refused { IfErr result (IsAssignError text.now (tokens pointer.entry)
@@ -141,12 +139,12 @@ pub fn assign_raw_in_text_with(
     value: &RawValue,
 ) -> Result<Edited, EditError<assign::Error>>
     ensures assigned { IfOk result (λ e. AssignsInText text.now (tokens pointer.entry)
-        (nodes (value_of value.now)) (text_of e)) }
+        (nodes (value_of_raw value.now)) (edited_text e)) }
     ensures bytes { IfOk result
-        (KeepsBytes (AssignsBytes text.now (tokens pointer.entry) (value_of value.now))) }
+        (KeepsBytes (AssignsBytes text.now (tokens pointer.entry) (value_of_raw value.now))) }
     ensures carries { IfOk result (KeepsBytes (Carries (string_bytes value.now.text.flat))) }
     ensures refused { IfErr result (IsAssignError text.now (tokens pointer.entry)
-        (value_of value.now)) }
+        (value_of_raw value.now)) }
 {
     if let Some(new) = try_assign(alloc, buffers, text, pointer, value)? {
         return Ok(Edited::InPlace(new));
@@ -161,19 +159,19 @@ pub fn assign_raw_in_text_with(
 /// # Errors
 ///
 /// [`AllocError`] if an allocation fails.
-pub(crate) fn try_assign(
+fn try_assign(
     alloc: Global,
     buffers: &mut Buffers,
     text: &str,
     pointer: Pointer<'_>,
-    value: &RawValue,
+    raw: &RawValue,
 ) -> Result<Option<String>, AllocError>
     ensures assigned { IfOk result (λ new. IfSome new (λ s.
-        AssignsInText text.now (tokens pointer.entry) (nodes (value_of value.now)) (string_bytes s))) }
+        AssignsInText text.now (tokens pointer.entry) (nodes (value_of_raw raw.now)) (string_bytes s))) }
     ensures carries { IfOk result (λ new. IfSome new (λ s.
-        Carries (string_bytes value.now.text.flat) (string_bytes s))) }
+        Carries (string_bytes raw.now.text.flat) (string_bytes s))) }
     ensures bytes { IfOk result (λ new. IfSome new (λ s.
-        AssignsBytes text.now (tokens pointer.entry) (value_of value.now) (string_bytes s))) }
+        AssignsBytes text.now (tokens pointer.entry) (value_of_raw raw.now) (string_bytes s))) }
 {
     let selectors = selectors_of(alloc, pointer)?;
     let Some(place) = place_of(alloc, buffers, text, &selectors)? else {
@@ -182,131 +180,117 @@ pub(crate) fn try_assign(
     let Some((front, rest)) = pointer.split_at(place.followed) else {
         return Ok(None);
     };
-    assign_from(alloc, buffers, text, front, rest, &place, value)
+    let site = Site {
+        text,
+        pointer: front,
+        place: &place,
+    };
+    assign_from(alloc, buffers, &site, rest, raw)
 }
 
-/// Assigns the value at the two pointers, one after the other. The first one leads to the value that was located,
-/// and the first token of the second one to no child of it.
+/// Assigns the value at the pointer of the site and then at the other one, whose first token leads to no
+/// child of the value at the site.
 fn assign_from(
     alloc: Global,
     buffers: &mut Buffers,
-    text: &str,
-    front: Pointer<'_>,
+    site: &Site<'_>,
     rest: Pointer<'_>,
-    place: &Place,
-    value: &RawValue,
+    raw: &RawValue,
 ) -> Result<Option<String>, AllocError>
-    ensures assigned { IfOk result (λ new. IfSome new (λ s. AssignsInText text.now
-        (tokens front.entry ++ tokens rest.entry) (nodes (value_of value.now)) (string_bytes s))) }
+    ensures assigned { IfOk result (λ new. IfSome new (λ s. AssignsInText site.now.text.now
+        (tokens site.now.pointer ++ tokens rest.entry) (nodes (value_of_raw raw.now)) (string_bytes s))) }
     ensures carries { IfOk result (λ new. IfSome new (λ s.
-        Carries (string_bytes value.now.text.flat) (string_bytes s))) }
-    ensures bytes { IfOk result (λ new. IfSome new (λ s. AssignsBytes text.now
-        (tokens front.entry ++ tokens rest.entry) (value_of value.now) (string_bytes s))) }
+        Carries (string_bytes raw.now.text.flat) (string_bytes s))) }
+    ensures bytes { IfOk result (λ new. IfSome new (λ s. AssignsBytes site.now.text.now
+        (tokens site.now.pointer ++ tokens rest.entry) (value_of_raw raw.now) (string_bytes s))) }
 {
     let Some((token, after)) = rest.split_front() else {
-        return assign_there(alloc, buffers, text, front, place, value);
+        return assign_there(alloc, buffers, site, raw);
     };
-    let there = slice(text, place.value.from, place.value.to);
-    if there.starts_with('{') {
-        assign_member(alloc, buffers, text, front, &token, after, place, value)
-    } else if there.starts_with('[') {
-        assign_element(alloc, buffers, text, front, &token, after, place, value)
+    let there = site.slice();
+    if there.starts_with('{') || there.starts_with('[') {
+        let missing = Missing {
+            token: &token,
+            after,
+        };
+        assign_child(alloc, buffers, site, &missing, raw)
     } else {
-        assign_scalar(alloc, buffers, text, front, rest, place, value)
+        assign_scalar(alloc, buffers, site, rest, raw)
     }
 }
 
-/// Replaces the value that the pointer resolves to.
+/// Replaces the value at the site.
 fn assign_there(
     alloc: Global,
     buffers: &mut Buffers,
-    text: &str,
-    pointer: Pointer<'_>,
-    place: &Place,
-    value: &RawValue,
+    site: &Site<'_>,
+    raw: &RawValue,
 ) -> Result<Option<String>, AllocError>
-    ensures assigned { IfOk result (λ new. IfSome new (λ s.
-        AssignsInText text.now (tokens pointer.entry) (nodes (value_of value.now)) (string_bytes s))) }
+    ensures assigned { IfOk result (λ new. IfSome new (λ s. AssignsInText site.now.text.now
+        (tokens site.now.pointer) (nodes (value_of_raw raw.now)) (string_bytes s))) }
     ensures carries { IfOk result (λ new. IfSome new (λ s.
-        Carries (string_bytes value.now.text.flat) (string_bytes s))) }
-    ensures bytes { IfOk result (λ new. IfSome new (λ s.
-        ReplacesBytes text.now (string_bytes s) (tokens pointer.entry) (value_of value.now))) }
+        Carries (string_bytes raw.now.text.flat) (string_bytes s))) }
+    ensures bytes { IfOk result (λ new. IfSome new (λ s. ReplacesBytes site.now.text.now
+        (string_bytes s) (tokens site.now.pointer) (value_of_raw raw.now))) }
 {
-    replace(alloc, buffers, text, pointer, place, &value.text)
+    replace(alloc, buffers, site, &raw.text)
 }
 
-/// Adds a member to the object that the pointer resolves to, with the key of the token and the value
-/// expanded by the tokens after it.
-fn assign_member(
+/// The tokens of a pointer that name nothing.
+#[derive(Clone, Copy, Debug)]
+struct Missing<'a> {
+    /// The first of them.
+    token: &'a Token<'a>,
+    /// The others.
+    after: Pointer<'a>,
+}
+
+/// Adds a child to the array or object at the site, at its end: the value, expanded by the tokens after
+/// the first one that is missing.
+fn assign_child(
     alloc: Global,
     buffers: &mut Buffers,
-    text: &str,
-    pointer: Pointer<'_>,
-    token: &Token<'_>,
-    after: Pointer<'_>,
-    place: &Place,
-    value: &RawValue,
+    site: &Site<'_>,
+    missing: &Missing<'_>,
+    raw: &RawValue,
 ) -> Result<Option<String>, AllocError>
-    ensures assigned { IfOk result (λ new. IfSome new (λ s. AssignsInText text.now
-        (tokens pointer.entry ++ token.now ∷ tokens after.entry) (nodes (value_of value.now))
-        (string_bytes s))) }
+    ensures assigned { IfOk result (λ new. IfSome new (λ s. AssignsInText site.now.text.now
+        (tokens site.now.pointer ++ missing.now.token.now ∷ tokens missing.now.after)
+        (nodes (value_of_raw raw.now)) (string_bytes s))) }
     ensures carries { IfOk result (λ new. IfSome new (λ s.
-        Carries (string_bytes value.now.text.flat) (string_bytes s))) }
-    ensures bytes { IfOk result (λ new. IfSome new (λ s. GrowsBytes text.now (string_bytes s)
-        (tokens pointer.entry) token.now (tokens after.entry) (value_of value.now))) }
+        Carries (string_bytes raw.now.text.flat) (string_bytes s))) }
+    ensures bytes { IfOk result (λ new. IfSome new (λ s. GrowsBytes site.now.text.now
+        (string_bytes s) (tokens site.now.pointer) missing.now.token.now
+        (tokens missing.now.after) (value_of_raw raw.now))) }
 {
-    let Some(value) = expanded_text(alloc, &mut buffers.value, after, value)? else {
+    let Some(printed) = expanded_text(alloc, &mut buffers.value, missing.after, raw)? else {
         return Ok(None);
     };
-    add_member(alloc, buffers, text, pointer, place, token, &value)
+    if site.slice().starts_with('{') {
+        add_member(alloc, buffers, site, missing.token, &printed)
+    } else {
+        append(alloc, buffers, site, missing.token, &printed)
+    }
 }
 
-/// Appends the value, expanded by the tokens after the token, to the array that the pointer resolves
-/// to.
-fn assign_element(
-    alloc: Global,
-    buffers: &mut Buffers,
-    text: &str,
-    pointer: Pointer<'_>,
-    token: &Token<'_>,
-    after: Pointer<'_>,
-    place: &Place,
-    value: &RawValue,
-) -> Result<Option<String>, AllocError>
-    ensures assigned { IfOk result (λ new. IfSome new (λ s. AssignsInText text.now
-        (tokens pointer.entry ++ token.now ∷ tokens after.entry) (nodes (value_of value.now))
-        (string_bytes s))) }
-    ensures carries { IfOk result (λ new. IfSome new (λ s.
-        Carries (string_bytes value.now.text.flat) (string_bytes s))) }
-    ensures bytes { IfOk result (λ new. IfSome new (λ s. GrowsBytes text.now (string_bytes s)
-        (tokens pointer.entry) token.now (tokens after.entry) (value_of value.now))) }
-{
-    let Some(value) = expanded_text(alloc, &mut buffers.value, after, value)? else {
-        return Ok(None);
-    };
-    append(alloc, buffers, text, pointer, place, token, &value)
-}
-
-/// Replaces the scalar that the pointer resolves to by the value, expanded by at least one token.
+/// Replaces the scalar at the site by the value, expanded by at least one token.
 fn assign_scalar(
     alloc: Global,
     buffers: &mut Buffers,
-    text: &str,
-    pointer: Pointer<'_>,
+    site: &Site<'_>,
     rest: Pointer<'_>,
-    place: &Place,
-    value: &RawValue,
+    raw: &RawValue,
 ) -> Result<Option<String>, AllocError>
     ensures assigned { (x : List ℕ) (after : List (List ℕ)) → tokens rest.entry ≡ x ∷ after
-        → IfOk result (λ new. IfSome new (λ s. AssignsInText text.now
-        (tokens pointer.entry ++ x ∷ after) (nodes (value_of value.now)) (string_bytes s))) }
+        → IfOk result (λ new. IfSome new (λ s. AssignsInText site.now.text.now
+        (tokens site.now.pointer ++ x ∷ after) (nodes (value_of_raw raw.now)) (string_bytes s))) }
     ensures carries { IfOk result (λ new. IfSome new (λ s.
-        Carries (string_bytes value.now.text.flat) (string_bytes s))) }
-    ensures bytes { IfOk result (λ new. IfSome new (λ s. ExpandsBytes text.now (string_bytes s)
-        (tokens pointer.entry) (tokens rest.entry) (value_of value.now))) }
+        Carries (string_bytes raw.now.text.flat) (string_bytes s))) }
+    ensures bytes { IfOk result (λ new. IfSome new (λ s. ExpandsBytes site.now.text.now
+        (string_bytes s) (tokens site.now.pointer) (tokens rest.entry) (value_of_raw raw.now))) }
 {
-    let Some(value) = expanded_text(alloc, &mut buffers.value, rest, value)? else {
+    let Some(printed) = expanded_text(alloc, &mut buffers.value, rest, raw)? else {
         return Ok(None);
     };
-    replace_scalar(alloc, buffers, text, pointer, place, &value)
+    replace_scalar(alloc, buffers, site, &printed)
 }

@@ -56,11 +56,11 @@ pub fn pointer_at<'t>(
 {
     let mut buffers = Buffers::new(alloc);
     let deepest = path_to(alloc, text, offset)?;
-    if let Some(found) = value_at(alloc, &mut buffers, text, offset, deepest.as_ptr())? {
+    if let Some(found) = value_around(alloc, &mut buffers, text, offset, deepest.as_ptr())? {
         return Ok(Some(found));
     }
     if let Some(parent) = deepest.as_ptr().parent() {
-        if let Some(found) = value_at(alloc, &mut buffers, text, offset, parent)? {
+        if let Some(found) = value_around(alloc, &mut buffers, text, offset, parent)? {
             return Ok(Some(found));
         }
     }
@@ -92,7 +92,7 @@ fn path_to(alloc: Global, text: &str, offset: usize) -> Result<PointerBuf, Alloc
 /// # Errors
 ///
 /// [`AllocError`] if an allocation fails.
-fn value_at<'t>(
+fn value_around<'t>(
     alloc: Global,
     buffers: &mut Buffers,
     text: &'t str,

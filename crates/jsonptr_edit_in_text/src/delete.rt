@@ -3,18 +3,17 @@ ghost use Rattle.std.specs.Prelude.{◌≡◌, [], IfOk, IfErr, IfSome, MatchOpt
 ghost use Rattle.serde_json.specs.Data.{null};
 ghost use Rattle.jsonptr.specs.Pointer.{tokens};
 ghost use Rattle.jsonptr_edit_in_text.specs.Bytes.{KeepsBytes, DeletesBytes, ReplacesBytes};
-ghost use Rattle.jsonptr_edit_in_text.specs.EditInText.{text_of, DeletesInText, LacksInText, IsReadFault};
+ghost use Rattle.jsonptr_edit_in_text.specs.EditInText.{edited_text, DeletesInText, LacksInText, IsEditReadError};
 
 use crate::edited::{EditError, Edited};
-use crate::place::place_of;
+use crate::place::{Site, place_of};
 use crate::remove::cut_children;
-use crate::replace::replace;
+use crate::replace::replace_at;
 use crate::rewrite::delete_and_print;
 use crate::value_text::value_text;
 use jsonptr::Pointer;
 use jsonptr_in_text::selectors::selectors_of;
 use jsonptr_json_edits::buffers::Buffers;
-use jsonptr_json_edits::locate::Place;
 use serde_json::Value;
 use std::alloc::{AllocError, Global};
 use std::convert::Infallible;
@@ -50,10 +49,10 @@ pub fn delete_in_text(
     pointer: Pointer<'_>,
 ) -> Result<Option<Edited>, EditError<Infallible>>
     ensures deleted { IfOk result (λ o. MatchOption o (LacksInText text.now (tokens pointer.entry))
-        (λ e. DeletesInText text.now (tokens pointer.entry) (text_of e))) }
+        (λ e. DeletesInText text.now (tokens pointer.entry) (edited_text e))) }
     ensures bytes { IfOk result (λ o. IfSome o
         (KeepsBytes (DeletesBytes text.now (tokens pointer.entry)))) }
-    ensures refused { IfErr result (IsReadFault text.now) }
+    ensures refused { IfErr result (IsEditReadError text.now) }
 {
     let mut buffers = Buffers::new(alloc);
     delete_in_text_with(alloc, &mut buffers, text, pointer)
@@ -83,12 +82,12 @@ pub fn delete_in_text_with(
     pointer: Pointer<'_>,
 ) -> Result<Option<Edited>, EditError<Infallible>>
     ensures deleted { IfOk result (λ o. MatchOption o (LacksInText text.now (tokens pointer.entry))
-        (λ e. DeletesInText text.now (tokens pointer.entry) (text_of e))) }
+        (λ e. DeletesInText text.now (tokens pointer.entry) (edited_text e))) }
     ensures bytes { IfOk result (λ o. IfSome o
         (KeepsBytes (DeletesBytes text.now (tokens pointer.entry)))) }
-    ensures refused { IfErr result (IsReadFault text.now) }
+    ensures refused { IfErr result (IsEditReadError text.now) }
 {
-    if let Some(new) = delete_in_place(alloc, buffers, text, pointer)? {
+    if let Some(new) = cut_out(alloc, buffers, text, pointer)? {
         return Ok(Some(Edited::InPlace(new)));
     }
     match delete_and_print(alloc, text, pointer)? {
@@ -103,7 +102,7 @@ pub fn delete_in_text_with(
 /// # Errors
 ///
 /// [`AllocError`] if an allocation fails.
-pub fn delete_in_place(
+pub fn cut_out(
     alloc: Global,
     buffers: &mut Buffers,
     text: &str,
@@ -114,16 +113,23 @@ pub fn delete_in_place(
     ensures bytes { IfOk result (λ new. IfSome new (λ s.
         DeletesBytes text.now (tokens pointer.entry) (string_bytes s))) }
 {
-    let selectors = selectors_of(alloc, pointer)?;
-    let Some(place) = place_of(alloc, buffers, text, &selectors)? else {
-        return Ok(None);
-    };
-    if place.followed != selectors.len() {
-        return Ok(None);
-    }
     match pointer.split_back() {
-        None => delete_root(alloc, buffers, text, pointer, &place),
-        Some((front, last)) => cut_children(alloc, buffers, text, front, &last, &place),
+        None => delete_root(alloc, buffers, text, pointer),
+        Some((front, last)) => {
+            let selectors = selectors_of(alloc, pointer)?;
+            let Some(place) = place_of(alloc, buffers, text, &selectors)? else {
+                return Ok(None);
+            };
+            if place.followed != selectors.len() {
+                return Ok(None);
+            }
+            let site = Site {
+                text,
+                pointer: front,
+                place: &place,
+            };
+            cut_children(alloc, buffers, &site, &last)
+        }
     }
 }
 
@@ -133,7 +139,6 @@ fn delete_root(
     buffers: &mut Buffers,
     text: &str,
     pointer: Pointer<'_>,
-    place: &Place,
 ) -> Result<Option<String>, AllocError>
     ensures deleted { tokens pointer.entry ≡ [] → IfOk result (λ new. IfSome new (λ s.
         DeletesInText text.now (tokens pointer.entry) (string_bytes s))) }
@@ -143,5 +148,5 @@ fn delete_root(
     let Some(null) = value_text(alloc, &Value::Null)? else {
         return Ok(None);
     };
-    replace(alloc, buffers, text, pointer, place, &null)
+    replace_at(alloc, buffers, text, pointer, &null)
 }

@@ -9,11 +9,21 @@ ghost use Rattle.jsonptr_edit_in_text.specs.PrivateReaching.{ReachedInText};
 use jsonptr::Pointer;
 use jsonptr_in_text::selectors::selectors_of;
 use jsonptr_json_edits::buffers::Buffers;
-use jsonptr_json_edits::check::is_edited_with;
+use jsonptr_json_edits::check::is_edited;
 use jsonptr_json_edits::cut::{Cut, splice};
-use jsonptr_json_edits::edit::Edit;
-use jsonptr_json_search::selector::Selector;
+use jsonptr_json_edits::edit::{Edit, EditAt};
 use std::alloc::{AllocError, Global};
+
+/// An edit, and the pointer of the value that it changes.
+#[derive(Clone, Copy, Debug)]
+pub struct EditAtPointer<'a> {
+    /// The pointer that resolves to the value.
+    pub pointer: Pointer<'a>,
+    /// The position, among all children, of each child on the way.
+    pub positions: &'a [usize],
+    /// The edit.
+    pub edit: &'a Edit,
+}
 
 /// Puts the piece into the text, if that makes the edit of the value that the selectors lead to.
 ///
@@ -24,18 +34,16 @@ pub fn edit_by(
     alloc: Global,
     buffers: &mut Buffers,
     cut: &Cut<'_>,
-    selectors: &[Selector],
-    positions: &[usize],
+    at: EditAt<'_>,
     piece: &str,
-    edit: &Edit,
 ) -> Result<Option<String>, AllocError>
     ensures edited { IfOk result (λ new. IfSome new (λ s.
-        IsEdited cut.now.text.now (string_bytes s) (choices selectors.now) edit.now)) }
+        IsEdited cut.now.text.now (string_bytes s) (choices at.entry.selectors.now) at.entry.edit.now)) }
     ensures spliced { IfOk result (λ new. IfSome new (λ s.
         Splices cut.now.text.now (string_bytes s) cut.now.was.now piece.now)) }
 {
     let new = splice(alloc, cut, piece)?;
-    if is_edited_with(buffers, cut.text, new.as_str(), selectors, positions, edit)? {
+    if is_edited(buffers, cut.text, new.as_str(), at)? {
         Ok(Some(new))
     } else {
         Ok(None)
@@ -53,15 +61,18 @@ pub fn is_edited_at(
     buffers: &mut Buffers,
     old: &str,
     new: &str,
-    pointer: Pointer<'_>,
-    positions: &[usize],
-    edit: &Edit,
+    at: &EditAtPointer<'_>,
 ) -> Result<bool, AllocError>
     ensures { IfOk result (λ b. IsTrue b
-        → ReachedInText old.now new.now (tokens pointer.entry) (Makes edit.now)) }
+        → ReachedInText old.now new.now (tokens at.now.pointer) (Makes at.now.edit.now)) }
 {
-    let selectors = selectors_of(alloc, pointer)?;
-    is_edited_with(buffers, old, new, &selectors, positions, edit)
+    let selectors = selectors_of(alloc, at.pointer)?;
+    let by = EditAt {
+        selectors: &selectors,
+        positions: at.positions,
+        edit: at.edit,
+    };
+    is_edited(buffers, old, new, by)
 }
 
 /// Puts the piece into the text, if that makes the edit of the value that the pointer resolves to.
@@ -73,16 +84,19 @@ pub fn edit_at(
     alloc: Global,
     buffers: &mut Buffers,
     cut: &Cut<'_>,
-    pointer: Pointer<'_>,
-    positions: &[usize],
+    at: &EditAtPointer<'_>,
     piece: &str,
-    edit: &Edit,
 ) -> Result<Option<String>, AllocError>
     ensures reached { IfOk result (λ new. IfSome new (λ s. ReachedInText cut.now.text.now
-        (string_bytes s) (tokens pointer.entry) (Makes edit.now))) }
+        (string_bytes s) (tokens at.now.pointer) (Makes at.now.edit.now))) }
     ensures spliced { IfOk result (λ new. IfSome new (λ s.
         Splices cut.now.text.now (string_bytes s) cut.now.was.now piece.now)) }
 {
-    let selectors = selectors_of(alloc, pointer)?;
-    edit_by(alloc, buffers, cut, &selectors, positions, piece, edit)
+    let selectors = selectors_of(alloc, at.pointer)?;
+    let by = EditAt {
+        selectors: &selectors,
+        positions: at.positions,
+        edit: at.edit,
+    };
+    edit_by(alloc, buffers, cut, by, piece)
 }

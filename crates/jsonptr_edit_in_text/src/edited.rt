@@ -1,6 +1,6 @@
 //! What an edit in a text returns.
 ghost use Rattle.std.specs.Prelude.{◌≡◌, string_bytes};
-ghost use Rattle.jsonptr_edit_in_text.specs.EditInText.{text_of};
+ghost use Rattle.jsonptr_edit_in_text.specs.EditInText.{edited_text};
 ghost use Rattle.jsonptr_edit_in_text.specs.declared.edited.EditError.TheVariants.{Memory};
 
 use std::alloc::AllocError;
@@ -19,7 +19,7 @@ pub enum Edited {
 impl Edited {
     /// Returns the text.
     pub fn as_str(&self) -> &str
-        ensures { result.now ≡ text_of self.now }
+        ensures { result.now ≡ edited_text self.now }
     {
         match self {
             Edited::InPlace(text) => text.as_str(),
@@ -29,7 +29,7 @@ impl Edited {
 
     /// Returns the text, without copying it.
     pub fn into_string(self) -> String
-        ensures { string_bytes result ≡ text_of self }
+        ensures { string_bytes result ≡ edited_text self }
     {
         match self {
             Edited::InPlace(text) => text,

@@ -2,10 +2,10 @@
 ghost use Rattle.std.specs.Prelude.{IfOk, IfErr, IfSome, MatchOption, string_bytes};
 ghost use Rattle.serde_json.specs.View.{view};
 ghost use Rattle.jsonptr.specs.Pointer.{tokens};
-ghost use Rattle.jsonptr_tree.specs.Json.{nodes};
+ghost use Rattle.jsonptr.specs.Json.{nodes};
 ghost use Rattle.jsonptr_edit_in_text.specs.Bytes.{AssignsBytes, DeletesBytes};
-ghost use Rattle.jsonptr_edit_in_text.specs.Carrying.{value_of, Carries};
-ghost use Rattle.jsonptr_edit_in_text.specs.EditInText.{AssignsInText, DeletesInText, LacksInText, IsAssignError, IsReadFault};
+ghost use Rattle.jsonptr_edit_in_text.specs.Carrying.{value_of_raw, Carries};
+ghost use Rattle.jsonptr_edit_in_text.specs.EditInText.{AssignsInText, DeletesInText, LacksInText, IsAssignError, IsEditReadError};
 ghost use Rattle.jsonptr_edit_in_text.specs.PatchInText.{PatchesInText, PatchBytes, IsPatchFault};
 ghost use Rattle.jsonptr_edit_in_text.specs.RawPatching.{operations_in, RawPatchBytes};
 ghost use Rattle.jsonptr_edit_in_text.specs.InPlace.{IsInPlaceError, StaysOneLine};
@@ -30,7 +30,8 @@ use thiserror::Error;
 #[derive(Debug, Drop, Error)]
 #[error_bound(E: Display)]
 pub enum InPlaceError<E> {
-    /// The edit is possible, but the document would have to be printed anew.
+    /// The edit is possible, but the document would have to be printed anew, or a text of one line
+    /// would have more lines.
     #[error("document cannot be edited in place")]
     NotInPlace,
     /// The edit is not possible.
@@ -42,8 +43,8 @@ pub enum InPlaceError<E> {
 ///
 /// # Errors
 ///
-/// [`InPlaceError::NotInPlace`] where [`assign_in_text_with`] prints the document anew, and
-/// [`InPlaceError::Failed`] with its error.
+/// [`InPlaceError::NotInPlace`] where [`assign_in_text_with`] prints the document anew or
+/// breaks a text of one line, and [`InPlaceError::Failed`] with its error.
 pub fn assign_in_place(
     alloc: Global,
     buffers: &mut Buffers,
@@ -79,8 +80,8 @@ pub fn assign_in_place(
 ///
 /// # Errors
 ///
-/// [`InPlaceError::NotInPlace`] where `assign_raw_in_text_with` prints the document anew, and
-/// [`InPlaceError::Failed`] with its error.
+/// [`InPlaceError::NotInPlace`] where `assign_raw_in_text_with` prints the document anew or
+/// breaks a text of one line, and [`InPlaceError::Failed`] with its error.
 ///
 /// # Examples
 ///
@@ -99,15 +100,15 @@ pub fn assign_raw_in_place(
     value: &RawValue,
 ) -> Result<String, InPlaceError<assign::Error>>
     ensures assigned { IfOk result (λ s. AssignsInText text.now (tokens pointer.entry)
-        (nodes (value_of value.now)) (string_bytes s)) }
+        (nodes (value_of_raw value.now)) (string_bytes s)) }
     ensures bytes { IfOk result (λ s.
-        AssignsBytes text.now (tokens pointer.entry) (value_of value.now) (string_bytes s)) }
+        AssignsBytes text.now (tokens pointer.entry) (value_of_raw value.now) (string_bytes s)) }
     ensures carries { IfOk result (λ s. Carries (string_bytes value.now.text.flat) (string_bytes s)) }
     ensures line { IfOk result (λ s. StaysOneLine text.now (string_bytes s)) }
     ensures refused { IfErr result (IsInPlaceError
-        (AssignsInText text.now (tokens pointer.entry) (nodes (value_of value.now)))
+        (AssignsInText text.now (tokens pointer.entry) (nodes (value_of_raw value.now)))
         (IsAssignError text.now (tokens pointer.entry)
-        (value_of value.now))) }
+        (value_of_raw value.now))) }
 {
     match assign_raw_in_text_with(alloc, buffers, text, pointer, value) {
         Ok(Edited::InPlace(new)) => {
@@ -126,8 +127,8 @@ pub fn assign_raw_in_place(
 ///
 /// # Errors
 ///
-/// [`InPlaceError::NotInPlace`] where [`delete_in_text_with`] prints the document anew, and
-/// [`InPlaceError::Failed`] with its error.
+/// [`InPlaceError::NotInPlace`] where [`delete_in_text_with`] prints the document anew or
+/// breaks a text of one line, and [`InPlaceError::Failed`] with its error.
 pub fn delete_in_place(
     alloc: Global,
     buffers: &mut Buffers,
@@ -140,7 +141,7 @@ pub fn delete_in_place(
         DeletesBytes text.now (tokens pointer.entry) (string_bytes s))) }
     ensures line { IfOk result (λ o. IfSome o (λ s. StaysOneLine text.now (string_bytes s))) }
     ensures refused { IfErr result (IsInPlaceError
-        (DeletesInText text.now (tokens pointer.entry)) (IsReadFault text.now)) }
+        (DeletesInText text.now (tokens pointer.entry)) (IsEditReadError text.now)) }
 {
     match delete_in_text_with(alloc, buffers, text, pointer) {
         Ok(None) => Ok(None),
@@ -160,8 +161,8 @@ pub fn delete_in_place(
 ///
 /// # Errors
 ///
-/// [`InPlaceError::NotInPlace`] where [`apply_in_text_with`] prints the document anew, and
-/// [`InPlaceError::Failed`] with its error.
+/// [`InPlaceError::NotInPlace`] where [`apply_in_text_with`] prints the document anew or
+/// breaks a text of one line, and [`InPlaceError::Failed`] with its error.
 pub fn apply_in_place(
     alloc: Global,
     buffers: &mut Buffers,
@@ -192,8 +193,8 @@ pub fn apply_in_place(
 ///
 /// # Errors
 ///
-/// [`InPlaceError::NotInPlace`] where [`apply_raw_in_text_with`] prints the document anew, and
-/// [`InPlaceError::Failed`] with its error.
+/// [`InPlaceError::NotInPlace`] where [`apply_raw_in_text_with`] prints the document anew or
+/// breaks a text of one line, and [`InPlaceError::Failed`] with its error.
 ///
 /// # Examples
 ///

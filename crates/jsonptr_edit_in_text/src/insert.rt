@@ -1,27 +1,30 @@
 //! Adding a child to an array or an object in a text.
-ghost use Rattle.std.specs.Prelude.{◌≡◌, ◌⊎◌, Some, None, IfOk, IfSome, codes, string_bytes};
+ghost use Rattle.std.specs.Prelude.{◌≡◌, ◌⊎◌, Some, IfOk, IfSome, codes, option_map, string_bytes};
 ghost use Rattle.jsonptr.specs.Pointer.{tokens};
-ghost use Rattle.jsonptr_grammar.specs.Text.{dec};
+ghost use Rattle.jsonptr.specs.Text.{dec};
+ghost use Rattle.jsonptr_in_text.specs.Selecting.{IsChoiceOf};
+ghost use Rattle.jsonptr_json_search.specs.Search.{choice_of};
 ghost use Rattle.jsonptr_json_edits.specs.Editing.{Makes};
+ghost use Rattle.jsonptr_edit_in_text.specs.PrivateOperating.{ElementInserted};
 ghost use Rattle.jsonptr_edit_in_text.specs.PrivateReaching.{ReachedInText, MemberAdded, ElementAppended, AddsPieceByText, AddsByText};
 
-use crate::edit::edit_at;
-use crate::place::children_of;
+use crate::edit::{EditAtPointer, edit_at};
+use crate::place::{Site, children_of};
+use jsonptr::Token;
 use jsonptr::index::Index;
-use jsonptr::{Pointer, Token};
+use jsonptr_in_text::selectors::selector_of;
 use jsonptr_json_edits::buffers::Buffers;
 use jsonptr_json_edits::child::is_one_child;
 use jsonptr_json_edits::cut::cut_at;
 use jsonptr_json_edits::edit::{Child, Edit};
 use jsonptr_json_edits::layout::{Container, Piece, ValueText, addition};
-use jsonptr_json_edits::locate::Place;
 use jsonptr_json_edits::spacing::is_blank;
 use jsonptr_json_search::selector::Selector;
 use serde_json::Value;
 use std::alloc::{AllocError, Global};
 
-/// Adds a member with the key of the token to the object that the pointer resolves to. Returns
-/// `None` if that is not possible.
+/// Adds a member with the key of the token to the object at the site. Returns `None` if that is not
+/// possible.
 ///
 /// # Errors
 ///
@@ -29,76 +32,40 @@ use std::alloc::{AllocError, Global};
 pub fn add_member(
     alloc: Global,
     buffers: &mut Buffers,
-    text: &str,
-    pointer: Pointer<'_>,
-    place: &Place,
+    site: &Site<'_>,
     token: &Token<'_>,
-    value: &ValueText,
+    printed: &ValueText,
 ) -> Result<Option<String>, AllocError>
-    ensures reached { IfOk result (λ new. IfSome new (λ s. ReachedInText text.now (string_bytes s)
-        (tokens pointer.entry) (MemberAdded token.now (string_bytes value.now.flat)))) }
-    ensures bytes { IfOk result (λ new. IfSome new (λ s. AddsByText text.now (string_bytes s)
-        (tokens pointer.entry) token.now (string_bytes value.now.flat))) }
+    ensures reached { IfOk result (λ new. IfSome new (λ s. ReachedInText site.now.text.now
+        (string_bytes s) (tokens site.now.pointer)
+        (MemberAdded token.now (string_bytes printed.now.flat)))) }
+    ensures bytes { IfOk result (λ new. IfSome new (λ s. AddsByText site.now.text.now
+        (string_bytes s) (tokens site.now.pointer) token.now (string_bytes printed.now.flat))) }
 {
-    let Some(members) = children_of(alloc, buffers, text, place.value)? else {
+    let Some(members) = children_of(alloc, buffers, site.text, site.place.value)? else {
         return Ok(None);
     };
     let position = members.len();
+    let child = child_of(alloc, token, position, printed)?;
+    let key = child.selector.key.clone()?;
+    let quoted = Value::String(key.clone()?).to_string(alloc)?;
     let container = Container {
-        text,
-        span: place.value,
+        text: site.text,
+        span: site.place.value,
         children: members.as_slice(),
     };
-    let key = token.decoded(alloc)?.into_owned(alloc)?;
-    let quoted = Value::String(key.clone()?).to_string(alloc)?;
-    let quoted = Some(quoted.as_str());
-    let piece = addition(alloc, container, position, quoted, value)?;
-    let child = Child {
-        selector: Selector { key, index: None },
-        position,
-        value: value.flat.clone()?,
+    let piece = addition(alloc, container, position, Some(quoted.as_str()), printed)?;
+    let name = Some(key.as_str());
+    let new = NewChild {
+        piece: &piece,
+        key: name,
+        value: printed.flat.as_str(),
     };
-    put_member(alloc, buffers, text, pointer, place, &piece, child)
+    put_child(alloc, buffers, site, new, &Edit::Add(child))
 }
 
-/// Puts the text of a member into the object that the pointer resolves to.
-fn put_member(
-    alloc: Global,
-    buffers: &mut Buffers,
-    text: &str,
-    pointer: Pointer<'_>,
-    place: &Place,
-    piece: &Piece,
-    child: Child,
-) -> Result<Option<String>, AllocError>
-    ensures reached { IfOk result (λ new. IfSome new (λ s. ReachedInText text.now (string_bytes s)
-        (tokens pointer.entry) (Makes (Edit.Add child)))) }
-    ensures bytes { IfOk result (λ new. IfSome new (λ s. AddsPieceByText text.now
-        (string_bytes s) (Some (string_bytes child.selector.key)) (string_bytes child.value))) }
-{
-    let Some(cut) = cut_at(text, piece.span.from, piece.span.to) else {
-        return Ok(None);
-    };
-    let added = piece.text.as_str();
-    let key = Some(child.selector.key.as_str());
-    let value = Some(child.value.as_str());
-    if !is_blank(cut.was) || !is_one_child(buffers, added, piece.child, key, value)? {
-        return Ok(None);
-    }
-    let edit = Edit::Add(child);
-    edit_at(
-        alloc,
-        buffers,
-        &cut,
-        pointer,
-        &place.positions,
-        added,
-        &edit,
-    )
-}
-
-/// Adds an element at the end of the array that the pointer resolves to, if the token refers to the
-/// index after its last element. Returns `None` if that is not possible.
+/// Adds an element at the end of the array at the site, if the token refers to the index after its
+/// last element. Returns `None` if that is not possible.
 ///
 /// # Errors
 ///
@@ -106,81 +73,151 @@ fn put_member(
 pub fn append(
     alloc: Global,
     buffers: &mut Buffers,
-    text: &str,
-    pointer: Pointer<'_>,
-    place: &Place,
+    site: &Site<'_>,
     token: &Token<'_>,
-    value: &ValueText,
+    printed: &ValueText,
 ) -> Result<Option<String>, AllocError>
-    ensures reached { IfOk result (λ new. IfSome new (λ s. ReachedInText text.now (string_bytes s)
-        (tokens pointer.entry) (ElementAppended token.now (string_bytes value.now.flat)))) }
-    ensures bytes { IfOk result (λ new. IfSome new (λ s. AddsByText text.now (string_bytes s)
-        (tokens pointer.entry) token.now (string_bytes value.now.flat))) }
+    ensures reached { IfOk result (λ new. IfSome new (λ s. ReachedInText site.now.text.now
+        (string_bytes s) (tokens site.now.pointer)
+        (ElementAppended token.now (string_bytes printed.now.flat)))) }
+    ensures bytes { IfOk result (λ new. IfSome new (λ s. AddsByText site.now.text.now
+        (string_bytes s) (tokens site.now.pointer) token.now (string_bytes printed.now.flat))) }
 {
-    let Some(elements) = children_of(alloc, buffers, text, place.value)? else {
+    let Some(elements) = children_of(alloc, buffers, site.text, site.place.value)? else {
         return Ok(None);
     };
     let position = elements.len();
     let Some(index) = append_index(token, position) else {
         return Ok(None);
     };
+    let child = element(alloc, index, printed)?;
     let container = Container {
-        text,
-        span: place.value,
+        text: site.text,
+        span: site.place.value,
         children: elements.as_slice(),
     };
-    let piece = addition(alloc, container, position, None, value)?;
-    let child = element(alloc, index, value)?;
-    put_element(
-        alloc,
-        buffers,
-        text,
-        pointer,
-        place,
-        &piece,
-        value.flat.as_str(),
-        &Edit::Append(child),
-    )
+    let piece = addition(alloc, container, position, None, printed)?;
+    let new = NewChild {
+        piece: &piece,
+        key: None,
+        value: printed.flat.as_str(),
+    };
+    put_child(alloc, buffers, site, new, &Edit::Append(child))
 }
 
-/// Puts the text of an element into the array that the pointer resolves to. The element has the value,
-/// which is JSON text.
-pub fn put_element(
+/// Inserts an element into the array at the site, before the one at the index that the token is or
+/// after the last one. Returns `None` if that is not possible.
+///
+/// # Errors
+///
+/// [`AllocError`] if an allocation fails.
+pub fn insert(
     alloc: Global,
     buffers: &mut Buffers,
-    text: &str,
-    pointer: Pointer<'_>,
-    place: &Place,
-    piece: &Piece,
-    value: &str,
+    site: &Site<'_>,
+    token: &Token<'_>,
+    printed: &ValueText,
+) -> Result<Option<String>, AllocError>
+    ensures reached { IfOk result (λ new. IfSome new (λ s. ReachedInText site.now.text.now
+        (string_bytes s) (tokens site.now.pointer)
+        (ElementInserted token.now (string_bytes printed.now.flat)))) }
+    ensures bytes { IfOk result (λ new. IfSome new (λ s. AddsByText site.now.text.now
+        (string_bytes s) (tokens site.now.pointer) token.now (string_bytes printed.now.flat))) }
+{
+    let Ok(Index::Num(index)) = token.to_index() else {
+        return Ok(None);
+    };
+    let Some(elements) = children_of(alloc, buffers, site.text, site.place.value)? else {
+        return Ok(None);
+    };
+    let child = child_of(alloc, token, index, printed)?;
+    let container = Container {
+        text: site.text,
+        span: site.place.value,
+        children: elements.as_slice(),
+    };
+    let piece = addition(alloc, container, index, None, printed)?;
+    let new = NewChild {
+        piece: &piece,
+        key: None,
+        value: printed.flat.as_str(),
+    };
+    put_child(alloc, buffers, site, new, &Edit::Insert(child))
+}
+
+/// A child that is put into an array or an object.
+#[derive(Clone, Copy, Debug)]
+struct NewChild<'p, 'k, 'v> {
+    /// What comes into the text.
+    piece: &'p Piece,
+    /// Its key, if it is a member.
+    key: Option<&'k str>,
+    /// A JSON text of its value.
+    value: &'v str,
+}
+
+/// Puts the text of a child into the array or object at the site, if that makes the edit.
+fn put_child(
+    alloc: Global,
+    buffers: &mut Buffers,
+    site: &Site<'_>,
+    child: NewChild<'_, '_, '_>,
     edit: &Edit,
 ) -> Result<Option<String>, AllocError>
-    ensures reached { IfOk result (λ new. IfSome new (λ s. ReachedInText text.now (string_bytes s)
-        (tokens pointer.entry) (Makes edit.now))) }
-    ensures bytes { IfOk result (λ new. IfSome new (λ s.
-        AddsPieceByText text.now (string_bytes s) None value.now)) }
+    ensures reached { IfOk result (λ new. IfSome new (λ s. ReachedInText site.now.text.now
+        (string_bytes s) (tokens site.now.pointer) (Makes edit.now))) }
+    ensures bytes { IfOk result (λ new. IfSome new (λ s. AddsPieceByText site.now.text.now
+        (string_bytes s) (option_map (λ k. k.now) child.entry.key) child.entry.value.now)) }
 {
-    let Some(cut) = cut_at(text, piece.span.from, piece.span.to) else {
+    let piece = child.piece;
+    let Some(cut) = cut_at(site.text, piece.span.from, piece.span.to) else {
         return Ok(None);
     };
     let added = piece.text.as_str();
-    if !is_blank(cut.was) || !is_one_child(buffers, added, piece.child, None, Some(value))? {
+    if !is_blank(cut.was)
+        || !is_one_child(buffers, added, piece.child, child.key, Some(child.value))?
+    {
         return Ok(None);
     }
-    edit_at(alloc, buffers, &cut, pointer, &place.positions, added, edit)
+    let at = EditAtPointer {
+        pointer: site.pointer,
+        positions: &site.place.positions,
+        edit,
+    };
+    edit_at(alloc, buffers, &cut, &at, added)
+}
+
+/// Returns the child that the token selects, with the value.
+fn child_of(
+    alloc: Global,
+    token: &Token<'_>,
+    position: usize,
+    printed: &ValueText,
+) -> Result<Child, AllocError>
+    ensures selects { IfOk result (λ child. IsChoiceOf token.now (choice_of child.selector)) }
+    ensures value { IfOk result
+        (λ child. string_bytes child.value ≡ string_bytes printed.now.flat) }
+{
+    let selector = selector_of(alloc, token)?;
+    let value = printed.flat.clone()?;
+    Ok(Child {
+        selector,
+        position,
+        value,
+    })
 }
 
 /// Returns the element with the index and the value.
-fn element(alloc: Global, index: usize, value: &ValueText) -> Result<Child, AllocError>
+fn element(alloc: Global, index: usize, printed: &ValueText) -> Result<Child, AllocError>
     ensures index { IfOk result (λ child. child.selector.index ≡ Some index) }
     ensures value { IfOk result
-        (λ child. string_bytes child.value ≡ string_bytes value.now.flat) }
+        (λ child. string_bytes child.value ≡ string_bytes printed.now.flat) }
 {
     let selector = Selector {
         key: String::new(alloc),
         index: Some(index),
     };
-    let value = value.flat.clone()?;
+    let value = printed.flat.clone()?;
     Ok(Child {
         selector,
         position: index,

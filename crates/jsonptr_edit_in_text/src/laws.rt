@@ -1,9 +1,9 @@
 //! Laws of the bytes of an edit. Each law is the contract of a function that does nothing.
 ghost use Rattle.std.specs.Prelude.{◌↔◌, List, [], Option};
 ghost use Rattle.serde_json.specs.Data.{Data};
-ghost use Rattle.jsonptr_grammar.specs.Text.{Text};
+ghost use Rattle.jsonptr.specs.Text.{Text};
 ghost use Rattle.jsonptr_in_text.specs.InText.{FindsInText};
-ghost use Rattle.jsonptr_lines.specs.Lines.{IsOneLine};
+ghost use Rattle.jsonptr_io.specs.Lines.{IsOneLine};
 ghost use Rattle.jsonptr_json_edits.specs.Spacing.{IsBlank, Splices};
 ghost use Rattle.jsonptr_edit_in_text.specs.Bytes.{AddsPiece, CutsBytes, ReplacesBytes};
 

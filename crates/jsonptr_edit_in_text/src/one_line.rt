@@ -1,6 +1,6 @@
 //! Whether a text stays one line.
 ghost use Rattle.std.specs.Prelude.{◌≡◌, false, IsTrue};
-ghost use Rattle.jsonptr_lines.specs.Lines.{IsOneLine};
+ghost use Rattle.jsonptr_io.specs.Lines.{IsOneLine};
 ghost use Rattle.jsonptr_edit_in_text.specs.InPlace.{StaysOneLine};
 
 use memchr::memchr;

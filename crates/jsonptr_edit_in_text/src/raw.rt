@@ -5,9 +5,9 @@ ghost use Rattle.serde_json.specs.Data.{Data, depth};
 ghost use Rattle.serde_json.specs.Read.{read, max_depth};
 ghost use Rattle.serde_json.specs.View.{view};
 ghost use Rattle.jsonptr.specs.Pointer.{tokens};
-ghost use Rattle.jsonptr_tree.specs.Json.{nodes};
+ghost use Rattle.jsonptr.specs.Json.{nodes};
 ghost use Rattle.jsonptr_in_text.specs.InText.{IsReadError};
-ghost use Rattle.jsonptr_edit_in_text.specs.Carrying.{value_of};
+ghost use Rattle.jsonptr_edit_in_text.specs.Carrying.{value_of_raw};
 ghost use Rattle.jsonptr_edit_in_text.specs.PrivateReaching.{IsExpanded};
 ghost use Rattle.jsonptr_edit_in_text.specs.PrivateWrapping.{wrapped};
 
@@ -41,7 +41,7 @@ impl RawValue {
     /// assert_eq!(rt; name.text.flat.as_str(), "\"caf\\u00e9\"");
     /// ```
     pub fn parse(alloc: Global, text: &str) -> Result<RawValue, InTextError>
-        ensures value { IfOk result (λ r. read text.now ≡ Some (value_of r)) }
+        ensures value { IfOk result (λ r. read text.now ≡ Some (value_of_raw r)) }
         ensures same { IfOk result (λ r. lexed (string_bytes r.text.flat) ≡ lexed text.now) }
         ensures refused { IfErr result (IsReadError text.now) }
     {
@@ -66,7 +66,7 @@ impl RawValue {
     /// assert_eq!(rt; value.to_string(alloc)?.as_str(), "[1.1,2]");
     /// ```
     pub fn to_value(&self, alloc: Global) -> Result<Value, AllocError>
-        ensures { IfOk result (λ v. view v ≡ value_of self.now) }
+        ensures { IfOk result (λ v. view v ≡ value_of_raw self.now) }
     {
         match Value::from_str(alloc, self.text.flat.as_str()) {
             Ok(value) => Ok(value),
@@ -90,7 +90,7 @@ impl RawValue {
     /// ```
     pub fn from_value(alloc: Global, value: &Value) -> Result<Option<RawValue>, AllocError>
         ensures { IfOk result (λ o. MatchOption o (max_depth < depth (view value.now))
-            (λ r. value_of r ≡ view value.now)) }
+            (λ r. value_of_raw r ≡ view value.now)) }
     {
         if nests_within(value, MAX_DEPTH) {
             Ok(Some(RawValue::print(alloc, value)?))
@@ -102,7 +102,7 @@ impl RawValue {
     /// Prints a value.
     pub(crate) fn print(alloc: Global, value: &Value) -> Result<RawValue, AllocError>
         requires { depth (view value.now) ≤ max_depth }
-        ensures { IfOk result (λ r. value_of r ≡ view value.now) }
+        ensures { IfOk result (λ r. value_of_raw r ≡ view value.now) }
     {
         let text = text_of_value(alloc, value)?;
         Ok(RawValue { text })
@@ -119,20 +119,20 @@ pub fn expanded_text(
     alloc: Global,
     scratch: &mut Scratch,
     pointer: Pointer<'_>,
-    value: &RawValue,
+    raw: &RawValue,
 ) -> Result<Option<ValueText>, AllocError>
     ensures value { IfOk result (λ text. IfSome text
-        (IsExpanded (tokens pointer.entry) (nodes (value_of value.now)))) }
+        (IsExpanded (tokens pointer.entry) (nodes (value_of_raw raw.now)))) }
     ensures same { IfOk result (λ text. IfSome text (λ t. lexed (string_bytes t.flat)
-        ≡ wrapped (tokens pointer.entry) (lexed (string_bytes value.now.text.flat)))) }
+        ≡ wrapped (tokens pointer.entry) (lexed (string_bytes raw.now.text.flat)))) }
 {
     if pointer.count() > MAX_DEPTH {
         return Ok(None);
     }
-    let Some(flat) = expanded(alloc, scratch, pointer, value.text.flat.as_str())? else {
+    let Some(flat) = expanded(alloc, scratch, pointer, raw.text.flat.as_str())? else {
         return Ok(None);
     };
-    lay_out(alloc, scratch, flat, value.text.flat.as_str())
+    lay_out(alloc, scratch, flat, raw.text.flat.as_str())
 }
 
 /// Returns the text in both layouts, its last strings as they are written. Returns `None` if it is not

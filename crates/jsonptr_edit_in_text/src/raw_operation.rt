@@ -1,5 +1,5 @@
 //! An operation of a patch, and the text of its value.
-ghost use Rattle.jsonptr_edit_in_text.specs.Fitting.{Fits};
+ghost use Rattle.jsonptr_edit_in_text.specs.Fitting.{HasFittingText};
 ghost use Rattle.jsonptr_edit_in_text.specs.PrivateFitting.{Fits-prop};
 
 use crate::raw_value::RawValue;
@@ -15,5 +15,5 @@ pub struct RawOperation {
     pub operation: Operation,
     /// The text of the value of an `add` or of a `replace`. It is read as exactly that value.
     pub text: Option<RawValue>,
-    pub ghost fits: { Fits operation text } by { Fits-prop operation text },
+    pub ghost fits: { HasFittingText operation text } by { Fits-prop operation text },
 }

@@ -1,9 +1,9 @@
 //! The texts of the values of a patch.
 ghost use Rattle.std.specs.Prelude.{◌≡◌, ◌∷◌, ◌++◌, [], Some, None, false, All, IfOk, IfSome, IsTrue, string_bytes};
 ghost use Rattle.serde_json.specs.View.{view};
-ghost use Rattle.jsonptr_json_edits.specs.Alike.{Holds};
-ghost use Rattle.jsonptr_edit_in_text.specs.Carrying.{value_of};
-ghost use Rattle.jsonptr_edit_in_text.specs.Fitting.{Fits, brings_value};
+ghost use Rattle.jsonptr_json_edits.specs.Alike.{HoldsTokens};
+ghost use Rattle.jsonptr_edit_in_text.specs.Carrying.{value_of_raw};
+ghost use Rattle.jsonptr_edit_in_text.specs.Fitting.{HasFittingText, brings_value};
 ghost use Rattle.jsonptr_edit_in_text.specs.RawPatching.{operations_in, IsGivenIn};
 ghost use Rattle.jsonptr_edit_in_text.specs.declared.raw_value.RawValue.{RawValue};
 
@@ -151,7 +151,7 @@ fn own_text(
     object: Span,
     selectors: &[Selector],
 ) -> Result<Option<RawValue>, AllocError>
-    ensures { IfOk result (λ own. IfSome own (λ raw. Holds (string_bytes raw.text.flat) text.now)) }
+    ensures { IfOk result (λ own. IfSome own (λ raw. HoldsTokens (string_bytes raw.text.flat) text.now)) }
 {
     let there = slice(text, object.from, object.to);
     let Some(place) = place_of(alloc, buffers, there, selectors)? else {
@@ -260,7 +260,7 @@ impl RawOperation {
 /// Returns whether the text is read as the value that the operation puts into a document, if it puts one
 /// there.
 fn fits(alloc: Global, operation: &Operation, text: &RawValue) -> Result<bool, AllocError>
-    ensures { IfOk result (λ b. IsTrue b → Fits operation.now (Some text.now)) }
+    ensures { IfOk result (λ b. IsTrue b → HasFittingText operation.now (Some text.now)) }
 {
     match operation {
         Operation::Add { path: _, value } => is_text_of(alloc, value, text),
@@ -274,7 +274,7 @@ fn fits(alloc: Global, operation: &Operation, text: &RawValue) -> Result<bool, A
 
 /// Returns whether the text is read as the value: both are printed, and compared.
 fn is_text_of(alloc: Global, value: &Value, text: &RawValue) -> Result<bool, AllocError>
-    ensures { IfOk result (λ b. IsTrue b → value_of text.now ≡ view value.now) }
+    ensures { IfOk result (λ b. IsTrue b → value_of_raw text.now ≡ view value.now) }
 {
     let again = text.to_value(alloc)?;
     let Some(printed) = RawValue::from_value(alloc, value)? else {

@@ -6,20 +6,20 @@ ghost use Rattle.jsonptr_json_edits.specs.Child.{IsReadAs};
 ghost use Rattle.jsonptr_edit_in_text.specs.Bytes.{CutsBytes, CutsInTurn, CutsMembers, CutsElement, CutsChild};
 ghost use Rattle.jsonptr_edit_in_text.specs.EditInText.{DeletesInText};
 
-use crate::edit::is_edited_at;
-use crate::place::children_of;
-use jsonptr::{Pointer, Token};
+use crate::edit::{EditAtPointer, is_edited_at};
+use crate::place::{Site, children_of};
+use jsonptr::Token;
 use jsonptr_in_text::selectors::selector_of;
 use jsonptr_json_edits::buffers::Buffers;
 use jsonptr_json_edits::child::is_one_child;
 use jsonptr_json_edits::cut::{cut_at, splice};
 use jsonptr_json_edits::edit::{Child, Edit};
 use jsonptr_json_edits::layout::{Container, removal, slice};
-use jsonptr_json_edits::locate::{Extent, Place, Span};
+use jsonptr_json_edits::locate::{Extent, Span};
 use std::alloc::{AllocError, Global};
 
-/// Cuts out each child that the token selects of the value that the pointer resolves to. Returns
-/// `None` if that is not possible.
+/// Cuts out each child that the token selects of the value that the pointer resolves to. The site is that
+/// of the last one. Returns `None` if that is not possible.
 ///
 /// # Errors
 ///
@@ -27,21 +27,20 @@ use std::alloc::{AllocError, Global};
 pub fn cut_children(
     alloc: Global,
     buffers: &mut Buffers,
-    text: &str,
-    pointer: Pointer<'_>,
+    site: &Site<'_>,
     token: &Token<'_>,
-    place: &Place,
 ) -> Result<Option<String>, AllocError>
     ensures deleted { IfOk result (λ new. IfSome new (λ s.
-        DeletesInText text.now (tokens pointer.entry ++ token.now ∷ []) (string_bytes s))) }
+        DeletesInText site.now.text.now (tokens site.now.pointer ++ token.now ∷ []) (string_bytes s))) }
     ensures bytes { IfOk result (λ new. IfSome new (λ s.
-        CutsChild text.now (string_bytes s) (tokens pointer.entry) token.now)) }
+        CutsChild site.now.text.now (string_bytes s) (tokens site.now.pointer) token.now)) }
 {
-    let container = slice(text, place.container.from, place.container.to);
+    let place = site.place.container;
+    let container = slice(site.text, place.from, place.to);
     if container.starts_with('{') {
-        cut_members(alloc, buffers, text, pointer, token, place)
+        cut_members(alloc, buffers, site, token)
     } else {
-        cut_element(alloc, buffers, text, pointer, token, place)
+        cut_element(alloc, buffers, site, token)
     }
 }
 
@@ -50,40 +49,33 @@ pub fn cut_children(
 fn cut_members(
     alloc: Global,
     buffers: &mut Buffers,
-    text: &str,
-    pointer: Pointer<'_>,
+    site: &Site<'_>,
     token: &Token<'_>,
-    place: &Place,
 ) -> Result<Option<String>, AllocError>
     ensures deleted { IfOk result (λ new. IfSome new (λ s.
-        DeletesInText text.now (tokens pointer.entry ++ token.now ∷ []) (string_bytes s))) }
+        DeletesInText site.now.text.now (tokens site.now.pointer ++ token.now ∷ []) (string_bytes s))) }
     ensures bytes { IfOk result (λ new. IfSome new (λ s.
-        CutsMembers text.now (string_bytes s) (tokens pointer.entry) token.now)) }
+        CutsMembers site.now.text.now (string_bytes s) (tokens site.now.pointer) token.now)) }
 {
-    let Some((position, above)) = place.positions.split_last() else {
+    let Some((position, above)) = site.place.positions.split_last() else {
         return Ok(None);
     };
-    let Some((last, earlier)) = place.same.split_last() else {
+    let Some(last) = site.place.same.last() else {
         return Ok(None);
     };
-    let mut container = place.container;
     let selector = selector_of(alloc, token)?;
     let key = selector.key.as_str();
-    let value = slice(text, place.value.from, place.value.to);
-    let Some(first) = cut_child(
-        alloc,
-        buffers,
-        text,
-        container,
-        *last,
-        Some(key),
-        Some(value),
-    )?
-    else {
+    let value = site.slice();
+    let removed = Removed {
+        container: site.place.container,
+        position: *last,
+        key: Some(key),
+        value: Some(value),
+    };
+    let Some(first) = cut_child(alloc, buffers, site.text, removed)? else {
         return Ok(None);
     };
-    container.to = shorter(container.to, text, first.as_str());
-    let Some(new) = cut_in_turn(alloc, buffers, first, container, earlier, key)? else {
+    let Some(new) = cut_in_turn(alloc, buffers, site, first, key)? else {
         return Ok(None);
     };
     let edit = Edit::Add(Child {
@@ -91,7 +83,12 @@ fn cut_members(
         position: *position,
         value: String::from_str(alloc, value)?,
     });
-    if is_edited_at(alloc, buffers, new.as_str(), text, pointer, above, &edit)? {
+    let at = EditAtPointer {
+        pointer: site.pointer,
+        positions: above,
+        edit: &edit,
+    };
+    if is_edited_at(alloc, buffers, new.as_str(), site.text, &at)? {
         Ok(Some(new))
     } else {
         Ok(None)
@@ -102,30 +99,25 @@ fn cut_members(
 fn cut_element(
     alloc: Global,
     buffers: &mut Buffers,
-    text: &str,
-    pointer: Pointer<'_>,
+    site: &Site<'_>,
     token: &Token<'_>,
-    place: &Place,
 ) -> Result<Option<String>, AllocError>
     ensures deleted { IfOk result (λ new. IfSome new (λ s.
-        DeletesInText text.now (tokens pointer.entry ++ token.now ∷ []) (string_bytes s))) }
+        DeletesInText site.now.text.now (tokens site.now.pointer ++ token.now ∷ []) (string_bytes s))) }
     ensures bytes { IfOk result (λ new. IfSome new (λ s.
-        CutsElement text.now (string_bytes s) (tokens pointer.entry) token.now)) }
+        CutsElement site.now.text.now (string_bytes s) (tokens site.now.pointer) token.now)) }
 {
-    let Some((position, above)) = place.positions.split_last() else {
+    let Some((position, above)) = site.place.positions.split_last() else {
         return Ok(None);
     };
-    let value = slice(text, place.value.from, place.value.to);
-    let Some(new) = cut_child(
-        alloc,
-        buffers,
-        text,
-        place.container,
-        *position,
-        None,
-        Some(value),
-    )?
-    else {
+    let value = site.slice();
+    let removed = Removed {
+        container: site.place.container,
+        position: *position,
+        key: None,
+        value: Some(value),
+    };
+    let Some(new) = cut_child(alloc, buffers, site.text, removed)? else {
         return Ok(None);
     };
     let edit = Edit::Insert(Child {
@@ -133,77 +125,105 @@ fn cut_element(
         position: *position,
         value: String::from_str(alloc, value)?,
     });
-    if is_edited_at(alloc, buffers, new.as_str(), text, pointer, above, &edit)? {
+    let at = EditAtPointer {
+        pointer: site.pointer,
+        positions: above,
+        edit: &edit,
+    };
+    if is_edited_at(alloc, buffers, new.as_str(), site.text, &at)? {
         Ok(Some(new))
     } else {
         Ok(None)
     }
 }
 
-/// Cuts out the members with the key at the positions, the last one first.
+/// A child that is cut out.
+#[derive(Clone, Copy, Debug)]
+struct Removed<'a> {
+    /// Where the array or object is that has it.
+    container: Span,
+    /// Its position among all children.
+    position: usize,
+    /// Its key, if it is a member.
+    key: Option<&'a str>,
+    /// The text of its value, if one is given.
+    value: Option<&'a str>,
+}
+
+/// Cuts out the members with the key before the one at the site, the last one first. That one was cut out
+/// of the text.
 fn cut_in_turn(
     alloc: Global,
     buffers: &mut Buffers,
+    site: &Site<'_>,
     text: String,
-    span: Span,
-    positions: &[usize],
     key: &str,
 ) -> Result<Option<String>, AllocError>
     ensures { IfOk result (λ new. IfSome new (λ s. (mids : List (List ℕ))
         × CutsInTurn key.now (string_bytes text) mids (string_bytes s))) }
 {
-    let mut container = span;
+    let Some((_, earlier)) = site.place.same.split_last() else {
+        return Ok(None);
+    };
+    let mut container = shortened(site.place.container, site.text, text.as_str());
     let mut current = text;
-    'cuts: for position in positions.iter().rev() {
+    'cuts: for position in earlier.iter().rev() {
         let old = current.as_str();
-        let Some(next) = cut_child(alloc, buffers, old, container, *position, Some(key), None)?
-        else {
+        let removed = Removed {
+            container,
+            position: *position,
+            key: Some(key),
+            value: None,
+        };
+        let Some(next) = cut_child(alloc, buffers, old, removed)? else {
             return Ok(None);
         };
-        container.to = shorter(container.to, old, next.as_str());
+        container = shortened(container, old, next.as_str());
         current = next;
     }
     Ok(Some(current))
 }
 
-/// Returns the offset less the number of bytes that the new text has less than the old one.
-fn shorter(offset: usize, old: &str, new: &str) -> usize {
-    offset.saturating_sub(old.len().saturating_sub(new.len()))
+/// Returns where the container is after a child was cut out of it.
+fn shortened(container: Span, old: &str, new: &str) -> Span {
+    Span {
+        from: container.from,
+        to: container
+            .to
+            .saturating_sub(old.len().saturating_sub(new.len())),
+    }
 }
 
-/// Cuts out the child at the position of the array or object at the span: a member with the key, or an
-/// element if there is none, with the value, if one is given.
+/// Cuts out the child.
 fn cut_child(
     alloc: Global,
     buffers: &mut Buffers,
     text: &str,
-    container: Span,
-    position: usize,
-    key: Option<&str>,
-    value: Option<&str>,
+    removed: Removed<'_>,
 ) -> Result<Option<String>, AllocError>
     ensures { IfOk result (λ new. IfSome new (λ s. (v : Data)
-        × IsReadAs (option_map (λ t. t.now) value.entry) v
-        × CutsBytes text.now (string_bytes s) (option_map (λ k. k.now) key.entry) v)) }
+        × IsReadAs (option_map (λ t. t.now) removed.entry.value) v
+        × CutsBytes text.now (string_bytes s) (option_map (λ k. k.now) removed.entry.key) v)) }
 {
-    let Some(children) = children_of(alloc, buffers, text, container)? else {
+    let Some(children) = children_of(alloc, buffers, text, removed.container)? else {
         return Ok(None);
     };
-    let Some(extent) = children.get(position) else {
+    let Some(extent) = children.get(removed.position) else {
         return Ok(None);
     };
     let there = Container {
         text,
-        span: container,
+        span: removed.container,
         children: children.as_slice(),
     };
-    let Some(span) = removal(there, position) else {
+    let Some(span) = removal(there, removed.position) else {
         return Ok(None);
     };
     let Some(cut) = cut_at(text, span.from, span.to) else {
         return Ok(None);
     };
-    if !is_one_child(buffers, cut.was, within(*extent, span.from), key, value)? {
+    let extent = within(*extent, span.from);
+    if !is_one_child(buffers, cut.was, extent, removed.key, removed.value)? {
         return Ok(None);
     }
     Ok(Some(splice(alloc, &cut, "")?))

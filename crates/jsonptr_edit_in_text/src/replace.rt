@@ -7,17 +7,19 @@ ghost use Rattle.jsonptr.specs.Pointer.{tokens};
 ghost use Rattle.jsonptr_edit_in_text.specs.Bytes.{IsScalar};
 ghost use Rattle.jsonptr_edit_in_text.specs.PrivateReaching.{ReachedInText, Trades, Becomes, ScalarBecomes, ReplacesByText, ReplacesScalarByText};
 
-use crate::edit::edit_at;
+use crate::edit::{EditAtPointer, edit_at};
+use crate::place::{Site, place_of};
 use jsonptr::Pointer;
+use jsonptr_in_text::selectors::selectors_of;
 use jsonptr_json_edits::buffers::Buffers;
 use jsonptr_json_edits::child::is_value_of;
 use jsonptr_json_edits::cut::{Cut, cut_at};
 use jsonptr_json_edits::edit::Edit;
 use jsonptr_json_edits::layout::{ValueText, replacement};
-use jsonptr_json_edits::locate::Place;
 use jsonptr_json_edits::spacing::is_trimmed;
 use jsonptr_json_search::find::find_in_text_with;
-use jsonptr_json_search::outcome::{Outcome, ReadError};
+use jsonptr_json_search::outcome::Outcome;
+use jsonptr_value::ReadError;
 use serde_json::Value;
 use std::alloc::{AllocError, Global};
 
@@ -26,26 +28,56 @@ use std::alloc::{AllocError, Global};
 /// # Errors
 ///
 /// [`AllocError`] if an allocation fails.
-pub fn replace(
+pub fn replace_at(
     alloc: Global,
     buffers: &mut Buffers,
     text: &str,
     pointer: Pointer<'_>,
-    place: &Place,
-    value: &ValueText,
+    printed: &ValueText,
 ) -> Result<Option<String>, AllocError>
     ensures reached { IfOk result (λ new. IfSome new (λ s. ReachedInText text.now (string_bytes s)
-        (tokens pointer.entry) (Becomes (string_bytes value.now.flat)))) }
+        (tokens pointer.entry) (Becomes (string_bytes printed.now.flat)))) }
     ensures bytes { IfOk result (λ new. IfSome new (λ s. ReplacesByText text.now
-        (string_bytes s) (tokens pointer.entry) (string_bytes value.now.flat))) }
+        (string_bytes s) (tokens pointer.entry) (string_bytes printed.now.flat))) }
 {
-    let Some(cut) = cut_at(text, place.value.from, place.value.to) else {
+    let selectors = selectors_of(alloc, pointer)?;
+    let Some(place) = place_of(alloc, buffers, text, &selectors)? else {
         return Ok(None);
     };
-    trade(alloc, buffers, &cut, pointer, place, value)
+    if place.followed != selectors.len() {
+        return Ok(None);
+    }
+    let site = Site {
+        text,
+        pointer,
+        place: &place,
+    };
+    replace(alloc, buffers, &site, printed)
 }
 
-/// Replaces the scalar that the pointer resolves to. Returns `None` if that is not possible.
+/// Replaces the value at the site. Returns `None` if that is not possible.
+///
+/// # Errors
+///
+/// [`AllocError`] if an allocation fails.
+pub fn replace(
+    alloc: Global,
+    buffers: &mut Buffers,
+    site: &Site<'_>,
+    printed: &ValueText,
+) -> Result<Option<String>, AllocError>
+    ensures reached { IfOk result (λ new. IfSome new (λ s. ReachedInText site.now.text.now (string_bytes s)
+        (tokens site.now.pointer) (Becomes (string_bytes printed.now.flat)))) }
+    ensures bytes { IfOk result (λ new. IfSome new (λ s. ReplacesByText site.now.text.now
+        (string_bytes s) (tokens site.now.pointer) (string_bytes printed.now.flat))) }
+{
+    let Some(cut) = cut_at(site.text, site.place.value.from, site.place.value.to) else {
+        return Ok(None);
+    };
+    trade(alloc, buffers, &cut, site, printed)
+}
+
+/// Replaces the scalar at the site. Returns `None` if that is not possible.
 ///
 /// # Errors
 ///
@@ -53,56 +85,58 @@ pub fn replace(
 pub fn replace_scalar(
     alloc: Global,
     buffers: &mut Buffers,
-    text: &str,
-    pointer: Pointer<'_>,
-    place: &Place,
-    value: &ValueText,
+    site: &Site<'_>,
+    printed: &ValueText,
 ) -> Result<Option<String>, AllocError>
-    ensures reached { IfOk result (λ new. IfSome new (λ s. ReachedInText text.now (string_bytes s)
-        (tokens pointer.entry) (ScalarBecomes (string_bytes value.now.flat)))) }
-    ensures bytes { IfOk result (λ new. IfSome new (λ s. ReplacesScalarByText text.now
-        (string_bytes s) (tokens pointer.entry) (string_bytes value.now.flat))) }
+    ensures reached { IfOk result (λ new. IfSome new (λ s. ReachedInText site.now.text.now (string_bytes s)
+        (tokens site.now.pointer) (ScalarBecomes (string_bytes printed.now.flat)))) }
+    ensures bytes { IfOk result (λ new. IfSome new (λ s. ReplacesScalarByText site.now.text.now
+        (string_bytes s) (tokens site.now.pointer) (string_bytes printed.now.flat))) }
 {
-    let Some(cut) = cut_at(text, place.value.from, place.value.to) else {
+    let Some(cut) = cut_at(site.text, site.place.value.from, site.place.value.to) else {
         return Ok(None);
     };
     if !is_scalar(alloc, buffers, cut.was)? {
         return Ok(None);
     }
-    trade(alloc, buffers, &cut, pointer, place, value)
+    trade(alloc, buffers, &cut, site, printed)
 }
 
-/// Replaces the value that the pointer resolves to, and that was cut out.
+/// Replaces the value at the site, which was cut out.
 fn trade(
     alloc: Global,
     buffers: &mut Buffers,
     cut: &Cut<'_>,
-    pointer: Pointer<'_>,
-    place: &Place,
-    value: &ValueText,
+    site: &Site<'_>,
+    printed: &ValueText,
 ) -> Result<Option<String>, AllocError>
     ensures reached { IfOk result (λ new. IfSome new (λ s. ReachedInText cut.now.text.now
-        (string_bytes s) (tokens pointer.entry)
-        (Trades cut.now.was.now (string_bytes value.now.flat)))) }
+        (string_bytes s) (tokens site.now.pointer)
+        (Trades cut.now.was.now (string_bytes printed.now.flat)))) }
     ensures bytes { IfOk result (λ new. IfSome new (λ s. ReplacesByText cut.now.text.now
-        (string_bytes s) (tokens pointer.entry) (string_bytes value.now.flat))) }
+        (string_bytes s) (tokens site.now.pointer) (string_bytes printed.now.flat))) }
     ensures scalar { (d : Data) → read cut.now.was.now ≡ Some d → IsScalar d → IfOk result
         (λ new. IfSome new (λ s. ReplacesScalarByText cut.now.text.now
-        (string_bytes s) (tokens pointer.entry) (string_bytes value.now.flat))) }
+        (string_bytes s) (tokens site.now.pointer) (string_bytes printed.now.flat))) }
 {
     if !is_trimmed(cut.was) {
         return Ok(None);
     }
     let edit = Edit::Replace {
         old: String::from_str(alloc, cut.was)?,
-        new: value.flat.clone()?,
+        new: printed.flat.clone()?,
     };
-    let made = replacement(alloc, cut.text, place, value)?;
+    let made = replacement(alloc, cut.text, site.place, printed)?;
     let piece = made.as_str();
-    if !is_value_of(buffers, piece, value.flat.as_str())? {
+    if !is_value_of(buffers, piece, printed.flat.as_str())? {
         return Ok(None);
     }
-    edit_at(alloc, buffers, cut, pointer, &place.positions, piece, &edit)
+    let at = EditAtPointer {
+        pointer: site.pointer,
+        positions: &site.place.positions,
+        edit: &edit,
+    };
+    edit_at(alloc, buffers, cut, &at, piece)
 }
 
 /// Returns whether the text is that of a scalar.

@@ -3,15 +3,15 @@ ghost use Rattle.std.specs.Prelude.{◌≡◌, IfOk, IfErr, Some, MatchOption, s
 ghost use Rattle.serde_json.specs.Read.{read};
 ghost use Rattle.serde_json.specs.View.{view};
 ghost use Rattle.jsonptr.specs.Pointer.{tokens};
-ghost use Rattle.jsonptr_tree.specs.Json.{nodes};
-ghost use Rattle.jsonptr_edit_in_text.specs.EditInText.{AssignsInText, DeletesInText, LacksInText, IsAssignError, IsReadFault};
+ghost use Rattle.jsonptr.specs.Json.{nodes};
+ghost use Rattle.jsonptr_edit_in_text.specs.EditInText.{AssignsInText, DeletesInText, LacksInText, IsAssignError, IsEditReadError};
 ghost use Rattle.jsonptr_edit_in_text.specs.PrivateRewriting.{IsShortened, IsPrintFault};
 ghost use Rattle.jsonptr_edit_in_text.specs.PatchInText.{PatchesInText, IsPatchFault};
 
 use crate::edited::EditError;
 use jsonptr::{Assign, Delete, Fault, Pointer, assign};
 use jsonptr_patch::{Comparison, Operation, PatchError, apply_comparing};
-use jsonptr_value::{MAX_DEPTH, discard, nests_within};
+use jsonptr_value::{MAX_DEPTH, ReadError, discard, nests_within};
 use serde_json::Value;
 use std::alloc::{AllocError, Global};
 use std::convert::Infallible;
@@ -75,7 +75,7 @@ pub fn delete_and_print(
 ) -> Result<Option<String>, EditError<Infallible>>
     ensures deleted { IfOk result (λ o. MatchOption o (LacksInText text.now (tokens pointer.entry))
         (λ s. DeletesInText text.now (tokens pointer.entry) (string_bytes s))) }
-    ensures refused { IfErr result (IsReadFault text.now) }
+    ensures refused { IfErr result (IsEditReadError text.now) }
 {
     let mut document = read_document(alloc, text)?;
     match document.delete(alloc, pointer)? {
@@ -127,12 +127,12 @@ fn print_document<E>(alloc: Global, document: Value) -> Result<String, EditError
 /// [`EditError::NotJson`] if `serde_json` does not read the text, and [`EditError::Memory`] if an
 /// allocation fails.
 fn read_document<E>(alloc: Global, text: &str) -> Result<Value, EditError<E>>
-    ensures ok { IfOk result (λ v. read text.now ≡ Some (view v)) }
-    ensures err { IfErr result (IsReadFault text.now) }
+    ensures document { IfOk result (λ v. read text.now ≡ Some (view v)) }
+    ensures refused { IfErr result (IsEditReadError text.now) }
 {
-    match Value::from_str(alloc, text) {
+    match jsonptr_value::read(alloc, text) {
         Ok(value) => Ok(value),
-        Err(error) if error.is_memory() => Err(EditError::Memory(AllocError)),
-        Err(_) => Err(EditError::NotJson),
+        Err(ReadError::Memory) => Err(EditError::Memory(AllocError)),
+        Err(ReadError::NotJson) => Err(EditError::NotJson),
     }
 }

@@ -4,7 +4,7 @@ ghost use Rattle.json.specs.Lex.{tokens as lexed};
 ghost use Rattle.json.specs.Token.{begin_object, end_object, begin_array, end_array, key as a_key};
 ghost use Rattle.jsonptr.specs.Pointer.{tokens};
 ghost use Rattle.jsonptr_edit_in_text.specs.PrivateWrapping.{wrapped};
-ghost use Rattle.jsonptr_tree.specs.Growing.{is_append_index};
+ghost use Rattle.jsonptr.specs.Growing.{is_append_index};
 
 use json::{Reader, Scratch, Token as JsonToken, Writer};
 use jsonptr::{Pointer, Token};

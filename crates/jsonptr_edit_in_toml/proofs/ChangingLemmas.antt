@@ -1,19 +1,19 @@
--- From a change of a document to the text that is chosen, and to the error if none is.
+-- From a change of a document to the text that is child, and to the error if none is.
 use Rattle.std.proofs.Common.{◌≡◌, ℕ, ◌<◌, ◌≤◌, inr, suc, length, Bool, false, List, Result, Ok, Err, IfOk, IfErr, IsTrue, sym, subst, ◌∙◌, arith, true≢false}
 use Rattle.toml.specs.Data.{Data}
-use Rattle.jsonptr_grammar.specs.Text.{Text}
+use Rattle.jsonptr.specs.Text.{Text}
 use Rattle.toml_parser.specs.Strings.{recursion_limit as max_depth}
-use Rattle.jsonptr_tree.specs.TomlValue.{HasSortedKeys}
+use Rattle.jsonptr.specs.TomlValue.{HasSortedKeys}
 use Rattle.jsonptr.proofs.TomlCalling.{ascends_read_document}
-use Rattle.jsonptr_in_toml.specs.InToml.{ReadsAs, AssignsTo, DeletesTo, PrintsAs, HasDeepValues, AssignsInToml, DeletesInToml, IsPrintFault}
+use Rattle.jsonptr_in_toml.specs.InToml.{ReadsAsToml, AssignsTo, DeletesTo, PrintsAs, HasDeepValues, AssignsInToml, DeletesInToml, IsPrintFault}
 use Rattle.jsonptr_in_toml.specs.declared.error.InTomlError.{InTomlError}
 use Rattle.jsonptr_in_toml.specs.declared.error.InTomlError.TheVariants.{NotToml, DocumentTooDeep, NoValue, BadPlace, NotThere, TooDeep, NoText, Memory}
 use Rattle.jsonptr_edit_in_toml.specs.Failing.{AssignsInOrder, DeletesInOrder, IsEditFault, FailsToAssignInText, FailsToDeleteInText}
-use Rattle.jsonptr_edit_in_toml.specs.EditInToml.{text_of, DeletesInText, IsPrinted}
+use Rattle.jsonptr_edit_in_toml.specs.EditInToml.{toml_text_of, DeletesInTomlText, IsPrinted}
 use Rattle.jsonptr_edit_in_toml.specs.declared.edited.Edited.{Edited}
 use Rattle.jsonptr_edit_in_toml.specs.declared.edited.Edited.TheVariants.{InPlace, Rewritten}
 
-pub deletes_then : (text : Text) (ts : List Text) (d2 : Data) (r : Result Edited InTomlError) → DeletesTo text ts d2 → IfOk r (λ e. ReadsAs (text_of e) d2) → IfOk r (λ e. DeletesInText text ts (text_of e))
+pub deletes_then : (text : Text) (ts : List Text) (d2 : Data) (r : Result Edited InTomlError) → DeletesTo text ts d2 → IfOk r (λ e. ReadsAsToml (toml_text_of e) d2) → IfOk r (λ e. DeletesInTomlText text ts (toml_text_of e))
 deletes_then text ts d2 (Ok e) made h = (made.0, d2, made.1, h, made.2, made.3)
 deletes_then text ts d2 (Err f) made h = tt
 
@@ -28,7 +28,7 @@ deleted_print text ts d2 (Ok (Rewritten s)) made h = (d2, made, h)
 deleted_print text ts d2 (Err f) made h = tt
 
 -- each document that is read has sorted keys
-pub reads_in_order : (text : Text) (d : Data) → ReadsAs text d → HasSortedKeys d
+pub reads_in_order : (text : Text) (d : Data) → ReadsAsToml text d → HasSortedKeys d
 reads_in_order text d reads = subst HasSortedKeys (sym reads.2) (ascends_read_document text reads.0 reads.1)
 
 -- a test that says no

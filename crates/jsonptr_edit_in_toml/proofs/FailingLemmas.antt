@@ -3,16 +3,16 @@ use Rattle.std.proofs.Common.{◌≡◌, inl, inr, List, Option, Some, None, ref
 use Rattle.std.specs.Bool.{⊤}
 use Rattle.toml.specs.Data.{Data, Members, members_depth, table, no_members}
 use Rattle.toml.specs.Parse.{parse_document}
-use Rattle.jsonptr_grammar.specs.Text.{Text}
-use Rattle.jsonptr_tree.specs.Node.{NodeMap}
-use Rattle.jsonptr_tree.specs.Assigning.{Assigns}
-use Rattle.jsonptr_tree.specs.Removing.{Deletes}
-use Rattle.jsonptr_tree.specs.TomlValue.{content, nodes, FindsValue, HasSortedKeys}
+use Rattle.jsonptr.specs.Text.{Text}
+use Rattle.jsonptr.specs.Node.{NodeMap}
+use Rattle.jsonptr.specs.Assigning.{Assigns}
+use Rattle.jsonptr.specs.Removing.{Deletes}
+use Rattle.jsonptr.specs.TomlValue.{content, nodes, FindsValue, HasSortedKeys}
 use Rattle.jsonptr.specs.Assign.{RefusesAssign}
 use Rattle.jsonptr.specs.declared.assign.Error.{Error}
 use Rattle.jsonptr.proofs.Calling.{Deletes_one, map_of-IsTree}
 use Rattle.jsonptr.proofs.TomlCalling.{nodes_one}
-use Rattle.jsonptr_in_toml.specs.InToml.{ReadsAs, IsDeep, HasDeepValues, AssignsTo, DeletesTo}
+use Rattle.jsonptr_in_toml.specs.InToml.{ReadsAsToml, IsDeep, HasDeepValues, AssignsTo, DeletesTo}
 use Rattle.jsonptr_in_toml.specs.declared.error.InTomlError.{InTomlError}
 use Rattle.jsonptr_in_toml.specs.declared.error.InTomlError.TheVariants.{NotToml, DocumentTooDeep, NoValue, BadPlace, NotThere, TooDeep, NoText, Memory}
 use Rattle.jsonptr_edit_in_toml.specs.Failing.{AssignsInOrder, DeletesInOrder, FailsToAssignInText, FailsToDeleteInText, AreOneError}
@@ -41,18 +41,18 @@ no_text text ms p q =
     let wrong : ⊥ = cc in
     wrong
 
-not_toml_read : (text : Text) (d : Data) → parse_document text ≡ None → ReadsAs text d → ⊥
+not_toml_read : (text : Text) (d : Data) → parse_document text ≡ None → ReadsAsToml text d → ⊥
 not_toml_read text d none reads = no_text text reads.0 none reads.1
 
 not_toml_deep : (text : Text) → parse_document text ≡ None → IsDeep text → ⊥
 not_toml_deep text none deep = no_text text deep.0 none deep.1
 
-deep_read : (text : Text) (d : Data) → IsDeep text → ReadsAs text d → ⊥
+deep_read : (text : Text) (d : Data) → IsDeep text → ReadsAsToml text d → ⊥
 deep_read text d deep reads =
     let same : members_depth deep.0 ≡ members_depth reads.0 = ap members_depth (one_read text deep.0 reads.0 deep.1 reads.1) in
     absurd (omega (arith, same, deep.2, reads.3))
 
-same_document : (text : Text) (d e : Data) → ReadsAs text d → ReadsAs text e → d ≡ e
+same_document : (text : Text) (d e : Data) → ReadsAsToml text d → ReadsAsToml text e → d ≡ e
 same_document text d e r s = r.2 ∙ ap table (one_read text r.0 s.0 r.1 s.1) ∙ sym s.2
 
 swap : (e f : InTomlError) → AreOneError e f → AreOneError f e
@@ -69,14 +69,14 @@ same_assigned made text ts v d2 d3 sorted h k =
     let alike : nodes d2 ≡ nodes d3 = (made (nodes k.0.0) ts (nodes v) (nodes d2) (nodes d3) h.0.2.0 k.0.2.0 there k.0.2.1).0 in
     nodes_one d2 d3 (h.1 sorted) (k.1 sorted) alike
 
-assigned_or_refused : (both : NotBoth) (text : Text) (ts : List Text) (v d2 d : Data) (e : Error) → AssignsTo text ts v d2 → ReadsAs text d → RefusesAssign (nodes d) ts e → ⊥
+assigned_or_refused : (both : NotBoth) (text : Text) (ts : List Text) (v d2 d : Data) (e : Error) → AssignsTo text ts v d2 → ReadsAsToml text d → RefusesAssign (nodes d) ts e → ⊥
 assigned_or_refused both text ts v d2 d e h reads refused =
     let from : h.0 ≡ d = same_document text h.0 d h.1 reads in
     let there = subst (λ (x : Data). Assigns (nodes x) ts (nodes v) (nodes d2) h.2.0) from h.2.1 in
     both (nodes d) ts (nodes v) (nodes d2) h.2.0 e there refused
 
 -- the text is read, if the pointer is at fault or the new document is
-too_deep_read : (text : Text) (ts : List Text) (v : Data) → FailsToAssignInText text ts v TooDeep → (d : Data) × ReadsAs text d
+too_deep_read : (text : Text) (ts : List Text) (v : Data) → FailsToAssignInText text ts v TooDeep → (d : Data) × ReadsAsToml text d
 too_deep_read text ts v (inl h) = h.0
 too_deep_read text ts v (inr h) = (h.1.0.0, h.1.0.1)
 
@@ -173,7 +173,7 @@ ReadFirst TooDeep = ⊤
 ReadFirst NoText = ⊤
 ReadFirst (Memory f) = ⊥
 
-read_first : (text : Text) (ts : List Text) (e : InTomlError) → ReadFirst e → FailsToDeleteInText text ts e → (d : Data) × ReadsAs text d
+read_first : (text : Text) (ts : List Text) (e : InTomlError) → ReadFirst e → FailsToDeleteInText text ts e → (d : Data) × ReadsAsToml text d
 read_first text ts NotToml late h = absurd late
 read_first text ts DocumentTooDeep late h = absurd late
 read_first text ts (NoValue f) late h = absurd late

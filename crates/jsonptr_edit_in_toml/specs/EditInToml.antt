@@ -1,38 +1,38 @@
 -- Edits of a TOML document in its text.
 use Rattle.std.specs.Prelude.{List, Option, ⊤, string_bytes}
 use Rattle.toml.specs.Data.{Data, table, no_members}
-use Rattle.jsonptr_grammar.specs.Text.{Text}
-use Rattle.jsonptr_tree.specs.Node.{NodeMap}
-use Rattle.jsonptr_tree.specs.TomlValue.{nodes, FindsValue}
-use Rattle.jsonptr_tree.specs.Assigning.{Assigns}
-use Rattle.jsonptr_tree.specs.Removing.{Deletes}
-use Rattle.jsonptr_in_toml.specs.InToml.{ReadsAs}
+use Rattle.jsonptr.specs.Text.{Text}
+use Rattle.jsonptr.specs.Node.{NodeMap}
+use Rattle.jsonptr.specs.TomlValue.{nodes, FindsValue}
+use Rattle.jsonptr.specs.Assigning.{Assigns}
+use Rattle.jsonptr.specs.Removing.{Deletes}
+use Rattle.jsonptr_in_toml.specs.InToml.{ReadsAsToml}
 use Rattle.jsonptr_edit_in_toml.specs.declared.edited.Edited.{Edited}
 use Rattle.jsonptr_edit_in_toml.specs.declared.edited.Edited.TheVariants.{InPlace, Rewritten}
 
--- `text_of e`: the text of the edited document
-abbrev pub text_of : Edited → Text
-text_of (InPlace s) = string_bytes s
-text_of (Rewritten s) = string_bytes s
+-- `toml_text_of e`: the text of the edited document
+abbrev pub toml_text_of : Edited → Text
+toml_text_of (InPlace s) = string_bytes s
+toml_text_of (Rewritten s) = string_bytes s
 
--- `AssignsInText old ts v new`: the texts read as documents, and assigning `v` at the tokens turns the first into the
+-- `AssignsInTomlText old ts v new`: the texts read as documents, and assigning `v` at the tokens turns the first into the
 -- second
-abbrev pub AssignsInText : Text → List Text → Data → Text → Type 0
-AssignsInText old ts v new =
-    (d d2 : Data) × ReadsAs old d × ReadsAs new d2
+abbrev pub AssignsInTomlText : Text → List Text → Data → Text → Type 0
+AssignsInTomlText old ts v new =
+    (d d2 : Data) × ReadsAsToml old d × ReadsAsToml new d2
     × ((replaced : Option NodeMap) × Assigns (nodes d) ts (nodes v) (nodes d2) replaced)
 
--- `DeletesInText old ts new`: the texts read as documents, the tokens identify a value of the first, and deleting it turns
+-- `DeletesInTomlText old ts new`: the texts read as documents, the tokens identify a value of the first, and deleting it turns
 -- the first into the second. Deleting the root leaves an empty table
-abbrev pub DeletesInText : Text → List Text → Text → Type 0
-DeletesInText old ts new =
-    (d d2 : Data) × ReadsAs old d × ReadsAs new d2
+abbrev pub DeletesInTomlText : Text → List Text → Text → Type 0
+DeletesInTomlText old ts new =
+    (d d2 : Data) × ReadsAsToml old d × ReadsAsToml new d2
     × ((v : Data) × FindsValue d ts v) × Deletes (nodes d) ts (nodes (table no_members)) (nodes d2)
 
--- `KeepsBytes P e`: if `e` was edited in place, its text meets P
-abbrev pub KeepsBytes : (Text → Type 0) → Edited → Type 0
-KeepsBytes P (InPlace s) = P (string_bytes s)
-KeepsBytes P (Rewritten s) = ⊤
+-- `KeepsTomlBytes P e`: if `e` was edited in place, its text meets P
+abbrev pub KeepsTomlBytes : (Text → Type 0) → Edited → Type 0
+KeepsTomlBytes P (InPlace s) = P (string_bytes s)
+KeepsTomlBytes P (Rewritten s) = ⊤
 
 -- `IsPrinted P e`: if `e` was printed anew, its text meets P
 abbrev pub IsPrinted : (Text → Type 0) → Edited → Type 0

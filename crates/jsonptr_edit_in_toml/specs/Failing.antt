@@ -3,11 +3,11 @@ use Rattle.std.specs.Prelude.{◌≡◌, ◌<◌, ◌≤◌, ◌⊎◌, suc, Lis
 use Rattle.toml.specs.Data.{Data}
 use Rattle.toml.specs.Parse.{parse_document}
 use Rattle.toml_parser.specs.Strings.{recursion_limit as max_depth}
-use Rattle.jsonptr_grammar.specs.Text.{Text}
-use Rattle.jsonptr_tree.specs.Node.{Path, Names}
-use Rattle.jsonptr_tree.specs.TomlValue.{nodes, HasSortedKeys}
+use Rattle.jsonptr.specs.Text.{Text}
+use Rattle.jsonptr.specs.Node.{Path, Names}
+use Rattle.jsonptr.specs.TomlValue.{nodes, HasSortedKeys}
 use Rattle.jsonptr.specs.Assign.{RefusesAssign}
-use Rattle.jsonptr_in_toml.specs.InToml.{ReadsAs, IsDeep, HasDeepValues, HasNoText, AssignsTo, DeletesTo}
+use Rattle.jsonptr_in_toml.specs.InToml.{ReadsAsToml, IsDeep, HasDeepValues, HasNoText, AssignsTo, DeletesTo}
 use Rattle.jsonptr_in_toml.specs.declared.error.InTomlError.{InTomlError}
 use Rattle.jsonptr_in_toml.specs.declared.error.InTomlError.TheVariants.{NotToml, DocumentTooDeep, BadPlace, NotThere, TooDeep, NoText, Memory}
 
@@ -33,9 +33,9 @@ abbrev pub FailsToAssignInText : Text → List Text → Data → InTomlError →
 FailsToAssignInText text ts v NotToml = parse_document text ≡ None
 FailsToAssignInText text ts v DocumentTooDeep = IsDeep text
 FailsToAssignInText text ts v (BadPlace f) =
-    (d : Data) × ReadsAs text d × (length ts ≤ suc max_depth) × RefusesAssign (nodes d) ts f
+    (d : Data) × ReadsAsToml text d × (length ts ≤ suc max_depth) × RefusesAssign (nodes d) ts f
 FailsToAssignInText text ts v TooDeep =
-    (((d : Data) × ReadsAs text d) × (suc max_depth < length ts))
+    (((d : Data) × ReadsAsToml text d) × (suc max_depth < length ts))
     ⊎ ((d2 : Data) × AssignsInOrder text ts v d2 × IsEditFault d2 TooDeep)
 FailsToAssignInText text ts v NoText =
     (length ts ≤ suc max_depth) × ((d2 : Data) × AssignsInOrder text ts v d2 × IsEditFault d2 NoText)
@@ -46,7 +46,7 @@ FailsToAssignInText text ts v e = ⊥
 abbrev pub FailsToDeleteInText : Text → List Text → InTomlError → Type 0
 FailsToDeleteInText text ts NotToml = parse_document text ≡ None
 FailsToDeleteInText text ts DocumentTooDeep = IsDeep text
-FailsToDeleteInText text ts NotThere = (d : Data) × ReadsAs text d × ((w : Path) → Names (nodes d) ts w → ⊥)
+FailsToDeleteInText text ts NotThere = (d : Data) × ReadsAsToml text d × ((w : Path) → Names (nodes d) ts w → ⊥)
 FailsToDeleteInText text ts TooDeep = (d2 : Data) × DeletesInOrder text ts d2 × IsEditFault d2 TooDeep
 FailsToDeleteInText text ts NoText = (d2 : Data) × DeletesInOrder text ts d2 × IsEditFault d2 NoText
 FailsToDeleteInText text ts (Memory f) = ⊤

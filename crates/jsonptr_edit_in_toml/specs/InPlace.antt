@@ -1,11 +1,11 @@
 -- Edits of a TOML text that are made in place or not at all.
-use Rattle.jsonptr_grammar.specs.Text.{Text}
+use Rattle.jsonptr.specs.Text.{Text}
 use Rattle.jsonptr_in_toml.specs.declared.error.InTomlError.{InTomlError}
 use Rattle.jsonptr_edit_in_toml.specs.declared.in_place.InPlaceError.{InPlaceError}
 use Rattle.jsonptr_edit_in_toml.specs.declared.in_place.InPlaceError.TheVariants.{NotInPlace, Failed}
 
--- `IsInPlaceError P Q e`: `e` is why an edit is not made in place. Some text meets P, so the edit is possible, or it
+-- `IsTomlInPlaceError P Q e`: `e` is why an edit is not made in place. Some text meets P, so the edit is possible, or it
 -- fails for an error that meets Q
-abbrev pub IsInPlaceError : (Text → Type 0) → (InTomlError → Type 0) → InPlaceError → Type 0
-IsInPlaceError P Q NotInPlace = (new : Text) × P new
-IsInPlaceError P Q (Failed e) = Q e
+abbrev pub IsTomlInPlaceError : (Text → Type 0) → (InTomlError → Type 0) → InPlaceError → Type 0
+IsTomlInPlaceError P Q NotInPlace = (new : Text) × P new
+IsTomlInPlaceError P Q (Failed e) = Q e

@@ -1,12 +1,12 @@
 //! Where a member or an element is put in. These are hints: no contract says that they are right.
-use crate::items::{Item, Kind};
+use crate::items::{Item, ItemKind};
 use crate::keys::{key_text, push_keys, push_token};
 use crate::outline::{Outline, Role, indent_of, outline_of};
 use crate::part::add_part;
 use crate::piece::{has_headers, section_text};
 use crate::plan::{Addition, Child, Keys};
 use crate::span::{
-    Span, comments_above, is_blank_line, is_tight, line_start, newline_of, skip_blank_lines,
+    ByteSpan, comments_above, is_blank_line, is_tight, line_start, newline_of, skip_blank_lines,
     skip_comment_lines, skip_own_comments, slice, text_start,
 };
 use jsonptr::{Pointer, PointerBuf};
@@ -109,7 +109,7 @@ fn prefers_headers(text: &str, outline: &Outline, count: usize) -> bool {
         if trace.shared < count {
             continue;
         }
-        if item.kind == Kind::Pair {
+        if item.kind == ItemKind::Pair {
             let is_inline = byte_at(text, item.value.from) == b'{' || is_dotted_key(text, item);
             has_inline = has_inline || (is_inline && trace.table == Some(count));
         } else if trace.role != Role::Above || trace.shared > count {
@@ -256,7 +256,7 @@ fn is_spread(text: &str, outline: &Outline, line: &Line) -> bool {
 /// Returns the equals sign of the item, with the white space that is usual there.
 fn equals_of(text: &str, sibling: Option<&Item>) -> &'static str {
     match sibling {
-        Some(item) if item.kind == Kind::Pair && is_tight(text, item.key, item.value) => "=",
+        Some(item) if item.kind == ItemKind::Pair && is_tight(text, item.key, item.value) => "=",
         _ => " = ",
     }
 }
@@ -309,7 +309,7 @@ fn is_spaced(text: &str, outline: &Outline) -> bool {
     match outline
         .items
         .iter()
-        .rposition(|item| item.kind != Kind::Pair)
+        .rposition(|item| item.kind != ItemKind::Pair)
     {
         Some(index) => match outline.items.get(index) {
             Some(item) if index > 0 => {
@@ -355,14 +355,14 @@ fn whole_lines(
         lines
     };
     let child = Child {
-        span: Span {
+        span: ByteSpan {
             from: 0,
             to: rest.len(),
         },
         keys: Keys::Some(keys),
     };
     Ok(Addition {
-        span: Span { from: at, to: at },
+        span: ByteSpan { from: at, to: at },
         lead: String::new(alloc),
         rest,
         child,

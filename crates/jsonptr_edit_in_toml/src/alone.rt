@@ -3,7 +3,7 @@ ghost use Rattle.std.specs.Prelude.{◌≡◌, IsTrue, IfOk};
 ghost use Rattle.toml.specs.Data.{table, no_members};
 ghost use Rattle.toml.specs.View.{view};
 ghost use Rattle.jsonptr.specs.Pointer.{tokens};
-ghost use Rattle.jsonptr_edit_in_toml.specs.Bytes.{IsFiller, IsComma, HaveOneComma, EndsAs, Holds, IsAlone, IsOneChild};
+ghost use Rattle.jsonptr_edit_in_toml.specs.Bytes.{IsFiller, IsComma, HaveOneTomlComma, EndsAs, HoldsAlone, IsAlone, IsOneTomlChild};
 
 use crate::check::{is_document_of, is_text_of};
 use crate::cut::cut_at;
@@ -45,7 +45,7 @@ fn is_comma(alloc: Global, text: &str) -> Result<bool, AllocError>
 /// Returns whether both texts are white space, line breaks and comments, and at most one of them has a
 /// comma.
 fn have_one_comma(alloc: Global, lead: &str, trail: &str) -> Result<bool, AllocError>
-    ensures { IfOk result (λ have. IsTrue have → HaveOneComma lead.now trail.now) }
+    ensures { IfOk result (λ have. IsTrue have → HaveOneTomlComma lead.now trail.now) }
 {
     if !is_filler(alloc, lead)? {
         return Ok(is_comma(alloc, lead)? && is_filler(alloc, trail)?);
@@ -72,7 +72,7 @@ pub fn holds(
     keys: Pointer<'_>,
     value: &Value,
 ) -> Result<bool, AllocError>
-    ensures { IfOk result (λ holds. IsTrue holds → Holds (tokens keys.entry) (view value.now) text.now) }
+    ensures { IfOk result (λ holds. IsTrue holds → HoldsAlone (tokens keys.entry) (view value.now) text.now) }
 {
     let mut want = empty_table(alloc);
     let value = value.clone()?;
@@ -114,7 +114,7 @@ pub fn is_one_child(
     value: &Value,
 ) -> Result<bool, AllocError>
     ensures { IfOk result (λ is. IsTrue is
-        → IsOneChild (tokens pointer.entry) (view value.now) text.now) }
+        → IsOneTomlChild (tokens pointer.entry) (view value.now) text.now) }
 {
     let Some(cut) = cut_at(text, child.span.from, child.span.to) else {
         return Ok(false);

@@ -3,10 +3,10 @@ ghost use Rattle.std.specs.Prelude.{◌≡◌, ◌++◌, IfOk, IfErr, IfSome, Is
 ghost use Rattle.toml.specs.Data.{Data};
 ghost use Rattle.toml.specs.View.{view};
 ghost use Rattle.jsonptr.specs.Pointer.{tokens};
-ghost use Rattle.jsonptr_tree.specs.TomlValue.{FindsValue};
-ghost use Rattle.jsonptr_in_toml.specs.InToml.{ReadsAs, AssignsInToml, PrintsAs};
-ghost use Rattle.jsonptr_edit_in_toml.specs.EditInToml.{text_of, AssignsInText, KeepsBytes, IsPrinted};
-ghost use Rattle.jsonptr_edit_in_toml.specs.Bytes.{AssignsBytes, IsAlone};
+ghost use Rattle.jsonptr.specs.TomlValue.{FindsValue};
+ghost use Rattle.jsonptr_in_toml.specs.InToml.{ReadsAsToml, AssignsInToml, PrintsAs};
+ghost use Rattle.jsonptr_edit_in_toml.specs.EditInToml.{toml_text_of, AssignsInTomlText, KeepsTomlBytes, IsPrinted};
+ghost use Rattle.jsonptr_edit_in_toml.specs.Bytes.{AssignsTomlBytes, IsAlone};
 ghost use Rattle.jsonptr_edit_in_toml.specs.Failing.{FailsToAssignInText, IsEditFault};
 
 use crate::add::plan_addition;
@@ -18,7 +18,7 @@ use crate::plan::{Addition, Replacement};
 use crate::replace::plan_replacement;
 use jsonptr::{Assign, Fault, Pointer, Resolve};
 use jsonptr_in_toml::InTomlError;
-use jsonptr_in_toml::depth::{MAX_DEPTH, is_long, value_within};
+use jsonptr_in_toml::depth::{MAX_TOML_DEPTH, is_long, value_within};
 use jsonptr_in_toml::document::{print_toml, read_toml};
 use jsonptr_value::discard;
 use std::alloc::{AllocError, Global};
@@ -57,13 +57,13 @@ pub fn assign_in_toml_text(
     pointer: Pointer<'_>,
     value: Value,
 ) -> Result<Edited, InTomlError>
-    ensures assigned { IfOk result (λ e. AssignsInText text.now (tokens pointer.entry) (view value)
-        (text_of e)) }
-    ensures bytes { IfOk result (KeepsBytes
-        (AssignsBytes text.now (tokens pointer.entry) (view value))) }
+    ensures assigned { IfOk result (λ e. AssignsInTomlText text.now (tokens pointer.entry) (view value)
+        (toml_text_of e)) }
+    ensures bytes { IfOk result (KeepsTomlBytes
+        (AssignsTomlBytes text.now (tokens pointer.entry) (view value))) }
     ensures printed { IfOk result (IsPrinted
         (AssignsInToml text.now (tokens pointer.entry) (view value))) }
-    ensures failed { IfErr result
+    ensures refused { IfErr result
         (FailsToAssignInText text.now (tokens pointer.entry) (view value)) }
 {
     let mut document = read_toml(alloc, text)?;
@@ -85,11 +85,11 @@ pub fn choose(
     candidate: Option<String>,
     document: Value,
 ) -> Result<Edited, InTomlError>
-    ensures document { IfOk result (λ e. ReadsAs (text_of e) (view document)) }
-    ensures place { IfOk result (KeepsBytes (λ s. IfSome candidate (λ c. s ≡ string_bytes c))) }
-    ensures there { IfOk result (KeepsBytes (λ s. IsSome candidate)) }
+    ensures document { IfOk result (λ e. ReadsAsToml (toml_text_of e) (view document)) }
+    ensures place { IfOk result (KeepsTomlBytes (λ s. IfSome candidate (λ c. s ≡ string_bytes c))) }
+    ensures there { IfOk result (KeepsTomlBytes (λ s. IsSome candidate)) }
     ensures printed { IfOk result (IsPrinted (PrintsAs (view document))) }
-    ensures failed { IfErr result (IsEditFault (view document)) }
+    ensures refused { IfErr result (IsEditFault (view document)) }
 {
     if has_deep_values(&document) {
         discard(document);
@@ -111,11 +111,11 @@ fn candidate_of(
     document: &Value,
     value: &Value,
 ) -> Result<Option<String>, AllocError>
-    ensures { ReadsAs text.now (view document.now) → IfOk result (λ new. IfSome new
-        (λ s. AssignsBytes text.now (tokens pointer.entry) (view value.now) (string_bytes s))) }
+    ensures { ReadsAsToml text.now (view document.now) → IfOk result (λ new. IfSome new
+        (λ s. AssignsTomlBytes text.now (tokens pointer.entry) (view value.now) (string_bytes s))) }
 {
     // a deeper value makes the document too deep
-    if !value_within(value, MAX_DEPTH) {
+    if !value_within(value, MAX_TOML_DEPTH) {
         return Ok(None);
     }
     match document.resolve(alloc, pointer) {
@@ -144,10 +144,10 @@ fn replaced(
     found: &Value,
     plan: &Replacement,
 ) -> Result<Option<String>, AllocError>
-    ensures { (d v : Data) → ReadsAs text.now d → FindsValue d (tokens pointer.entry) (view found.now)
+    ensures { (d v : Data) → ReadsAsToml text.now d → FindsValue d (tokens pointer.entry) (view found.now)
         → IsAlone (tokens pointer.entry) v (string_bytes plan.now.piece)
         → IfOk result (λ new. IfSome new
-        (λ s. AssignsBytes text.now (tokens pointer.entry) v (string_bytes s))) }
+        (λ s. AssignsTomlBytes text.now (tokens pointer.entry) v (string_bytes s))) }
 {
     let Some(cut) = cut_at(text, plan.span.from, plan.span.to) else {
         return Ok(None);
@@ -167,7 +167,7 @@ fn added(
     plan: &Addition,
 ) -> Result<Option<String>, AllocError>
     ensures { IfOk result (λ new. IfSome new
-        (λ s. AssignsBytes text.now (tokens pointer.entry) (view value.now) (string_bytes s))) }
+        (λ s. AssignsTomlBytes text.now (tokens pointer.entry) (view value.now) (string_bytes s))) }
 {
     let Some(cut) = cut_at(text, plan.span.from, plan.span.to) else {
         return Ok(None);

@@ -2,18 +2,18 @@
 ghost use Rattle.std.specs.Prelude.{◌≡◌, ◌↔◌, Some, IsTrue, IfOk};
 ghost use Rattle.toml.specs.View.{view};
 ghost use Rattle.toml.specs.Parse.{parse_value};
-ghost use Rattle.jsonptr_in_toml.specs.InToml.{ReadsAs, HasDeepValues};
+ghost use Rattle.jsonptr_in_toml.specs.InToml.{ReadsAsToml, HasDeepValues};
 
 use crate::same::is_same;
 use jsonptr_in_toml::InTomlError;
-use jsonptr_in_toml::depth::{MAX_DEPTH, table_within};
+use jsonptr_in_toml::depth::{MAX_TOML_DEPTH, table_within};
 use jsonptr_in_toml::document::read_toml;
 use std::alloc::{AllocError, Global};
 use toml::Value;
 
 /// Returns whether the text is a document of the value.
 pub fn is_document_of(alloc: Global, text: &str, want: &Value) -> Result<bool, AllocError>
-    ensures { IfOk result (λ holds. IsTrue holds → ReadsAs text.now (view want.now)) }
+    ensures { IfOk result (λ holds. IsTrue holds → ReadsAsToml text.now (view want.now)) }
 {
     match read_toml(alloc, text) {
         Ok(value) => Ok(is_same(&value, want)),
@@ -38,7 +38,7 @@ pub fn has_deep_values(value: &Value) -> bool
     ensures { IsTrue result ↔ HasDeepValues (view value.now) }
 {
     match value {
-        Value::Table(table) => !table_within(table, MAX_DEPTH),
+        Value::Table(table) => !table_within(table, MAX_TOML_DEPTH),
         _ => false,
     }
 }

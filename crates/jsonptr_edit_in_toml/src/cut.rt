@@ -1,6 +1,6 @@
 //! A text that is cut at two offsets, and a text with the piece between them replaced.
 ghost use Rattle.std.specs.Prelude.{◌≡◌, ◌++◌, IfOk, IfSome, string_bytes};
-ghost use Rattle.jsonptr_edit_in_toml.specs.Bytes.{Splices};
+ghost use Rattle.jsonptr_edit_in_toml.specs.Bytes.{SplicesToml};
 
 use std::alloc::{AllocError, Global};
 
@@ -36,7 +36,7 @@ pub fn cut_at(text: &str, from: usize, to: usize) -> Option<Cut<'_>>
 
 /// Returns the text with `piece` instead of what is between the two offsets.
 pub fn splice(alloc: Global, cut: &Cut<'_>, piece: &str) -> Result<String, AllocError>
-    ensures { IfOk result (λ new. Splices cut.now.text.now (string_bytes new) cut.now.was.now piece.now) }
+    ensures { IfOk result (λ new. SplicesToml cut.now.text.now (string_bytes new) cut.now.was.now piece.now) }
 {
     let mut new = String::new(alloc);
     new.push_str(cut.before)?;

@@ -3,10 +3,10 @@ ghost use Rattle.std.specs.Prelude.{◌≡◌, [], ◌⊎◌, IsTrue, IfOk, IfEr
 ghost use Rattle.toml.specs.Data.{Data};
 ghost use Rattle.toml.specs.View.{view};
 ghost use Rattle.jsonptr.specs.Pointer.{tokens};
-ghost use Rattle.jsonptr_tree.specs.TomlValue.{FindsValue};
-ghost use Rattle.jsonptr_in_toml.specs.InToml.{ReadsAs, DeletesInToml};
-ghost use Rattle.jsonptr_edit_in_toml.specs.EditInToml.{text_of, DeletesInText, KeepsBytes, IsPrinted};
-ghost use Rattle.jsonptr_edit_in_toml.specs.Bytes.{DeletesBytes, IsEmpty, Empties};
+ghost use Rattle.jsonptr.specs.TomlValue.{FindsValue};
+ghost use Rattle.jsonptr_in_toml.specs.InToml.{ReadsAsToml, DeletesInToml};
+ghost use Rattle.jsonptr_edit_in_toml.specs.EditInToml.{toml_text_of, DeletesInTomlText, KeepsTomlBytes, IsPrinted};
+ghost use Rattle.jsonptr_edit_in_toml.specs.Bytes.{DeletesTomlBytes, IsEmptyToml, Empties};
 ghost use Rattle.jsonptr_edit_in_toml.specs.Failing.{FailsToDeleteInText};
 
 use crate::alone::{empty_table, is_alone, is_one_child};
@@ -48,10 +48,10 @@ pub fn delete_in_toml_text(
     text: &str,
     pointer: Pointer<'_>,
 ) -> Result<Edited, InTomlError>
-    ensures deleted { IfOk result (λ e. DeletesInText text.now (tokens pointer.entry) (text_of e)) }
-    ensures bytes { IfOk result (KeepsBytes (DeletesBytes text.now (tokens pointer.entry))) }
+    ensures deleted { IfOk result (λ e. DeletesInTomlText text.now (tokens pointer.entry) (toml_text_of e)) }
+    ensures bytes { IfOk result (KeepsTomlBytes (DeletesTomlBytes text.now (tokens pointer.entry))) }
     ensures printed { IfOk result (IsPrinted (DeletesInToml text.now (tokens pointer.entry))) }
-    ensures failed { IfErr result (FailsToDeleteInText text.now (tokens pointer.entry)) }
+    ensures refused { IfErr result (FailsToDeleteInText text.now (tokens pointer.entry)) }
 {
     let mut document = read_toml(alloc, text)?;
     let candidate = candidate_of(alloc, text, pointer, &document)?;
@@ -68,8 +68,8 @@ fn candidate_of(
     pointer: Pointer<'_>,
     document: &Value,
 ) -> Result<Option<String>, AllocError>
-    ensures { ReadsAs text.now (view document.now) → IfOk result (λ new. IfSome new
-        (λ s. DeletesBytes text.now (tokens pointer.entry) (string_bytes s))) }
+    ensures { ReadsAsToml text.now (view document.now) → IfOk result (λ new. IfSome new
+        (λ s. DeletesTomlBytes text.now (tokens pointer.entry) (string_bytes s))) }
 {
     match document.resolve(alloc, pointer) {
         Ok(found) => match plan_removal(alloc, text, pointer)? {
@@ -89,9 +89,9 @@ fn removed(
     found: &Value,
     plan: &Removal,
 ) -> Result<Option<String>, AllocError>
-    ensures { (d : Data) → ReadsAs text.now d → FindsValue d (tokens pointer.entry) (view found.now)
+    ensures { (d : Data) → ReadsAsToml text.now d → FindsValue d (tokens pointer.entry) (view found.now)
         → IfOk result (λ new. IfSome new
-        (λ s. DeletesBytes text.now (tokens pointer.entry) (string_bytes s))) }
+        (λ s. DeletesTomlBytes text.now (tokens pointer.entry) (string_bytes s))) }
 {
     let Some(cut) = cut_at(text, plan.span.from, plan.span.to) else {
         return Ok(None);
@@ -122,7 +122,7 @@ fn is_left(alloc: Global, pointer: Pointer<'_>, left: &Left) -> Result<bool, All
 
 /// Returns an empty array or table.
 fn empty_value(alloc: Global, is_array: bool) -> Value
-    ensures { IsEmpty (view result) }
+    ensures { IsEmptyToml (view result) }
 {
     if is_array {
         Value::Array(Vec::new(alloc))

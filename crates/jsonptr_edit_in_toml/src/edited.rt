@@ -1,6 +1,6 @@
 //! What an edit in a text returns.
 ghost use Rattle.std.specs.Prelude.{◌≡◌, string_bytes};
-ghost use Rattle.jsonptr_edit_in_toml.specs.EditInToml.{text_of};
+ghost use Rattle.jsonptr_edit_in_toml.specs.EditInToml.{toml_text_of};
 
 /// A text after an edit.
 #[derive(Debug, Drop)]
@@ -14,7 +14,7 @@ pub enum Edited {
 impl Edited {
     /// Returns the text.
     pub fn as_str(&self) -> &str
-        ensures { result.now ≡ text_of self.now }
+        ensures { result.now ≡ toml_text_of self.now }
     {
         match self {
             Edited::InPlace(text) => text.as_str(),
@@ -24,7 +24,7 @@ impl Edited {
 
     /// Returns the text, without copying it.
     pub fn into_string(self) -> String
-        ensures { string_bytes result ≡ text_of self }
+        ensures { string_bytes result ≡ toml_text_of self }
     {
         match self {
             Edited::InPlace(text) => text,

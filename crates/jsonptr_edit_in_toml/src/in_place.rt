@@ -2,10 +2,10 @@
 ghost use Rattle.std.specs.Prelude.{IfOk, IfErr, string_bytes};
 ghost use Rattle.toml.specs.View.{view};
 ghost use Rattle.jsonptr.specs.Pointer.{tokens};
-ghost use Rattle.jsonptr_edit_in_toml.specs.EditInToml.{AssignsInText, DeletesInText};
-ghost use Rattle.jsonptr_edit_in_toml.specs.Bytes.{AssignsBytes, DeletesBytes};
+ghost use Rattle.jsonptr_edit_in_toml.specs.EditInToml.{AssignsInTomlText, DeletesInTomlText};
+ghost use Rattle.jsonptr_edit_in_toml.specs.Bytes.{AssignsTomlBytes, DeletesTomlBytes};
 ghost use Rattle.jsonptr_edit_in_toml.specs.Failing.{FailsToAssignInText, FailsToDeleteInText};
-ghost use Rattle.jsonptr_edit_in_toml.specs.InPlace.{IsInPlaceError};
+ghost use Rattle.jsonptr_edit_in_toml.specs.InPlace.{IsTomlInPlaceError};
 
 use crate::assign::assign_in_toml_text;
 use crate::delete::delete_in_toml_text;
@@ -47,12 +47,12 @@ pub fn assign_in_place(
     pointer: Pointer<'_>,
     value: Value,
 ) -> Result<String, InPlaceError>
-    ensures assigned { IfOk result (λ s. AssignsInText text.now (tokens pointer.entry) (view value)
+    ensures assigned { IfOk result (λ s. AssignsInTomlText text.now (tokens pointer.entry) (view value)
         (string_bytes s)) }
     ensures bytes { IfOk result (λ s.
-        AssignsBytes text.now (tokens pointer.entry) (view value) (string_bytes s)) }
-    ensures refused { IfErr result (IsInPlaceError
-        (AssignsInText text.now (tokens pointer.entry) (view value))
+        AssignsTomlBytes text.now (tokens pointer.entry) (view value) (string_bytes s)) }
+    ensures refused { IfErr result (IsTomlInPlaceError
+        (AssignsInTomlText text.now (tokens pointer.entry) (view value))
         (FailsToAssignInText text.now (tokens pointer.entry) (view value))) }
 {
     match assign_in_toml_text(alloc, text, pointer, value) {
@@ -81,11 +81,11 @@ pub fn delete_in_place(
     pointer: Pointer<'_>,
 ) -> Result<String, InPlaceError>
     ensures deleted { IfOk result
-        (λ s. DeletesInText text.now (tokens pointer.entry) (string_bytes s)) }
+        (λ s. DeletesInTomlText text.now (tokens pointer.entry) (string_bytes s)) }
     ensures bytes { IfOk result
-        (λ s. DeletesBytes text.now (tokens pointer.entry) (string_bytes s)) }
-    ensures refused { IfErr result (IsInPlaceError
-        (DeletesInText text.now (tokens pointer.entry))
+        (λ s. DeletesTomlBytes text.now (tokens pointer.entry) (string_bytes s)) }
+    ensures refused { IfErr result (IsTomlInPlaceError
+        (DeletesInTomlText text.now (tokens pointer.entry))
         (FailsToDeleteInText text.now (tokens pointer.entry))) }
 {
     match delete_in_toml_text(alloc, text, pointer) {

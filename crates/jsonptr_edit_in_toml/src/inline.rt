@@ -2,7 +2,7 @@
 //! are right.
 use crate::keys::{Ending, Route, follow, is_index};
 use crate::skip::{keys_end, value_end};
-use crate::span::{Span, skip_blanks, skip_filler};
+use crate::span::{ByteSpan, skip_blanks, skip_filler};
 use std::alloc::{AllocError, Global};
 use toml_parser::text::byte_at;
 
@@ -12,11 +12,11 @@ pub struct Part {
     /// Its number.
     pub index: usize,
     /// All of it.
-    pub whole: Span,
+    pub whole: ByteSpan,
     /// Its dotted key, or an empty span.
-    pub key: Span,
+    pub key: ByteSpan,
     /// Its value.
-    pub value: Span,
+    pub value: ByteSpan,
     /// The offset after the comma that follows it.
     pub comma: Option<usize>,
 }
@@ -25,7 +25,7 @@ pub struct Part {
 #[derive(Debug, Drop)]
 pub struct Container {
     /// Its text.
-    pub span: Span,
+    pub span: ByteSpan,
     /// Its parts.
     pub parts: Vec<Part>,
     /// How many tokens lead to it.
@@ -44,7 +44,7 @@ pub struct Found {
 }
 
 /// Returns the parts of the array or inline table at the span.
-fn parts_of(alloc: Global, text: &str, span: Span) -> Result<Vec<Part>, AllocError> {
+fn parts_of(alloc: Global, text: &str, span: ByteSpan) -> Result<Vec<Part>, AllocError> {
     let is_table = byte_at(text, span.from) == b'{';
     let mut parts = Vec::new(alloc);
     let mut at = span.from.saturating_add(1);
@@ -80,9 +80,9 @@ fn part_at(text: &str, at: usize, is_member: bool, index: usize) -> Part {
     };
     Part {
         index,
-        whole: Span { from: at, to: end },
-        key: Span { from: at, to },
-        value: Span { from, to: end },
+        whole: ByteSpan { from: at, to: end },
+        key: ByteSpan { from: at, to },
+        value: ByteSpan { from, to: end },
         comma,
     }
 }
@@ -129,7 +129,7 @@ fn follow_part(
 fn container_at(
     alloc: Global,
     text: &str,
-    span: Span,
+    span: ByteSpan,
     route: &Route,
     count: usize,
 ) -> Result<Container, AllocError> {
@@ -148,7 +148,7 @@ fn container_at(
 pub fn container_of(
     alloc: Global,
     text: &str,
-    value: Span,
+    value: ByteSpan,
     route: &Route,
     count: usize,
 ) -> Result<Option<Container>, AllocError> {

@@ -1,12 +1,12 @@
 //! The headers and pairs of a text. These are hints: no contract says that they are right.
 use crate::skip::{keys_end, value_end};
-use crate::span::{Span, line_start, next_line, skip_blanks, skip_filler, text_start};
+use crate::span::{ByteSpan, line_start, next_line, skip_blanks, skip_filler, text_start};
 use std::alloc::{AllocError, Global};
 use toml_parser::text::byte_at;
 
 /// What an item is.
 #[derive(Clone, Copy, Debug, PartialEq, Eq)]
-pub enum Kind {
+pub enum ItemKind {
     /// The header of a table, `[a]`.
     Table,
     /// The header of a table in an array, `[[a]]`.
@@ -19,13 +19,13 @@ pub enum Kind {
 #[derive(Clone, Copy, Debug)]
 pub struct Item {
     /// What it is.
-    pub kind: Kind,
+    pub kind: ItemKind,
     /// The offset at which its line begins.
     pub line: usize,
     /// Its dotted key.
-    pub key: Span,
+    pub key: ByteSpan,
     /// The value of a pair.
-    pub value: Span,
+    pub value: ByteSpan,
     /// The offset at which the line after it begins.
     pub end: usize,
 }
@@ -53,21 +53,21 @@ fn item_at(text: &str, at: usize) -> Item {
     if byte_at(text, at) != b'[' {
         pair_at(text, line, at)
     } else if byte_at(text, second) == b'[' {
-        header_at(text, line, Kind::Element, second.saturating_add(1))
+        header_at(text, line, ItemKind::Element, second.saturating_add(1))
     } else {
-        header_at(text, line, Kind::Table, second)
+        header_at(text, line, ItemKind::Table, second)
     }
 }
 
 /// Returns the header whose key begins at the offset, after white space.
-fn header_at(text: &str, line: usize, kind: Kind, at: usize) -> Item {
+fn header_at(text: &str, line: usize, kind: ItemKind, at: usize) -> Item {
     let from = skip_blanks(text, at);
     let to = keys_end(text, from);
     Item {
         kind,
         line,
-        key: Span { from, to },
-        value: Span { from: to, to },
+        key: ByteSpan { from, to },
+        value: ByteSpan { from: to, to },
         end: next_line(text, to),
     }
 }
@@ -77,14 +77,14 @@ fn pair_at(text: &str, line: usize, at: usize) -> Item {
     let to = keys_end(text, at);
     let equals = skip_blanks(text, to);
     let from = skip_blanks(text, equals.saturating_add(1));
-    let value = Span {
+    let value = ByteSpan {
         from,
         to: value_end(text, from),
     };
     Item {
-        kind: Kind::Pair,
+        kind: ItemKind::Pair,
         line,
-        key: Span { from: at, to },
+        key: ByteSpan { from: at, to },
         value,
         end: next_line(text, value.to),
     }

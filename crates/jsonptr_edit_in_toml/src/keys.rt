@@ -1,6 +1,6 @@
 //! How far keys of a text lead along tokens. These are hints: no contract says that they are right.
 use crate::skip::{after_dot, key_end};
-use crate::span::{Span, slice};
+use crate::span::{ByteSpan, slice};
 use jsonptr::{Pointer, PointerBuf, Token};
 use std::alloc::{AllocError, Global};
 use std::borrow::CowStr;
@@ -83,7 +83,7 @@ pub fn is_index(token: &str, index: usize) -> bool {
 pub fn follow(
     alloc: Global,
     text: &str,
-    key: Span,
+    key: ByteSpan,
     route: &Route,
     from: usize,
 ) -> Result<Reach, AllocError> {
@@ -93,7 +93,7 @@ pub fn follow(
         let to = key_end(text, next);
         reach = step(
             alloc,
-            slice(text, Span { from: next, to }),
+            slice(text, ByteSpan { from: next, to }),
             route,
             reach.count,
         )?;

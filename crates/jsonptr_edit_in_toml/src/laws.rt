@@ -1,8 +1,8 @@
 //! Laws of edits in TOML text. Each law is the contract of a function that does nothing.
 ghost use Rattle.std.specs.Prelude.{List};
 ghost use Rattle.toml.specs.Data.{Data};
-ghost use Rattle.jsonptr_grammar.specs.Text.{Text};
-ghost use Rattle.jsonptr_tree.specs.TomlValue.{HasSortedKeys};
+ghost use Rattle.jsonptr.specs.Text.{Text};
+ghost use Rattle.jsonptr.specs.TomlValue.{HasSortedKeys};
 ghost use Rattle.jsonptr_in_toml.specs.declared.error.InTomlError.{InTomlError};
 ghost use Rattle.jsonptr_edit_in_toml.specs.Failing.{FailsToAssignInText, FailsToDeleteInText, AreOneError};
 

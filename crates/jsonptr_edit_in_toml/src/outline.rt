@@ -1,8 +1,8 @@
 //! How the headers and pairs of a text lie beside the tokens of a pointer. These are hints: no contract
 //! says that they are right.
-use crate::items::{Item, Kind, items_of};
+use crate::items::{Item, ItemKind, items_of};
 use crate::keys::{Ending, Route, enter_element, follow, pointer_of, push_token, route_of};
-use crate::span::{Span, skip_blanks, slice};
+use crate::span::{ByteSpan, skip_blanks, slice};
 use jsonptr::{Pointer, PointerBuf};
 use std::alloc::{AllocError, Global};
 
@@ -54,7 +54,7 @@ pub fn outline_of(alloc: Global, text: &str, pointer: Pointer<'_>) -> Result<Out
         shared: 0,
     };
     for item in &items {
-        let trace = if item.kind == Kind::Pair {
+        let trace = if item.kind == ItemKind::Pair {
             trace_pair(alloc, text, item, &route, header)?
         } else {
             header = trace_header(alloc, text, item, &mut route)?;
@@ -103,7 +103,7 @@ fn trace_header(
 ) -> Result<Trace, AllocError> {
     let mut reach = follow(alloc, text, item.key, route, 0)?;
     if reach.ending == Ending::Whole {
-        if item.kind == Kind::Element {
+        if item.kind == ItemKind::Element {
             if let Some(tables) = route.counts.get_mut(reach.count) {
                 *tables = tables.saturating_add(1);
             }
@@ -143,7 +143,7 @@ impl Outline {
 
     /// Returns the numbers of the first and the last item in the value that the tokens lead to, if there
     /// are such items and no others are between them.
-    pub fn run(&self) -> Option<Span> {
+    pub fn run(&self) -> Option<ByteSpan> {
         let from = self.first_with(Role::Inside)?;
         let mut to = from;
         for (index, trace) in self.traces.iter().enumerate() {
@@ -154,7 +154,7 @@ impl Outline {
                 to = index;
             }
         }
-        Some(Span { from, to })
+        Some(ByteSpan { from, to })
     }
 
     /// Returns the last item that leads along at least so many tokens.
@@ -163,7 +163,7 @@ impl Outline {
     }
 
     /// Returns whether an item that is not between the two numbers leads along at least so many tokens.
-    pub fn is_mentioned(&self, count: usize, run: Span) -> bool {
+    pub fn is_mentioned(&self, count: usize, run: ByteSpan) -> bool {
         self.traces.iter().enumerate().any(|(index, trace)| {
             trace.shared >= count && (index < run.from || index > run.to)
         })
@@ -220,7 +220,7 @@ impl Outline {
 
 /// Returns the white space before an item on its line.
 pub fn indent_of<'t>(text: &'t str, item: &Item) -> &'t str {
-    let indent = Span {
+    let indent = ByteSpan {
         from: item.line,
         to: skip_blanks(text, item.line),
     };

@@ -5,7 +5,7 @@ use crate::keys::push_keys;
 use crate::outline::{Outline, Role};
 use crate::plan::{Addition, Child, Keys};
 use crate::span::{
-    Span, ends_line, is_comment_line, is_tight, line_end, line_start, newline_of, skip_blanks,
+    ByteSpan, ends_line, is_comment_line, is_tight, line_end, line_start, newline_of, skip_blanks,
     slice,
 };
 use std::alloc::{AllocError, Global};
@@ -16,7 +16,7 @@ use toml_parser::text::byte_at;
 #[derive(Debug, Drop)]
 struct Added {
     /// What stays between the two texts.
-    span: Span,
+    span: ByteSpan,
     /// The text before that.
     lead: String,
     /// The text after that, up to the part.
@@ -100,7 +100,7 @@ fn addition_of(added: Added, part: &str, keys: Keys) -> Result<Addition, AllocEr
         lead: added.lead,
         rest,
         child: Child {
-            span: Span {
+            span: ByteSpan {
                 from,
                 to: from.saturating_add(part.len()),
             },
@@ -114,7 +114,7 @@ fn addition_of(added: Added, part: &str, keys: Keys) -> Result<Addition, AllocEr
 fn first_part(
     alloc: Global,
     text: &str,
-    container: Span,
+    container: ByteSpan,
     is_member: bool,
 ) -> Result<Added, AllocError> {
     let after = container.from.saturating_add(1);
@@ -123,7 +123,7 @@ fn first_part(
     if !is_member && ends_line(text, after) {
         let at = line_end(text, after);
         let line = line_start(text, container.from);
-        let indent = Span {
+        let indent = ByteSpan {
             from: line,
             to: skip_blanks(text, line),
         };
@@ -131,14 +131,14 @@ fn first_part(
         gap.push_str(slice(text, indent))?;
         gap.push_str("    ")?;
         return Ok(Added {
-            span: Span { from: at, to: at },
+            span: ByteSpan { from: at, to: at },
             lead: String::new(alloc),
             gap,
             tail: ",",
         });
     }
     Ok(Added {
-        span: Span {
+        span: ByteSpan {
             from: after,
             to: after,
         },
@@ -162,7 +162,7 @@ fn after_part(
         return beside_part(alloc, text, container, last);
     }
     let mut gap = String::from_str(alloc, newline_of(text))?;
-    let indent = Span {
+    let indent = ByteSpan {
         from: line,
         to: last.whole.from,
     };
@@ -176,7 +176,7 @@ fn after_part(
         (after, after)
     };
     Ok(Added {
-        span: Span { from, to },
+        span: ByteSpan { from, to },
         lead: String::from_str(alloc, if last.comma.is_some() { "" } else { "," })?,
         gap,
         tail: if last.comma.is_some() { "," } else { "" },
@@ -194,7 +194,7 @@ fn beside_part(
     let mut gap = String::from_str(alloc, if last.comma.is_some() { "" } else { "," })?;
     gap.push_str(space_before(text, container, last))?;
     Ok(Added {
-        span: Span { from: at, to: at },
+        span: ByteSpan { from: at, to: at },
         lead: String::new(alloc),
         gap,
         tail: if last.comma.is_some() { "," } else { "" },
@@ -210,7 +210,7 @@ fn space_before<'t>(text: &'t str, container: &Container, part: &Part) -> &'t st
     match container.parts.get(before).and_then(|it| it.comma) {
         Some(comma) if skip_blanks(text, comma) == part.whole.from => slice(
             text,
-            Span {
+            ByteSpan {
                 from: comma,
                 to: part.whole.from,
             },

@@ -1,5 +1,5 @@
 //! What an edit does to a text. These are hints: no contract says that they are right.
-use crate::span::Span;
+use crate::span::ByteSpan;
 use jsonptr::PointerBuf;
 
 /// The keys at which a piece of a text holds a value.
@@ -15,7 +15,7 @@ pub enum Keys {
 #[derive(Debug, Drop)]
 pub struct Child {
     /// Where it is in the piece, without the comma beside it.
-    pub span: Span,
+    pub span: ByteSpan,
     /// The keys that it is at.
     pub keys: Keys,
 }
@@ -24,7 +24,7 @@ pub struct Child {
 #[derive(Debug, Drop)]
 pub struct Replacement {
     /// What is replaced.
-    pub span: Span,
+    pub span: ByteSpan,
     /// The keys of the old value.
     pub keys: Keys,
     /// The new text.
@@ -37,7 +37,7 @@ pub struct Replacement {
 #[derive(Debug, Drop)]
 pub struct Addition {
     /// White space and comments that stay, and come between the parts of the new text.
-    pub span: Span,
+    pub span: ByteSpan,
     /// The first part of the new text.
     pub lead: String,
     /// The second part of the new text.
@@ -50,7 +50,7 @@ pub struct Addition {
 #[derive(Debug, Drop)]
 pub struct Removal {
     /// What is cut out.
-    pub span: Span,
+    pub span: ByteSpan,
     /// The child in it.
     pub child: Child,
     /// The text of the table or array that is left, if nothing else mentions it.

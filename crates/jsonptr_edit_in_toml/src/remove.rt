@@ -1,11 +1,11 @@
 //! What is cut out to delete a value. These are hints: no contract says that they are right.
 use crate::inline::{Container, Part, container_of};
-use crate::items::Kind;
+use crate::items::ItemKind;
 use crate::keys::{push_keys, push_pointer};
 use crate::outline::{Outline, Role, indent_of, outline_of};
 use crate::plan::{Child, Keys, Left, Removal};
 use crate::span::{
-    Span, blank_lines_above, comments_above, ends_line, line_start, newline_of, next_line,
+    ByteSpan, blank_lines_above, comments_above, ends_line, line_start, newline_of, next_line,
     skip_blank_lines, skip_blanks, skip_own_comments, text_start,
 };
 use jsonptr::{Pointer, PointerBuf};
@@ -35,9 +35,9 @@ pub fn plan_removal(
 }
 
 /// Returns the removal of whole lines.
-fn lines(span: Span, keys: PointerBuf, left: Option<Left>) -> Removal {
+fn lines(span: ByteSpan, keys: PointerBuf, left: Option<Left>) -> Removal {
     let child = Child {
-        span: Span {
+        span: ByteSpan {
             from: 0,
             to: span.to.saturating_sub(span.from),
         },
@@ -58,11 +58,11 @@ fn remove_pair(
     };
     let from = outline.table_of(index);
     let keys = outline.last_keys(alloc, from)?;
-    let run = Span {
+    let run = ByteSpan {
         from: index,
         to: index,
     };
-    let span = Span {
+    let span = ByteSpan {
         from: item.line,
         to: item.end,
     };
@@ -77,9 +77,9 @@ fn remove_pair(
 
 /// Returns the lines with the comment directly above them, if no key follows it directly once they are
 /// cut out.
-fn with_comment(text: &str, span: Span) -> Span {
+fn with_comment(text: &str, span: ByteSpan) -> ByteSpan {
     match byte_at(text, skip_blanks(text, span.to)) {
-        0 | b'\n' | b'\r' | b'#' | b'[' | b']' | b'}' => Span {
+        0 | b'\n' | b'\r' | b'#' | b'[' | b']' | b'}' => ByteSpan {
             from: comments_above(text, span.from),
             to: span.to,
         },
@@ -140,14 +140,14 @@ fn remove_run(
     alloc: Global,
     text: &str,
     outline: &Outline,
-    run: Span,
+    run: ByteSpan,
 ) -> Result<Option<Removal>, AllocError> {
     let (Some(first), Some(last)) = (outline.items.get(run.from), outline.items.get(run.to)) else {
         return Ok(None);
     };
     let above = outline.count().saturating_sub(1);
     let from = outline.table_of(run.from);
-    let is_pair = first.kind == Kind::Pair;
+    let is_pair = first.kind == ItemKind::Pair;
     let keys = if is_pair {
         outline.last_keys(alloc, from)?
     } else {
@@ -167,7 +167,7 @@ fn remove_run(
     } else {
         left_header(alloc, text, outline, run.from)?
     };
-    let span = Span {
+    let span = ByteSpan {
         from: first.line,
         to: last.end,
     };
@@ -176,7 +176,7 @@ fn remove_run(
 
 /// Returns the lines of a section, with the comment above it, and the blank lines after it or, at the end
 /// of the text, before it. A comment at the start of the text is about the whole text, and stays.
-fn section(text: &str, line: usize, end: usize) -> Span {
+fn section(text: &str, line: usize, end: usize) -> ByteSpan {
     let above = comments_above(text, line);
     let from = if above <= text_start(text) {
         line
@@ -185,12 +185,12 @@ fn section(text: &str, line: usize, end: usize) -> Span {
     };
     let to = skip_blank_lines(text, skip_own_comments(text, end));
     if to >= text.len() {
-        Span {
+        ByteSpan {
             from: blank_lines_above(text, from),
             to,
         }
     } else {
-        Span { from, to }
+        ByteSpan { from, to }
     }
 }
 
@@ -217,7 +217,7 @@ fn remove_part(
     let span = part_span(text, &container, &found.part);
     let is_element = found.part.key.from == found.part.key.to;
     let child = Child {
-        span: Span {
+        span: ByteSpan {
             from: found.part.whole.from.saturating_sub(span.from),
             to: found.part.whole.to.saturating_sub(span.from),
         },
@@ -235,29 +235,29 @@ fn remove_part(
 }
 
 /// Returns what is cut out with a part: its line, if it has one of its own, or its comma.
-fn part_span(text: &str, container: &Container, part: &Part) -> Span {
+fn part_span(text: &str, container: &Container, part: &Part) -> ByteSpan {
     let whole = part.whole;
     let line = line_start(text, whole.from);
     let after = part.comma.unwrap_or(whole.to);
     let is_own_line = line > container.span.from && skip_blanks(text, line) == whole.from;
     if is_own_line && ends_line(text, after) {
-        let span = Span {
+        let span = ByteSpan {
             from: line,
             to: next_line(text, after),
         };
         return with_comment(text, span);
     }
     match container.parts.get(part.index.saturating_add(1)) {
-        Some(next) => Span {
+        Some(next) => ByteSpan {
             from: whole.from,
             to: after.max(skip_blanks(text, after).min(next.whole.from)),
         },
         None => match container.parts.get(part.index.saturating_sub(1)) {
-            Some(last) if part.index > 0 => Span {
+            Some(last) if part.index > 0 => ByteSpan {
                 from: last.whole.to,
                 to: whole.to,
             },
-            _ => Span {
+            _ => ByteSpan {
                 from: whole.from,
                 to: skip_blanks(text, after),
             },

@@ -1,12 +1,12 @@
 //! Where the text of a value is, to replace it. These are hints: no contract says that they are right.
 use crate::alone::{empty_table, holds};
 use crate::inline::container_of;
-use crate::items::{Item, Kind};
+use crate::items::{Item, ItemKind};
 use crate::keys::{push_keys, push_pointer};
 use crate::outline::{Outline, Role, indent_of, outline_of};
 use crate::piece::{has_headers, section_text};
 use crate::plan::{Keys, Replacement};
-use crate::span::{Span, newline_of, slice};
+use crate::span::{ByteSpan, newline_of, slice};
 use jsonptr::{Pointer, PointerBuf};
 use std::alloc::{AllocError, Global};
 use toml::Value;
@@ -37,7 +37,11 @@ pub fn plan_replacement(
 }
 
 /// Returns where the text of the value is, if it is written as a value.
-fn value_span(alloc: Global, text: &str, outline: &Outline) -> Result<Option<Span>, AllocError> {
+fn value_span(
+    alloc: Global,
+    text: &str,
+    outline: &Outline,
+) -> Result<Option<ByteSpan>, AllocError> {
     if let Some(index) = outline.first_with(Role::Exact) {
         return Ok(outline.items.get(index).map(|item| item.value));
     }
@@ -62,17 +66,17 @@ fn replace_run(
     alloc: Global,
     text: &str,
     outline: &Outline,
-    run: Span,
+    run: ByteSpan,
     value: &Value,
 ) -> Result<Option<Replacement>, AllocError> {
     let (Some(first), Some(last)) = (outline.items.get(run.from), outline.items.get(run.to)) else {
         return Ok(None);
     };
-    let span = Span {
+    let span = ByteSpan {
         from: first.line,
         to: last.end,
     };
-    let is_pair = first.kind == Kind::Pair;
+    let is_pair = first.kind == ItemKind::Pair;
     let keys = if is_pair {
         outline.last_keys(alloc, outline.table_of(run.from))?
     } else {
@@ -124,7 +128,7 @@ fn section_of(
     let Some(section) = section_text(alloc, keys.as_ptr(), value, newline_of(text))? else {
         return Ok(None);
     };
-    let line = Span {
+    let line = ByteSpan {
         from: first.line,
         to: first.end,
     };
@@ -159,7 +163,7 @@ fn pair_of(
     let mut from = outline.count().saturating_sub(1);
     if let Some(item) = outline.items.get(index) {
         piece.push_str(indent_of(text, item))?;
-        if item.kind == Kind::Pair {
+        if item.kind == ItemKind::Pair {
             from = outline.table_of(index);
         }
     }

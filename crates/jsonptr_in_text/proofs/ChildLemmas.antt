@@ -1,9 +1,9 @@
 -- A search with one selector more.
 use Rattle.std.proofs.Common.{◌≡◌, ℕ, suc, ◌-◌, ◌<◌, ◌^◌, List, [], ◌∷◌, ◌++◌, length, Option, Some, None, option_and_then, refl, sym, ap, ◌∙◌, subst, arith, length-append}
 use Rattle.serde_json.specs.Data.{Data}
-use Rattle.jsonptr_grammar.specs.Text.{Text}
-use Rattle.jsonptr_tree.specs.Json.{FindsValue}
-use Rattle.jsonptr_json_search.specs.Search.{Choice, child, follow, Stops}
+use Rattle.jsonptr.specs.Text.{Text}
+use Rattle.jsonptr.specs.Json.{FindsValue}
+use Rattle.jsonptr_json_search.specs.Search.{Choice, chosen, follow, Stops}
 use Rattle.jsonptr_json_search.specs.declared.outcome.Kind.{Kind}
 use Rattle.jsonptr_json_search.specs.declared.outcome.Kind.TheVariants as kind
 use Rattle.jsonptr_in_text.specs.Selecting.{StopsLeft}
@@ -12,9 +12,9 @@ use Rattle.jsonptr_in_text.proofs.SearchLemmas.{found, stops}
 
 follow_above : (cs : List Choice) (c : Choice) (d e : Data) → follow (cs ++ c ∷ []) d ≡ Some e → (x : Data) × (follow cs d ≡ Some x)
 follow_above [] c d e h = (d, refl)
-follow_above (b ∷ cs) c d e h = at (λ y g. follow_above cs c y e g) (child b d) refl h
+follow_above (b ∷ cs) c d e h = at (λ y g. follow_above cs c y e g) (chosen b d) refl h
   where
-    at : ((y : Data) → follow (cs ++ c ∷ []) y ≡ Some e → (x : Data) × (follow cs y ≡ Some x)) → (o : Option Data) → child b d ≡ o → option_and_then (follow (cs ++ c ∷ [])) o ≡ Some e → (x : Data) × (follow (b ∷ cs) d ≡ Some x)
+    at : ((y : Data) → follow (cs ++ c ∷ []) y ≡ Some e → (x : Data) × (follow cs y ≡ Some x)) → (o : Option Data) → chosen b d ≡ o → option_and_then (follow (cs ++ c ∷ [])) o ≡ Some e → (x : Data) × (follow (b ∷ cs) d ≡ Some x)
     at later None is g = absurd (cc)
     at later (Some y) is g = let r = later y g in (r.0, ap (option_and_then (follow cs)) is ∙ r.1)
 

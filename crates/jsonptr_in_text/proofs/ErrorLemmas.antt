@@ -8,17 +8,17 @@ use Rattle.jsonptr_json_search.specs.declared.outcome.Kind.{Kind}
 use Rattle.jsonptr_json_search.specs.declared.outcome.Kind.TheVariants as kind
 use Rattle.jsonptr_in_text.specs.Selecting.{StopsLeft}
 use Rattle.jsonptr_in_text.proofs.SearchLemmas.{len_same}
-use Rattle.jsonptr_grammar.specs.Text.{Text, text}
-use Rattle.jsonptr_tree.specs.Node.{Label, Scalar, of_json, an_object, an_array, a_leaf}
-use Rattle.jsonptr_tree.specs.Following.{StopsBefore}
-use Rattle.jsonptr_tree.specs.Content.{label_of}
-use Rattle.jsonptr_tree.specs.Json.{content, nodes}
+use Rattle.jsonptr.specs.Text.{Text, text}
+use Rattle.jsonptr.specs.Node.{Label, Scalar, of_json, an_object, an_array, a_leaf}
+use Rattle.jsonptr.specs.Following.{StopsBefore}
+use Rattle.jsonptr.specs.Content.{label_of}
+use Rattle.jsonptr.specs.Json.{content, nodes}
 use Rattle.jsonptr_tree.proofs.ContentLemmas.{map_of-IsTree}
 use Rattle.jsonptr_tree.proofs.FollowingLemmas.{StopsBefore-array}
-use Rattle.jsonptr_base.specs.Index.{Reads, IsWithin}
+use Rattle.jsonptr.specs.Index.{Reads, IsWithin}
 use Rattle.jsonptr_base.specs.declared.index.Index.{Index}
 use Rattle.jsonptr_base.specs.declared.index.Index.TheVariants.{Num}
-use Rattle.jsonptr_document.specs.Child.{IsChildError}
+use Rattle.jsonptr.specs.Child.{IsChildError}
 use Rattle.jsonptr_document.specs.declared.child.ChildError.{ChildError}
 use Rattle.jsonptr_document.specs.declared.child.ChildError.TheVariants as child_error
 use Rattle.jsonptr_base.specs.declared.index.ParseIndexError.{ParseIndexError}
@@ -58,7 +58,7 @@ array_label (json.boolean b) len h = absurd (cc)
 array_label (json.number n) len h = absurd (cc)
 array_label (json.string s) len h = absurd (cc)
 array_label (json.array ds) len h =
-    let same : len ≡ skim.items_len ds = cc in
+    let same : len ≡ skim.items_count ds = cc in
     ap an_array (len_same ds ∙ sym same)
 array_label (json.object ms) len h = absurd (cc)
 

@@ -3,8 +3,8 @@ use Rattle.std.proofs.Common.{◌≡◌, List, Some, None, refl, sym, ap, ◌∙
 use Rattle.std.specs.Prelude.{◌↔◌}
 use Rattle.serde_json.specs.Data.{Data}
 use Rattle.serde_json.specs.Read.{read}
-use Rattle.jsonptr_grammar.specs.Text.{Text}
-use Rattle.jsonptr_tree.specs.Json.{nodes, FindsValue}
+use Rattle.jsonptr.specs.Text.{Text}
+use Rattle.jsonptr.specs.Json.{nodes, FindsValue}
 use Rattle.jsonptr_tree.proofs.JsonLemmas.{FindsValue-Finds, FindsValue_one}
 use Rattle.jsonptr.specs.declared.resolve.Error.{Error}
 use Rattle.jsonptr.proofs.Calling.{Refuses-NamesNothing}

@@ -7,7 +7,7 @@ use Rattle.json.specs.Json.{Json, Items, Members, Parse, parse_map, after_end_ar
 use Rattle.json.proofs.Grammar.{left, left-parse_map, closed_array, key_token, read_key_is}
 use Rattle.serde_json.specs.Data.{Data}
 use Rattle.serde_json.specs.Read.{read, of_json, max_depth}
-use Rattle.jsonptr_grammar.specs.Text.{Text}
+use Rattle.jsonptr.specs.Text.{Text}
 use Rattle.std.specs.Bool.{MatchBool}
 use Rattle.jsonptr.specs.declared.resolve.Error.{Error}
 use Rattle.jsonptr_in_text.specs.declared.format.Format.{Format}

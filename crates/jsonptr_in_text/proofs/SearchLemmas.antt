@@ -7,15 +7,15 @@ use Rattle.serde_json.specs.Data as json
 use Rattle.serde_json.specs.Data.{Data}
 use Rattle.serde_json.specs.Find as find
 use Rattle.jsonptr_json_search.specs.Search as skim
-use Rattle.jsonptr_json_search.specs.Search.{Choice, child, follow, kind_of, element, Stops}
+use Rattle.jsonptr_json_search.specs.Search.{Choice, chosen, follow, kind_of, element, Stops}
 use Rattle.jsonptr_json_search.specs.declared.outcome.Kind.{Kind}
 use Rattle.jsonptr_json_search.specs.declared.outcome.Kind.TheVariants as kind
-use Rattle.jsonptr_grammar.specs.Text.{Text}
-use Rattle.jsonptr_tree.specs.Node.{Step, key, place, Path, of_json, NamesStep, Names, sub, NodeMap}
-use Rattle.jsonptr_tree.specs.Following.{LacksStep}
-use Rattle.jsonptr_tree.specs.Content as tree
-use Rattle.jsonptr_tree.specs.Content.{Content, items_len, get_item, get_member, label_of, content_at, map_of, FindsContent}
-use Rattle.jsonptr_tree.specs.Json.{content, items, members, nodes}
+use Rattle.jsonptr.specs.Text.{Text}
+use Rattle.jsonptr.specs.Node.{Step, key, place, Path, of_json, NamesStep, Names, sub, NodeMap}
+use Rattle.jsonptr.specs.Following.{LacksStep}
+use Rattle.jsonptr.specs.Content as tree
+use Rattle.jsonptr.specs.Content.{Content, items_len, get_item, get_member, label_of, content_at, map_of, FindsContent}
+use Rattle.jsonptr.specs.Json.{content, items, members, nodes}
 use Rattle.jsonptr_tree.proofs.ContentLemmas.{map_of-sub, content_at-push}
 use Rattle.jsonptr_tree.proofs.FollowingLemmas.{lacks_at_leaf, lacks_at_object, lacks_at_array, stops_before}
 use Rattle.jsonptr_in_text.specs.Selecting.{IsChoiceOf, AreChoicesOf, StopsLeft}
@@ -37,7 +37,7 @@ item_there json.no_items i low h = omega arith
 item_there (json.item d ds) zero low h = cc
 item_there (json.item d ds) (suc i) low h = item_there ds i (omega arith) h
 
-pub len_same : (ds : json.Items) → items_len (items ds) ≡ skim.items_len ds
+pub len_same : (ds : json.Items) → items_len (items ds) ≡ skim.items_count ds
 len_same json.no_items = refl
 len_same (json.item d ds) = ap suc (len_same ds)
 
@@ -56,7 +56,7 @@ member_content k (json.member l e ms) =
 Steps : Text → Data → Data → Type 0
 Steps x d c = (s : Step) × NamesStep (nodes d []) x s × (tree.child s (content d) ≡ Some (content c))
 
-step : (x : Text) (w : Choice) (d c : Data) → IsChoiceOf x w → child w d ≡ Some c → Steps x d c
+step : (x : Text) (w : Choice) (d c : Data) → IsChoiceOf x w → chosen w d ≡ Some c → Steps x d c
 unfolding Steps
 step x w json.null c is h = absurd (cc)
 step x w (json.boolean b) c is h = absurd (cc)
@@ -79,9 +79,9 @@ unfolding Steps
 found [] [] d e are h = let same : d ≡ e = cc in record { path = []; named = refl; there = ap (λ (x : Data). Some (content x)) same }
 found [] (w ∷ ws) d e are h = absurd are
 found (x ∷ xs) [] d e are h = absurd are
-found (x ∷ xs) (w ∷ ws) d e are h = below (λ c g. found xs ws c e are.1 g) (child w d) refl h
+found (x ∷ xs) (w ∷ ws) d e are h = below (λ c g. found xs ws c e are.1 g) (chosen w d) refl h
   where
-    below : ((c : Data) → follow ws c ≡ Some e → FindsContent (content c) xs (content e)) → (o : Option Data) → child w d ≡ o → option_and_then (follow ws) o ≡ Some e → FindsContent (content d) (x ∷ xs) (content e)
+    below : ((c : Data) → follow ws c ≡ Some e → FindsContent (content c) xs (content e)) → (o : Option Data) → chosen w d ≡ o → option_and_then (follow ws) o ≡ Some e → FindsContent (content d) (x ∷ xs) (content e)
     below later None is g = absurd (cc)
     below later (Some c) is g =
         let s = step x w d c are.0 is in
@@ -118,15 +118,15 @@ as_many [] (w ∷ ws) are = absurd are
 as_many (x ∷ xs) [] are = absurd are
 as_many (x ∷ xs) (w ∷ ws) are = ap suc (as_many xs ws are.1)
 
-lacks : (d e : Data) (path : Path) (x : Text) (w : Choice) (k : Kind) → content_at path (content d) ≡ Some (content e) → IsChoiceOf x w → child w e ≡ None → ((len : ℕ) → k ≡ kind.Array len → len < 2 ^ 64) → k ≡ kind_of e → LacksStep (nodes d) path x
+lacks : (d e : Data) (path : Path) (x : Text) (w : Choice) (k : Kind) → content_at path (content d) ≡ Some (content e) → IsChoiceOf x w → chosen w e ≡ None → ((len : ℕ) → k ≡ kind.Array len → len < 2 ^ 64) → k ≡ kind_of e → LacksStep (nodes d) path x
 lacks d json.null path x w k there is none small same = lacks_at_leaf (nodes d) path x (of_json json.null) (ap (option_map label_of) there)
 lacks d (json.boolean b) path x w k there is none small same = lacks_at_leaf (nodes d) path x (of_json (json.boolean b)) (ap (option_map label_of) there)
 lacks d (json.number n) path x w k there is none small same = lacks_at_leaf (nodes d) path x (of_json (json.number n)) (ap (option_map label_of) there)
 lacks d (json.string s) path x w k there is none small same = lacks_at_leaf (nodes d) path x (of_json (json.string s)) (ap (option_map label_of) there)
 lacks d (json.array ds) path x w k there is none small same =
     lacks_at_array (nodes d) path x (items_len (items ds)) (ap (option_map label_of) there) (λ i low e.
-    let few : skim.items_len ds < 2 ^ 64 = small (skim.items_len ds) same in
-    let len : items_len (items ds) ≡ skim.items_len ds = len_same ds in
+    let few : skim.items_count ds < 2 ^ 64 = small (skim.items_count ds) same in
+    let len : items_len (items ds) ≡ skim.items_count ds = len_same ds in
     let here : w.1 ≡ Some i = is.each_index i (omega arith) e in
     item_there ds i low (ap (λ (o : Option ℕ). element o ds) (sym here) ∙ none))
 lacks d (json.object ms) path x w k there is none small same =

@@ -1,8 +1,8 @@
 -- The selectors of a pointer, one token at a time.
 use Rattle.std.proofs.Common.{◌≡◌, ℕ, List, [], ◌∷◌, ◌++◌, string_bytes, Some, None, Ok, Err, refl, sym, ap, ◌∙◌, subst}
-use Rattle.jsonptr_grammar.specs.Text.{Text, dec}
+use Rattle.jsonptr.specs.Text.{Text, dec}
 use Rattle.jsonptr_grammar.proofs.DecLemmas.{dec_one}
-use Rattle.jsonptr_base.specs.Index.{Reads}
+use Rattle.jsonptr.specs.Index.{Reads}
 use Rattle.jsonptr_base.specs.declared.index.Index.TheVariants.{Num, Next}
 use Rattle.jsonptr_base.specs.declared.index.ParseIndexError.{ParseIndexError}
 use Rattle.jsonptr_document.proofs.BadIndex.{no_index, no_dash}

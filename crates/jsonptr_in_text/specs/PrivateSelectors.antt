@@ -1,6 +1,6 @@
 -- Words of private clauses: the index that a token is.
 use Rattle.std.specs.Prelude.{◌≡◌, ℕ, ◌<◌, ◌^◌, List, [], ◌∷◌, ◌++◌, Option, Some}
-use Rattle.jsonptr_grammar.specs.Text.{Text, dec}
+use Rattle.jsonptr.specs.Text.{Text, dec}
 use Rattle.jsonptr_json_search.specs.Search.{Choice}
 use Rattle.jsonptr_in_text.specs.Selecting.{AreChoicesOf}
 

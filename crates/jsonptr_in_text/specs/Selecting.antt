@@ -3,10 +3,10 @@ use Rattle.std.specs.Prelude.{◌≡◌, ℕ, ◌<◌, ◌^◌, List, [], ◌∷
 use Rattle.serde_json.specs.Data.{Data}
 use Rattle.jsonptr_json_search.specs.Search.{Choice, kind_of}
 use Rattle.jsonptr_json_search.specs.declared.outcome.Kind.{Kind}
-use Rattle.jsonptr_grammar.specs.Text.{Text, dec, text}
-use Rattle.jsonptr_tree.specs.Following.{StopsBefore}
-use Rattle.jsonptr_tree.specs.Content.{label_of}
-use Rattle.jsonptr_tree.specs.Json.{content, nodes}
+use Rattle.jsonptr.specs.Text.{Text, dec, text}
+use Rattle.jsonptr.specs.Following.{StopsBefore}
+use Rattle.jsonptr.specs.Content.{label_of}
+use Rattle.jsonptr.specs.Json.{content, nodes}
 
 -- `IsChoiceOf x w`: the selector `w` has the token `x` as its key, and the index whose decimal text `x` is, if it fits 64 bits
 pub record IsChoiceOf (x : Text) (w : Choice) : Type 0 where

@@ -5,7 +5,7 @@ ghost use Rattle.std.specs.Prelude.{◌≡◌, ◌<◌, ◌^◌, ℕ, List, [], 
 ghost use Rattle.serde_json.specs.Data.{Data};
 ghost use Rattle.jsonptr.specs.Pointer.{tokens};
 ghost use Rattle.jsonptr.specs.Resolve.{Refuses};
-ghost use Rattle.jsonptr_tree.specs.Json.{nodes, FindsValue};
+ghost use Rattle.jsonptr.specs.Json.{nodes, FindsValue};
 ghost use Rattle.jsonptr_json_search.specs.Search.{Choice, choices, Stops};
 ghost use Rattle.jsonptr_json_search.specs.declared.outcome.Kind.TheVariants.{Array};
 ghost use Rattle.jsonptr_in_text.specs.Selecting.{AreChoicesOf};

@@ -3,7 +3,7 @@ ghost use Rattle.std.specs.Prelude.{◌≡◌, ◌<◌, ◌^◌, ℕ};
 ghost use Rattle.serde_json.specs.Data.{Data};
 ghost use Rattle.jsonptr.specs.Pointer.{tokens};
 ghost use Rattle.jsonptr.specs.Resolve.{Refuses};
-ghost use Rattle.jsonptr_tree.specs.Json.{nodes};
+ghost use Rattle.jsonptr.specs.Json.{nodes};
 ghost use Rattle.jsonptr_in_text.specs.Selecting.{StopsLeft};
 
 use jsonptr::Pointer;

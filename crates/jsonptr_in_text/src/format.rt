@@ -111,7 +111,7 @@ trait TokenSink: Sized + Drop {
     /// Writes a token.
     fn write(&mut self, token: Token<'_>) -> Result<(), AllocError>
         requires { IsPrintable (token_of token) }
-        ensures ok { OnOk result (written self.new ≡ written self.old ++ token_of token.entry ∷ []) }
+        ensures written { OnOk result (written self.new ≡ written self.old ++ token_of token.entry ∷ []) }
         ensures kept { before self.new ≡ before self.old };
 }
 

@@ -4,11 +4,11 @@ use Rattle.toml.specs.Data.{Data, table, no_members, Members, members_depth, mem
 use Rattle.toml.specs.Parse.{parse_document}
 use Rattle.toml.specs.Text.{IsDocumentText}
 use Rattle.toml_parser.specs.Strings.{recursion_limit as max_depth}
-use Rattle.jsonptr_grammar.specs.Text.{Text}
-use Rattle.jsonptr_tree.specs.Node.{Path, NodeMap, Names}
-use Rattle.jsonptr_tree.specs.TomlValue.{nodes, FindsValue}
-use Rattle.jsonptr_tree.specs.Assigning.{Assigns}
-use Rattle.jsonptr_tree.specs.Removing.{Deletes}
+use Rattle.jsonptr.specs.Text.{Text}
+use Rattle.jsonptr.specs.Node.{Path, NodeMap, Names}
+use Rattle.jsonptr.specs.TomlValue.{nodes, FindsValue}
+use Rattle.jsonptr.specs.Assigning.{Assigns}
+use Rattle.jsonptr.specs.Removing.{Deletes}
 use Rattle.jsonptr.specs.Resolve.{Refuses}
 use Rattle.jsonptr.specs.Assign.{RefusesAssign}
 use Rattle.jsonptr_paths.specs.TomlListing.{Lists}
@@ -16,9 +16,9 @@ use Rattle.jsonptr_paths.specs.declared.listing.Listed.{Listed}
 use Rattle.jsonptr_in_toml.specs.declared.error.InTomlError.{InTomlError}
 use Rattle.jsonptr_in_toml.specs.declared.error.InTomlError.TheVariants.{NotToml, DocumentTooDeep, NoValue, BadPlace, NotThere, TooDeep, NoText, Memory}
 
--- `ReadsAs text d`: the document that `text` contains is the table `d`, whose values nest at most 80 deep
-abbrev pub ReadsAs : Text → Data → Type 0
-ReadsAs text d = (ms : Members) × (parse_document text ≡ Some ms) × (d ≡ table ms) × (members_depth ms ≤ max_depth)
+-- `ReadsAsToml text d`: the document that `text` contains is the table `d`, whose values nest at most 80 deep
+abbrev pub ReadsAsToml : Text → Data → Type 0
+ReadsAsToml text d = (ms : Members) × (parse_document text ≡ Some ms) × (d ≡ table ms) × (members_depth ms ≤ max_depth)
 
 -- `IsDeep text`: the values of the document that `text` contains nest deeper
 abbrev pub IsDeep : Text → Type 0
@@ -26,7 +26,7 @@ IsDeep text = (ms : Members) × (parse_document text ≡ Some ms) × (max_depth 
 
 -- `PrintsAs d text`: `d` is a table, and `text` a document of it, which is read as `d`
 abbrev pub PrintsAs : Data → Text → Type 0
-PrintsAs d text = (ms : Members) × (d ≡ table ms) × IsDocumentText false ms text × ReadsAs text d
+PrintsAs d text = (ms : Members) × (d ≡ table ms) × IsDocumentText false ms text × ReadsAsToml text d
 
 -- `HasDeepValues d`: `d` is a table whose values nest deeper than 80
 abbrev pub HasDeepValues : Data → Type 0
@@ -39,19 +39,19 @@ HasNoText d = (ms : Members) → d ≡ table ms → members_have_valid_dates ms 
 -- `AssignsTo text ts v d2`: assigning `v` at the tokens turns the document of `text` into `d2`
 abbrev pub AssignsTo : Text → List Text → Data → Data → Type 0
 AssignsTo text ts v d2 =
-    (d : Data) × ReadsAs text d
+    (d : Data) × ReadsAsToml text d
     × ((replaced : Option NodeMap) × Assigns (nodes d) ts (nodes v) (nodes d2) replaced)
 
 -- `DeletesTo text ts d2`: the tokens identify a value in the document of `text`, and deleting it turns the document into
 -- `d2`. Deleting the root leaves an empty table
 abbrev pub DeletesTo : Text → List Text → Data → Type 0
 DeletesTo text ts d2 =
-    (d : Data) × ReadsAs text d
+    (d : Data) × ReadsAsToml text d
     × ((v : Data) × FindsValue d ts v) × Deletes (nodes d) ts (nodes (table no_members)) (nodes d2)
 
 -- `FindsInToml text ts v`: the tokens identify the value `v` in the document of `text`
 abbrev pub FindsInToml : Text → List Text → Data → Type 0
-FindsInToml text ts v = (d : Data) × ReadsAs text d × FindsValue d ts v
+FindsInToml text ts v = (d : Data) × ReadsAsToml text d × FindsValue d ts v
 
 -- `AssignsInToml text ts v new`: assigning `v` at the tokens turns the document of `text` into that of `new`
 abbrev pub AssignsInToml : Text → List Text → Data → Text → Type 0
@@ -64,52 +64,52 @@ DeletesInToml text ts new = (d2 : Data) × DeletesTo text ts d2 × PrintsAs d2 n
 
 -- `ListsInToml which text out`: `out` lists the nodes, or the leaves, of the document of `text`
 abbrev pub ListsInToml : Listed → Text → Text → Type 0
-ListsInToml which text out = (d : Data) × ReadsAs text d × Lists which d out
+ListsInToml which text out = (d : Data) × ReadsAsToml text d × Lists which d out
 
--- `FailsToFind text ts e`: `e` is why no value is found, if it is not for memory
-abbrev pub FailsToFind : Text → List Text → InTomlError → Type 0
-FailsToFind text ts NotToml = parse_document text ≡ None
-FailsToFind text ts DocumentTooDeep = IsDeep text
-FailsToFind text ts (NoValue f) = (d : Data) × ReadsAs text d × Refuses (nodes d) ts f
-FailsToFind text ts (Memory f) = ⊤
-FailsToFind text ts e = ⊥
+-- `FailsToFindInToml text ts e`: `e` is why no value is found, if it is not for memory
+abbrev pub FailsToFindInToml : Text → List Text → InTomlError → Type 0
+FailsToFindInToml text ts NotToml = parse_document text ≡ None
+FailsToFindInToml text ts DocumentTooDeep = IsDeep text
+FailsToFindInToml text ts (NoValue f) = (d : Data) × ReadsAsToml text d × Refuses (nodes d) ts f
+FailsToFindInToml text ts (Memory f) = ⊤
+FailsToFindInToml text ts e = ⊥
 
 -- `FailsToAssign text ts v e`: `e` is why `v` is not assigned at the tokens, if it is not for memory
 abbrev pub FailsToAssign : Text → List Text → Data → InTomlError → Type 0
 FailsToAssign text ts v NotToml = parse_document text ≡ None
 FailsToAssign text ts v DocumentTooDeep = IsDeep text
 FailsToAssign text ts v (BadPlace f) =
-    (d : Data) × ReadsAs text d × (length ts ≤ suc max_depth) × RefusesAssign (nodes d) ts f
+    (d : Data) × ReadsAsToml text d × (length ts ≤ suc max_depth) × RefusesAssign (nodes d) ts f
 FailsToAssign text ts v TooDeep =
-    (((d : Data) × ReadsAs text d) × (suc max_depth < length ts))
+    (((d : Data) × ReadsAsToml text d) × (suc max_depth < length ts))
     ⊎ ((d2 : Data) × AssignsTo text ts v d2 × HasDeepValues d2)
 FailsToAssign text ts v NoText = (d2 : Data) × AssignsTo text ts v d2 × HasNoText d2
 FailsToAssign text ts v (Memory f) = ⊤
 FailsToAssign text ts v e = ⊥
 
--- `FailsToDelete text ts e`: `e` is why nothing is deleted, if it is not for memory
-abbrev pub FailsToDelete : Text → List Text → InTomlError → Type 0
-FailsToDelete text ts NotToml = parse_document text ≡ None
-FailsToDelete text ts DocumentTooDeep = IsDeep text
-FailsToDelete text ts NotThere = (d : Data) × ReadsAs text d × ((w : Path) → Names (nodes d) ts w → ⊥)
-FailsToDelete text ts TooDeep = (d2 : Data) × DeletesTo text ts d2 × HasDeepValues d2
-FailsToDelete text ts NoText = (d2 : Data) × DeletesTo text ts d2 × HasNoText d2
-FailsToDelete text ts (Memory f) = ⊤
-FailsToDelete text ts e = ⊥
+-- `FailsToDeleteInToml text ts e`: `e` is why nothing is deleted, if it is not for memory
+abbrev pub FailsToDeleteInToml : Text → List Text → InTomlError → Type 0
+FailsToDeleteInToml text ts NotToml = parse_document text ≡ None
+FailsToDeleteInToml text ts DocumentTooDeep = IsDeep text
+FailsToDeleteInToml text ts NotThere = (d : Data) × ReadsAsToml text d × ((w : Path) → Names (nodes d) ts w → ⊥)
+FailsToDeleteInToml text ts TooDeep = (d2 : Data) × DeletesTo text ts d2 × HasDeepValues d2
+FailsToDeleteInToml text ts NoText = (d2 : Data) × DeletesTo text ts d2 × HasNoText d2
+FailsToDeleteInToml text ts (Memory f) = ⊤
+FailsToDeleteInToml text ts e = ⊥
 
--- `FailsToList text e`: `e` is why nothing is listed, if it is not for memory
-abbrev pub FailsToList : Text → InTomlError → Type 0
-FailsToList text NotToml = parse_document text ≡ None
-FailsToList text DocumentTooDeep = IsDeep text
-FailsToList text (Memory f) = ⊤
-FailsToList text e = ⊥
+-- `FailsToListToml text e`: `e` is why nothing is listed, if it is not for memory
+abbrev pub FailsToListToml : Text → InTomlError → Type 0
+FailsToListToml text NotToml = parse_document text ≡ None
+FailsToListToml text DocumentTooDeep = IsDeep text
+FailsToListToml text (Memory f) = ⊤
+FailsToListToml text e = ⊥
 
--- `IsReadFault text e`: `e` is why `text` is not read, if it is not for memory
-abbrev pub IsReadFault : Text → InTomlError → Type 0
-IsReadFault text NotToml = parse_document text ≡ None
-IsReadFault text DocumentTooDeep = IsDeep text
-IsReadFault text (Memory f) = ⊤
-IsReadFault text e = ⊥
+-- `IsTomlReadError text e`: `e` is why `text` is not read, if it is not for memory
+abbrev pub IsTomlReadError : Text → InTomlError → Type 0
+IsTomlReadError text NotToml = parse_document text ≡ None
+IsTomlReadError text DocumentTooDeep = IsDeep text
+IsTomlReadError text (Memory f) = ⊤
+IsTomlReadError text e = ⊥
 
 -- `IsPrintFault d e`: `e` is why the value `d` is not printed as a document
 abbrev pub IsPrintFault : Data → InTomlError → Type 0

@@ -2,7 +2,7 @@
 ghost use Rattle.std.specs.Prelude.{IfOk, IfErr, string_bytes};
 ghost use Rattle.toml.specs.View.{view};
 ghost use Rattle.jsonptr.specs.Pointer.{tokens};
-ghost use Rattle.jsonptr_in_toml.specs.InToml.{FindsInToml, AssignsInToml, DeletesInToml, FailsToFind, FailsToAssign, FailsToDelete};
+ghost use Rattle.jsonptr_in_toml.specs.InToml.{FindsInToml, AssignsInToml, DeletesInToml, FailsToFindInToml, FailsToAssign, FailsToDeleteInToml};
 
 use crate::depth::is_long;
 use crate::document::{print_toml, read_toml};
@@ -28,8 +28,8 @@ use toml::Value;
 /// assert_eq!(rt; value.as_integer(), Some(80));
 /// ```
 pub fn find_in_toml(alloc: Global, text: &str, pointer: Pointer<'_>) -> Result<Value, InTomlError>
-    ensures done { IfOk result (λ v. FindsInToml text.now (tokens pointer.entry) (view v)) }
-    ensures failed { IfErr result (FailsToFind text.now (tokens pointer.entry)) }
+    ensures found { IfOk result (λ v. FindsInToml text.now (tokens pointer.entry) (view v)) }
+    ensures refused { IfErr result (FailsToFindInToml text.now (tokens pointer.entry)) }
 {
     let document = read_toml(alloc, text)?;
     match document.resolve(alloc, pointer) {
@@ -65,9 +65,9 @@ pub fn assign_in_toml(
     pointer: Pointer<'_>,
     value: Value,
 ) -> Result<String, InTomlError>
-    ensures done { IfOk result (λ s. AssignsInToml text.now (tokens pointer.entry) (view value)
+    ensures assigned { IfOk result (λ s. AssignsInToml text.now (tokens pointer.entry) (view value)
         (string_bytes s)) }
-    ensures failed { IfErr result (FailsToAssign text.now (tokens pointer.entry) (view value)) }
+    ensures refused { IfErr result (FailsToAssign text.now (tokens pointer.entry) (view value)) }
 {
     let mut document = read_toml(alloc, text)?;
     if is_long(pointer) {
@@ -103,9 +103,9 @@ pub fn delete_in_toml(
     text: &str,
     pointer: Pointer<'_>,
 ) -> Result<String, InTomlError>
-    ensures done { IfOk result
+    ensures deleted { IfOk result
         (λ s. DeletesInToml text.now (tokens pointer.entry) (string_bytes s)) }
-    ensures failed { IfErr result (FailsToDelete text.now (tokens pointer.entry)) }
+    ensures refused { IfErr result (FailsToDeleteInToml text.now (tokens pointer.entry)) }
 {
     let mut document = read_toml(alloc, text)?;
     match document.delete(alloc, pointer)? {

@@ -9,7 +9,7 @@ use jsonptr::Pointer;
 use toml::{Table, Value};
 
 /// How deep the values of a document may nest. The kit's reader takes no deeper array.
-pub const MAX_DEPTH: usize = 80;
+pub const MAX_TOML_DEPTH: usize = 80;
 
 /// Returns whether the value nests at most so many levels deep. A string nests 0 levels deep, and an
 /// array of strings 1.
@@ -59,5 +59,5 @@ pub fn table_within(table: &Table, levels: usize) -> bool
 pub fn is_long(pointer: Pointer<'_>) -> bool
     ensures { IsTrue result ↔ (suc max_depth < length (tokens pointer.entry)) }
 {
-    pointer.count() > MAX_DEPTH + 1
+    pointer.count() > MAX_TOML_DEPTH + 1
 }

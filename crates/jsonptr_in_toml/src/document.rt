@@ -4,9 +4,9 @@ ghost use Rattle.toml.specs.Data.{members_depth, table as a_table};
 ghost use Rattle.toml.specs.View.{view, table_view};
 ghost use Rattle.toml_parser.specs.Strings.{recursion_limit as max_depth};
 ghost use Rattle.jsonptr_in_toml.specs.declared.error.InTomlError.TheVariants.{DocumentTooDeep};
-ghost use Rattle.jsonptr_in_toml.specs.InToml.{ReadsAs, PrintsAs, IsReadFault, IsPrintFault};
+ghost use Rattle.jsonptr_in_toml.specs.InToml.{ReadsAsToml, PrintsAs, IsTomlReadError, IsPrintFault};
 
-use crate::depth::{MAX_DEPTH, table_within};
+use crate::depth::{MAX_TOML_DEPTH, table_within};
 use crate::error::InTomlError;
 use jsonptr_value::discard;
 use std::alloc::{AllocError, Global};
@@ -21,8 +21,8 @@ use toml::{Table, Value, table_from_str, table_to_string};
 /// - [`InTomlError::DocumentTooDeep`] if the values of the document nest deeper than 80.
 /// - [`InTomlError::Memory`] if an allocation fails.
 pub fn read_toml(alloc: Global, text: &str) -> Result<Value, InTomlError>
-    ensures done { IfOk result (λ v. ReadsAs text.now (view v)) }
-    ensures failed { IfErr result (IsReadFault text.now) }
+    ensures document { IfOk result (λ v. ReadsAsToml text.now (view v)) }
+    ensures refused { IfErr result (IsTomlReadError text.now) }
 {
     match table_from_str(alloc, text) {
         Ok(table) => shallow(table),
@@ -37,12 +37,12 @@ pub fn read_toml(alloc: Global, text: &str) -> Result<Value, InTomlError>
 ///
 /// [`InTomlError::DocumentTooDeep`] if its values nest deeper than 80.
 fn shallow(table: Table) -> Result<Value, InTomlError>
-    ensures done { IfOk result (λ v. (view v ≡ a_table (table_view table))
+    ensures document { IfOk result (λ v. (view v ≡ a_table (table_view table))
         × (members_depth (table_view table) ≤ max_depth)) }
-    ensures failed { IfErr result
+    ensures refused { IfErr result
         (λ e. (e ≡ DocumentTooDeep) × (max_depth < members_depth (table_view table))) }
 {
-    let is_shallow = table_within(&table, MAX_DEPTH);
+    let is_shallow = table_within(&table, MAX_TOML_DEPTH);
     let value = Value::Table(table);
     if is_shallow {
         return Ok(value);
@@ -59,8 +59,8 @@ fn shallow(table: Table) -> Result<Value, InTomlError>
 /// - [`InTomlError::NoText`] if the value is not a table, or has a date-time that TOML has no text for.
 /// - [`InTomlError::Memory`] if an allocation fails.
 pub fn print_toml(alloc: Global, value: Value) -> Result<String, InTomlError>
-    ensures done { IfOk result (λ s. PrintsAs (view value) (string_bytes s)) }
-    ensures failed { IfErr result (IsPrintFault (view value)) }
+    ensures printed { IfOk result (λ s. PrintsAs (view value) (string_bytes s)) }
+    ensures refused { IfErr result (IsPrintFault (view value)) }
 {
     match value {
         Value::Table(table) => print_table(alloc, table),
@@ -70,10 +70,10 @@ pub fn print_toml(alloc: Global, value: Value) -> Result<String, InTomlError>
 
 /// Prints the table as a document, and drops it.
 fn print_table(alloc: Global, table: Table) -> Result<String, InTomlError>
-    ensures done { IfOk result (λ s. PrintsAs (a_table (table_view table)) (string_bytes s)) }
-    ensures failed { IfErr result (IsPrintFault (a_table (table_view table))) }
+    ensures printed { IfOk result (λ s. PrintsAs (a_table (table_view table)) (string_bytes s)) }
+    ensures refused { IfErr result (IsPrintFault (a_table (table_view table))) }
 {
-    if !table_within(&table, MAX_DEPTH) {
+    if !table_within(&table, MAX_TOML_DEPTH) {
         discard(Value::Table(table));
         return Err(InTomlError::TooDeep);
     }

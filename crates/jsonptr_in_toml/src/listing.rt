@@ -1,6 +1,6 @@
 //! Listing the nodes of the document of a TOML text.
 ghost use Rattle.std.specs.Prelude.{IfOk, IfErr, string_bytes};
-ghost use Rattle.jsonptr_in_toml.specs.InToml.{ListsInToml, FailsToList};
+ghost use Rattle.jsonptr_in_toml.specs.InToml.{ListsInToml, FailsToListToml};
 
 use crate::document::read_toml;
 use crate::error::InTomlError;
@@ -24,8 +24,8 @@ use std::alloc::Global;
 /// assert_eq!(rt; lines.as_str(), "\t{}\n/server\t{}\n/server/port\t80\n");
 /// ```
 pub fn list_in_toml(alloc: Global, text: &str, which: Listed) -> Result<String, InTomlError>
-    ensures done { IfOk result (λ s. ListsInToml which text.now (string_bytes s)) }
-    ensures failed { IfErr result (FailsToList text.now) }
+    ensures listed { IfOk result (λ s. ListsInToml which text.now (string_bytes s)) }
+    ensures refused { IfErr result (FailsToListToml text.now) }
 {
     let document = read_toml(alloc, text)?;
     Ok(list_toml(alloc, &document, which)?)

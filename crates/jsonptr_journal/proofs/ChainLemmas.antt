@@ -1,6 +1,6 @@
 -- Lists of entries and of their pages, and what they undo.
 use Rattle.std.proofs.Common.{◌≡◌, List, [], ◌∷◌, ◌++◌, length, Vec, Global, refl, sym, subst, arith}
-use Rattle.jsonptr_tree.specs.Content.{Content}
+use Rattle.jsonptr.specs.Content.{Content}
 use Rattle.jsonptr_journal.specs.Journal.{Undoes, Chain, Pages, Undone}
 use Rattle.jsonptr_journal.specs.declared.journal.Entry.{Entry}
 use Rattle.jsonptr_journal.specs.declared.journal.Journal.{Journal}

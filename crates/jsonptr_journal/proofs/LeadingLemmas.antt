@@ -1,18 +1,18 @@
 -- Where a list of tokens leads after something was written there.
 use Rattle.std.proofs.Common.{◌≡◌, ℕ, zero, suc, List, [], ◌∷◌, Option, Some, None, option_and_then, refl, sym, ap, ◌∙◌, subst}
-use Rattle.jsonptr_grammar.specs.Text.{Text}
-use Rattle.jsonptr_tree.specs.Node.{Step, key, place, Path, Label, an_array, NodeMap, NamesStep, Names}
-use Rattle.jsonptr_tree.specs.Content.{Content, scalar, array, object, Items, no_items, item, items_len, child, content_at, label_of, map_of}
+use Rattle.jsonptr.specs.Text.{Text}
+use Rattle.jsonptr.specs.Node.{Step, key, place, Path, Label, an_array, NodeMap, NamesStep, Names}
+use Rattle.jsonptr.specs.Content.{Content, scalar, array, object, Items, no_items, item, items_len, child, content_at, label_of, map_of}
 use Rattle.jsonptr_tree.proofs.ContentLemmas.{map_of-sub}
 use Rattle.jsonptr_tree.proofs.FollowingLemmas.{Names-StopsBefore}
 use Rattle.jsonptr_tree.proofs.NodeLemmas.{Names_one_path}
 use Rattle.jsonptr_walk.specs.Follow.{NamesNothing}
 use Rattle.jsonptr_journal.specs.Writing.{write_item, write_step, write_below, write_at}
-use Rattle.jsonptr_journal.specs.Changes.{Replaces}
-use Rattle.jsonptr_journal.specs.Leading.{StopsIn, AtNamed}
+use Rattle.jsonptr_journal.specs.Changes.{ReplacesContent}
+use Rattle.jsonptr_journal.specs.Leading.{StopsAtOffset, AtNamed}
 use Rattle.jsonptr_journal.proofs.ThereLemmas.{write_there, undone_at}
 
-pub stops_nothing : (n : NodeMap) (tokens : List Text) (offset : ℕ) → StopsIn n tokens offset → NamesNothing n tokens
+pub stops_nothing : (n : NodeMap) (tokens : List Text) (offset : ℕ) → StopsAtOffset n tokens offset → NamesNothing n tokens
 stops_nothing n tokens offset s w named = Names-StopsBefore n tokens w s.0 offset s.1 s.2 named s.3
 
 -- a written child changes no label
@@ -48,19 +48,19 @@ named_after (s ∷ w) (x ∷ xs) v old c named there = below (λ e. named_after 
         )
 
 -- what was replaced, replaced by itself
-pub replaced_back : (tokens : List Text) (a v w c d m : Content) → AtNamed tokens (Replaces a v) c d → AtNamed tokens (Replaces w a) d m → m ≡ c
+pub replaced_back : (tokens : List Text) (a v w c d m : Content) → AtNamed tokens (ReplacesContent a v) c d → AtNamed tokens (ReplacesContent w a) d m → m ≡ c
 replaced_back tokens a v w c d m one two =
     let o = one.written in
     let t = two.written in
     let here : Names (map_of d) tokens one.path = subst (λ (e : Content). Names (map_of e) tokens one.path) (sym o.made) (named_after one.path tokens o.new o.old c one.named o.there) in
     let same : two.path ≡ one.path = Names_one_path (map_of d) tokens two.path one.path two.named here in
-    undone_at one.path (Replaces a v) c d m t.old t.new o
+    undone_at one.path (ReplacesContent a v) c d m t.old t.new o
     (subst (λ (p : Path). content_at p d ≡ Some t.old) same t.there)
     (subst (λ (p : Path). m ≡ write_at p t.new d) same t.made)
     (λ b r. t.related.1 ∙ sym r.0)
 
 -- the tokens still lead to a node after something was written there
-pub replaced_leads : (tokens : List Text) (a v : Content) (c d : Content) → AtNamed tokens (Replaces a v) c d → NamesNothing (map_of d) tokens → ⊥
+pub replaced_leads : (tokens : List Text) (a v : Content) (c d : Content) → AtNamed tokens (ReplacesContent a v) c d → NamesNothing (map_of d) tokens → ⊥
 replaced_leads tokens a v c d one none =
     let o = one.written in
     none one.path (subst (λ (e : Content). Names (map_of e) tokens one.path) (sym o.made) (named_after one.path tokens o.new o.old c one.named o.there))

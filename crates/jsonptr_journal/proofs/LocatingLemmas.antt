@@ -2,11 +2,11 @@
 use Rattle.std.proofs.Common.{◌≡◌, List, [], ◌∷◌, ◌++◌, length, Option, Some, None, MatchOption, is_some, option_map, Bor, BTreeMap, String, string_bytes, Global, refl, sym, ap, ◌∙◌, subst, append-nil, append_assoc}
 use Rattle.std.specs.BTreeMap.{get_by_text}
 use Rattle.serde_json.specs.Data.{Data}
-use Rattle.jsonptr_grammar.specs.Text.{Text, text}
-use Rattle.jsonptr_tree.specs.Node.{key, Path, Label, an_object, NodeMap, NamesStep, Names}
-use Rattle.jsonptr_tree.specs.Content.{Content, label_of}
-use Rattle.jsonptr_tree.specs.Following.{LacksStep}
-use Rattle.jsonptr_tree.specs.Json.{content, nodes, value_at}
+use Rattle.jsonptr.specs.Text.{Text, text}
+use Rattle.jsonptr.specs.Node.{key, Path, Label, an_object, NodeMap, NamesStep, Names}
+use Rattle.jsonptr.specs.Content.{Content, label_of}
+use Rattle.jsonptr.specs.Following.{LacksStep}
+use Rattle.jsonptr.specs.Json.{content, nodes, value_at}
 use Rattle.jsonptr_tree.proofs.FollowingLemmas.{lacks_at_object, lacks_below, stops_before, Names-StopsBefore}
 use Rattle.jsonptr_tree.proofs.JsonLemmas.{nodes-sub, value_at-below}
 use Rattle.jsonptr_tree.proofs.NodeLemmas.{Names-push_below}
@@ -14,7 +14,7 @@ use Rattle.jsonptr_walk.specs.Follow.{NamesNothing}
 use Rattle.jsonptr_journal.specs.declared.location.Part.{Part}
 use Rattle.jsonptr_journal.specs.declared.location.Part.TheVariants as part
 use Rattle.jsonptr_journal.specs.PrivateLocating.{Selects}
-use Rattle.jsonptr_journal.specs.Location.{step_of, steps_of}
+use Rattle.jsonptr_journal.specs.Location.{part_step, steps_of}
 use Rattle.jsonptr_journal.proofs.LocationLemmas.{steps_of-push}
 
 -- the child under a token's text at an object
@@ -45,13 +45,13 @@ reaches_all d tokens parts e h = subst (λ (ts : List Text). Names (nodes d) ts 
 
 module _ (d : Data) (tokens : List Text) (x : Text) (left : List Text) (parts : List Part) (e : Data) (h : Reaches d tokens (x ∷ left) parts e) where
   -- one token more
-  pub reaches_more : (p : Part) (f : Data) → NamesStep (nodes e []) x (step_of p) → value_at (step_of p ∷ []) e ≡ Some (content f) → Reaches d tokens left (parts ++ p ∷ []) f
+  pub reaches_more : (p : Part) (f : Data) → NamesStep (nodes e []) x (part_step p) → value_at (part_step p ∷ []) e ≡ Some (content f) → Reaches d tokens left (parts ++ p ∷ []) f
   reaches_more p f named there = record {
     front = h.front ++ x ∷ [];
     split = h.split ∙ sym (append_assoc h.front (x ∷ []) left);
     named = subst (λ (w : Path). Names (nodes d) (h.front ++ x ∷ []) w) (sym (steps_of-push parts p))
-        (Names-push_below (nodes d) (nodes e) h.front x (steps_of parts) (step_of p) (nodes-sub (steps_of parts) d e h.there) h.named named (ap (λ (o : Option Content). is_some (option_map label_of o)) there));
-    there = ap (λ (w : Path). value_at w d) (steps_of-push parts p) ∙ value_at-below (steps_of parts) (step_of p ∷ []) d e h.there ∙ there;
+        (Names-push_below (nodes d) (nodes e) h.front x (steps_of parts) (part_step p) (nodes-sub (steps_of parts) d e h.there) h.named named (ap (λ (o : Option Content). is_some (option_map label_of o)) there));
+    there = ap (λ (w : Path). value_at w d) (steps_of-push parts p) ∙ value_at-below (steps_of parts) (part_step p ∷ []) d e h.there ∙ there;
   }
 
   -- a token that names no child

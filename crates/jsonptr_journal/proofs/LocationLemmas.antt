@@ -2,17 +2,17 @@
 use Rattle.std.proofs.Common.{◌≡◌, Bool, true, false, ◌&&◌, IsTrue, ◌↔◌, List, [], ◌∷◌, ◌++◌, refl, sym, ap, ap₂, ◌∙◌, true≢false}
 use Rattle.std.specs.Bool.{Decides}
 use Rattle.std.specs.Cmp.Lexicographic.{pointwise}
-use Rattle.jsonptr_tree.specs.Node.{Step, Path}
+use Rattle.jsonptr.specs.Node.{Step, Path}
 use Rattle.jsonptr_journal.specs.declared.location.Part.{Part}
-use Rattle.jsonptr_journal.specs.Location.{step_of, steps_of}
+use Rattle.jsonptr_journal.specs.Location.{part_step, steps_of}
 
 -- one part more
-pub steps_of-push : (ps : List Part) (p : Part) → steps_of (ps ++ p ∷ []) ≡ steps_of ps ++ step_of p ∷ []
+pub steps_of-push : (ps : List Part) (p : Part) → steps_of (ps ++ p ∷ []) ≡ steps_of ps ++ part_step p ∷ []
 steps_of-push [] p = refl
-steps_of-push (q ∷ ps) p = ap (λ (w : Path). step_of q ∷ w) (steps_of-push ps p)
+steps_of-push (q ∷ ps) p = ap (λ (w : Path). part_step q ∷ w) (steps_of-push ps p)
 
 -- equality of parts, given by `E`, is that of their steps
-module _ (E : Part → Part → Bool) (same : (p q : Part) → Decides (E p q) (step_of p ≡ step_of q)) where
+module _ (E : Part → Part → Bool) (same : (p q : Part) → Decides (E p q) (part_step p ≡ part_step q)) where
   both : (ps qs : List Part) → Decides (pointwise E ps qs) (steps_of ps ≡ steps_of qs)
   both [] [] = (λ h. refl, λ h. refl)
   both [] (q ∷ qs) = (λ h. absurd (true≢false (sym h)), λ h. let no : ⊥ = cc in absurd no)
@@ -20,7 +20,7 @@ module _ (E : Part → Part → Bool) (same : (p q : Part) → Decides (E p q) (
   both (p ∷ ps) (q ∷ qs) = (
     λ h. let r = split (E p q) (pointwise E ps qs) h in ap₂ (λ (s : Step) (w : Path). s ∷ w) ((same p q).0 r.0) ((both ps qs).0 r.1),
     λ h.
-        let one : step_of p ≡ step_of q = cc in
+        let one : part_step p ≡ part_step q = cc in
         let more : steps_of ps ≡ steps_of qs = cc in
         ap₂ (λ (a b : Bool). a && b) ((same p q).1 one) ((both ps qs).1 more),
   )

@@ -12,8 +12,8 @@ use Rattle.std.proofs.lemmas.Cmp.{nat_list_cmp_total}
 use Rattle.std.proofs.lemmas.Map.Text.{is_eq-slice_cmp}
 use Rattle.std.proofs.lemmas.Slice.Eq.{bytes_eq-Decides}
 use Rattle.serde_json.specs.declared.value.Value.{Value}
-use Rattle.jsonptr_grammar.specs.Text.{Text}
-use Rattle.jsonptr_tree.specs.Content.{Content, Members, no_members, member, get_member, KeysAbove}
+use Rattle.jsonptr.specs.Text.{Text}
+use Rattle.jsonptr.specs.Content.{Content, Members, no_members, member, get_member, KeysAbove}
 use Rattle.jsonptr_journal.specs.Location.{contents_of}
 use Rattle.jsonptr_tree.proofs.ContentMapLemmas.{above_more, below_flip}
 use Rattle.jsonptr_journal.specs.Children.{members_in, members_of, put_member, put_all, without_member, KeysRise, HasAll, IsRoom}

@@ -1,8 +1,8 @@
 -- A node is a child of the node at its parent's location.
 use Rattle.std.proofs.Common.{◌≡◌, ℕ, zero, suc, ◌<◌, [], ◌∷◌, ◌++◌, Option, Some, None, IsSome, option_and_then, Result, Ok, Err, IfOk, inl, inr, refl, ap, ◌∙◌, subst, arith}
-use Rattle.jsonptr_grammar.specs.Text.{Text}
-use Rattle.jsonptr_tree.specs.Node.{Step, key, place, Path}
-use Rattle.jsonptr_tree.specs.Content.{Content, scalar, array, object, Items, no_items, item, items_len, get_item, child, content_at}
+use Rattle.jsonptr.specs.Text.{Text}
+use Rattle.jsonptr.specs.Node.{Step, key, place, Path}
+use Rattle.jsonptr.specs.Content.{Content, scalar, array, object, Items, no_items, item, items_len, get_item, child, content_at}
 use Rattle.jsonptr_tree.proofs.ContentLemmas.{content_at-append}
 use Rattle.serde_json.specs.declared.value.Value.{Null}
 use Rattle.jsonptr_journal.specs.Location.{contents_of}

@@ -1,8 +1,8 @@
 -- What is written at a path is there, and writing back what was there restores the content.
 use Rattle.std.proofs.Common.{◌≡◌, ℕ, zero, suc, Bool, true, false, cond, bytes_eq, [], ◌∷◌, Option, Some, None, option_and_then, Result, Ok, Err, IfOk, OnErr, refl, ap, ◌∙◌, subst}
-use Rattle.jsonptr_grammar.specs.Text.{Text}
-use Rattle.jsonptr_tree.specs.Node.{Step, key, place, Path}
-use Rattle.jsonptr_tree.specs.Content.{Content, scalar, array, object, Items, no_items, item, Members, no_members, member, get_item, get_member, child, content_at}
+use Rattle.jsonptr.specs.Text.{Text}
+use Rattle.jsonptr.specs.Node.{Step, key, place, Path}
+use Rattle.jsonptr.specs.Content.{Content, scalar, array, object, Items, no_items, item, Members, no_members, member, get_item, get_member, child, content_at}
 use Rattle.jsonptr_journal.specs.Writing.{write_item, write_member, write_step, write_below, write_at, At}
 use Rattle.jsonptr_journal.specs.Changes.{HasAt}
 use Rattle.jsonptr_journal.proofs.WritingLemmas.{write_same}
@@ -67,9 +67,6 @@ some_not_none o c h k = let no : ⊥ = cc in absurd no
 pub here_has : (p : Path) (P : Content → Type 0) (c x : Content) → HasAt p P c → content_at p c ≡ Some x → P x
 here_has p P c x h there = subst P (some_one h.0 x (content_at p c) h.1 there) h.2
 
-pub here_lacks : {Q : Type 0} (p : Path) (P : Content → Type 0) (c : Content) → HasAt p P c → content_at p c ≡ None → Q
-here_lacks p P c h none = some_not_none (content_at p c) h.0 h.1 none
-
 pub at_ok : {T E : Type 0} (r : Result T E) (p : Path) (R : T → Content → Content → Type 0) (c d old new : Content) → content_at p c ≡ Some old → d ≡ write_at p new c → IfOk r (λ t. R t old new) → IfOk r (λ t. At p (R t) c d)
 at_ok (Ok t) p R c d old new there made h = record { old = old; new = new; there = there; made = made; related = h }
 at_ok (Err e) p R c d old new there made h = tt
@@ -77,6 +74,11 @@ at_ok (Err e) p R c d old new there made h = tt
 pub same_at : {T E : Type 0} (r : Result T E) (p : Path) (c d old new : Content) → content_at p c ≡ Some old → d ≡ write_at p new c → OnErr r (new ≡ old) → OnErr r (d ≡ c)
 same_at (Ok t) p c d old new there made h = tt
 same_at (Err e) p c d old new there made h = made ∙ ap (λ (x : Content). write_at p x c) h ∙ write_same p old c there
+
+-- what is at the path is left there
+pub kept_at : {T E : Type 0} (r : Result T E) (p : Path) (c d old : Content) → content_at p c ≡ Some old → d ≡ write_at p old c → OnErr r (d ≡ c)
+kept_at (Ok t) p c d old there made = tt
+kept_at (Err e) p c d old there made = made ∙ write_same p old c there
 
 -- what is at the path after a change
 pub changed_there : (p : Path) (R : Content → Content → Type 0) (c d : Content) → (o : At p R c d) → content_at p d ≡ Some o.new

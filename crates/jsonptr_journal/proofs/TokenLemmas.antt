@@ -3,12 +3,12 @@ use Rattle.std.proofs.Common.{◌≡◌, ℕ, ◌-◌, ◌<◌, ◌^◌, List, [
 use Rattle.serde_json.specs.Find.{as_array, as_object}
 use Rattle.serde_json.specs.View.{view, items_view, members_view}
 use Rattle.serde_json.specs.declared.value.Value.{Value}
-use Rattle.jsonptr_grammar.specs.Text.{Text, HasNoTilde, esc, text}
+use Rattle.jsonptr.specs.Text.{Text, HasNoTilde, esc, text}
 use Rattle.jsonptr_grammar.proofs.EscapeLemmas.{unesc-plain, unesc-esc}
 use Rattle.jsonptr_grammar.proofs.PointerLemmas.{length-text-append, length-text-cons}
-use Rattle.jsonptr_tree.specs.Node.{Step, key, place, Path, Label, an_array, NamesStep, Names, sub}
-use Rattle.jsonptr_tree.specs.Content.{Content, scalar, array, object, items_len, child, content_at, label_of, map_of, FindsContent}
-use Rattle.jsonptr_tree.specs.Following.{LacksStep, StopsBefore}
+use Rattle.jsonptr.specs.Node.{Step, key, place, Path, Label, an_array, NamesStep, Names, sub}
+use Rattle.jsonptr.specs.Content.{Content, scalar, array, object, items_len, child, content_at, label_of, map_of, FindsContent}
+use Rattle.jsonptr.specs.Following.{LacksStep, StopsBefore}
 use Rattle.jsonptr_tree.proofs.ContentLemmas.{content_at-push, map_of-sub}
 use Rattle.jsonptr_tree.proofs.FollowingLemmas.{stops_before, lacks_below}
 use Rattle.jsonptr_tree.proofs.NodeLemmas.{NamesStep_one_step, Names-push_below, Names_one_path}
@@ -16,7 +16,7 @@ use Rattle.jsonptr_walk.specs.PrivateDescend.{Begins}
 use Rattle.jsonptr_walk.proofs.DescendLemmas.{one_front, plain_token, next_of}
 use Rattle.jsonptr_journal.specs.Location.{contents_of}
 use Rattle.jsonptr_journal.specs.Writing.{write_step, write_at}
-use Rattle.jsonptr_journal.specs.Leading.{StopsIn}
+use Rattle.jsonptr_journal.specs.Leading.{StopsAtOffset}
 use Rattle.jsonptr_journal.specs.PrivateTokenStep.{IsTokenAt, IsElementIn, MovesTo, MovesBack, IsLost}
 use Rattle.jsonptr_journal.specs.Children.{items_in}
 use Rattle.jsonptr_journal.proofs.NodeLemmas.{array_there, object_there, items_in-length}
@@ -161,7 +161,7 @@ module _ (tokens : List Text) where
     pub trail_puts : ((front left : List Text) → Begins tokens offset front left → left ≡ []) → (w : Value) (p : Path) → Names (map_of (contents_of doc)) tokens p → contents_of (F w) ≡ write_at p (contents_of w) (contents_of doc)
     trail_puts none w p named = subst (λ (q : Path). contents_of (F w) ≡ write_at q (contents_of w) (contents_of doc)) (Names_one_path (map_of (contents_of doc)) tokens h.path p (trail_named none) named) (h.made w)
 
-    pub trail_lost : HasNoTilde (text tokens) → IsLost tokens offset x → StopsIn (map_of (contents_of doc)) tokens offset
+    pub trail_lost : HasNoTilde (text tokens) → IsLost tokens offset x → StopsAtOffset (map_of (contents_of doc)) tokens offset
     trail_lost plain lost =
         let r = lost plain in
         let y : Text = r.1 in

@@ -1,11 +1,11 @@
 -- Undoing an addition: the node is the old one again, and what was added is returned.
 use Rattle.std.proofs.Common.{◌≡◌, ℕ, Option, Some, None, IsSome, refl, sym, ap, ap₂, ◌∙◌, subst, arith}
-use Rattle.jsonptr_grammar.specs.Text.{Text}
-use Rattle.jsonptr_tree.specs.Node.{Path}
-use Rattle.jsonptr_tree.specs.Content.{Content, object, array, get_item, get_member}
+use Rattle.jsonptr.specs.Text.{Text}
+use Rattle.jsonptr.specs.Node.{Path}
+use Rattle.jsonptr.specs.Content.{Content, object, array, get_item, get_member}
 use Rattle.jsonptr_journal.specs.Children.{insert_item, without_item, put_member, without_member}
 use Rattle.jsonptr_journal.specs.Writing.{At}
-use Rattle.jsonptr_journal.specs.Changes.{HasAt, HasMember, HasElement, Replaces, AddsMember, SetsMember, PutsElement, TakesMember, TakesElement}
+use Rattle.jsonptr_journal.specs.Changes.{HasAt, HasMember, HasElement, ReplacesContent, AddsMember, SetsMember, PutsElement, TakesMember, TakesElement}
 use Rattle.jsonptr_journal.proofs.ThereLemmas.{changed_there, changed_related, undone_at}
 use Rattle.jsonptr_journal.proofs.NodeLemmas.{one_object, one_array, without-insert, get-insert, insert-length}
 use Rattle.jsonptr_journal.proofs.MembersLemmas.{found_put, without_put, put_back}
@@ -27,7 +27,7 @@ undone_by p R S v w c d m f o t = (
 
 -- ---- a node
 
-pub node_undone : (a v w b x new : Content) → Replaces a v b x → Replaces w a x new → (new ≡ b) × (w ≡ v)
+pub node_undone : (a v w b x new : Content) → ReplacesContent a v b x → ReplacesContent w a x new → (new ≡ b) × (w ≡ v)
 node_undone a v w b x new r s = (s.1 ∙ sym r.0, sym s.0 ∙ r.1)
 
 -- ---- a member

@@ -11,25 +11,25 @@ use Rattle.serde_json.specs.Data as json
 use Rattle.serde_json.specs.Find.{as_array, as_object}
 use Rattle.serde_json.specs.View.{view, items_view, members_view}
 use Rattle.serde_json.specs.declared.value.Value.{Value, Array, Object}
-use Rattle.jsonptr_grammar.specs.Text.{Text}
-use Rattle.jsonptr_tree.specs.Node.{Step, key, place, Path}
-use Rattle.jsonptr_tree.specs.Content.{Content, scalar, array, object, Items, no_items, item, Members, no_members, member, get_item, get_member, items_len, child, content_at}
-use Rattle.jsonptr_tree.specs.Json.{content}
+use Rattle.jsonptr.specs.Text.{Text}
+use Rattle.jsonptr.specs.Node.{Step, key, place, Path}
+use Rattle.jsonptr.specs.Content.{Content, scalar, array, object, Items, no_items, item, Members, no_members, member, get_item, get_member, items_len, child, content_at}
+use Rattle.jsonptr.specs.Json.{content}
 use Rattle.jsonptr_tree.proofs.LevelLemmas.{items_by, members_by, items_len-by, get_item-by, get_member-by}
 use Rattle.jsonptr_tree.proofs.ContentLemmas.{content_at-below, content_at-push}
 use Rattle.jsonptr_tree.proofs.JsonLemmas.{array_is, object_is}
 use Rattle.jsonptr_document.proofs.JsonLevel.{array_at, object_at}
 use Rattle.jsonptr_journal.specs.declared.location.Part.{Part}
-use Rattle.jsonptr_journal.specs.Location.{step_of, steps_of, contents_of, LeadsNowhereAt}
+use Rattle.jsonptr_journal.specs.Location.{part_step, steps_of, contents_of, LeadsNowhereAt}
 use Rattle.jsonptr_journal.specs.PrivateNodeMut.{MovesTo, MovesBack, IsLost}
 use Rattle.jsonptr_journal.specs.Writing.{write_item, write_member, write_step, write_below, write_at}
 use Rattle.jsonptr_journal.specs.PrivateNodeMut.{nth}
 
 -- ---- the step at a position
 
-pub nth_at : (ps : List Part) (i : ℕ) (p : Part) → i < length ps → p ≡ get_or ps i p → nth i (steps_of ps) ≡ Some (step_of p)
+pub nth_at : (ps : List Part) (i : ℕ) (p : Part) → i < length ps → p ≡ get_or ps i p → nth i (steps_of ps) ≡ Some (part_step p)
 nth_at [] i p h is = absurd (omega arith)
-nth_at (q ∷ ps) zero p h is = ap (λ (r : Part). Some (step_of r)) (sym is)
+nth_at (q ∷ ps) zero p h is = ap (λ (r : Part). Some (part_step r)) (sym is)
 nth_at (q ∷ ps) (suc i) p h is = nth_at ps i p (omega arith) is
 
 pub nth_past : (ps : List Part) (i : ℕ) → length ps ≤ i → nth i (steps_of ps) ≡ None

@@ -1,9 +1,9 @@
 -- What adding a child to a node, and removing one, makes of the node.
 use Rattle.std.specs.Prelude.{◌≡◌, ℕ, ◌<◌, ◌≤◌, ◌⊎◌, [], ◌∷◌, ◌++◌, Option, Some, IsSome}
 use Rattle.serde_json.specs.declared.value.Value.{Null}
-use Rattle.jsonptr_grammar.specs.Text.{Text}
-use Rattle.jsonptr_tree.specs.Node.{Step, key, place, Path}
-use Rattle.jsonptr_tree.specs.Content.{Content, array, object, Items, items_len, get_item, Members, get_member, content_at}
+use Rattle.jsonptr.specs.Text.{Text}
+use Rattle.jsonptr.specs.Node.{Step, key, place, Path}
+use Rattle.jsonptr.specs.Content.{Content, array, object, Items, items_len, get_item, Members, get_member, content_at}
 use Rattle.jsonptr_journal.specs.Location.{contents_of}
 use Rattle.jsonptr_journal.specs.Children.{insert_item, without_item, put_member, without_member, KeysRise}
 use Rattle.jsonptr_journal.specs.Writing.{At}
@@ -16,25 +16,25 @@ IsThere w c = IsSome (content_at w c)
 abbrev pub HasAt : Path → (Content → Type 0) → Content → Type 0
 HasAt w P c = (e : Content) × (content_at w c ≡ Some e) × P e
 
--- `IsObject c`: the content `c` is that of an object
-abbrev pub IsObject : Content → Type 0
-IsObject c = (ms : Members) × (c ≡ object ms)
+-- `IsObjectContent c`: the content `c` is that of an object
+abbrev pub IsObjectContent : Content → Type 0
+IsObjectContent c = (ms : Members) × (c ≡ object ms)
 
 -- `HasMember k c`: the content `c` is that of an object with a member under the key `k`
 abbrev pub HasMember : Text → Content → Type 0
 HasMember k c = (ms : Members) × (c ≡ object ms) × IsSome (get_member k ms)
 
--- `IsArray c`: the content `c` is that of an array
-abbrev pub IsArray : Content → Type 0
-IsArray c = (ds : Items) × (c ≡ array ds)
+-- `IsArrayContent c`: the content `c` is that of an array
+abbrev pub IsArrayContent : Content → Type 0
+IsArrayContent c = (ds : Items) × (c ≡ array ds)
 
 -- `HasElement i c`: the content `c` is that of an array with an element at the index `i`
 abbrev pub HasElement : ℕ → Content → Type 0
 HasElement i c = (ds : Items) × (c ≡ array ds) × (i < items_len ds)
 
--- `HasLength n c`: the content `c` is that of an array of at least `n` elements
-abbrev pub HasLength : ℕ → Content → Type 0
-HasLength n c = (ds : Items) × (c ≡ array ds) × (n ≤ items_len ds)
+-- `HasAtLeast n c`: the content `c` is that of an array of at least `n` elements
+abbrev pub HasAtLeast : ℕ → Content → Type 0
+HasAtLeast n c = (ds : Items) × (c ≡ array ds) × (n ≤ items_len ds)
 
 -- `PutsMember k v c d`: the object `c` with `v` as its member under the key `k` is `d`
 pub record PutsMember (k : Text) (v c d : Content) : Type 0 where
@@ -72,9 +72,9 @@ pub record SetsMember (k : Text) (w v c d : Content) : Type 0 where
   pub found : get_member k ms ≡ Some w
   pub made : d ≡ object (put_member k v ms)
 
--- `Replaces w v c d`: `v` instead of `c`, which is `w`, is `d`
-abbrev pub Replaces : Content → Content → Content → Content → Type 0
-Replaces w v c d = (c ≡ w) × (d ≡ v)
+-- `ReplacesContent w v c d`: `v` instead of `c`, which is `w`, is `d`
+abbrev pub ReplacesContent : Content → Content → Content → Content → Type 0
+ReplacesContent w v c d = (c ≡ w) × (d ≡ v)
 
 -- `TakesChild s v c d`: the node `c` has the child `v` at the step `s`, and is `d` without it
 abbrev pub TakesChild : Step → Content → Content → Content → Type 0

@@ -1,13 +1,13 @@
 -- Elements added to an array and removed from it, and members of an object.
-use Rattle.std.specs.Prelude.{◌≡◌, ℕ, zero, suc, [], ◌∷◌, ⊤, List, String, IsSome, if◌then◌else◌, string_bytes}
+use Rattle.std.specs.Prelude.{◌≡◌, ℕ, zero, suc, [], ◌∷◌, ⊤, List, Vec, String, IsSome, if◌then◌else◌, string_bytes}
 use Rattle.std.specs.BTreeMap.{BTreeMap}
 use Rattle.std.specs.declared.alloc.Global.{Global}
 use Rattle.std.specs.Ordering.{nat_cmp, match_ordering}
 use Rattle.std.specs.Cmp.Lexicographic.{slice_cmp}
 use Rattle.std.specs.Str.{bytes_eq}
 use Rattle.serde_json.specs.declared.value.Value.{Value}
-use Rattle.jsonptr_grammar.specs.Text.{Text}
-use Rattle.jsonptr_tree.specs.Content.{Content, Items, no_items, item, Members, no_members, member, get_member, KeysAbove}
+use Rattle.jsonptr.specs.Text.{Text}
+use Rattle.jsonptr.specs.Content.{Content, array, object, Items, no_items, item, Members, no_members, member, get_member, KeysAbove}
 use Rattle.jsonptr_journal.specs.Location.{contents_of}
 
 -- `insert_item i c ds`: the elements `ds` with `c` inserted before the one at index `i`
@@ -35,6 +35,14 @@ members_in (e ∷ es) = member (string_bytes e.0) (contents_of e.1) (members_in 
 -- `members_of m`: the members of the map `m`
 abbrev pub members_of : BTreeMap (String Global) Value → Members
 members_of m = members_in m.entries
+
+-- `array_of vs`: what an array of the values `vs` contains
+abbrev pub array_of : Vec Value Global → Content
+array_of vs = array (items_in vs.items)
+
+-- `object_of m`: what an object of the entries of the map `m` contains
+abbrev pub object_of : BTreeMap (String Global) Value → Content
+object_of m = object (members_of m)
 
 -- `put_member k c ms`: the members `ms`, in ascending order of keys, with `c` under the key `k`
 abbrev pub put_member : Text → Content → Members → Members

@@ -2,13 +2,13 @@
 use Rattle.std.specs.Prelude.{◌≡◌, ◌<◌, List, [], ◌∷◌, length, Vec}
 use Rattle.std.specs.Vec.{vec_capacity}
 use Rattle.std.specs.declared.alloc.Global.{Global}
-use Rattle.jsonptr_grammar.specs.Text.{HasNoTilde, text}
-use Rattle.jsonptr_tree.specs.Content.{Content}
+use Rattle.jsonptr.specs.Text.{HasNoTilde, text}
+use Rattle.jsonptr.specs.Content.{Content}
 use Rattle.jsonptr_journal.specs.Location.{path_of, contents_of}
 use Rattle.jsonptr_journal.specs.Children.{members_of}
 use Rattle.jsonptr_journal.specs.Writing.{At}
 use Rattle.jsonptr_journal.specs.Leading.{AtNamed}
-use Rattle.jsonptr_journal.specs.Changes.{Replaces}
+use Rattle.jsonptr_journal.specs.Changes.{ReplacesContent}
 use Rattle.jsonptr_journal.specs.Rooms.{LeavesMembers}
 use Rattle.jsonptr_journal.specs.Undoing.{IsAddition, IsRemoval}
 use Rattle.jsonptr_journal.specs.declared.journal.Entry.{Entry}
@@ -21,7 +21,7 @@ Undoes (Added a) c d = (v : Content) × IsAddition a v c d
 Undoes (Removed r v) c d = IsRemoval r (contents_of v) c d
 Undoes (Moved r a) c d = (v b : Content) × IsRemoval r v c b × IsAddition a v b d
 Undoes (RemovedMembers l room) c d = At (path_of l) (LeavesMembers (members_of room)) c d
-Undoes (Replaced p v) c d = HasNoTilde (text p) × (w : Content) × AtNamed p (Replaces (contents_of v) w) c d
+Undoes (Replaced p v) c d = HasNoTilde (text p) × (w : Content) × AtNamed p (ReplacesContent (contents_of v) w) c d
 
 -- `Chain es c d`: changes turned `c` into `d`, and the entries `es`, from the last to the first, undo them
 abbrev pub Chain : List Entry → Content → Content → Type 0

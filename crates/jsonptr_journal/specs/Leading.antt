@@ -1,15 +1,15 @@
 -- Where a list of tokens leads in a content, and writing there.
 use Rattle.std.specs.Prelude.{ℕ, List}
-use Rattle.jsonptr_grammar.specs.Text.{Text}
-use Rattle.jsonptr_tree.specs.Node.{Path, Label, NodeMap, Names}
-use Rattle.jsonptr_tree.specs.Content.{Content, map_of}
-use Rattle.jsonptr_tree.specs.Following.{StopsBefore}
+use Rattle.jsonptr.specs.Text.{Text}
+use Rattle.jsonptr.specs.Node.{Path, Label, NodeMap, Names}
+use Rattle.jsonptr.specs.Content.{Content, map_of}
+use Rattle.jsonptr.specs.Following.{StopsBefore}
 use Rattle.jsonptr_journal.specs.Writing.{At}
 
--- `StopsIn n tokens offset`: following `tokens` in the map `n` stops before a token, and the text of those before it
+-- `StopsAtOffset n tokens offset`: following `tokens` in the map `n` stops before a token, and the text of those before it
 -- has `offset` bytes
-abbrev pub StopsIn : NodeMap → List Text → ℕ → Type 0
-StopsIn n tokens offset = (position : ℕ) × (l : Label) × (x : Text) × StopsBefore n tokens position offset l x
+abbrev pub StopsAtOffset : NodeMap → List Text → ℕ → Type 0
+StopsAtOffset n tokens offset = (position : ℕ) × (l : Label) × (x : Text) × StopsBefore n tokens position offset l x
 
 -- `AtNamed tokens R c d`: writing at the path of `c` that `tokens` name gives `d`, and `R` relates what was there to
 -- what is written

@@ -2,9 +2,9 @@
 use Rattle.std.specs.Prelude.{◌≡◌, List, Some}
 use Rattle.serde_json.specs.Data.{Data}
 use Rattle.serde_json.specs.View.{view}
-use Rattle.jsonptr_grammar.specs.Text.{Text}
-use Rattle.jsonptr_tree.specs.Node.{Names}
-use Rattle.jsonptr_tree.specs.Json.{content, nodes, value_at}
+use Rattle.jsonptr.specs.Text.{Text}
+use Rattle.jsonptr.specs.Node.{Names}
+use Rattle.jsonptr.specs.Json.{content, nodes, value_at}
 use Rattle.jsonptr_journal.specs.Location.{path_of}
 use Rattle.jsonptr_journal.specs.declared.locate.Located.{Located}
 

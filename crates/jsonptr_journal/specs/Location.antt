@@ -2,22 +2,22 @@
 use Rattle.std.specs.Prelude.{◌≡◌, ℕ, List, [], ◌∷◌, ◌++◌, length, Some, None, string_bytes}
 use Rattle.serde_json.specs.View.{view}
 use Rattle.serde_json.specs.declared.value.Value.{Value}
-use Rattle.jsonptr_tree.specs.Node.{Step, key, place, Path}
-use Rattle.jsonptr_tree.specs.Content.{Content, child, content_at}
-use Rattle.jsonptr_tree.specs.Json.{content}
+use Rattle.jsonptr.specs.Node.{Step, key, place, Path}
+use Rattle.jsonptr.specs.Content.{Content, child, content_at}
+use Rattle.jsonptr.specs.Json.{content}
 use Rattle.jsonptr_journal.specs.declared.location.Part.{Part}
 use Rattle.jsonptr_journal.specs.declared.location.Part.TheVariants as part
 use Rattle.jsonptr_journal.specs.declared.location.Location.{Location}
 
--- `step_of p`: the step of the part `p`
-abbrev pub step_of : Part → Step
-step_of (part.Key k) = key (string_bytes k)
-step_of (part.Index i) = place i
+-- `part_step p`: the step of the part `p`
+abbrev pub part_step : Part → Step
+part_step (part.Key k) = key (string_bytes k)
+part_step (part.Index i) = place i
 
 -- `steps_of ps`: the steps of the parts `ps`
 abbrev pub steps_of : List Part → Path
 steps_of [] = []
-steps_of (p ∷ ps) = step_of p ∷ steps_of ps
+steps_of (p ∷ ps) = part_step p ∷ steps_of ps
 
 -- `path_of l`: the path of the location `l`
 abbrev pub path_of : Location → Path

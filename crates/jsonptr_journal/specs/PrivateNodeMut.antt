@@ -4,8 +4,8 @@
 use Rattle.std.specs.Prelude.{◌≡◌, ℕ, zero, suc, ◌<◌, ◌^◌, [], ◌∷◌, Option, Some, None, Bool, true, false, Result, IfOk, OnErr}
 use Rattle.std.specs.Borrow.{MutBor, RattleType, Fml, name_if_ok, follows_so}
 use Rattle.serde_json.specs.declared.value.Value.{Value}
-use Rattle.jsonptr_tree.specs.Node.{Step, Path}
-use Rattle.jsonptr_tree.specs.Content.{child}
+use Rattle.jsonptr.specs.Node.{Step, Path}
+use Rattle.jsonptr.specs.Content.{child}
 use Rattle.jsonptr_walk.specs.declared.descend.StepResult.{StepResult}
 use Rattle.jsonptr_journal.specs.Location.{contents_of}
 use Rattle.jsonptr_journal.specs.Writing.{write_step}

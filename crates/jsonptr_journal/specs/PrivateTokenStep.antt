@@ -4,10 +4,10 @@
 use Rattle.std.specs.Prelude.{◌≡◌, ℕ, ◌<◌, ◌≤◌, ◌^◌, List, [], ◌∷◌, ◌++◌, length, Some, Bool, true, false, Result, IfOk, OnErr}
 use Rattle.std.specs.Borrow.{MutBor, RattleType, Fml, name_if_ok, follows_so}
 use Rattle.serde_json.specs.declared.value.Value.{Value}
-use Rattle.jsonptr_grammar.specs.Text.{Text, HasNoTilde, text}
-use Rattle.jsonptr_tree.specs.Node.{Step, NamesStep, an_array}
-use Rattle.jsonptr_tree.specs.Content.{Content, child, map_of}
-use Rattle.jsonptr_tree.specs.Following.{LacksStep}
+use Rattle.jsonptr.specs.Text.{Text, HasNoTilde, text}
+use Rattle.jsonptr.specs.Node.{Step, NamesStep, an_array}
+use Rattle.jsonptr.specs.Content.{Content, child, map_of}
+use Rattle.jsonptr.specs.Following.{LacksStep}
 use Rattle.jsonptr_document.specs.ChildRef.{IsIndexIn}
 use Rattle.jsonptr_walk.specs.PrivateDescend.{Begins}
 use Rattle.jsonptr_walk.specs.declared.descend.StepResult.{StepResult}

@@ -3,8 +3,8 @@ use Rattle.std.specs.Prelude.{◌≡◌, ℕ, ◌≤◌, [], IsSome, Vec}
 use Rattle.std.specs.Vec.{vec_capacity}
 use Rattle.std.specs.declared.alloc.Global.{Global}
 use Rattle.serde_json.specs.declared.value.Value.{Value}
-use Rattle.jsonptr_grammar.specs.Text.{Text}
-use Rattle.jsonptr_tree.specs.Content.{Content, object, array, Items, items_len, Members, get_member}
+use Rattle.jsonptr.specs.Text.{Text}
+use Rattle.jsonptr.specs.Content.{Content, object, array, Items, items_len, Members, get_member}
 use Rattle.jsonptr_journal.specs.Children.{put_member, IsRoom}
 use Rattle.jsonptr_journal.specs.Changes.{TakesElement}
 

@@ -1,9 +1,9 @@
 -- A content with another one written at a path.
 use Rattle.std.specs.Prelude.{◌≡◌, ℕ, zero, suc, [], ◌∷◌, Option, Some, None, if◌then◌else◌}
 use Rattle.std.specs.Str.{bytes_eq}
-use Rattle.jsonptr_grammar.specs.Text.{Text}
-use Rattle.jsonptr_tree.specs.Node.{Step, key, place, Path}
-use Rattle.jsonptr_tree.specs.Content.{Content, scalar, array, object, Items, no_items, item, Members, no_members, member, child, content_at}
+use Rattle.jsonptr.specs.Text.{Text}
+use Rattle.jsonptr.specs.Node.{Step, key, place, Path}
+use Rattle.jsonptr.specs.Content.{Content, scalar, array, object, Items, no_items, item, Members, no_members, member, child, content_at}
 
 -- `write_item i c ds`: the elements `ds` with `c` instead of the one at index `i`
 abbrev pub write_item : ℕ → Content → Items → Items

@@ -2,20 +2,20 @@
 ghost use Rattle.std.specs.Prelude.{◌≡◌, ◌<◌, [], IfOk, OnOk, OnErr, MatchOption, string_bytes};
 ghost use Rattle.std.specs.Vec.{vec_capacity};
 ghost use Rattle.serde_json.specs.declared.value.Value.{Null};
-ghost use Rattle.jsonptr_tree.specs.Content.{Content};
+ghost use Rattle.jsonptr.specs.Content.{Content};
 ghost use Rattle.jsonptr_journal.specs.Location.{path_of, contents_of};
 ghost use Rattle.jsonptr_journal.specs.Children.{members_of};
 ghost use Rattle.jsonptr_journal.specs.Writing.{At};
-ghost use Rattle.jsonptr_journal.specs.Changes.{IsThere, HasAt, IsObject, HasMember, HasElement, TakesMember, TakesElement, TakesAt, Writes};
+ghost use Rattle.jsonptr_journal.specs.Changes.{IsThere, HasAt, IsObjectContent, HasMember, HasElement, TakesMember, TakesElement, TakesAt, Writes};
 ghost use Rattle.jsonptr_journal.specs.Rooms.{LeavesMembers};
 ghost use Rattle.jsonptr_journal.specs.Undoing.{CanAdd, AddsAt, IsAddition, IsRemoval};
 ghost use Rattle.jsonptr_journal.specs.Journal.{Undoes, Chain, Pages, Undone, HasRoom};
 
 use crate::addition::{Addition, Target, add, overwrite, replace, restore, undo_addition};
 use crate::location::{Location, Part};
-use crate::node_mut::NodeMut;
-use crate::object::{restore_members, room_of, set_aside};
-use crate::removal::{Removal, Taken, take_element_at, undo_removal};
+use crate::members;
+use crate::node_mut::{NodeMut, object_mut};
+use crate::removal::{Removal, Taken, take_element, undo_removal};
 use jsonptr::PointerBuf;
 use jsonptr_value::discard;
 use serde_json::{Map, Value};
@@ -38,8 +38,8 @@ pub enum Entry {
     Replaced(PointerBuf, Value),
 }
 
-// The number of entries of a page. So a page has less than 1,024 bytes: the C library keeps such a block
-// for the next journal.
+/// The number of entries of a page. So a page has less than 1,024 bytes: the C library keeps such a block
+/// for the next journal.
 const PAGE: usize = 5;
 
 /// What undoes a list of changes, in their order.
@@ -71,7 +71,7 @@ impl Journal {
     /// [`AllocError`] if an allocation fails.
     pub fn reserve(&mut self, alloc: Global) -> Result<(), AllocError>
         ensures room { OnOk result (HasRoom self.new) }
-        ensures same { (c d : Content) → Undone self.old c d → Undone self.new c d }
+        ensures undone { (c d : Content) → Undone self.old c d → Undone self.new c d }
     {
         if self.entries.len() < self.entries.capacity() {
             return Ok(());
@@ -92,7 +92,7 @@ impl Journal {
         requires empty { page.items ≡ [] }
         requires room { 0 < vec_capacity page }
         ensures room { OnOk result (HasRoom self.new) }
-        ensures same { (c d : Content) → Undone self.old c d → Undone self.new c d }
+        ensures undone { (c d : Content) → Undone self.old c d → Undone self.new c d }
     {
         self.full.reserve(1)?;
         let filled = mem::replace(&mut self.entries, page);
@@ -117,21 +117,21 @@ impl Journal {
     pub fn add<D: NodeMut>(
         &mut self,
         alloc: Global,
-        doc: &mut D,
+        document: &mut D,
         target: Target,
         value: Value,
     ) -> Result<(), AllocError>
-        requires { CanAdd target (D.contents doc.old) }
+        requires { CanAdd target (D.contents document.old) }
         ensures added { IfOk result (λ _.
-            AddsAt target (contents_of value) (D.contents doc.old) (D.contents doc.new)) }
-        ensures undone { (c : Content) → Undone self.old c (D.contents doc.old)
-            → Undone self.new c (D.contents doc.new) }
+            AddsAt target (contents_of value) (D.contents document.old) (D.contents document.new)) }
+        ensures undone { (c : Content) → Undone self.old c (D.contents document.old)
+            → Undone self.new c (D.contents document.new) }
     {
         if let Err(error) = self.reserve(alloc) {
             discard(value);
             return Err(error);
         }
-        match add(alloc, doc, target, value) {
+        match add(alloc, document, target, value) {
             Ok(addition) => {
                 self.push(Entry::Added(addition));
                 Ok(())
@@ -151,21 +151,21 @@ impl Journal {
     pub fn replace<D: NodeMut>(
         &mut self,
         alloc: Global,
-        doc: &mut D,
+        document: &mut D,
         location: Location,
         value: Value,
     ) -> Result<(), AllocError>
-        requires { IsThere (path_of location) (D.contents doc.old) }
+        requires { IsThere (path_of location) (D.contents document.old) }
         ensures replaced { IfOk result (λ _. At (path_of location) (Writes (contents_of value))
-            (D.contents doc.old) (D.contents doc.new)) }
-        ensures undone { (c : Content) → Undone self.old c (D.contents doc.old)
-            → Undone self.new c (D.contents doc.new) }
+            (D.contents document.old) (D.contents document.new)) }
+        ensures undone { (c : Content) → Undone self.old c (D.contents document.old)
+            → Undone self.new c (D.contents document.new) }
     {
         if let Err(error) = self.reserve(alloc) {
             discard(value);
             return Err(error);
         }
-        let addition = replace(doc, location, value);
+        let addition = replace(document, location, value);
         self.push(Entry::Added(addition));
         Ok(())
     }
@@ -181,21 +181,21 @@ impl Journal {
     pub fn remove<D: NodeMut>(
         &mut self,
         alloc: Global,
-        doc: &mut D,
+        document: &mut D,
         location: Location,
     ) -> Result<(), AllocError>
-        requires there { IsThere (path_of location) (D.contents doc.old) }
-        requires undone { (c : Content) × Undone self.old c (D.contents doc.old) }
+        requires there { IsThere (path_of location) (D.contents document.old) }
+        requires undone { (c : Content) × Undone self.old c (D.contents document.old) }
         ensures removed { IfOk result (λ _. (v : Content) × TakesAt (path_of location) v
-            (D.contents doc.old) (D.contents doc.new)) }
-        ensures undone { (c : Content) → Undone self.old c (D.contents doc.old)
-            → Undone self.new c (D.contents doc.new) }
+            (D.contents document.old) (D.contents document.new)) }
+        ensures undone { (c : Content) → Undone self.old c (D.contents document.old)
+            → Undone self.new c (D.contents document.new) }
     {
         match location.split_last() {
-            None => self.remove_root(alloc, doc),
+            None => self.remove_root(alloc, document),
             Some((parent, last)) => match last {
-                Part::Key(key) => self.remove_member(alloc, doc, parent, key),
-                Part::Index(index) => self.remove_element(alloc, doc, parent, index),
+                Part::Key(key) => self.remove_member(alloc, document, parent, key),
+                Part::Index(index) => self.remove_element(alloc, document, parent, index),
             },
         }
     }
@@ -205,13 +205,13 @@ impl Journal {
     /// # Errors
     ///
     /// [`AllocError`] if the allocation for the entry fails.
-    fn remove_root<D: NodeMut>(&mut self, alloc: Global, doc: &mut D) -> Result<(), AllocError>
-        ensures removed { IfOk result (λ _. D.contents doc.new ≡ contents_of Null) }
-        ensures undone { (c : Content) → Undone self.old c (D.contents doc.old)
-            → Undone self.new c (D.contents doc.new) }
+    fn remove_root<D: NodeMut>(&mut self, alloc: Global, document: &mut D) -> Result<(), AllocError>
+        ensures removed { IfOk result (λ _. D.contents document.new ≡ contents_of Null) }
+        ensures undone { (c : Content) → Undone self.old c (D.contents document.old)
+            → Undone self.new c (D.contents document.new) }
     {
         self.reserve(alloc)?;
-        let value = overwrite(doc, &Location::root(alloc), Value::Null);
+        let value = overwrite(document, &Location::root(alloc), Value::Null);
         self.push(Entry::Removed(Removal::Root, value));
         Ok(())
     }
@@ -224,18 +224,18 @@ impl Journal {
     fn remove_element<D: NodeMut>(
         &mut self,
         alloc: Global,
-        doc: &mut D,
+        document: &mut D,
         array: Location,
         index: usize,
     ) -> Result<(), AllocError>
-        requires { HasAt (path_of array) (HasElement index) (D.contents doc.old) }
+        requires { HasAt (path_of array) (HasElement index) (D.contents document.old) }
         ensures removed { IfOk result (λ _. (v : Content) × At (path_of array)
-            (TakesElement index v) (D.contents doc.old) (D.contents doc.new)) }
-        ensures undone { (c : Content) → Undone self.old c (D.contents doc.old)
-            → Undone self.new c (D.contents doc.new) }
+            (TakesElement index v) (D.contents document.old) (D.contents document.new)) }
+        ensures undone { (c : Content) → Undone self.old c (D.contents document.old)
+            → Undone self.new c (D.contents document.new) }
     {
         self.reserve(alloc)?;
-        let Taken { value, removal } = take_element_at(alloc, doc, array, index)?;
+        let Taken { value, removal } = take_element(alloc, document, array, index)?;
         self.push(Entry::Removed(removal, value));
         Ok(())
     }
@@ -248,20 +248,20 @@ impl Journal {
     fn remove_member<D: NodeMut>(
         &mut self,
         alloc: Global,
-        doc: &mut D,
+        document: &mut D,
         object: Location,
         key: String,
     ) -> Result<(), AllocError>
         requires member { HasAt (path_of object) (HasMember (string_bytes key))
-            (D.contents doc.old) }
-        requires undone { (c : Content) × Undone self.old c (D.contents doc.old) }
+            (D.contents document.old) }
+        requires undone { (c : Content) × Undone self.old c (D.contents document.old) }
         ensures removed { IfOk result (λ _. (v : Content) × At (path_of object)
-            (TakesMember (string_bytes key) v) (D.contents doc.old) (D.contents doc.new)) }
-        ensures undone { (c : Content) → Undone self.old c (D.contents doc.old)
-            → Undone self.new c (D.contents doc.new) }
+            (TakesMember (string_bytes key) v) (D.contents document.old) (D.contents document.new)) }
+        ensures undone { (c : Content) → Undone self.old c (D.contents document.old)
+            → Undone self.new c (D.contents document.new) }
     {
-        let mut room = self.room_for(alloc, doc, &object)?;
-        set_aside_at(doc, &object, &mut room, key);
+        let mut room = self.room_for(alloc, document, &object)?;
+        set_aside_at(document, &object, &mut room, key);
         self.push(Entry::RemovedMembers(object, room));
         Ok(())
     }
@@ -275,15 +275,15 @@ impl Journal {
     fn room_for<D: NodeMut>(
         &mut self,
         alloc: Global,
-        doc: &mut D,
+        document: &mut D,
         object: &Location,
     ) -> Result<Map<String, Value>, AllocError>
-        requires { HasAt (path_of object.now) IsObject (D.contents doc.old) }
+        requires { HasAt (path_of object.now) IsObjectContent (D.contents document.old) }
         ensures room { OnOk result (HasRoom self.new) }
-        ensures same { D.contents doc.new ≡ D.contents doc.old }
-        ensures left { IfOk result (λ room. (c : Content) → Undone self.old c (D.contents doc.old)
+        ensures unchanged { D.contents document.new ≡ D.contents document.old }
+        ensures left { IfOk result (λ room. (c : Content) → Undone self.old c (D.contents document.old)
             → (b : Content) × Undone self.new c b
-            × At (path_of object.now) (LeavesMembers (members_of room)) b (D.contents doc.old)) }
+            × At (path_of object.now) (LeavesMembers (members_of room)) b (D.contents document.old)) }
         ensures undone { OnErr result ((c d : Content) → Undone self.old c d
             → Undone self.new c d) }
     {
@@ -291,7 +291,7 @@ impl Journal {
             Some(room) => Ok(room),
             None => {
                 self.reserve(alloc)?;
-                room_at(alloc, doc, object)
+                room_at(alloc, document, object)
             }
         }
     }
@@ -334,13 +334,13 @@ impl Journal {
     /// Undoes the changes, the last one first.
     ///
     /// Needs no allocation.
-    pub fn undo<D: NodeMut>(self, alloc: Global, doc: &mut D)
-        requires { (c : Content) × Undone self c (D.contents doc.old) }
-        ensures { (c : Content) → Undone self c (D.contents doc.old) → D.contents doc.new ≡ c }
+    pub fn undo<D: NodeMut>(self, alloc: Global, document: &mut D)
+        requires { (c : Content) × Undone self c (D.contents document.old) }
+        ensures { (c : Content) → Undone self c (D.contents document.old) → D.contents document.new ≡ c }
     {
         let Journal { full, entries } = self;
-        undo_entries(alloc, doc, entries);
-        undo_pages(alloc, doc, full);
+        undo_entries(alloc, document, entries);
+        undo_pages(alloc, document, full);
     }
 }
 
@@ -352,24 +352,24 @@ fn discard_entries(entries: Vec<Entry>) {
 }
 
 /// Undoes the changes of the pages, the last one first.
-fn undo_pages<D: NodeMut>(alloc: Global, doc: &mut D, pages: Vec<Vec<Entry>>)
-    requires { (c : Content) × Pages pages.items c (D.contents doc.old) }
-    ensures { (c : Content) → Pages pages.items c (D.contents doc.old) → D.contents doc.new ≡ c }
+fn undo_pages<D: NodeMut>(alloc: Global, document: &mut D, pages: Vec<Vec<Entry>>)
+    requires { (c : Content) × Pages pages.items c (D.contents document.old) }
+    ensures { (c : Content) → Pages pages.items c (D.contents document.old) → D.contents document.new ≡ c }
 {
     let mut pages = pages;
     while let Some(page) = pages.pop() {
-        undo_entries(alloc, doc, page);
+        undo_entries(alloc, document, page);
     }
 }
 
 /// Undoes the changes of the entries, the last one first.
-fn undo_entries<D: NodeMut>(alloc: Global, doc: &mut D, entries: Vec<Entry>)
-    requires { (c : Content) × Chain entries.items c (D.contents doc.old) }
-    ensures { (c : Content) → Chain entries.items c (D.contents doc.old) → D.contents doc.new ≡ c }
+fn undo_entries<D: NodeMut>(alloc: Global, document: &mut D, entries: Vec<Entry>)
+    requires { (c : Content) × Chain entries.items c (D.contents document.old) }
+    ensures { (c : Content) → Chain entries.items c (D.contents document.old) → D.contents document.new ≡ c }
 {
     let mut entries = entries;
     while let Some(entry) = entries.pop() {
-        undo_entry(alloc, doc, entry);
+        undo_entry(alloc, document, entry);
     }
 }
 
@@ -387,28 +387,28 @@ impl Entry {
 }
 
 /// Undoes one change.
-fn undo_entry<D: NodeMut>(alloc: Global, doc: &mut D, entry: Entry)
-    requires { (c : Content) × Undoes entry c (D.contents doc.old) }
-    ensures { (c : Content) → Undoes entry c (D.contents doc.old) → D.contents doc.new ≡ c }
+fn undo_entry<D: NodeMut>(alloc: Global, document: &mut D, entry: Entry)
+    requires { (c : Content) × Undoes entry c (D.contents document.old) }
+    ensures { (c : Content) → Undoes entry c (D.contents document.old) → D.contents document.new ≡ c }
 {
     match entry {
-        Entry::Added(addition) => discard(undo_addition(doc, addition)),
-        Entry::Removed(removal, value) => undo_removal(alloc, doc, removal, value),
-        Entry::Moved(removal, addition) => undo_move(alloc, doc, removal, addition),
-        Entry::RemovedMembers(object, room) => restore_members_at(doc, &object, room),
-        Entry::Replaced(path, old) => restore(doc, &path, old),
+        Entry::Added(addition) => discard(undo_addition(document, addition)),
+        Entry::Removed(removal, value) => undo_removal(alloc, document, removal, value),
+        Entry::Moved(removal, addition) => undo_move(alloc, document, removal, addition),
+        Entry::RemovedMembers(object, room) => restore_members_at(document, &object, room),
+        Entry::Replaced(path, old) => restore(document, &path, old),
     }
 }
 
 /// Undoes a move.
-fn undo_move<D: NodeMut>(alloc: Global, doc: &mut D, removal: Removal, addition: Addition)
+fn undo_move<D: NodeMut>(alloc: Global, document: &mut D, removal: Removal, addition: Addition)
     requires { (c v b : Content) × IsRemoval removal v c b
-        × IsAddition addition v b (D.contents doc.old) }
+        × IsAddition addition v b (D.contents document.old) }
     ensures { (c v b : Content) → IsRemoval removal v c b
-        → IsAddition addition v b (D.contents doc.old) → D.contents doc.new ≡ c }
+        → IsAddition addition v b (D.contents document.old) → D.contents document.new ≡ c }
 {
-    let value = undo_addition(doc, addition);
-    undo_removal(alloc, doc, removal, value);
+    let value = undo_addition(document, addition);
+    undo_removal(alloc, document, removal, value);
 }
 
 /// Returns room for the members of the object at the location.
@@ -418,52 +418,55 @@ fn undo_move<D: NodeMut>(alloc: Global, doc: &mut D, removal: Removal, addition:
 /// [`AllocError`] if an allocation fails.
 fn room_at<D: NodeMut>(
     alloc: Global,
-    doc: &mut D,
+    document: &mut D,
     object: &Location,
 ) -> Result<Map<String, Value>, AllocError>
-    requires { HasAt (path_of object.now) IsObject (D.contents doc.old) }
+    requires { HasAt (path_of object.now) IsObjectContent (D.contents document.old) }
     ensures room { IfOk result (λ room. At (path_of object.now)
-        (LeavesMembers (members_of room)) (D.contents doc.old) (D.contents doc.old)) }
-    ensures same { D.contents doc.new ≡ D.contents doc.old }
+        (LeavesMembers (members_of room)) (D.contents document.old) (D.contents document.old)) }
+    ensures unchanged { D.contents document.new ≡ D.contents document.old }
 {
-    match doc.node_mut(object) {
-        Ok(node) => room_of(alloc, node),
-        Err(_) => unreachable!(),
+    match object_mut(document, object) {
+        Some(members) => members::room_for(alloc, &*members),
+        None => unreachable!(),
     }
 }
 
 /// Moves the member from the object at the location into the room.
 fn set_aside_at<D: NodeMut>(
-    doc: &mut D,
+    document: &mut D,
     object: &Location,
     room: &mut Map<String, Value>,
     key: String,
 )
     requires member { HasAt (path_of object.now) (HasMember (string_bytes key))
-        (D.contents doc.old) }
+        (D.contents document.old) }
     requires room { (c : Content) × At (path_of object.now)
-        (LeavesMembers (members_of room.old)) c (D.contents doc.old) }
+        (LeavesMembers (members_of room.old)) c (D.contents document.old) }
     ensures taken { (v : Content) × At (path_of object.now) (TakesMember (string_bytes key) v)
-        (D.contents doc.old) (D.contents doc.new) }
+        (D.contents document.old) (D.contents document.new) }
     ensures room { (c : Content)
-        → At (path_of object.now) (LeavesMembers (members_of room.old)) c (D.contents doc.old)
-        → At (path_of object.now) (LeavesMembers (members_of room.new)) c (D.contents doc.new) }
+        → At (path_of object.now) (LeavesMembers (members_of room.old)) c (D.contents document.old)
+        → At (path_of object.now) (LeavesMembers (members_of room.new)) c (D.contents document.new) }
 {
-    match doc.node_mut(object) {
-        Ok(node) => set_aside(node, room, key),
-        Err(_) => unreachable!(),
+    match object_mut(document, object) {
+        Some(members) => {
+            let value = members::remove(members, key.as_str());
+            drop(members::set(room, key, value));
+        }
+        None => unreachable!(),
     }
 }
 
 /// Puts back the members that the room has into the object at the location.
-fn restore_members_at<D: NodeMut>(doc: &mut D, object: &Location, room: Map<String, Value>)
+fn restore_members_at<D: NodeMut>(document: &mut D, object: &Location, room: Map<String, Value>)
     requires { (c : Content) × At (path_of object.now)
-        (LeavesMembers (members_of room)) c (D.contents doc.old) }
+        (LeavesMembers (members_of room)) c (D.contents document.old) }
     ensures { (c : Content) → At (path_of object.now)
-        (LeavesMembers (members_of room)) c (D.contents doc.old) → D.contents doc.new ≡ c }
+        (LeavesMembers (members_of room)) c (D.contents document.old) → D.contents document.new ≡ c }
 {
-    match doc.node_mut(object) {
-        Ok(node) => restore_members(node, room),
-        Err(_) => unreachable!(),
+    match object_mut(document, object) {
+        Some(members) => members::restore(members, room),
+        None => unreachable!(),
     }
 }

@@ -2,13 +2,11 @@
 #![tactic(auto)]
 
 pub mod addition;
-mod array;
 mod elements;
 pub mod journal;
 pub mod locate;
 pub mod location;
 mod members;
 pub mod node_mut;
-mod object;
 pub mod removal;
 pub mod token_step;

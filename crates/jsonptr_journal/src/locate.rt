@@ -1,11 +1,12 @@
 //! The location of the node that a pointer resolves to.
-ghost use Rattle.std.specs.Prelude.{IfOk};
+ghost use Rattle.std.specs.Prelude.{⊤, IfOk};
 ghost use Rattle.serde_json.specs.View.{view};
 ghost use Rattle.jsonptr.specs.Delete.{NamesNothing};
-ghost use Rattle.jsonptr.specs.Fault.{IfRefused, ForRefused};
+ghost use Rattle.jsonptr.specs.Fault.{IfRefused, ForRefused, IsRefusedAnd};
 ghost use Rattle.jsonptr.specs.Pointer.{tokens};
 ghost use Rattle.jsonptr.specs.Resolve.{Refuses};
-ghost use Rattle.jsonptr_tree.specs.Json.{nodes};
+ghost use Rattle.jsonptr.specs.Text.{HasNoTilde, text};
+ghost use Rattle.jsonptr.specs.Json.{nodes};
 ghost use Rattle.jsonptr_journal.specs.Locating.{Locates};
 ghost use Rattle.jsonptr_journal.specs.PrivateLocating.{IsLocated, IsChildOf, IsIndexOf};
 
@@ -44,15 +45,15 @@ struct Child<'v, D> {
 /// allocation fails.
 pub fn locate<'v>(
     alloc: Global,
-    doc: &'v Value,
-    ptr: Pointer<'_>,
+    document: &'v Value,
+    pointer: Pointer<'_>,
 ) -> Result<Located<'v>, Fault<resolve::Error>>
-    ensures located { IfOk result (Locates (view doc.now) (tokens ptr.entry)) }
-    ensures refused { IfRefused result (Refuses (nodes (view doc.now)) (tokens ptr.entry)) }
+    ensures located { IfOk result (Locates (view document.now) (tokens pointer.entry)) }
+    ensures refused { IfRefused result (Refuses (nodes (view document.now)) (tokens pointer.entry)) }
 {
-    match find(alloc, doc, ptr)? {
+    match find(alloc, document, pointer)? {
         Some(located) => Ok(located),
-        None => Err(refusal(alloc, doc, ptr)),
+        None => Err(resolve_error(alloc, document, pointer)),
     }
 }
 
@@ -64,14 +65,14 @@ pub fn locate<'v>(
 /// [`AllocError`] if an allocation fails.
 fn find<'v>(
     alloc: Global,
-    doc: &'v Value,
-    ptr: Pointer<'_>,
+    document: &'v Value,
+    pointer: Pointer<'_>,
 ) -> Result<Option<Located<'v>>, AllocError>
-    ensures { IfOk result (IsLocated (view doc.now) (tokens ptr.entry)) }
+    ensures { IfOk result (IsLocated (view document.now) (tokens pointer.entry)) }
 {
-    let mut parts = Vec::with_capacity(alloc, ptr.count())?;
-    let mut node = doc;
-    let mut rest = ptr;
+    let mut parts = Vec::with_capacity(alloc, pointer.count())?;
+    let mut node = document;
+    let mut rest = pointer;
     while let Some((token, after)) = rest.split_front() {
         let Some(child) = named_child(alloc, node, &token)? else {
             return Ok(None);
@@ -134,16 +135,19 @@ pub(crate) fn index_in(token: &Token<'_>, length: usize) -> Option<usize>
     }
 }
 
-/// Returns why the pointer does not resolve to a value.
+/// Returns the error of a pointer that does not resolve to a value.
 ///
 /// # Conditions
 ///
 /// The pointer does not resolve to a value.
-fn refusal(alloc: Global, doc: &Value, ptr: Pointer<'_>) -> Fault<resolve::Error>
-    requires { NamesNothing (nodes (view doc.now)) (tokens ptr) }
-    ensures { ForRefused result (Refuses (nodes (view doc.now)) (tokens ptr.entry)) }
+pub fn resolve_error(alloc: Global, document: &Value, pointer: Pointer<'_>) -> Fault<resolve::Error>
+    requires { NamesNothing (nodes (view document.now)) (tokens pointer) }
+    ensures refused { ForRefused result
+        (Refuses (nodes (view document.now)) (tokens pointer.entry)) }
+    ensures no_memory { HasNoTilde (text (tokens pointer.entry))
+        → IsRefusedAnd result (λ _. ⊤) }
 {
-    match ptr.resolve(alloc, doc) {
+    match pointer.resolve(alloc, document) {
         Ok(_) => unreachable!(),
         Err(fault) => fault,
     }

@@ -1,6 +1,6 @@
 //! The location of a node as decoded steps.
 ghost use Rattle.std.specs.Prelude.{◌≡◌, ◌↔◌, [], ◌∷◌, ◌++◌, IsTrue, MatchOption};
-ghost use Rattle.jsonptr_journal.specs.Location.{step_of, path_of};
+ghost use Rattle.jsonptr_journal.specs.Location.{part_step, path_of};
 
 use std::alloc::Global;
 
@@ -37,7 +37,7 @@ impl Location {
     /// root.
     pub fn split_last(self) -> Option<(Location, Part)>
         ensures { MatchOption result (path_of self ≡ [])
-            (λ r. path_of self ≡ path_of r.0 ++ step_of r.1 ∷ []) }
+            (λ r. path_of self ≡ path_of r.0 ++ part_step r.1 ∷ []) }
     {
         let mut parts = self.parts;
         let last = parts.pop()?;

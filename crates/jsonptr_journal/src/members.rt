@@ -2,7 +2,7 @@
 //! allocation.
 ghost use Rattle.std.specs.Prelude.{◌≡◌, IfOk, IfErr, OnErr, Some, IsSome, option_map, string_bytes};
 ghost use Rattle.serde_json.specs.declared.value.Value.{Null};
-ghost use Rattle.jsonptr_tree.specs.Content.{Members, get_member};
+ghost use Rattle.jsonptr.specs.Content.{Members, get_member};
 ghost use Rattle.jsonptr_journal.specs.Location.{contents_of};
 ghost use Rattle.jsonptr_journal.specs.Children.{members_of, put_all, put_member, without_member, HasAll, IsRoom, KeysRise};
 

@@ -1,20 +1,23 @@
 //! Going to a location of a document, without an allocation.
-ghost use Rattle.std.specs.Prelude.{◌≡◌, Option, Some, None, IfOk, IfErr, OnErr, IsOk};
-ghost use Rattle.std.specs.Borrow.{sem, follows_so, name_if_ok};
+ghost use Rattle.std.specs.Prelude.{◌≡◌, ⊤, Option, Some, None, IfOk, IfErr, OnErr, IsOk, IsSome, MatchOption};
+ghost use Rattle.std.specs.Borrow.{sem, follows_so, name_if_ok, LendsSo};
+ghost use Rattle.serde_json.specs.Rows.{list_row, map_row};
 ghost use Rattle.serde_json.specs.contracts.value.Value.{the_row};
-ghost use Rattle.jsonptr_grammar.specs.Text.{HasNoTilde, text};
-ghost use Rattle.jsonptr_tree.specs.Node.{Path, Names};
-ghost use Rattle.jsonptr_tree.specs.Content.{Content, content_at, map_of, FindsContent};
+ghost use Rattle.jsonptr.specs.Text.{HasNoTilde, text};
+ghost use Rattle.jsonptr.specs.Node.{Path, Names};
+ghost use Rattle.jsonptr.specs.Content.{Content, content_at, map_of, FindsContent};
 ghost use Rattle.jsonptr_journal.specs.Location.{path_of, contents_of, LeadsNowhereAt};
+ghost use Rattle.jsonptr_journal.specs.Children.{array_of, object_of};
+ghost use Rattle.jsonptr_journal.specs.Changes.{HasAt, IsObjectContent, IsArrayContent};
 ghost use Rattle.jsonptr_journal.specs.PrivateNodeMut.{MovesTo, IsLost, LendsMove};
-ghost use Rattle.jsonptr_journal.specs.Leading.{StopsIn};
+ghost use Rattle.jsonptr_journal.specs.Leading.{StopsAtOffset};
 ghost use Rattle.jsonptr_journal.specs.Writing.{write_at};
 
 use crate::location::{Location, Part};
 use crate::token_step::{NoSuchToken, token_step};
 use jsonptr::PointerBuf;
 use jsonptr_walk::descend::StepResult;
-use serde_json::Value;
+use serde_json::{Map, Value};
 
 /// A location is not in the document.
 #[derive(Debug, Drop)]
@@ -59,18 +62,18 @@ pub trait NodeMut: Sized {
     ///
     /// [`NoSuchToken`] with the first token that names no child, if the pointer leads to no node. The
     /// document is unchanged.
-    fn token_mut(&mut self, ptr: &PointerBuf) -> Result<&mut Value, NoSuchToken>
+    fn token_mut(&mut self, pointer: &PointerBuf) -> Result<&mut Value, NoSuchToken>
         ensures* writes_back { sem 𝓛 (follows_so Self.row the_row self.entry.ghost_name
             (name_if_ok (λ v. v.ghost_name) result)
-            (λ w n. IsOk result → HasNoTilde (text ptr.now) → (p : Path)
-            → Names (map_of (contents self.old)) ptr.now p
+            (λ w n. IsOk result → HasNoTilde (text pointer.now) → (p : Path)
+            → Names (map_of (contents self.old)) pointer.now p
             → contents n ≡ write_at p (contents_of w) (contents self.old))
-            (λ n. OnErr result (HasNoTilde (text ptr.now)
+            (λ n. OnErr result (HasNoTilde (text pointer.now)
             → contents n ≡ contents self.old))) }
-        ensures value { IfOk result (λ v. HasNoTilde (text ptr.now)
-            → FindsContent (contents self.old) ptr.now (contents_of v.now))
-            × IfErr result (λ e. HasNoTilde (text ptr.now)
-            → StopsIn (map_of (contents self.old)) ptr.now e.offset) };
+        ensures value { IfOk result (λ v. HasNoTilde (text pointer.now)
+            → FindsContent (contents self.old) pointer.now (contents_of v.now))
+            × IfErr result (λ e. HasNoTilde (text pointer.now)
+            → StopsAtOffset (map_of (contents self.old)) pointer.now e.offset) };
 }
 
 /// Returns the child at the step at position `i`, or the value itself if the location has no such step.
@@ -146,11 +149,11 @@ impl NodeMut for Value {
         }
     }
 
-    fn token_mut(&mut self, ptr: &PointerBuf) -> Result<&mut Value, NoSuchToken> {
+    fn token_mut(&mut self, pointer: &PointerBuf) -> Result<&mut Value, NoSuchToken> {
         let mut at = self;
         let mut offset = 0;
         loop {
-            match token_step(at, ptr, offset) {
+            match token_step(at, pointer, offset) {
                 Ok(moved) => {
                     let StepResult { node, next, down } = moved;
                     if !down {
@@ -162,5 +165,45 @@ impl NodeMut for Value {
                 Err(error) => return Err(error),
             }
         }
+    }
+}
+
+/// Returns the members of the object at the location, or `None` if no object is there.
+pub(crate) fn object_mut<'d, D: NodeMut>(
+    document: &'d mut D,
+    location: &Location,
+) -> Option<&'d mut Map<String, Value>>
+    ensures* writes_back { sem 𝓛 (LendsSo D.row map_row document.entry result
+        (λ n m. IsSome result → D.contents n
+        ≡ write_at (path_of location.now) (object_of m) (D.contents document.old))
+        (λ n. ⊤)) }
+    ensures value { MatchOption result
+        (HasAt (path_of location.now) IsObjectContent (D.contents document.old) → ⊥)
+        (λ m. content_at (path_of location.now) (D.contents document.old)
+        ≡ Some (object_of m.now)) }
+{
+    match document.node_mut(location) {
+        Ok(node) => node.as_object_mut(),
+        Err(_) => None,
+    }
+}
+
+/// Returns the elements of the array at the location, or `None` if no array is there.
+pub(crate) fn array_mut<'d, D: NodeMut>(
+    document: &'d mut D,
+    location: &Location,
+) -> Option<&'d mut Vec<Value>>
+    ensures* writes_back { sem 𝓛 (LendsSo D.row list_row document.entry result
+        (λ n vs. IsSome result → D.contents n
+        ≡ write_at (path_of location.now) (array_of vs) (D.contents document.old))
+        (λ n. ⊤)) }
+    ensures value { MatchOption result
+        (HasAt (path_of location.now) IsArrayContent (D.contents document.old) → ⊥)
+        (λ vs. content_at (path_of location.now) (D.contents document.old)
+        ≡ Some (array_of vs.now)) }
+{
+    match document.node_mut(location) {
+        Ok(node) => node.as_array_mut(),
+        Err(_) => None,
     }
 }

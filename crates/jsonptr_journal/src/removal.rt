@@ -1,21 +1,19 @@
 //! Removals at a location of a document, and undoing them.
 ghost use Rattle.std.specs.Prelude.{◌≡◌, None, IfOk, OnErr, MatchOption, string_bytes};
 ghost use Rattle.serde_json.specs.declared.value.Value.{Null};
-ghost use Rattle.jsonptr_tree.specs.Content.{Content, content_at};
+ghost use Rattle.jsonptr.specs.Content.{Content, content_at};
 ghost use Rattle.jsonptr_journal.specs.Location.{path_of, contents_of};
 ghost use Rattle.jsonptr_journal.specs.Children.{members_of};
 ghost use Rattle.jsonptr_journal.specs.Writing.{At};
-ghost use Rattle.jsonptr_journal.specs.Changes.{IsThere, HasAt, HasMember, HasElement, TakesMember, TakesElement, TakesAt, Replaces};
+ghost use Rattle.jsonptr_journal.specs.Changes.{IsThere, HasAt, HasMember, HasElement, TakesMember, TakesElement, TakesAt, ReplacesContent};
 ghost use Rattle.jsonptr_journal.specs.Rooms.{LeavesRoom, LeavesElementRoom};
 ghost use Rattle.jsonptr_journal.specs.Undoing.{IsRemoval};
 
-use crate::addition::{
-    Addition, overwrite, remove_element_at, remove_member_at, restore, undo_addition,
-};
-use crate::array::{TakenElement, put_element_back, take_element};
+use crate::addition::{Addition, overwrite, remove_element, remove_member, restore, undo_addition};
+use crate::elements::put_back;
 use crate::location::{Location, Part};
-use crate::node_mut::NodeMut;
-use crate::object::{TakenMember, put_member_back, take_member};
+use crate::members;
+use crate::node_mut::{NodeMut, array_mut, object_mut};
 use jsonptr::PointerBuf;
 use serde_json::{Map, Value};
 use std::alloc::{AllocError, Global};
@@ -74,25 +72,29 @@ pub struct Taken {
 /// # Errors
 ///
 /// [`AllocError`] if an allocation fails. The document is unchanged.
-pub fn take<D: NodeMut>(alloc: Global, doc: &mut D, location: Location) -> Result<Taken, AllocError>
-    requires { IsThere (path_of location) (D.contents doc.old) }
+pub fn take<D: NodeMut>(
+    alloc: Global,
+    document: &mut D,
+    location: Location,
+) -> Result<Taken, AllocError>
+    requires { IsThere (path_of location) (D.contents document.old) }
     ensures taken { IfOk result (λ t. TakesAt (path_of location) (contents_of t.value)
-        (D.contents doc.old) (D.contents doc.new)) }
+        (D.contents document.old) (D.contents document.new)) }
     ensures undone { IfOk result (λ t. IsRemoval t.removal (contents_of t.value)
-        (D.contents doc.old) (D.contents doc.new)) }
-    ensures unchanged { OnErr result (D.contents doc.new ≡ D.contents doc.old) }
+        (D.contents document.old) (D.contents document.new)) }
+    ensures unchanged { OnErr result (D.contents document.new ≡ D.contents document.old) }
 {
     match location.split_last() {
         None => {
-            let value = overwrite(doc, &Location::root(alloc), Value::Null);
+            let value = overwrite(document, &Location::root(alloc), Value::Null);
             Ok(Taken {
                 value,
                 removal: Removal::Root,
             })
         }
         Some((parent, last)) => match last {
-            Part::Key(key) => take_member_at(alloc, doc, parent, key),
-            Part::Index(index) => take_element_at(alloc, doc, parent, index),
+            Part::Key(key) => take_member(alloc, document, parent, key),
+            Part::Index(index) => take_element(alloc, document, parent, index),
         },
     }
 }
@@ -102,51 +104,29 @@ pub fn take<D: NodeMut>(alloc: Global, doc: &mut D, location: Location) -> Resul
 /// # Errors
 ///
 /// Those of [`take`].
-fn take_member_at<D: NodeMut>(
+fn take_member<D: NodeMut>(
     alloc: Global,
-    doc: &mut D,
+    document: &mut D,
     object: Location,
     key: String,
 ) -> Result<Taken, AllocError>
-    requires { HasAt (path_of object) (HasMember (string_bytes key)) (D.contents doc.old) }
+    requires { HasAt (path_of object) (HasMember (string_bytes key)) (D.contents document.old) }
     ensures taken { IfOk result (λ t. At (path_of object)
         (TakesMember (string_bytes key) (contents_of t.value))
-        (D.contents doc.old) (D.contents doc.new)) }
+        (D.contents document.old) (D.contents document.new)) }
     ensures undone { IfOk result (λ t. IsRemoval t.removal (contents_of t.value)
-        (D.contents doc.old) (D.contents doc.new)) }
-    ensures unchanged { OnErr result (D.contents doc.new ≡ D.contents doc.old) }
+        (D.contents document.old) (D.contents document.new)) }
+    ensures unchanged { OnErr result (D.contents document.new ≡ D.contents document.old) }
 {
-    let taken = take_member_in(alloc, doc, &object, key.as_str())?;
-    let TakenMember { value, room } = taken;
+    let Some(members) = object_mut(document, &object) else {
+        unreachable!()
+    };
+    let room = members::room_for(alloc, &*members)?;
+    let value = members::remove(members, key.as_str());
     Ok(Taken {
         value,
         removal: Removal::Member { object, key, room },
     })
-}
-
-/// Removes the member from the object at the location, and makes room to put it back.
-///
-/// # Errors
-///
-/// Those of [`take`].
-fn take_member_in<D: NodeMut>(
-    alloc: Global,
-    doc: &mut D,
-    object: &Location,
-    key: &str,
-) -> Result<TakenMember, AllocError>
-    requires { HasAt (path_of object.now) (HasMember key.now) (D.contents doc.old) }
-    ensures taken { IfOk result (λ t. At (path_of object.now)
-        (TakesMember key.now (contents_of t.value)) (D.contents doc.old) (D.contents doc.new)) }
-    ensures room { IfOk result (λ t. At (path_of object.now)
-        (LeavesRoom key.now (members_of t.room) (contents_of t.value))
-        (D.contents doc.old) (D.contents doc.new)) }
-    ensures unchanged { OnErr result (D.contents doc.new ≡ D.contents doc.old) }
-{
-    match doc.node_mut(object) {
-        Ok(node) => take_member(alloc, node, key),
-        Err(_) => unreachable!(),
-    }
 }
 
 /// Removes the element from the array at the location, as [`take`] does.
@@ -154,63 +134,43 @@ fn take_member_in<D: NodeMut>(
 /// # Errors
 ///
 /// Those of [`take`].
-pub(crate) fn take_element_at<D: NodeMut>(
+pub(crate) fn take_element<D: NodeMut>(
     alloc: Global,
-    doc: &mut D,
+    document: &mut D,
     array: Location,
     index: usize,
 ) -> Result<Taken, AllocError>
-    requires { HasAt (path_of array) (HasElement index) (D.contents doc.old) }
+    requires { HasAt (path_of array) (HasElement index) (D.contents document.old) }
     ensures taken { IfOk result (λ t. At (path_of array)
-        (TakesElement index (contents_of t.value)) (D.contents doc.old) (D.contents doc.new)) }
+        (TakesElement index (contents_of t.value)) (D.contents document.old) (D.contents document.new)) }
     ensures undone { IfOk result (λ t. IsRemoval t.removal (contents_of t.value)
-        (D.contents doc.old) (D.contents doc.new)) }
-    ensures unchanged { OnErr result (D.contents doc.new ≡ D.contents doc.old) }
+        (D.contents document.old) (D.contents document.new)) }
+    ensures unchanged { OnErr result (D.contents document.new ≡ D.contents document.old) }
 {
-    let taken = take_element_in(alloc, doc, &array, index)?;
-    let TakenElement { value, room } = taken;
+    let Some(elements) = array_mut(document, &array) else {
+        unreachable!()
+    };
+    let room = Vec::with_capacity(alloc, elements.len())?;
+    let value = elements.remove(index);
     Ok(Taken {
         value,
         removal: Removal::Element { array, index, room },
     })
 }
 
-/// Removes the element from the array at the location, and makes room to put it back.
-///
-/// # Errors
-///
-/// Those of [`take`].
-fn take_element_in<D: NodeMut>(
-    alloc: Global,
-    doc: &mut D,
-    array: &Location,
-    index: usize,
-) -> Result<TakenElement, AllocError>
-    requires { HasAt (path_of array.now) (HasElement index) (D.contents doc.old) }
-    ensures taken { IfOk result (λ t. At (path_of array.now)
-        (LeavesElementRoom index t.room (contents_of t.value))
-        (D.contents doc.old) (D.contents doc.new)) }
-    ensures unchanged { OnErr result (D.contents doc.new ≡ D.contents doc.old) }
-{
-    match doc.node_mut(array) {
-        Ok(node) => take_element(alloc, node, index),
-        Err(_) => unreachable!(),
-    }
-}
-
 /// Removes the node at the location, and returns it. Removing the root leaves `null`.
 ///
 /// Needs no allocation, and nothing undoes it.
-pub fn remove<D: NodeMut>(alloc: Global, doc: &mut D, location: Location) -> Value
-    requires { IsThere (path_of location) (D.contents doc.old) }
+pub fn remove<D: NodeMut>(alloc: Global, document: &mut D, location: Location) -> Value
+    requires { IsThere (path_of location) (D.contents document.old) }
     ensures { TakesAt (path_of location) (contents_of result)
-        (D.contents doc.old) (D.contents doc.new) }
+        (D.contents document.old) (D.contents document.new) }
 {
     match location.split_last() {
-        None => overwrite(doc, &Location::root(alloc), Value::Null),
+        None => overwrite(document, &Location::root(alloc), Value::Null),
         Some((parent, last)) => match last {
-            Part::Key(key) => remove_member_at(doc, &parent, key.as_str()),
-            Part::Index(index) => remove_element_at(doc, &parent, index),
+            Part::Key(key) => remove_member(document, &parent, key.as_str()),
+            Part::Index(index) => remove_element(document, &parent, index),
         },
     }
 }
@@ -220,14 +180,14 @@ pub fn remove<D: NodeMut>(alloc: Global, doc: &mut D, location: Location) -> Val
 ///
 /// [`Removal::Blank`] undoes it. The node is to be removed later, when nothing can fail any more.
 /// Needs no allocation.
-pub fn blank<D: NodeMut>(doc: &mut D, location: &Location) -> Option<Value>
+pub fn blank<D: NodeMut>(document: &mut D, location: &Location) -> Option<Value>
     ensures { MatchOption result
-        ((content_at (path_of location.now) (D.contents doc.old) ≡ None)
-        × (D.contents doc.new ≡ D.contents doc.old))
-        (λ value. At (path_of location.now) (Replaces (contents_of value) (contents_of Null))
-        (D.contents doc.old) (D.contents doc.new)) }
+        ((content_at (path_of location.now) (D.contents document.old) ≡ None)
+        × (D.contents document.new ≡ D.contents document.old))
+        (λ value. At (path_of location.now) (ReplacesContent (contents_of value) (contents_of Null))
+        (D.contents document.old) (D.contents document.new)) }
 {
-    match doc.node_mut(location) {
+    match document.node_mut(location) {
         Ok(node) => Some(mem::replace(node, Value::Null)),
         Err(_) => None,
     }
@@ -237,38 +197,40 @@ pub fn blank<D: NodeMut>(doc: &mut D, location: &Location) -> Option<Value>
 ///
 /// Needs no allocation. For a member it moves all members of the object, for an element all
 /// elements of the array.
-pub fn undo_removal<D: NodeMut>(alloc: Global, doc: &mut D, removal: Removal, value: Value)
-    requires { (c : Content) × IsRemoval removal (contents_of value) c (D.contents doc.old) }
-    ensures { (c : Content) → IsRemoval removal (contents_of value) c (D.contents doc.old)
-        → D.contents doc.new ≡ c }
+pub fn undo_removal<D: NodeMut>(alloc: Global, document: &mut D, removal: Removal, value: Value)
+    requires { (c : Content) × IsRemoval removal (contents_of value) c (D.contents document.old) }
+    ensures { (c : Content) → IsRemoval removal (contents_of value) c (D.contents document.old)
+        → D.contents document.new ≡ c }
 {
     match removal {
-        Removal::Root => drop(overwrite(doc, &Location::root(alloc), value)),
-        Removal::Blank { location } => undo_blank(doc, location, value),
-        Removal::BlankAt { path } => restore(doc, &path, value),
-        Removal::Member { object, key, room } => undo_member(doc, &object, key, value, room),
-        Removal::Element { array, index, room } => undo_element(doc, &array, index, value, room),
+        Removal::Root => drop(overwrite(document, &Location::root(alloc), value)),
+        Removal::Blank { location } => undo_blank(document, location, value),
+        Removal::BlankAt { path } => restore(document, &path, value),
+        Removal::Member { object, key, room } => undo_member(document, &object, key, value, room),
+        Removal::Element { array, index, room } => undo_element(
+            document, &array, index, value, room,
+        ),
     }
 }
 
 /// Puts back the node that was replaced by `null`.
-fn undo_blank<D: NodeMut>(doc: &mut D, location: Location, value: Value)
+fn undo_blank<D: NodeMut>(document: &mut D, location: Location, value: Value)
     requires { (c : Content) × At (path_of location)
-        (Replaces (contents_of value) (contents_of Null)) c (D.contents doc.old) }
+        (ReplacesContent (contents_of value) (contents_of Null)) c (D.contents document.old) }
     ensures { (c : Content) → At (path_of location)
-        (Replaces (contents_of value) (contents_of Null)) c (D.contents doc.old)
-        → D.contents doc.new ≡ c }
+        (ReplacesContent (contents_of value) (contents_of Null)) c (D.contents document.old)
+        → D.contents document.new ≡ c }
 {
     let replaced = Addition::Replaced {
         location,
         old: value,
     };
-    drop(undo_addition(doc, replaced));
+    drop(undo_addition(document, replaced));
 }
 
 /// Puts back the member that was removed from the object at the location.
 fn undo_member<D: NodeMut>(
-    doc: &mut D,
+    document: &mut D,
     object: &Location,
     key: String,
     value: Value,
@@ -276,33 +238,35 @@ fn undo_member<D: NodeMut>(
 )
     requires { (c : Content) × At (path_of object.now)
         (LeavesRoom (string_bytes key) (members_of room) (contents_of value))
-        c (D.contents doc.old) }
+        c (D.contents document.old) }
     ensures { (c : Content) → At (path_of object.now)
         (LeavesRoom (string_bytes key) (members_of room) (contents_of value))
-        c (D.contents doc.old) → D.contents doc.new ≡ c }
+        c (D.contents document.old) → D.contents document.new ≡ c }
 {
-    match doc.node_mut(object) {
-        Ok(node) => put_member_back(node, key, value, room),
-        Err(_) => unreachable!(),
+    let mut room = room;
+    drop(members::set(&mut room, key, value));
+    match object_mut(document, object) {
+        Some(members) => members::restore(members, room),
+        None => unreachable!(),
     }
 }
 
 /// Puts back the element that was removed from the array at the location.
 fn undo_element<D: NodeMut>(
-    doc: &mut D,
+    document: &mut D,
     array: &Location,
     index: usize,
     value: Value,
     room: Vec<Value>,
 )
     requires { (c : Content) × At (path_of array.now)
-        (LeavesElementRoom index room (contents_of value)) c (D.contents doc.old) }
+        (LeavesElementRoom index room (contents_of value)) c (D.contents document.old) }
     ensures { (c : Content) → At (path_of array.now)
-        (LeavesElementRoom index room (contents_of value)) c (D.contents doc.old)
-        → D.contents doc.new ≡ c }
+        (LeavesElementRoom index room (contents_of value)) c (D.contents document.old)
+        → D.contents document.new ≡ c }
 {
-    match doc.node_mut(array) {
-        Ok(node) => put_element_back(node, index, value, room),
-        Err(_) => unreachable!(),
+    match array_mut(document, array) {
+        Some(elements) => put_back(elements, index, value, room),
+        None => unreachable!(),
     }
 }

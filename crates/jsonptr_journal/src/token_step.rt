@@ -2,9 +2,9 @@
 ghost use Rattle.std.specs.Prelude.{◌≡◌, ℕ, List, [], ◌∷◌, Some, IfOk, IfErr, MatchOption};
 ghost use Rattle.std.specs.Borrow.{sem};
 ghost use Rattle.serde_json.specs.contracts.value.Value.{the_row};
-ghost use Rattle.jsonptr_grammar.specs.Text.{Text};
-ghost use Rattle.jsonptr_tree.specs.Content.{map_of};
-ghost use Rattle.jsonptr_tree.specs.Node.{an_array};
+ghost use Rattle.jsonptr.specs.Text.{Text};
+ghost use Rattle.jsonptr.specs.Content.{map_of};
+ghost use Rattle.jsonptr.specs.Node.{an_array};
 ghost use Rattle.jsonptr.specs.Pointer.{tokens};
 ghost use Rattle.jsonptr_document.specs.ChildRef.{IsIndexIn};
 ghost use Rattle.jsonptr_walk.specs.PrivateDescend.{Begins};
@@ -25,16 +25,16 @@ pub struct NoSuchToken {
 }
 
 /// Returns the token at the offset and the offset after it, or `None` after the last token.
-fn token_at<'p>(ptr: Pointer<'p>, offset: usize) -> Option<(Token<'p>, usize)>
+fn token_at<'p>(pointer: Pointer<'p>, offset: usize) -> Option<(Token<'p>, usize)>
     ensures { MatchOption result
-        ((front left : List Text) → Begins (tokens ptr.entry) offset front left → left ≡ [])
-        (λ r. IsTokenAt (tokens ptr.entry) offset r.0 r.1) }
+        ((front left : List Text) → Begins (tokens pointer.entry) offset front left → left ≡ [])
+        (λ r. IsTokenAt (tokens pointer.entry) offset r.0 r.1) }
 {
-    match ptr.split_at_offset(offset) {
+    match pointer.split_at_offset(offset) {
         None => None,
         Some((_front, rest)) => match rest.split_front() {
             None => None,
-            Some((token, after)) => Some((token, ptr.as_str().len() - after.as_str().len())),
+            Some((token, after)) => Some((token, pointer.as_str().len() - after.as_str().len())),
         },
     }
 }
@@ -57,15 +57,15 @@ fn element_in(at: &Value, token: &Token<'_>) -> Option<usize>
 /// The pointer has no `~`.
 pub fn token_step<'v>(
     at: &'v mut Value,
-    ptr: &PointerBuf,
+    pointer: &PointerBuf,
     offset: usize,
 ) -> Result<StepResult<'v, Value>, NoSuchToken>
-    ensures* writes_back { sem 𝓛 (LendsMove the_row (λ v. v) at.entry ptr.now offset result) }
+    ensures* writes_back { sem 𝓛 (LendsMove the_row (λ v. v) at.entry pointer.now offset result) }
     ensures value { IfOk result (λ r.
-        MovesTo ptr.now offset r.down at.old r.next r.node.now)
-        × IfErr result (λ e. (e.offset ≡ offset) × IsLost ptr.now offset at.old) }
+        MovesTo pointer.now offset r.down at.old r.next r.node.now)
+        × IfErr result (λ e. (e.offset ≡ offset) × IsLost pointer.now offset at.old) }
 {
-    let Some((token, next)) = token_at(ptr.as_ptr(), offset) else {
+    let Some((token, next)) = token_at(pointer.as_ptr(), offset) else {
         return Ok(StepResult {
             node: at,
             next: offset,

@@ -3,7 +3,7 @@ use Rattle.std.proofs.Common.{◌≡◌, ℕ, List, [], ◌∷◌, ◌++◌, Opt
 use Rattle.json.specs.Token.{Token}
 use Rattle.json.specs.Json.{after_end_array, read_key}
 use Rattle.json.proofs.Grammar.{closed_array, read_key_is}
-use Rattle.jsonptr_json_edits.specs.Alike.{Holds, HoldsIf, AreAlike}
+use Rattle.jsonptr_json_edits.specs.Alike.{HoldsTokens, HoldsIf, AreAlike}
 
 pub alike_begin : (old old2 : List Token) → AreAlike old old old2 old2
 alike_begin old old2 = ([], refl, refl)
@@ -41,7 +41,7 @@ regroup : (a b p c d : List ℕ) → a ++ ((b ++ (p ++ c)) ++ d) ≡ (a ++ b) ++
 regroup a b p c d =
     ap (λ l. a ++ l) (append_assoc b (p ++ c) d ∙ ap (λ l. b ++ l) (append_assoc p c d)) ∙ sym (append_assoc a b (p ++ (c ++ d)))
 
-pub holds_within : (given u t a b : List ℕ) → t ≡ a ++ (u ++ b) → Holds given u → Holds given t
+pub holds_within : (given u t a b : List ℕ) → t ≡ a ++ (u ++ b) → HoldsTokens given u → HoldsTokens given t
 holds_within given u t a b is h = record {
   before = a ++ h.before;
   part = h.part;

@@ -6,7 +6,7 @@ use Rattle.serde_json.proofs.Views.{get_member-put, get_member-put_other}
 use Rattle.jsonptr_json_search.specs.declared.selector.Selector.{Selector}
 use Rattle.jsonptr_json_search.specs.Search.{Choice, choice_of, element, follow}
 use Rattle.jsonptr_json_search.specs.PrivateReading.{with_items_before}
-use Rattle.jsonptr_json_edits.specs.Leading.{LeadsTo}
+use Rattle.jsonptr_json_edits.specs.Leading.{LeadsToText}
 use Rattle.jsonptr_json_edits.specs.PrivateEditing.{MayFollow}
 use Rattle.jsonptr_json_edits.specs.PrivateLeading.{LeadsIf, ChildLeads, ChildLeadsIf}
 
@@ -35,9 +35,9 @@ next_member false true named k name cs value ms d h v iff may =
     (d, ap (λ n. get_member k (put n d ms)) (iff.0 may) ∙ get_member-put k d ms, v)
 next_member false false named k name cs value ms d h v iff may = tt
 
-pub leads_by_item : (s : Selector) (i : ℕ) (ds : Items) (cs : List Choice) (value : List ℕ) → s.index ≡ Some i → ChildLeads (get_item i ds) cs value → LeadsTo (choice_of s ∷ cs) value (array ds)
+pub leads_by_item : (s : Selector) (i : ℕ) (ds : Items) (cs : List Choice) (value : List ℕ) → s.index ≡ Some i → ChildLeads (get_item i ds) cs value → LeadsToText (choice_of s ∷ cs) value (array ds)
 leads_by_item s i ds cs value is h =
     (h.2.0, h.2.1, ap (λ o. option_and_then (follow cs) (element o ds)) is ∙ ap (option_and_then (follow cs)) h.1 ∙ h.2.2)
 
-pub leads_by_member : (s : Selector) (ms : Members) (cs : List Choice) (value : List ℕ) → ChildLeads (get_member (string_bytes s.key) ms) cs value → LeadsTo (choice_of s ∷ cs) value (object ms)
+pub leads_by_member : (s : Selector) (ms : Members) (cs : List Choice) (value : List ℕ) → ChildLeads (get_member (string_bytes s.key) ms) cs value → LeadsToText (choice_of s ∷ cs) value (object ms)
 leads_by_member s ms cs value h = (h.2.0, h.2.1, ap (option_and_then (follow cs)) h.1 ∙ h.2.2)

@@ -4,8 +4,8 @@ use Rattle.json.specs.Lex.{tokens}
 use Rattle.json.specs.Token.{Token}
 use Rattle.jsonptr_json_edits.specs.Spacing.{IsTrimmed}
 
--- `Holds given t`: a part of the text `t` has the tokens of the text `given`, one for one. It has no white space around it
-pub record Holds (given t : List ℕ) : Type 0 where
+-- `HoldsTokens given t`: a part of the text `t` has the tokens of the text `given`, one for one. It has no white space around it
+pub record HoldsTokens (given t : List ℕ) : Type 0 where
   pub before : List ℕ
   pub part : List ℕ
   pub after : List ℕ
@@ -16,7 +16,7 @@ pub record Holds (given t : List ℕ) : Type 0 where
 -- `HoldsIf given t`: the same, if a text is given
 abbrev pub HoldsIf : Option (List ℕ) → List ℕ → Type 0
 HoldsIf None t = ⊤
-HoldsIf (Some given) t = Holds given t
+HoldsIf (Some given) t = HoldsTokens given t
 
 -- `AreAlike old new old2 new2`: the tokens `old` and `old2` begin with the same ones, and go on with `new` and `new2`
 abbrev pub AreAlike : List Token → List Token → List Token → List Token → Type 0

@@ -3,13 +3,13 @@ use Rattle.std.specs.Prelude.{◌≡◌, ℕ, suc, ◌<◌, ◌≤◌, ◌⊎◌
 use Rattle.serde_json.specs.Data.{Data, array, object, Items, Members}
 use Rattle.serde_json.specs.Find.{get_member, get_item}
 use Rattle.serde_json.specs.Read.{read}
-use Rattle.jsonptr_json_search.specs.Search.{Choice, choice_of, items_len}
+use Rattle.jsonptr_json_search.specs.Search.{Choice, choice_of, items_count}
 use Rattle.jsonptr_json_edits.specs.declared.edit.Edit.{Edit}
 use Rattle.jsonptr_json_edits.specs.declared.edit.Edit.TheVariants.{Replace, Add, Insert, Append}
 
 -- `OnlyItemDiffers i at at2 ds ds2`: the items `ds` and `ds2` differ only at the index `i`, where they have `at` and `at2`
 pub record OnlyItemDiffers (i : ℕ) (at at2 : Data) (ds ds2 : Items) : Type 0 where
-  pub same_len : items_len ds2 ≡ items_len ds
+  pub same_len : items_count ds2 ≡ items_count ds
   pub was : get_item i ds ≡ Some at
   pub is : get_item i ds2 ≡ Some at2
   pub others : (j : ℕ) → (j ≡ i → ⊥) → get_item j ds2 ≡ get_item j ds
@@ -22,8 +22,8 @@ pub record OnlyMemberDiffers (k : List ℕ) (at at2 : Data) (ms ms2 : Members) :
 
 -- `InsertsItem i e ds ds2`: `ds2` are the items `ds` with `e` inserted at the index `i`, which may be the one after the last
 pub record InsertsItem (i : ℕ) (e : Data) (ds ds2 : Items) : Type 0 where
-  pub one_more : items_len ds2 ≡ suc (items_len ds)
-  pub within : i ≤ items_len ds
+  pub one_more : items_count ds2 ≡ suc (items_count ds)
+  pub within : i ≤ items_count ds
   pub is : get_item i ds2 ≡ Some e
   pub before : (j : ℕ) → j < i → get_item j ds2 ≡ get_item j ds
   pub after : (j : ℕ) → i ≤ j → get_item (suc j) ds2 ≡ get_item j ds
@@ -34,7 +34,7 @@ pub record InsertsMember (k : List ℕ) (e : Data) (ms ms2 : Members) : Type 0 w
   pub is : get_member k ms2 ≡ Some e
   pub others : (l : List ℕ) → (l ≡ k → ⊥) → get_member l ms2 ≡ get_member l ms
 
--- `AddsElement c e d d2`, `AddsMember c e d d2`: `d2` is the array or the object `d` with one child more, `e`, which `c` selects
+-- `AddsElement c e d d2`, `AddsChosenMember c e d d2`: `d2` is the array or the object `d` with one child more, `e`, which `c` selects
 pub record AddsElement (c : Choice) (e d d2 : Data) : Type 0 where
   pub ds : Items
   pub ds2 : Items
@@ -44,14 +44,14 @@ pub record AddsElement (c : Choice) (e d d2 : Data) : Type 0 where
   pub selects : c.1 ≡ Some i
   pub inserts : InsertsItem i e ds ds2
 
-pub record AddsMember (c : Choice) (e d d2 : Data) : Type 0 where
+pub record AddsChosenMember (c : Choice) (e d d2 : Data) : Type 0 where
   pub ms : Members
   pub ms2 : Members
   pub old : d ≡ object ms
   pub new : d2 ≡ object ms2
   pub inserts : InsertsMember c.0 e ms ms2
 
--- `ChangesChild c R d d2`: `d` and `d2` differ only in the child that `c` selects, and `R` relates the two children
+-- `ChangesElement c R d d2`: the arrays `d` and `d2` differ only in the element that `c` selects, and `R` relates the two
 pub record ChangesElement (c : Choice) (R : Data → Data → Type 0) (d d2 : Data) : Type 0 where
   pub ds : Items
   pub ds2 : Items
@@ -90,13 +90,13 @@ pub record Appends (c : Choice) (e d d2 : Data) : Type 0 where
   pub old : d ≡ array ds
   pub new : d2 ≡ array ds2
   pub selects : c.1 ≡ Some i
-  pub last : i ≡ items_len ds
+  pub last : i ≡ items_count ds
   pub inserts : InsertsItem i e ds ds2
 
 -- `Makes edit d d2`: the edit makes `d2` of `d`
 abbrev pub Makes : Edit → Data → Data → Type 0
 Makes (Replace old new) d d2 = (read (string_bytes old) ≡ Some d) × (read (string_bytes new) ≡ Some d2)
-Makes (Add child) d d2 = (e : Data) × (read (string_bytes child.value) ≡ Some e) × AddsMember (choice_of child.selector) e d d2
+Makes (Add child) d d2 = (e : Data) × (read (string_bytes child.value) ≡ Some e) × AddsChosenMember (choice_of child.selector) e d d2
 Makes (Insert child) d d2 = (e : Data) × (read (string_bytes child.value) ≡ Some e) × AddsElement (choice_of child.selector) e d d2
 Makes (Append child) d d2 = (e : Data) × (read (string_bytes child.value) ≡ Some e) × Appends (choice_of child.selector) e d d2
 

@@ -5,7 +5,7 @@ use Rattle.json.specs.Json.{after_end_array, read_key}
 use Rattle.serde_json.specs.Data.{Data, Members}
 use Rattle.serde_json.specs.Find.{get_member}
 use Rattle.serde_json.specs.Read.{read}
-use Rattle.jsonptr_json_search.specs.Reading.{Reads}
+use Rattle.jsonptr_json_search.specs.Reading.{ReadsTokens}
 use Rattle.jsonptr_json_search.specs.Search.{Choice}
 use Rattle.jsonptr_json_edits.specs.declared.edit.Edit.{Edit}
 use Rattle.jsonptr_json_edits.specs.Editing.{OnlyMemberDiffers, InsertsMember, ChangesAt, Makes}
@@ -19,7 +19,7 @@ ChangesIf false cs edit d d2 = d2 ≡ d
 -- the tokens `old`
 abbrev pub AddsItemIf : Bool → List ℕ → ℕ → List Token → Data → List Token → Type 0
 AddsItemIf true value depth old d new = (read value ≡ Some d) × (new ≡ old)
-AddsItemIf false value depth old d new = (after_end_array old ≡ None) × Reads depth old d new × (length new < length old)
+AddsItemIf false value depth old d new = (after_end_array old ≡ None) × ReadsTokens depth old d new × (length new < length old)
 
 -- `AddsMemberIf wanted named value depth name old d new`: the same of a member with that name. If it is not wanted, but
 -- named, it is one that the new member replaces, and the tokens are not those of it
@@ -27,7 +27,7 @@ abbrev pub AddsMemberIf : Bool → Bool → List ℕ → ℕ → List ℕ → Li
 AddsMemberIf true named value depth name old d new = (read value ≡ Some d) × (new ≡ old)
 AddsMemberIf false true value depth name old d new = new ≡ old
 AddsMemberIf false false value depth name old d new =
-    (mid : List Token) × (read_key old ≡ Some (Some name, mid)) × Reads depth mid d new × (length new < length old)
+    (mid : List Token) × (read_key old ≡ Some (Some name, mid)) × ReadsTokens depth mid d new × (length new < length old)
 
 -- `ItemDiffers i R ds ds2`: the elements `ds` and `ds2` differ only at `i`, where `R` relates them
 pub record ItemDiffers (i : ℕ) (R : Data → Data → Type 0) (ds ds2 : List Data) : Type 0 where

@@ -2,15 +2,15 @@
 ghost use Rattle.std.specs.Prelude.{◌≡◌, ◌<◌, ◌≤◌, length, Some, OnOk, string_bytes};
 ghost use Rattle.serde_json.specs.Data.{Data, Items, Members};
 ghost use Rattle.serde_json.specs.Read.{read};
-ghost use Rattle.jsonptr_json_search.specs.Reading.{Reads, ReadsItems, ReadsMembers};
+ghost use Rattle.jsonptr_json_search.specs.Reading.{ReadsTokens, ReadsItems, ReadsMembers};
 ghost use Rattle.jsonptr_json_search.specs.Search.{choice_of};
-ghost use Rattle.jsonptr_json_edits.specs.Editing.{AddsElement, AddsMember, InsertsItem, InsertsMember};
+ghost use Rattle.jsonptr_json_edits.specs.Editing.{AddsElement, AddsChosenMember, InsertsItem, InsertsMember};
 ghost use Rattle.jsonptr_json_edits.specs.PrivateEditing.{AddsItemIf, AddsMemberIf};
 
-use crate::decide::{is_at, is_either, is_text, may_follow};
+use crate::decide::{Found, Wanted, is_at, is_either, is_text, may_follow};
 use crate::edit::{CheckError, Child};
-use crate::same::{same, same_key, same_text, same_token};
-use json::{Reader, Scratch, Token};
+use crate::same::{Readers, same, same_key, same_text, same_token};
+use json::{Scratch, Token};
 use jsonptr_json_search::skip::skip;
 
 /// Passes over the next value of both. The longer one is an object with one member more.
@@ -21,26 +21,27 @@ use jsonptr_json_search::skip::skip;
 /// allocation fails.
 pub fn add(
     scratch: &mut Scratch,
-    short: &mut Reader<'_>,
-    long: &mut Reader<'_>,
+    readers: &mut Readers<'_>,
     depth: usize,
     child: &Child,
 ) -> Result<(), CheckError>
-    ensures ok { OnOk result ((d d2 e : Data) × Reads depth short.old d short.new
-        × Reads depth long.old d2 long.new × (read (string_bytes child.now.value) ≡ Some e)
-        × AddsMember (choice_of child.now.selector) e d d2) }
-    ensures short_shorter { OnOk result (length short.new < length short.old) }
-    ensures long_shorter { OnOk result (length long.new < length long.old) }
+    ensures passed { OnOk result ((d d2 e : Data) × ReadsTokens depth readers.old.one d readers.new.one
+        × ReadsTokens depth readers.old.two d2 readers.new.two × (read (string_bytes child.now.value) ≡ Some e)
+        × AddsChosenMember (choice_of child.now.selector) e d d2) }
+    ensures one_shorter { OnOk result (length readers.new.one < length readers.old.one) }
+    ensures two_shorter { OnOk result (length readers.new.two < length readers.old.two) }
 {
-    let token = same_token(short, long)?;
+    let token = same_token(&mut readers.one, &mut readers.two)?;
     if depth == 0 {
         return Err(CheckError::Mismatch);
     }
     match token {
         Token::BeginObject => {
-            let key = child.selector.key.as_str();
-            let value = child.value.as_str();
-            add_member(scratch, short, long, depth - 1, key, child.position, value)?;
+            let member = Wanted {
+                key: child.selector.key.as_str(),
+                position: child.position,
+            };
+            add_member(scratch, readers, depth - 1, member, child.value.as_str())?;
             Ok(())
         }
         _ => Err(CheckError::Mismatch),
@@ -54,25 +55,24 @@ pub fn add(
 /// As [`add`].
 pub fn insert(
     scratch: &mut Scratch,
-    short: &mut Reader<'_>,
-    long: &mut Reader<'_>,
+    readers: &mut Readers<'_>,
     depth: usize,
     child: &Child,
 ) -> Result<(), CheckError>
-    ensures ok { OnOk result ((d d2 e : Data) × Reads depth short.old d short.new
-        × Reads depth long.old d2 long.new × (read (string_bytes child.now.value) ≡ Some e)
+    ensures passed { OnOk result ((d d2 e : Data) × ReadsTokens depth readers.old.one d readers.new.one
+        × ReadsTokens depth readers.old.two d2 readers.new.two × (read (string_bytes child.now.value) ≡ Some e)
         × AddsElement (choice_of child.now.selector) e d d2) }
-    ensures short_shorter { OnOk result (length short.new < length short.old) }
-    ensures long_shorter { OnOk result (length long.new < length long.old) }
+    ensures one_shorter { OnOk result (length readers.new.one < length readers.old.one) }
+    ensures two_shorter { OnOk result (length readers.new.two < length readers.old.two) }
 {
-    let token = same_token(short, long)?;
+    let token = same_token(&mut readers.one, &mut readers.two)?;
     if depth == 0 {
         return Err(CheckError::Mismatch);
     }
     match token {
         Token::BeginArray => {
             let index = child.selector.index.ok_or(CheckError::Mismatch)?;
-            add_item(scratch, short, long, depth - 1, index, child.value.as_str())?;
+            add_item(scratch, readers, depth - 1, index, child.value.as_str())?;
             Ok(())
         }
         _ => Err(CheckError::Mismatch),
@@ -86,30 +86,29 @@ pub fn insert(
 /// As [`add`].
 fn add_item(
     scratch: &mut Scratch,
-    short: &mut Reader<'_>,
-    long: &mut Reader<'_>,
+    readers: &mut Readers<'_>,
     depth: usize,
     index: usize,
     value: &str,
 ) -> Result<(), CheckError>
-    ensures ok { OnOk result ((ds ds2 : Items) × (e : Data)
-        × ReadsItems depth short.old ds short.new × ReadsItems depth long.old ds2 long.new
+    ensures passed { OnOk result ((ds ds2 : Items) × (e : Data)
+        × ReadsItems depth readers.old.one ds readers.new.one × ReadsItems depth readers.old.two ds2 readers.new.two
         × (read value.now ≡ Some e) × InsertsItem index e ds ds2) }
-    ensures short_shorter { OnOk result (length short.new < length short.old) }
-    ensures long_shorter { OnOk result (length long.new < length long.old) }
+    ensures one_shorter { OnOk result (length readers.new.one < length readers.old.one) }
+    ensures two_shorter { OnOk result (length readers.new.two < length readers.old.two) }
 {
     let mut count = 0;
     let mut is_done = false;
-    'items: while !long.take_end_array() {
+    'items: while !readers.two.take_end_array() {
         if count == usize::MAX {
             return Err(CheckError::Mismatch);
         }
         let wanted = is_at(count, index);
-        visit_item(scratch, short, long, depth, wanted, value)?;
+        visit_item(scratch, readers, depth, wanted, value)?;
         is_done = is_either(is_done, wanted);
         count += 1;
     }
-    if !short.take_end_array() || !is_done {
+    if !readers.one.take_end_array() || !is_done {
         return Err(CheckError::Mismatch);
     }
     Ok(())
@@ -123,24 +122,23 @@ fn add_item(
 /// As [`add`].
 fn visit_item(
     scratch: &mut Scratch,
-    short: &mut Reader<'_>,
-    long: &mut Reader<'_>,
+    readers: &mut Readers<'_>,
     depth: usize,
     wanted: bool,
     value: &str,
 ) -> Result<(), CheckError>
-    ensures ok { OnOk result ((d : Data) × Reads depth long.old d long.new
-        × AddsItemIf wanted value.now depth short.old d short.new) }
-    ensures long_shorter { OnOk result (length long.new < length long.old) }
-    ensures short_shorter { OnOk result (length short.new ≤ length short.old) }
+    ensures passed { OnOk result ((d : Data) × ReadsTokens depth readers.old.two d readers.new.two
+        × AddsItemIf wanted value.now depth readers.old.one d readers.new.one) }
+    ensures two_shorter { OnOk result (length readers.new.two < length readers.old.two) }
+    ensures one_shorter { OnOk result (length readers.new.one ≤ length readers.old.one) }
 {
     if wanted {
-        same_text(scratch, value, long, depth)
+        same_text(scratch, &mut readers.two, depth, value)
     } else {
-        if short.take_end_array() {
+        if readers.one.take_end_array() {
             return Err(CheckError::Mismatch);
         }
-        same(short, long, depth, depth)?;
+        same(&mut readers.one, &mut readers.two, depth, depth)?;
         Ok(())
     }
 }
@@ -154,32 +152,35 @@ fn visit_item(
 /// As [`add`].
 fn add_member(
     scratch: &mut Scratch,
-    short: &mut Reader<'_>,
-    long: &mut Reader<'_>,
+    readers: &mut Readers<'_>,
     depth: usize,
-    key: &str,
-    position: usize,
+    member: Wanted<'_>,
     value: &str,
 ) -> Result<(), CheckError>
-    ensures ok { OnOk result ((ms ms2 : Members) × (e : Data)
-        × ReadsMembers depth short.old ms short.new × ReadsMembers depth long.old ms2 long.new
-        × (read value.now ≡ Some e) × InsertsMember key.now e ms ms2) }
-    ensures short_shorter { OnOk result (length short.new < length short.old) }
-    ensures long_shorter { OnOk result (length long.new < length long.old) }
+    ensures passed { OnOk result ((ms ms2 : Members) × (e : Data)
+        × ReadsMembers depth readers.old.one ms readers.new.one × ReadsMembers depth readers.old.two ms2 readers.new.two
+        × (read value.now ≡ Some e) × InsertsMember member.entry.key.now e ms ms2) }
+    ensures one_shorter { OnOk result (length readers.new.one < length readers.old.one) }
+    ensures two_shorter { OnOk result (length readers.new.two < length readers.old.two) }
 {
     let mut count = 0usize;
     let mut is_done = false;
-    'members: while let Some(name) = long.next_key()? {
-        let wanted = is_at(count, position);
-        let named = is_text(name, key);
+    'members: while let Some(name) = readers.two.next_key()? {
+        let wanted = is_at(count, member.position);
+        let named = is_text(name, member.key);
         if !may_follow(is_done, wanted, named) {
             return Err(CheckError::Mismatch);
         }
-        visit_member(scratch, short, long, depth, name, wanted, named, value)?;
+        let found = Found {
+            name,
+            wanted,
+            named,
+        };
+        visit_member(scratch, readers, depth, found, value)?;
         is_done = is_either(is_done, wanted);
         count = count.saturating_add(1);
     }
-    if short.next_key()?.is_some() || !is_done {
+    if readers.one.next_key()?.is_some() || !is_done {
         return Err(CheckError::Mismatch);
     }
     Ok(())
@@ -193,27 +194,24 @@ fn add_member(
 /// As [`add`].
 fn visit_member(
     scratch: &mut Scratch,
-    short: &mut Reader<'_>,
-    long: &mut Reader<'_>,
+    readers: &mut Readers<'_>,
     depth: usize,
-    name: &str,
-    wanted: bool,
-    named: bool,
+    found: Found<'_>,
     value: &str,
 ) -> Result<(), CheckError>
-    ensures ok { OnOk result ((d : Data) × Reads depth long.old d long.new
-        × AddsMemberIf wanted named value.now depth name.now short.old d short.new) }
-    ensures long_shorter { OnOk result (length long.new < length long.old) }
-    ensures short_shorter { OnOk result (length short.new ≤ length short.old) }
+    ensures passed { OnOk result ((d : Data) × ReadsTokens depth readers.old.two d readers.new.two
+        × AddsMemberIf found.entry.wanted found.entry.named value.now depth found.entry.name.now readers.old.one d readers.new.one) }
+    ensures two_shorter { OnOk result (length readers.new.two < length readers.old.two) }
+    ensures one_shorter { OnOk result (length readers.new.one ≤ length readers.old.one) }
 {
-    if wanted {
-        same_text(scratch, value, long, depth)
-    } else if named {
-        skip(long, depth)?;
+    if found.wanted {
+        same_text(scratch, &mut readers.two, depth, value)
+    } else if found.named {
+        skip(&mut readers.two, depth)?;
         Ok(())
     } else {
-        same_key(short, name)?;
-        same(short, long, depth, depth)?;
+        same_key(&mut readers.one, found.name)?;
+        same(&mut readers.one, &mut readers.two, depth, depth)?;
         Ok(())
     }
 }

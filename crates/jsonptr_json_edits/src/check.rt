@@ -1,7 +1,7 @@
 //! Reading two texts side by side, which differ by one edit.
 ghost use Rattle.std.specs.Prelude.{◌<◌, length, OnOk, IfOk, IsTrue};
 ghost use Rattle.serde_json.specs.Data.{Data, Items, Members};
-ghost use Rattle.jsonptr_json_search.specs.Reading.{Reads, ReadsItems, ReadsMembers};
+ghost use Rattle.jsonptr_json_search.specs.Reading.{ReadsTokens, ReadsItems, ReadsMembers};
 ghost use Rattle.jsonptr_json_search.specs.Search.{choices};
 ghost use Rattle.jsonptr_json_edits.specs.Editing.{OnlyItemDiffers, OnlyMemberDiffers, ChangesAt, Makes, IsEdited};
 ghost use Rattle.jsonptr_json_edits.specs.PrivateEditing.{ChangesIf};
@@ -9,56 +9,32 @@ ghost use Rattle.jsonptr_json_edits.specs.PrivateEditing.{ChangesIf};
 use crate::add::{add, insert};
 use crate::append::append;
 use crate::buffers::Buffers;
-use crate::decide::{is_at, is_either, is_text, may_follow};
-use crate::edit::{CheckError, Edit};
-use crate::same::{MAX_DEPTH, same, same_key, same_text, same_token};
+use crate::decide::{Wanted, is_at, is_either, is_text, may_follow};
+use crate::edit::{CheckError, Edit, EditAt};
+use crate::same::{Readers, same, same_key, same_text, same_token};
 use json::{Reader, Scratch, Token};
-use jsonptr_json_search::selector::Selector;
+use jsonptr_value::MAX_DEPTH;
 use std::alloc::{AllocError, Global};
 
 /// Returns whether the new text reads as the old one with the edit of the value that the selectors
 /// lead to.
 ///
-/// Reads both texts once, side by side. `positions` has the position, among all children, of each
-/// child on the way. Of members with the same key it must be that of the last one. With other
-/// positions the result is `false`.
+/// Reads both texts once, side by side. With other positions than [`EditAt`] asks for the result is
+/// `false`.
 ///
 /// # Errors
 ///
 /// [`AllocError`] if there is no memory for the unescaped strings of a text.
 pub fn is_edited(
-    alloc: Global,
-    old: &str,
-    new: &str,
-    selectors: &[Selector],
-    positions: &[usize],
-    edit: &Edit,
-) -> Result<bool, AllocError>
-    ensures { IfOk result (λ b. IsTrue b
-        → IsEdited old.now new.now (choices selectors.now) edit.now) }
-{
-    let mut buffers = Buffers::new(alloc);
-    is_edited_with(&mut buffers, old, new, selectors, positions, edit)
-}
-
-/// Returns whether the new text reads as the old one with the edit, as [`is_edited`] does, in buffers
-/// of the caller.
-///
-/// # Errors
-///
-/// As [`is_edited`].
-pub fn is_edited_with(
     buffers: &mut Buffers,
     old: &str,
     new: &str,
-    selectors: &[Selector],
-    positions: &[usize],
-    edit: &Edit,
+    at: EditAt<'_>,
 ) -> Result<bool, AllocError>
     ensures { IfOk result (λ b. IsTrue b
-        → IsEdited old.now new.now (choices selectors.now) edit.now) }
+        → IsEdited old.now new.now (choices at.entry.selectors.now) at.entry.edit.now) }
 {
-    match check(buffers, old, new, selectors, positions, edit) {
+    match check(buffers, old, new, at) {
         Ok(()) => Ok(true),
         Err(CheckError::Mismatch) => Ok(false),
         Err(CheckError::Memory) => Err(AllocError),
@@ -70,28 +46,14 @@ pub fn is_edited_with(
 /// # Errors
 ///
 /// [`CheckError::Mismatch`] if they do not, and [`CheckError::Memory`] if an allocation fails.
-fn check(
-    buffers: &mut Buffers,
-    old: &str,
-    new: &str,
-    selectors: &[Selector],
-    positions: &[usize],
-    edit: &Edit,
-) -> Result<(), CheckError>
-    ensures { OnOk result (IsEdited old.now new.now (choices selectors.now) edit.now) }
+fn check(buffers: &mut Buffers, old: &str, new: &str, at: EditAt<'_>) -> Result<(), CheckError>
+    ensures { OnOk result (IsEdited old.now new.now (choices at.entry.selectors.now) at.entry.edit.now) }
 {
-    let mut old_reader = Reader::new(old, &mut buffers.old)?;
-    let mut new_reader = Reader::new(new, &mut buffers.new)?;
-    change(
-        &mut buffers.value,
-        &mut old_reader,
-        &mut new_reader,
-        MAX_DEPTH,
-        selectors,
-        positions,
-        edit,
-    )?;
-    if old_reader.next().is_some() || new_reader.next().is_some() {
+    let one = Reader::new(old, &mut buffers.old)?;
+    let two = Reader::new(new, &mut buffers.new)?;
+    let mut readers = Readers { one, two };
+    change(&mut buffers.value, &mut readers, MAX_DEPTH, at)?;
+    if readers.one.next().is_some() || readers.two.next().is_some() {
         return Err(CheckError::Mismatch);
     }
     Ok(())
@@ -105,48 +67,44 @@ fn check(
 #[cycle(change)]
 fn change(
     scratch: &mut Scratch,
-    old: &mut Reader<'_>,
-    new: &mut Reader<'_>,
+    readers: &mut Readers<'_>,
     depth: usize,
-    selectors: &[Selector],
-    positions: &[usize],
-    edit: &Edit,
+    at: EditAt<'_>,
 ) -> Result<(), CheckError>
-    ensures ok { OnOk result ((d d2 : Data) × Reads depth old.old d old.new
-        × Reads depth new.old d2 new.new
-        × ChangesAt (choices selectors.now) (Makes edit.now) d d2) }
-    ensures old_shorter { OnOk result (length old.new < length old.old) }
-    ensures new_shorter { OnOk result (length new.new < length new.old) }
+    ensures passed { OnOk result ((d d2 : Data) × ReadsTokens depth readers.old.one d readers.new.one
+        × ReadsTokens depth readers.old.two d2 readers.new.two
+        × ChangesAt (choices at.entry.selectors.now) (Makes at.entry.edit.now) d d2) }
+    ensures one_shorter { OnOk result (length readers.new.one < length readers.old.one) }
+    ensures two_shorter { OnOk result (length readers.new.two < length readers.old.two) }
 {
-    let Some((selector, rest)) = selectors.split_first() else {
-        return make(scratch, old, new, depth, edit);
+    let Some((selector, selectors)) = at.selectors.split_first() else {
+        return make(scratch, readers, depth, at.edit);
     };
-    let Some((position, further)) = positions.split_first() else {
+    let Some((position, positions)) = at.positions.split_first() else {
         return Err(CheckError::Mismatch);
     };
-    let token = same_token(old, new)?;
+    let rest = EditAt {
+        selectors,
+        positions,
+        edit: at.edit,
+    };
+    let token = same_token(&mut readers.one, &mut readers.two)?;
     if depth == 0 {
         return Err(CheckError::Mismatch);
     }
     match token {
         Token::BeginArray => {
             let index = selector.index.ok_or(CheckError::Mismatch)?;
-            change_item(scratch, old, new, depth - 1, index, rest, further, edit)?;
+            change_item(scratch, readers, depth - 1, index, rest)?;
             Ok(())
         }
         Token::BeginObject => {
             let key = selector.key.as_str();
-            change_member(
-                scratch,
-                old,
-                new,
-                depth - 1,
+            let member = Wanted {
                 key,
-                *position,
-                rest,
-                further,
-                edit,
-            )?;
+                position: *position,
+            };
+            change_member(scratch, readers, depth - 1, member, rest)?;
             Ok(())
         }
         _ => Err(CheckError::Mismatch),
@@ -160,28 +118,27 @@ fn change(
 /// As [`check`].
 fn make(
     scratch: &mut Scratch,
-    old: &mut Reader<'_>,
-    new: &mut Reader<'_>,
+    readers: &mut Readers<'_>,
     depth: usize,
     edit: &Edit,
 ) -> Result<(), CheckError>
-    ensures ok { OnOk result ((d d2 : Data) × Reads depth old.old d old.new
-        × Reads depth new.old d2 new.new × Makes edit.now d d2) }
-    ensures old_shorter { OnOk result (length old.new < length old.old) }
-    ensures new_shorter { OnOk result (length new.new < length new.old) }
+    ensures passed { OnOk result ((d d2 : Data) × ReadsTokens depth readers.old.one d readers.new.one
+        × ReadsTokens depth readers.old.two d2 readers.new.two × Makes edit.now d d2) }
+    ensures one_shorter { OnOk result (length readers.new.one < length readers.old.one) }
+    ensures two_shorter { OnOk result (length readers.new.two < length readers.old.two) }
 {
     match edit {
         Edit::Replace {
             old: before,
             new: after,
         } => {
-            same_text(scratch, before.as_str(), old, depth)?;
-            same_text(scratch, after.as_str(), new, depth)?;
+            same_text(scratch, &mut readers.one, depth, before.as_str())?;
+            same_text(scratch, &mut readers.two, depth, after.as_str())?;
             Ok(())
         }
-        Edit::Add(child) => add(scratch, old, new, depth, child),
-        Edit::Insert(child) => insert(scratch, old, new, depth, child),
-        Edit::Append(child) => append(scratch, old, new, depth, child),
+        Edit::Add(child) => add(scratch, readers, depth, child),
+        Edit::Insert(child) => insert(scratch, readers, depth, child),
+        Edit::Append(child) => append(scratch, readers, depth, child),
     }
 }
 
@@ -194,33 +151,31 @@ fn make(
 #[cycle(change)]
 fn change_item(
     scratch: &mut Scratch,
-    old: &mut Reader<'_>,
-    new: &mut Reader<'_>,
+    readers: &mut Readers<'_>,
     depth: usize,
     index: usize,
-    selectors: &[Selector],
-    positions: &[usize],
-    edit: &Edit,
+    at: EditAt<'_>,
 ) -> Result<(), CheckError>
-    ensures ok { OnOk result ((ds ds2 : Items) × (at at2 : Data)
-        × ReadsItems depth old.old ds old.new × ReadsItems depth new.old ds2 new.new
-        × OnlyItemDiffers index at at2 ds ds2
-        × ChangesAt (choices selectors.now) (Makes edit.now) at at2) }
-    ensures old_shorter { OnOk result (length old.new < length old.old) }
-    ensures new_shorter { OnOk result (length new.new < length new.old) }
+    ensures passed { OnOk result ((ds ds2 : Items) × (e e2 : Data)
+        × ReadsItems depth readers.old.one ds readers.new.one
+        × ReadsItems depth readers.old.two ds2 readers.new.two
+        × OnlyItemDiffers index e e2 ds ds2
+        × ChangesAt (choices at.entry.selectors.now) (Makes at.entry.edit.now) e e2) }
+    ensures one_shorter { OnOk result (length readers.new.one < length readers.old.one) }
+    ensures two_shorter { OnOk result (length readers.new.two < length readers.old.two) }
 {
     let mut count = 0;
     let mut is_done = false;
-    'items: while !old.take_end_array() {
-        if new.take_end_array() || count == usize::MAX {
+    'items: while !readers.one.take_end_array() {
+        if readers.two.take_end_array() || count == usize::MAX {
             return Err(CheckError::Mismatch);
         }
         let wanted = is_at(count, index);
-        visit(scratch, old, new, depth, wanted, selectors, positions, edit)?;
+        visit(scratch, readers, depth, wanted, at)?;
         is_done = is_either(is_done, wanted);
         count += 1;
     }
-    if !new.take_end_array() || !is_done {
+    if !readers.two.take_end_array() || !is_done {
         return Err(CheckError::Mismatch);
     }
     Ok(())
@@ -235,36 +190,33 @@ fn change_item(
 #[cycle(change)]
 fn change_member(
     scratch: &mut Scratch,
-    old: &mut Reader<'_>,
-    new: &mut Reader<'_>,
+    readers: &mut Readers<'_>,
     depth: usize,
-    key: &str,
-    position: usize,
-    selectors: &[Selector],
-    positions: &[usize],
-    edit: &Edit,
+    member: Wanted<'_>,
+    at: EditAt<'_>,
 ) -> Result<(), CheckError>
-    ensures ok { OnOk result ((ms ms2 : Members) × (at at2 : Data)
-        × ReadsMembers depth old.old ms old.new × ReadsMembers depth new.old ms2 new.new
-        × OnlyMemberDiffers key.now at at2 ms ms2
-        × ChangesAt (choices selectors.now) (Makes edit.now) at at2) }
-    ensures old_shorter { OnOk result (length old.new < length old.old) }
-    ensures new_shorter { OnOk result (length new.new < length new.old) }
+    ensures passed { OnOk result ((ms ms2 : Members) × (e e2 : Data)
+        × ReadsMembers depth readers.old.one ms readers.new.one
+        × ReadsMembers depth readers.old.two ms2 readers.new.two
+        × OnlyMemberDiffers member.entry.key.now e e2 ms ms2
+        × ChangesAt (choices at.entry.selectors.now) (Makes at.entry.edit.now) e e2) }
+    ensures one_shorter { OnOk result (length readers.new.one < length readers.old.one) }
+    ensures two_shorter { OnOk result (length readers.new.two < length readers.old.two) }
 {
     let mut count = 0usize;
     let mut is_done = false;
-    'members: while let Some(name) = old.next_key()? {
-        same_key(new, name)?;
-        let wanted = is_at(count, position);
-        let named = is_text(name, key);
+    'members: while let Some(name) = readers.one.next_key()? {
+        same_key(&mut readers.two, name)?;
+        let wanted = is_at(count, member.position);
+        let named = is_text(name, member.key);
         if !may_follow(is_done, wanted, named) {
             return Err(CheckError::Mismatch);
         }
-        visit(scratch, old, new, depth, wanted, selectors, positions, edit)?;
+        visit(scratch, readers, depth, wanted, at)?;
         is_done = is_either(is_done, wanted);
         count = count.saturating_add(1);
     }
-    if new.next_key()?.is_some() || !is_done {
+    if readers.two.next_key()?.is_some() || !is_done {
         return Err(CheckError::Mismatch);
     }
     Ok(())
@@ -279,24 +231,21 @@ fn change_member(
 #[cycle(change)]
 fn visit(
     scratch: &mut Scratch,
-    old: &mut Reader<'_>,
-    new: &mut Reader<'_>,
+    readers: &mut Readers<'_>,
     depth: usize,
     wanted: bool,
-    selectors: &[Selector],
-    positions: &[usize],
-    edit: &Edit,
+    at: EditAt<'_>,
 ) -> Result<(), CheckError>
-    ensures ok { OnOk result ((d d2 : Data) × Reads depth old.old d old.new
-        × Reads depth new.old d2 new.new
-        × ChangesIf wanted (choices selectors.now) edit.now d d2) }
-    ensures old_shorter { OnOk result (length old.new < length old.old) }
-    ensures new_shorter { OnOk result (length new.new < length new.old) }
+    ensures passed { OnOk result ((d d2 : Data) × ReadsTokens depth readers.old.one d readers.new.one
+        × ReadsTokens depth readers.old.two d2 readers.new.two
+        × ChangesIf wanted (choices at.entry.selectors.now) at.entry.edit.now d d2) }
+    ensures one_shorter { OnOk result (length readers.new.one < length readers.old.one) }
+    ensures two_shorter { OnOk result (length readers.new.two < length readers.old.two) }
 {
     if wanted {
-        change(scratch, old, new, depth, selectors, positions, edit)
+        change(scratch, readers, depth, at)
     } else {
-        same(old, new, depth, depth)?;
+        same(&mut readers.one, &mut readers.two, depth, depth)?;
         Ok(())
     }
 }

@@ -3,7 +3,7 @@ ghost use Rattle.std.specs.Prelude.{◌≡◌, Some, OnOk, IfOk, IsTrue, option_
 ghost use Rattle.json.specs.Lex.{tokens};
 ghost use Rattle.serde_json.specs.Data.{Data, string};
 ghost use Rattle.serde_json.specs.Read.{read};
-ghost use Rattle.jsonptr_json_edits.specs.Alike.{Holds, HoldsIf};
+ghost use Rattle.jsonptr_json_edits.specs.Alike.{HoldsTokens, HoldsIf};
 ghost use Rattle.jsonptr_json_edits.specs.Child.{IsValueText, IsMemberText, HaveOneComma, IsOneChild, IsReadAs};
 
 use crate::buffers::Buffers;
@@ -11,10 +11,11 @@ use crate::cut::cut_at;
 use crate::decide::is_text;
 use crate::edit::CheckError;
 use crate::locate::{Extent, trimmed_end};
-use crate::same::{MAX_DEPTH, same_text};
+use crate::same::same_text;
 use crate::spacing::{is_blank, is_colon, is_comma, is_trimmed};
 use json::{Reader, Scratch, Token};
 use jsonptr_json_search::skip::skip;
+use jsonptr_value::MAX_DEPTH;
 use std::alloc::AllocError;
 
 /// Returns whether the text is that of one child, with at most one comma and white space beside it.
@@ -143,7 +144,7 @@ fn is_some_value(scratch: &mut Scratch, text: &str) -> Result<bool, AllocError>
 pub fn is_value_of(buffers: &mut Buffers, text: &str, other: &str) -> Result<bool, AllocError>
     ensures value { IfOk result (λ b. IsTrue b → (e : Data) × (read other.now ≡ Some e)
         × IsValueText e text.now) }
-    ensures holds { IfOk result (λ b. IsTrue b → Holds other.now text.now) }
+    ensures holds { IfOk result (λ b. IsTrue b → HoldsTokens other.now text.now) }
     ensures same { IfOk result (λ b. IsTrue b → tokens text.now ≡ tokens other.now) }
 {
     match pass_both(buffers, text, other) {
@@ -180,7 +181,7 @@ fn pass_both(buffers: &mut Buffers, text: &str, other: &str) -> Result<(), Check
     ensures same { OnOk result (tokens text.now ≡ tokens other.now) }
 {
     let mut reader = Reader::new(text, &mut buffers.old)?;
-    same_text(&mut buffers.value, other, &mut reader, MAX_DEPTH)?;
+    same_text(&mut buffers.value, &mut reader, MAX_DEPTH, other)?;
     if reader.next().is_some() {
         return Err(CheckError::Mismatch);
     }

@@ -2,6 +2,26 @@
 ghost use Rattle.std.specs.Prelude.{◌≡◌, ◌↔◌, ◌||◌, IsTrue};
 ghost use Rattle.jsonptr_json_edits.specs.PrivateEditing.{MayFollow};
 
+/// The member that a selector leads to.
+#[derive(Clone, Copy, Debug)]
+pub struct Wanted<'a> {
+    /// Its key.
+    pub key: &'a str,
+    /// Its position among all members.
+    pub position: usize,
+}
+
+/// A member that was found.
+#[derive(Clone, Copy, Debug)]
+pub struct Found<'a> {
+    /// Its name.
+    pub name: &'a str,
+    /// Whether it is the wanted one.
+    pub wanted: bool,
+    /// Whether it has the key of the wanted one.
+    pub named: bool,
+}
+
 /// Returns whether the count is this index.
 pub fn is_at(count: usize, index: usize) -> bool
     ensures { IsTrue result ↔ (count ≡ index) }

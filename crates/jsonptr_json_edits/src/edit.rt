@@ -33,6 +33,18 @@ pub struct Child {
     pub value: String,
 }
 
+/// An edit, and the way to the value that it changes.
+#[derive(Clone, Copy, Debug)]
+pub struct EditAt<'a> {
+    /// The selectors that lead to the value.
+    pub selectors: &'a [Selector],
+    /// The position, among all children, of each child on the way. Of members with the same key it
+    /// is that of the last one.
+    pub positions: &'a [usize],
+    /// The edit.
+    pub edit: &'a Edit,
+}
+
 /// Why two texts are not known to differ by an edit.
 #[derive(Clone, Copy, Debug, Drop, PartialEq, Eq)]
 pub enum CheckError {

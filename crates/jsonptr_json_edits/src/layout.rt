@@ -97,10 +97,10 @@ pub fn replacement(
     alloc: Global,
     text: &str,
     place: &Place,
-    value: &ValueText,
+    printed: &ValueText,
 ) -> Result<String, AllocError> {
-    if !value.lines.as_str().contains('\n') {
-        return value.lines.clone();
+    if !printed.lines.as_str().contains('\n') {
+        return printed.lines.clone();
     }
     let span = place.value;
     let old = slice(text, span.from, span.to);
@@ -114,7 +114,7 @@ pub fn replacement(
             is_deeper: false,
             unit: unit_of(text, container),
         };
-        return spread(alloc, value, at);
+        return spread(alloc, at, printed);
     }
     let around = slice(text, place.container.from, place.container.to);
     let line_flat = Flat::before(line).or(Flat::of(text));
@@ -122,7 +122,7 @@ pub fn replacement(
         flat: Flat::of(old).or(Flat::of(around).inside(line_flat)),
         is_over_lines: line.starts_with('\n'),
     };
-    on_line(alloc, value, at)
+    on_line(alloc, at, printed)
 }
 
 /// Returns the piece that adds a child to the array or object, before the child at the position or
@@ -136,13 +136,13 @@ pub fn addition(
     container: Container<'_>,
     position: usize,
     key: Option<&str>,
-    value: &ValueText,
+    printed: &ValueText,
 ) -> Result<Piece, AllocError> {
     let Some(last) = container.children.last() else {
-        return first_child(alloc, container, key, value);
+        return first_child(alloc, container, key, printed);
     };
     let gap = container.gap(position);
-    let value = container.value_after(alloc, gap, position, value)?;
+    let value = container.value_after(alloc, position, gap, printed)?;
     let body = body_of(alloc, key, container.colon(last), value.as_str())?;
     match container.children.get(position) {
         Some(next) => framed(
@@ -217,22 +217,22 @@ impl<'t> Container<'t> {
     fn value_after(
         &self,
         alloc: Global,
-        gap: &str,
         position: usize,
-        value: &ValueText,
+        gap: &str,
+        printed: &ValueText,
     ) -> Result<String, AllocError> {
-        if !value.lines.as_str().contains('\n') {
-            return value.lines.clone();
+        if !printed.lines.as_str().contains('\n') {
+            return printed.lines.clone();
         }
         if !gap.contains('\n') {
-            return on_line(alloc, value, self.line());
+            return on_line(alloc, self.line(), printed);
         }
-        if let Some(row) = self.like_row(position, value) {
+        if let Some(row) = self.like_row(position, printed) {
             let at = Line {
                 flat: Flat::of(row).or(self.line().flat),
                 is_over_lines: true,
             };
-            return on_line(alloc, value, at);
+            return on_line(alloc, at, printed);
         }
         let at = Lines {
             newline: if gap.contains("\r\n") { "\r\n" } else { "\n" },
@@ -240,18 +240,18 @@ impl<'t> Container<'t> {
             is_deeper: false,
             unit: unit_of(self.text, self.span),
         };
-        spread(alloc, value, at)
+        spread(alloc, at, printed)
     }
 
     /// Returns the child beside the position, if it is an array or an object with children on one line,
     /// as the value is one.
-    fn like_row(&self, position: usize, value: &ValueText) -> Option<&'t str> {
+    fn like_row(&self, position: usize, printed: &ValueText) -> Option<&'t str> {
         let beside = match position.checked_sub(1) {
             Some(before) => self.children.get(before)?,
             None => self.children.first()?,
         };
         let row = slice(self.text, beside.value, beside.child.to);
-        let is_like = row.as_bytes().first() == value.flat.as_str().as_bytes().first();
+        let is_like = row.as_bytes().first() == printed.flat.as_str().as_bytes().first();
         if is_like && is_filled(row) && !row.contains('\n') {
             Some(row)
         } else {
@@ -293,12 +293,12 @@ fn first_child(
     alloc: Global,
     container: Container<'_>,
     key: Option<&str>,
-    value: &ValueText,
+    printed: &ValueText,
 ) -> Result<Piece, AllocError> {
     if container.fills_lines() {
-        first_on_line(alloc, container, key, value)
+        first_on_line(alloc, container, key, printed)
     } else {
-        only_on_line(alloc, container, key, value)
+        only_on_line(alloc, container, key, printed)
     }
 }
 
@@ -308,7 +308,7 @@ fn first_on_line(
     alloc: Global,
     container: Container<'_>,
     key: Option<&str>,
-    value: &ValueText,
+    printed: &ValueText,
 ) -> Result<Piece, AllocError> {
     let line = line_before(container.text, container.span.from);
     let at = Lines {
@@ -317,7 +317,7 @@ fn first_on_line(
         is_deeper: true,
         unit: unit_of(container.text, container.span),
     };
-    let text = spread(alloc, value, at)?;
+    let text = spread(alloc, at, printed)?;
     let colon = Flat::before(line).around_colon(true);
     let body = body_of(alloc, key, colon, text.as_str())?;
     let mut lead = String::from_str(alloc, at.newline)?;
@@ -336,14 +336,14 @@ fn only_on_line(
     alloc: Global,
     container: Container<'_>,
     key: Option<&str>,
-    value: &ValueText,
+    printed: &ValueText,
 ) -> Result<Piece, AllocError> {
     let span = inside(container.span);
     let mut line = container.line();
     if let Some(row) = container.row_above() {
         line.flat = Flat::of(row).or(line.flat);
     }
-    let text = on_line(alloc, value, line)?;
+    let text = on_line(alloc, line, printed)?;
     let colon = line.flat.around_colon(line.is_over_lines);
     let body = body_of(alloc, key, colon, text.as_str())?;
     let inner = slice(container.text, span.from, span.to);

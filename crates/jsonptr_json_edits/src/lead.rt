@@ -2,18 +2,19 @@
 ghost use Rattle.std.specs.Prelude.{◌<◌, length, OnOk, IfOk, IsTrue};
 ghost use Rattle.serde_json.specs.Data.{Data, Items, Members};
 ghost use Rattle.serde_json.specs.Find.{get_member, get_item};
-ghost use Rattle.jsonptr_json_search.specs.Reading.{Reads, ReadsItems, ReadsMembers};
+ghost use Rattle.jsonptr_json_search.specs.Reading.{ReadsTokens, ReadsItems, ReadsMembers};
 ghost use Rattle.jsonptr_json_search.specs.Search.{choices};
-ghost use Rattle.jsonptr_json_edits.specs.Leading.{LeadsTo, LeadsInText};
+ghost use Rattle.jsonptr_json_edits.specs.Leading.{LeadsToText, LeadsInText};
 ghost use Rattle.jsonptr_json_edits.specs.PrivateLeading.{LeadsIf, ChildLeads};
 
 use crate::buffers::Buffers;
-use crate::decide::{is_at, is_either, is_text, may_follow};
+use crate::decide::{Wanted, is_at, is_either, is_text, may_follow};
 use crate::edit::CheckError;
-use crate::same::{MAX_DEPTH, same_text};
+use crate::same::same_text;
 use json::{Reader, Scratch, Token};
 use jsonptr_json_search::selector::Selector;
 use jsonptr_json_search::skip::skip;
+use jsonptr_value::MAX_DEPTH;
 use std::alloc::AllocError;
 
 /// A value, and the way to it.
@@ -26,15 +27,6 @@ pub struct Target<'a> {
     pub positions: &'a [usize],
     /// A JSON text of the value.
     pub value: &'a str,
-}
-
-/// The member that a selector leads to.
-#[derive(Clone, Copy, Debug)]
-struct Wanted<'a> {
-    /// Its key.
-    key: &'a str,
-    /// Its position among all members.
-    position: usize,
 }
 
 /// Returns whether the selectors of the target lead to its value in the text.
@@ -84,12 +76,12 @@ fn pass(
     depth: usize,
     target: Target<'_>,
 ) -> Result<(), CheckError>
-    ensures ok { OnOk result ((d : Data) × Reads depth reader.old d reader.new
-        × LeadsTo (choices target.entry.selectors.now) target.entry.value.now d) }
+    ensures passed { OnOk result ((d : Data) × ReadsTokens depth reader.old d reader.new
+        × LeadsToText (choices target.entry.selectors.now) target.entry.value.now d) }
     ensures shorter { OnOk result (length reader.new < length reader.old) }
 {
     let Some((selector, selectors)) = target.selectors.split_first() else {
-        same_text(scratch, target.value, reader, depth)?;
+        same_text(scratch, reader, depth, target.value)?;
         return Ok(());
     };
     let Some((position, positions)) = target.positions.split_first() else {
@@ -138,7 +130,7 @@ fn pass_item(
     index: usize,
     target: Target<'_>,
 ) -> Result<(), CheckError>
-    ensures ok { OnOk result ((ds : Items) × ReadsItems depth reader.old ds reader.new
+    ensures passed { OnOk result ((ds : Items) × ReadsItems depth reader.old ds reader.new
         × ChildLeads (get_item index ds) (choices target.entry.selectors.now) target.entry.value.now) }
     ensures shorter { OnOk result (length reader.new < length reader.old) }
 {
@@ -173,7 +165,7 @@ fn pass_member(
     member: Wanted<'_>,
     target: Target<'_>,
 ) -> Result<(), CheckError>
-    ensures ok { OnOk result ((ms : Members) × ReadsMembers depth reader.old ms reader.new
+    ensures passed { OnOk result ((ms : Members) × ReadsMembers depth reader.old ms reader.new
         × ChildLeads (get_member member.entry.key.now ms) (choices target.entry.selectors.now)
         target.entry.value.now) }
     ensures shorter { OnOk result (length reader.new < length reader.old) }
@@ -209,7 +201,7 @@ fn visit(
     wanted: bool,
     target: Target<'_>,
 ) -> Result<(), CheckError>
-    ensures ok { OnOk result ((d : Data) × Reads depth reader.old d reader.new
+    ensures passed { OnOk result ((d : Data) × ReadsTokens depth reader.old d reader.new
         × LeadsIf wanted (choices target.entry.selectors.now) target.entry.value.now d) }
     ensures shorter { OnOk result (length reader.new < length reader.old) }
 {

@@ -3,11 +3,11 @@
 ghost use Rattle.std.specs.Prelude.{◌<◌, length, OnOk};
 
 use crate::edit::CheckError;
-use crate::same::MAX_DEPTH;
 use crate::spacing::is_space;
 use json::{Reader, Scratch, Token};
 use jsonptr_json_search::scalar::is_scalar;
 use jsonptr_json_search::selector::Selector;
+use jsonptr_value::MAX_DEPTH;
 use std::alloc::{AllocError, Global};
 
 /// Where something begins and ends in a text, in bytes.
@@ -55,101 +55,87 @@ pub fn locate(
     text: &str,
     selectors: &[Selector],
 ) -> Result<Place, CheckError> {
-    let mut reader = Reader::new(text, scratch)?;
     let all = Span { from: 0, to: 0 };
-    let mut place = Place {
-        value: all,
-        container: all,
-        followed: 0,
-        positions: Vec::new(alloc),
-        same: Vec::new(alloc),
+    let mut search = Search {
+        text,
+        reader: Reader::new(text, scratch)?,
+        place: Place {
+            value: all,
+            container: all,
+            followed: 0,
+            positions: Vec::new(alloc),
+            same: Vec::new(alloc),
+        },
     };
-    find(text, &mut reader, MAX_DEPTH, selectors, &mut place, 0)?;
-    Ok(place)
+    find(&mut search, MAX_DEPTH, selectors, 0)?;
+    Ok(search.place)
+}
+
+/// A search for the value that selectors lead to.
+#[derive(Drop)]
+struct Search<'t> {
+    /// The whole text.
+    text: &'t str,
+    /// What is left of the text.
+    reader: Reader<'t>,
+    /// What was found so far.
+    place: Place,
 }
 
 /// Follows the selectors in the next value, of which `level` were followed before.
 #[cycle(find)]
 fn find(
-    text: &str,
-    reader: &mut Reader<'_>,
+    search: &mut Search<'_>,
     depth: usize,
     selectors: &[Selector],
-    place: &mut Place,
     level: usize,
 ) -> Result<(), CheckError>
-    ensures shorter { OnOk result (length reader.new < length reader.old) }
+    ensures shorter { OnOk result (length search.new.reader < length search.old.reader) }
 {
-    let from = reader.offset();
+    let from = search.reader.offset();
     let Some((selector, rest)) = selectors.split_first() else {
-        reader.skip_value(depth)?;
-        let to = end_of_value(text.as_bytes(), reader.offset());
-        place.value = Span { from, to };
-        place.followed = level;
+        search.reader.skip_value(depth)?;
+        search.place.value = search.span_from(from);
+        search.place.followed = level;
         return Ok(());
     };
-    let Some(token) = reader.next() else {
+    let Some(token) = search.reader.next() else {
         return Err(CheckError::Mismatch);
     };
-    match token {
+    let entered = match token {
         Token::BeginArray => {
             if depth == 0 {
                 return Err(CheckError::Mismatch);
             }
-            let entered = find_item(text, reader, depth - 1, selector, rest, place, level)?;
-            leave(
-                text,
-                reader.offset(),
-                from,
-                entered,
-                rest.is_empty(),
-                place,
-                level,
-            );
-            Ok(())
+            find_item(search, depth - 1, selector, rest, level)?
         }
         Token::BeginObject => {
             if depth == 0 {
                 return Err(CheckError::Mismatch);
             }
-            let entered = find_member(text, reader, depth - 1, selector, rest, place, level)?;
-            leave(
-                text,
-                reader.offset(),
-                from,
-                entered,
-                rest.is_empty(),
-                place,
-                level,
-            );
-            Ok(())
+            find_member(search, depth - 1, selector, rest, level)?
         }
-        _ => if is_scalar(token) {
-            leave(text, reader.offset(), from, false, false, place, level);
-            Ok(())
-        } else {
-            Err(CheckError::Mismatch)
-        },
+        _ => {
+            if !is_scalar(token) {
+                return Err(CheckError::Mismatch);
+            }
+            false
+        }
+    };
+    if !entered {
+        search.place.value = search.span_from(from);
+        search.place.followed = level;
+    } else if rest.is_empty() {
+        search.place.container = search.span_from(from);
     }
+    Ok(())
 }
 
-/// Notes the value from `from` to before `next`: as the value where the search ends if no child of it
-/// was entered, and as the container of that value if the last selector entered it.
-fn leave(
-    text: &str,
-    next: usize,
-    from: usize,
-    entered: bool,
-    last: bool,
-    place: &mut Place,
-    level: usize,
-) {
-    let to = end_of_value(text.as_bytes(), next);
-    if !entered {
-        place.value = Span { from, to };
-        place.followed = level;
-    } else if last {
-        place.container = Span { from, to };
+impl<'t> Search<'t> {
+    /// Returns where the value is that begins at the offset and was read last.
+    fn span_from(&self, from: usize) -> Span {
+        let to = end_of_value(self.text.as_bytes(), self.reader.offset());
+        Span { from, to }
     }
 }
 
@@ -157,25 +143,23 @@ fn leave(
 /// an element.
 #[cycle(find)]
 fn find_item(
-    text: &str,
-    reader: &mut Reader<'_>,
+    search: &mut Search<'_>,
     depth: usize,
     selector: &Selector,
     rest: &[Selector],
-    place: &mut Place,
     level: usize,
 ) -> Result<bool, CheckError>
-    ensures shorter { OnOk result (length reader.new < length reader.old) }
+    ensures shorter { OnOk result (length search.new.reader < length search.old.reader) }
 {
     let mut entered = false;
     let mut count = 0usize;
-    'items: while !reader.take_end_array() {
+    'items: while !search.reader.take_end_array() {
         if selector.index == Some(count) {
-            note(place, level, count, rest.is_empty())?;
-            find(text, reader, depth, rest, place, level.saturating_add(1))?;
+            note(&mut search.place, level, count, rest.is_empty())?;
+            find(search, depth, rest, level.saturating_add(1))?;
             entered = true;
         } else {
-            reader.skip_value(depth)?;
+            search.reader.skip_value(depth)?;
         }
         count = count.saturating_add(1);
     }
@@ -186,25 +170,23 @@ fn find_item(
 /// Returns whether there is such a member.
 #[cycle(find)]
 fn find_member(
-    text: &str,
-    reader: &mut Reader<'_>,
+    search: &mut Search<'_>,
     depth: usize,
     selector: &Selector,
     rest: &[Selector],
-    place: &mut Place,
     level: usize,
 ) -> Result<bool, CheckError>
-    ensures shorter { OnOk result (length reader.new < length reader.old) }
+    ensures shorter { OnOk result (length search.new.reader < length search.old.reader) }
 {
     let mut entered = false;
     let mut count = 0usize;
-    'members: while let Some(name) = reader.next_key()? {
+    'members: while let Some(name) = search.reader.next_key()? {
         if name == selector.key.as_str() {
-            note(place, level, count, rest.is_empty())?;
-            find(text, reader, depth, rest, place, level.saturating_add(1))?;
+            note(&mut search.place, level, count, rest.is_empty())?;
+            find(search, depth, rest, level.saturating_add(1))?;
             entered = true;
         } else {
-            reader.skip_value(depth)?;
+            search.reader.skip_value(depth)?;
         }
         count = count.saturating_add(1);
     }
@@ -226,8 +208,8 @@ pub fn children(
     let container = text.get(span.from..span.to).unwrap_or("");
     let mut reader = Reader::new(container, scratch)?;
     match reader.next() {
-        Some(Token::BeginArray) => elements(alloc, text, span.from, &mut reader),
-        Some(Token::BeginObject) => members(alloc, text, span.from, &mut reader),
+        Some(Token::BeginArray) => elements(alloc, &mut reader, text, span.from),
+        Some(Token::BeginObject) => members(alloc, &mut reader, text, span.from),
         _ => Err(CheckError::Mismatch),
     }
 }
@@ -235,9 +217,9 @@ pub fn children(
 /// Returns where the elements of an array are. The reader's text begins at `base`.
 fn elements(
     alloc: Global,
+    reader: &mut Reader<'_>,
     text: &str,
     base: usize,
-    reader: &mut Reader<'_>,
 ) -> Result<Vec<Extent>, CheckError> {
     let mut extents = Vec::new(alloc);
     'items: while !reader.take_end_array() {
@@ -259,9 +241,9 @@ fn elements(
 /// Returns where the members of an object are. The reader's text begins at `base`.
 fn members(
     alloc: Global,
+    reader: &mut Reader<'_>,
     text: &str,
     base: usize,
-    reader: &mut Reader<'_>,
 ) -> Result<Vec<Extent>, CheckError> {
     let mut extents = Vec::new(alloc);
     let mut from = base.saturating_add(reader.offset());

@@ -5,15 +5,22 @@ ghost use Rattle.json.specs.Lex.{tokens};
 ghost use Rattle.json.specs.Reads.{token_of};
 ghost use Rattle.serde_json.specs.Data.{Data, Items, Members};
 ghost use Rattle.serde_json.specs.Read.{read};
-ghost use Rattle.jsonptr_json_search.specs.Reading.{Reads, ReadsItems, ReadsMembers};
+ghost use Rattle.jsonptr_json_search.specs.Reading.{ReadsTokens, ReadsItems, ReadsMembers};
 ghost use Rattle.jsonptr_json_edits.specs.Alike.{AreAlike};
 
 use crate::edit::CheckError;
 use json::{Invalid, Reader, Scratch, Token};
 use jsonptr_json_search::scalar::is_scalar;
+use jsonptr_value::MAX_DEPTH;
 
-/// How deep arrays and objects may nest, as in `serde_json`.
-pub const MAX_DEPTH: usize = 127;
+/// Two texts that are read side by side.
+#[derive(Drop)]
+pub struct Readers<'a> {
+    /// The text before an edit, or the shorter one.
+    pub one: Reader<'a>,
+    /// The text after the edit, or the longer one.
+    pub two: Reader<'a>,
+}
 
 /// Passes over the next value of both readers, which has the same tokens in both.
 ///
@@ -28,8 +35,8 @@ pub fn same(
     one_depth: usize,
     two_depth: usize,
 ) -> Result<(), Invalid>
-    ensures ok { OnOk result ((d : Data) × Reads one_depth one.old d one.new
-        × Reads two_depth two.old d two.new) }
+    ensures passed { OnOk result ((d : Data) × ReadsTokens one_depth one.old d one.new
+        × ReadsTokens two_depth two.old d two.new) }
     ensures alike { OnOk result (AreAlike one.old one.new two.old two.new) }
     ensures one_shorter { OnOk result (length one.new < length one.old) }
     ensures two_shorter { OnOk result (length two.new < length two.old) }
@@ -71,7 +78,7 @@ fn same_items(
     one_depth: usize,
     two_depth: usize,
 ) -> Result<(), Invalid>
-    ensures ok { OnOk result ((ds : Items) × ReadsItems one_depth one.old ds one.new
+    ensures passed { OnOk result ((ds : Items) × ReadsItems one_depth one.old ds one.new
         × ReadsItems two_depth two.old ds two.new) }
     ensures alike { OnOk result (AreAlike one.old one.new two.old two.new) }
     ensures one_shorter { OnOk result (length one.new < length one.old) }
@@ -102,7 +109,7 @@ fn same_members(
     one_depth: usize,
     two_depth: usize,
 ) -> Result<(), Invalid>
-    ensures ok { OnOk result ((ms : Members) × ReadsMembers one_depth one.old ms one.new
+    ensures passed { OnOk result ((ms : Members) × ReadsMembers one_depth one.old ms one.new
         × ReadsMembers two_depth two.old ms two.new) }
     ensures alike { OnOk result (AreAlike one.old one.new two.old two.new) }
     ensures one_shorter { OnOk result (length one.new < length one.old) }
@@ -126,12 +133,12 @@ fn same_members(
 /// allocation fails.
 pub fn same_text(
     scratch: &mut Scratch,
-    text: &str,
     reader: &mut Reader<'_>,
     depth: usize,
+    text: &str,
 ) -> Result<(), CheckError>
-    ensures ok { OnOk result ((d : Data) × (read text.now ≡ Some d)
-        × Reads depth reader.old d reader.new) }
+    ensures passed { OnOk result ((d : Data) × (read text.now ≡ Some d)
+        × ReadsTokens depth reader.old d reader.new) }
     ensures same { OnOk result (reader.old ≡ tokens text.now ++ reader.new) }
     ensures shorter { OnOk result (length reader.new < length reader.old) }
 {

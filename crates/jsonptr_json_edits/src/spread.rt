@@ -31,8 +31,8 @@ pub struct Line<'t> {
 /// # Errors
 ///
 /// [`AllocError`] if an allocation fails.
-pub fn spread(alloc: Global, value: &ValueText, at: Lines<'_>) -> Result<String, AllocError> {
-    let lines = value.lines.as_str();
+pub fn spread(alloc: Global, at: Lines<'_>, printed: &ValueText) -> Result<String, AllocError> {
+    let lines = printed.lines.as_str();
     let own = own_unit(lines);
     let mut text = String::new(alloc);
     let mut is_first = true;
@@ -41,7 +41,7 @@ pub fn spread(alloc: Global, value: &ValueText, at: Lines<'_>) -> Result<String,
             text.push_str(line)?;
         } else {
             text.push_str(at.newline)?;
-            push_line(&mut text, line, own, at)?;
+            push_line(&mut text, at, line, own)?;
         }
         is_first = false;
     }
@@ -49,7 +49,7 @@ pub fn spread(alloc: Global, value: &ValueText, at: Lines<'_>) -> Result<String,
 }
 
 /// Appends a line of a value, in which a level is indented by `own`.
-fn push_line(text: &mut String, line: &str, own: &str, at: Lines<'_>) -> Result<(), AllocError> {
+fn push_line(text: &mut String, at: Lines<'_>, line: &str, own: &str) -> Result<(), AllocError> {
     let rest = line.trim_start();
     if rest.is_empty() {
         return Ok(());
@@ -83,9 +83,9 @@ fn own_unit(lines: &str) -> &str {
 /// # Errors
 ///
 /// [`AllocError`] if an allocation fails.
-pub fn on_line(alloc: Global, value: &ValueText, at: Line<'_>) -> Result<String, AllocError> {
-    if !value.lines.as_str().contains('\n') {
-        return value.flat.clone();
+pub fn on_line(alloc: Global, at: Line<'_>, printed: &ValueText) -> Result<String, AllocError> {
+    if !printed.lines.as_str().contains('\n') {
+        return printed.flat.clone();
     }
     let mut pen = Pen {
         text: String::new(alloc),
@@ -97,7 +97,7 @@ pub fn on_line(alloc: Global, value: &ValueText, at: Line<'_>) -> Result<String,
         is_escaped: false,
         pad: None,
     };
-    for c in value.flat.as_str().chars() {
+    for c in printed.flat.as_str().chars() {
         pen.put(c)?;
     }
     Ok(pen.text)

@@ -13,9 +13,9 @@ use Rattle.serde_json.specs.Data.{Num, Data, null, boolean, number, string, arra
 use Rattle.serde_json.specs.View.{view, items_of}
 use Rattle.serde_json.specs.declared.value.Value.{Value}
 use Rattle.serde_json.specs.Read.{number_of, of_json, of_items, of_members, converted, max_depth, read}
-use Rattle.jsonptr_json_search.specs.Reading.{Reads, Unreadable, ReadsItems, UnreadableItems, ReadsMembers, UnreadableMembers}
+use Rattle.jsonptr_json_search.specs.Reading.{ReadsTokens, Unreadable, ReadsItems, UnreadableItems, ReadsMembers, UnreadableMembers}
 use Rattle.jsonptr_json_search.specs.PrivateReading.{scalar_of, with_items_before, ItemsSoFar, MembersSoFar}
-use Rattle.jsonptr_json_search.specs.Search.{Choice, child, kind_of}
+use Rattle.jsonptr_json_search.specs.Search.{Choice, chosen, kind_of}
 use Rattle.jsonptr_json_search.specs.declared.outcome.Kind.TheVariants as kind
 
 -- ---- what `converted` takes apart
@@ -61,7 +61,7 @@ member_turn k j (Some d) found (Some p) e = ap (λ c. option_map {T = Members} {
 
 -- ---- the rest of an array
 
-next_item : (depth n : ℕ) (now new : List Token) (d : Data) → 0 < n → after_end_array now ≡ None → Reads depth now d new
+next_item : (depth n : ℕ) (now new : List Token) (d : Data) → 0 < n → after_end_array now ≡ None → ReadsTokens depth now d new
     → converted of_items (items (value depth) n now) ≡ parse_map (item d) (converted of_items (items (value depth) (n - 1) new))
 next_item depth n now new d some more reads =
     let r = from_converted of_json (value depth now) d new reads in
@@ -96,11 +96,11 @@ none_before (Some p) = refl
 pub items_begin : (depth : ℕ) (first : List Token) → ItemsSoFar depth first first []
 items_begin depth first = record { turns = length first; enough = omega arith; goes_on = none_before (converted of_items (items (value depth) (length first) first)) }
 
-pub items_go_on : (depth : ℕ) (first now mid new : List Token) (before : List Data) (d : Data) → ItemsSoFar depth first now before → (after_end_array now ≡ None) × (mid ≡ now) → Reads depth mid d new → length new < length mid
+pub items_go_on : (depth : ℕ) (first now mid new : List Token) (before : List Data) (d : Data) → ItemsSoFar depth first now before → (after_end_array now ≡ None) × (mid ≡ now) → ReadsTokens depth mid d new → length new < length mid
     → ItemsSoFar depth first new (before ++ d ∷ [])
 items_go_on depth first now mid new before d h more begins less =
     let enough : length now ≤ h.turns = h.enough in
-    let reads : Reads depth now d new = subst (λ (ts : List Token). Reads depth ts d new) more.1 begins in
+    let reads : ReadsTokens depth now d new = subst (λ (ts : List Token). ReadsTokens depth ts d new) more.1 begins in
     let shorter : length new < length now = subst (λ (ts : List Token). length new < length ts) more.1 less in
     record {
       turns = h.turns - 1;
@@ -117,7 +117,7 @@ items_stop depth first now mid before h more bad = h.goes_on ∙ ap (parse_map (
 
 -- ---- the rest of an object
 
-next_member : (depth n : ℕ) (k : List ℕ) (now mid new : List Token) (d : Data) (found : Members) → 0 < n → read_key now ≡ Some (Some k, mid) → Reads depth mid d new
+next_member : (depth n : ℕ) (k : List ℕ) (now mid new : List Token) (d : Data) (found : Members) → 0 < n → read_key now ≡ Some (Some k, mid) → ReadsTokens depth mid d new
     → converted (λ ms. of_members ms found) (members (value depth) n now) ≡ converted (λ ms. of_members ms (put k d found)) (members (value depth) (n - 1) new)
 next_member depth n k now mid new d found some named reads =
     let r = from_converted of_json (value depth mid) d new reads in
@@ -140,7 +140,7 @@ no_member depth (suc n) k now mid found named bad = at (value depth mid) refl ba
 pub members_begin : (depth : ℕ) (first : List Token) → MembersSoFar depth first first no_members
 members_begin depth first = record { turns = length first; enough = omega arith; goes_on = refl }
 
-pub members_go_on : (depth : ℕ) (first now mid new : List Token) (k : List ℕ) (d : Data) (found : Members) → MembersSoFar depth first now found → read_key now ≡ Some (Some k, mid) → Reads depth mid d new → length new < length now
+pub members_go_on : (depth : ℕ) (first now mid new : List Token) (k : List ℕ) (d : Data) (found : Members) → MembersSoFar depth first now found → read_key now ≡ Some (Some k, mid) → ReadsTokens depth mid d new → length new < length now
     → MembersSoFar depth first new (put k d found)
 members_go_on depth first now mid new k d found h named reads shorter =
     let enough : length now ≤ h.turns = h.enough in
@@ -214,11 +214,11 @@ scalar_is depth old new t e a o = at_token depth old new (token_of t) e ∙ sing
 -- a scalar that is read
 pub record Scalar (depth : ℕ) (old : List Token) (new : List Token) : Type 0 where
   pub scalar : Data
-  pub reads : Reads depth old scalar new
+  pub reads : ReadsTokens depth old scalar new
   pub kind_is : kind.Scalar ≡ kind_of scalar
-  pub lacks : (c : Choice) → child c scalar ≡ None
+  pub lacks : (c : Choice) → chosen c scalar ≡ None
 
-flat : (t : Token) (d : Data) → scalar_of t ≡ Some d → (kind.Scalar ≡ kind_of d) × ((c : Choice) → child c d ≡ None)
+flat : (t : Token) (d : Data) → scalar_of t ≡ Some d → (kind.Scalar ≡ kind_of d) × ((c : Choice) → chosen c d ≡ None)
 flat t null e = (refl, λ c. refl)
 flat t (boolean b) e = (refl, λ c. refl)
 flat t (number n) e = (refl, λ c. refl)
@@ -258,7 +258,7 @@ flat t (object ms) e = absurd (no_object t e)
     no_object Token.null h = cc
     no_object Token.bad h = cc
 
-pub scalar_reads : (depth : ℕ) (old new : List Token) (t : Read.Token) (d : Data) → old ≡ token_of t ∷ new → (t ≡ Read.TheVariants.BeginArray → ⊥) → (t ≡ Read.TheVariants.BeginObject → ⊥) → scalar_of (token_of t) ≡ Some d → Reads depth old d new
+pub scalar_reads : (depth : ℕ) (old new : List Token) (t : Read.Token) (d : Data) → old ≡ token_of t ∷ new → (t ≡ Read.TheVariants.BeginArray → ⊥) → (t ≡ Read.TheVariants.BeginObject → ⊥) → scalar_of (token_of t) ≡ Some d → ReadsTokens depth old d new
 scalar_reads depth old new t d e a o is = scalar_is depth old new t e a o ∙ ap (beside new) is
 
 pub reads_scalar : (depth : ℕ) (old new : List Token) (t : Read.Token) → old ≡ token_of t ∷ new → (t ≡ Read.TheVariants.BeginArray → ⊥) → (t ≡ Read.TheVariants.BeginObject → ⊥) → is_some (scalar_of (token_of t)) ≡ true → Scalar depth old new
@@ -305,13 +305,13 @@ array_is depth old mid deep e = at_token depth old mid _ e ∙ ap (converted of_
 object_is : (depth : ℕ) (old mid : List Token) → 0 < depth → old ≡ Token.begin_object ∷ mid → converted of_json (value depth old) ≡ parse_map object (converted (λ ms. of_members ms no_members) (members (value (depth - 1)) (length mid) mid))
 object_is depth old mid deep e = at_token depth old mid _ e ∙ ap (converted of_json) (value-begin_object depth mid deep) ∙ objected (members (value (depth - 1)) (length mid) mid)
 
-pub reads_array : (depth : ℕ) (old mid new : List Token) (ds : Items) → 0 < depth → old ≡ Token.begin_array ∷ mid → ReadsItems (depth - 1) mid ds new → Reads depth old (array ds) new
+pub reads_array : (depth : ℕ) (old mid new : List Token) (ds : Items) → 0 < depth → old ≡ Token.begin_array ∷ mid → ReadsItems (depth - 1) mid ds new → ReadsTokens depth old (array ds) new
 reads_array depth old mid new ds deep e h = array_is depth old mid deep e ∙ ap (parse_map array) h
 
 pub unreadable_array : (depth : ℕ) (old mid : List Token) → 0 < depth → old ≡ Token.begin_array ∷ mid → UnreadableItems (depth - 1) mid → Unreadable depth old
 unreadable_array depth old mid deep e h = array_is depth old mid deep e ∙ ap (parse_map array) h
 
-pub reads_object : (depth : ℕ) (old mid new : List Token) (ms : Members) → 0 < depth → old ≡ Token.begin_object ∷ mid → ReadsMembers (depth - 1) mid ms new → Reads depth old (object ms) new
+pub reads_object : (depth : ℕ) (old mid new : List Token) (ms : Members) → 0 < depth → old ≡ Token.begin_object ∷ mid → ReadsMembers (depth - 1) mid ms new → ReadsTokens depth old (object ms) new
 reads_object depth old mid new ms deep e h = object_is depth old mid deep e ∙ ap (parse_map object) h
 
 pub unreadable_object : (depth : ℕ) (old mid : List Token) → 0 < depth → old ≡ Token.begin_object ∷ mid → UnreadableMembers (depth - 1) mid → Unreadable depth old
@@ -332,12 +332,12 @@ object_too_deep (suc n) old mid z e = absurd (omega arith)
 whole_is : (text : List ℕ) (o : Option (json.Json × List Token)) → value max_depth (tokens text) ≡ o → read text ≡ option_and_then of_json (option_and_then (λ p. if_last p.0 p.1) o)
 whole_is text o e = ap (λ q. option_and_then of_json (option_and_then (λ p. if_last p.0 p.1) q)) e
 
-pub whole_read : (text : List ℕ) (d : Data) (ts : List Token) → tokens text ≡ ts → Reads max_depth ts d [] → read text ≡ Some d
+pub whole_read : (text : List ℕ) (d : Data) (ts : List Token) → tokens text ≡ ts → ReadsTokens max_depth ts d [] → read text ≡ Some d
 whole_read text d ts same h =
     let r = from_converted of_json (value max_depth ts) d [] h in
     whole_is text (Some (r.from, [])) (ap (value max_depth) same ∙ r.is) ∙ r.gives
 
-pub whole_and_more : (text : List ℕ) (d : Data) (ts : List Token) (t : Token) (rest : List Token) → tokens text ≡ ts → Reads max_depth ts d (t ∷ rest) → read text ≡ None
+pub whole_and_more : (text : List ℕ) (d : Data) (ts : List Token) (t : Token) (rest : List Token) → tokens text ≡ ts → ReadsTokens max_depth ts d (t ∷ rest) → read text ≡ None
 whole_and_more text d ts t rest same h =
     let r = from_converted of_json (value max_depth ts) d (t ∷ rest) h in
     whole_is text (Some (r.from, t ∷ rest)) (ap (value max_depth) same ∙ r.is)

@@ -7,14 +7,14 @@ use Rattle.jsonptr_json_search.specs.declared.selector.Selector.{Selector}
 use Rattle.jsonptr_json_search.specs.declared.outcome.Kind.{Kind}
 use Rattle.jsonptr_json_search.specs.declared.outcome.Outcome.{Outcome}
 use Rattle.jsonptr_json_search.specs.declared.outcome.Outcome.TheVariants.{Found, Stopped}
-use Rattle.jsonptr_json_search.specs.Search.{Choice, choices, items_len, element, child, follow, kind_of, Stops, IsOutcome, IsChildOutcome, Visits}
+use Rattle.jsonptr_json_search.specs.Search.{Choice, choices, items_count, element, chosen, follow, kind_of, Stops, IsOutcome, IsChildOutcome, Visits}
 use Rattle.jsonptr_json_search.specs.PrivateReading.{with_items_before}
 
 pub follow_none : (ps : List Selector) (d : Data) → length ps ≡ 0 → follow (choices ps) d ≡ Some d
 follow_none [] d e = refl
 follow_none (p ∷ ps) d e = absurd (omega arith)
 
-pub outcome_here : (cs : List Choice) (w : Choice) (rest : List Choice) (d : Data) (left : ℕ) (k : Kind) → cs ≡ w ∷ rest → child w d ≡ None → k ≡ kind_of d → left ≡ length cs → Stops d cs left k
+pub outcome_here : (cs : List Choice) (w : Choice) (rest : List Choice) (d : Data) (left : ℕ) (k : Kind) → cs ≡ w ∷ rest → chosen w d ≡ None → k ≡ kind_of d → left ≡ length cs → Stops d cs left k
 outcome_here cs w rest d left k e c same len = record {
   front = [];
   next = w;
@@ -27,7 +27,7 @@ outcome_here cs w rest d left k e c same len = record {
   left_is = len ∙ ap (λ (xs : List Choice). length xs) e;
 }
 
-outcome_below : (w : Choice) (cs : List Choice) (d e : Data) (o : Outcome) → child w d ≡ Some e → IsOutcome e cs o → IsOutcome d (w ∷ cs) o
+outcome_below : (w : Choice) (cs : List Choice) (d e : Data) (o : Outcome) → chosen w d ≡ Some e → IsOutcome e cs o → IsOutcome d (w ∷ cs) o
 outcome_below w cs d e (Found v) c h = ap (option_and_then (follow cs)) c ∙ h
 outcome_below w cs d e (Stopped left k) c h = record {
   front = w ∷ h.front;
@@ -42,13 +42,13 @@ outcome_below w cs d e (Stopped left k) c h = record {
 }
 
 -- the outcome in the child is the outcome in the value
-pub or_child : (cs : List Choice) (w : Choice) (rest : List Choice) (d : Data) (found : Option Outcome) (r : Outcome) (left : ℕ) (k : Kind) → cs ≡ w ∷ rest → IsChildOutcome (child w d) rest found → MatchOption found (r ≡ Stopped left k) (λ o. r ≡ o) → k ≡ kind_of d → left ≡ length cs → IsOutcome d cs r
+pub or_child : (cs : List Choice) (w : Choice) (rest : List Choice) (d : Data) (found : Option Outcome) (r : Outcome) (left : ℕ) (k : Kind) → cs ≡ w ∷ rest → IsChildOutcome (chosen w d) rest found → MatchOption found (r ≡ Stopped left k) (λ o. r ≡ o) → k ≡ kind_of d → left ≡ length cs → IsOutcome d cs r
 or_child cs w rest d None r left k e h is same len = subst (λ (o : Outcome). IsOutcome d cs o) (sym is) (outcome_here cs w rest d left k e h same len)
 or_child cs w rest d (Some o) r left k e h is same len = subst (λ (xs : List Choice). IsOutcome d xs r) (sym e) (subst (λ (x : Outcome). IsOutcome d (w ∷ rest) x) (sym is) (outcome_below w rest d h.0 o h.1 h.2))
 
 -- ---- elements
 
-pub len_before : (ds : List Data) → items_len (with_items_before ds no_items) ≡ length ds
+pub len_before : (ds : List Data) → items_count (with_items_before ds no_items) ≡ length ds
 len_before [] = refl
 len_before (d ∷ ds) = ap suc (len_before ds)
 

@@ -5,9 +5,9 @@ use Rattle.json.specs.Json.{items, members, value}
 use Rattle.serde_json.specs.Data.{Data, Items, Members, no_members}
 use Rattle.serde_json.specs.Read.{of_json, of_items, of_members, converted}
 
--- `Reads depth old d new`: the tokens `old` are those of the value `d`, which nests at most `depth` deep, and then `new`
-abbrev pub Reads : ℕ → List Token → Data → List Token → Type 0
-Reads depth old d new = converted of_json (value depth old) ≡ Some (d, new)
+-- `ReadsTokens depth old d new`: the tokens `old` are those of the value `d`, which nests at most `depth` deep, and then `new`
+abbrev pub ReadsTokens : ℕ → List Token → Data → List Token → Type 0
+ReadsTokens depth old d new = converted of_json (value depth old) ≡ Some (d, new)
 
 -- `Unreadable depth old`: the tokens `old` begin with no value that `serde_json` reads at this depth
 abbrev pub Unreadable : ℕ → List Token → Type 0

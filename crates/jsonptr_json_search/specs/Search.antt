@@ -21,28 +21,28 @@ choice_of s = (string_bytes s.key, s.index)
 abbrev pub choices : List Selector → List Choice
 choices ss = map choice_of ss
 
--- `items_len ds` is how many items `ds` has
-abbrev pub items_len : Items → ℕ
-items_len no_items = 0
-items_len (item d ds) = suc (items_len ds)
+-- `items_count ds` is how many items `ds` has
+abbrev pub items_count : Items → ℕ
+items_count no_items = 0
+items_count (item d ds) = suc (items_count ds)
 
 -- `element i ds` is the item at the index `i`, if `i` is one
 abbrev pub element : Option ℕ → Items → Option Data
 element i ds = option_and_then (λ n. get_item n ds) i
 
--- `child c d` is the child of `d` that `c` selects
-abbrev pub child : Choice → Data → Option Data
-child c null = None
-child c (boolean b) = None
-child c (number n) = None
-child c (string s) = None
-child c (array ds) = element c.1 ds
-child c (object ms) = get_member c.0 ms
+-- `chosen c d` is the child of `d` that `c` selects
+abbrev pub chosen : Choice → Data → Option Data
+chosen c null = None
+chosen c (boolean b) = None
+chosen c (number n) = None
+chosen c (string s) = None
+chosen c (array ds) = element c.1 ds
+chosen c (object ms) = get_member c.0 ms
 
 -- `follow cs d` is the value below `d` that the selectors `cs` lead to
 abbrev pub follow : List Choice → Data → Option Data
 follow [] d = Some d
-follow (c ∷ cs) d = option_and_then (follow cs) (child c d)
+follow (c ∷ cs) d = option_and_then (follow cs) (chosen c d)
 
 -- `kind_of d`: whether `d` is a scalar, an array of how many elements, or an object
 abbrev pub kind_of : Data → Kind
@@ -50,7 +50,7 @@ kind_of null = kind.Scalar
 kind_of (boolean b) = kind.Scalar
 kind_of (number n) = kind.Scalar
 kind_of (string s) = kind.Scalar
-kind_of (array ds) = kind.Array (items_len ds)
+kind_of (array ds) = kind.Array (items_count ds)
 kind_of (object ms) = kind.Object
 
 -- `Stops d cs left k`: a prefix of the selectors `cs` leads from `d` to a value of kind `k`, which lacks the child that the next
@@ -62,7 +62,7 @@ pub record Stops (d : Data) (cs : List Choice) (left : ℕ) (k : Kind) : Type 0 
   pub at : Data
   pub split : cs ≡ front ++ next ∷ rest
   pub leads : follow front d ≡ Some at
-  pub lacks : child next at ≡ None
+  pub lacks : chosen next at ≡ None
   pub kind_is : k ≡ kind_of at
   pub left_is : left ≡ length (next ∷ rest)
 

@@ -3,20 +3,18 @@ ghost use Rattle.std.specs.Prelude.{◌≡◌, ◌<◌, ◌≤◌, ◌^◌, ◌�
 ghost use Rattle.serde_json.specs.Data.{Data, Items, Members};
 ghost use Rattle.serde_json.specs.Find.{get_member};
 ghost use Rattle.serde_json.specs.Read.{max_depth, read as spec_read};
-ghost use Rattle.jsonptr_json_search.specs.Reading.{Reads, Unreadable, ReadsItems, UnreadableItems, ReadsMembers, UnreadableMembers};
-ghost use Rattle.jsonptr_json_search.specs.Search.{choices, items_len, element, IsOutcome, IsChildOutcome, Visits};
+ghost use Rattle.jsonptr_json_search.specs.Reading.{ReadsTokens, Unreadable, ReadsItems, UnreadableItems, ReadsMembers, UnreadableMembers};
+ghost use Rattle.jsonptr_json_search.specs.Search.{choices, items_count, element, IsOutcome, IsChildOutcome, Visits};
 ghost use Rattle.jsonptr_json_search.specs.declared.outcome.Outcome.TheVariants.{Stopped};
 
-use crate::outcome::{Kind, Outcome, ReadError};
+use crate::outcome::{Kind, Outcome};
 use crate::read::read;
 use crate::scalar::is_scalar;
 use crate::selector::Selector;
 use crate::skip::skip;
 use json::{Reader, Scratch, Token};
+use jsonptr_value::{MAX_DEPTH, ReadError};
 use std::alloc::Global;
-
-/// How deep arrays and objects may nest, as in `serde_json`.
-const MAX_DEPTH: usize = 127;
 
 /// Follows the selectors in the JSON value that the text contains.
 ///
@@ -28,9 +26,9 @@ const MAX_DEPTH: usize = 127;
 /// [`ReadError::NotJson`] if `serde_json` does not read the text, and [`ReadError::Memory`] if an
 /// allocation fails.
 pub fn find_in_text(alloc: Global, text: &str, selectors: &[Selector]) -> Result<Outcome, ReadError>
-    ensures ok { IfOk result (λ o. (d : Data) × (spec_read text.now ≡ Some d)
+    ensures found { IfOk result (λ o. (d : Data) × (spec_read text.now ≡ Some d)
         × IsOutcome d (choices selectors.now) o) }
-    ensures err { result ≡ Err ReadError.NotJson → spec_read text.now ≡ None }
+    ensures refused { result ≡ Err ReadError.NotJson → spec_read text.now ≡ None }
 {
     let mut scratch = Scratch::new(alloc);
     find_in_text_with(alloc, &mut scratch, text, selectors)
@@ -51,9 +49,9 @@ pub fn find_in_text_with(
     text: &str,
     selectors: &[Selector],
 ) -> Result<Outcome, ReadError>
-    ensures ok { IfOk result (λ o. (d : Data) × (spec_read text.now ≡ Some d)
+    ensures found { IfOk result (λ o. (d : Data) × (spec_read text.now ≡ Some d)
         × IsOutcome d (choices selectors.now) o) }
-    ensures err { result ≡ Err ReadError.NotJson → spec_read text.now ≡ None }
+    ensures refused { result ≡ Err ReadError.NotJson → spec_read text.now ≡ None }
 {
     let mut reader = Reader::new(text, scratch)?;
     let outcome = find(alloc, &mut reader, MAX_DEPTH, selectors)?;
@@ -77,10 +75,10 @@ fn find(
 ) -> Result<Outcome, ReadError>
     requires few { length reader.old < 2 ^ 64 }
     requires shallow { depth ≤ max_depth }
-    ensures ok { IfOk result (λ o. (d : Data) × Reads depth reader.old d reader.new
+    ensures found { IfOk result (λ o. (d : Data) × ReadsTokens depth reader.old d reader.new
         × IsOutcome d (choices selectors.now) o) }
     ensures shorter { OnOk result (length reader.new < length reader.old) }
-    ensures err { result ≡ Err ReadError.NotJson → Unreadable depth reader.old }
+    ensures refused { result ≡ Err ReadError.NotJson → Unreadable depth reader.old }
 {
     let Some((selector, rest)) = selectors.split_first() else {
         return Ok(Outcome::Found(read(alloc, reader, depth)?));
@@ -132,6 +130,15 @@ fn or_stopped(found: Option<Outcome>, left: usize, kind: Kind) -> Outcome
     }
 }
 
+/// A child of an array or an object, and what to do with it.
+#[derive(Clone, Copy, Debug)]
+struct Child<'s> {
+    /// Whether to follow the selectors in it, and not to pass over it.
+    wanted: bool,
+    /// The selectors.
+    selectors: &'s [Selector],
+}
+
 /// Follows the selectors in the element at the index, and returns the length of the array too.
 ///
 /// # Errors
@@ -147,16 +154,17 @@ fn find_item(
 ) -> Result<(Option<Outcome>, usize), ReadError>
     requires few { length reader.old < 2 ^ 64 }
     requires shallow { depth ≤ max_depth }
-    ensures ok { IfOk result (λ r. (ds : Items) × ReadsItems depth reader.old ds reader.new
-        × (r.1 ≡ items_len ds) × IsChildOutcome (element index ds) (choices selectors.now) r.0) }
+    ensures found { IfOk result (λ r. (ds : Items) × ReadsItems depth reader.old ds reader.new
+        × (r.1 ≡ items_count ds) × IsChildOutcome (element index ds) (choices selectors.now) r.0) }
     ensures shorter { OnOk result (length reader.new < length reader.old) }
-    ensures err { result ≡ Err ReadError.NotJson → UnreadableItems depth reader.old }
+    ensures refused { result ≡ Err ReadError.NotJson → UnreadableItems depth reader.old }
 {
     let mut found = None;
     let mut len = 0;
     'items: while !reader.take_end_array() {
         let wanted = is_at(index, len);
-        found = visit(alloc, reader, depth, wanted, selectors, found)?;
+        let child = Child { wanted, selectors };
+        found = visit(alloc, reader, depth, child, found)?;
         len += 1;
     }
     Ok((found, len))
@@ -177,15 +185,16 @@ fn find_member(
 ) -> Result<Option<Outcome>, ReadError>
     requires few { length reader.old < 2 ^ 64 }
     requires shallow { depth ≤ max_depth }
-    ensures ok { IfOk result (λ r. (ms : Members) × ReadsMembers depth reader.old ms reader.new
+    ensures found { IfOk result (λ r. (ms : Members) × ReadsMembers depth reader.old ms reader.new
         × IsChildOutcome (get_member key.now ms) (choices selectors.now) r) }
     ensures shorter { OnOk result (length reader.new < length reader.old) }
-    ensures err { result ≡ Err ReadError.NotJson → UnreadableMembers depth reader.old }
+    ensures refused { result ≡ Err ReadError.NotJson → UnreadableMembers depth reader.old }
 {
     let mut found = None;
     'members: while let Some(name) = reader.next_key()? {
         let wanted = is_text(name, key);
-        found = visit(alloc, reader, depth, wanted, selectors, found)?;
+        let child = Child { wanted, selectors };
+        found = visit(alloc, reader, depth, child, found)?;
     }
     Ok(found)
 }
@@ -200,19 +209,18 @@ fn visit(
     alloc: Global,
     reader: &mut Reader<'_>,
     depth: usize,
-    wanted: bool,
-    selectors: &[Selector],
+    child: Child<'_>,
     found: Option<Outcome>,
 ) -> Result<Option<Outcome>, ReadError>
     requires few { length reader.old < 2 ^ 64 }
     requires shallow { depth ≤ max_depth }
-    ensures ok { IfOk result (λ r. (d : Data) × Reads depth reader.old d reader.new
-        × Visits wanted d (choices selectors.now) found r) }
+    ensures found { IfOk result (λ r. (d : Data) × ReadsTokens depth reader.old d reader.new
+        × Visits child.entry.wanted d (choices child.entry.selectors.now) found r) }
     ensures shorter { OnOk result (length reader.new < length reader.old) }
-    ensures err { result ≡ Err ReadError.NotJson → Unreadable depth reader.old }
+    ensures refused { result ≡ Err ReadError.NotJson → Unreadable depth reader.old }
 {
-    if wanted {
-        let outcome = find(alloc, reader, depth, selectors)?;
+    if child.wanted {
+        let outcome = find(alloc, reader, depth, child.selectors)?;
         Ok(Some(outcome))
     } else {
         skip(reader, depth)?;

@@ -2,13 +2,13 @@
 ghost use Rattle.std.specs.Prelude.{◌≡◌, ◌<◌, length, Some, None, Err, IfOk, OnOk};
 ghost use Rattle.json.specs.Reads.{token_of};
 ghost use Rattle.serde_json.specs.View.{view, items_view, members_view};
-ghost use Rattle.jsonptr_json_search.specs.Reading.{Reads, Unreadable, ReadsItems, UnreadableItems, ReadsMembers, UnreadableMembers};
+ghost use Rattle.jsonptr_json_search.specs.Reading.{ReadsTokens, Unreadable, ReadsItems, UnreadableItems, ReadsMembers, UnreadableMembers};
 ghost use Rattle.jsonptr_json_search.specs.PrivateReading.{scalar_of};
-ghost use Rattle.jsonptr_json_search.specs.declared.outcome.ReadError.TheVariants.{NotJson};
+ghost use Rattle.jsonptr_value.specs.declared.from_text.ReadError.TheVariants.{NotJson};
 
 use crate::number::parse;
-use crate::outcome::ReadError;
 use json::{Reader, Token};
+use jsonptr_value::ReadError;
 use serde_json::{Map, Value};
 use std::alloc::Global;
 
@@ -21,9 +21,9 @@ use std::alloc::Global;
 #[cycle(read)]
 #[inline(always)]
 pub fn read(alloc: Global, reader: &mut Reader<'_>, depth: usize) -> Result<Value, ReadError>
-    ensures ok { IfOk result (λ v. Reads depth reader.old (view v) reader.new) }
+    ensures value { IfOk result (λ v. ReadsTokens depth reader.old (view v) reader.new) }
     ensures shorter { OnOk result (length reader.new < length reader.old) }
-    ensures err { result ≡ Err NotJson → Unreadable depth reader.old }
+    ensures refused { result ≡ Err NotJson → Unreadable depth reader.old }
 {
     let Some(token) = reader.next() else {
         return Err(ReadError::NotJson);
@@ -57,8 +57,8 @@ pub fn read(alloc: Global, reader: &mut Reader<'_>, depth: usize) -> Result<Valu
 /// As [`read`].
 #[inline(always)]
 fn read_scalar(alloc: Global, token: Token<'_>) -> Result<Value, ReadError>
-    ensures ok { IfOk result (λ v. scalar_of (token_of token.entry) ≡ Some (view v)) }
-    ensures err { result ≡ Err NotJson → scalar_of (token_of token.entry) ≡ None }
+    ensures value { IfOk result (λ v. scalar_of (token_of token.entry) ≡ Some (view v)) }
+    ensures refused { result ≡ Err NotJson → scalar_of (token_of token.entry) ≡ None }
 {
     match token {
         Token::String(text) => Ok(Value::String(String::from_str(alloc, text)?)),
@@ -85,10 +85,10 @@ fn read_scalar(alloc: Global, token: Token<'_>) -> Result<Value, ReadError>
 #[cycle(read)]
 #[inline(never)]
 fn read_items(alloc: Global, reader: &mut Reader<'_>, depth: usize) -> Result<Vec<Value>, ReadError>
-    ensures ok { IfOk result
+    ensures value { IfOk result
         (λ v. ReadsItems depth reader.old (items_view v.items) reader.new) }
     ensures shorter { OnOk result (length reader.new < length reader.old) }
-    ensures err { result ≡ Err NotJson → UnreadableItems depth reader.old }
+    ensures refused { result ≡ Err NotJson → UnreadableItems depth reader.old }
 {
     let mut found = Vec::new(alloc);
     'items: while !reader.take_end_array() {
@@ -110,10 +110,10 @@ fn read_members(
     reader: &mut Reader<'_>,
     depth: usize,
 ) -> Result<Map<String, Value>, ReadError>
-    ensures ok { IfOk result
+    ensures value { IfOk result
         (λ m. ReadsMembers depth reader.old (members_view m.entries) reader.new) }
     ensures shorter { OnOk result (length reader.new < length reader.old) }
-    ensures err { result ≡ Err NotJson → UnreadableMembers depth reader.old }
+    ensures refused { result ≡ Err NotJson → UnreadableMembers depth reader.old }
 {
     let mut found = Map::new(alloc);
     'members: while let Some(name) = reader.next_key()? {

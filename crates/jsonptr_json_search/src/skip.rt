@@ -1,7 +1,7 @@
 //! Passing over one value of a text.
 ghost use Rattle.std.specs.Prelude.{◌≡◌, ◌<◌, length, OnOk, IsErr};
 ghost use Rattle.serde_json.specs.Data.{Data, Items, Members};
-ghost use Rattle.jsonptr_json_search.specs.Reading.{Reads, Unreadable, ReadsItems, UnreadableItems, ReadsMembers, UnreadableMembers};
+ghost use Rattle.jsonptr_json_search.specs.Reading.{ReadsTokens, Unreadable, ReadsItems, UnreadableItems, ReadsMembers, UnreadableMembers};
 
 use crate::scalar::is_scalar;
 use json::{Invalid, Reader, Token};
@@ -14,9 +14,9 @@ use json::{Invalid, Reader, Token};
 #[cycle(skip)]
 #[inline(always)]
 pub fn skip(reader: &mut Reader<'_>, depth: usize) -> Result<(), Invalid>
-    ensures ok { OnOk result ((d : Data) × Reads depth reader.old d reader.new) }
+    ensures passed { OnOk result ((d : Data) × ReadsTokens depth reader.old d reader.new) }
     ensures shorter { OnOk result (length reader.new < length reader.old) }
-    ensures err { IsErr result → Unreadable depth reader.old }
+    ensures refused { IsErr result → Unreadable depth reader.old }
 {
     let Some(token) = reader.next() else {
         return Err(Invalid);
@@ -52,9 +52,9 @@ pub fn skip(reader: &mut Reader<'_>, depth: usize) -> Result<(), Invalid>
 #[cycle(skip)]
 #[inline(never)]
 fn skip_items(reader: &mut Reader<'_>, depth: usize) -> Result<(), Invalid>
-    ensures ok { OnOk result ((ds : Items) × ReadsItems depth reader.old ds reader.new) }
+    ensures passed { OnOk result ((ds : Items) × ReadsItems depth reader.old ds reader.new) }
     ensures shorter { OnOk result (length reader.new < length reader.old) }
-    ensures err { IsErr result → UnreadableItems depth reader.old }
+    ensures refused { IsErr result → UnreadableItems depth reader.old }
 {
     'items: while !reader.take_end_array() {
         skip(reader, depth)?;
@@ -70,9 +70,9 @@ fn skip_items(reader: &mut Reader<'_>, depth: usize) -> Result<(), Invalid>
 #[cycle(skip)]
 #[inline(never)]
 fn skip_members(reader: &mut Reader<'_>, depth: usize) -> Result<(), Invalid>
-    ensures ok { OnOk result ((ms : Members) × ReadsMembers depth reader.old ms reader.new) }
+    ensures passed { OnOk result ((ms : Members) × ReadsMembers depth reader.old ms reader.new) }
     ensures shorter { OnOk result (length reader.new < length reader.old) }
-    ensures err { IsErr result → UnreadableMembers depth reader.old }
+    ensures refused { IsErr result → UnreadableMembers depth reader.old }
 {
     'members: while let Some(_) = reader.next_key()? {
         skip(reader, depth)?;

@@ -6,19 +6,19 @@ use Rattle.fast_float.specs.Text.{Parts, digits_of, nearest, with_sign, IsIntege
 use Rattle.serde_json.specs.Data.{unsigned, negative, float}
 use Rattle.serde_json.specs.Read.{number_of, number_from, float_of}
 use Rattle.jsonptr_numbers.specs.Decimal.{is_negative, parts_of}
-use Rattle.jsonptr_numbers.specs.Kept.{IsKept}
+use Rattle.jsonptr_numbers.specs.Kept.{IsKeptNumber}
 
 number_is : (s : List ℕ) (b : Bool) → is_negative s ≡ b → number_of s ≡ number_from b (parts_of s)
 unfolding number_of
 number_is s true e = rw e refl
 number_is s false e = rw e refl
 
-pub kept_unsigned : (s : List ℕ) (p : Parts) → is_negative s ≡ false → p ≡ parts_of s → IsInteger p → number_from false p ≡ Some (unsigned (digits_of p)) → IsKept s
+pub kept_unsigned : (s : List ℕ) (p : Parts) → is_negative s ≡ false → p ≡ parts_of s → IsInteger p → number_from false p ≡ Some (unsigned (digits_of p)) → IsKeptNumber s
 kept_unsigned s p sign e whole is =
     let here : IsInteger (parts_of s) × (number_from false (parts_of s) ≡ Some (unsigned (digits_of (parts_of s)))) = subst (λ (q : Parts). IsInteger q × (number_from false q ≡ Some (unsigned (digits_of q)))) e (whole, is) in
     (unsigned (digits_of (parts_of s)), number_is s false sign ∙ here.1, (here.0, refl))
 
-pub kept_negative : (s : List ℕ) (p : Parts) → is_negative s ≡ true → p ≡ parts_of s → IsInteger p → number_from true p ≡ Some (negative (with_sign true (digits_of p))) → IsKept s
+pub kept_negative : (s : List ℕ) (p : Parts) → is_negative s ≡ true → p ≡ parts_of s → IsInteger p → number_from true p ≡ Some (negative (with_sign true (digits_of p))) → IsKeptNumber s
 kept_negative s p sign e whole is =
     let here : IsInteger (parts_of s) × (number_from true (parts_of s) ≡ Some (negative (with_sign true (digits_of (parts_of s))))) = subst (λ (q : Parts). IsInteger q × (number_from true q ≡ Some (negative (with_sign true (digits_of q))))) e (whole, is) in
     (negative (with_sign true (digits_of (parts_of s))), number_is s true sign ∙ here.1, (here.0, refl))

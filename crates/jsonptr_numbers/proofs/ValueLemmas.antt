@@ -5,7 +5,7 @@ use Rattle.std.proofs.lemmas.Nat.{pow-add}
 use Rattle.fast_float.specs.Text.{Parts, digits_of, tens_up, tens_down}
 use Rattle.jsonptr_numbers.specs.Decimal.{WriteSame}
 use Rattle.jsonptr_numbers.specs.PrivateNormal.{IsNormal, IsSame, IsLong}
-use Rattle.jsonptr_numbers.specs.Kept.{IsShort}
+use Rattle.jsonptr_numbers.specs.Kept.{HasShortDigits}
 use Rattle.jsonptr_numbers.proofs.TenLemmas.{ten_pos, least, highest}
 use Rattle.jsonptr_numbers.specs.declared.normal.Normal.{Normal}
 
@@ -72,16 +72,16 @@ long_other p q m h k fits same =
     sym left ∙ ap (λ d. digits_of p * 10 ^ tens_up p * 10 ^ d) k.down ∙ same ∙ normal_times q m k (tens_down p) in
     omega (arith, least h.n m.digits (h.zeros + tens_up p + m.down) (m.up + tens_down p) h.last e, h.long)
 
-pub long_not_short : (q : Parts) → IsLong (q.whole ++ q.fraction) → IsShort q → ⊥
+pub long_not_short : (q : Parts) → IsLong (q.whole ++ q.fraction) → HasShortDigits q → ⊥
 long_not_short q h k = omega (arith, least h.n k.significant h.zeros k.zeros h.last (sym h.value ∙ k.digits), h.long, k.few)
 
 not_zero : (m : ℕ) → (m ≡ 0) ⊎ (m % 10 ≢ 0) → 0 < m → m % 10 ≢ 0
 not_zero m (inl none) some e = omega arith
 not_zero m (inr last) some e = last e
 
-pub many_not_short : (q : Parts) (m : Normal) → IsNormal q m → 10 ^ 17 ≤ m.digits → IsShort q → ⊥
+pub many_not_short : (q : Parts) (m : Normal) → IsNormal q m → 10 ^ 17 ≤ m.digits → HasShortDigits q → ⊥
 many_not_short q m h many k =
     omega (arith, least m.digits k.significant h.zeros k.zeros (not_zero m.digits h.last (omega arith)) (sym h.value ∙ k.digits), k.few)
 
-pub few_is_short : (q : Parts) (m : Normal) → IsNormal q m → m.digits < 10 ^ 17 → IsShort q
+pub few_is_short : (q : Parts) (m : Normal) → IsNormal q m → m.digits < 10 ^ 17 → HasShortDigits q
 few_is_short q m h few = record { significant = m.digits; zeros = h.zeros; digits = h.value; few = few; exponent = h.power_fits }

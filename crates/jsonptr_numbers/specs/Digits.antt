@@ -2,7 +2,7 @@
 use Rattle.std.specs.Prelude.{◌≡◌, ℕ, List, [], ◌∷◌, ◌++◌, ⊤}
 use Rattle.json.specs.Token.{Token, begin_object, end_object, begin_array, end_array, key, string, number, boolean, null, bad}
 use Rattle.json.specs.Lex.{tokens}
-use Rattle.jsonptr_numbers.specs.Kept.{IsKept, IsLost}
+use Rattle.jsonptr_numbers.specs.Kept.{IsKeptNumber, IsLost}
 
 -- `KeepsToken t`: the token `t` is no number, or it is kept
 abbrev pub KeepsToken : Token → Type 0
@@ -12,7 +12,7 @@ KeepsToken begin_array = ⊤
 KeepsToken end_array = ⊤
 KeepsToken (key s) = ⊤
 KeepsToken (string s) = ⊤
-KeepsToken (number s) = IsKept s
+KeepsToken (number s) = IsKeptNumber s
 KeepsToken (boolean b) = ⊤
 KeepsToken null = ⊤
 KeepsToken bad = ⊤

@@ -1,7 +1,7 @@
 -- Why a text is not read with all its digits.
 use Rattle.std.specs.Prelude.{◌≡◌, None, ⊤}
 use Rattle.serde_json.specs.Read.{read}
-use Rattle.jsonptr_grammar.specs.Text.{Text}
+use Rattle.jsonptr.specs.Text.{Text}
 use Rattle.jsonptr_numbers.specs.Lost.{Loses}
 use Rattle.jsonptr_numbers.specs.declared.exact.ExactError.{ExactError}
 use Rattle.jsonptr_numbers.specs.declared.exact.ExactError.TheVariants.{NotJson, Lost, Memory}

@@ -8,8 +8,8 @@ use Rattle.serde_json.specs.Data.{Num, unsigned, negative, float}
 use Rattle.serde_json.specs.Read.{number_of}
 use Rattle.jsonptr_numbers.specs.Decimal.{parts_of, HaveSameValue}
 
--- `IsShort p`: `p` has at most 17 significant digits, and an exponent of 64 bits
-pub record IsShort (p : Parts) : Type 0 where
+-- `HasShortDigits p`: `p` has at most 17 significant digits, and an exponent of 64 bits
+pub record HasShortDigits (p : Parts) : Type 0 where
   pub significant : ℕ
   pub zeros : ℕ
   pub digits : digits_of p ≡ significant * 10 ^ zeros
@@ -25,21 +25,21 @@ pub record IsFloatText (x : Float) (s : List ℕ) : Type 0 where
   pub form : IsPlusNumber 16 4 s
   pub reads : number_of s ≡ Some (float x)
 
--- `Keeps raw n`: the number `n`, printed, has the decimal value of `raw`: a whole number has the digits of `raw`, which has no
+-- `KeepsValue raw n`: the number `n`, printed, has the decimal value of `raw`: a whole number has the digits of `raw`, which has no
 -- point and no exponent; a float is printed as a text of this value, with at most 17 significant digits
-abbrev pub Keeps : List ℕ → Num → Type 0
-Keeps raw (unsigned n) = IsInteger (parts_of raw) × (n ≡ digits_of (parts_of raw))
-Keeps raw (negative z) = IsInteger (parts_of raw) × (z ≡ with_sign true (digits_of (parts_of raw)))
-Keeps raw (float x) = (s : List ℕ) × IsFloatText x s × IsShort (parts_of s) × HaveSameValue raw s
+abbrev pub KeepsValue : List ℕ → Num → Type 0
+KeepsValue raw (unsigned n) = IsInteger (parts_of raw) × (n ≡ digits_of (parts_of raw))
+KeepsValue raw (negative z) = IsInteger (parts_of raw) × (z ≡ with_sign true (digits_of (parts_of raw)))
+KeepsValue raw (float x) = (s : List ℕ) × IsFloatText x s × HasShortDigits (parts_of s) × HaveSameValue raw s
 
--- `IsKept raw`: `raw` is read as a number that keeps its decimal value
-abbrev pub IsKept : List ℕ → Type 0
-IsKept raw = (n : Num) × (number_of raw ≡ Some n) × Keeps raw n
+-- `IsKeptNumber raw`: `raw` is read as a number that keeps its decimal value
+abbrev pub IsKeptNumber : List ℕ → Type 0
+IsKeptNumber raw = (n : Num) × (number_of raw ≡ Some n) × KeepsValue raw n
 
 -- `IsLost raw`: `raw` is out of range, or it is read as a float that is printed with another decimal value. A number whose
--- exponent has more than 64 bits counts as lost; that no printed text is longer than `IsShort` says is not proved of the printer
+-- exponent has more than 64 bits counts as lost; that no printed text is longer than `HasShortDigits` says is not proved of the printer
 abbrev pub IsLost : List ℕ → Type 0
 IsLost raw =
     (number_of raw ≡ None)
     ⊎ ((x : Float) × (s : List ℕ) × (number_of raw ≡ Some (float x)) × IsFloatText x s
-    × ((¬ HaveSameValue raw s) ⊎ (HasHugeExponent (parts_of raw) ⊎ (¬ IsShort (parts_of s)))))
+    × ((¬ HaveSameValue raw s) ⊎ (HasHugeExponent (parts_of raw) ⊎ (¬ HasShortDigits (parts_of s)))))

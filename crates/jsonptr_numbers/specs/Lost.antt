@@ -3,7 +3,7 @@ use Rattle.std.specs.Prelude.{◌≡◌, ℕ, List, IfSome, Some, drop, length, 
 use Rattle.json.specs.Lex.{tokens}
 use Rattle.serde_json.specs.Data.{Data}
 use Rattle.serde_json.specs.Read.{read}
-use Rattle.jsonptr_grammar.specs.Text.{Text}
+use Rattle.jsonptr.specs.Text.{Text}
 use Rattle.jsonptr.specs.Json.{FindsValue}
 use Rattle.jsonptr_numbers.specs.Digits.{FirstLost}
 use Rattle.jsonptr_numbers.specs.declared.lost.Lost.{Lost}
@@ -16,9 +16,9 @@ Identifies text raw p = (d : Data) × (whole : Data) × (read raw ≡ Some d) ×
 abbrev pub IsAt : Text → Text → ℕ → Type 0
 IsAt text raw n = take (length raw) (drop n text) ≡ raw
 
--- `Locates text raw lost`: `lost` has the length of the number `raw`. If it has a pointer, this identifies the number in `text`,
+-- `LocatesNumber text raw lost`: `lost` has the length of the number `raw`. If it has a pointer, this identifies the number in `text`,
 -- and if it has an offset, the number is there
-pub record Locates (text raw : Text) (lost : Lost) : Type 0 where
+pub record LocatesNumber (text raw : Text) (lost : Lost) : Type 0 where
   pub identified : IfSome lost.pointer (Identifies text raw)
   pub at : IfSome lost.offset (IsAt text raw)
   pub size : lost.length ≡ length raw
@@ -27,4 +27,4 @@ pub record Locates (text raw : Text) (lost : Lost) : Type 0 where
 pub record Loses (text : Text) (lost : Lost) : Type 0 where
   pub raw : Text
   pub first : FirstLost raw (tokens text)
-  pub located : Locates text raw lost
+  pub located : LocatesNumber text raw lost

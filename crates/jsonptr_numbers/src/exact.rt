@@ -53,7 +53,7 @@ impl From<AllocError> for ExactError {
 /// ```
 pub fn read_exactly(alloc: Global, text: &str) -> Result<Value, ExactError>
     ensures read { IfOk result (λ v. read text.now ≡ Some (view v)) }
-    ensures kept { IfOk result (λ _. KeepsDigits text.now) }
+    ensures digits { IfOk result (λ _. KeepsDigits text.now) }
     ensures refused { IfErr result (IsExactError text.now) }
 {
     let value = match Value::from_str(alloc, text) {

@@ -4,14 +4,14 @@ ghost use Rattle.serde_json.specs.Read.{read};
 ghost use Rattle.serde_json.specs.View.{view};
 ghost use Rattle.jsonptr.specs.Json.{FindsValue};
 ghost use Rattle.jsonptr_numbers.specs.Digits.{AreKept, FirstLost, KeepsDigits};
-ghost use Rattle.jsonptr_numbers.specs.Lost.{Identifies, IsAt, Locates, Loses};
+ghost use Rattle.jsonptr_numbers.specs.Lost.{Identifies, IsAt, LocatesNumber, Loses};
 
 use crate::kept::is_kept;
 use crate::lost::Lost;
 use crate::path::{Found, path_of_first_lost};
 use json::{Reader, Scratch, Token};
 use jsonptr::{Fault, PointerBuf};
-use jsonptr_value::is_same_number;
+use jsonptr_value::{ReadError, is_same_number};
 use serde_json::Value;
 use std::alloc::{AllocError, Global};
 
@@ -61,7 +61,7 @@ fn first_lost<'a>(reader: &mut Reader<'a>) -> Option<&'a str>
 
 /// Returns where the number is in the text, as far as the checks of it succeed.
 fn lost_at(alloc: Global, text: &str, raw: &str) -> Result<Lost, AllocError>
-    ensures { IfOk result (Locates text.now raw.now) }
+    ensures { IfOk result (LocatesNumber text.now raw.now) }
 {
     let length = raw.len();
     match path_of_first_lost(alloc, text)? {
@@ -110,10 +110,10 @@ fn checked_pointer(
 fn read_text(alloc: Global, text: &str) -> Result<Option<Value>, AllocError>
     ensures { IfOk result (λ o. IfSome o (λ v. read text.now ≡ Some (view v))) }
 {
-    match Value::from_str(alloc, text) {
+    match jsonptr_value::read(alloc, text) {
         Ok(value) => Ok(Some(value)),
-        Err(error) if error.is_memory() => Err(AllocError),
-        Err(_) => Ok(None),
+        Err(ReadError::Memory) => Err(AllocError),
+        Err(ReadError::NotJson) => Ok(None),
     }
 }
 

@@ -5,7 +5,7 @@ ghost use Rattle.std.specs.Float.{float_is_finite};
 ghost use Rattle.fast_float.specs.Text.{digits_of, with_sign, IsInteger};
 ghost use Rattle.serde_json.specs.Data.{unsigned, negative, float};
 ghost use Rattle.serde_json.specs.Read.{number_of, number_from, float_of};
-ghost use Rattle.jsonptr_numbers.specs.Kept.{IsKept, IsLost};
+ghost use Rattle.jsonptr_numbers.specs.Kept.{IsKeptNumber, IsLost};
 
 use crate::normal::{has_minus, have_same_value, numeral_of};
 use fast_float::Numeral;
@@ -30,7 +30,7 @@ use fast_float::Numeral;
 /// }
 /// ```
 pub fn is_kept(text: &str) -> bool
-    ensures kept { IsTrue result → IsKept text.now }
+    ensures kept { IsTrue result → IsKeptNumber text.now }
     ensures lost { IsFalse result → IsLost text.now }
 {
     let numeral = numeral_of(text);
@@ -66,7 +66,7 @@ fn is_negative(numeral: &Numeral<'_>) -> bool
 /// value of the text.
 fn is_kept_float(text: &str, value: f64) -> bool
     ensures finite { IsTrue result → IsTrue (float_is_finite value) }
-    ensures kept { IsTrue result → number_of text.now ≡ Some (float value) → IsKept text.now }
+    ensures kept { IsTrue result → number_of text.now ≡ Some (float value) → IsKeptNumber text.now }
     ensures lost { IsFalse result → number_of text.now ≡ (if float_is_finite value then Some (float value) else None)
         → IsLost text.now }
 {

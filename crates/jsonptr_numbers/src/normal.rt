@@ -2,7 +2,7 @@
 ghost use Rattle.std.specs.Prelude.{◌≡◌, ◌+◌, ◌*◌, ◌^◌, ◌<◌, ◌++◌, ◌↔◌, ◌⊎◌, MatchOption, IsTrue, IsFalse};
 ghost use Rattle.std.specs.Str.Parse.{digits_value, AllDigits};
 ghost use Rattle.jsonptr_numbers.specs.Decimal.{parts_of, is_negative, HaveSameValue};
-ghost use Rattle.jsonptr_numbers.specs.Kept.{IsShort, HasHugeExponent};
+ghost use Rattle.jsonptr_numbers.specs.Kept.{HasShortDigits, HasHugeExponent};
 ghost use Rattle.jsonptr_numbers.specs.PrivateNormal.{IsSignificant, IsLong, IsBig, IsNormal, IsSame};
 
 use crate::digits::{value_after, without_zeros};
@@ -85,9 +85,9 @@ const TEN_TO_17: u64 = 100_000_000_000_000_000;
 /// be compared, and the printed one has few digits.
 pub(crate) fn have_same_value(raw: &str, printed: &str) -> bool
     ensures same { IsTrue result → HaveSameValue raw.now printed.now }
-    ensures short { IsTrue result → IsShort (parts_of printed.now) }
+    ensures short { IsTrue result → HasShortDigits (parts_of printed.now) }
     ensures differ { IsFalse result → (¬ HaveSameValue raw.now printed.now)
-        ⊎ (HasHugeExponent (parts_of raw.now) ⊎ (¬ IsShort (parts_of printed.now))) }
+        ⊎ (HasHugeExponent (parts_of raw.now) ⊎ (¬ HasShortDigits (parts_of printed.now))) }
 {
     if has_minus(raw) != has_minus(printed) {
         return false;

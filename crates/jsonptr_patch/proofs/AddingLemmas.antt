@@ -15,11 +15,11 @@ use Rattle.jsonptr.specs.declared.assign.Error.{Error as AssignError}
 use Rattle.jsonptr.specs.declared.assign.Error.TheVariants.{FailedToParseIndex, OutOfBounds}
 use Rattle.jsonptr.specs.Assign.{RefusesAssign}
 use Rattle.jsonptr.specs.Resolve.{Refuses, resolve_position_of, resolve_offset_of}
-use Rattle.jsonptr_tree.specs.Node.{key, Path, Scalar, Label, an_object, an_array, a_leaf, NodeMap, NamesStep, Names}
-use Rattle.jsonptr_tree.specs.Following.{Finds, StopsAt, StopsBefore}
-use Rattle.jsonptr_tree.specs.Removing.{Deletes}
-use Rattle.jsonptr_tree.specs.Json.{nodes, FindsValue, HasSortedKeys}
-use Rattle.jsonptr_tree.specs.Landing.{LandsNowhere}
+use Rattle.jsonptr.specs.Node.{key, Path, Scalar, Label, an_object, an_array, a_leaf, NodeMap, NamesStep, Names}
+use Rattle.jsonptr.specs.Following.{Finds, StopsAt, StopsBefore}
+use Rattle.jsonptr.specs.Removing.{Deletes}
+use Rattle.jsonptr.specs.Json.{nodes, FindsValue, HasSortedKeys}
+use Rattle.jsonptr.specs.Landing.{LandsNowhere}
 use Rattle.jsonptr_tree.proofs.NodeLemmas.{Names_one_path, Names-push}
 use Rattle.jsonptr_tree.proofs.FollowingLemmas.{stops_before, stops_in, stops-lacks, lacks_at_leaf, lacks_at_object, lacks_at_array, Names-StopsBefore, cases_some}
 use Rattle.jsonptr_tree.proofs.JsonLemmas.{FindsValue-Finds, ascends_part}

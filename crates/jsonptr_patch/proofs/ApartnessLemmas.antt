@@ -5,9 +5,9 @@ use Rattle.std.proofs.lemmas.List.Elements.{Contains-append_left, Contains-appen
 use Rattle.jsonptr.specs.Text.{Text}
 use Rattle.jsonptr.specs.Parts.{BeginsWith, IsLongestCommonPrefix}
 use Rattle.serde_json.specs.Data.{Data}
-use Rattle.jsonptr_tree.specs.Node.{Label, an_object, NodeMap, Names}
-use Rattle.jsonptr_tree.specs.Content.{label_of}
-use Rattle.jsonptr_tree.specs.Json.{nodes, FindsValue}
+use Rattle.jsonptr.specs.Node.{Label, an_object, NodeMap, Names}
+use Rattle.jsonptr.specs.Content.{label_of}
+use Rattle.jsonptr.specs.Json.{nodes, FindsValue}
 use Rattle.jsonptr_tree.proofs.NodeLemmas.{Names_one_path}
 use Rattle.jsonptr_patch.specs.Apart.{Diverges, AllDiverge, pointers, all_pointers}
 use Rattle.jsonptr_patch.specs.PrivateLater.{IsObjectAt, Forks}

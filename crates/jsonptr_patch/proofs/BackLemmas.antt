@@ -5,9 +5,9 @@ use Rattle.serde_json.specs.Data.{null}
 use Rattle.serde_json.specs.View.{view}
 use Rattle.serde_json.specs.declared.value.Value.{Value}
 use Rattle.jsonptr.specs.Text.{Text, dec}
-use Rattle.jsonptr_tree.specs.Node.{Path, an_object, an_array, NodeMap, sub, Names, IsTree}
-use Rattle.jsonptr_tree.specs.Following.{Finds}
-use Rattle.jsonptr_tree.specs.Json.{nodes, content}
+use Rattle.jsonptr.specs.Node.{Path, an_object, an_array, NodeMap, sub, Names, IsTree}
+use Rattle.jsonptr.specs.Following.{Finds}
+use Rattle.jsonptr.specs.Json.{nodes, content}
 use Rattle.jsonptr_tree.proofs.ContentLemmas.{map_of-IsTree}
 use Rattle.jsonptr_tree.proofs.NodeLemmas.{Names-pop, Names_one_path}
 use Rattle.jsonptr_tree.proofs.RemovingLemmas.{Deletes_child}
@@ -154,6 +154,14 @@ way_removed n from path place to is d b = inl (ap (λ (ts : List Text). Move pla
 
 pub way_replaced : (n : NodeMap) (from path place again to : List Text) (value : Value) → to ≡ from → again ≡ path → Diverges n from path → TakesAddBack n path (Replace place value) → TakesMoveBack n from path (Replace place value) (Move place to ∷ Add again value ∷ [])
 way_replaced n from path place again to value is same d b = inl (ap₂ (λ (ts us : List Text). Move place ts ∷ Add us value ∷ []) is (same ∙ sym b.0), d)
+
+-- a move back, and an addition of the value that was moved
+
+pub move_reversed : (n : NodeMap) (from path : List Text) (o : Operation) (place to : List Text) → o ≡ Remove place → (IsProperFront place from → ⊥) → to ≡ from → TakesMoveBack n from path o (Move place to ∷ [])
+move_reversed n from path o place to is apart same = subst (λ (p : Operation). TakesMoveBack n from path p (Move place to ∷ [])) (sym is) (inl (ap (λ (ts : List Text). Move place ts ∷ []) same, apart))
+
+pub both_reversed : (n : NodeMap) (from path : List Text) (o again : Operation) → RestoresAt n from again → TakesMoveBack n from path o (o ∷ again ∷ [])
+both_reversed n from path o again restores = inr (again, refl, restores)
 
 -- the same for the pointers of an operation
 

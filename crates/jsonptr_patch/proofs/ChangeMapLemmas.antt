@@ -8,11 +8,11 @@ use Rattle.std.proofs.lemmas.Slice.Eq.{bytes_eq-Decides}
 use Rattle.serde_json.specs.Data.{null}
 use Rattle.jsonptr.specs.Text.{Text}
 use Rattle.jsonptr.specs.Resolve.{PutsAt}
-use Rattle.jsonptr_tree.specs.Node.{Step, key, place, Path, Label, an_array, an_object, NodeMap, sub, Names}
-use Rattle.jsonptr_tree.specs.Content.{Content, scalar, array, object, Items, no_items, item, Members, no_members, member, items_len, get_item, get_member, label_of, child, content_at, map_of, KeysAbove}
-use Rattle.jsonptr_tree.specs.Json.{nodes}
-use Rattle.jsonptr_tree.specs.Put.{same_place, same_step, put}
-use Rattle.jsonptr_tree.specs.Removing.{place_before, without_key, without_place, without_step, Deletes}
+use Rattle.jsonptr.specs.Node.{Step, key, place, Path, Label, an_array, an_object, NodeMap, sub, Names}
+use Rattle.jsonptr.specs.Content.{Content, scalar, array, object, Items, no_items, item, Members, no_members, member, items_len, get_item, get_member, label_of, child, content_at, map_of, KeysAbove}
+use Rattle.jsonptr.specs.Json.{nodes}
+use Rattle.jsonptr.specs.Put.{same_place, same_step, put}
+use Rattle.jsonptr.specs.Removing.{place_before, without_key, without_place, without_step, Deletes}
 use Rattle.jsonptr_tree.proofs.ContentLemmas.{map_of-sub, content_at-push}
 use Rattle.jsonptr_tree.proofs.JsonLemmas.{null_is}
 use Rattle.jsonptr_tree.proofs.PutLemmas.{cases_same, put_below, same_by_step, put-step, put-other_step}

@@ -3,8 +3,8 @@ use Rattle.std.proofs.Common.{◌≡◌, ℕ, zero, suc, Bool, true, false, cond
 use Rattle.std.specs.Cmp.Lexicographic.{slice_cmp}
 use Rattle.std.specs.Ordering.{match_ordering}
 use Rattle.jsonptr.specs.Text.{Text}
-use Rattle.jsonptr_tree.specs.Node.{Step, key, place, Path}
-use Rattle.jsonptr_tree.specs.Content.{Content, scalar, array, object, Items, no_items, item, Members, no_members, member, child, content_at, KeysAbove, SortedContent, SortedItems, SortedMembers}
+use Rattle.jsonptr.specs.Node.{Step, key, place, Path}
+use Rattle.jsonptr.specs.Content.{Content, scalar, array, object, Items, no_items, item, Members, no_members, member, child, content_at, KeysAbove, SortedContent, SortedItems, SortedMembers}
 use Rattle.jsonptr_tree.proofs.ContentMapLemmas.{below_flip, above_more}
 use Rattle.jsonptr_tree.proofs.ContentOrderLemmas.{part_has_sorted_keys}
 use Rattle.jsonptr_tree.proofs.JsonLemmas.{null_is}

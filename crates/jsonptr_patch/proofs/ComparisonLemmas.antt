@@ -3,8 +3,8 @@ use Rattle.std.proofs.Common.{◌≡◌, ◌↔◌, ℕ, ℤ, pos, inl, inr, Lis
 use Rattle.serde_json.specs.Data.{Num, unsigned, negative, float, number}
 use Rattle.serde_json.specs.Find.{as_integer}
 use Rattle.serde_json.specs.View.{view}
-use Rattle.jsonptr_tree.specs.Node.{Scalar, of_json, Label, an_object, an_array, a_leaf, NodeMap}
-use Rattle.jsonptr_tree.specs.Json.{nodes}
+use Rattle.jsonptr.specs.Node.{Scalar, of_json, Label, an_object, an_array, a_leaf, NodeMap}
+use Rattle.jsonptr.specs.Json.{nodes}
 use Rattle.jsonptr_patch.specs.Operating.{Applies, AppliesBy, RefusesOperation, RefusesOperationBy}
 use Rattle.jsonptr_patch.specs.Patching.{Patches, PatchesBy, RefusesPatch, RefusesPatchBy}
 use Rattle.jsonptr_patch.specs.Testing.{whole, SameReading, NumericallyEqual, SameNodeBy, IsEqual, IsEqualBy, HasFloat}

@@ -3,9 +3,9 @@ use Rattle.std.proofs.Common.{◌≡◌, ℕ, ℤ, pos, Bool, [], ◌∷◌, ◌
 use Rattle.serde_json.specs.Data.{Num, unsigned, negative, float, Data, null, boolean, number, string, array, object}
 use Rattle.serde_json.specs.Find.{as_integer}
 use Rattle.jsonptr.specs.Text.{Text}
-use Rattle.jsonptr_tree.specs.Node.{Step, Path, Scalar, of_json, Label, an_object, an_array, a_leaf, NodeMap, sub}
-use Rattle.jsonptr_tree.specs.Content.{Content, scalar, label_of, content_at, map_of}
-use Rattle.jsonptr_tree.specs.Json.{content, nodes}
+use Rattle.jsonptr.specs.Node.{Step, Path, Scalar, of_json, Label, an_object, an_array, a_leaf, NodeMap, sub}
+use Rattle.jsonptr.specs.Content.{Content, scalar, label_of, content_at, map_of}
+use Rattle.jsonptr.specs.Json.{content, nodes}
 use Rattle.jsonptr_tree.proofs.JsonLemmas.{value_at-value}
 use Rattle.jsonptr_patch.specs.Testing.{Reading, nothing, truth, words, whole, reading, SameNode, IsEqual, HasFloat}
 

@@ -3,8 +3,8 @@ use Rattle.std.proofs.Common.{◌≡◌, ℕ, zero, suc, ◌-◌, ◌<◌, ◌�
 use Rattle.std.proofs.lemmas.Bool.{cases_lt}
 use Rattle.std.proofs.lemmas.List.Elements.{Contains-append_left, Contains-append_right}
 use mathlib.Core.Path.{fun_ext}
-use Rattle.jsonptr_tree.specs.Node.{Step, key, place, Path, Label, an_array, NodeMap, sub, MayHave, IsTree, IsListed}
-use Rattle.jsonptr_tree.specs.Removing.{one_less, place_before, without_place}
+use Rattle.jsonptr.specs.Node.{Step, key, place, Path, Label, an_array, NodeMap, sub, MayHave, IsTree, IsListed}
+use Rattle.jsonptr.specs.Removing.{one_less, place_before, without_place}
 use Rattle.jsonptr_tree.proofs.ListedLemmas.{Contains-map}
 use Rattle.jsonptr_tree.proofs.RemovingLemmas.{place_before-below, place_before-from}
 use Rattle.jsonptr_tree.proofs.TreeLemmas.{IsTree-level, IsTree-child}

@@ -10,12 +10,12 @@ use Rattle.serde_json.specs.declared.value.Value.{Value}
 use Rattle.jsonptr.specs.Text.{Text, dec}
 use Rattle.jsonptr.specs.Resolve.{PutsAt}
 use Rattle.jsonptr.specs.Delete.{NamesNothing}
-use Rattle.jsonptr_tree.specs.Node.{Step, key, place, Path, Label, an_object, an_array, NodeMap, sub, NamesStep, Names, IsTree}
-use Rattle.jsonptr_tree.specs.Documents.{IsDocument}
-use Rattle.jsonptr_tree.specs.Following.{Finds}
-use Rattle.jsonptr_tree.specs.Json.{nodes, content}
-use Rattle.jsonptr_tree.specs.Put.{GoesThrough, same_step, rest_after, put}
-use Rattle.jsonptr_tree.specs.Removing.{without_key, without_place, Deletes}
+use Rattle.jsonptr.specs.Node.{Step, key, place, Path, Label, an_object, an_array, NodeMap, sub, NamesStep, Names, IsTree}
+use Rattle.jsonptr.specs.Documents.{IsDocument}
+use Rattle.jsonptr.specs.Following.{Finds}
+use Rattle.jsonptr.specs.Json.{nodes, content}
+use Rattle.jsonptr.specs.Put.{GoesThrough, same_step, rest_after, put}
+use Rattle.jsonptr.specs.Removing.{without_key, without_place, Deletes}
 use Rattle.jsonptr_tree.proofs.ContentLemmas.{map_of-IsTree}
 use Rattle.jsonptr_tree.proofs.FollowingLemmas.{cases_some}
 use Rattle.jsonptr_tree.proofs.NodeLemmas.{sub-root, sub-sub, Names-here, Names-push, Names-pop, Names_one_path, IsTree-above}

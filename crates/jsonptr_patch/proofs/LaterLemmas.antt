@@ -11,12 +11,12 @@ use Rattle.jsonptr.proofs.Calling.{text-append, length-le-text}
 use Rattle.jsonptr.specs.Text.{Text, HasNoTilde, text}
 use Rattle.jsonptr.specs.Types.Fault.{Fault}
 use Rattle.jsonptr.specs.Resolve.{PutsAt}
-use Rattle.jsonptr_tree.specs.Node.{Step, key, place, Path, Label, an_object, NodeMap, sub, NamesStep, Names, IsTree}
-use Rattle.jsonptr_tree.specs.Following.{Finds}
-use Rattle.jsonptr_tree.specs.Json.{nodes, content, FindsValue}
-use Rattle.jsonptr_tree.specs.Content.{Content, label_of, content_at, map_of, SortedContent}
-use Rattle.jsonptr_tree.specs.Put.{same_step, put}
-use Rattle.jsonptr_tree.specs.Removing.{place_before, without_key, without_place, without_step, Deletes}
+use Rattle.jsonptr.specs.Node.{Step, key, place, Path, Label, an_object, NodeMap, sub, NamesStep, Names, IsTree}
+use Rattle.jsonptr.specs.Following.{Finds}
+use Rattle.jsonptr.specs.Json.{nodes, content, FindsValue}
+use Rattle.jsonptr.specs.Content.{Content, label_of, content_at, map_of, SortedContent}
+use Rattle.jsonptr.specs.Put.{same_step, put}
+use Rattle.jsonptr.specs.Removing.{place_before, without_key, without_place, without_step, Deletes}
 use Rattle.jsonptr_tree.proofs.ContentLemmas.{map_of-IsTree}
 use Rattle.jsonptr_tree.proofs.FollowingLemmas.{Finds_one}
 use Rattle.jsonptr_tree.proofs.JsonLemmas.{FindsValue-Finds, null_is}
@@ -28,7 +28,7 @@ use Rattle.jsonptr_journal.specs.Location.{path_of, contents_of}
 use Rattle.jsonptr_journal.specs.Journal.{Undone}
 use Rattle.jsonptr_journal.specs.Writing.{At}
 use Rattle.jsonptr_journal.specs.declared.journal.Journal.{Journal}
-use Rattle.jsonptr_journal.specs.Changes.{IsThere, Replaces, TakesAt}
+use Rattle.jsonptr_journal.specs.Changes.{IsThere, ReplacesContent, TakesAt}
 use Rattle.jsonptr_journal.specs.declared.location.Location.{Location}
 use Rattle.jsonptr_patch.specs.Adding.{Adds}
 use Rattle.jsonptr_patch.specs.Apart.{Diverges, AllDiverge, pointers}
@@ -387,26 +387,26 @@ pending_move_refused d e n i from path front x ls r is h apart puts p refused =
 pub null_sorted : SortedContent (contents_of Null)
 null_sorted = subst SortedContent (sym null_is) tt
 
-blank_puts : (w : Path) (v : Content) (c d : Value) (tokens : List Text) → At w (Replaces v (contents_of Null)) (contents_of c) (contents_of d) → Names (nodes (view c)) tokens w → PutsAt (nodes (view c)) tokens (nodes (view Null)) (nodes (view d))
+blank_puts : (w : Path) (v : Content) (c d : Value) (tokens : List Text) → At w (ReplacesContent v (contents_of Null)) (contents_of c) (contents_of d) → Names (nodes (view c)) tokens w → PutsAt (nodes (view c)) tokens (nodes (view Null)) (nodes (view d))
 blank_puts w v c d tokens a named = puts_value w (contents_of Null) (contents_of c) (contents_of d) tokens (record { old = a.old; new = a.new; there = a.there; made = a.made; related = a.related.1 }) named
 
-blank_finds : (w : Path) (v c d : Value) (tokens : List Text) → At w (Replaces (contents_of v) (contents_of Null)) (contents_of c) (contents_of d) → Names (nodes (view c)) tokens w → FindsValue (view c) tokens (view v)
+blank_finds : (w : Path) (v c d : Value) (tokens : List Text) → At w (ReplacesContent (contents_of v) (contents_of Null)) (contents_of c) (contents_of d) → Names (nodes (view c)) tokens w → FindsValue (view c) tokens (view v)
 blank_finds w v c d tokens a named = record { path = w; named = named; there = a.there ∙ ap (λ (x : Content). Some x) a.related.0 }
 
-pub blank_sorted : (w : Path) (v c d : Value) (tokens : List Text) → At w (Replaces (contents_of v) (contents_of Null)) (contents_of c) (contents_of d) → Names (nodes (view c)) tokens w → SortedContent (contents_of c) → SortedContent (contents_of v) × SortedContent (contents_of d)
+pub blank_sorted : (w : Path) (v c d : Value) (tokens : List Text) → At w (ReplacesContent (contents_of v) (contents_of Null)) (contents_of c) (contents_of d) → Names (nodes (view c)) tokens w → SortedContent (contents_of c) → SortedContent (contents_of v) × SortedContent (contents_of d)
 blank_sorted w v c d tokens a named s = (
   found_ascends (view c) (view v) tokens (blank_finds w v c d tokens a named) s,
   sorted_with_value w (contents_of Null) (contents_of c) (contents_of d) (record { old = a.old; new = a.new; there = a.there; made = a.made; related = a.related.1 }) null_sorted s,
 )
 
-pub waits_moved : (c d f value : Value) (path : List Text) (w : Path) (ls ps : List Later) (l : Later) → HasObject (nodes (view c)) l.path → Names (nodes (view c)) l.path w → IsReached (nodes (view c)) l → AllDiverge (nodes (view c)) (l.path ∷ path ∷ []) (paths_of ls) → Diverges (nodes (view c)) l.path path → At w (Replaces (contents_of value) (contents_of Null)) (contents_of c) (contents_of d) → Adds (nodes (view d)) path (nodes (view value)) (nodes (view f)) → ps ≡ ls ++ l ∷ [] → (n : NodeMap) → IsPending (nodes (view c)) ls n → (m : NodeMap) × Moves n l.path path m × IsPending (nodes (view f)) ps m
+pub waits_moved : (c d f value : Value) (path : List Text) (w : Path) (ls ps : List Later) (l : Later) → HasObject (nodes (view c)) l.path → Names (nodes (view c)) l.path w → IsReached (nodes (view c)) l → AllDiverge (nodes (view c)) (l.path ∷ path ∷ []) (paths_of ls) → Diverges (nodes (view c)) l.path path → At w (ReplacesContent (contents_of value) (contents_of Null)) (contents_of c) (contents_of d) → Adds (nodes (view d)) path (nodes (view value)) (nodes (view f)) → ps ≡ ls ++ l ∷ [] → (n : NodeMap) → IsPending (nodes (view c)) ls n → (m : NodeMap) × Moves n l.path path m × IsPending (nodes (view f)) ps m
 waits_moved c d f value path w ls ps l member named reached h apart a added more n p =
     let puts : PutsAt (nodes (view c)) l.path (nodes (view Null)) (nodes (view d)) = blank_puts w (contents_of value) c d l.path a named in
     let found : Finds (nodes (view c)) l.path (nodes (view value)) = FindsValue-Finds (view c) l.path (view value) (blank_finds w value c d l.path a named) in
     let r = pending_move (nodes (view c)) (nodes (view d)) (nodes (view f)) n value path member.front member.last ls l member.split reached h apart found puts added p in
     (r.0, r.1, subst (λ (qs : List Later). IsPending (nodes (view f)) qs r.0) (sym more) r.2)
 
-pub waits_move_refused : (c d value : Value) (i : ℕ) (from path : List Text) (w : Path) (ls : List Later) (e : PatchError) → HasObject (nodes (view c)) from → Names (nodes (view c)) from w → AllDiverge (nodes (view c)) (from ∷ path ∷ []) (paths_of ls) → Diverges (nodes (view c)) from path → At w (Replaces (contents_of value) (contents_of Null)) (contents_of c) (contents_of d) → RefusesAdd (nodes (view d)) i path e → (n : NodeMap) → IsPending (nodes (view c)) ls n → RefusesMove n i from path e
+pub waits_move_refused : (c d value : Value) (i : ℕ) (from path : List Text) (w : Path) (ls : List Later) (e : PatchError) → HasObject (nodes (view c)) from → Names (nodes (view c)) from w → AllDiverge (nodes (view c)) (from ∷ path ∷ []) (paths_of ls) → Diverges (nodes (view c)) from path → At w (ReplacesContent (contents_of value) (contents_of Null)) (contents_of c) (contents_of d) → RefusesAdd (nodes (view d)) i path e → (n : NodeMap) → IsPending (nodes (view c)) ls n → RefusesMove n i from path e
 waits_move_refused c d value i from path w ls e member named h apart a refused n p =
     pending_move_refused (nodes (view c)) (nodes (view d)) n i from path member.front member.last ls e member.split h apart (blank_puts w (contents_of value) c d from a named) p refused
 
@@ -415,25 +415,25 @@ waits_move_refused c d value i from path w ls e member named h apart a refused n
 member_object : (n : NodeMap) (tokens : List Text) (w : Path) → IsMemberAt n tokens w → HasObject n tokens
 member_object n tokens w m = record { front = m.front; last = m.last; path = m.path; split = m.split; named = m.named; object = m.object }
 
-pub alone_pending : (c d f value : Value) (from path : List Text) (here : Location) → IsMemberAt (nodes (view c)) from (path_of here) → Diverges (nodes (view c)) from path → At (path_of here) (Replaces (contents_of value) (contents_of Null)) (contents_of c) (contents_of d) → Adds (nodes (view d)) path (nodes (view value)) (nodes (view f)) → (m : NodeMap) × Moves (nodes (view c)) from path m × IsPending (nodes (view f)) (record { path = from; location = Some here } ∷ []) m
+pub alone_pending : (c d f value : Value) (from path : List Text) (here : Location) → IsMemberAt (nodes (view c)) from (path_of here) → Diverges (nodes (view c)) from path → At (path_of here) (ReplacesContent (contents_of value) (contents_of Null)) (contents_of c) (contents_of d) → Adds (nodes (view d)) path (nodes (view value)) (nodes (view f)) → (m : NodeMap) × Moves (nodes (view c)) from path m × IsPending (nodes (view f)) (record { path = from; location = Some here } ∷ []) m
 alone_pending c d f value from path here m apart a added =
     let l : Later = record { path = from; location = Some here } in
     let named : Names (nodes (view c)) from (path_of here) = member_named (contents_of c) a.old from (path_of here) m a.there in
     waits_moved c d f value path (path_of here) [] (l ∷ []) l (member_object (nodes (view c)) from (path_of here) m) named named (none_diverges (nodes (view c)) (from ∷ path ∷ []) [] refl) apart a added refl (nodes (view c)) (record { removed = refl; scattered = tt })
 
-pub alone_there : (c d f value : Value) (from path : List Text) (here : Location) → IsMemberAt (nodes (view c)) from (path_of here) → Diverges (nodes (view c)) from path → At (path_of here) (Replaces (contents_of value) (contents_of Null)) (contents_of c) (contents_of d) → Adds (nodes (view d)) path (nodes (view value)) (nodes (view f)) → IsThere (path_of here) (contents_of f)
+pub alone_there : (c d f value : Value) (from path : List Text) (here : Location) → IsMemberAt (nodes (view c)) from (path_of here) → Diverges (nodes (view c)) from path → At (path_of here) (ReplacesContent (contents_of value) (contents_of Null)) (contents_of c) (contents_of d) → Adds (nodes (view d)) path (nodes (view value)) (nodes (view f)) → IsThere (path_of here) (contents_of f)
 alone_there c d f value from path here m apart a added =
     let r = alone_pending c d f value from path here m apart a added in
     named_there (contents_of f) from (path_of here) r.2.scattered.0
 
-pub alone_moved : (c d f g value : Value) (v : Content) (from path : List Text) (here : Location) → IsMemberAt (nodes (view c)) from (path_of here) → Diverges (nodes (view c)) from path → At (path_of here) (Replaces (contents_of value) (contents_of Null)) (contents_of c) (contents_of d) → Adds (nodes (view d)) path (nodes (view value)) (nodes (view f)) → TakesAt (path_of here) v (contents_of f) (contents_of g) → Moves (nodes (view c)) from path (nodes (view g))
+pub alone_moved : (c d f g value : Value) (v : Content) (from path : List Text) (here : Location) → IsMemberAt (nodes (view c)) from (path_of here) → Diverges (nodes (view c)) from path → At (path_of here) (ReplacesContent (contents_of value) (contents_of Null)) (contents_of c) (contents_of d) → Adds (nodes (view d)) path (nodes (view value)) (nodes (view f)) → TakesAt (path_of here) v (contents_of f) (contents_of g) → Moves (nodes (view c)) from path (nodes (view g))
 alone_moved c d f g value v from path here m apart a added taken =
     let l : Later = record { path = from; location = Some here } in
     let r = alone_pending c d f value from path here m apart a added in
     let last : IsPending (nodes (view g)) [] r.0 = pending_pop (nodes (view f)) (nodes (view g)) r.0 (map_of v) l [] (map_of-IsTree (contents_of f)) r.2 (takes_node (path_of here) v (contents_of f) (contents_of g) from taken r.2.scattered.0) in
     subst (λ (k : NodeMap). Moves (nodes (view c)) from path k) last.removed r.1
 
-pub alone_refused : (c d value : Value) (i : ℕ) (from path : List Text) (here : Location) (e : PatchError) → IsMemberAt (nodes (view c)) from (path_of here) → Diverges (nodes (view c)) from path → At (path_of here) (Replaces (contents_of value) (contents_of Null)) (contents_of c) (contents_of d) → RefusesAdd (nodes (view d)) i path e → RefusesMove (nodes (view c)) i from path e
+pub alone_refused : (c d value : Value) (i : ℕ) (from path : List Text) (here : Location) (e : PatchError) → IsMemberAt (nodes (view c)) from (path_of here) → Diverges (nodes (view c)) from path → At (path_of here) (ReplacesContent (contents_of value) (contents_of Null)) (contents_of c) (contents_of d) → RefusesAdd (nodes (view d)) i path e → RefusesMove (nodes (view c)) i from path e
 alone_refused c d value i from path here e m apart a refused = waits_move_refused c d value i from path (path_of here) [] e (member_object (nodes (view c)) from (path_of here) m) (member_named (contents_of c) a.old from (path_of here) m a.there) (none_diverges (nodes (view c)) (from ∷ path ∷ []) [] refl) apart a refused (nodes (view c)) (record { removed = refl; scattered = tt })
 
 -- one node after another

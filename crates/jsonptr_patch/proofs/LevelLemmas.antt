@@ -3,11 +3,11 @@ use Rattle.std.proofs.Common.{◌≡◌, ◌⊎◌, inl, inr, false, List, [], �
 use Rattle.serde_json.specs.Data.{null}
 use Rattle.jsonptr.specs.Text.{Text}
 use Rattle.jsonptr.specs.Resolve.{PutsAt}
-use Rattle.jsonptr_tree.specs.Node.{Step, key, Path, Label, an_object, an_array, a_leaf, NodeMap, sub, NamesStep, Names}
-use Rattle.jsonptr_tree.specs.Following.{Finds}
-use Rattle.jsonptr_tree.specs.Json.{nodes}
-use Rattle.jsonptr_tree.specs.Put.{same_step, rest_after, put}
-use Rattle.jsonptr_tree.specs.Removing.{without_key, without_step, Deletes}
+use Rattle.jsonptr.specs.Node.{Step, key, Path, Label, an_object, an_array, a_leaf, NodeMap, sub, NamesStep, Names}
+use Rattle.jsonptr.specs.Following.{Finds}
+use Rattle.jsonptr.specs.Json.{nodes}
+use Rattle.jsonptr.specs.Put.{same_step, rest_after, put}
+use Rattle.jsonptr.specs.Removing.{without_key, without_step, Deletes}
 use Rattle.jsonptr_tree.proofs.NodeLemmas.{sub-root, sub-sub, Names-append, Names-split, Names-push, Names-pop, Names_one_path}
 use Rattle.jsonptr_tree.proofs.PutLemmas.{cases_same, rest_after-step, same_by_front, put_behind, put_none, put-sub, put_below}
 use Rattle.jsonptr_tree.proofs.RemovingLemmas.{Deletes_child, without_key-same, without_key-other}

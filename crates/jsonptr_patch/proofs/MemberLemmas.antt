@@ -2,8 +2,8 @@
 use Rattle.std.proofs.Common.{◌≡◌, ◌≢◌, false, List, [], ◌∷◌, ◌++◌, Option, Some, None, ◌⊎◌, inl, inr, ⊎_elim, refl, sym, ap, ◌∙◌, subst, append_assoc}
 use mathlib.Core.Path.{fun_ext}
 use Rattle.jsonptr.specs.Text.{Text}
-use Rattle.jsonptr_tree.specs.Node.{Step, key, place, Path, Label, an_object, NodeMap, sub, NamesStep, Names}
-use Rattle.jsonptr_tree.specs.Put.{GoesThrough, same_step, rest_after, label_or, put}
+use Rattle.jsonptr.specs.Node.{Step, key, place, Path, Label, an_object, NodeMap, sub, NamesStep, Names}
+use Rattle.jsonptr.specs.Put.{GoesThrough, same_step, rest_after, label_or, put}
 use Rattle.jsonptr_tree.proofs.NodeLemmas.{sub-root, Names-root, Names_one_list}
 use Rattle.jsonptr_tree.proofs.PutLemmas.{cases_same, cases_front, rest_after-append, rest_after-below, rest_after-other, rest_after-shorter, same_by_front, put_behind, put_none, put_other, sub-put, frame}
 use Rattle.jsonptr_patch.specs.Apart.{Diverges}

@@ -10,10 +10,10 @@ use Rattle.jsonptr.specs.Assign as assign
 use Rattle.jsonptr.specs.Resolve.{Refuses, PutsAt}
 use Rattle.jsonptr.specs.declared.resolve.Error.{Error as ResolveError}
 use Rattle.jsonptr.specs.declared.assign.Error.{Error as AssignError}
-use Rattle.jsonptr_tree.specs.Node.{key, place, Path, Scalar, Label, an_object, an_array, a_leaf, NodeMap, sub, NamesStep, Names, IsTree, IsListed}
-use Rattle.jsonptr_tree.specs.Following.{Finds, StopsAt, StopsBefore}
-use Rattle.jsonptr_tree.specs.Json.{nodes, content}
-use Rattle.jsonptr_tree.specs.Put.{put}
+use Rattle.jsonptr.specs.Node.{key, place, Path, Scalar, Label, an_object, an_array, a_leaf, NodeMap, sub, NamesStep, Names, IsTree, IsListed}
+use Rattle.jsonptr.specs.Following.{Finds, StopsAt, StopsBefore}
+use Rattle.jsonptr.specs.Json.{nodes, content}
+use Rattle.jsonptr.specs.Put.{put}
 use Rattle.jsonptr_tree.proofs.NodeLemmas.{dec_one, Names_one_path, Names-push, Names-here, IsTree-sub, sub-root}
 use Rattle.jsonptr_tree.proofs.FollowingLemmas.{Finds_one, StopsBefore_one, Names-StopsBefore, stops_before}
 use Rattle.jsonptr_tree.proofs.LandingLemmas.{dec_no_dash, lacks_at_end, means_end-dash, means_end-dec}

@@ -10,8 +10,8 @@ use Rattle.jsonptr.specs.Fault.{IfRefused, ForRefused}
 use Rattle.jsonptr.specs.Text.{Text}
 use Rattle.jsonptr.specs.Types.Fault.{Fault}
 use Rattle.jsonptr.specs.Types.Fault.TheVariants.{Refused, Memory}
-use Rattle.jsonptr_tree.specs.Node.{NodeMap}
-use Rattle.jsonptr_tree.specs.Json.{nodes, FindsValue}
+use Rattle.jsonptr.specs.Node.{NodeMap}
+use Rattle.jsonptr.specs.Json.{nodes, FindsValue}
 use Rattle.jsonptr_tree.proofs.JsonLemmas.{FindsValue-Finds}
 use Rattle.jsonptr_patch.specs.Operating.{Takes, IsProperFront, Passes, PassesBy, Applies, AppliesBy, RefusesAdd, RefusesMove, RefusesTest, RefusesTestBy, RefusesOperationBy}
 use Rattle.jsonptr_patch.specs.Patching.{Patches, PatchesBy, RefusesPatchBy}
@@ -94,6 +94,10 @@ refused_longer by n os more e r = record {
 pub ok_all : {T E : Type 0} (r : Result T E) (P Q : Type 0) → (P → Q) → IfOk r (λ _. P) → IfOk r (λ _. Q)
 ok_all (Ok t) P Q all h = all h
 ok_all (Err e) P Q all h = tt
+
+pub ok_each : {T E : Type 0} (r : Result T E) (P Q : T → Type 0) → ((t : T) → P t → Q t) → IfOk r P → IfOk r Q
+ok_each (Ok t) P Q all h = all t h
+ok_each (Err e) P Q all h = tt
 
 pub on_err : {T E : Type 0} (r : Result T E) (P : Type 0) → P → OnErr r P
 on_err (Ok t) P h = tt

@@ -4,10 +4,10 @@ use Rattle.serde_json.specs.Data.{null}
 use Rattle.serde_json.specs.View.{view}
 use Rattle.serde_json.specs.declared.value.Value.{Value}
 use Rattle.jsonptr.specs.Text.{Text}
-use Rattle.jsonptr_tree.specs.Node.{NodeMap}
-use Rattle.jsonptr_tree.specs.Following.{Finds}
-use Rattle.jsonptr_tree.specs.Json.{nodes}
-use Rattle.jsonptr_tree.specs.Removing.{Deletes}
+use Rattle.jsonptr.specs.Node.{NodeMap}
+use Rattle.jsonptr.specs.Following.{Finds}
+use Rattle.jsonptr.specs.Json.{nodes}
+use Rattle.jsonptr.specs.Removing.{Deletes}
 use Rattle.jsonptr_tree.proofs.FollowingLemmas.{Finds_one}
 use Rattle.jsonptr_patch.specs.Adding.{Adds}
 use Rattle.jsonptr_patch.specs.Operating.{IsProperFront, Applies, RestoresAt}

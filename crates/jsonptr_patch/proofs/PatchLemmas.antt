@@ -2,7 +2,7 @@
 use Rattle.std.proofs.Common.{◌≡◌, ℕ, suc, ◌⊎◌, inl, inr, ⊎_elim, List, [], ◌∷◌, ◌++◌, length, refl, sym, ap, ap₂, ◌∙◌, subst, arith, append_assoc, append-nil}
 use Rattle.std.specs.Prelude.{All}
 use Rattle.jsonptr.specs.Documents.{IsDocument}
-use Rattle.jsonptr_tree.specs.Node.{NodeMap, IsTree}
+use Rattle.jsonptr.specs.Node.{NodeMap, IsTree}
 use Rattle.jsonptr_patch.specs.Operating.{AppliesBy, RefusesOperationBy}
 use Rattle.jsonptr_patch.specs.Patching.{PatchesBy, RefusesPatchBy}
 use Rattle.jsonptr_patch.specs.declared.operation.Operation.{Operation}

@@ -1,11 +1,11 @@
 -- Where a value is added, and what adding it there makes of the document.
 use Rattle.std.proofs.Common.{◌≡◌, ℕ, ◌≤◌, List, Option, Some, None, IsSome, option_map, inl, inr, refl, sym, ap, subst}
 use Rattle.jsonptr.specs.Text.{Text}
-use Rattle.jsonptr_tree.specs.Node.{Path, Label, an_object, an_array, Names}
-use Rattle.jsonptr_tree.specs.Content.{Content, scalar, array, object, items_len, label_of, map_of, SortedContent}
+use Rattle.jsonptr.specs.Node.{Path, Label, an_object, an_array, Names}
+use Rattle.jsonptr.specs.Content.{Content, scalar, array, object, items_len, label_of, map_of, SortedContent}
 use Rattle.jsonptr_tree.proofs.ContentLemmas.{content_at-there}
 use Rattle.jsonptr_tree.proofs.NodeLemmas.{Names-here}
-use Rattle.jsonptr_journal.specs.Changes.{IsThere, IsObject, HasLength}
+use Rattle.jsonptr_journal.specs.Changes.{IsThere, IsObjectContent, HasAtLeast}
 use Rattle.jsonptr_journal.specs.Undoing.{CanAdd, AddsAt}
 use Rattle.jsonptr_journal.specs.declared.addition.Target.{Target}
 use Rattle.jsonptr_journal.specs.declared.addition.Target.TheVariants as target
@@ -20,12 +20,12 @@ named_there c tokens w h =
     let r = content_at-there w c (Names-here (map_of c) tokens w h) in
     subst (λ (o : Option Content). IsSome o) (sym r.1) refl
 
-is_object : (e : Content) → label_of e ≡ an_object → IsObject e
+is_object : (e : Content) → label_of e ≡ an_object → IsObjectContent e
 is_object (scalar v) h = let no : ⊥ = cc in absurd no
 is_object (array ds) h = let no : ⊥ = cc in absurd no
 is_object (object ms) h = (ms, refl)
 
-is_array : (e : Content) (len i : ℕ) → label_of e ≡ an_array len → i ≤ len → HasLength i e
+is_array : (e : Content) (len i : ℕ) → label_of e ≡ an_array len → i ≤ len → HasAtLeast i e
 is_array (scalar v) len i h low = let no : ⊥ = cc in absurd no
 is_array (array ds) len i h low =
     let same : items_len ds ≡ len = cc in

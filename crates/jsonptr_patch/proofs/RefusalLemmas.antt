@@ -6,9 +6,9 @@ use Rattle.jsonptr.specs.Delete.{NamesNothing}
 use Rattle.jsonptr.specs.Resolve.{Refuses}
 use Rattle.jsonptr.specs.declared.resolve.Error.{Error as ResolveError}
 use Rattle.jsonptr.specs.declared.assign.Error.{Error as AssignError}
-use Rattle.jsonptr_tree.specs.Node.{key, Path, Scalar, Label, an_object, an_array, a_leaf, NodeMap, sub, NamesStep, Names}
-use Rattle.jsonptr_tree.specs.Following.{Finds, StopsBefore, LacksStep}
-use Rattle.jsonptr_tree.specs.Put.{put}
+use Rattle.jsonptr.specs.Node.{key, Path, Scalar, Label, an_object, an_array, a_leaf, NodeMap, sub, NamesStep, Names}
+use Rattle.jsonptr.specs.Following.{Finds, StopsBefore, LacksStep}
+use Rattle.jsonptr.specs.Put.{put}
 use Rattle.jsonptr_tree.proofs.FollowingLemmas.{cases_some, lacks_at_object, stops_before, stops-lacks}
 use Rattle.jsonptr_tree.proofs.NodeLemmas.{sub-root, sub-sub, Names-append, Names-split, Names_one_path}
 use Rattle.jsonptr_patch.specs.Adding.{LacksParent, HasArray}

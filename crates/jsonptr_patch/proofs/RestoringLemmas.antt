@@ -3,12 +3,12 @@ use Rattle.std.proofs.Common.{◌≡◌, ◌-◌, ◌≤◌, ◌⊎◌, inl, inr
 use mathlib.Core.Path.{fun_ext}
 use Rattle.serde_json.specs.Data.{Data, null}
 use Rattle.jsonptr.specs.Text.{Text}
-use Rattle.jsonptr_tree.specs.Node.{Step, key, place, Path, Label, an_object, an_array, a_leaf, NodeMap, sub, NamesStep, Names}
-use Rattle.jsonptr_tree.specs.Following.{Finds}
-use Rattle.jsonptr_tree.specs.Json.{nodes, FindsValue}
-use Rattle.jsonptr_tree.specs.Put.{same_step, put}
+use Rattle.jsonptr.specs.Node.{Step, key, place, Path, Label, an_object, an_array, a_leaf, NodeMap, sub, NamesStep, Names}
+use Rattle.jsonptr.specs.Following.{Finds}
+use Rattle.jsonptr.specs.Json.{nodes, FindsValue}
+use Rattle.jsonptr.specs.Put.{same_step, put}
 use Rattle.jsonptr_tree.proofs.JsonLemmas.{FindsValue-Finds}
-use Rattle.jsonptr_tree.specs.Removing.{one_less, without_key, without_place, without_step, Deletes}
+use Rattle.jsonptr.specs.Removing.{one_less, without_key, without_place, without_step, Deletes}
 use Rattle.jsonptr_tree.proofs.NodeLemmas.{sub-root, sub-sub, Names-here, Names-pop}
 use Rattle.jsonptr_tree.proofs.PutLemmas.{cases_same, same_by_step, put-step, put-other_step, put_at, put-sub, put-put, put_below, sub-put, Names-put}
 use Rattle.jsonptr_tree.proofs.RemovingLemmas.{without_key-other}

@@ -17,11 +17,11 @@ use Rattle.jsonptr.specs.declared.resolve.Error.{Error as ResolveError}
 use Rattle.jsonptr.specs.declared.resolve.Error.TheVariants.{Unreachable}
 use Rattle.jsonptr.specs.declared.assign.Error.{Error as AssignError}
 use Rattle.jsonptr.specs.Documents.{IsDocument}
-use Rattle.jsonptr_tree.specs.Node.{key, Path, Scalar, of_json, of_toml, Label, an_object, an_array, a_leaf, NodeMap, sub, Names, IsTree, IsListed}
-use Rattle.jsonptr_tree.specs.Following.{Finds}
-use Rattle.jsonptr_tree.specs.Assigning.{Assigns}
-use Rattle.jsonptr_tree.specs.Json.{nodes, content}
-use Rattle.jsonptr_tree.specs.Put.{put}
+use Rattle.jsonptr.specs.Node.{key, Path, Scalar, of_json, of_toml, Label, an_object, an_array, a_leaf, NodeMap, sub, Names, IsTree, IsListed}
+use Rattle.jsonptr.specs.Following.{Finds}
+use Rattle.jsonptr.specs.Assigning.{Assigns}
+use Rattle.jsonptr.specs.Json.{nodes, content}
+use Rattle.jsonptr.specs.Put.{put}
 use Rattle.jsonptr_tree.proofs.AssigningLemmas.{Assigns-LandsNowhere}
 use Rattle.jsonptr_tree.proofs.ContentLemmas.{map_of-finite}
 use Rattle.jsonptr_tree.proofs.FollowingLemmas.{cases_dec, cases_some, the_label}

@@ -17,9 +17,9 @@ use Rattle.serde_json.specs.Find.{as_null, as_bool, as_number, as_str, as_array,
 use Rattle.serde_json.specs.View.{view, items_view, members_view}
 use Rattle.serde_json.specs.declared.value.Value.{Value, Null, Array, Object}
 use Rattle.serde_json.proofs.Views.{Entry}
-use Rattle.jsonptr_tree.specs.Node.{key, place, Path, Scalar, of_json, Label, an_object, an_array, a_leaf}
-use Rattle.jsonptr_tree.specs.Content.{Content, scalar, get_item, label_of, content_at, map_of}
-use Rattle.jsonptr_tree.specs.Json.{content, nodes}
+use Rattle.jsonptr.specs.Node.{key, place, Path, Scalar, of_json, Label, an_object, an_array, a_leaf}
+use Rattle.jsonptr.specs.Content.{Content, scalar, get_item, label_of, content_at, map_of}
+use Rattle.jsonptr.specs.Json.{content, nodes}
 use Rattle.jsonptr_tree.proofs.JsonLemmas.{content_of, array_is, object_is}
 use Rattle.jsonptr_tree.proofs.LevelLemmas.{items_by, items_len-by, get_item-by, get_member-by}
 use Rattle.jsonptr_document.proofs.JsonLevel.{array_at, object_at}

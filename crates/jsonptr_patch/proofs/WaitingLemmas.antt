@@ -4,10 +4,10 @@ use Rattle.std.proofs.lemmas.List.Elements.{Contains-append_left, Contains-appen
 use Rattle.serde_json.specs.View.{view}
 use Rattle.serde_json.specs.declared.value.Value.{Value}
 use Rattle.jsonptr.specs.Text.{Text}
-use Rattle.jsonptr_tree.specs.Node.{key, Label, NodeMap, IsTree}
-use Rattle.jsonptr_tree.specs.Following.{Finds}
-use Rattle.jsonptr_tree.specs.Json.{nodes, content}
-use Rattle.jsonptr_tree.specs.Put.{put}
+use Rattle.jsonptr.specs.Node.{key, Label, NodeMap, IsTree}
+use Rattle.jsonptr.specs.Following.{Finds}
+use Rattle.jsonptr.specs.Json.{nodes, content}
+use Rattle.jsonptr.specs.Put.{put}
 use Rattle.jsonptr_tree.proofs.ContentLemmas.{map_of-IsTree}
 use Rattle.jsonptr_tree.proofs.ListedLemmas.{Contains-cons}
 use Rattle.jsonptr_patch.specs.Adding.{AddsUnder, Adds}

@@ -23,8 +23,8 @@ LastNeedsNoMemory (Move from path) = ⊥
 LastNeedsNoMemory (Copy from path) = ⊥
 LastNeedsNoMemory (Test path value) = HasNoTilde (text path)
 
--- `NeedsNoMemory os`: the operations `os` need no memory. All except the last one are tests.
-abbrev pub NeedsNoMemory : List Operation → Type 0
-NeedsNoMemory os =
+-- `PatchNeedsNoMemory os`: the operations `os` need no memory. All except the last one are tests.
+abbrev pub PatchNeedsNoMemory : List Operation → Type 0
+PatchNeedsNoMemory os =
     (front : List Operation) (last : Operation) → os ≡ front ++ last ∷ []
     → All TestNeedsNoMemory front × LastNeedsNoMemory last

@@ -5,7 +5,7 @@ use Rattle.jsonptr.specs.Content.{Content}
 use Rattle.jsonptr.specs.Text.{Text, HasNoTilde, text}
 use Rattle.jsonptr.specs.Node.{key, Path, an_object, NodeMap, Names}
 use Rattle.jsonptr_journal.specs.Location.{path_of, contents_of}
-use Rattle.jsonptr_journal.specs.Changes.{Replaces}
+use Rattle.jsonptr_journal.specs.Changes.{ReplacesContent}
 use Rattle.jsonptr_journal.specs.Leading.{AtNamed}
 use Rattle.jsonptr_journal.specs.Undoing.{IsRemoval}
 use Rattle.jsonptr_journal.specs.declared.location.Location.{Location}
@@ -108,7 +108,7 @@ CanWait n (Test path value) = ⊥
 -- `Blanks tokens t c d`: the value of `t` is the node of `c` that `tokens` name, `d` is `c` with `null` instead of it, and
 -- the removal of `t` undoes that.
 pub record Blanks (tokens : List Text) (t : Taken) (c d : Content) : Type 0 where
-  pub blank : AtNamed tokens (Replaces (contents_of t.value) (contents_of Null)) c d
+  pub blank : AtNamed tokens (ReplacesContent (contents_of t.value) (contents_of Null)) c d
   pub undone : IsRemoval t.removal (contents_of t.value) c d
 
 -- `IsSource r tokens c d`: `r` is the node of `c` that `tokens` name, which is `null` in `d`, or it is `None` and `d` is

@@ -7,7 +7,8 @@ use Rattle.jsonptr_patch.specs.PrivateTesting.{FloatIn}
 use Rattle.jsonptr_patch.specs.declared.float_search.Left.{Left}
 use Rattle.jsonptr_patch.specs.declared.float_search.Left.TheVariants.{Elements, Members}
 
--- `LeadsTo v left`: a float in a child that is left is one in `v`.
+-- `ElementsLeadTo v xs`, `MembersLeadTo v es`, `LeadsTo v left`, `AllLeadTo v ls`: a float in a child that is left is one
+-- in `v`
 abbrev pub ElementsLeadTo : Value → List Value → Type 0
 ElementsLeadTo v [] = ⊤
 ElementsLeadTo v (x ∷ xs) = (FloatIn x → FloatIn v) × ElementsLeadTo v xs
@@ -24,7 +25,7 @@ abbrev pub AllLeadTo : Value → List Left → Type 0
 AllLeadTo v [] = ⊤
 AllLeadTo v (l ∷ ls) = LeadsTo v l × AllLeadTo v ls
 
--- `Lacks left`: no child that is left has a float.
+-- `ElementsLack xs`: no element has a float
 abbrev pub ElementsLack : List Value → Type 0
 ElementsLack [] = ⊤
 ElementsLack (x ∷ xs) = (FloatIn x → ⊥) × ElementsLack xs

@@ -13,6 +13,7 @@ ghost use Rattle.jsonptr_patch.specs.PrivateRecording.{Records};
 
 use crate::operation::PatchError;
 use crate::target::no_target;
+use crate::turn::Turn;
 use jsonptr::{Fault, Pointer, Token, assign, resolve};
 use jsonptr_document::document::{Document, Node};
 use jsonptr_journal::addition::{Target, insert};
@@ -22,36 +23,35 @@ use jsonptr_value::discard;
 use serde_json::Value;
 use std::alloc::{AllocError, Global};
 
-/// Adds a value at the pointer, for the operation with this number.
+/// Adds a value at the pointer, for the operation of this turn.
 ///
 /// # Errors
 ///
 /// [`Fault::Refused`] if nothing can be added there, and [`Fault::Memory`] if an allocation fails.
 /// The value is dropped.
 pub fn add(
-    alloc: Global,
-    doc: &mut Value,
+    turn: Turn,
+    document: &mut Value,
     journal: &mut Journal,
-    number: usize,
     path: Pointer<'_>,
     value: Value,
 ) -> Result<(), Fault<PatchError>>
-    ensures added { IfOk result (λ _. Adds (nodes (view doc.old)) (tokens path.entry)
-        (nodes (view value)) (nodes (view doc.new))) }
+    ensures added { IfOk result (λ _. Adds (nodes (view document.old)) (tokens path.entry)
+        (nodes (view value)) (nodes (view document.new))) }
     ensures sorted { IfOk result (λ _.
-        HasSortedKeys (view value) → HasSortedKeys (view doc.old) → HasSortedKeys (view doc.new)) }
+        HasSortedKeys (view value) → HasSortedKeys (view document.old) → HasSortedKeys (view document.new)) }
     ensures refused { IfRefused result
-        (RefusesAdd (nodes (view doc.old)) number (tokens path.entry)) }
-    ensures undone { Records journal.old doc.old journal.new doc.new }
+        (RefusesAdd (nodes (view document.old)) turn.number (tokens path.entry)) }
+    ensures undone { Records journal.old document.old journal.new document.new }
 {
-    let place = match place(alloc, doc, number, path) {
+    let place = match place(turn, document, path) {
         Ok(place) => place,
         Err(fault) => {
             discard(value);
             return Err(fault);
         }
     };
-    journal.add(alloc, doc, place, value)?;
+    journal.add(turn.alloc, document, place, value)?;
     Ok(())
 }
 
@@ -61,28 +61,27 @@ pub fn add(
 ///
 /// Those of [`add`]. The document is unchanged.
 pub fn add_last(
-    alloc: Global,
-    doc: &mut Value,
-    number: usize,
+    turn: Turn,
+    document: &mut Value,
     path: Pointer<'_>,
     value: Value,
 ) -> Result<(), Fault<PatchError>>
-    ensures added { IfOk result (λ _. Adds (nodes (view doc.old)) (tokens path.entry)
-        (nodes (view value)) (nodes (view doc.new))) }
+    ensures added { IfOk result (λ _. Adds (nodes (view document.old)) (tokens path.entry)
+        (nodes (view value)) (nodes (view document.new))) }
     ensures sorted { IfOk result (λ _.
-        HasSortedKeys (view value) → HasSortedKeys (view doc.old) → HasSortedKeys (view doc.new)) }
+        HasSortedKeys (view value) → HasSortedKeys (view document.old) → HasSortedKeys (view document.new)) }
     ensures refused { IfRefused result
-        (RefusesAdd (nodes (view doc.old)) number (tokens path.entry)) }
-    ensures unchanged { OnErr result (view doc.new ≡ view doc.old) }
+        (RefusesAdd (nodes (view document.old)) turn.number (tokens path.entry)) }
+    ensures unchanged { OnErr result (view document.new ≡ view document.old) }
 {
-    let place = match place(alloc, doc, number, path) {
+    let place = match place(turn, document, path) {
         Ok(place) => place,
         Err(fault) => {
             discard(value);
             return Err(fault);
         }
     };
-    match insert(alloc, doc, place, value) {
+    match insert(turn.alloc, document, place, value) {
         Ok(()) => Ok(()),
         Err(value) => {
             discard(value);
@@ -97,27 +96,22 @@ pub fn add_last(
 /// # Errors
 ///
 /// [`Fault::Refused`] if nothing can be added there, and [`Fault::Memory`] if an allocation fails.
-pub fn place(
-    alloc: Global,
-    doc: &Value,
-    number: usize,
-    path: Pointer<'_>,
-) -> Result<Target, Fault<PatchError>>
-    ensures found { IfOk result (IsPlace (nodes (view doc.now)) (tokens path.entry)) }
+pub fn place(turn: Turn, document: &Value, path: Pointer<'_>) -> Result<Target, Fault<PatchError>>
+    ensures found { IfOk result (IsPlace (nodes (view document.now)) (tokens path.entry)) }
     ensures refused { IfRefused result
-        (RefusesAdd (nodes (view doc.now)) number (tokens path.entry)) }
+        (RefusesAdd (nodes (view document.now)) turn.number (tokens path.entry)) }
 {
     let Some((front, last)) = path.split_back() else {
         return Ok(Target::Root);
     };
-    let parent = match locate(alloc, doc, front) {
+    let parent = match locate(turn.alloc, document, front) {
         Ok(parent) => parent,
-        Err(fault) => return Err(no_target(number, fault)),
+        Err(fault) => return Err(no_target(turn.number, fault)),
     };
     match parent.node.node() {
         Node::Object(_) => Ok(Target::Member {
             object: parent.location,
-            key: key_of(alloc, &last)?,
+            key: key_of(turn.alloc, &last)?,
         }),
         Node::Array(elements) => match insertion_index(front, &last, elements.len()) {
             Ok(index) => Ok(Target::Element {
@@ -125,12 +119,12 @@ pub fn place(
                 index,
             }),
             Err(cause) => Err(Fault::Refused(PatchError::BadPlace {
-                operation: number,
+                operation: turn.number,
                 cause,
             })),
         },
         Node::Leaf => Err(Fault::Refused(PatchError::NoTarget {
-            operation: number,
+            operation: turn.number,
             cause: resolve::Error::Unreachable {
                 position: front.count(),
                 offset: front.len(),

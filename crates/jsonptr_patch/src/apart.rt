@@ -61,24 +61,29 @@ pub fn are_apart(
 /// [`AllocError`] if an allocation fails.
 fn is_apart_from_each(
     alloc: Global,
-    doc: &Value,
+    document: &Value,
     operation: &Operation,
     others: &[Operation],
 ) -> Result<bool, AllocError>
     ensures { IfOk result (λ apart. IsTrue apart
-        ↔ AllDiverge (nodes (view doc.now)) (pointers operation.now) (all_pointers others.now)) }
+        ↔ AllDiverge (nodes (view document.now)) (pointers operation.now) (all_pointers others.now)) }
 {
     match operation {
-        Operation::Add { path, .. } => diverges_from_each(alloc, doc, path.as_ptr(), others),
-        Operation::Remove { path } => diverges_from_each(alloc, doc, path.as_ptr(), others),
-        Operation::Replace { path, .. } => diverges_from_each(alloc, doc, path.as_ptr(), others),
+        Operation::Add { path, .. } => diverges_from_each(alloc, document, path.as_ptr(), others),
+        Operation::Remove { path } => diverges_from_each(alloc, document, path.as_ptr(), others),
+        Operation::Replace { path, .. } => diverges_from_each(
+            alloc,
+            document,
+            path.as_ptr(),
+            others,
+        ),
         Operation::Move { from, path } => {
-            both_diverge_from_each(alloc, doc, from.as_ptr(), path.as_ptr(), others)
+            both_diverge_from_each(alloc, document, from.as_ptr(), path.as_ptr(), others)
         }
         Operation::Copy { from, path } => {
-            both_diverge_from_each(alloc, doc, from.as_ptr(), path.as_ptr(), others)
+            both_diverge_from_each(alloc, document, from.as_ptr(), path.as_ptr(), others)
         }
-        Operation::Test { path, .. } => diverges_from_each(alloc, doc, path.as_ptr(), others),
+        Operation::Test { path, .. } => diverges_from_each(alloc, document, path.as_ptr(), others),
     }
 }
 
@@ -89,18 +94,18 @@ fn is_apart_from_each(
 /// [`AllocError`] if an allocation fails.
 fn both_diverge_from_each(
     alloc: Global,
-    doc: &Value,
+    document: &Value,
     from: Pointer<'_>,
     path: Pointer<'_>,
     others: &[Operation],
 ) -> Result<bool, AllocError>
-    ensures { IfOk result (λ apart. IsTrue apart ↔ AllDiverge (nodes (view doc.now))
+    ensures { IfOk result (λ apart. IsTrue apart ↔ AllDiverge (nodes (view document.now))
         (tokens from.entry ∷ tokens path.entry ∷ []) (all_pointers others.now)) }
 {
-    if !diverges_from_each(alloc, doc, from, others)? {
+    if !diverges_from_each(alloc, document, from, others)? {
         return Ok(false);
     }
-    diverges_from_each(alloc, doc, path, others)
+    diverges_from_each(alloc, document, path, others)
 }
 
 /// Returns whether the pointer diverges from each pointer of the operations.
@@ -110,15 +115,15 @@ fn both_diverge_from_each(
 /// [`AllocError`] if an allocation fails.
 fn diverges_from_each(
     alloc: Global,
-    doc: &Value,
-    ptr: Pointer<'_>,
+    document: &Value,
+    pointer: Pointer<'_>,
     others: &[Operation],
 ) -> Result<bool, AllocError>
     ensures { IfOk result (λ apart. IsTrue apart
-        ↔ AllDiverge (nodes (view doc.now)) (tokens ptr.entry ∷ []) (all_pointers others.now)) }
+        ↔ AllDiverge (nodes (view document.now)) (tokens pointer.entry ∷ []) (all_pointers others.now)) }
 {
     for other in others {
-        if !diverges_from_one(alloc, doc, ptr, other)? {
+        if !diverges_from_one(alloc, document, pointer, other)? {
             return Ok(false);
         }
     }
@@ -132,24 +137,24 @@ fn diverges_from_each(
 /// [`AllocError`] if an allocation fails.
 fn diverges_from_one(
     alloc: Global,
-    doc: &Value,
-    ptr: Pointer<'_>,
+    document: &Value,
+    pointer: Pointer<'_>,
     other: &Operation,
 ) -> Result<bool, AllocError>
     ensures { IfOk result (λ apart. IsTrue apart
-        ↔ AllDiverge (nodes (view doc.now)) (tokens ptr.entry ∷ []) (pointers other.now)) }
+        ↔ AllDiverge (nodes (view document.now)) (tokens pointer.entry ∷ []) (pointers other.now)) }
 {
     match other {
-        Operation::Add { path, .. } => diverge(alloc, doc, ptr, path.as_ptr()),
-        Operation::Remove { path } => diverge(alloc, doc, ptr, path.as_ptr()),
-        Operation::Replace { path, .. } => diverge(alloc, doc, ptr, path.as_ptr()),
+        Operation::Add { path, .. } => diverge(alloc, document, pointer, path.as_ptr()),
+        Operation::Remove { path } => diverge(alloc, document, pointer, path.as_ptr()),
+        Operation::Replace { path, .. } => diverge(alloc, document, pointer, path.as_ptr()),
         Operation::Move { from, path } => {
-            diverges_from_both(alloc, doc, ptr, from.as_ptr(), path.as_ptr())
+            diverges_from_both(alloc, document, pointer, from.as_ptr(), path.as_ptr())
         }
         Operation::Copy { from, path } => {
-            diverges_from_both(alloc, doc, ptr, from.as_ptr(), path.as_ptr())
+            diverges_from_both(alloc, document, pointer, from.as_ptr(), path.as_ptr())
         }
-        Operation::Test { path, .. } => diverge(alloc, doc, ptr, path.as_ptr()),
+        Operation::Test { path, .. } => diverge(alloc, document, pointer, path.as_ptr()),
     }
 }
 
@@ -160,18 +165,18 @@ fn diverges_from_one(
 /// [`AllocError`] if an allocation fails.
 fn diverges_from_both(
     alloc: Global,
-    doc: &Value,
-    ptr: Pointer<'_>,
+    document: &Value,
+    pointer: Pointer<'_>,
     from: Pointer<'_>,
     path: Pointer<'_>,
 ) -> Result<bool, AllocError>
-    ensures { IfOk result (λ apart. IsTrue apart ↔ AllDiverge (nodes (view doc.now))
-        (tokens ptr.entry ∷ []) (tokens from.entry ∷ tokens path.entry ∷ [])) }
+    ensures { IfOk result (λ apart. IsTrue apart ↔ AllDiverge (nodes (view document.now))
+        (tokens pointer.entry ∷ []) (tokens from.entry ∷ tokens path.entry ∷ [])) }
 {
-    if !diverge(alloc, doc, ptr, from)? {
+    if !diverge(alloc, document, pointer, from)? {
         return Ok(false);
     }
-    diverge(alloc, doc, ptr, path)
+    diverge(alloc, document, pointer, path)
 }
 
 /// Returns whether the two pointers diverge at an object of the document.
@@ -181,15 +186,15 @@ fn diverges_from_both(
 /// [`AllocError`] if an allocation fails.
 fn diverge(
     alloc: Global,
-    doc: &Value,
+    document: &Value,
     left: Pointer<'_>,
     right: Pointer<'_>,
 ) -> Result<bool, AllocError>
-    ensures { IfOk result (λ apart. IsTrue apart ↔ AllDiverge (nodes (view doc.now))
+    ensures { IfOk result (λ apart. IsTrue apart ↔ AllDiverge (nodes (view document.now))
         (tokens left.entry ∷ []) (tokens right.entry ∷ [])) }
 {
     match fork(left, right) {
-        Some(common) => resolves_to_object(alloc, doc, common),
+        Some(common) => resolves_to_object(alloc, document, common),
         None => Ok(false),
     }
 }
@@ -216,11 +221,15 @@ pub fn fork<'a>(left: Pointer<'a>, right: Pointer<'_>) -> Option<Pointer<'a>>
 /// # Errors
 ///
 /// [`AllocError`] if an allocation fails.
-fn resolves_to_object(alloc: Global, doc: &Value, ptr: Pointer<'_>) -> Result<bool, AllocError>
+fn resolves_to_object(
+    alloc: Global,
+    document: &Value,
+    pointer: Pointer<'_>,
+) -> Result<bool, AllocError>
     ensures { IfOk result (λ is.
-        IsTrue is ↔ IsObjectAt (nodes (view doc.now)) (tokens ptr.entry)) }
+        IsTrue is ↔ IsObjectAt (nodes (view document.now)) (tokens pointer.entry)) }
 {
-    match ptr.resolve(alloc, doc) {
+    match pointer.resolve(alloc, document) {
         Ok(value) => match value.node() {
             Node::Object(_) => Ok(true),
             Node::Array(_) => Ok(false),

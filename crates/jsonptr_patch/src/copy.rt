@@ -11,35 +11,35 @@ ghost use Rattle.jsonptr_patch.specs.PrivateRecording.{Records};
 use crate::add::{add, add_last};
 use crate::operation::PatchError;
 use crate::target::no_target;
+use crate::turn::Turn;
 use jsonptr::{Fault, Pointer};
 use jsonptr_journal::journal::Journal;
 use serde_json::Value;
 use std::alloc::Global;
 
-/// Adds a copy of the value at `from` at `path`, for the operation with this number.
+/// Adds a copy of the value at `from` at `path`, for the operation of this turn.
 ///
 /// # Errors
 ///
 /// [`Fault::Refused`] if `from` does not resolve to a value, or if the copy cannot be added.
 /// [`Fault::Memory`] if an allocation fails.
 pub fn copy(
-    alloc: Global,
-    doc: &mut Value,
+    turn: Turn,
+    document: &mut Value,
     journal: &mut Journal,
-    number: usize,
     from: Pointer<'_>,
     path: Pointer<'_>,
 ) -> Result<(), Fault<PatchError>>
-    ensures copied { IfOk result (λ _. Copies (nodes (view doc.old)) (tokens from.entry)
-        (tokens path.entry) (nodes (view doc.new))) }
+    ensures copied { IfOk result (λ _. Copies (nodes (view document.old)) (tokens from.entry)
+        (tokens path.entry) (nodes (view document.new))) }
     ensures sorted { IfOk result (λ _.
-        HasSortedKeys (view doc.old) → HasSortedKeys (view doc.new)) }
-    ensures refused { IfRefused result (RefusesCopy (nodes (view doc.old)) number
+        HasSortedKeys (view document.old) → HasSortedKeys (view document.new)) }
+    ensures refused { IfRefused result (RefusesCopy (nodes (view document.old)) turn.number
         (tokens from.entry) (tokens path.entry)) }
-    ensures undone { Records journal.old doc.old journal.new doc.new }
+    ensures undone { Records journal.old document.old journal.new document.new }
 {
-    let value = copy_of(alloc, doc, number, from)?;
-    add(alloc, doc, journal, number, path, value)
+    let value = copy_of(turn, document, from)?;
+    add(turn, document, journal, path, value)
 }
 
 /// Adds a copy, as [`copy`] does, for the last operation of a patch.
@@ -48,22 +48,21 @@ pub fn copy(
 ///
 /// Those of [`copy`]. The document is unchanged.
 pub fn copy_last(
-    alloc: Global,
-    doc: &mut Value,
-    number: usize,
+    turn: Turn,
+    document: &mut Value,
     from: Pointer<'_>,
     path: Pointer<'_>,
 ) -> Result<(), Fault<PatchError>>
-    ensures copied { IfOk result (λ _. Copies (nodes (view doc.old)) (tokens from.entry)
-        (tokens path.entry) (nodes (view doc.new))) }
+    ensures copied { IfOk result (λ _. Copies (nodes (view document.old)) (tokens from.entry)
+        (tokens path.entry) (nodes (view document.new))) }
     ensures sorted { IfOk result (λ _.
-        HasSortedKeys (view doc.old) → HasSortedKeys (view doc.new)) }
-    ensures refused { IfRefused result (RefusesCopy (nodes (view doc.old)) number
+        HasSortedKeys (view document.old) → HasSortedKeys (view document.new)) }
+    ensures refused { IfRefused result (RefusesCopy (nodes (view document.old)) turn.number
         (tokens from.entry) (tokens path.entry)) }
-    ensures unchanged { OnErr result (view doc.new ≡ view doc.old) }
+    ensures unchanged { OnErr result (view document.new ≡ view document.old) }
 {
-    let value = copy_of(alloc, doc, number, from)?;
-    add_last(alloc, doc, number, path, value)
+    let value = copy_of(turn, document, from)?;
+    add_last(turn, document, path, value)
 }
 
 /// Returns a copy of the value that the pointer resolves to.
@@ -72,20 +71,15 @@ pub fn copy_last(
 ///
 /// [`Fault::Refused`] if the pointer does not resolve to a value, and [`Fault::Memory`] if an
 /// allocation fails.
-pub fn copy_of(
-    alloc: Global,
-    doc: &Value,
-    number: usize,
-    from: Pointer<'_>,
-) -> Result<Value, Fault<PatchError>>
-    ensures found { IfOk result (λ v. Finds (nodes (view doc.now)) (tokens from.entry)
+pub fn copy_of(turn: Turn, document: &Value, from: Pointer<'_>) -> Result<Value, Fault<PatchError>>
+    ensures found { IfOk result (λ v. Finds (nodes (view document.now)) (tokens from.entry)
         (nodes (view v))) }
-    ensures sorted { IfOk result (λ v. HasSortedKeys (view doc.now) → HasSortedKeys (view v)) }
+    ensures sorted { IfOk result (λ v. HasSortedKeys (view document.now) → HasSortedKeys (view v)) }
     ensures refused { IfRefused result
-        (RefusesTarget (nodes (view doc.now)) number (tokens from.entry)) }
+        (RefusesTarget (nodes (view document.now)) turn.number (tokens from.entry)) }
 {
-    match from.resolve(alloc, doc) {
-        Ok(value) => Ok(jsonptr_value::copy(alloc, value)?),
-        Err(fault) => Err(no_target(number, fault)),
+    match from.resolve(turn.alloc, document) {
+        Ok(value) => Ok(jsonptr_value::copy(turn.alloc, value)?),
+        Err(fault) => Err(no_target(turn.number, fault)),
     }
 }

@@ -1,8 +1,10 @@
 //! Equality of values (RFC 6902, section 4.6).
 ghost use Rattle.std.specs.Prelude.{◌≡◌, ◌↔◌, Some, IsTrue};
 ghost use Rattle.std.specs.BTreeMap.{get_by_text};
-ghost use Rattle.serde_json.specs.View.{number_view};
-ghost use Rattle.jsonptr_patch.specs.PrivateTesting.{SameValueBy, FloatIn, FloatAmong, FloatUnder, SameNumberBy, SameElements, SameMembers, HasKeys};
+ghost use Rattle.serde_json.specs.View.{view, number_view};
+ghost use Rattle.jsonptr.specs.Json.{nodes};
+ghost use Rattle.jsonptr_patch.specs.Testing.{IsEqualBy};
+ghost use Rattle.jsonptr_patch.specs.PrivateTesting.{FloatIn, FloatAmong, FloatUnder, SameNumberBy, SameElements, SameMembers, HasKeys};
 
 use crate::comparison::Comparison;
 use crate::number::{is_equal_number, is_same_integer};
@@ -52,12 +54,23 @@ fn members_have_float(members: &Map<String, Value>) -> bool
     false
 }
 
-/// Returns whether two values are equal for a test.
+/// Returns whether two values are equal for a `test` (RFC 6902, section 4.6).
 ///
-/// The stack is in proportion to the depth of the shallower value, since it goes no deeper than both.
+/// With [`Comparison::Strict`] a float equals nothing. Takes time linear in the values, and no memory. The
+/// stack is in proportion to the depth of the shallower value, since it goes no deeper than both.
+///
+/// # Examples
+///
+/// ```rust
+/// let left = Value::from_str(alloc, r#"{"a": 1, "b": [2.0]}"#)?;
+/// let right = Value::from_str(alloc, r#"{"b": [2], "a": 1}"#)?;
+/// assert!(rt; is_equal(Comparison::Numeric, &left, &right));
+/// assert!(rt; !is_equal(Comparison::Strict, &left, &right));
+/// ```
 #[cycle(equal)]
 pub fn is_equal(comparison: Comparison, left: &Value, right: &Value) -> bool
-    ensures { IsTrue result ↔ SameValueBy comparison left.now right.now }
+    ensures { IsTrue result
+        ↔ IsEqualBy comparison (nodes (view left.now)) (nodes (view right.now)) }
 {
     match left {
         Value::Null => right.is_null(),

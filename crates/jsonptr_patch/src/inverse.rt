@@ -1,16 +1,17 @@
 //! Applying a patch, and the patch that takes it back.
 ghost use Rattle.std.specs.Prelude.{◌≡◌, ◌∷◌, ◌++◌, List, [], reverse, All, IfOk, IfErr, IsOk, OnErr};
 ghost use Rattle.serde_json.specs.View.{view};
-ghost use Rattle.serde_json.specs.declared.value.Value.{Value as SpecValue};
 ghost use Rattle.jsonptr.specs.Fault.{IfRefused};
-ghost use Rattle.jsonptr.specs.Following.{Finds};
+ghost use Rattle.jsonptr.specs.Content.{Content, map_of};
 ghost use Rattle.jsonptr.specs.Json.{nodes, HasSortedKeys};
 ghost use Rattle.jsonptr.specs.Node.{NodeMap};
 ghost use Rattle.jsonptr.specs.Pointer.{tokens};
 ghost use Rattle.jsonptr.specs.Text.{Text, dec};
 ghost use Rattle.jsonptr_patch.specs.Apart.{Diverges, AllDiverge, pointers};
 ghost use Rattle.jsonptr_patch.specs.Inverse.{TakesAddBack, TakesBack, TakesMoveBack};
-ghost use Rattle.jsonptr_patch.specs.Operating.{IsProperFront, AppliesBy, RefusesAdd, RefusesMove, RefusesOperationBy};
+ghost use Rattle.jsonptr_journal.specs.Changes.{IsThere, TakesAt};
+ghost use Rattle.jsonptr_journal.specs.Location.{path_of, contents_of};
+ghost use Rattle.jsonptr_patch.specs.Operating.{IsProperFront, AppliesBy, RefusesAdd, RefusesMove, RefusesTarget, RefusesOperationBy, RestoresAt};
 ghost use Rattle.jsonptr_patch.specs.Order.{OperationHasSortedKeys};
 ghost use Rattle.jsonptr_patch.specs.Patching.{Patches, PatchesBy, RefusesPatch, RefusesPatchBy};
 ghost use Rattle.jsonptr_patch.specs.PrivateInverse.{AppendsBack, TakesAllBackFrom, IsPlaceBack, StaySorted, RefusesChange};
@@ -23,13 +24,15 @@ ghost use Rattle.jsonptr_patch.specs.declared.operation.Operation.TheVariants as
 use crate::add::place;
 use crate::comparison::Comparison;
 use crate::copy::copy_of;
-use crate::later::{Later, diverges, make_apart, record_apart, take_place, unlink};
+use crate::later::{diverges, make_apart, record_apart, take_place, unlink};
 use crate::move_value::is_proper_front;
 use crate::operation::{Operation, PatchError};
 use crate::target::target;
+use crate::turn::{Run, Turn};
 use jsonptr::{Fault, Pointer, PointerBuf, Token};
 use jsonptr_journal::addition::Target;
 use jsonptr_journal::journal::Journal;
+use jsonptr_journal::location::Location;
 use jsonptr_journal::removal::{Taken, take, undo_removal};
 use serde_json::Value;
 use std::alloc::{AllocError, Global};
@@ -119,58 +122,59 @@ pub fn apply_comparing_with_inverse(
     if patch.is_empty() {
         return Ok(Vec::new(alloc));
     }
-    let mut journal = Journal::new(alloc);
-    match record_with_inverse(alloc, doc, &mut journal, comparison, patch) {
+    let first = Turn {
+        alloc,
+        comparison,
+        number: 0,
+    };
+    let journal = Journal::new(alloc);
+    let mut run = Run {
+        journal,
+        later: Vec::new(alloc),
+    };
+    match record_with_inverse(first, doc, &mut run, patch) {
         Ok(back) => {
-            journal.discard();
+            run.journal.discard();
             Ok(back)
         }
         Err(fault) => {
-            journal.undo(alloc, doc);
+            run.journal.undo(alloc, doc);
             Err(fault)
         }
     }
 }
 
-/// Applies the operations, records in the journal what undoes them, and returns the operations that
-/// take them back.
+/// Applies the operations, the first of which has this turn, records in the journal what undoes them, and
+/// returns the operations that take them back.
 ///
 /// # Errors
 ///
 /// Those of [`apply_with_inverse`]. To undo the journal restores the document.
 #[tactic(auto, using(crate::proofs::BackOrderLemmas::turned))]
 fn record_with_inverse(
-    alloc: Global,
-    doc: &mut Value,
-    journal: &mut Journal,
-    comparison: Comparison,
+    first: Turn,
+    document: &mut Value,
+    run: &mut Run,
     operations: Vec<Operation>,
 ) -> Result<Vec<Operation>, Fault<PatchError>>
-    requires { CanUndo journal.old doc.old }
+    requires start { first.number ≡ 0 }
+    requires undone { CanUndo run.old.journal document.old }
+    requires none { run.old.later.items ≡ [] }
     ensures applied { IfOk result (λ _.
-        PatchesBy comparison (nodes (view doc.old)) operations.items (nodes (view doc.new))) }
+        PatchesBy first.comparison (nodes (view document.old)) operations.items (nodes (view document.new))) }
     ensures sorted { IfOk result (λ _. All OperationHasSortedKeys operations.items
-        → HasSortedKeys (view doc.old) → HasSortedKeys (view doc.new)) }
+        → HasSortedKeys (view document.old) → HasSortedKeys (view document.new)) }
     ensures inverse { IfOk result (λ back.
-        Patches (nodes (view doc.new)) back.items (nodes (view doc.old))) }
+        Patches (nodes (view document.new)) back.items (nodes (view document.old))) }
     ensures inverse_sorted { IfOk result (λ back. All OperationHasSortedKeys operations.items
-        → HasSortedKeys (view doc.old) → All OperationHasSortedKeys back.items) }
-    ensures refused { IfRefused result (RefusesPatchBy comparison (nodes (view doc.old)) operations.items) }
-    ensures undone { OnErr result (Records journal.old doc.old journal.new doc.new) }
+        → HasSortedKeys (view document.old) → All OperationHasSortedKeys back.items) }
+    ensures refused { IfRefused result (RefusesPatchBy first.comparison (nodes (view document.old)) operations.items) }
+    ensures undone { OnErr result (Records run.old.journal document.old run.new.journal document.new) }
 {
-    let mut later = Vec::new(alloc);
-    let mut inverse = Vec::new(alloc);
-    match record_each(
-        alloc,
-        doc,
-        journal,
-        &mut later,
-        &mut inverse,
-        comparison,
-        operations,
-    ) {
+    let mut inverse = Vec::new(first.alloc);
+    match record_each(first, document, run, &mut inverse, operations) {
         Ok(()) => {
-            unlink(alloc, doc, later);
+            unlink(first.alloc, document, run);
             inverse.reverse();
             Ok(inverse)
         }
@@ -181,46 +185,43 @@ fn record_with_inverse(
     }
 }
 
-/// Applies the operations, and appends what takes them back, the last operation first. Some nodes
-/// are left to be removed after all operations.
+/// Applies the operations, the first of which has this turn, and appends what takes them back, the last
+/// operation first. Some nodes are left to be removed after all operations.
 ///
 /// # Errors
 ///
 /// Those of [`apply_with_inverse`]. To undo the journal restores the document.
 fn record_each(
-    alloc: Global,
-    doc: &mut Value,
-    journal: &mut Journal,
-    later: &mut Vec<Later>,
+    first: Turn,
+    document: &mut Value,
+    run: &mut Run,
     inverse: &mut Vec<Operation>,
-    comparison: Comparison,
     operations: Vec<Operation>,
 ) -> Result<(), Fault<PatchError>>
-    requires undone { CanUndo journal.old doc.old }
-    requires none { later.old.items ≡ [] }
+    requires start { first.number ≡ 0 }
+    requires undone { CanUndo run.old.journal document.old }
+    requires none { run.old.later.items ≡ [] }
     requires first { inverse.old.items ≡ [] }
     ensures applied { IfOk result (λ _. (n : NodeMap)
-        × PatchesBy comparison (nodes (view doc.old)) operations.items n
-        × IsPending (nodes (view doc.new)) later.new.items n
-        × Patches n (reverse inverse.new.items) (nodes (view doc.old))) }
+        × PatchesBy first.comparison (nodes (view document.old)) operations.items n
+        × IsPending (nodes (view document.new)) run.new.later.items n
+        × Patches n (reverse inverse.new.items) (nodes (view document.old))) }
     ensures sorted { IfOk result (λ _. All OperationHasSortedKeys operations.items
-        → HasSortedKeys (view doc.old) → HasSortedKeys (view doc.new)) }
+        → HasSortedKeys (view document.old) → HasSortedKeys (view document.new)) }
     ensures inverse_sorted { IfOk result (λ _. All OperationHasSortedKeys operations.items
-        → HasSortedKeys (view doc.old) → All OperationHasSortedKeys inverse.new.items) }
-    ensures refused { IfRefused result (RefusesPatchBy comparison (nodes (view doc.old)) operations.items) }
-    ensures undone { Records journal.old doc.old journal.new doc.new }
+        → HasSortedKeys (view document.old) → All OperationHasSortedKeys inverse.new.items) }
+    ensures refused { IfRefused result (RefusesPatchBy first.comparison (nodes (view document.old)) operations.items) }
+    ensures undone { Records run.old.journal document.old run.new.journal document.new }
 {
-    let mut number = 0;
+    let mut number = first.number;
     for operation in operations {
-        step(
-            alloc, doc, journal, later, inverse, comparison, number, operation,
-        )?;
+        step(Turn { number, ..first }, document, run, inverse, operation)?;
         number += 1;
     }
     Ok(())
 }
 
-/// Applies the operation with this number, records in the journal what undoes it, and appends what
+/// Applies the operation, records in the journal what undoes it, and appends what
 /// takes it back, the last operation first.
 ///
 /// # Errors
@@ -228,32 +229,29 @@ fn record_each(
 /// [`Fault::Refused`] if the operation fails, and [`Fault::Memory`] if an allocation fails. To undo
 /// the journal restores the document.
 fn step(
-    alloc: Global,
-    doc: &mut Value,
-    journal: &mut Journal,
-    later: &mut Vec<Later>,
+    turn: Turn,
+    document: &mut Value,
+    run: &mut Run,
     inverse: &mut Vec<Operation>,
-    comparison: Comparison,
-    number: usize,
     operation: Operation,
 ) -> Result<(), Fault<PatchError>>
-    requires undone { CanUndo journal.old doc.old }
-    requires pending { (n : NodeMap) × IsPending (nodes (view doc.old)) later.old.items n }
+    requires undone { CanUndo run.old.journal document.old }
+    requires pending { (n : NodeMap) × IsPending (nodes (view document.old)) run.old.later.items n }
     ensures applied { IfOk result (λ _. (n : NodeMap)
-        → IsPending (nodes (view doc.old)) later.old.items n
-        → (m : NodeMap) × AppliesBy comparison n operation m × IsPending (nodes (view doc.new)) later.new.items m
+        → IsPending (nodes (view document.old)) run.old.later.items n
+        → (m : NodeMap) × AppliesBy turn.comparison n operation m × IsPending (nodes (view document.new)) run.new.later.items m
         × TakesAllBackFrom m inverse.new.items n inverse.old.items) }
     ensures sorted { IfOk result (λ _. OperationHasSortedKeys operation
-        → HasSortedKeys (view doc.old) → HasSortedKeys (view doc.new)) }
-    ensures kept { IfOk result (λ _.
-        StaySorted (view doc.old) inverse.old.items inverse.new.items) }
+        → HasSortedKeys (view document.old) → HasSortedKeys (view document.new)) }
+    ensures inverse_sorted { IfOk result (λ _.
+        StaySorted (view document.old) inverse.old.items inverse.new.items) }
     ensures refused { IfRefused result (λ e. (n : NodeMap)
-        → IsPending (nodes (view doc.old)) later.old.items n
-        → RefusesOperationBy comparison n number operation e) }
-    ensures undone { Records journal.old doc.old journal.new doc.new }
+        → IsPending (nodes (view document.old)) run.old.later.items n
+        → RefusesOperationBy turn.comparison n turn.number operation e) }
+    ensures undone { Records run.old.journal document.old run.new.journal document.new }
 {
-    settle_with_back(alloc, doc, journal, later, inverse, number, &operation)?;
-    record_apart(alloc, doc, journal, later, comparison, number, operation)
+    settle_with_back(turn, document, run, inverse, &operation)?;
+    record_apart(turn, document, run, operation)
 }
 
 /// Makes the operation apart from the nodes that are removed later, as [`settle`](crate::later::settle)
@@ -264,40 +262,38 @@ fn step(
 /// [`Fault::Refused`] if the operation fails, and [`Fault::Memory`] if an allocation fails. To undo
 /// the journal restores the document.
 fn settle_with_back(
-    alloc: Global,
-    doc: &mut Value,
-    journal: &mut Journal,
-    later: &mut Vec<Later>,
+    turn: Turn,
+    document: &mut Value,
+    run: &mut Run,
     inverse: &mut Vec<Operation>,
-    number: usize,
     operation: &Operation,
 ) -> Result<(), Fault<PatchError>>
-    requires undone { CanUndo journal.old doc.old }
-    requires pending { (n : NodeMap) × IsPending (nodes (view doc.old)) later.old.items n }
-    ensures apart { IfOk result (λ _. AllDiverge (nodes (view doc.new)) (pointers operation.now)
-        (paths_of later.new.items)) }
+    requires undone { CanUndo run.old.journal document.old }
+    requires pending { (n : NodeMap) × IsPending (nodes (view document.old)) run.old.later.items n }
+    ensures apart { IfOk result (λ _. AllDiverge (nodes (view document.new)) (pointers operation.now)
+        (paths_of run.new.later.items)) }
     ensures stands { IfOk result (λ _. (n : NodeMap)
-        → IsPending (nodes (view doc.old)) later.old.items n
-        → (k : NodeMap) × IsPending (nodes (view doc.new)) later.new.items k
+        → IsPending (nodes (view document.old)) run.old.later.items n
+        → (k : NodeMap) × IsPending (nodes (view document.new)) run.new.later.items k
         × StandsFor k n operation.now) }
     ensures back { IfOk result (λ _. (c : SpecComparison) (n m : NodeMap)
-        → IsPending (nodes (view doc.old)) later.old.items n → AppliesBy c n operation.now m
+        → IsPending (nodes (view document.old)) run.old.later.items n → AppliesBy c n operation.now m
         → TakesAllBackFrom m inverse.new.items n inverse.old.items) }
     ensures sorted { IfOk result (λ _.
-        HasSortedKeys (view doc.old) → HasSortedKeys (view doc.new)) }
-    ensures kept { IfOk result (λ _.
-        StaySorted (view doc.old) inverse.old.items inverse.new.items) }
+        HasSortedKeys (view document.old) → HasSortedKeys (view document.new)) }
+    ensures inverse_sorted { IfOk result (λ _.
+        StaySorted (view document.old) inverse.old.items inverse.new.items) }
     ensures refused { IfRefused result (λ e. (c : SpecComparison) (n : NodeMap)
-        → IsPending (nodes (view doc.old)) later.old.items n
-        → RefusesOperationBy c n number operation.now e) }
-    ensures undone { Records journal.old doc.old journal.new doc.new }
+        → IsPending (nodes (view document.old)) run.old.later.items n
+        → RefusesOperationBy c n turn.number operation.now e) }
+    ensures undone { Records run.old.journal document.old run.new.journal document.new }
 {
-    if take_place(alloc, doc, later, operation) {
+    if take_place(turn.alloc, document, &mut run.later, operation) {
         append_place_back(inverse, operation)?;
         return Ok(());
     }
-    make_apart(alloc, doc, journal, later, operation)?;
-    back_of(alloc, doc, inverse, number, operation)
+    make_apart(turn.alloc, document, run, operation)?;
+    back_of(turn, document, inverse, operation)
 }
 
 /// Appends what takes back an operation that adds a value where there is none: a removal, or a move
@@ -311,7 +307,7 @@ fn append_place_back(inverse: &mut Vec<Operation>, operation: &Operation) -> Res
         → TakesPlace n operation.now tokens
         → (back : List SpecOperation) × IsPlaceBack operation.now back
         × AppendsBack inverse.old.items back inverse.new.items) }
-    ensures kept { IfOk result (λ _. All OperationHasSortedKeys inverse.old.items
+    ensures sorted { IfOk result (λ _. All OperationHasSortedKeys inverse.old.items
         → All OperationHasSortedKeys inverse.new.items) }
 {
     match operation {
@@ -338,50 +334,49 @@ fn append_place_back(inverse: &mut Vec<Operation>, operation: &Operation) -> Res
     }
 }
 
-/// Appends what takes back the operation with this number, the last operation first.
+/// Appends what takes back the operation, the last operation first.
 ///
 /// # Errors
 ///
 /// [`Fault::Refused`] if the operation fails, and [`Fault::Memory`] if an allocation fails.
 fn back_of(
-    alloc: Global,
-    doc: &mut Value,
+    turn: Turn,
+    document: &mut Value,
     inverse: &mut Vec<Operation>,
-    number: usize,
     operation: &Operation,
 ) -> Result<(), Fault<PatchError>>
     ensures back { IfOk result (λ _. (back : List SpecOperation)
-        × TakesBack (nodes (view doc.old)) operation.now back
+        × TakesBack (nodes (view document.old)) operation.now back
         × AppendsBack inverse.old.items back inverse.new.items) }
-    ensures kept { IfOk result (λ _.
-        StaySorted (view doc.old) inverse.old.items inverse.new.items) }
-    ensures refused { IfRefused result (RefusesChange (nodes (view doc.old)) number operation.now) }
-    ensures same { view doc.new ≡ view doc.old }
+    ensures inverse_sorted { IfOk result (λ _.
+        StaySorted (view document.old) inverse.old.items inverse.new.items) }
+    ensures refused { IfRefused result (RefusesChange (nodes (view document.old)) turn.number operation.now) }
+    ensures unchanged { view document.new ≡ view document.old }
 {
     match operation {
         Operation::Add { path, .. } => {
-            let back = back_of_add(alloc, doc, number, path.as_ptr())?;
+            let back = back_of_add(turn, document, path.as_ptr())?;
             append(inverse, back)?;
             Ok(())
         }
         Operation::Remove { path } => {
             let path = path.clone()?;
-            let value = copy_of(alloc, doc, number, path.as_ptr())?;
+            let value = copy_of(turn, document, path.as_ptr())?;
             append(inverse, Operation::Add { path, value })?;
             Ok(())
         }
         Operation::Replace { path, .. } => {
             let path = path.clone()?;
-            let value = copy_of(alloc, doc, number, path.as_ptr())?;
+            let value = copy_of(turn, document, path.as_ptr())?;
             append(inverse, Operation::Replace { path, value })?;
             Ok(())
         }
         Operation::Move { from, path } => {
-            back_of_move(alloc, doc, inverse, number, from.as_ptr(), path.as_ptr())
+            back_of_move(turn, document, inverse, from.as_ptr(), path.as_ptr())
         }
         Operation::Copy { from, path } => {
-            target(alloc, doc, number, from.as_ptr())?;
-            let back = back_of_add(alloc, doc, number, path.as_ptr())?;
+            target(turn, document, from.as_ptr())?;
+            let back = back_of_add(turn, document, path.as_ptr())?;
             append(inverse, back)?;
             Ok(())
         }
@@ -395,34 +390,33 @@ fn back_of(
 ///
 /// [`Fault::Refused`] if nothing can be added there, and [`Fault::Memory`] if an allocation fails.
 fn back_of_add(
-    alloc: Global,
-    doc: &Value,
-    number: usize,
+    turn: Turn,
+    document: &Value,
     path: Pointer<'_>,
 ) -> Result<Operation, Fault<PatchError>>
-    ensures back { IfOk result (TakesAddBack (nodes (view doc.now)) (tokens path.entry)) }
+    ensures back { IfOk result (TakesAddBack (nodes (view document.now)) (tokens path.entry)) }
     ensures sorted { IfOk result (λ back.
-        HasSortedKeys (view doc.now) → OperationHasSortedKeys back) }
+        HasSortedKeys (view document.now) → OperationHasSortedKeys back) }
     ensures refused { IfRefused result
-        (RefusesAdd (nodes (view doc.now)) number (tokens path.entry)) }
+        (RefusesAdd (nodes (view document.now)) turn.number (tokens path.entry)) }
 {
-    match place(alloc, doc, number, path)? {
+    match place(turn, document, path)? {
         Target::Root => Ok(Operation::Replace {
-            path: path.to_buf(alloc)?,
-            value: jsonptr_value::copy(alloc, doc)?,
+            path: path.to_buf(turn.alloc)?,
+            value: jsonptr_value::copy(turn.alloc, document)?,
         }),
-        Target::Member { .. } => match path.resolve(alloc, doc) {
+        Target::Member { .. } => match path.resolve(turn.alloc, document) {
             Ok(old) => Ok(Operation::Replace {
-                path: path.to_buf(alloc)?,
-                value: jsonptr_value::copy(alloc, old)?,
+                path: path.to_buf(turn.alloc)?,
+                value: jsonptr_value::copy(turn.alloc, old)?,
             }),
             Err(Fault::Refused(_)) => Ok(Operation::Remove {
-                path: path.to_buf(alloc)?,
+                path: path.to_buf(turn.alloc)?,
             }),
             Err(Fault::Memory(error)) => Err(Fault::Memory(error)),
         },
         Target::Element { index, .. } => Ok(Operation::Remove {
-            path: element_path(alloc, path, index)?,
+            path: element_path(turn.alloc, path, index)?,
         }),
     }
 }
@@ -449,33 +443,32 @@ fn element_path(alloc: Global, path: Pointer<'_>, index: usize) -> Result<Pointe
 /// [`Fault::Refused`] if `from` is a proper prefix of `path` or does not resolve to a value, or if
 /// the value cannot be added. [`Fault::Memory`] if an allocation fails.
 fn back_of_move(
-    alloc: Global,
-    doc: &mut Value,
+    turn: Turn,
+    document: &mut Value,
     inverse: &mut Vec<Operation>,
-    number: usize,
     from: Pointer<'_>,
     path: Pointer<'_>,
 ) -> Result<(), Fault<PatchError>>
     ensures back { IfOk result (λ _. (back : List SpecOperation)
-        × TakesBack (nodes (view doc.old)) (variant.Move (tokens from.entry) (tokens path.entry)) back
+        × TakesBack (nodes (view document.old)) (variant.Move (tokens from.entry) (tokens path.entry)) back
         × AppendsBack inverse.old.items back inverse.new.items) }
-    ensures kept { IfOk result (λ _.
-        StaySorted (view doc.old) inverse.old.items inverse.new.items) }
-    ensures refused { IfRefused result (RefusesMove (nodes (view doc.old)) number
+    ensures inverse_sorted { IfOk result (λ _.
+        StaySorted (view document.old) inverse.old.items inverse.new.items) }
+    ensures refused { IfRefused result (RefusesMove (nodes (view document.old)) turn.number
         (tokens from.entry) (tokens path.entry)) }
-    ensures same { view doc.new ≡ view doc.old }
+    ensures unchanged { view document.new ≡ view document.old }
 {
     if is_proper_front(from, path) {
-        return Err(Fault::Refused(PatchError::MoveIntoSelf { operation: number }));
+        return Err(Fault::Refused(PatchError::MoveIntoSelf {
+            operation: turn.number,
+        }));
     }
-    let location = target(alloc, doc, number, from)?;
-    if diverges(alloc, doc, from, path) {
-        return back_of_way(alloc, doc, inverse, number, from, path);
+    let location = target(turn, document, from)?;
+    if diverges(turn.alloc, document, from, path) {
+        return back_of_way(turn, document, inverse, from, path);
     }
-    let Taken { value, removal } = take(alloc, doc, location)?;
-    let appended = back_in_left(alloc, doc, inverse, number, from, path, &value);
-    undo_removal(alloc, doc, removal, value);
-    appended
+    let back = back_in_left(turn, document, location, path)?;
+    append_reverse(turn, document, inverse, from, back)
 }
 
 /// Appends what takes back a move whose pointers diverge at an object, the last operation first.
@@ -484,26 +477,25 @@ fn back_of_move(
 ///
 /// [`Fault::Refused`] if the value cannot be added, and [`Fault::Memory`] if an allocation fails.
 fn back_of_way(
-    alloc: Global,
-    doc: &Value,
+    turn: Turn,
+    document: &Value,
     inverse: &mut Vec<Operation>,
-    number: usize,
     from: Pointer<'_>,
     path: Pointer<'_>,
 ) -> Result<(), Fault<PatchError>>
-    requires { Diverges (nodes (view doc.now)) (tokens from) (tokens path) }
+    requires { Diverges (nodes (view document.now)) (tokens from) (tokens path) }
     ensures back { IfOk result (λ _. (o : SpecOperation) × (back : List SpecOperation)
-        × TakesAddBack (nodes (view doc.now)) (tokens path.entry) o
-        × TakesMoveBack (nodes (view doc.now)) (tokens from.entry) (tokens path.entry) o back
+        × TakesAddBack (nodes (view document.now)) (tokens path.entry) o
+        × TakesMoveBack (nodes (view document.now)) (tokens from.entry) (tokens path.entry) o back
         × AppendsBack inverse.old.items back inverse.new.items) }
-    ensures kept { IfOk result (λ _.
-        StaySorted (view doc.now) inverse.old.items inverse.new.items) }
+    ensures inverse_sorted { IfOk result (λ _.
+        StaySorted (view document.now) inverse.old.items inverse.new.items) }
     ensures refused { IfRefused result
-        (RefusesAdd (nodes (view doc.now)) number (tokens path.entry)) }
+        (RefusesAdd (nodes (view document.now)) turn.number (tokens path.entry)) }
 {
-    let back = from.to_buf(alloc)?;
-    let again = path.to_buf(alloc)?;
-    match back_of_add(alloc, doc, number, path)? {
+    let back = from.to_buf(turn.alloc)?;
+    let again = path.to_buf(turn.alloc)?;
+    match back_of_add(turn, document, path)? {
         Operation::Remove { path: place } => {
             append(
                 inverse,
@@ -529,50 +521,101 @@ fn back_of_way(
     }
 }
 
-/// Appends what takes back a move, the last operation first. The document is what is left without
-/// the value.
+/// Returns the operation that takes back an addition at the pointer to what is left of the document without
+/// the node at the location.
 ///
 /// # Errors
 ///
-/// [`Fault::Refused`] if the value cannot be added, and [`Fault::Memory`] if an allocation fails.
+/// [`Fault::Refused`] if nothing can be added there, and [`Fault::Memory`] if an allocation fails.
+///
+/// # Conditions
+///
+/// The location is in the document.
 fn back_in_left(
-    alloc: Global,
-    left: &Value,
-    inverse: &mut Vec<Operation>,
-    number: usize,
-    from: Pointer<'_>,
+    turn: Turn,
+    document: &mut Value,
+    location: Location,
     path: Pointer<'_>,
-    value: &Value,
-) -> Result<(), Fault<PatchError>>
-    ensures back { IfOk result (λ _. (n : NodeMap)
-        → Finds n (tokens from.entry) (nodes (view value.now))
-        → (o : SpecOperation) × (back : List SpecOperation)
-        × TakesAddBack (nodes (view left.now)) (tokens path.entry) o
-        × TakesMoveBack n (tokens from.entry) (tokens path.entry) o back
-        × AppendsBack inverse.old.items back inverse.new.items) }
-    ensures kept { IfOk result (λ _. HasSortedKeys (view value.now)
-        → StaySorted (view left.now) inverse.old.items inverse.new.items) }
-    ensures refused { IfRefused result
-        (RefusesAdd (nodes (view left.now)) number (tokens path.entry)) }
+) -> Result<Operation, Fault<PatchError>>
+    requires { IsThere (path_of location) (contents_of document.old) }
+    ensures back { IfOk result (λ back. (v left : Content)
+        × TakesAt (path_of location) v (contents_of document.old) left
+        × TakesAddBack (map_of left) (tokens path.entry) back) }
+    ensures sorted { IfOk result (λ back.
+        HasSortedKeys (view document.old) → OperationHasSortedKeys back) }
+    ensures refused { IfRefused result (λ e. (v left : Content)
+        × TakesAt (path_of location) v (contents_of document.old) left
+        × RefusesAdd (map_of left) turn.number (tokens path.entry) e) }
+    ensures unchanged { view document.new ≡ view document.old }
 {
-    let to = from.to_buf(alloc)?;
-    let back = back_of_add(alloc, left, number, path)?;
+    let Taken { value, removal } = take(turn.alloc, document, location)?;
+    let back = back_of_add(turn, document, path);
+    undo_removal(turn.alloc, document, removal, value);
+    back
+}
+
+/// Appends what takes back a move from the pointer, the last operation first. `back` takes back the
+/// addition of the value.
+///
+/// # Errors
+///
+/// [`Fault::Refused`] if the pointer does not resolve to a value, and [`Fault::Memory`] if an
+/// allocation fails.
+fn append_reverse(
+    turn: Turn,
+    document: &Value,
+    inverse: &mut Vec<Operation>,
+    from: Pointer<'_>,
+    back: Operation,
+) -> Result<(), Fault<PatchError>>
+    ensures back { IfOk result (λ _. (path : List Text) → (reverse : List SpecOperation)
+        × TakesMoveBack (nodes (view document.now)) (tokens from.entry) path back reverse
+        × AppendsBack inverse.old.items reverse inverse.new.items) }
+    ensures sorted { IfOk result (λ _. OperationHasSortedKeys back
+        → StaySorted (view document.now) inverse.old.items inverse.new.items) }
+    ensures refused { IfRefused result
+        (RefusesTarget (nodes (view document.now)) turn.number (tokens from.entry)) }
+{
     match place_of(back, from) {
         Ok(place) => {
-            append(
-                inverse,
-                Operation::Move {
-                    from: place,
-                    path: to,
-                },
-            )?;
+            let path = from.to_buf(turn.alloc)?;
+            append(inverse, Operation::Move { from: place, path })?;
             Ok(())
         }
-        Err(back) => {
-            append_after_copy(alloc, inverse, to, value, back)?;
-            Ok(())
-        }
+        Err(back) => match addition_at(turn, document, from) {
+            Ok(again) => {
+                append_both(inverse, again, back)?;
+                Ok(())
+            }
+            Err(fault) => {
+                back.discard();
+                Err(fault)
+            }
+        },
     }
+}
+
+/// Returns the addition of a copy of the value that the pointer resolves to, at the pointer.
+///
+/// # Errors
+///
+/// [`Fault::Refused`] if the pointer does not resolve to a value, and [`Fault::Memory`] if an
+/// allocation fails.
+fn addition_at(
+    turn: Turn,
+    document: &Value,
+    from: Pointer<'_>,
+) -> Result<Operation, Fault<PatchError>>
+    ensures restores { IfOk result
+        (RestoresAt (nodes (view document.now)) (tokens from.entry)) }
+    ensures sorted { IfOk result (λ again.
+        HasSortedKeys (view document.now) → OperationHasSortedKeys again) }
+    ensures refused { IfRefused result
+        (RefusesTarget (nodes (view document.now)) turn.number (tokens from.entry)) }
+{
+    let path = from.to_buf(turn.alloc)?;
+    let value = copy_of(turn, document, from)?;
+    Ok(Operation::Add { path, value })
 }
 
 /// Returns the pointer from which the value can be moved back to `from`: `back` removes it there, and
@@ -594,30 +637,6 @@ fn place_of(back: Operation, from: Pointer<'_>) -> Result<PointerBuf, Operation>
             Ok(place)
         }
         other => Err(other),
-    }
-}
-
-/// Appends the addition of a copy of the value, and then an operation.
-///
-/// # Errors
-///
-/// [`AllocError`] if an allocation fails.
-fn append_after_copy(
-    alloc: Global,
-    inverse: &mut Vec<Operation>,
-    path: PointerBuf,
-    value: &Value,
-    back: Operation,
-) -> Result<(), AllocError>
-    ensures { IfOk result (λ _. (copied : SpecValue) × (view copied ≡ view value.now)
-        × (inverse.new.items ≡ (inverse.old.items ++ variant.Add path copied ∷ []) ++ back ∷ [])) }
-{
-    match jsonptr_value::copy(alloc, value) {
-        Ok(value) => append_both(inverse, Operation::Add { path, value }, back),
-        Err(error) => {
-            back.discard();
-            Err(error)
-        }
     }
 }
 

@@ -22,12 +22,12 @@ ghost use Rattle.jsonptr_patch.specs.PrivateRecording.{CanUndo, Records};
 
 use crate::add::key_of;
 use crate::apart::fork;
-use crate::comparison::Comparison;
 use crate::drop::discard_small;
 use crate::move_value::{NotAdded, add_taken, move_value};
 use crate::operation::{Operation, PatchError};
 use crate::patch::record;
 use crate::target::{no_target, target};
+use crate::turn::{Run, Turn};
 use jsonptr::{Fault, Pointer, PointerBuf, Token};
 use jsonptr_document::document::{Document, Node};
 use jsonptr_journal::addition::replace_at;
@@ -49,13 +49,13 @@ pub struct Later {
 }
 
 /// Returns whether the pointer resolves to an object. May return false if an allocation fails.
-fn is_object(alloc: Global, doc: &Value, ptr: Pointer<'_>) -> bool
-    ensures { IsTrue result → IsObjectAt (nodes (view doc.now)) (tokens ptr.entry) }
+fn is_object(alloc: Global, document: &Value, pointer: Pointer<'_>) -> bool
+    ensures { IsTrue result → IsObjectAt (nodes (view document.now)) (tokens pointer.entry) }
 {
-    if ptr.is_root() {
-        return is_map(doc);
+    if pointer.is_root() {
+        return is_map(document);
     }
-    match ptr.resolve(alloc, doc) {
+    match pointer.resolve(alloc, document) {
         Ok(value) => match value.node() {
             Node::Object(_) => true,
             _ => false,
@@ -65,10 +65,10 @@ fn is_object(alloc: Global, doc: &Value, ptr: Pointer<'_>) -> bool
 }
 
 /// Returns whether the document is an object.
-fn is_map(doc: &Value) -> bool
-    ensures { IsTrue result → nodes (view doc.now) [] ≡ Some an_object }
+fn is_map(document: &Value) -> bool
+    ensures { IsTrue result → nodes (view document.now) [] ≡ Some an_object }
 {
-    match doc.node() {
+    match document.node() {
         Node::Object(_) => true,
         _ => false,
     }
@@ -79,29 +79,29 @@ fn is_map(doc: &Value) -> bool
 ///
 /// Two children of one node, which are the most common, cost less than others.
 #[inline(always)]
-fn fork_at<'a>(ptr: Pointer<'a>, front: Pointer<'a>, other: Pointer<'_>) -> Option<Pointer<'a>>
-    requires { (last : Text) × (tokens ptr ≡ tokens front ++ last ∷ []) }
+fn fork_at<'a>(pointer: Pointer<'a>, front: Pointer<'a>, other: Pointer<'_>) -> Option<Pointer<'a>>
+    requires { (last : Text) × (tokens pointer ≡ tokens front ++ last ∷ []) }
     ensures { IfSome result (λ common.
-        Forks (tokens ptr.entry) (tokens other.entry) (tokens common)) }
+        Forks (tokens pointer.entry) (tokens other.entry) (tokens common)) }
 {
-    if is_beside(ptr, front, other) {
+    if is_beside(pointer, front, other) {
         return Some(front);
     }
-    match fork(ptr, other) {
+    match fork(pointer, other) {
         Some(common) => Some(common),
         None => None,
     }
 }
 
-/// Returns whether the other pointer goes on from `front`, which is the parent of `ptr`, with another
-/// token.
+/// Returns whether the other pointer goes on from `front`, which is the parent of `pointer`, with
+/// another token.
 #[inline(always)]
-fn is_beside(ptr: Pointer<'_>, front: Pointer<'_>, other: Pointer<'_>) -> bool
-    requires { (last : Text) × (tokens ptr ≡ tokens front ++ last ∷ []) }
-    ensures { IsTrue result → Forks (tokens ptr.entry) (tokens other.entry) (tokens front.entry) }
+fn is_beside(pointer: Pointer<'_>, front: Pointer<'_>, other: Pointer<'_>) -> bool
+    requires { (last : Text) × (tokens pointer ≡ tokens front ++ last ∷ []) }
+    ensures { IsTrue result → Forks (tokens pointer.entry) (tokens other.entry) (tokens front.entry) }
 {
     if front.is_root() {
-        return is_beside_at_root(ptr, other);
+        return is_beside_at_root(pointer, other);
     }
     let Some(rest) = other.strip_prefix(front) else {
         return false;
@@ -109,32 +109,32 @@ fn is_beside(ptr: Pointer<'_>, front: Pointer<'_>, other: Pointer<'_>) -> bool
     if rest.is_root() {
         return false;
     }
-    lacks_front(other, ptr)
+    lacks_front(other, pointer)
 }
 
 /// Returns whether the first tokens of the two pointers differ, the first of which has only one.
 #[inline(always)]
-fn is_beside_at_root(ptr: Pointer<'_>, other: Pointer<'_>) -> bool
-    requires { (last : Text) × (tokens ptr ≡ last ∷ []) }
-    ensures { IsTrue result → Forks (tokens ptr.entry) (tokens other.entry) [] }
+fn is_beside_at_root(pointer: Pointer<'_>, other: Pointer<'_>) -> bool
+    requires { (last : Text) × (tokens pointer ≡ last ∷ []) }
+    ensures { IsTrue result → Forks (tokens pointer.entry) (tokens other.entry) [] }
 {
     if other.is_root() {
         return false;
     }
-    lacks_front(other, ptr)
+    lacks_front(other, pointer)
 }
 
 /// Returns whether the pointer does not begin with the tokens of `front`.
 #[inline(always)]
-fn lacks_front(ptr: Pointer<'_>, front: Pointer<'_>) -> bool
+fn lacks_front(pointer: Pointer<'_>, front: Pointer<'_>) -> bool
     ensures { IsTrue result
-        → (rest : List Text) → tokens ptr.entry ≡ tokens front.entry ++ rest → ⊥ }
+        → (rest : List Text) → tokens pointer.entry ≡ tokens front.entry ++ rest → ⊥ }
 {
-    let (text, start) = (ptr.as_str(), front.as_str());
+    let (text, start) = (pointer.as_str(), front.as_str());
     if text.len() <= start.len() {
-        return differ(ptr, front);
+        return differ(pointer, front);
     }
-    match ptr.strip_prefix(front) {
+    match pointer.strip_prefix(front) {
         Some(_) => false,
         None => true,
     }
@@ -150,25 +150,30 @@ fn differ(left: Pointer<'_>, right: Pointer<'_>) -> bool
 
 /// Returns whether the two pointers diverge at an object of the document. May return false if an
 /// allocation fails.
-pub fn diverges(alloc: Global, doc: &Value, left: Pointer<'_>, right: Pointer<'_>) -> bool
+pub fn diverges(alloc: Global, document: &Value, left: Pointer<'_>, right: Pointer<'_>) -> bool
     ensures { IsTrue result
-        → Diverges (nodes (view doc.now)) (tokens left.entry) (tokens right.entry) }
+        → Diverges (nodes (view document.now)) (tokens left.entry) (tokens right.entry) }
 {
     match fork(left, right) {
-        Some(common) => is_object(alloc, doc, common),
+        Some(common) => is_object(alloc, document, common),
         None => false,
     }
 }
 
 /// Returns whether the pointer resolves to an object, as `known` does.
 #[inline(always)]
-fn is_object_too(alloc: Global, doc: &Value, known: Option<Pointer<'_>>, ptr: Pointer<'_>) -> bool
-    requires { IfSome known (λ other. IsObjectAt (nodes (view doc.now)) (tokens other)) }
-    ensures { IsTrue result → IsObjectAt (nodes (view doc.now)) (tokens ptr.entry) }
+fn is_object_too(
+    alloc: Global,
+    document: &Value,
+    known: Option<Pointer<'_>>,
+    pointer: Pointer<'_>,
+) -> bool
+    requires { IfSome known (λ other. IsObjectAt (nodes (view document.now)) (tokens other)) }
+    ensures { IsTrue result → IsObjectAt (nodes (view document.now)) (tokens pointer.entry) }
 {
     match known {
-        Some(other) => other == ptr || is_object(alloc, doc, ptr),
-        None => is_object(alloc, doc, ptr),
+        Some(other) => other == pointer || is_object(alloc, document, pointer),
+        None => is_object(alloc, document, pointer),
     }
 }
 
@@ -176,20 +181,20 @@ fn is_object_too(alloc: Global, doc: &Value, known: Option<Pointer<'_>>, ptr: Po
 /// of the document. May return false if an allocation fails.
 ///
 /// Nodes of one object that follow one another cost one search for it.
-fn diverges_from_all(alloc: Global, doc: &Value, later: &[Later], ptr: Pointer<'_>) -> bool
-    ensures apart { IsTrue result → AllDiverge (nodes (view doc.now)) (tokens ptr.entry ∷ [])
+fn diverges_from_all(alloc: Global, document: &Value, later: &[Later], pointer: Pointer<'_>) -> bool
+    ensures apart { IsTrue result → AllDiverge (nodes (view document.now)) (tokens pointer.entry ∷ [])
         (paths_of later.now) }
     ensures empty { later.now ≡ [] → IsTrue result }
 {
-    let Some((front, _)) = ptr.split_back() else {
+    let Some((front, _)) = pointer.split_back() else {
         return later.is_empty();
     };
     let mut known = None;
     for one in later {
-        let Some(common) = fork_at(ptr, front, one.path.as_ptr()) else {
+        let Some(common) = fork_at(pointer, front, one.path.as_ptr()) else {
             return false;
         };
-        if !is_object_too(alloc, doc, known, common) {
+        if !is_object_too(alloc, document, known, common) {
             return false;
         }
         known = Some(common);
@@ -201,46 +206,47 @@ fn diverges_from_all(alloc: Global, doc: &Value, later: &[Later], ptr: Pointer<'
 /// of the document. May return false if an allocation fails.
 fn both_diverge(
     alloc: Global,
-    doc: &Value,
+    document: &Value,
     later: &[Later],
     from: Pointer<'_>,
     path: Pointer<'_>,
 ) -> bool
-    ensures apart { IsTrue result → AllDiverge (nodes (view doc.now))
+    ensures apart { IsTrue result → AllDiverge (nodes (view document.now))
         (tokens from.entry ∷ tokens path.entry ∷ []) (paths_of later.now) }
     ensures empty { later.now ≡ [] → IsTrue result }
 {
-    diverges_from_all(alloc, doc, later, from) && diverges_from_all(alloc, doc, later, path)
+    diverges_from_all(alloc, document, later, from)
+        && diverges_from_all(alloc, document, later, path)
 }
 
 /// Returns whether each pointer of the operation diverges from those of all nodes that are removed
 /// later. May return false if an allocation fails.
-fn is_apart(alloc: Global, doc: &Value, later: &[Later], operation: &Operation) -> bool
-    ensures apart { IsTrue result → AllDiverge (nodes (view doc.now)) (pointers operation.now)
+fn is_apart(alloc: Global, document: &Value, later: &[Later], operation: &Operation) -> bool
+    ensures apart { IsTrue result → AllDiverge (nodes (view document.now)) (pointers operation.now)
         (paths_of later.now) }
     ensures empty { later.now ≡ [] → IsTrue result }
 {
     match operation {
-        Operation::Add { path, .. } => diverges_from_all(alloc, doc, later, path.as_ptr()),
-        Operation::Remove { path } => diverges_from_all(alloc, doc, later, path.as_ptr()),
-        Operation::Replace { path, .. } => diverges_from_all(alloc, doc, later, path.as_ptr()),
+        Operation::Add { path, .. } => diverges_from_all(alloc, document, later, path.as_ptr()),
+        Operation::Remove { path } => diverges_from_all(alloc, document, later, path.as_ptr()),
+        Operation::Replace { path, .. } => diverges_from_all(alloc, document, later, path.as_ptr()),
         Operation::Move { from, path } => {
-            both_diverge(alloc, doc, later, from.as_ptr(), path.as_ptr())
+            both_diverge(alloc, document, later, from.as_ptr(), path.as_ptr())
         }
         Operation::Copy { from, path } => {
-            both_diverge(alloc, doc, later, from.as_ptr(), path.as_ptr())
+            both_diverge(alloc, document, later, from.as_ptr(), path.as_ptr())
         }
-        Operation::Test { path, .. } => diverges_from_all(alloc, doc, later, path.as_ptr()),
+        Operation::Test { path, .. } => diverges_from_all(alloc, document, later, path.as_ptr()),
     }
 }
 
 /// Returns whether the pointer is that of a member of an object. May return false if an allocation
 /// fails.
-fn is_member(alloc: Global, doc: &Value, path: Pointer<'_>) -> bool
-    ensures { IsTrue result → HasObject (nodes (view doc.now)) (tokens path.entry) }
+fn is_member(alloc: Global, document: &Value, path: Pointer<'_>) -> bool
+    ensures { IsTrue result → HasObject (nodes (view document.now)) (tokens path.entry) }
 {
     match path.split_back() {
-        Some((front, _)) => is_object(alloc, doc, front),
+        Some((front, _)) => is_object(alloc, document, front),
         None => false,
     }
 }
@@ -259,16 +265,21 @@ fn index_of(later: &[Later], path: &PointerBuf) -> Option<usize>
 
 /// Returns the index of the node in whose place the operation adds a value, or `None` if there is
 /// none. May return `None` if an allocation fails.
-fn replaced(alloc: Global, doc: &Value, later: &[Later], operation: &Operation) -> Option<usize>
+fn replaced(
+    alloc: Global,
+    document: &Value,
+    later: &[Later],
+    operation: &Operation,
+) -> Option<usize>
     ensures { IfSome result (λ i. (path : List Text) × IsWaitingAt later.now i path
-        × HasObject (nodes (view doc.now)) path
-        × TakesPlace (nodes (view doc.now)) operation.now path) }
+        × HasObject (nodes (view document.now)) path
+        × TakesPlace (nodes (view document.now)) operation.now path) }
 {
     match operation {
-        Operation::Add { path, .. } => member_at(alloc, doc, later, path),
+        Operation::Add { path, .. } => member_at(alloc, document, later, path),
         Operation::Move { from, path } | Operation::Copy { from, path } => {
-            let index = member_at(alloc, doc, later, path)?;
-            if !diverges(alloc, doc, from.as_ptr(), path.as_ptr()) {
+            let index = member_at(alloc, document, later, path)?;
+            if !diverges(alloc, document, from.as_ptr(), path.as_ptr()) {
                 return None;
             }
             Some(index)
@@ -279,12 +290,12 @@ fn replaced(alloc: Global, doc: &Value, later: &[Later], operation: &Operation) 
 
 /// Returns the index of the node whose pointer this is, if it is a member of an object. May return
 /// `None` if an allocation fails.
-fn member_at(alloc: Global, doc: &Value, later: &[Later], path: &PointerBuf) -> Option<usize>
+fn member_at(alloc: Global, document: &Value, later: &[Later], path: &PointerBuf) -> Option<usize>
     ensures { IfSome result (λ i. IsWaitingAt later.now i path.now
-        × HasObject (nodes (view doc.now)) path.now) }
+        × HasObject (nodes (view document.now)) path.now) }
 {
     let index = index_of(later, path)?;
-    if !is_member(alloc, doc, path.as_ptr()) {
+    if !is_member(alloc, document, path.as_ptr()) {
         return None;
     }
     Some(index)
@@ -294,26 +305,31 @@ fn member_at(alloc: Global, doc: &Value, later: &[Later], path: &PointerBuf) -> 
 /// apart from the others. Then that removal waits no more: the value replaces its `null`.
 ///
 /// May return false if an allocation fails.
-pub fn take_place(alloc: Global, doc: &Value, later: &mut Vec<Later>, operation: &Operation) -> bool
-    ensures apart { IsTrue result → AllDiverge (nodes (view doc.now)) (pointers operation.now)
+pub fn take_place(
+    alloc: Global,
+    document: &Value,
+    later: &mut Vec<Later>,
+    operation: &Operation,
+) -> bool
+    ensures apart { IsTrue result → AllDiverge (nodes (view document.now)) (pointers operation.now)
         (paths_of later.new.items) }
     ensures frees { IsTrue result → (n : NodeMap)
-        → IsPending (nodes (view doc.now)) later.old.items n
-        → (k : NodeMap) × IsPending (nodes (view doc.now)) later.new.items k
+        → IsPending (nodes (view document.now)) later.old.items n
+        → (k : NodeMap) × IsPending (nodes (view document.now)) later.new.items k
         × Frees k n operation.now }
-    ensures same { IsFalse result → later.new.items ≡ later.old.items }
+    ensures unchanged { IsFalse result → later.new.items ≡ later.old.items }
     ensures empty { later.old.items ≡ [] → later.new.items ≡ [] }
 {
-    let Some(index) = replaced(alloc, doc, later.as_slice(), operation) else {
+    let Some(index) = replaced(alloc, document, later.as_slice(), operation) else {
         return false;
     };
     let waiting = later.as_slice();
     let (before, _) = waiting.split_at(index);
     let (_, after) = waiting.split_at(index + 1);
-    if !is_apart(alloc, doc, before, operation) {
+    if !is_apart(alloc, document, before, operation) {
         return false;
     }
-    if !is_apart(alloc, doc, after, operation) {
+    if !is_apart(alloc, document, after, operation) {
         return false;
     }
     later.remove(index);
@@ -325,25 +341,20 @@ pub fn take_place(alloc: Global, doc: &Value, later: &mut Vec<Later>, operation:
 /// # Errors
 ///
 /// [`AllocError`] if an allocation fails. To undo the journal restores the document.
-fn flush(
-    alloc: Global,
-    doc: &mut Value,
-    journal: &mut Journal,
-    later: &mut Vec<Later>,
-) -> Result<(), AllocError>
-    requires undone { CanUndo journal.old doc.old }
-    requires pending { (n : NodeMap) × IsPending (nodes (view doc.old)) later.old.items n }
-    ensures emptied { IfOk result (λ _. later.new.items ≡ []) }
+fn flush(alloc: Global, document: &mut Value, run: &mut Run) -> Result<(), AllocError>
+    requires undone { CanUndo run.old.journal document.old }
+    requires pending { (n : NodeMap) × IsPending (nodes (view document.old)) run.old.later.items n }
+    ensures emptied { IfOk result (λ _. run.new.later.items ≡ []) }
     ensures same { IfOk result (λ _. (n : NodeMap)
-        → IsPending (nodes (view doc.old)) later.old.items n → n ≡ nodes (view doc.new)) }
+        → IsPending (nodes (view document.old)) run.old.later.items n → n ≡ nodes (view document.new)) }
     ensures sorted { IfOk result (λ _.
-        HasSortedKeys (view doc.old) → HasSortedKeys (view doc.new)) }
-    ensures undone { Records journal.old doc.old journal.new doc.new }
+        HasSortedKeys (view document.old) → HasSortedKeys (view document.new)) }
+    ensures undone { Records run.old.journal document.old run.new.journal document.new }
 {
-    let waiting = mem::replace(later, Vec::new(alloc));
+    let waiting = mem::replace(&mut run.later, Vec::new(alloc));
     for one in waiting {
-        let location = location_of(alloc, doc, one)?;
-        journal.remove(alloc, doc, location)?;
+        let location = location_of(alloc, document, one)?;
+        run.journal.remove(alloc, document, location)?;
     }
     Ok(())
 }
@@ -353,15 +364,15 @@ fn flush(
 /// # Errors
 ///
 /// [`AllocError`] if an allocation fails.
-fn location_of(alloc: Global, doc: &Value, one: Later) -> Result<Location, AllocError>
-    requires { IsReached (nodes (view doc.now)) one }
-    ensures { IfOk result (λ here. Names (nodes (view doc.now)) one.path (path_of here)) }
+fn location_of(alloc: Global, document: &Value, one: Later) -> Result<Location, AllocError>
+    requires { IsReached (nodes (view document.now)) one }
+    ensures { IfOk result (λ here. Names (nodes (view document.now)) one.path (path_of here)) }
 {
     let Later { path, location } = one;
     if let Some(location) = location {
         return Ok(location);
     }
-    match locate(alloc, doc, path.as_ptr()) {
+    match locate(alloc, document, path.as_ptr()) {
         Ok(found) => Ok(found.location),
         Err(Fault::Memory(error)) => Err(error),
         Err(Fault::Refused(_)) => unreachable!(),
@@ -371,30 +382,31 @@ fn location_of(alloc: Global, doc: &Value, one: Later) -> Result<Location, Alloc
 /// Removes the nodes that were to be removed later.
 ///
 /// Needs no allocation, and nothing undoes it.
-pub fn unlink(alloc: Global, doc: &mut Value, later: Vec<Later>)
-    requires { (n : NodeMap) × IsPending (nodes (view doc.old)) later.items n }
+pub fn unlink(alloc: Global, document: &mut Value, run: &mut Run)
+    requires { (n : NodeMap) × IsPending (nodes (view document.old)) run.old.later.items n }
     ensures same { (n : NodeMap)
-        → IsPending (nodes (view doc.old)) later.items n → n ≡ nodes (view doc.new) }
-    ensures sorted { HasSortedKeys (view doc.old) → HasSortedKeys (view doc.new) }
+        → IsPending (nodes (view document.old)) run.old.later.items n → n ≡ nodes (view document.new) }
+    ensures sorted { HasSortedKeys (view document.old) → HasSortedKeys (view document.new) }
 {
-    for one in later {
-        unlink_one(alloc, doc, one);
+    let waiting = mem::replace(&mut run.later, Vec::new(alloc));
+    for one in waiting {
+        unlink_one(alloc, document, one);
     }
 }
 
 /// Removes a node that was to be removed later.
 ///
 /// Needs no allocation, and nothing undoes it.
-fn unlink_one(alloc: Global, doc: &mut Value, one: Later)
-    requires { IsReached (nodes (view doc.old)) one }
+fn unlink_one(alloc: Global, document: &mut Value, one: Later)
+    requires { IsReached (nodes (view document.old)) one }
     ensures removed { (v : NodeMap)
-        × Takes (nodes (view doc.old)) one.path v (nodes (view doc.new)) }
-    ensures sorted { HasSortedKeys (view doc.old) → HasSortedKeys (view doc.new) }
+        × Takes (nodes (view document.old)) one.path v (nodes (view document.new)) }
+    ensures sorted { HasSortedKeys (view document.old) → HasSortedKeys (view document.new) }
 {
     let Later { path, location } = one;
     match location {
-        Some(location) => discard_small(removal::remove(alloc, doc, location)),
-        None => delete_plain(alloc, doc, path.as_ptr()),
+        Some(location) => discard_small(removal::remove(alloc, document, location)),
+        None => delete_plain(alloc, document, path.as_ptr()),
     }
 }
 
@@ -405,14 +417,14 @@ fn unlink_one(alloc: Global, doc: &mut Value, one: Later)
 /// # Conditions
 ///
 /// The pointer resolves to a value, and has no `~`.
-fn delete_plain(alloc: Global, doc: &mut Value, ptr: Pointer<'_>)
-    requires plain { HasNoTilde (text (tokens ptr)) }
-    requires named { (w : Path) × Names (nodes (view doc.old)) (tokens ptr) w }
+fn delete_plain(alloc: Global, document: &mut Value, pointer: Pointer<'_>)
+    requires plain { HasNoTilde (text (tokens pointer)) }
+    requires named { (w : Path) × Names (nodes (view document.old)) (tokens pointer) w }
     ensures removed { (v : NodeMap)
-        × Takes (nodes (view doc.old)) (tokens ptr.entry) v (nodes (view doc.new)) }
-    ensures sorted { HasSortedKeys (view doc.old) → HasSortedKeys (view doc.new) }
+        × Takes (nodes (view document.old)) (tokens pointer.entry) v (nodes (view document.new)) }
+    ensures sorted { HasSortedKeys (view document.old) → HasSortedKeys (view document.new) }
 {
-    match ptr.delete(alloc, doc) {
+    match pointer.delete(alloc, document) {
         Ok(Some(value)) => discard_small(value),
         Ok(None) => unreachable!(),
         Err(_) => unreachable!(),
@@ -431,29 +443,28 @@ const MOST_LATER: usize = 1024;
 /// [`AllocError`] if an allocation fails. To undo the journal restores the document.
 pub fn settle(
     alloc: Global,
-    doc: &mut Value,
-    journal: &mut Journal,
-    later: &mut Vec<Later>,
+    document: &mut Value,
+    run: &mut Run,
     operation: &Operation,
 ) -> Result<(), AllocError>
-    requires undone { CanUndo journal.old doc.old }
-    requires pending { (n : NodeMap) × IsPending (nodes (view doc.old)) later.old.items n }
-    ensures apart { IfOk result (λ _. AllDiverge (nodes (view doc.new)) (pointers operation.now)
-        (paths_of later.new.items)) }
+    requires undone { CanUndo run.old.journal document.old }
+    requires pending { (n : NodeMap) × IsPending (nodes (view document.old)) run.old.later.items n }
+    ensures apart { IfOk result (λ _. AllDiverge (nodes (view document.new)) (pointers operation.now)
+        (paths_of run.new.later.items)) }
     ensures stands { IfOk result (λ _. (n : NodeMap)
-        → IsPending (nodes (view doc.old)) later.old.items n
-        → (k : NodeMap) × IsPending (nodes (view doc.new)) later.new.items k
+        → IsPending (nodes (view document.old)) run.old.later.items n
+        → (k : NodeMap) × IsPending (nodes (view document.new)) run.new.later.items k
         × StandsFor k n operation.now) }
     ensures sorted { IfOk result (λ _.
-        HasSortedKeys (view doc.old) → HasSortedKeys (view doc.new)) }
-    ensures undone { Records journal.old doc.old journal.new doc.new }
-    ensures no_memory { later.old.items ≡ [] → IsOk result }
-    ensures none { later.old.items ≡ [] → later.new.items ≡ [] }
+        HasSortedKeys (view document.old) → HasSortedKeys (view document.new)) }
+    ensures undone { Records run.old.journal document.old run.new.journal document.new }
+    ensures no_memory { run.old.later.items ≡ [] → IsOk result }
+    ensures none { run.old.later.items ≡ [] → run.new.later.items ≡ [] }
 {
-    if take_place(alloc, doc, later, operation) {
+    if take_place(alloc, document, &mut run.later, operation) {
         return Ok(());
     }
-    make_apart(alloc, doc, journal, later, operation)
+    make_apart(alloc, document, run, operation)
 }
 
 /// Makes the operation apart from the nodes that are removed later: if it is not, or if too many are
@@ -464,31 +475,30 @@ pub fn settle(
 /// [`AllocError`] if an allocation fails. To undo the journal restores the document.
 pub fn make_apart(
     alloc: Global,
-    doc: &mut Value,
-    journal: &mut Journal,
-    later: &mut Vec<Later>,
+    document: &mut Value,
+    run: &mut Run,
     operation: &Operation,
 ) -> Result<(), AllocError>
-    requires undone { CanUndo journal.old doc.old }
-    requires pending { (n : NodeMap) × IsPending (nodes (view doc.old)) later.old.items n }
-    ensures apart { IfOk result (λ _. AllDiverge (nodes (view doc.new)) (pointers operation.now)
-        (paths_of later.new.items)) }
+    requires undone { CanUndo run.old.journal document.old }
+    requires pending { (n : NodeMap) × IsPending (nodes (view document.old)) run.old.later.items n }
+    ensures apart { IfOk result (λ _. AllDiverge (nodes (view document.new)) (pointers operation.now)
+        (paths_of run.new.later.items)) }
     ensures same { IfOk result (λ _. (n : NodeMap)
-        → IsPending (nodes (view doc.old)) later.old.items n
-        → IsPending (nodes (view doc.new)) later.new.items n) }
+        → IsPending (nodes (view document.old)) run.old.later.items n
+        → IsPending (nodes (view document.new)) run.new.later.items n) }
     ensures sorted { IfOk result (λ _.
-        HasSortedKeys (view doc.old) → HasSortedKeys (view doc.new)) }
-    ensures undone { Records journal.old doc.old journal.new doc.new }
-    ensures no_memory { later.old.items ≡ [] → IsOk result }
-    ensures none { later.old.items ≡ [] → later.new.items ≡ [] }
+        HasSortedKeys (view document.old) → HasSortedKeys (view document.new)) }
+    ensures undone { Records run.old.journal document.old run.new.journal document.new }
+    ensures no_memory { run.old.later.items ≡ [] → IsOk result }
+    ensures none { run.old.later.items ≡ [] → run.new.later.items ≡ [] }
 {
-    if later.len() < MOST_LATER && is_apart(alloc, doc, later.as_slice(), operation) {
+    if run.later.len() < MOST_LATER && is_apart(alloc, document, run.later.as_slice(), operation) {
         return Ok(());
     }
-    flush(alloc, doc, journal, later)
+    flush(alloc, document, run)
 }
 
-// The number of nodes for which there is room at first, so that few of them are moved when more wait.
+/// The number of nodes for which there is room at first, so that few of them are moved when more wait.
 const FIRST_LATER: usize = 16;
 
 /// Makes room for one more node that is removed later.
@@ -506,28 +516,27 @@ fn make_room(later: &mut Vec<Later>) -> Result<(), AllocError>
     later.reserve(1)
 }
 
-/// Removes the value that the pointer resolves to after all operations, for the operation with this
-/// number. Until then it stays in the document.
+/// Removes the value that the pointer resolves to after all operations, for the operation of this turn.
+/// Until then it stays in the document.
 ///
 /// # Errors
 ///
 /// [`Fault::Refused`] if the pointer does not resolve to a value, and [`Fault::Memory`] if an
 /// allocation fails.
 fn remove_later(
-    alloc: Global,
-    doc: &Value,
+    turn: Turn,
+    document: &Value,
     later: &mut Vec<Later>,
-    number: usize,
     path: PointerBuf,
 ) -> Result<(), Fault<PatchError>>
-    requires apart { AllDiverge (nodes (view doc.now)) (path ∷ []) (paths_of later.old.items) }
-    requires member { HasObject (nodes (view doc.now)) path }
+    requires apart { AllDiverge (nodes (view document.now)) (path ∷ []) (paths_of later.old.items) }
+    requires member { HasObject (nodes (view document.now)) path }
     ensures removed { IfOk result (λ _. (n : NodeMap)
-        → IsPending (nodes (view doc.now)) later.old.items n
-        → (m v : NodeMap) × Takes n path v m × IsPending (nodes (view doc.now)) later.new.items m) }
-    ensures refused { IfRefused result (RefusesTarget (nodes (view doc.now)) number path) }
+        → IsPending (nodes (view document.now)) later.old.items n
+        → (m v : NodeMap) × Takes n path v m × IsPending (nodes (view document.now)) later.new.items m) }
+    ensures refused { IfRefused result (RefusesTarget (nodes (view document.now)) turn.number path) }
 {
-    let location = reached(alloc, doc, number, &path)?;
+    let location = reached(turn, document, &path)?;
     make_room(later)?;
     later.push_reserved(Later { path, location });
     Ok(())
@@ -540,25 +549,24 @@ fn remove_later(
 /// [`Fault::Refused`] if the pointer does not resolve to a value, and [`Fault::Memory`] if an
 /// allocation fails.
 fn reached(
-    alloc: Global,
-    doc: &Value,
-    number: usize,
+    turn: Turn,
+    document: &Value,
     path: &PointerBuf,
 ) -> Result<Option<Location>, Fault<PatchError>>
-    ensures kept { IfOk result (λ kept. IsKept kept (nodes (view doc.now)) path.now) }
-    ensures refused { IfRefused result (RefusesTarget (nodes (view doc.now)) number path.now) }
+    ensures kept { IfOk result (λ kept. IsKept kept (nodes (view document.now)) path.now) }
+    ensures refused { IfRefused result (RefusesTarget (nodes (view document.now)) turn.number path.now) }
 {
     if path.as_ptr().as_str().as_bytes().contains(&b'~') {
-        let location = target(alloc, doc, number, path.as_ptr())?;
+        let location = target(turn, document, path.as_ptr())?;
         return Ok(Some(location));
     }
-    match path.as_ptr().resolve(alloc, doc) {
+    match path.as_ptr().resolve(turn.alloc, document) {
         Ok(_) => Ok(None),
-        Err(fault) => Err(no_target(number, fault)),
+        Err(fault) => Err(no_target(turn.number, fault)),
     }
 }
 
-/// Moves the value at `from` to `path`, for the operation with this number, and removes its member
+/// Moves the value at `from` to `path`, for the operation of this turn, and removes its member
 /// after all operations. It is `null` until then.
 ///
 /// # Errors
@@ -566,49 +574,47 @@ fn reached(
 /// [`Fault::Refused`] if `from` does not resolve to a value, or if the value cannot be added.
 /// [`Fault::Memory`] if an allocation fails. To undo the journal restores the document.
 fn move_later(
-    alloc: Global,
-    doc: &mut Value,
-    journal: &mut Journal,
-    later: &mut Vec<Later>,
-    number: usize,
+    turn: Turn,
+    document: &mut Value,
+    run: &mut Run,
     from: PointerBuf,
     path: Pointer<'_>,
 ) -> Result<(), Fault<PatchError>>
-    requires apart { AllDiverge (nodes (view doc.old)) (from ∷ tokens path ∷ [])
-        (paths_of later.old.items) }
-    requires ways { Diverges (nodes (view doc.old)) from (tokens path) }
-    requires member { HasObject (nodes (view doc.old)) from }
+    requires apart { AllDiverge (nodes (view document.old)) (from ∷ tokens path ∷ [])
+        (paths_of run.old.later.items) }
+    requires ways { Diverges (nodes (view document.old)) from (tokens path) }
+    requires member { HasObject (nodes (view document.old)) from }
     ensures moved { IfOk result (λ _. (n : NodeMap)
-        → IsPending (nodes (view doc.old)) later.old.items n
+        → IsPending (nodes (view document.old)) run.old.later.items n
         → (m : NodeMap) × Moves n from (tokens path.entry) m
-        × IsPending (nodes (view doc.new)) later.new.items m) }
+        × IsPending (nodes (view document.new)) run.new.later.items m) }
     ensures sorted { IfOk result (λ _.
-        HasSortedKeys (view doc.old) → HasSortedKeys (view doc.new)) }
+        HasSortedKeys (view document.old) → HasSortedKeys (view document.new)) }
     ensures refused { IfRefused result (λ e. (n : NodeMap)
-        → IsPending (nodes (view doc.old)) later.old.items n
-        → RefusesMove n number from (tokens path.entry) e) }
-    ensures undone { Records journal.old doc.old journal.new doc.new }
+        → IsPending (nodes (view document.old)) run.old.later.items n
+        → RefusesMove n turn.number from (tokens path.entry) e) }
+    ensures undone { Records run.old.journal document.old run.new.journal document.new }
 {
-    let kept = kept_location(alloc, doc, &from)?;
-    make_room(later)?;
-    journal.reserve(alloc)?;
-    let source = take_source(alloc, doc, &from)?;
+    let kept = kept_location(turn.alloc, document, &from)?;
+    make_room(&mut run.later)?;
+    run.journal.reserve(turn.alloc)?;
+    let source = take_source(turn.alloc, document, &from)?;
     match source {
-        Some(Taken { value, removal }) => match add_taken(alloc, doc, number, path, value) {
+        Some(Taken { value, removal }) => match add_taken(turn, document, path, value) {
             Ok(addition) => {
-                journal.push(Entry::Moved(removal, addition));
-                later.push_reserved(Later {
+                run.journal.push(Entry::Moved(removal, addition));
+                run.later.push_reserved(Later {
                     path: from,
                     location: kept,
                 });
                 Ok(())
             }
             Err(NotAdded { value, fault }) => {
-                undo_removal(alloc, doc, removal, value);
+                undo_removal(turn.alloc, document, removal, value);
                 Err(fault)
             }
         },
-        None => move_value(alloc, doc, journal, number, from.as_ptr(), path),
+        None => move_value(turn, document, &mut run.journal, from.as_ptr(), path),
     }
 }
 
@@ -620,19 +626,19 @@ fn move_later(
 /// [`AllocError`] if an allocation fails. The document is unchanged.
 fn take_source(
     alloc: Global,
-    doc: &mut Value,
+    document: &mut Value,
     from: &PointerBuf,
 ) -> Result<Option<Taken>, AllocError>
-    requires { HasObject (nodes (view doc.old)) from.now }
+    requires { HasObject (nodes (view document.old)) from.now }
     ensures taken { IfOk result (λ source. IsSource source from.now
-        (contents_of doc.old) (contents_of doc.new)) }
-    ensures unchanged { OnErr result (contents_of doc.new ≡ contents_of doc.old) }
+        (contents_of document.old) (contents_of document.new)) }
+    ensures unchanged { OnErr result (contents_of document.new ≡ contents_of document.old) }
 {
     if from.as_ptr().as_str().as_bytes().contains(&b'~') {
-        return take_located(alloc, doc, from);
+        return take_located(alloc, document, from);
     }
     let path = from.clone()?;
-    Ok(take_plain(doc, path))
+    Ok(take_plain(document, path))
 }
 
 /// Takes the value that the pointer resolves to, as [`take_source`] does, by the pointer itself.
@@ -640,11 +646,11 @@ fn take_source(
 /// # Conditions
 ///
 /// The pointer has no `~`.
-fn take_plain(doc: &mut Value, path: PointerBuf) -> Option<Taken>
+fn take_plain(document: &mut Value, path: PointerBuf) -> Option<Taken>
     requires { HasNoTilde (text path) }
-    ensures { IsSource result path (contents_of doc.old) (contents_of doc.new) }
+    ensures { IsSource result path (contents_of document.old) (contents_of document.new) }
 {
-    match replace_at(doc, &path, Value::Null) {
+    match replace_at(document, &path, Value::Null) {
         Ok(value) => Some(Taken {
             value,
             removal: Removal::BlankAt { path },
@@ -660,18 +666,18 @@ fn take_plain(doc: &mut Value, path: PointerBuf) -> Option<Taken>
 /// [`AllocError`] if an allocation fails. The document is unchanged.
 fn take_located(
     alloc: Global,
-    doc: &mut Value,
+    document: &mut Value,
     from: &PointerBuf,
 ) -> Result<Option<Taken>, AllocError>
-    requires { HasObject (nodes (view doc.old)) from.now }
+    requires { HasObject (nodes (view document.old)) from.now }
     ensures taken { IfOk result (λ source. IsSource source from.now
-        (contents_of doc.old) (contents_of doc.new)) }
-    ensures unchanged { OnErr result (contents_of doc.new ≡ contents_of doc.old) }
+        (contents_of document.old) (contents_of document.new)) }
+    ensures unchanged { OnErr result (contents_of document.new ≡ contents_of document.old) }
 {
-    let Some(location) = member_location(alloc, doc, from.as_ptr()) else {
+    let Some(location) = member_location(alloc, document, from.as_ptr()) else {
         return Err(AllocError);
     };
-    match blank(doc, &location) {
+    match blank(document, &location) {
         Some(value) => Ok(Some(Taken {
             value,
             removal: Removal::Blank { location },
@@ -687,17 +693,17 @@ fn take_located(
 /// [`AllocError`] if an allocation fails.
 fn kept_location(
     alloc: Global,
-    doc: &Value,
+    document: &Value,
     path: &PointerBuf,
 ) -> Result<Option<Location>, AllocError>
-    requires { HasObject (nodes (view doc.now)) path.now }
+    requires { HasObject (nodes (view document.now)) path.now }
     ensures { IfOk result (λ kept. MatchOption kept (HasNoTilde (text path.now))
-        (λ here. IsMemberAt (nodes (view doc.now)) path.now (path_of here))) }
+        (λ here. IsMemberAt (nodes (view document.now)) path.now (path_of here))) }
 {
     if !path.as_ptr().as_str().as_bytes().contains(&b'~') {
         return Ok(None);
     }
-    match member_location(alloc, doc, path.as_ptr()) {
+    match member_location(alloc, document, path.as_ptr()) {
         Some(location) => Ok(Some(location)),
         None => Err(AllocError),
     }
@@ -705,23 +711,23 @@ fn kept_location(
 
 /// Returns the location of the member to which the pointer resolves, if its parent is an object. The
 /// object need not have the member. May return `None` if an allocation fails.
-fn member_location(alloc: Global, doc: &Value, path: Pointer<'_>) -> Option<Location>
+fn member_location(alloc: Global, document: &Value, path: Pointer<'_>) -> Option<Location>
     ensures { IfSome result (λ here.
-        IsMemberAt (nodes (view doc.now)) (tokens path.entry) (path_of here)) }
+        IsMemberAt (nodes (view document.now)) (tokens path.entry) (path_of here)) }
 {
     let (front, last) = path.split_back()?;
-    let object = object_location(alloc, doc, front)?;
+    let object = object_location(alloc, document, front)?;
     below(alloc, object, &last)
 }
 
 /// Returns the location of the object to which the pointer resolves, or `None` if it resolves to no
 /// object. May return `None` if an allocation fails.
-fn object_location(alloc: Global, doc: &Value, ptr: Pointer<'_>) -> Option<Location>
+fn object_location(alloc: Global, document: &Value, pointer: Pointer<'_>) -> Option<Location>
     ensures { IfSome result (λ here.
-        Names (nodes (view doc.now)) (tokens ptr.entry) (path_of here)
-        × (nodes (view doc.now) (path_of here) ≡ Some an_object)) }
+        Names (nodes (view document.now)) (tokens pointer.entry) (path_of here)
+        × (nodes (view document.now) (path_of here) ≡ Some an_object)) }
 {
-    match locate(alloc, doc, ptr) {
+    match locate(alloc, document, pointer) {
         Ok(found) => match found.node.node() {
             Node::Object(_) => Some(found.location),
             _ => None,
@@ -748,30 +754,32 @@ fn below(alloc: Global, object: Location, last: &Token<'_>) -> Option<Location>
 /// Returns whether the removal of the operation can wait until all operations are applied. It removes or
 /// moves a member of an object, and the pointers of a move diverge at an object. May return false if an
 /// allocation fails.
-pub fn can_wait(alloc: Global, doc: &Value, operation: &Operation) -> bool
-    ensures { IsTrue result → CanWait (nodes (view doc.now)) operation.now }
+pub fn can_wait(alloc: Global, document: &Value, operation: &Operation) -> bool
+    ensures { IsTrue result → CanWait (nodes (view document.now)) operation.now }
 {
     match operation {
-        Operation::Remove { path } => is_member(alloc, doc, path.as_ptr()),
-        Operation::Move { from, path } => { is_way_out(alloc, doc, from.as_ptr(), path.as_ptr()) }
+        Operation::Remove { path } => is_member(alloc, document, path.as_ptr()),
+        Operation::Move { from, path } => {
+            is_way_out(alloc, document, from.as_ptr(), path.as_ptr())
+        }
         _ => false,
     }
 }
 
 /// Returns whether `from` is the pointer of a member of an object, and the two pointers diverge at an
 /// object. May return false if an allocation fails.
-fn is_way_out(alloc: Global, doc: &Value, from: Pointer<'_>, path: Pointer<'_>) -> bool
-    ensures { IsTrue result → HasObject (nodes (view doc.now)) (tokens from.entry)
-        × Diverges (nodes (view doc.now)) (tokens from.entry) (tokens path.entry) }
+fn is_way_out(alloc: Global, document: &Value, from: Pointer<'_>, path: Pointer<'_>) -> bool
+    ensures { IsTrue result → HasObject (nodes (view document.now)) (tokens from.entry)
+        × Diverges (nodes (view document.now)) (tokens from.entry) (tokens path.entry) }
 {
     let Some((front, _)) = from.split_back() else {
         return false;
     };
-    if !is_object(alloc, doc, front) {
+    if !is_object(alloc, document, front) {
         return false;
     }
     match fork_at(from, front, path) {
-        Some(common) => is_object_too(alloc, doc, Some(front), common),
+        Some(common) => is_object_too(alloc, document, Some(front), common),
         None => false,
     }
 }
@@ -780,19 +788,19 @@ fn is_way_out(alloc: Global, doc: &Value, from: Pointer<'_>, path: Pointer<'_>) 
 /// May return `None` if an allocation fails.
 pub fn moved_location(
     alloc: Global,
-    doc: &Value,
+    document: &Value,
     from: Pointer<'_>,
     path: Pointer<'_>,
 ) -> Option<Location>
     ensures member { IfSome result (λ here.
-        IsMemberAt (nodes (view doc.now)) (tokens from.entry) (path_of here)) }
+        IsMemberAt (nodes (view document.now)) (tokens from.entry) (path_of here)) }
     ensures ways { IfSome result (λ _.
-        Diverges (nodes (view doc.now)) (tokens from.entry) (tokens path.entry)) }
+        Diverges (nodes (view document.now)) (tokens from.entry) (tokens path.entry)) }
 {
-    if !diverges(alloc, doc, from, path) {
+    if !diverges(alloc, document, from, path) {
         return None;
     }
-    member_location(alloc, doc, from)
+    member_location(alloc, document, from)
 }
 
 /// Applies an operation whose removal waits, and which is apart from the nodes that are removed
@@ -803,31 +811,27 @@ pub fn moved_location(
 /// [`Fault::Refused`] if the operation fails, and [`Fault::Memory`] if an allocation fails. To undo
 /// the journal restores the document.
 fn wait(
-    alloc: Global,
-    doc: &mut Value,
-    journal: &mut Journal,
-    later: &mut Vec<Later>,
-    number: usize,
+    turn: Turn,
+    document: &mut Value,
+    run: &mut Run,
     operation: Operation,
 ) -> Result<(), Fault<PatchError>>
-    requires apart { AllDiverge (nodes (view doc.old)) (pointers operation)
-        (paths_of later.old.items) }
-    requires waits { CanWait (nodes (view doc.old)) operation }
+    requires apart { AllDiverge (nodes (view document.old)) (pointers operation)
+        (paths_of run.old.later.items) }
+    requires waits { CanWait (nodes (view document.old)) operation }
     ensures applied { IfOk result (λ _. (n : NodeMap)
-        → IsPending (nodes (view doc.old)) later.old.items n
-        → (m : NodeMap) × Applies n operation m × IsPending (nodes (view doc.new)) later.new.items m) }
+        → IsPending (nodes (view document.old)) run.old.later.items n
+        → (m : NodeMap) × Applies n operation m × IsPending (nodes (view document.new)) run.new.later.items m) }
     ensures sorted { IfOk result (λ _.
-        HasSortedKeys (view doc.old) → HasSortedKeys (view doc.new)) }
+        HasSortedKeys (view document.old) → HasSortedKeys (view document.new)) }
     ensures refused { IfRefused result (λ e. (n : NodeMap)
-        → IsPending (nodes (view doc.old)) later.old.items n
-        → RefusesOperation n number operation e) }
-    ensures undone { Records journal.old doc.old journal.new doc.new }
+        → IsPending (nodes (view document.old)) run.old.later.items n
+        → RefusesOperation n turn.number operation e) }
+    ensures undone { Records run.old.journal document.old run.new.journal document.new }
 {
     match operation {
-        Operation::Remove { path } => remove_later(alloc, doc, later, number, path),
-        Operation::Move { from, path } => {
-            move_later(alloc, doc, journal, later, number, from, path.as_ptr())
-        }
+        Operation::Remove { path } => remove_later(turn, document, &mut run.later, path),
+        Operation::Move { from, path } => { move_later(turn, document, run, from, path.as_ptr()) }
         Operation::Add { .. } => unreachable!(),
         Operation::Replace { .. } => unreachable!(),
         Operation::Copy { .. } => unreachable!(),
@@ -843,36 +847,33 @@ fn wait(
 /// [`Fault::Refused`] if the operation fails, and [`Fault::Memory`] if an allocation fails. To undo
 /// the journal restores the document.
 pub fn record_apart(
-    alloc: Global,
-    doc: &mut Value,
-    journal: &mut Journal,
-    later: &mut Vec<Later>,
-    comparison: Comparison,
-    number: usize,
+    turn: Turn,
+    document: &mut Value,
+    run: &mut Run,
     operation: Operation,
 ) -> Result<(), Fault<PatchError>>
-    requires undone { CanUndo journal.old doc.old }
-    requires apart { AllDiverge (nodes (view doc.old)) (pointers operation)
-        (paths_of later.old.items) }
+    requires undone { CanUndo run.old.journal document.old }
+    requires apart { AllDiverge (nodes (view document.old)) (pointers operation)
+        (paths_of run.old.later.items) }
     ensures applied { IfOk result (λ _. (n : NodeMap)
-        → IsPending (nodes (view doc.old)) later.old.items n
-        → (m : NodeMap) × AppliesBy comparison n operation m × IsPending (nodes (view doc.new)) later.new.items m) }
+        → IsPending (nodes (view document.old)) run.old.later.items n
+        → (m : NodeMap) × AppliesBy turn.comparison n operation m × IsPending (nodes (view document.new)) run.new.later.items m) }
     ensures sorted { IfOk result (λ _. OperationHasSortedKeys operation
-        → HasSortedKeys (view doc.old) → HasSortedKeys (view doc.new)) }
+        → HasSortedKeys (view document.old) → HasSortedKeys (view document.new)) }
     ensures refused { IfRefused result (λ e. (n : NodeMap)
-        → IsPending (nodes (view doc.old)) later.old.items n
-        → RefusesOperationBy comparison n number operation e) }
-    ensures undone { Records journal.old doc.old journal.new doc.new }
+        → IsPending (nodes (view document.old)) run.old.later.items n
+        → RefusesOperationBy turn.comparison n turn.number operation e) }
+    ensures undone { Records run.old.journal document.old run.new.journal document.new }
     ensures no_memory { TestNeedsNoMemory operation → HasMemory result }
-    ensures none { TestNeedsNoMemory operation → later.new.items ≡ later.old.items }
+    ensures none { TestNeedsNoMemory operation → run.new.later.items ≡ run.old.later.items }
 {
-    if can_wait(alloc, doc, &operation) {
-        return wait(alloc, doc, journal, later, number, operation);
+    if can_wait(turn.alloc, document, &operation) {
+        return wait(turn, document, run, operation);
     }
-    record(alloc, doc, journal, comparison, number, operation)
+    record(turn, document, &mut run.journal, operation)
 }
 
-/// Applies the operation with this number, and records in the journal what undoes it. A removal may
+/// Applies the operation, and records in the journal what undoes it. A removal may
 /// be made after all operations.
 ///
 /// # Errors
@@ -880,28 +881,25 @@ pub fn record_apart(
 /// [`Fault::Refused`] if the operation fails, and [`Fault::Memory`] if an allocation fails. To undo
 /// the journal restores the document.
 pub fn record_or_wait(
-    alloc: Global,
-    doc: &mut Value,
-    journal: &mut Journal,
-    later: &mut Vec<Later>,
-    comparison: Comparison,
-    number: usize,
+    turn: Turn,
+    document: &mut Value,
+    run: &mut Run,
     operation: Operation,
 ) -> Result<(), Fault<PatchError>>
-    requires undone { CanUndo journal.old doc.old }
-    requires pending { (n : NodeMap) × IsPending (nodes (view doc.old)) later.old.items n }
+    requires undone { CanUndo run.old.journal document.old }
+    requires pending { (n : NodeMap) × IsPending (nodes (view document.old)) run.old.later.items n }
     ensures applied { IfOk result (λ _. (n : NodeMap)
-        → IsPending (nodes (view doc.old)) later.old.items n
-        → (m : NodeMap) × AppliesBy comparison n operation m × IsPending (nodes (view doc.new)) later.new.items m) }
+        → IsPending (nodes (view document.old)) run.old.later.items n
+        → (m : NodeMap) × AppliesBy turn.comparison n operation m × IsPending (nodes (view document.new)) run.new.later.items m) }
     ensures sorted { IfOk result (λ _. OperationHasSortedKeys operation
-        → HasSortedKeys (view doc.old) → HasSortedKeys (view doc.new)) }
+        → HasSortedKeys (view document.old) → HasSortedKeys (view document.new)) }
     ensures refused { IfRefused result (λ e. (n : NodeMap)
-        → IsPending (nodes (view doc.old)) later.old.items n
-        → RefusesOperationBy comparison n number operation e) }
-    ensures undone { Records journal.old doc.old journal.new doc.new }
-    ensures no_memory { TestNeedsNoMemory operation → later.old.items ≡ [] → HasMemory result }
-    ensures none { TestNeedsNoMemory operation → later.old.items ≡ [] → later.new.items ≡ [] }
+        → IsPending (nodes (view document.old)) run.old.later.items n
+        → RefusesOperationBy turn.comparison n turn.number operation e) }
+    ensures undone { Records run.old.journal document.old run.new.journal document.new }
+    ensures no_memory { TestNeedsNoMemory operation → run.old.later.items ≡ [] → HasMemory result }
+    ensures none { TestNeedsNoMemory operation → run.old.later.items ≡ [] → run.new.later.items ≡ [] }
 {
-    settle(alloc, doc, journal, later, &operation)?;
-    record_apart(alloc, doc, journal, later, comparison, number, operation)
+    settle(turn.alloc, document, run, &operation)?;
+    record_apart(turn, document, run, operation)
 }

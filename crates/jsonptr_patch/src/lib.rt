@@ -32,6 +32,7 @@
 //! - [`apply_with_inverse`] applies a patch and returns the patch that takes it back, and
 //!   [`apply_comparing_with_inverse`] does so with a [`Comparison`].
 //! - [`are_apart`] returns whether two patches can be applied in either order.
+//! - [`is_equal`] compares two values as a `test` does.
 //! - [`delete_with_undo`] deletes a value and returns the operation that restores it.
 //! - [`laws`] states what holds of operations and patches, such as that each has exactly one
 //!   outcome.
@@ -59,10 +60,12 @@ mod remove;
 mod replace;
 mod target;
 mod test;
+mod turn;
 mod undo;
 
 pub use apart::are_apart;
 pub use comparison::Comparison;
+pub use equality::is_equal;
 pub use inverse::{apply_comparing_with_inverse, apply_with_inverse};
 pub use operation::{Operation, PatchError};
 pub use patch::{apply, apply_comparing};

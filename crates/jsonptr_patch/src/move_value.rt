@@ -17,6 +17,7 @@ use crate::add::place;
 use crate::later::moved_location;
 use crate::operation::PatchError;
 use crate::target::target;
+use crate::turn::Turn;
 use jsonptr::{Fault, Pointer};
 use jsonptr_journal::addition::{Addition, add, insert};
 use jsonptr_journal::journal::{Entry, Journal};
@@ -26,30 +27,29 @@ use jsonptr_value::discard;
 use serde_json::Value;
 use std::alloc::{AllocError, Global};
 
-/// Removes the value at `from` and adds it at `path`, for the operation with this number.
+/// Removes the value at `from` and adds it at `path`, for the operation of this turn.
 ///
 /// # Errors
 ///
 /// [`Fault::Refused`] if `from` is a proper prefix of `path` or does not resolve to a value, or if
 /// the value cannot be added. [`Fault::Memory`] if an allocation fails.
 pub fn move_value(
-    alloc: Global,
-    doc: &mut Value,
+    turn: Turn,
+    document: &mut Value,
     journal: &mut Journal,
-    number: usize,
     from: Pointer<'_>,
     path: Pointer<'_>,
 ) -> Result<(), Fault<PatchError>>
-    ensures moved { IfOk result (λ _. Moves (nodes (view doc.old)) (tokens from.entry)
-        (tokens path.entry) (nodes (view doc.new))) }
+    ensures moved { IfOk result (λ _. Moves (nodes (view document.old)) (tokens from.entry)
+        (tokens path.entry) (nodes (view document.new))) }
     ensures sorted { IfOk result (λ _.
-        HasSortedKeys (view doc.old) → HasSortedKeys (view doc.new)) }
-    ensures refused { IfRefused result (RefusesMove (nodes (view doc.old)) number
+        HasSortedKeys (view document.old) → HasSortedKeys (view document.new)) }
+    ensures refused { IfRefused result (RefusesMove (nodes (view document.old)) turn.number
         (tokens from.entry) (tokens path.entry)) }
-    ensures undone { Records journal.old doc.old journal.new doc.new }
+    ensures undone { Records journal.old document.old journal.new document.new }
 {
-    journal.reserve(alloc)?;
-    let entry = moved(alloc, doc, number, from, path)?;
+    journal.reserve(turn.alloc)?;
+    let entry = moved(turn, document, from, path)?;
     journal.push(entry);
     Ok(())
 }
@@ -61,23 +61,22 @@ pub fn move_value(
 ///
 /// Those of [`move_value`]. The document is unchanged.
 pub fn move_last(
-    alloc: Global,
-    doc: &mut Value,
-    number: usize,
+    turn: Turn,
+    document: &mut Value,
     from: Pointer<'_>,
     path: Pointer<'_>,
 ) -> Result<(), Fault<PatchError>>
-    ensures moved { IfOk result (λ _. Moves (nodes (view doc.old)) (tokens from.entry)
-        (tokens path.entry) (nodes (view doc.new))) }
+    ensures moved { IfOk result (λ _. Moves (nodes (view document.old)) (tokens from.entry)
+        (tokens path.entry) (nodes (view document.new))) }
     ensures sorted { IfOk result (λ _.
-        HasSortedKeys (view doc.old) → HasSortedKeys (view doc.new)) }
-    ensures refused { IfRefused result (RefusesMove (nodes (view doc.old)) number
+        HasSortedKeys (view document.old) → HasSortedKeys (view document.new)) }
+    ensures refused { IfRefused result (RefusesMove (nodes (view document.old)) turn.number
         (tokens from.entry) (tokens path.entry)) }
-    ensures unchanged { OnErr result (view doc.new ≡ view doc.old) }
+    ensures unchanged { OnErr result (view document.new ≡ view document.old) }
 {
-    match moved_location(alloc, doc, from, path) {
-        Some(location) => move_member(alloc, doc, number, from, path, location),
-        None => move_any(alloc, doc, number, from, path),
+    match moved_location(turn.alloc, document, from, path) {
+        Some(location) => move_member(turn, document, from, path, location),
+        None => move_any(turn, document, from, path),
     }
 }
 
@@ -87,21 +86,20 @@ pub fn move_last(
 ///
 /// Those of [`move_value`]. The document is unchanged.
 fn move_any(
-    alloc: Global,
-    doc: &mut Value,
-    number: usize,
+    turn: Turn,
+    document: &mut Value,
     from: Pointer<'_>,
     path: Pointer<'_>,
 ) -> Result<(), Fault<PatchError>>
-    ensures moved { IfOk result (λ _. Moves (nodes (view doc.old)) (tokens from.entry)
-        (tokens path.entry) (nodes (view doc.new))) }
+    ensures moved { IfOk result (λ _. Moves (nodes (view document.old)) (tokens from.entry)
+        (tokens path.entry) (nodes (view document.new))) }
     ensures sorted { IfOk result (λ _.
-        HasSortedKeys (view doc.old) → HasSortedKeys (view doc.new)) }
-    ensures refused { IfRefused result (RefusesMove (nodes (view doc.old)) number
+        HasSortedKeys (view document.old) → HasSortedKeys (view document.new)) }
+    ensures refused { IfRefused result (RefusesMove (nodes (view document.old)) turn.number
         (tokens from.entry) (tokens path.entry)) }
-    ensures unchanged { OnErr result (view doc.new ≡ view doc.old) }
+    ensures unchanged { OnErr result (view document.new ≡ view document.old) }
 {
-    moved(alloc, doc, number, from, path)?.discard();
+    moved(turn, document, from, path)?.discard();
     Ok(())
 }
 
@@ -111,33 +109,32 @@ fn move_any(
 ///
 /// Those of [`move_value`]. The document is unchanged.
 fn move_member(
-    alloc: Global,
-    doc: &mut Value,
-    number: usize,
+    turn: Turn,
+    document: &mut Value,
     from: Pointer<'_>,
     path: Pointer<'_>,
     location: Location,
 ) -> Result<(), Fault<PatchError>>
-    requires ways { Diverges (nodes (view doc.old)) (tokens from) (tokens path) }
-    requires member { IsMemberAt (nodes (view doc.old)) (tokens from) (path_of location) }
-    ensures moved { IfOk result (λ _. Moves (nodes (view doc.old)) (tokens from.entry)
-        (tokens path.entry) (nodes (view doc.new))) }
+    requires ways { Diverges (nodes (view document.old)) (tokens from) (tokens path) }
+    requires member { IsMemberAt (nodes (view document.old)) (tokens from) (path_of location) }
+    ensures moved { IfOk result (λ _. Moves (nodes (view document.old)) (tokens from.entry)
+        (tokens path.entry) (nodes (view document.new))) }
     ensures sorted { IfOk result (λ _.
-        HasSortedKeys (view doc.old) → HasSortedKeys (view doc.new)) }
-    ensures refused { IfRefused result (RefusesMove (nodes (view doc.old)) number
+        HasSortedKeys (view document.old) → HasSortedKeys (view document.new)) }
+    ensures refused { IfRefused result (RefusesMove (nodes (view document.old)) turn.number
         (tokens from.entry) (tokens path.entry)) }
-    ensures unchanged { OnErr result (view doc.new ≡ view doc.old) }
+    ensures unchanged { OnErr result (view document.new ≡ view document.old) }
 {
-    let Some(value) = blank(doc, &location) else {
-        return move_any(alloc, doc, number, from, path);
+    let Some(value) = blank(document, &location) else {
+        return move_any(turn, document, from, path);
     };
-    match insert_taken(alloc, doc, number, path, value) {
+    match insert_taken(turn, document, path, value) {
         Ok(()) => {
-            discard(remove(alloc, doc, location));
+            discard(remove(turn.alloc, document, location));
             Ok(())
         }
         Err(NotAdded { value, fault }) => {
-            undo_removal(alloc, doc, Removal::Blank { location }, value);
+            undo_removal(turn.alloc, document, Removal::Blank { location }, value);
             Err(fault)
         }
     }
@@ -149,31 +146,32 @@ fn move_member(
 ///
 /// Those of [`move_value`]. The document is unchanged.
 fn moved(
-    alloc: Global,
-    doc: &mut Value,
-    number: usize,
+    turn: Turn,
+    document: &mut Value,
     from: Pointer<'_>,
     path: Pointer<'_>,
 ) -> Result<Entry, Fault<PatchError>>
-    ensures moved { IfOk result (λ _. Moves (nodes (view doc.old)) (tokens from.entry)
-        (tokens path.entry) (nodes (view doc.new))) }
+    ensures moved { IfOk result (λ _. Moves (nodes (view document.old)) (tokens from.entry)
+        (tokens path.entry) (nodes (view document.new))) }
     ensures sorted { IfOk result (λ _.
-        HasSortedKeys (view doc.old) → HasSortedKeys (view doc.new)) }
+        HasSortedKeys (view document.old) → HasSortedKeys (view document.new)) }
     ensures undone { IfOk result (λ entry.
-        Undoes entry (contents_of doc.old) (contents_of doc.new)) }
-    ensures refused { IfRefused result (RefusesMove (nodes (view doc.old)) number
+        Undoes entry (contents_of document.old) (contents_of document.new)) }
+    ensures refused { IfRefused result (RefusesMove (nodes (view document.old)) turn.number
         (tokens from.entry) (tokens path.entry)) }
-    ensures unchanged { OnErr result (view doc.new ≡ view doc.old) }
+    ensures unchanged { OnErr result (view document.new ≡ view document.old) }
 {
     if is_proper_front(from, path) {
-        return Err(Fault::Refused(PatchError::MoveIntoSelf { operation: number }));
+        return Err(Fault::Refused(PatchError::MoveIntoSelf {
+            operation: turn.number,
+        }));
     }
-    let location = target(alloc, doc, number, from)?;
-    let Taken { value, removal } = take(alloc, doc, location)?;
-    match add_taken(alloc, doc, number, path, value) {
+    let location = target(turn, document, from)?;
+    let Taken { value, removal } = take(turn.alloc, document, location)?;
+    match add_taken(turn, document, path, value) {
         Ok(addition) => Ok(Entry::Moved(removal, addition)),
         Err(NotAdded { value, fault }) => {
-            undo_removal(alloc, doc, removal, value);
+            undo_removal(turn.alloc, document, removal, value);
             Err(fault)
         }
     }
@@ -196,25 +194,24 @@ pub struct NotAdded {
 /// unchanged.
 #[inline(always)]
 pub fn add_taken(
-    alloc: Global,
-    doc: &mut Value,
-    number: usize,
+    turn: Turn,
+    document: &mut Value,
     path: Pointer<'_>,
     value: Value,
 ) -> Result<Addition, NotAdded>
-    ensures added { IfOk result (λ _. Adds (nodes (view doc.old)) (tokens path.entry)
-        (nodes (view value)) (nodes (view doc.new))) }
+    ensures added { IfOk result (λ _. Adds (nodes (view document.old)) (tokens path.entry)
+        (nodes (view value)) (nodes (view document.new))) }
     ensures sorted { IfOk result (λ _.
-        HasSortedKeys (view value) → HasSortedKeys (view doc.old) → HasSortedKeys (view doc.new)) }
+        HasSortedKeys (view value) → HasSortedKeys (view document.old) → HasSortedKeys (view document.new)) }
     ensures undone { IfOk result (λ addition.
-        IsAddition addition (contents_of value) (contents_of doc.old) (contents_of doc.new)) }
+        IsAddition addition (contents_of value) (contents_of document.old) (contents_of document.new)) }
     ensures returned { IfErr result (λ e. e.value ≡ value) }
     ensures refused { IfErr result (λ e. ForRefused e.fault
-        (RefusesAdd (nodes (view doc.old)) number (tokens path.entry))) }
-    ensures unchanged { OnErr result (contents_of doc.new ≡ contents_of doc.old) }
+        (RefusesAdd (nodes (view document.old)) turn.number (tokens path.entry))) }
+    ensures unchanged { OnErr result (contents_of document.new ≡ contents_of document.old) }
 {
-    match place(alloc, doc, number, path) {
-        Ok(place) => match add(alloc, doc, place, value) {
+    match place(turn, document, path) {
+        Ok(place) => match add(turn.alloc, document, place, value) {
             Ok(addition) => Ok(addition),
             Err(value) => Err(NotAdded {
                 value,
@@ -231,23 +228,22 @@ pub fn add_taken(
 ///
 /// Those of [`add_taken`]. The document is unchanged.
 fn insert_taken(
-    alloc: Global,
-    doc: &mut Value,
-    number: usize,
+    turn: Turn,
+    document: &mut Value,
     path: Pointer<'_>,
     value: Value,
 ) -> Result<(), NotAdded>
-    ensures added { IfOk result (λ _. Adds (nodes (view doc.old)) (tokens path.entry)
-        (nodes (view value)) (nodes (view doc.new))) }
+    ensures added { IfOk result (λ _. Adds (nodes (view document.old)) (tokens path.entry)
+        (nodes (view value)) (nodes (view document.new))) }
     ensures sorted { IfOk result (λ _.
-        HasSortedKeys (view value) → HasSortedKeys (view doc.old) → HasSortedKeys (view doc.new)) }
+        HasSortedKeys (view value) → HasSortedKeys (view document.old) → HasSortedKeys (view document.new)) }
     ensures returned { IfErr result (λ e. e.value ≡ value) }
     ensures refused { IfErr result (λ e. ForRefused e.fault
-        (RefusesAdd (nodes (view doc.old)) number (tokens path.entry))) }
-    ensures unchanged { OnErr result (contents_of doc.new ≡ contents_of doc.old) }
+        (RefusesAdd (nodes (view document.old)) turn.number (tokens path.entry))) }
+    ensures unchanged { OnErr result (contents_of document.new ≡ contents_of document.old) }
 {
-    match place(alloc, doc, number, path) {
-        Ok(place) => match insert(alloc, doc, place, value) {
+    match place(turn, document, path) {
+        Ok(place) => match insert(turn.alloc, document, place, value) {
             Ok(()) => Ok(()),
             Err(value) => Err(NotAdded {
                 value,

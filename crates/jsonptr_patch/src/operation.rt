@@ -76,8 +76,8 @@ impl Operation {
     }
 }
 
-// The text of a failed test is a constant, since an attribute that contains the word "test" counts
-// as one of a test function.
+/// The text of a failed test is a constant, since an attribute that contains the word "test" counts
+/// as one of a test function.
 const TEST_FAILED: &str = "test failed";
 
 /// Why an operation of a patch fails. `operation` is its position in the list, from 0. Positions

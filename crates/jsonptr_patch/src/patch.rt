@@ -4,7 +4,7 @@ ghost use Rattle.serde_json.specs.View.{view};
 ghost use Rattle.jsonptr.specs.Fault.{IfRefused, HasMemory};
 ghost use Rattle.jsonptr.specs.Json.{nodes, HasSortedKeys};
 ghost use Rattle.jsonptr.specs.Node.{NodeMap};
-ghost use Rattle.jsonptr_patch.specs.Memory.{TestNeedsNoMemory, LastNeedsNoMemory, NeedsNoMemory};
+ghost use Rattle.jsonptr_patch.specs.Memory.{TestNeedsNoMemory, LastNeedsNoMemory, PatchNeedsNoMemory};
 ghost use Rattle.jsonptr_patch.specs.Operating.{AppliesBy, RefusesOperationBy};
 ghost use Rattle.jsonptr_patch.specs.Order.{OperationHasSortedKeys};
 ghost use Rattle.jsonptr_patch.specs.Patching.{Patches, PatchesBy, RefusesPatch, RefusesPatchBy};
@@ -14,12 +14,13 @@ ghost use Rattle.jsonptr_patch.specs.PrivateRecording.{CanUndo, Records};
 use crate::add::{add, add_last};
 use crate::comparison::Comparison;
 use crate::copy::{copy, copy_last};
-use crate::later::{Later, record_or_wait, settle, unlink};
+use crate::later::{record_or_wait, settle, unlink};
 use crate::move_value::{move_last, move_value};
 use crate::operation::{Operation, PatchError};
 use crate::remove::{remove, remove_last};
 use crate::replace::{replace, replace_last};
 use crate::test::test;
+use crate::turn::{Run, Turn};
 use jsonptr::Fault;
 use jsonptr_journal::journal::Journal;
 use serde_json::Value;
@@ -72,7 +73,7 @@ pub fn apply(alloc: Global, doc: &mut Value, patch: Vec<Operation>) -> Result<()
     ensures empty { patch.items ≡ [] → IsOk result }
     ensures refused { IfRefused result (RefusesPatch (nodes (view doc.old)) patch.items) }
     ensures unchanged { OnErr result (view doc.new ≡ view doc.old) }
-    ensures no_memory { NeedsNoMemory patch.items → HasMemory result }
+    ensures no_memory { PatchNeedsNoMemory patch.items → HasMemory result }
 {
     apply_comparing(alloc, doc, patch, Comparison::Strict)
 }
@@ -116,92 +117,101 @@ pub fn apply_comparing(
     ensures empty { patch.items ≡ [] → IsOk result }
     ensures refused { IfRefused result (RefusesPatchBy comparison (nodes (view doc.old)) patch.items) }
     ensures unchanged { OnErr result (view doc.new ≡ view doc.old) }
-    ensures no_memory { NeedsNoMemory patch.items → HasMemory result }
+    ensures no_memory { PatchNeedsNoMemory patch.items → HasMemory result }
 {
     let mut operations = patch;
     let Some(last) = operations.pop() else {
         return Ok(());
     };
-    let mut journal = Journal::new(alloc);
-    match apply_all(alloc, doc, &mut journal, comparison, operations, last) {
+    let first = Turn {
+        alloc,
+        comparison,
+        number: 0,
+    };
+    let journal = Journal::new(alloc);
+    let mut run = Run {
+        journal,
+        later: Vec::new(alloc),
+    };
+    match apply_all(first, doc, &mut run, operations, last) {
         Ok(()) => {
-            journal.discard();
+            run.journal.discard();
             Ok(())
         }
         Err(fault) => {
-            journal.undo(alloc, doc);
+            run.journal.undo(alloc, doc);
             Err(fault)
         }
     }
 }
 
-/// Applies the operations, and then the last one, which is not recorded in the journal.
+/// Applies the operations, the first of which has this turn, and then the last one, which is not recorded
+/// in the journal.
 ///
 /// # Errors
 ///
 /// Those of [`apply`]. To undo the journal restores the document.
 fn apply_all(
-    alloc: Global,
-    doc: &mut Value,
-    journal: &mut Journal,
-    comparison: Comparison,
+    first: Turn,
+    document: &mut Value,
+    run: &mut Run,
     operations: Vec<Operation>,
     last: Operation,
 ) -> Result<(), Fault<PatchError>>
-    requires { CanUndo journal.old doc.old }
-    ensures applied { IfOk result (λ _. PatchesBy comparison (nodes (view doc.old))
-        (operations.items ++ last ∷ []) (nodes (view doc.new))) }
+    requires start { first.number ≡ 0 }
+    requires undone { CanUndo run.old.journal document.old }
+    requires none { run.old.later.items ≡ [] }
+    ensures applied { IfOk result (λ _. PatchesBy first.comparison (nodes (view document.old))
+        (operations.items ++ last ∷ []) (nodes (view document.new))) }
     ensures sorted { IfOk result (λ _.
         All OperationHasSortedKeys operations.items → OperationHasSortedKeys last
-        → HasSortedKeys (view doc.old) → HasSortedKeys (view doc.new)) }
+        → HasSortedKeys (view document.old) → HasSortedKeys (view document.new)) }
     ensures refused { IfRefused result
-        (RefusesPatchBy comparison (nodes (view doc.old)) (operations.items ++ last ∷ [])) }
-    ensures undone { OnErr result (Records journal.old doc.old journal.new doc.new) }
+        (RefusesPatchBy first.comparison (nodes (view document.old)) (operations.items ++ last ∷ [])) }
+    ensures undone { OnErr result (Records run.old.journal document.old run.new.journal document.new) }
     ensures no_memory { All TestNeedsNoMemory operations.items → LastNeedsNoMemory last
         → HasMemory result }
 {
     let number = operations.len();
-    let mut later = Vec::new(alloc);
-    record_all(alloc, doc, journal, &mut later, comparison, operations)?;
-    finish(alloc, doc, journal, later, comparison, number, last)
+    record_all(first, document, run, operations)?;
+    finish(Turn { number, ..first }, document, run, last)
 }
 
-/// Applies the operations, and records in the journal what undoes them. Some nodes are left to be
-/// removed after all operations.
+/// Applies the operations, the first of which has this turn, and records in the journal what undoes them.
+/// Some nodes are left to be removed after all operations.
 ///
 /// # Errors
 ///
 /// Those of [`apply`]. To undo the journal restores the document.
 fn record_all(
-    alloc: Global,
-    doc: &mut Value,
-    journal: &mut Journal,
-    later: &mut Vec<Later>,
-    comparison: Comparison,
+    first: Turn,
+    document: &mut Value,
+    run: &mut Run,
     operations: Vec<Operation>,
 ) -> Result<(), Fault<PatchError>>
-    requires undone { CanUndo journal.old doc.old }
-    requires none { later.old.items ≡ [] }
+    requires start { first.number ≡ 0 }
+    requires undone { CanUndo run.old.journal document.old }
+    requires none { run.old.later.items ≡ [] }
     ensures applied { IfOk result (λ _. (n : NodeMap)
-        × PatchesBy comparison (nodes (view doc.old)) operations.items n
-        × IsPending (nodes (view doc.new)) later.new.items n) }
+        × PatchesBy first.comparison (nodes (view document.old)) operations.items n
+        × IsPending (nodes (view document.new)) run.new.later.items n) }
     ensures sorted { IfOk result (λ _. All OperationHasSortedKeys operations.items
-        → HasSortedKeys (view doc.old) → HasSortedKeys (view doc.new)) }
-    ensures refused { IfRefused result (RefusesPatchBy comparison (nodes (view doc.old)) operations.items) }
-    ensures undone { Records journal.old doc.old journal.new doc.new }
+        → HasSortedKeys (view document.old) → HasSortedKeys (view document.new)) }
+    ensures refused { IfRefused result (RefusesPatchBy first.comparison (nodes (view document.old)) operations.items) }
+    ensures undone { Records run.old.journal document.old run.new.journal document.new }
     ensures no_memory { All TestNeedsNoMemory operations.items → HasMemory result }
     ensures none { IfOk result (λ _.
-        All TestNeedsNoMemory operations.items → later.new.items ≡ []) }
+        All TestNeedsNoMemory operations.items → run.new.later.items ≡ []) }
 {
-    let mut number = 0;
+    let mut number = first.number;
     for operation in operations {
-        record_or_wait(alloc, doc, journal, later, comparison, number, operation)?;
+        record_or_wait(Turn { number, ..first }, document, run, operation)?;
         number += 1;
     }
     Ok(())
 }
 
-/// Applies the last operation, which has this number, and then removes the nodes that are left to be
+/// Applies the last operation, and then removes the nodes that are left to be
 /// removed.
 ///
 /// # Errors
@@ -209,118 +219,94 @@ fn record_all(
 /// [`Fault::Refused`] if the operation fails, and [`Fault::Memory`] if an allocation fails. To undo
 /// the journal restores the document.
 fn finish(
-    alloc: Global,
-    doc: &mut Value,
-    journal: &mut Journal,
-    later: Vec<Later>,
-    comparison: Comparison,
-    number: usize,
+    turn: Turn,
+    document: &mut Value,
+    run: &mut Run,
     last: Operation,
 ) -> Result<(), Fault<PatchError>>
-    requires undone { CanUndo journal.old doc.old }
-    requires pending { (n : NodeMap) × IsPending (nodes (view doc.old)) later.items n }
+    requires undone { CanUndo run.old.journal document.old }
+    requires pending { (n : NodeMap) × IsPending (nodes (view document.old)) run.old.later.items n }
     ensures applied { IfOk result (λ _. (n : NodeMap)
-        → IsPending (nodes (view doc.old)) later.items n
-        → AppliesBy comparison n last (nodes (view doc.new))) }
+        → IsPending (nodes (view document.old)) run.old.later.items n
+        → AppliesBy turn.comparison n last (nodes (view document.new))) }
     ensures sorted { IfOk result (λ _. OperationHasSortedKeys last
-        → HasSortedKeys (view doc.old) → HasSortedKeys (view doc.new)) }
+        → HasSortedKeys (view document.old) → HasSortedKeys (view document.new)) }
     ensures refused { IfRefused result (λ e. (n : NodeMap)
-        → IsPending (nodes (view doc.old)) later.items n
-        → RefusesOperationBy comparison n number last e) }
-    ensures undone { OnErr result (Records journal.old doc.old journal.new doc.new) }
-    ensures no_memory { LastNeedsNoMemory last → later.items ≡ [] → HasMemory result }
+        → IsPending (nodes (view document.old)) run.old.later.items n
+        → RefusesOperationBy turn.comparison n turn.number last e) }
+    ensures undone { OnErr result (Records run.old.journal document.old run.new.journal document.new) }
+    ensures no_memory { LastNeedsNoMemory last → run.old.later.items ≡ [] → HasMemory result }
 {
-    let mut later = later;
-    settle(alloc, doc, journal, &mut later, &last)?;
-    apply_last(alloc, doc, comparison, number, last)?;
-    unlink(alloc, doc, later);
+    settle(turn.alloc, document, run, &last)?;
+    apply_last(turn, document, last)?;
+    unlink(turn.alloc, document, run);
     Ok(())
 }
 
-/// Applies the operation with this number, and records in the journal what undoes it.
+/// Applies the operation, and records in the journal what undoes it.
 ///
 /// # Errors
 ///
 /// [`Fault::Refused`] if the operation fails, and [`Fault::Memory`] if an allocation fails. To undo
 /// the journal restores the document.
 pub fn record(
-    alloc: Global,
-    doc: &mut Value,
+    turn: Turn,
+    document: &mut Value,
     journal: &mut Journal,
-    comparison: Comparison,
-    number: usize,
     operation: Operation,
 ) -> Result<(), Fault<PatchError>>
-    requires { CanUndo journal.old doc.old }
+    requires { CanUndo journal.old document.old }
     ensures applied { IfOk result (λ _.
-        AppliesBy comparison (nodes (view doc.old)) operation (nodes (view doc.new))) }
+        AppliesBy turn.comparison (nodes (view document.old)) operation (nodes (view document.new))) }
     ensures sorted { IfOk result (λ _. OperationHasSortedKeys operation
-        → HasSortedKeys (view doc.old) → HasSortedKeys (view doc.new)) }
-    ensures refused { IfRefused result (RefusesOperationBy comparison (nodes (view doc.old)) number operation) }
-    ensures undone { Records journal.old doc.old journal.new doc.new }
+        → HasSortedKeys (view document.old) → HasSortedKeys (view document.new)) }
+    ensures refused { IfRefused result (RefusesOperationBy turn.comparison (nodes (view document.old)) turn.number operation) }
+    ensures undone { Records journal.old document.old journal.new document.new }
     ensures no_memory { TestNeedsNoMemory operation → HasMemory result }
 {
     match operation {
-        Operation::Add { path, value } => add(alloc, doc, journal, number, path.as_ptr(), value),
-        Operation::Remove { path } => remove(alloc, doc, journal, number, path.as_ptr()),
-        Operation::Replace { path, value } => { replace(alloc, doc, journal, number, path, value) }
+        Operation::Add { path, value } => add(turn, document, journal, path.as_ptr(), value),
+        Operation::Remove { path } => remove(turn, document, journal, path.as_ptr()),
+        Operation::Replace { path, value } => { replace(turn, document, journal, path, value) }
         Operation::Move { from, path } => {
-            move_value(alloc, doc, journal, number, from.as_ptr(), path.as_ptr())
+            move_value(turn, document, journal, from.as_ptr(), path.as_ptr())
         }
         Operation::Copy { from, path } => {
-            copy(alloc, doc, journal, number, from.as_ptr(), path.as_ptr())
+            copy(turn, document, journal, from.as_ptr(), path.as_ptr())
         }
-        Operation::Test { path, value } => test(
-            alloc,
-            doc,
-            comparison,
-            number,
-            path.as_ptr(),
-            &value,
-        ),
+        Operation::Test { path, value } => test(turn, document, path.as_ptr(), &value),
     }
 }
 
-/// Applies the operation with this number, which is the last one of the patch.
+/// Applies the operation, which is the last one of the patch.
 ///
 /// # Errors
 ///
 /// [`Fault::Refused`] if the operation fails, and [`Fault::Memory`] if an allocation fails. The
 /// document is unchanged.
 fn apply_last(
-    alloc: Global,
-    doc: &mut Value,
-    comparison: Comparison,
-    number: usize,
+    turn: Turn,
+    document: &mut Value,
     operation: Operation,
 ) -> Result<(), Fault<PatchError>>
     ensures applied { IfOk result (λ _.
-        AppliesBy comparison (nodes (view doc.old)) operation (nodes (view doc.new))) }
+        AppliesBy turn.comparison (nodes (view document.old)) operation (nodes (view document.new))) }
     ensures sorted { IfOk result (λ _. OperationHasSortedKeys operation
-        → HasSortedKeys (view doc.old) → HasSortedKeys (view doc.new)) }
-    ensures refused { IfRefused result (RefusesOperationBy comparison (nodes (view doc.old)) number operation) }
-    ensures unchanged { OnErr result (view doc.new ≡ view doc.old) }
+        → HasSortedKeys (view document.old) → HasSortedKeys (view document.new)) }
+    ensures refused { IfRefused result (RefusesOperationBy turn.comparison (nodes (view document.old)) turn.number operation) }
+    ensures unchanged { OnErr result (view document.new ≡ view document.old) }
     ensures no_memory { LastNeedsNoMemory operation → HasMemory result }
 {
     match operation {
-        Operation::Add { path, value } => add_last(alloc, doc, number, path.as_ptr(), value),
-        Operation::Remove { path } => remove_last(alloc, doc, number, path.as_ptr()),
-        Operation::Replace { path, value } => {
-            replace_last(alloc, doc, number, path.as_ptr(), value)
-        }
+        Operation::Add { path, value } => add_last(turn, document, path.as_ptr(), value),
+        Operation::Remove { path } => remove_last(turn, document, path.as_ptr()),
+        Operation::Replace { path, value } => { replace_last(turn, document, path.as_ptr(), value) }
         Operation::Move { from, path } => {
-            move_last(alloc, doc, number, from.as_ptr(), path.as_ptr())
+            move_last(turn, document, from.as_ptr(), path.as_ptr())
         }
         Operation::Copy { from, path } => {
-            copy_last(alloc, doc, number, from.as_ptr(), path.as_ptr())
+            copy_last(turn, document, from.as_ptr(), path.as_ptr())
         }
-        Operation::Test { path, value } => test(
-            alloc,
-            doc,
-            comparison,
-            number,
-            path.as_ptr(),
-            &value,
-        ),
+        Operation::Test { path, value } => test(turn, document, path.as_ptr(), &value),
     }
 }

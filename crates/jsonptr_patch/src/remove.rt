@@ -1,12 +1,10 @@
 //! The operation `remove` (RFC 6902, section 4.2).
-ghost use Rattle.std.specs.Prelude.{◌≡◌, ⊤, IfOk, OnErr};
+ghost use Rattle.std.specs.Prelude.{◌≡◌, IfOk, OnErr};
 ghost use Rattle.serde_json.specs.View.{view};
-ghost use Rattle.jsonptr.specs.Delete.{NamesNothing};
-ghost use Rattle.jsonptr.specs.Fault.{IfRefused, ForRefused, IsRefusedAnd, HasMemory};
+ghost use Rattle.jsonptr.specs.Fault.{IfRefused, HasMemory};
 ghost use Rattle.jsonptr.specs.Json.{nodes, HasSortedKeys};
 ghost use Rattle.jsonptr.specs.Node.{NodeMap};
 ghost use Rattle.jsonptr.specs.Pointer.{tokens};
-ghost use Rattle.jsonptr.specs.Resolve.{Refuses};
 ghost use Rattle.jsonptr.specs.Text.{HasNoTilde, text};
 ghost use Rattle.jsonptr_patch.specs.Operating.{Takes, RefusesTarget};
 ghost use Rattle.jsonptr_patch.specs.PrivateRecording.{CanUndo, Records};
@@ -14,12 +12,14 @@ ghost use Rattle.jsonptr_patch.specs.PrivateRecording.{CanUndo, Records};
 use crate::drop::discard_small;
 use crate::operation::PatchError;
 use crate::target::{no_target, target};
-use jsonptr::{Fault, Pointer, resolve};
+use crate::turn::Turn;
+use jsonptr::{Fault, Pointer};
 use jsonptr_journal::journal::Journal;
+use jsonptr_journal::locate::resolve_error;
 use serde_json::Value;
 use std::alloc::Global;
 
-/// Removes the value that the pointer resolves to, for the operation with this number. Removing the
+/// Removes the value that the pointer resolves to, for the operation of this turn. Removing the
 /// root leaves `null`.
 ///
 /// # Errors
@@ -27,23 +27,22 @@ use std::alloc::Global;
 /// [`Fault::Refused`] if the pointer does not resolve to a value, and [`Fault::Memory`] if an
 /// allocation fails.
 pub fn remove(
-    alloc: Global,
-    doc: &mut Value,
+    turn: Turn,
+    document: &mut Value,
     journal: &mut Journal,
-    number: usize,
     path: Pointer<'_>,
 ) -> Result<(), Fault<PatchError>>
-    requires { CanUndo journal.old doc.old }
+    requires { CanUndo journal.old document.old }
     ensures removed { IfOk result (λ _. (v : NodeMap)
-        × Takes (nodes (view doc.old)) (tokens path.entry) v (nodes (view doc.new))) }
+        × Takes (nodes (view document.old)) (tokens path.entry) v (nodes (view document.new))) }
     ensures sorted { IfOk result (λ _.
-        HasSortedKeys (view doc.old) → HasSortedKeys (view doc.new)) }
+        HasSortedKeys (view document.old) → HasSortedKeys (view document.new)) }
     ensures refused { IfRefused result
-        (RefusesTarget (nodes (view doc.old)) number (tokens path.entry)) }
-    ensures undone { Records journal.old doc.old journal.new doc.new }
+        (RefusesTarget (nodes (view document.old)) turn.number (tokens path.entry)) }
+    ensures undone { Records journal.old document.old journal.new document.new }
 {
-    let location = target(alloc, doc, number, path)?;
-    journal.remove(alloc, doc, location)?;
+    let location = target(turn, document, path)?;
+    journal.remove(turn.alloc, document, location)?;
     Ok(())
 }
 
@@ -54,41 +53,24 @@ pub fn remove(
 ///
 /// Those of [`remove`]. The document is unchanged.
 pub fn remove_last(
-    alloc: Global,
-    doc: &mut Value,
-    number: usize,
+    turn: Turn,
+    document: &mut Value,
     path: Pointer<'_>,
 ) -> Result<(), Fault<PatchError>>
     ensures removed { IfOk result (λ _. (v : NodeMap)
-        × Takes (nodes (view doc.old)) (tokens path.entry) v (nodes (view doc.new))) }
+        × Takes (nodes (view document.old)) (tokens path.entry) v (nodes (view document.new))) }
     ensures sorted { IfOk result (λ _.
-        HasSortedKeys (view doc.old) → HasSortedKeys (view doc.new)) }
+        HasSortedKeys (view document.old) → HasSortedKeys (view document.new)) }
     ensures refused { IfRefused result
-        (RefusesTarget (nodes (view doc.old)) number (tokens path.entry)) }
-    ensures unchanged { OnErr result (view doc.new ≡ view doc.old) }
+        (RefusesTarget (nodes (view document.old)) turn.number (tokens path.entry)) }
+    ensures unchanged { OnErr result (view document.new ≡ view document.old) }
     ensures no_memory { HasNoTilde (text (tokens path.entry)) → HasMemory result }
 {
-    match path.delete(alloc, doc)? {
+    match path.delete(turn.alloc, document)? {
         Some(value) => {
             discard_small(value);
             Ok(())
         }
-        None => Err(no_target(number, refusal(alloc, doc, path))),
-    }
-}
-
-/// Returns why the pointer does not resolve to a value.
-///
-/// # Conditions
-///
-/// The pointer does not resolve to a value.
-fn refusal(alloc: Global, doc: &Value, ptr: Pointer<'_>) -> Fault<resolve::Error>
-    requires { NamesNothing (nodes (view doc.now)) (tokens ptr) }
-    ensures refused { ForRefused result (Refuses (nodes (view doc.now)) (tokens ptr.entry)) }
-    ensures no_memory { HasNoTilde (text (tokens ptr.entry)) → IsRefusedAnd result (λ _. ⊤) }
-{
-    match ptr.resolve(alloc, doc) {
-        Ok(_) => unreachable!(),
-        Err(fault) => fault,
+        None => Err(no_target(turn.number, resolve_error(turn.alloc, document, path))),
     }
 }

@@ -11,6 +11,7 @@ ghost use Rattle.jsonptr_patch.specs.PrivateRecording.{Records};
 
 use crate::operation::PatchError;
 use crate::target::{no_target, target};
+use crate::turn::Turn;
 use jsonptr::{Fault, Pointer, PointerBuf, ResolveMut};
 use jsonptr_journal::addition::replace_at;
 use jsonptr_journal::journal::{Entry, Journal};
@@ -19,7 +20,7 @@ use serde_json::Value;
 use std::alloc::Global;
 use std::mem;
 
-/// Replaces the value that the pointer resolves to, for the operation with this number.
+/// Replaces the value that the pointer resolves to, for the operation of this turn.
 ///
 /// For a pointer without `~` the journal owns the pointer, and nothing is allocated except for its
 /// entry.
@@ -29,24 +30,23 @@ use std::mem;
 /// [`Fault::Refused`] if the pointer does not resolve to a value, and [`Fault::Memory`] if an
 /// allocation fails. The new value is dropped.
 pub fn replace(
-    alloc: Global,
-    doc: &mut Value,
+    turn: Turn,
+    document: &mut Value,
     journal: &mut Journal,
-    number: usize,
     path: PointerBuf,
     value: Value,
 ) -> Result<(), Fault<PatchError>>
-    ensures replaced { IfOk result (λ _. PutsAt (nodes (view doc.old)) path
-        (nodes (view value)) (nodes (view doc.new))) }
+    ensures replaced { IfOk result (λ _. PutsAt (nodes (view document.old)) path
+        (nodes (view value)) (nodes (view document.new))) }
     ensures sorted { IfOk result (λ _.
-        HasSortedKeys (view value) → HasSortedKeys (view doc.old) → HasSortedKeys (view doc.new)) }
-    ensures refused { IfRefused result (RefusesTarget (nodes (view doc.old)) number path) }
-    ensures undone { Records journal.old doc.old journal.new doc.new }
+        HasSortedKeys (view value) → HasSortedKeys (view document.old) → HasSortedKeys (view document.new)) }
+    ensures refused { IfRefused result (RefusesTarget (nodes (view document.old)) turn.number path) }
+    ensures undone { Records journal.old document.old journal.new document.new }
 {
     if path.as_ptr().as_str().as_bytes().contains(&b'~') {
-        return replace_located(alloc, doc, journal, number, path.as_ptr(), value);
+        return replace_located(turn, document, journal, path.as_ptr(), value);
     }
-    replace_plain(alloc, doc, journal, number, path, value)
+    replace_plain(turn, document, journal, path, value)
 }
 
 /// Replaces the value that the pointer resolves to, as [`replace`] does, by the pointer itself.
@@ -59,31 +59,30 @@ pub fn replace(
 ///
 /// The pointer has no `~`.
 fn replace_plain(
-    alloc: Global,
-    doc: &mut Value,
+    turn: Turn,
+    document: &mut Value,
     journal: &mut Journal,
-    number: usize,
     path: PointerBuf,
     value: Value,
 ) -> Result<(), Fault<PatchError>>
     requires { HasNoTilde (text path) }
-    ensures replaced { IfOk result (λ _. PutsAt (nodes (view doc.old)) path
-        (nodes (view value)) (nodes (view doc.new))) }
+    ensures replaced { IfOk result (λ _. PutsAt (nodes (view document.old)) path
+        (nodes (view value)) (nodes (view document.new))) }
     ensures sorted { IfOk result (λ _.
-        HasSortedKeys (view value) → HasSortedKeys (view doc.old) → HasSortedKeys (view doc.new)) }
-    ensures refused { IfRefused result (RefusesTarget (nodes (view doc.old)) number path) }
-    ensures undone { Records journal.old doc.old journal.new doc.new }
+        HasSortedKeys (view value) → HasSortedKeys (view document.old) → HasSortedKeys (view document.new)) }
+    ensures refused { IfRefused result (RefusesTarget (nodes (view document.old)) turn.number path) }
+    ensures undone { Records journal.old document.old journal.new document.new }
 {
-    if let Err(error) = journal.reserve(alloc) {
+    if let Err(error) = journal.reserve(turn.alloc) {
         discard(value);
         return Err(Fault::Memory(error));
     }
-    match replace_at(doc, &path, value) {
+    match replace_at(document, &path, value) {
         Ok(old) => {
             journal.push(Entry::Replaced(path, old));
             Ok(())
         }
-        Err(value) => replace_located(alloc, doc, journal, number, path.as_ptr(), value),
+        Err(value) => replace_located(turn, document, journal, path.as_ptr(), value),
     }
 }
 
@@ -93,29 +92,28 @@ fn replace_plain(
 ///
 /// Those of [`replace`].
 fn replace_located(
-    alloc: Global,
-    doc: &mut Value,
+    turn: Turn,
+    document: &mut Value,
     journal: &mut Journal,
-    number: usize,
     path: Pointer<'_>,
     value: Value,
 ) -> Result<(), Fault<PatchError>>
-    ensures replaced { IfOk result (λ _. PutsAt (nodes (view doc.old)) (tokens path.entry)
-        (nodes (view value)) (nodes (view doc.new))) }
+    ensures replaced { IfOk result (λ _. PutsAt (nodes (view document.old)) (tokens path.entry)
+        (nodes (view value)) (nodes (view document.new))) }
     ensures sorted { IfOk result (λ _.
-        HasSortedKeys (view value) → HasSortedKeys (view doc.old) → HasSortedKeys (view doc.new)) }
+        HasSortedKeys (view value) → HasSortedKeys (view document.old) → HasSortedKeys (view document.new)) }
     ensures refused { IfRefused result
-        (RefusesTarget (nodes (view doc.old)) number (tokens path.entry)) }
-    ensures undone { Records journal.old doc.old journal.new doc.new }
+        (RefusesTarget (nodes (view document.old)) turn.number (tokens path.entry)) }
+    ensures undone { Records journal.old document.old journal.new document.new }
 {
-    let location = match target(alloc, doc, number, path) {
+    let location = match target(turn, document, path) {
         Ok(location) => location,
         Err(fault) => {
             discard(value);
             return Err(fault);
         }
     };
-    journal.replace(alloc, doc, location, value)?;
+    journal.replace(turn.alloc, document, location, value)?;
     Ok(())
 }
 
@@ -126,27 +124,26 @@ fn replace_located(
 ///
 /// Those of [`replace`]. The document is unchanged.
 pub fn replace_last(
-    alloc: Global,
-    doc: &mut Value,
-    number: usize,
+    turn: Turn,
+    document: &mut Value,
     path: Pointer<'_>,
     value: Value,
 ) -> Result<(), Fault<PatchError>>
-    ensures replaced { IfOk result (λ _. PutsAt (nodes (view doc.old)) (tokens path.entry)
-        (nodes (view value)) (nodes (view doc.new))) }
+    ensures replaced { IfOk result (λ _. PutsAt (nodes (view document.old)) (tokens path.entry)
+        (nodes (view value)) (nodes (view document.new))) }
     ensures sorted { IfOk result (λ _.
-        HasSortedKeys (view value) → HasSortedKeys (view doc.old) → HasSortedKeys (view doc.new)) }
+        HasSortedKeys (view value) → HasSortedKeys (view document.old) → HasSortedKeys (view document.new)) }
     ensures refused { IfRefused result
-        (RefusesTarget (nodes (view doc.old)) number (tokens path.entry)) }
-    ensures unchanged { OnErr result (view doc.new ≡ view doc.old) }
+        (RefusesTarget (nodes (view document.old)) turn.number (tokens path.entry)) }
+    ensures unchanged { OnErr result (view document.new ≡ view document.old) }
     ensures no_memory { HasNoTilde (text (tokens path.entry)) → HasMemory result }
 {
-    match put(alloc, doc, path, value) {
+    match put(turn.alloc, document, path, value) {
         Ok(old) => {
             discard(old);
             Ok(())
         }
-        Err(fault) => Err(no_target(number, fault)),
+        Err(fault) => Err(no_target(turn.number, fault)),
     }
 }
 
@@ -158,15 +155,15 @@ pub fn replace_last(
 fn put<D: ResolveMut>(
     alloc: Global,
     document: &mut D,
-    ptr: Pointer<'_>,
+    pointer: Pointer<'_>,
     value: D::Value,
 ) -> Result<D::Value, Fault<D::Error>>
     ensures written { IfOk result (λ _.
-        D.writes document.old (tokens ptr.entry) value document.new) }
-    ensures refused { IfRefused result (D.refuses document.old (tokens ptr.entry)) }
+        D.writes document.old (tokens pointer.entry) value document.new) }
+    ensures refused { IfRefused result (D.refuses document.old (tokens pointer.entry)) }
     ensures stays { OnErr result (D.is_same document.old document.new) }
-    ensures no_memory { D.needs_no_memory document.old (tokens ptr.entry) → HasMemory result }
+    ensures no_memory { D.needs_no_memory document.old (tokens pointer.entry) → HasMemory result }
 {
-    let place = document.resolve_mut(alloc, ptr)?;
+    let place = document.resolve_mut(alloc, pointer)?;
     Ok(mem::replace(place, value))
 }

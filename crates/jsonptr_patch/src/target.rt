@@ -10,6 +10,7 @@ ghost use Rattle.jsonptr_patch.specs.Operating.{RefusesTarget};
 ghost use Rattle.jsonptr_patch.specs.PrivateAdding.{told};
 
 use crate::operation::PatchError;
+use crate::turn::Turn;
 use jsonptr::{Fault, Pointer, resolve};
 use jsonptr_journal::locate::locate;
 use jsonptr_journal::location::Location;
@@ -33,18 +34,17 @@ pub fn no_target(number: usize, fault: Fault<resolve::Error>) -> Fault<PatchErro
 /// [`Fault::Refused`] if the pointer does not resolve to a value, and [`Fault::Memory`] if an
 /// allocation fails.
 pub fn target(
-    alloc: Global,
-    doc: &Value,
-    number: usize,
+    turn: Turn,
+    document: &Value,
     path: Pointer<'_>,
 ) -> Result<Location, Fault<PatchError>>
     ensures found { IfOk result (λ location.
-        Names (nodes (view doc.now)) (tokens path.entry) (path_of location)) }
+        Names (nodes (view document.now)) (tokens path.entry) (path_of location)) }
     ensures refused { IfRefused result
-        (RefusesTarget (nodes (view doc.now)) number (tokens path.entry)) }
+        (RefusesTarget (nodes (view document.now)) turn.number (tokens path.entry)) }
 {
-    match locate(alloc, doc, path) {
+    match locate(turn.alloc, document, path) {
         Ok(located) => Ok(located.location),
-        Err(fault) => Err(no_target(number, fault)),
+        Err(fault) => Err(no_target(turn.number, fault)),
     }
 }

@@ -14,37 +14,36 @@ use crate::equality::is_equal;
 use crate::float_search::contains_float;
 use crate::operation::PatchError;
 use crate::target::no_target;
+use crate::turn::Turn;
 use jsonptr::{Fault, Pointer};
 use serde_json::Value;
 use std::alloc::Global;
 
-/// Tests that the value at `path` equals `value`, for the operation with this number.
+/// Tests that the value at `path` equals `value`, for the operation of this turn.
 ///
 /// # Errors
 ///
 /// [`Fault::Refused`] if the pointer does not resolve to a value, or if the two differ. A strict test
 /// also fails if one of them contains a float. [`Fault::Memory`] if an allocation fails.
 pub fn test(
-    alloc: Global,
-    doc: &Value,
-    comparison: Comparison,
-    number: usize,
+    turn: Turn,
+    document: &Value,
     path: Pointer<'_>,
     value: &Value,
 ) -> Result<(), Fault<PatchError>>
-    ensures passes { IfOk result (λ _. PassesBy comparison (nodes (view doc.now)) (tokens path.entry)
+    ensures passes { IfOk result (λ _. PassesBy turn.comparison (nodes (view document.now)) (tokens path.entry)
         (nodes (view value.now))) }
     ensures refused { IfRefused result
-        (RefusesTestBy comparison (nodes (view doc.now)) number (tokens path.entry)
+        (RefusesTestBy turn.comparison (nodes (view document.now)) turn.number (tokens path.entry)
         (nodes (view value.now))) }
     ensures no_memory { HasNoTilde (text (tokens path.entry)) → HasMemory result }
 {
-    match path.resolve(alloc, doc) {
-        Ok(target) => match comparison {
-            Comparison::Strict => compare(alloc, number, target, value),
-            Comparison::Numeric => compare_numerically(number, target, value),
+    match path.resolve(turn.alloc, document) {
+        Ok(target) => match turn.comparison {
+            Comparison::Strict => compare(turn, target, value),
+            Comparison::Numeric => compare_numerically(turn, target, value),
         },
-        Err(fault) => Err(no_target(number, fault)),
+        Err(fault) => Err(no_target(turn.number, fault)),
     }
 }
 
@@ -54,22 +53,21 @@ pub fn test(
 ///
 /// [`PatchError::TestFloat`] if one of the two contains a float, and [`PatchError::TestFailed`] if
 /// they differ.
-fn compare(
-    alloc: Global,
-    number: usize,
-    target: &Value,
-    value: &Value,
-) -> Result<(), Fault<PatchError>>
+fn compare(turn: Turn, target: &Value, value: &Value) -> Result<(), Fault<PatchError>>
     ensures passes { IfOk result (λ _.
         IsPlain target.now × IsPlain value.now × SameValue target.now value.now) }
-    ensures refused { IfRefused result (RefusesCompare number target.now value.now) }
+    ensures refused { IfRefused result (RefusesCompare turn.number target.now value.now) }
     ensures no_memory { HasMemory result }
 {
-    if contains_float(alloc, target) || contains_float(alloc, value) {
-        return Err(Fault::Refused(PatchError::TestFloat { operation: number }));
+    if contains_float(turn.alloc, target) || contains_float(turn.alloc, value) {
+        return Err(Fault::Refused(PatchError::TestFloat {
+            operation: turn.number,
+        }));
     }
     if !is_equal(Comparison::Strict, target, value) {
-        return Err(Fault::Refused(PatchError::TestFailed { operation: number }));
+        return Err(Fault::Refused(PatchError::TestFailed {
+            operation: turn.number,
+        }));
     }
     Ok(())
 }
@@ -80,17 +78,15 @@ fn compare(
 /// # Errors
 ///
 /// [`PatchError::TestFailed`] if they differ.
-fn compare_numerically(
-    number: usize,
-    target: &Value,
-    value: &Value,
-) -> Result<(), Fault<PatchError>>
+fn compare_numerically(turn: Turn, target: &Value, value: &Value) -> Result<(), Fault<PatchError>>
     ensures passes { IfOk result (λ _. SameValueBy Numeric target.now value.now) }
-    ensures refused { IfRefused result (DiffersNumerically number target.now value.now) }
+    ensures refused { IfRefused result (DiffersNumerically turn.number target.now value.now) }
     ensures no_memory { HasMemory result }
 {
     if !is_equal(Comparison::Numeric, target, value) {
-        return Err(Fault::Refused(PatchError::TestFailed { operation: number }));
+        return Err(Fault::Refused(PatchError::TestFailed {
+            operation: turn.number,
+        }));
     }
     Ok(())
 }

@@ -5,7 +5,7 @@ use Rattle.serde_json.specs.Find.{at, get, get_item, as_str}
 use Rattle.jsonptr.specs.ParseError.{IsParseErrorOf}
 use Rattle.jsonptr.specs.Text.{Text}
 use Rattle.jsonptr.specs.Types.ParseError.{ParseError}
-use Rattle.jsonptr_patch_document.specs.Object.{name_of, HasText, LacksText, LacksPointer, LacksRest, IsNoOperationObject}
+use Rattle.jsonptr_patch_document.specs.Object.{member_key, HasText, LacksText, LacksPointer, LacksRest, IsNoOperationObject}
 use Rattle.jsonptr_patch_document.specs.Document.{HasNoOperation, IsNoPatch}
 use Rattle.jsonptr_patch_document.specs.Faulty.{faulty_text}
 use Rattle.jsonptr_patch_document.specs.declared.error.PatchDocumentError.TheVariants.{NotArray, NotObject, MissingMember, NotString, UnknownOp, NotPointer}
@@ -79,4 +79,4 @@ text_of_error d i m cause (inr q) =
     let f = at_list q.0 0 i m cause q.2 in
     let number : i ≡ f.index = omega (arith, f.number) in
     let found : at i d ≡ Some f.element = ap (λ (x : json.Data). at i x) q.1 ∙ ap (λ (n : ℕ). get_item n q.0) number ∙ f.there in
-    (f.text, ap (λ (o : Option json.Data). option_and_then as_str (option_and_then (get (name_of m)) o)) found ∙ ap (λ (o : Option json.Data). option_and_then as_str o) f.has_text, f.fault)
+    (f.text, ap (λ (o : Option json.Data). option_and_then as_str (option_and_then (get (member_key m)) o)) found ∙ ap (λ (o : Option json.Data). option_and_then as_str o) f.has_text, f.fault)

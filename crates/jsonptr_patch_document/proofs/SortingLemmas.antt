@@ -12,9 +12,9 @@ use Rattle.jsonptr.specs.Text.{Text}
 use Rattle.jsonptr_patch.specs.Order.{OperationHasSortedKeys}
 use Rattle.jsonptr_patch.specs.declared.operation.Operation.{Operation}
 use Rattle.jsonptr_patch.specs.declared.operation.Operation.TheVariants.{Add, Remove, Replace, Move, Copy, Test}
-use Rattle.jsonptr_patch_document.specs.Object.{name_of, IsOperationObject}
+use Rattle.jsonptr_patch_document.specs.Object.{member_key, IsOperationObject}
 use Rattle.jsonptr_patch_document.specs.Document.{AreOperations, IsPatch}
-use Rattle.jsonptr_patch_document.specs.Writing.{object_of, document_of, ValueHasSortedKeys}
+use Rattle.jsonptr_patch_document.specs.Writing.{written_object, document_of, ValueHasSortedKeys}
 use Rattle.jsonptr_patch_document.specs.declared.member.Member.TheVariants.{Value}
 
 -- a member
@@ -39,9 +39,9 @@ sorted_part k (json.object ms) e s h = sorted_member k ms e s h
 
 -- an operation that is read
 operation_sorted : (d : json.Data) (o : Operation) → HasSortedKeys d → IsOperationObject d o → OperationHasSortedKeys o
-operation_sorted d (Add path value) s h = sorted_part (name_of Value) d (view value) s h.2
+operation_sorted d (Add path value) s h = sorted_part (member_key Value) d (view value) s h.2
 operation_sorted d (Remove path) s h = tt
-operation_sorted d (Replace path value) s h = sorted_part (name_of Value) d (view value) s h.2
+operation_sorted d (Replace path value) s h = sorted_part (member_key Value) d (view value) s h.2
 operation_sorted d (Move from path) s h = tt
 operation_sorted d (Copy from path) s h = tt
 operation_sorted d (Test path value) s h = tt
@@ -57,7 +57,7 @@ pub patch_sorted : (d : json.Data) (os : List Operation) → HasSortedKeys d →
 patch_sorted d os s h = operations_sorted h.0 os (subst HasSortedKeys h.1 s) h.2
 
 -- an operation that is written
-object_sorted : (o : Operation) → ValueHasSortedKeys o → HasSortedKeys (object_of o)
+object_sorted : (o : Operation) → ValueHasSortedKeys o → HasSortedKeys (written_object o)
 object_sorted (Add path value) s = (tt, (refl, (refl, tt)), (tt, (refl, tt), (s, tt, tt)))
 object_sorted (Remove path) s = (tt, (refl, tt), (tt, tt, tt))
 object_sorted (Replace path value) s = (tt, (refl, (refl, tt)), (tt, (refl, tt), (s, tt, tt)))
@@ -65,7 +65,7 @@ object_sorted (Move from path) s = (tt, (refl, (refl, tt)), (tt, (refl, tt), (tt
 object_sorted (Copy from path) s = (tt, (refl, (refl, tt)), (tt, (refl, tt), (tt, tt, tt)))
 object_sorted (Test path value) s = (tt, (refl, (refl, tt)), (tt, (refl, tt), (s, tt, tt)))
 
-objects_sorted : (os : List Operation) → All ValueHasSortedKeys os → ItemsHaveSortedKeys (items_of (map object_of os))
+objects_sorted : (os : List Operation) → All ValueHasSortedKeys os → ItemsHaveSortedKeys (items_of (map written_object os))
 objects_sorted [] s = tt
 objects_sorted (o ∷ os) s = (object_sorted o (All-head ValueHasSortedKeys o os s), objects_sorted os (All-tail ValueHasSortedKeys o os s))
 

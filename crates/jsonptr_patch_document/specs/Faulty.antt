@@ -5,7 +5,7 @@ use Rattle.serde_json.specs.Find.{at, get, as_str}
 use Rattle.jsonptr.specs.Diagnostic.{Mark, IsNoLabel}
 use Rattle.jsonptr.specs.ParseError.{IsParseErrorLabelled}
 use Rattle.jsonptr.specs.Text.{Text}
-use Rattle.jsonptr_patch_document.specs.Object.{name_of}
+use Rattle.jsonptr_patch_document.specs.Object.{member_key}
 use Rattle.jsonptr_patch_document.specs.declared.error.PatchDocumentError.{PatchDocumentError}
 use Rattle.jsonptr_patch_document.specs.declared.error.PatchDocumentError.TheVariants.{NotArray, NotObject, MissingMember, NotString, UnknownOp, NotPointer}
 
@@ -16,7 +16,7 @@ faulty_text d (NotObject i) = None
 faulty_text d (MissingMember i m) = None
 faulty_text d (NotString i m) = None
 faulty_text d (UnknownOp i) = None
-faulty_text d (NotPointer i m cause) = option_and_then as_str (option_and_then (get (name_of m)) (at i d))
+faulty_text d (NotPointer i m cause) = option_and_then as_str (option_and_then (get (member_key m)) (at i d))
 
 -- `IsPatchDocumentErrorLabelled e len labels`: `labels` are those of `e` on a text of `len` bytes: those of the error of
 -- the pointer, or none

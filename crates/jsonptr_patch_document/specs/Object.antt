@@ -14,16 +14,16 @@ use Rattle.jsonptr_patch_document.specs.declared.member.Member.TheVariants.{Op, 
 use Rattle.jsonptr_patch_document.specs.declared.error.PatchDocumentError.{PatchDocumentError}
 use Rattle.jsonptr_patch_document.specs.declared.error.PatchDocumentError.TheVariants.{NotObject, MissingMember, NotString, UnknownOp, NotPointer}
 
--- `name_of m`: the key of the member `m`
-abbrev pub name_of : Member → Text
-name_of Op = codes "op"
-name_of Path = codes "path"
-name_of From = codes "from"
-name_of Value = codes "value"
+-- `member_key m`: the key of the member `m`
+abbrev pub member_key : Member → Text
+member_key Op = codes "op"
+member_key Path = codes "path"
+member_key From = codes "from"
+member_key Value = codes "value"
 
 -- `HasText d m s`: `d` is an object whose member `m` is the string `s`
 abbrev pub HasText : Data → Member → Text → Type 0
-HasText d m s = get (name_of m) d ≡ Some (string s)
+HasText d m s = get (member_key m) d ≡ Some (string s)
 
 -- `HasPointer d m tokens`: `d` is an object whose member `m` is a string, the JSON Pointer with these tokens
 abbrev pub HasPointer : Data → Member → List Text → Type 0
@@ -31,7 +31,7 @@ HasPointer d m tokens = HasText d m (text tokens)
 
 -- `HasValue d v`: `d` is an object whose member `value` is `v`
 abbrev pub HasValue : Data → json.Value → Type 0
-HasValue d v = get (name_of Value) d ≡ Some (view v)
+HasValue d v = get (member_key Value) d ≡ Some (view v)
 
 -- `IsOperationObject d o`: `d` is an object, and its members say the operation `o`. Members that are not named here are
 -- ignored
@@ -60,19 +60,19 @@ RequiresFrom op = (op ≡ codes "move") ⊎ (op ≡ codes "copy")
 abbrev pub IsOp : Text → Type 0
 IsOp op = RequiresValue op ⊎ (RequiresFrom op ⊎ (op ≡ codes "remove"))
 
--- `IsObject d`: the value `d` is an object
-abbrev pub IsObject : Data → Type 0
-IsObject d = (members : Members) × (d ≡ object members)
+-- `IsJsonObject d`: the value `d` is an object
+abbrev pub IsJsonObject : Data → Type 0
+IsJsonObject d = (members : Members) × (d ≡ object members)
 
--- `LacksMember d m k e`: `d` has no member `m`, and `e` reports that, for operation number `k`
-abbrev pub LacksMember : Data → Member → ℕ → PatchDocumentError → Type 0
-LacksMember d m k e = (get (name_of m) d ≡ None) × (e ≡ MissingMember k m)
+-- `LacksNamedMember d m k e`: `d` has no member `m`, and `e` reports that, for operation number `k`
+abbrev pub LacksNamedMember : Data → Member → ℕ → PatchDocumentError → Type 0
+LacksNamedMember d m k e = (get (member_key m) d ≡ None) × (e ≡ MissingMember k m)
 
 -- `LacksText d m k e`: `d` has no member `m` that is a string, and `e` reports why
 abbrev pub LacksText : Data → Member → ℕ → PatchDocumentError → Type 0
 LacksText d m k e =
-    LacksMember d m k e
-    ⊎ ((v : Data) × (get (name_of m) d ≡ Some v) × ((s : Text) → v ≢ string s) × (e ≡ NotString k m))
+    LacksNamedMember d m k e
+    ⊎ ((v : Data) × (get (member_key m) d ≡ Some v) × ((s : Text) → v ≢ string s) × (e ≡ NotString k m))
 
 -- `LacksPointer d m k e`: `d` has no member `m` that is a string and a JSON Pointer, and `e` reports why
 abbrev pub LacksPointer : Data → Member → ℕ → PatchDocumentError → Type 0
@@ -89,13 +89,13 @@ LacksOp d k e =
 -- `LacksRest d op k e`: `d` lacks the `from` or `value` that the operation `op` requires, and `e` reports why
 abbrev pub LacksRest : Data → Text → ℕ → PatchDocumentError → Type 0
 LacksRest d op k e =
-    (RequiresFrom op × LacksPointer d From k e) ⊎ (RequiresValue op × LacksMember d Value k e)
+    (RequiresFrom op × LacksPointer d From k e) ⊎ (RequiresValue op × LacksNamedMember d Value k e)
 
 -- `IsNoOperationObject d k e`: `d` is not an operation, and `e` reports the first reason, for operation number `k`. The
 -- order of the reasons is: `d` is not an object, then its members `op`, `path`, and `from` or `value`
 abbrev pub IsNoOperationObject : Data → ℕ → PatchDocumentError → Type 0
 IsNoOperationObject d k e =
-    ((IsObject d → ⊥) × (e ≡ NotObject k))
-    ⊎ ((IsObject d × LacksOp d k e)
+    ((IsJsonObject d → ⊥) × (e ≡ NotObject k))
+    ⊎ ((IsJsonObject d × LacksOp d k e)
     ⊎ (((op : Text) × HasText d Op op × IsOp op × LacksPointer d Path k e)
     ⊎ ((op : Text) × (path : List Text) × HasText d Op op × IsOp op × HasPointer d Path path × LacksRest d op k e)))

@@ -21,20 +21,20 @@ object_with_from op from path =
     (member (codes "op") (string op)
     (member (codes "path") (string (text path)) no_members)))
 
--- `object_of o`: the object that is written for the operation `o`, with its keys in ascending order
-abbrev pub object_of : Operation → Data
-object_of (Add path value) = object_with_value (codes "add") path (view value)
-object_of (Remove path) =
+-- `written_object o`: the object that is written for the operation `o`, with its keys in ascending order
+abbrev pub written_object : Operation → Data
+written_object (Add path value) = object_with_value (codes "add") path (view value)
+written_object (Remove path) =
     object (member (codes "op") (string (codes "remove"))
     (member (codes "path") (string (text path)) no_members))
-object_of (Replace path value) = object_with_value (codes "replace") path (view value)
-object_of (Move from path) = object_with_from (codes "move") from path
-object_of (Copy from path) = object_with_from (codes "copy") from path
-object_of (Test path value) = object_with_value (codes "test") path (view value)
+written_object (Replace path value) = object_with_value (codes "replace") path (view value)
+written_object (Move from path) = object_with_from (codes "move") from path
+written_object (Copy from path) = object_with_from (codes "copy") from path
+written_object (Test path value) = object_with_value (codes "test") path (view value)
 
 -- `document_of os`: the document that is written for the operations `os`
 abbrev pub document_of : List Operation → Data
-document_of os = array (items_of (map object_of os))
+document_of os = array (items_of (map written_object os))
 
 -- `ValueHasSortedKeys o`: the keys of each object in the value of `o` are in ascending order
 abbrev pub ValueHasSortedKeys : Operation → Type 0

@@ -2,7 +2,7 @@
 ghost use Rattle.std.specs.Prelude.{MatchResult};
 ghost use Rattle.serde_json.specs.View.{view};
 ghost use Rattle.jsonptr.specs.Pointer.{tokens};
-ghost use Rattle.jsonptr_patch_document.specs.Object.{HasText, HasPointer, HasValue, LacksMember, LacksText, LacksPointer};
+ghost use Rattle.jsonptr_patch_document.specs.Object.{HasText, HasPointer, HasValue, LacksNamedMember, LacksText, LacksPointer};
 
 use crate::error::PatchDocumentError;
 use crate::member::{Member, name};
@@ -60,7 +60,7 @@ pub fn pointer_at(
 pub fn value_at(entry: &Value, operation: usize) -> Result<&Value, PatchDocumentError>
     ensures { MatchResult result
         (λ value. HasValue (view entry.now) value.now)
-        (LacksMember (view entry.now) Member.Value operation) }
+        (LacksNamedMember (view entry.now) Member.Value operation) }
 {
     match entry.get("value") {
         Some(value) => Ok(value),

@@ -1,6 +1,6 @@
 //! The members of an operation object (RFC 6902, section 4).
 ghost use Rattle.std.specs.Prelude.{◌≡◌, Some};
-ghost use Rattle.jsonptr_patch_document.specs.Object.{name_of};
+ghost use Rattle.jsonptr_patch_document.specs.Object.{member_key};
 
 use std::fmt;
 
@@ -23,7 +23,7 @@ pub enum Member {
 
 /// Returns the key of the member.
 pub fn name(member: Member) -> &'static str
-    ensures { result.now ≡ name_of member }
+    ensures { result.now ≡ member_key member }
 {
     match member {
         Member::Op => "op",
@@ -34,7 +34,7 @@ pub fn name(member: Member) -> &'static str
 }
 
 impl fmt::Display for Member {
-    ghost output = { λ member. Some (name_of member) };
+    ghost output = { λ member. Some (member_key member) };
 
     fn fmt<W: fmt::Write>(&self, f: &mut fmt::Formatter<W>) -> fmt::Result {
         f.write_str(name(*self))

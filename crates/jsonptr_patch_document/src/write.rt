@@ -4,7 +4,7 @@ ghost use Rattle.serde_json.specs.Data.{string, object, member, no_members};
 ghost use Rattle.serde_json.specs.View.{view};
 ghost use Rattle.jsonptr.specs.Json.{HasSortedKeys};
 ghost use Rattle.jsonptr.specs.Text.{text};
-ghost use Rattle.jsonptr_patch_document.specs.Writing.{object_with_value, object_with_from, object_of, document_of, ValueHasSortedKeys};
+ghost use Rattle.jsonptr_patch_document.specs.Writing.{object_with_value, object_with_from, written_object, document_of, ValueHasSortedKeys};
 
 use jsonptr::PointerBuf;
 use jsonptr_patch::Operation;
@@ -60,7 +60,7 @@ fn keep(objects: &mut Vec<Value>, object: Value) -> Result<(), AllocError>
 ///
 /// [`AllocError`] if an allocation fails.
 fn write_operation(alloc: Global, operation: &Operation) -> Result<Value, AllocError>
-    ensures { IfOk result (λ object. view object ≡ object_of operation.now) }
+    ensures { IfOk result (λ object. view object ≡ written_object operation.now) }
 {
     match operation {
         Operation::Add { path, value } => with_value(alloc, "add", path, value),

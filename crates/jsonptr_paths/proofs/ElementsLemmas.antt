@@ -5,14 +5,14 @@ use Rattle.serde_json.specs.View.{view, items_view}
 use Rattle.serde_json.specs.declared.value.Value.{Value, Array}
 use Rattle.serde_json.proofs.Views.{view-Array}
 use Rattle.jsonptr_json_search.specs.PrivateReading.{with_items_before}
-use Rattle.jsonptr_tree.specs.Content.{content_at, get_item, items_len, map_of, FindsContent}
-use Rattle.jsonptr_tree.specs.Json.{items}
+use Rattle.jsonptr.specs.Content.{content_at, get_item, items_len, map_of, FindsContent}
+use Rattle.jsonptr.specs.Json.{items, content, nodes}
 use Rattle.jsonptr_tree.proofs.ContentLemmas.{map_of-sub}
-use Rattle.jsonptr.specs.Json.{content, nodes}
 use Rattle.jsonptr.specs.Node.{place, an_array}
 use Rattle.jsonptr.specs.Text.{Text, text, dec}
 use Rattle.jsonptr.proofs.Calling.{map_of-IsTree}
-use Rattle.jsonptr_paths.specs.Listing.{emptied, IsLeaf, IsCompact, IsLineOf, IsShown, Lists}
+use Rattle.jsonptr_value.specs.JsonText.{IsCompact}
+use Rattle.jsonptr_paths.specs.Listing.{emptied, IsLeaf, IsLineOf, IsShown, Lists}
 use Rattle.jsonptr_paths.specs.PrivateElements.{VisitsElements}
 use Rattle.jsonptr_paths.specs.PrivateWalking.{AddsPointers, Whole, Below, InFirst, VisitsAll, Walks, inside}
 use Rattle.jsonptr_paths.specs.declared.listing.Listed.{Listed}

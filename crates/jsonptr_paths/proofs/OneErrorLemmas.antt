@@ -10,8 +10,8 @@ use Rattle.jsonptr.specs.Assign.{RefusesAssign}
 use Rattle.jsonptr.specs.Assigning.{Assigns}
 use Rattle.jsonptr.specs.declared.assign.Error.{Error}
 use Rattle.jsonptr.proofs.Calling.{text_one}
-use Rattle.jsonptr_lines.proofs.LineLemmas.{one_lines}
-use Rattle.jsonptr_paths.specs.Reading.{CutsAt, ReadsField, ReadsLine, Fits, AssignsLine, AssignsLines, Builds, IsLineError, StopsBuilding}
+use Rattle.jsonptr_io.proofs.LineLemmas.{one_lines}
+use Rattle.jsonptr_paths.specs.Reading.{CutsAt, ReadsField, ReadsLine, FitsDepth, AssignsLine, AssignsLines, Builds, IsLineError, StopsBuilding}
 use Rattle.jsonptr_paths.specs.declared.reading.LineError.{LineError}
 use Rattle.jsonptr_paths.specs.declared.reading.LineError.TheVariants.{NoTab, NotPointer, NotJson, TooDeep, BadPlace}
 use Rattle.jsonptr_paths.specs.declared.reading.BuildError.TheVariants.{Line}
@@ -54,8 +54,8 @@ line_one l ts us v w h k =
       reads_one k.1 v w (ap read (sym one.1) ∙ h.4) k.4,
     )
 
-fits_same : (ts us : List Text) (v w : Data) → (ts ≡ us) × (v ≡ w) → Fits ts v → Fits us w
-fits_same ts us v w same h = subst (λ (x : Data). Fits us x) same.1 (subst (λ (xs : List Text). Fits xs v) same.0 h)
+fits_same : (ts us : List Text) (v w : Data) → (ts ≡ us) × (v ≡ w) → FitsDepth ts v → FitsDepth us w
+fits_same ts us v w same h = subst (λ (x : Data). FitsDepth us x) same.1 (subst (λ (xs : List Text). FitsDepth xs v) same.0 h)
 
 -- ---- the stages of a line
 
@@ -88,8 +88,8 @@ json_first n l f b ts (BadPlace e) cut field none k = absurd (other_json l f b k
 
 -- a line that is read has no error of its text
 read_first : (n : NodeMap) (l : Text) (ts : List Text) (v : Data) (e f : LineError) → ReadsLine l ts v → IsLineError n l e
-    → ((us : List Text) (w : Data) → ReadsLine l us w → (Fits us w → ⊥) → f ≡ TooDeep)
-    → ((us : List Text) (w : Data) (x : Error) → ReadsLine l us w → Fits us w → RefusesAssign n us x → f ≡ BadPlace x)
+    → ((us : List Text) (w : Data) → ReadsLine l us w → (FitsDepth us w → ⊥) → f ≡ TooDeep)
+    → ((us : List Text) (w : Data) (x : Error) → ReadsLine l us w → FitsDepth us w → RefusesAssign n us x → f ≡ BadPlace x)
     → f ≡ e
 read_first n l ts v NoTab f r k deep place = absurd (no_cut l r.0 r.1 k r.2)
 read_first n l ts v NotPointer f r k deep place = absurd (other_field l k.0 k.1 r.0 r.1 ts k.2 k.3 r.2 r.3)
@@ -97,7 +97,7 @@ read_first n l ts v NotJson f r k deep place = absurd (other_json l k.0 k.1 ts v
 read_first n l ts v TooDeep f r k deep place = deep k.0 k.1 k.2 k.3
 read_first n l ts v (BadPlace x) f r k deep place = place k.0 k.1 x k.2 k.3 k.4
 
-deep_first : (n : NodeMap) (l : Text) (ts : List Text) (v : Data) (e : LineError) → ReadsLine l ts v → (Fits ts v → ⊥) → IsLineError n l e → TooDeep ≡ e
+deep_first : (n : NodeMap) (l : Text) (ts : List Text) (v : Data) (e : LineError) → ReadsLine l ts v → (FitsDepth ts v → ⊥) → IsLineError n l e → TooDeep ≡ e
 deep_first n l ts v e r deep k = read_first n l ts v e TooDeep r k
     (λ us w s d. refl)
     (λ us w x s fits refused. absurd (deep (fits_same us ts w v (line_one l us ts w v s r) fits)))
@@ -106,7 +106,7 @@ module _
     (not_both : (n : NodeMap) (ts : List Text) (v m : NodeMap) (old : Option NodeMap) (e : Error) → Assigns n ts v m old → RefusesAssign n ts e → ⊥)
     (one_made : (n : NodeMap) (ts : List Text) (v m k : NodeMap) (old was : Option NodeMap) → Assigns n ts v m old → Assigns n ts v k was → (m ≡ k) × (old ≡ was))
     (one : (n : NodeMap) (ts : List Text) (e f : Error) → RefusesAssign n ts e → RefusesAssign n ts f → e ≡ f) where
-  place_first : (n : NodeMap) (l : Text) (ts : List Text) (v : Data) (x : Error) (e : LineError) → ReadsLine l ts v → Fits ts v → RefusesAssign n ts x → IsLineError n l e → BadPlace x ≡ e
+  place_first : (n : NodeMap) (l : Text) (ts : List Text) (v : Data) (x : Error) (e : LineError) → ReadsLine l ts v → FitsDepth ts v → RefusesAssign n ts x → IsLineError n l e → BadPlace x ≡ e
   place_first n l ts v x e r fits refused k = read_first n l ts v e (BadPlace x) r k
       (λ us w s d. absurd (d (fits_same ts us v w (line_one l ts us v w r s) fits)))
       (λ us w y s f q. ap BadPlace (one n us x y (subst (λ (xs : List Text). RefusesAssign n xs x) (line_one l ts us v w r s).0 refused) q))

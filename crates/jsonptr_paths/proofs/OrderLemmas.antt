@@ -3,8 +3,8 @@ use Rattle.std.proofs.Common.{◌≡◌, inl, inr, ◌⊎◌, List, [], ◌∷�
 use Rattle.std.specs.Cmp.Lexicographic.{slice_cmp}
 use Rattle.std.specs.Ordering.{ordering_reverse}
 use Rattle.std.proofs.lemmas.Cmp.{nat_list_cmp_total}
-use Rattle.jsonptr_grammar.specs.Text.{Text}
-use Rattle.jsonptr_tree.specs.Node.{Step, key, place, Path, NodeMap, Names, IsTree}
+use Rattle.jsonptr.specs.Text.{Text}
+use Rattle.jsonptr.specs.Node.{Step, key, place, Path, NodeMap, Names, IsTree}
 use Rattle.jsonptr_tree.proofs.NodeLemmas.{Names-here, Names_one_path, IsTree-named}
 use Rattle.jsonptr_paths.specs.Walking.{ChildBefore, Before, IsWalk}
 use Rattle.jsonptr_paths.specs.PrivateWalking.{Among}

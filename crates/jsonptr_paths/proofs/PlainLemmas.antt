@@ -14,7 +14,7 @@ use Rattle.json.proofs.Printed.Tokens.{tokens-print}
 use Rattle.json.proofs.Numbered.{ArePrintableOrBad-tokens}
 use Rattle.serde_json.specs.Data as json
 use Rattle.serde_json.specs.Read.{of_json, max_depth, read}
-use Rattle.jsonptr_grammar.specs.Text.{Text, text, esc}
+use Rattle.jsonptr.specs.Text.{Text, text, esc}
 
 -- no byte of t is below 32
 abbrev Clear : Text → Type 0

@@ -15,13 +15,13 @@ use Rattle.jsonptr.specs.Assigning.{Assigns}
 use Rattle.jsonptr_value.specs.Nesting.{NestsWithin}
 use Rattle.jsonptr_value.proofs.LevelLemmas.{NestsWithin-depth}
 use Rattle.jsonptr_value.proofs.NestingLemmas.{Assigns-within}
-use Rattle.jsonptr_grammar.specs.Grammar.{IsPointer}
+use Rattle.jsonptr.specs.Grammar.{IsPointer}
 use Rattle.jsonptr.proofs.Calling.{IsPointer-text}
-use Rattle.jsonptr_base.specs.Fault.{IfRefused}
+use Rattle.jsonptr.specs.Fault.{IfRefused}
 use Rattle.jsonptr_base.specs.declared.fault.Fault.{Fault}
 use Rattle.jsonptr_base.specs.declared.fault.Fault.TheVariants as fault
-use Rattle.jsonptr_lines.specs.Lines.{IsOneLine, AreLines}
-use Rattle.jsonptr_paths.specs.Reading.{CutsAt, ReadsField, Fits, AssignsLine, AssignsLines, Builds, IsLineError, StopsBuilding}
+use Rattle.jsonptr_io.specs.Lines.{IsOneLine, AreLines}
+use Rattle.jsonptr_paths.specs.Reading.{CutsAt, ReadsField, FitsDepth, AssignsLine, AssignsLines, Builds, IsLineError, StopsBuilding}
 use Rattle.jsonptr_paths.specs.PrivateReading.{IsFirstLine, Progress, of_line}
 use Rattle.jsonptr_paths.specs.declared.reading.LineError.{LineError}
 use Rattle.jsonptr_paths.specs.declared.reading.BuildError.{BuildError}
@@ -68,7 +68,7 @@ no_field field plain quoted ts h = elim h [
 ]
 
 -- a value that fits keeps the document as shallow as a text that is read
-pub readable_more : (n m : NodeMap) (ts : List Text) (v : Data) (old : Option NodeMap) → Assigns n ts (nodes v) m old → Fits ts v → NestsWithin max_depth n → NestsWithin max_depth m
+pub readable_more : (n m : NodeMap) (ts : List Text) (v : Data) (old : Option NodeMap) → Assigns n ts (nodes v) m old → FitsDepth ts v → NestsWithin max_depth n → NestsWithin max_depth m
 readable_more n m ts v old made fits h = Assigns-within max_depth (depth v) n ts (nodes v) m old made h (NestsWithin-depth v) fits
 
 -- lines in a row

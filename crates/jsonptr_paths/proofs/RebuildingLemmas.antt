@@ -2,12 +2,12 @@
 use Rattle.std.proofs.Common.{◌≡◌, ◌≢◌, inl, inr, ℕ, ◌<◌, ◌≤◌, ◌⊎◌, List, [], ◌∷◌, ◌++◌, Option, Some, None, IsSome, is_some, option_map, refl, sym, ap, ap₂, subst, ◌∙◌, arith, append-nil, append_assoc, true≢false}
 use mathlib.Core.Path.{fun_ext}
 use Rattle.std.proofs.lemmas.Bool.{cases_lt}
-use Rattle.jsonptr_grammar.specs.Text.{Text, dec}
-use Rattle.jsonptr_tree.specs.Node.{Step, key, place, Path, Label, an_object, an_array, a_leaf, NodeMap, sub, NamesStep, Names, MayHave, IsTree}
-use Rattle.jsonptr_tree.specs.Put.{GoesThrough, rest_after}
-use Rattle.jsonptr_tree.specs.Growing.{grown}
-use Rattle.jsonptr_tree.specs.Landing.{Lands}
-use Rattle.jsonptr_tree.specs.Assigning.{Assigns, with_room, long_enough}
+use Rattle.jsonptr.specs.Text.{Text, dec}
+use Rattle.jsonptr.specs.Node.{Step, key, place, Path, Label, an_object, an_array, a_leaf, NodeMap, sub, NamesStep, Names, MayHave, IsTree}
+use Rattle.jsonptr.specs.Put.{GoesThrough, rest_after}
+use Rattle.jsonptr.specs.Growing.{grown}
+use Rattle.jsonptr.specs.Landing.{Lands}
+use Rattle.jsonptr.specs.Assigning.{Assigns, with_room, long_enough}
 use Rattle.jsonptr_tree.proofs.NodeLemmas.{Names-pop, IsTree-above, IsTree-sub}
 use Rattle.jsonptr_tree.proofs.PutLemmas.{cases_front, put_behind, put_none, put_at}
 use Rattle.jsonptr_tree.proofs.FollowingLemmas.{stops_in, lacks_at_object, lacks_past_array, cases_some}

@@ -3,7 +3,7 @@ use Rattle.std.proofs.Common.{◌≡◌, ◌≢◌, inl, inr, ℕ, ◌+◌, ◌<
 use Rattle.std.specs.List.{AllByRecursion}
 use Rattle.std.proofs.lemmas.List.Elements.{All-append, All-cons, recursion_from_All}
 use Rattle.serde_json.specs.Data.{Data, null, boolean, number, string, array, object, no_items, no_members, depth}
-use Rattle.serde_json.specs.Read.{read}
+use Rattle.serde_json.specs.Read.{read, max_depth}
 use Rattle.jsonptr.specs.Text.{Text, text}
 use Rattle.jsonptr.specs.Node.{Step, key, place, Path, NodeMap, Names, IsTree}
 use Rattle.jsonptr.specs.Content.{label_of}
@@ -17,11 +17,12 @@ use Rattle.jsonptr_value.proofs.LevelLemmas.{NestsWithin-depth}
 use Rattle.jsonptr_value.proofs.NestingLemmas.{Names-within}
 use Rattle.jsonptr_tree.proofs.NodeLemmas.{Names-length}
 use Rattle.jsonptr_tree.proofs.LandingLemmas.{Lands_named, Lands-LandsNowhere}
-use Rattle.jsonptr_lines.specs.Lines.{IsOneLine, AreLines}
-use Rattle.jsonptr_lines.proofs.LineLemmas.{one_lines}
+use Rattle.jsonptr_io.specs.Lines.{IsOneLine, AreLines}
+use Rattle.jsonptr_io.proofs.LineLemmas.{one_lines}
 use Rattle.jsonptr_paths.specs.Walking.{Before, IsWalk}
-use Rattle.jsonptr_paths.specs.Listing.{emptied, IsField, IsCompact, IsLineOf, AreShown, Lists}
-use Rattle.jsonptr_paths.specs.Reading.{CutsAt, ReadsField, ReadsLine, Fits, AssignsLine, AssignsLines, Builds, IsLineError, StopsBuilding}
+use Rattle.jsonptr_value.specs.JsonText.{IsCompact}
+use Rattle.jsonptr_paths.specs.Listing.{emptied, IsField, IsLineOf, AreShown, Lists}
+use Rattle.jsonptr_paths.specs.Reading.{CutsAt, ReadsField, ReadsLine, FitsDepth, AssignsLine, AssignsLines, Builds, IsLineError, StopsBuilding}
 use Rattle.jsonptr_paths.specs.PrivateRebuilding.{IsPart, IsNext, IsEmptied, Named, IsRow, AreRows}
 use Rattle.jsonptr_paths.specs.declared.listing.Listed.TheVariants.{AllNodes}
 use Rattle.jsonptr_paths.specs.declared.reading.LineError.{LineError}
@@ -72,12 +73,21 @@ field_one ts us field h r = elim h [
       ]
 ]
 
+-- a scalar and an empty container nest at most one deep
+emptied_depth : (v : Data) → depth (emptied v) ≤ max_depth
+emptied_depth null = omega arith
+emptied_depth (boolean b) = omega arith
+emptied_depth (number n) = omega arith
+emptied_depth (string s) = omega arith
+emptied_depth (array ds) = omega arith
+emptied_depth (object ms) = omega arith
+
 -- the value and the pointer that are read from a row
 row_reads : (d : Data) (ts : List Text) (l : Text) → IsRow d ts l → (v : Data) × FindsValue d ts v × ReadsLine l ts (emptied v)
 row_reads d ts l row =
     let field = row.1 in
     let short = row.2 in
-    (row.0, row.3, (field, short, (plain_lacks 9 field (omega arith) (field_plain (text ts) field row.4), row.6), field_reads ts field row.4, row.5.reads_back))
+    (row.0, row.3, (field, short, (plain_lacks 9 field (omega arith) (field_plain (text ts) field row.4), row.6), field_reads ts field row.4, row.5.reads_back (emptied_depth row.0)))
 
 row_one : (d : Data) (ts us : List Text) (l : Text) (row : IsRow d ts l) (field json : Text) → CutsAt 9 l field json → (IsField (text ts) field) × (json ≡ row.2)
 row_one d ts us l row field json cut =
@@ -88,7 +98,7 @@ row_one d ts us l row field json cut =
 row_value : (d : Data) (ts us : List Text) (l : Text) (v : Data) (row : IsRow d ts l) → ReadsLine l us v → (us ≡ ts) × (v ≡ emptied row.0)
 row_value d ts us l v row reads =
     let one = row_one d ts us l row reads.0 reads.1 reads.2 in
-    let whole : Some v ≡ Some (emptied row.0) = sym reads.4 ∙ ap read one.1 ∙ row.5.reads_back in
+    let whole : Some v ≡ Some (emptied row.0) = sym reads.4 ∙ ap read one.1 ∙ row.5.reads_back (emptied_depth row.0) in
     (field_one ts us reads.0 one.0 reads.3, cc)
 
 -- the lines that are shown
@@ -268,14 +278,14 @@ row_error : (d : Data) (ts : List Text) (l : Text) (m : NodeMap) (p : Path) (e :
 row_error d ts l m p NoTab shallow row lands h = tab_there row.1 row.2 (recursion_from_All (λ b. b ≢ 9) (row.1 ++ 9 ∷ row.2) (subst (All (λ b. b ≢ 9)) row.6 h))
 row_error d ts l m p NotPointer shallow row lands h = h.3 ts (field_reads ts h.0 (row_one d ts ts l row h.0 h.1 h.2).0)
 row_error d ts l m p NotJson shallow row lands h =
-    let none : Some (emptied row.0) ≡ None = sym row.5.reads_back ∙ ap read (sym (row_one d ts ts l row h.0 h.1 h.3).1) ∙ h.5 in
+    let none : Some (emptied row.0) ≡ None = sym (row.5.reads_back (emptied_depth row.0)) ∙ ap read (sym (row_one d ts ts l row h.0 h.1 h.3).1) ∙ h.5 in
     let wrong : ⊥ = cc in
     wrong
 row_error d ts l m p TooDeep shallow row lands h =
     let one = row_value d ts h.0 l h.1 row h.2 in
     let fits : length ts + depth (emptied row.0) ≤ depth d = row_fits d ts l row in
-    let all : Fits ts (emptied row.0) = omega (arith, fits, shallow) in
-    h.3 (subst (λ (us : List Text). Fits us h.1) (sym one.0) (subst (Fits ts) (sym one.1) all))
+    let all : FitsDepth ts (emptied row.0) = omega (arith, fits, shallow) in
+    h.3 (subst (λ (us : List Text). FitsDepth us h.1) (sym one.0) (subst (FitsDepth ts) (sym one.1) all))
 row_error d ts l m p (BadPlace e) shallow row lands h =
     let same = (row_value d ts h.0 l h.1 row h.2).0 in
     let nowhere : LandsNowhere m ts (assign_position_of e) (assign_offset_of e) h.4.len h.4.token = subst (λ (us : List Text). LandsNowhere m us (assign_position_of e) (assign_offset_of e) h.4.len h.4.token) same h.4.nowhere in

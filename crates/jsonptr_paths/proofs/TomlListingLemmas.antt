@@ -8,7 +8,7 @@ use Rattle.toml.specs.declared.value.Value.{Value, Array, Table}
 use Rattle.toml.proofs.Views.{Entry, view-Array, view-Table}
 use Rattle.jsonptr.specs.Text.{Text, text}
 use Rattle.jsonptr.specs.Content.{FindsContent}
-use Rattle.jsonptr_tree.specs.TomlValue.{content}
+use Rattle.jsonptr.specs.TomlValue.{content}
 use Rattle.jsonptr_paths.specs.PrivateWalking.{VisitsAll, Walks, Whole, inside_toml}
 use Rattle.jsonptr_paths.specs.TomlListing.{IsLeaf, IsShown, AreShown, Lists}
 use Rattle.jsonptr_paths.specs.declared.listing.Listed.{Listed}

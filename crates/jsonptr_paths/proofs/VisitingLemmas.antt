@@ -3,7 +3,7 @@ use Rattle.std.proofs.Common.{◌≡◌, ℕ, ◌+◌, ◌<◌, ◌≤◌, ◌�
 use Rattle.std.specs.BTreeMap.{BTreeMap, get_by_text}
 use Rattle.std.specs.List.Sorted.{IsStrictlySortedBy}
 use Rattle.std.specs.Map.{keys_of}
-use Rattle.jsonptr_tree.specs.Content.{Content, content_at, map_of, label_of, FindsContent}
+use Rattle.jsonptr.specs.Content.{Content, content_at, map_of, label_of, FindsContent}
 use Rattle.jsonptr_tree.proofs.ContentLemmas.{content_at-below, map_of-sub}
 use Rattle.jsonptr_tree.proofs.NodeLemmas.{Names-push_below}
 use Rattle.jsonptr.specs.Text.{Text, dec}

@@ -11,10 +11,9 @@ use Rattle.std.proofs.lemmas.Cmp.{nat_list_cmp_total, tied_itself}
 use Rattle.std.proofs.lemmas.List.{map-append}
 use Rattle.std.proofs.lemmas.Map.Text.{is_eq-slice_cmp}
 use Rattle.std.proofs.lemmas.Slice.Eq.{bytes_eq-Decides}
-use Rattle.jsonptr_tree.specs.Content.{content_at}
+use Rattle.jsonptr.specs.Content.{content_at, Content, label_of, map_of}
 use Rattle.jsonptr.specs.Text.{Text}
 use Rattle.jsonptr.specs.Node.{Step, key, place, Path, Label, an_object, an_array, a_leaf, NodeMap, sub, NamesStep, Names, MayHave, IsTree}
-use Rattle.jsonptr.specs.Content.{Content, label_of, map_of}
 use Rattle.jsonptr.proofs.Calling.{map_of-IsTree, Names-here, Names_one_path, IsTree-above, IsTree-named}
 use Rattle.jsonptr_paths.specs.Walking.{ChildBefore, Before, IsWalk}
 use Rattle.jsonptr_paths.specs.PrivateWalking.{token_of, tokens_to, Among, Ascends, AddsPointers, Whole, Below, InFirst}

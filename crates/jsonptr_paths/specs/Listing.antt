@@ -1,12 +1,10 @@
 -- The lines that list the nodes of a document.
-use Rattle.std.specs.Prelude.{◌≡◌, ◌≤◌, ◌⊎◌, List, [], ◌∷◌, ◌++◌, All, false, Some}
-use Rattle.json.specs.Lex.{tokens}
-use Rattle.json.specs.Print.{quoted, print}
+use Rattle.std.specs.Prelude.{◌≡◌, ◌≤◌, ◌⊎◌, List, [], ◌∷◌, ◌++◌, All}
+use Rattle.json.specs.Print.{quoted}
 use Rattle.serde_json.specs.Data.{Data, null, boolean, number, string, array, object, no_items, no_members}
-use Rattle.serde_json.specs.Read.{read}
-use Rattle.serde_json.specs.Written.{has_float, compact_text}
-use Rattle.jsonptr_grammar.specs.Text.{Text, text}
-use Rattle.jsonptr_tree.specs.Json.{nodes, FindsValue}
+use Rattle.jsonptr.specs.Text.{Text, text}
+use Rattle.jsonptr.specs.Json.{nodes, FindsValue}
+use Rattle.jsonptr_value.specs.JsonText.{IsCompact}
 use Rattle.jsonptr_paths.specs.Walking.{IsWalk}
 use Rattle.jsonptr_paths.specs.declared.listing.Listed.{Listed}
 use Rattle.jsonptr_paths.specs.declared.listing.Listed.TheVariants as listed
@@ -32,12 +30,6 @@ IsPlain t = All (λ b. 32 ≤ b) t
 -- text has a control character
 abbrev pub IsField : Text → Text → Type 0
 IsField t field = (IsPlain t × (field ≡ t)) ⊎ ((IsPlain t → ⊥) × (field ≡ quoted t))
-
--- `IsCompact v t`: `t` is the JSON text of `v` without white space. Only the digits of a float are left open
-pub record IsCompact (v : Data) (t : Text) : Type 0 where
-  pub exact : has_float v ≡ false → t ≡ compact_text v
-  pub compact : t ≡ print (tokens t)
-  pub reads_back : read t ≡ Some v
 
 -- `IsLineOf p v line`: `line` is the line of the node `v` at the pointer with the text `p`: the pointer, a tab, the value
 -- without its elements or members, and a line feed

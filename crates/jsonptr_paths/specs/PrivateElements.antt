@@ -4,7 +4,7 @@ use Rattle.std.specs.Prelude.{List, [], length}
 use Rattle.serde_json.specs.Data.{Data, Items, array}
 use Rattle.serde_json.specs.declared.value.Value.{Value}
 use Rattle.jsonptr_json_search.specs.PrivateReading.{with_items_before}
-use Rattle.jsonptr_tree.specs.Content.{FindsContent}
+use Rattle.jsonptr.specs.Content.{FindsContent}
 use Rattle.jsonptr.specs.Json.{content, nodes}
 use Rattle.jsonptr.specs.Text.{Text}
 use Rattle.jsonptr_paths.specs.PrivateWalking.{AddsPointers, InFirst, VisitsAll, inside}

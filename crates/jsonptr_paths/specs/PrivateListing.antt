@@ -1,6 +1,6 @@
 -- A line for a node of a document of any kind. Used only by private contracts; no public contract depends on this file.
 use Rattle.std.specs.Prelude.{◌≡◌, [], ◌∷◌, ◌++◌}
-use Rattle.jsonptr_grammar.specs.Text.{Text}
+use Rattle.jsonptr.specs.Text.{Text}
 use Rattle.jsonptr_paths.specs.Listing.{IsField}
 
 -- `IsLine p short line`: `line` is the pointer with the text `p`, a tab, the text `short`, and a line feed.

@@ -1,12 +1,12 @@
 -- What is known after some lines. Used only by private contracts.
 use Rattle.std.specs.Prelude.{◌≡◌, ◌⊎◌, ℕ, List, [], ◌++◌, length}
 use Rattle.serde_json.specs.Data.{null}
-use Rattle.jsonptr_grammar.specs.Text.{Text}
-use Rattle.jsonptr_tree.specs.Node.{NodeMap}
-use Rattle.jsonptr_tree.specs.Json.{nodes}
+use Rattle.jsonptr.specs.Text.{Text}
+use Rattle.jsonptr.specs.Node.{NodeMap}
+use Rattle.jsonptr.specs.Json.{nodes}
 use Rattle.jsonptr_base.specs.declared.fault.Fault.{Fault}
 use Rattle.jsonptr_base.specs.declared.fault.Fault.TheVariants as fault
-use Rattle.jsonptr_lines.specs.Lines.{IsOneLine, AreLines}
+use Rattle.jsonptr_io.specs.Lines.{IsOneLine, AreLines}
 use Rattle.jsonptr_paths.specs.Reading.{CutsAt, AssignsLines}
 use Rattle.jsonptr_paths.specs.declared.reading.LineError.{LineError}
 use Rattle.jsonptr_paths.specs.declared.reading.BuildError.{BuildError}

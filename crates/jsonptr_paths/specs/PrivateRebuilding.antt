@@ -1,12 +1,13 @@
 -- A document that is built node by node. Used only by private contracts.
 use Rattle.std.specs.Prelude.{◌≡◌, List, [], ◌∷◌, ◌++◌, Option, None, IsSome, option_map, ⊤}
 use Rattle.serde_json.specs.Data.{Data}
-use Rattle.jsonptr_grammar.specs.Text.{Text, text}
-use Rattle.jsonptr_tree.specs.Node.{Step, Path, Label, an_object, an_array, a_leaf, NodeMap, Names, IsTree}
-use Rattle.jsonptr_tree.specs.Json.{FindsValue}
+use Rattle.jsonptr.specs.Text.{Text, text}
+use Rattle.jsonptr.specs.Node.{Step, Path, Label, an_object, an_array, a_leaf, NodeMap, Names, IsTree}
+use Rattle.jsonptr.specs.Json.{FindsValue}
 use Rattle.jsonptr_paths.specs.Walking.{Before}
 use Rattle.jsonptr_paths.specs.PrivateWalking.{Among}
-use Rattle.jsonptr_paths.specs.Listing.{emptied, IsField, IsCompact}
+use Rattle.jsonptr_value.specs.JsonText.{IsCompact}
+use Rattle.jsonptr_paths.specs.Listing.{emptied, IsField}
 
 -- `kind l`: the label `l`, with an array's length as 0
 abbrev pub kind : Label → Label

@@ -5,9 +5,9 @@ use Rattle.serde_json.specs.View.{view}
 use Rattle.serde_json.specs.declared.value.Value.{Value}
 use Rattle.toml.specs.View.{view as toml_view}
 use Rattle.toml.specs.declared.value.Value.{Value as TomlValue}
-use Rattle.jsonptr_tree.specs.Content.{Content, map_of, FindsContent}
+use Rattle.jsonptr.specs.Content.{Content, map_of, FindsContent}
 use Rattle.jsonptr.specs.Json.{content}
-use Rattle.jsonptr_tree.specs.TomlValue.{content as toml_content}
+use Rattle.jsonptr.specs.TomlValue.{content as toml_content}
 use Rattle.jsonptr.specs.Text.{Text, dec}
 use Rattle.jsonptr.specs.Node.{Step, key, place, Path, NodeMap}
 use Rattle.jsonptr_paths.specs.Walking.{Before}

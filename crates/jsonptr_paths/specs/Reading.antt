@@ -2,12 +2,12 @@
 use Rattle.std.specs.Prelude.{◌≡◌, ◌≢◌, ◌⊎◌, ℕ, ◌+◌, ◌≤◌, List, [], ◌∷◌, ◌++◌, length, All, Option, Some, None, ⊤}
 use Rattle.serde_json.specs.Data.{Data, null, string, depth}
 use Rattle.serde_json.specs.Read.{read, max_depth}
-use Rattle.jsonptr_grammar.specs.Text.{Text, text}
-use Rattle.jsonptr_tree.specs.Node.{NodeMap}
-use Rattle.jsonptr_tree.specs.Json.{nodes}
-use Rattle.jsonptr_tree.specs.Assigning.{Assigns}
+use Rattle.jsonptr.specs.Text.{Text, text}
+use Rattle.jsonptr.specs.Node.{NodeMap}
+use Rattle.jsonptr.specs.Json.{nodes}
+use Rattle.jsonptr.specs.Assigning.{Assigns}
 use Rattle.jsonptr.specs.Assign.{RefusesAssign}
-use Rattle.jsonptr_lines.specs.Lines.{AreLines}
+use Rattle.jsonptr_io.specs.Lines.{AreLines}
 use Rattle.jsonptr_paths.specs.declared.reading.LineError.{LineError}
 use Rattle.jsonptr_paths.specs.declared.reading.LineError.TheVariants.{NoTab, NotPointer, NotJson, TooDeep, BadPlace}
 use Rattle.jsonptr_paths.specs.declared.reading.BuildError.{BuildError}
@@ -26,16 +26,16 @@ abbrev pub ReadsLine : Text → List Text → Data → Type 0
 ReadsLine line ts v =
     (field json : Text) × CutsAt 9 line field json × ReadsField field ts × (read json ≡ Some v)
 
--- `Fits ts v`: the value `v`, at a pointer with the tokens `ts`, nests no deeper in its document than a text that is read
-abbrev pub Fits : List Text → Data → Type 0
-Fits ts v = length ts + depth v ≤ max_depth
+-- `FitsDepth ts v`: the value `v`, at a pointer with the tokens `ts`, nests no deeper in its document than a text that is read
+abbrev pub FitsDepth : List Text → Data → Type 0
+FitsDepth ts v = length ts + depth v ≤ max_depth
 
 -- `AssignsLine n line m`: assigning the value of `line` at its pointer, where it fits, turns the map `n` into `m`
 abbrev pub AssignsLine : NodeMap → Text → NodeMap → Type 0
 AssignsLine n line m =
     (ts : List Text) × (v : Data) × (old : Option NodeMap)
     × ReadsLine line ts v
-    × Fits ts v
+    × FitsDepth ts v
     × Assigns n ts (nodes v) m old
 
 -- `AssignsLines n lines m`: assigning the values of `lines`, in order, turns the map `n` into `m`
@@ -54,9 +54,9 @@ IsLineError n line NotPointer =
     (field json : Text) × CutsAt 9 line field json × ((ts : List Text) → ReadsField field ts → ⊥)
 IsLineError n line NotJson =
     (field json : Text) × (ts : List Text) × CutsAt 9 line field json × ReadsField field ts × (read json ≡ None)
-IsLineError n line TooDeep = (ts : List Text) × (v : Data) × ReadsLine line ts v × (Fits ts v → ⊥)
+IsLineError n line TooDeep = (ts : List Text) × (v : Data) × ReadsLine line ts v × (FitsDepth ts v → ⊥)
 IsLineError n line (BadPlace e) =
-    (ts : List Text) × (v : Data) × ReadsLine line ts v × Fits ts v × RefusesAssign n ts e
+    (ts : List Text) × (v : Data) × ReadsLine line ts v × FitsDepth ts v × RefusesAssign n ts e
 
 -- `StopsBuilding text e`: `e` is why the lines of `text` build no document, if it is not for memory. The line with this
 -- number, from 1, adds no value after those before it

@@ -4,9 +4,9 @@ use Rattle.json.specs.Print.{quoted}
 use Rattle.toml.specs.Data.{Data, string, integer, float, boolean, datetime, array, table, no_items, no_members}
 use Rattle.toml.specs.Text.{IsValueText}
 use Rattle.toml_writer.specs.Text.{string_text}
-use Rattle.jsonptr_grammar.specs.Text.{Text, text}
-use Rattle.jsonptr_tree.specs.TomlValue.{nodes, FindsValue}
-use Rattle.jsonptr_lines.specs.Lines.{IsOneLine}
+use Rattle.jsonptr.specs.Text.{Text, text}
+use Rattle.jsonptr.specs.TomlValue.{nodes, FindsValue}
+use Rattle.jsonptr_io.specs.Lines.{IsOneLine}
 use Rattle.jsonptr_paths.specs.Walking.{IsWalk}
 use Rattle.jsonptr_paths.specs.Listing.{IsField}
 use Rattle.jsonptr_paths.specs.declared.listing.Listed.{Listed}
@@ -26,18 +26,18 @@ emptied (table ms) = table no_members
 abbrev pub IsLeaf : Data → Type 0
 IsLeaf v = emptied v ≡ v
 
--- `IsShort v t`: `t` is the TOML text of `v` without its elements or members. A string whose TOML text contains a line feed
+-- `IsShortToml v t`: `t` is the TOML text of `v` without its elements or members. A string whose TOML text contains a line feed
 -- is a JSON string
-abbrev pub IsShort : Data → Text → Type 0
-IsShort (string s) t =
+abbrev pub IsShortToml : Data → Text → Type 0
+IsShortToml (string s) t =
     (IsOneLine (string_text s) × (t ≡ string_text s)) ⊎ ((IsOneLine (string_text s) → ⊥) × (t ≡ quoted s))
-IsShort v t = IsValueText false (emptied v) t
+IsShortToml v t = IsValueText false (emptied v) t
 
 -- `IsLineOf p v line`: `line` is the line of the node `v` at the pointer with the text `p`: the pointer, a tab, the value
 -- without its elements or members, and a line feed
 abbrev pub IsLineOf : Text → Data → Text → Type 0
 IsLineOf p v line =
-    (field short : Text) × IsField p field × IsShort v short × (line ≡ field ++ 9 ∷ (short ++ 10 ∷ []))
+    (field short : Text) × IsField p field × IsShortToml v short × (line ≡ field ++ 9 ∷ (short ++ 10 ∷ []))
 
 -- `IsShown which p v out`: `out` is printed for the node `v` at the pointer with the text `p`. If leaves alone are listed,
 -- nothing is printed for any other node

@@ -5,7 +5,7 @@ ghost use Rattle.serde_json.specs.Read.{max_depth};
 ghost use Rattle.jsonptr.specs.Json.{nodes, HasSortedKeys};
 ghost use Rattle.jsonptr.specs.Node.{NodeMap};
 ghost use Rattle.jsonptr.specs.Text.{Text};
-ghost use Rattle.jsonptr_lines.specs.Lines.{IsOneLine};
+ghost use Rattle.jsonptr_io.specs.Lines.{IsOneLine};
 ghost use Rattle.jsonptr_paths.specs.Listing.{IsLineOf, Lists};
 ghost use Rattle.jsonptr_paths.specs.Reading.{Builds, IsLineError, StopsBuilding};
 ghost use Rattle.jsonptr_paths.specs.declared.listing.Listed.TheVariants.{AllNodes};

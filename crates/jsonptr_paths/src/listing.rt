@@ -5,7 +5,8 @@ ghost use Rattle.serde_json.specs.View.{view};
 ghost use Rattle.jsonptr.specs.Pointer.{tokens, text_of};
 ghost use Rattle.jsonptr.specs.Text.{Text, text};
 ghost use Rattle.jsonptr_paths.specs.PrivateListing.{IsLine};
-ghost use Rattle.jsonptr_paths.specs.Listing.{emptied, IsLeaf, IsPlain, IsField, IsCompact, IsLineOf, IsShown, Lists};
+ghost use Rattle.jsonptr_value.specs.JsonText.{IsCompact};
+ghost use Rattle.jsonptr_paths.specs.Listing.{emptied, IsLeaf, IsPlain, IsField, IsLineOf, IsShown, Lists};
 
 use crate::walk::{Visitor, visit_nodes};
 use jsonptr::Pointer;

@@ -8,14 +8,14 @@ ghost use Rattle.jsonptr.specs.Json.{nodes, HasSortedKeys};
 ghost use Rattle.jsonptr.specs.Pointer.{tokens};
 ghost use Rattle.jsonptr.specs.Text.{Text, text};
 ghost use Rattle.jsonptr.specs.Grammar.{IsPointer};
-ghost use Rattle.jsonptr_paths.specs.Reading.{CutsAt, ReadsField, Fits, AssignsLine, Builds, IsLineError, StopsBuilding};
+ghost use Rattle.jsonptr_paths.specs.Reading.{CutsAt, ReadsField, FitsDepth, AssignsLine, Builds, IsLineError, StopsBuilding};
 ghost use Rattle.jsonptr_value.specs.Nesting.{NestsWithin};
 ghost use Rattle.jsonptr_paths.specs.PrivateReading.{IsFirstLine, of_line};
 ghost use Rattle.jsonptr_paths.specs.declared.reading.LineError.TheVariants.{NotPointer, NotJson};
 
 use jsonptr::{Fault, Pointer, PointerBuf, assign};
-use jsonptr_lines::laws::lines_law;
-use jsonptr_value::{MAX_DEPTH, depth_law, nests_within};
+use jsonptr_io::laws::lines_law;
+use jsonptr_value::{MAX_DEPTH, ReadError, depth_law, nests_within};
 use serde_json::Value;
 use std::alloc::{AllocError, Global};
 use thiserror::Error;
@@ -81,10 +81,10 @@ pub enum BuildError {
 /// assert_eq!(rt; error.to_string(alloc)?.as_str(), "line 2: not a pointer");
 /// ```
 pub fn build(alloc: Global, text: &str) -> Result<Value, BuildError>
-    ensures done { IfOk result (λ v. Builds text.now (nodes (view v))) }
+    ensures built { IfOk result (λ v. Builds text.now (nodes (view v))) }
     ensures sorted { IfOk result (λ v. HasSortedKeys (view v)) }
     ensures readable { IfOk result (λ v. depth (view v) ≤ max_depth) }
-    ensures failed { IfErr result (StopsBuilding text.now) }
+    ensures refused { IfErr result (StopsBuilding text.now) }
 {
     depth_law();
     lines_law();
@@ -133,7 +133,7 @@ fn cut<'a>(text: &'a str, at: char) -> Option<(&'a str, &'a str)>
 
 /// Assigns the value of the line at its pointer.
 fn assign_line(alloc: Global, document: &mut Value, line: &str) -> Result<(), Fault<LineError>>
-    ensures done { IfOk result (λ _. AssignsLine (nodes (view document.old)) line.now
+    ensures assigned { IfOk result (λ _. AssignsLine (nodes (view document.old)) line.now
         (nodes (view document.new))) }
     ensures sorted { IfOk result (λ _. HasSortedKeys (view document.old)
         → HasSortedKeys (view document.new)) }
@@ -158,7 +158,7 @@ fn assign_line(alloc: Global, document: &mut Value, line: &str) -> Result<(), Fa
 
 /// Returns whether the tokens of the pointer and the levels of the value are at most 127 together.
 fn fits(pointer: Pointer<'_>, value: &Value) -> bool
-    ensures { IsTrue result ↔ Fits (tokens pointer.entry) (view value.now) }
+    ensures { IsTrue result ↔ FitsDepth (tokens pointer.entry) (view value.now) }
 {
     let count = pointer.count();
     count <= MAX_DEPTH && nests_within(value, MAX_DEPTH - count)
@@ -166,7 +166,7 @@ fn fits(pointer: Pointer<'_>, value: &Value) -> bool
 
 /// Reads a pointer, or a JSON string of one.
 fn pointer_of(alloc: Global, field: &str) -> Result<PointerBuf, Fault<LineError>>
-    ensures done { IfOk result (ReadsField field.now) }
+    ensures pointer { IfOk result (ReadsField field.now) }
     ensures refused { IfRefused result
         (λ e. (e ≡ NotPointer) × ((ts : _) → ReadsField field.now ts → ⊥)) }
 {
@@ -208,13 +208,13 @@ fn quoted_pointer(alloc: Global, field: &str) -> Result<Option<PointerBuf>, Allo
 
 /// Reads a JSON text.
 fn value_of(alloc: Global, json: &str) -> Result<Value, Fault<LineError>>
-    ensures done { IfOk result (λ v. read json.now ≡ Some (view v)) }
+    ensures value { IfOk result (λ v. read json.now ≡ Some (view v)) }
     ensures sorted { IfOk result (λ v. HasSortedKeys (view v)) }
     ensures refused { IfRefused result (λ e. (e ≡ NotJson) × (read json.now ≡ None)) }
 {
-    match Value::from_str(alloc, json) {
+    match jsonptr_value::read(alloc, json) {
         Ok(value) => Ok(value),
-        Err(error) if error.is_memory() => Err(Fault::Memory(AllocError)),
-        Err(_) => Err(Fault::Refused(LineError::NotJson)),
+        Err(ReadError::NotJson) => Err(Fault::Refused(LineError::NotJson)),
+        Err(ReadError::Memory) => Err(Fault::Memory(AllocError)),
     }
 }

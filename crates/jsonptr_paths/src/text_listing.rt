@@ -5,9 +5,9 @@ ghost use Rattle.serde_json.specs.Read.{read as spec_read};
 ghost use Rattle.serde_json.specs.View.{view};
 ghost use Rattle.serde_json.specs.declared.value.Value.{Value};
 ghost use Rattle.jsonptr.specs.Text.{dec};
-ghost use Rattle.jsonptr_json_search.specs.Reading.{Reads, Unreadable, ReadsItems, UnreadableItems};
+ghost use Rattle.jsonptr_json_search.specs.Reading.{ReadsTokens, Unreadable, ReadsItems, UnreadableItems};
 ghost use Rattle.jsonptr_json_search.specs.PrivateReading.{with_items_before};
-ghost use Rattle.jsonptr_json_search.specs.declared.outcome.ReadError.TheVariants.{NotJson};
+ghost use Rattle.jsonptr_value.specs.declared.from_text.ReadError.TheVariants.{NotJson};
 ghost use Rattle.jsonptr_paths.specs.Listing.{IsShown, Lists};
 ghost use Rattle.jsonptr_paths.specs.PrivateElements.{VisitsElements};
 ghost use Rattle.jsonptr_paths.specs.PrivateWalking.{Walks, Whole, inside};
@@ -16,13 +16,10 @@ use crate::listing::{Listed, Lister, list, push_value};
 use crate::walk::{Visitor, visit_nodes};
 use json::{Reader, Scratch, Token};
 use jsonptr::{Pointer, PointerBuf};
-use jsonptr_json_search::outcome::ReadError;
 use jsonptr_json_search::read::read;
+use jsonptr_value::{MAX_DEPTH, ReadError};
 use serde_json::Value;
 use std::alloc::{AllocError, Global};
-
-// How deep an element of an array at the root may nest, as in `serde_json`.
-const MAX_DEPTH: usize = 126;
 
 /// Returns the lines of the document that the text contains, as [`list`] does.
 ///
@@ -41,9 +38,9 @@ const MAX_DEPTH: usize = 126;
 /// assert_eq!(rt; lines.as_str(), "/0/a\t1\n/1\t[]\n");
 /// ```
 pub fn list_text(alloc: Global, text: &str, which: Listed) -> Result<String, ReadError>
-    ensures done { IfOk result (λ s. (d : Data) × (spec_read text.now ≡ Some d)
+    ensures listed { IfOk result (λ s. (d : Data) × (spec_read text.now ≡ Some d)
         × Lists which d (string_bytes s)) }
-    ensures failed { result ≡ Err NotJson → spec_read text.now ≡ None }
+    ensures refused { result ≡ Err NotJson → spec_read text.now ≡ None }
 {
     let mut scratch = Scratch::new(alloc);
     let mut reader = Reader::new(text, &mut scratch)?;
@@ -61,23 +58,20 @@ pub fn list_text(alloc: Global, text: &str, which: Listed) -> Result<String, Rea
 
 /// Returns the lines of the document that the text contains, which is read as a whole.
 fn list_value(alloc: Global, text: &str, which: Listed) -> Result<String, ReadError>
-    ensures done { IfOk result (λ s. (d : Data) × (spec_read text.now ≡ Some d)
+    ensures listed { IfOk result (λ s. (d : Data) × (spec_read text.now ≡ Some d)
         × Lists which d (string_bytes s)) }
-    ensures failed { result ≡ Err NotJson → spec_read text.now ≡ None }
+    ensures refused { result ≡ Err NotJson → spec_read text.now ≡ None }
 {
-    match Value::from_str(alloc, text) {
-        Ok(document) => Ok(list(alloc, &document, which)?),
-        Err(error) if error.is_memory() => Err(ReadError::Memory),
-        Err(_) => Err(ReadError::NotJson),
-    }
+    let document = jsonptr_value::read(alloc, text)?;
+    Ok(list(alloc, &document, which)?)
 }
 
 /// Returns the lines of an array that is the document, and reads the rest of it.
 fn list_elements(alloc: Global, reader: &mut Reader<'_>, which: Listed) -> Result<String, ReadError>
     requires few { length reader.old < 2 ^ 64 }
-    ensures ok { IfOk result (λ s. (ds : Items) × ReadsItems 126 reader.old ds reader.new
+    ensures listed { IfOk result (λ s. (ds : Items) × ReadsItems 126 reader.old ds reader.new
         × Lists which (array ds) (string_bytes s)) }
-    ensures err { result ≡ Err NotJson → UnreadableItems 126 reader.old }
+    ensures refused { result ≡ Err NotJson → UnreadableItems 126 reader.old }
 {
     let mut lister = Lister {
         alloc,
@@ -125,11 +119,11 @@ fn visit_elements<T: Visitor<Value>>(
     visitor: &mut T,
 ) -> Result<usize, ReadError>
     requires few { length reader.old < 2 ^ 64 }
-    ensures ok { IfOk result (λ len. (ds : List Data)
+    ensures listed { IfOk result (λ len. (ds : List Data)
         × ReadsItems 126 reader.old (with_items_before ds no_items) reader.new
         × (len ≡ length ds)
         × VisitsElements T.visits ds visitor.old visitor.new) }
-    ensures err { result ≡ Err NotJson → UnreadableItems 126 reader.old }
+    ensures refused { result ≡ Err NotJson → UnreadableItems 126 reader.old }
 {
     let mut len = 0;
     'elements: while !reader.take_end_array() {
@@ -146,12 +140,12 @@ fn visit_next<T: Visitor<Value>>(
     at: usize,
     visitor: &mut T,
 ) -> Result<(), ReadError>
-    ensures ok { IfOk result (λ _. (v : Value) × Reads 126 reader.old (view v) reader.new
+    ensures listed { IfOk result (λ _. (v : Value) × ReadsTokens 126 reader.old (view v) reader.new
         × Walks inside T.visits v Whole (dec at ∷ []) visitor.old visitor.new) }
     ensures shorter { OnOk result (length reader.new < length reader.old) }
-    ensures err { result ≡ Err NotJson → Unreadable 126 reader.old }
+    ensures refused { result ≡ Err NotJson → Unreadable 126 reader.old }
 {
-    let element = read(alloc, reader, MAX_DEPTH)?;
+    let element = read(alloc, reader, MAX_DEPTH - 1)?;
     let place = PointerBuf::from_usize(alloc, at)?;
     visit_nodes(alloc, &element, place.as_ptr(), visitor)?;
     Ok(())

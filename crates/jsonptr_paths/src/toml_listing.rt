@@ -4,8 +4,8 @@ ghost use Rattle.toml.specs.Text.{IsValueText};
 ghost use Rattle.toml.specs.View.{view};
 ghost use Rattle.jsonptr.specs.Pointer.{tokens};
 ghost use Rattle.jsonptr.specs.Text.{Text, text};
-ghost use Rattle.jsonptr_lines.specs.Lines.{IsOneLine};
-ghost use Rattle.jsonptr_paths.specs.TomlListing.{emptied, IsLeaf, IsShort, IsLineOf, IsShown, Lists};
+ghost use Rattle.jsonptr_io.specs.Lines.{IsOneLine};
+ghost use Rattle.jsonptr_paths.specs.TomlListing.{emptied, IsLeaf, IsShortToml, IsLineOf, IsShown, Lists};
 
 use crate::listing::{Listed, push_line, quoted_text};
 use crate::toml_walk::visit_nodes;
@@ -125,7 +125,7 @@ fn push_value(
 
 /// Returns the text of the value without its elements or members, on one line.
 fn short_text(alloc: Global, value: &Value) -> Result<String, AllocError>
-    ensures { IfOk result (λ s. IsShort (view value.now) (string_bytes s)) }
+    ensures { IfOk result (λ s. IsShortToml (view value.now) (string_bytes s)) }
 {
     match value {
         Value::String(string) => {

@@ -1,7 +1,7 @@
 //! Which children of an old array or object become which children of a new one.
 
 use crate::hash::by_key;
-use crate::tree::{Child, Kind, Node};
+use crate::tree::{Child, NodeKind, TreeNode};
 use std::alloc::{AllocError, Global};
 use std::collections::BTreeSet;
 
@@ -27,9 +27,9 @@ pub enum Step {
 /// # Errors
 ///
 /// [`AllocError`] if an allocation fails.
-pub fn align(alloc: Global, old: &Node, new: &Node) -> Result<Vec<Step>, AllocError> {
+pub fn align(alloc: Global, old: &TreeNode, new: &TreeNode) -> Result<Vec<Step>, AllocError> {
     match old.kind {
-        Kind::Object => align_members(alloc, &old.children, &new.children),
+        NodeKind::Object => align_members(alloc, &old.children, &new.children),
         _ => align_elements(alloc, &old.children, &new.children),
     }
 }
@@ -158,8 +158,8 @@ fn is_alike(old: &[Child], position: usize, new: &[Child], other: usize) -> bool
         (Some(left), Some(right)) => {
             let (members, others) = (&left.node.children, &right.node.children);
             let most = members.len().max(others.len());
-            left.node.kind == Kind::Object
-                && right.node.kind == Kind::Object
+            left.node.kind == NodeKind::Object
+                && right.node.kind == NodeKind::Object
                 && most <= MOST_MEMBERS
                 && most > 0
                 && shared(members, others) >= most - most / 2

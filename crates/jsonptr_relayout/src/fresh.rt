@@ -3,7 +3,7 @@
 use crate::gaps::{Gaps, key_of};
 use crate::given::Piece;
 use crate::lay::{At, Layer, closing, opening};
-use crate::tree::{Child, Kind, Node, slice};
+use crate::tree::{Child, NodeKind, TreeNode, slice};
 use std::alloc::AllocError;
 
 /// How many members of a model are looked at for one with a key.
@@ -16,7 +16,7 @@ impl<'t> Layer<'t> {
     pub fn fresh(
         &mut self,
         new: Piece<'_>,
-        model: Option<&Node>,
+        model: Option<&TreeNode>,
         at: At<'_>,
         depth: usize,
     ) -> Result<(), AllocError> {
@@ -43,7 +43,7 @@ impl<'t> Layer<'t> {
     fn fresh_lines(
         &mut self,
         new: Piece<'_>,
-        model: Option<&Node>,
+        model: Option<&TreeNode>,
         at: At<'_>,
         depth: usize,
     ) -> Result<(), AllocError> {
@@ -61,7 +61,12 @@ impl<'t> Layer<'t> {
             }
             self.out.push_str(at.style.newline)?;
             self.out.push_str(inner.indent)?;
-            self.fresh_child(new.text, child, model, inner, depth)?;
+            self.push_key(new.text, child, at.style.colon)?;
+            let part = Piece {
+                text: new.text,
+                node: &child.node,
+            };
+            self.fresh(part, child_of_model(model, child), inner, depth)?;
             is_first = false;
         }
         self.out.push_str(at.style.newline)?;
@@ -74,12 +79,12 @@ impl<'t> Layer<'t> {
     fn fresh_line(
         &mut self,
         new: Piece<'_>,
-        model: Option<&Node>,
+        model: Option<&TreeNode>,
         at: At<'_>,
         depth: usize,
     ) -> Result<(), AllocError> {
         let pad = match new.node.kind {
-            Kind::Object => at.style.brace,
+            NodeKind::Object => at.style.brace,
             _ => at.style.bracket,
         };
         let mut is_first = true;
@@ -90,39 +95,24 @@ impl<'t> Layer<'t> {
                 self.out.push(',')?;
                 self.out.push_str(at.style.comma)?;
             }
-            self.fresh_child(new.text, child, model, at, depth)?;
+            self.push_key(new.text, child, at.style.colon)?;
+            let part = Piece {
+                text: new.text,
+                node: &child.node,
+            };
+            self.fresh(part, child_of_model(model, child), at, depth)?;
             is_first = false;
         }
         self.out.push_str(pad)?;
         self.out.push(closing(new.node.kind))
     }
 
-    /// Appends a child of a new value: its key, if it is a member, and its value.
-    #[cycle(fresh)]
-    fn fresh_child(
-        &mut self,
-        text: &str,
-        child: &Child,
-        model: Option<&Node>,
-        at: At<'_>,
-        depth: usize,
-    ) -> Result<(), AllocError> {
-        self.push_key(text, child, at.style.colon)?;
-        let node = &child.node;
-        self.fresh(
-            Piece { text, node },
-            child_of_model(model, child),
-            at,
-            depth,
-        )
-    }
-
     /// Appends a value without children.
     fn push_leaf(&mut self, new: Piece<'_>) -> Result<(), AllocError> {
         match new.node.kind {
-            Kind::Scalar => self.out.push_str(slice(new.text, new.node.span)),
-            Kind::Array => self.out.push_str("[]"),
-            Kind::Object => self.out.push_str("{}"),
+            NodeKind::Scalar => self.out.push_str(slice(new.text, new.node.span)),
+            NodeKind::Array => self.out.push_str("[]"),
+            NodeKind::Object => self.out.push_str("{}"),
         }
     }
 
@@ -139,7 +129,7 @@ impl<'t> Layer<'t> {
 
 impl<'a> At<'a> {
     /// Returns the location with the layout of a model.
-    fn like(self, text: &'a str, model: Option<&Node>) -> At<'a> {
+    fn like(self, text: &'a str, model: Option<&TreeNode>) -> At<'a> {
         let Some(node) = model else {
             return self;
         };
@@ -156,7 +146,7 @@ impl<'a> At<'a> {
 
 /// Returns the child of a model that shows how the child of a new value is laid out: the member with
 /// its key, or the first element. Returns `None` if there is none of its kind with children.
-fn child_of_model<'m>(model: Option<&'m Node>, child: &Child) -> Option<&'m Node> {
+fn child_of_model<'m>(model: Option<&'m TreeNode>, child: &Child) -> Option<&'m TreeNode> {
     let members = model?.children.iter().take(MOST_MEMBERS);
     for member in members {
         let node = &member.node;

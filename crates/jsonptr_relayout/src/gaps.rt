@@ -1,6 +1,6 @@
 //! What is around the children of an array or an object.
 
-use crate::tree::{Child, Node, slice};
+use crate::tree::{Child, TreeNode, slice};
 use jsonptr_json_edits::locate::Span;
 
 /// The text around the children of an array or an object that has some.
@@ -19,7 +19,7 @@ pub struct Gaps<'t> {
 
 impl<'t> Gaps<'t> {
     /// Returns the gaps of an array or an object, or `None` if it has no children.
-    pub fn of(text: &'t str, node: &Node) -> Option<Gaps<'t>> {
+    pub fn of(text: &'t str, node: &TreeNode) -> Option<Gaps<'t>> {
         let (first, last) = (node.children.first()?, node.children.last()?);
         let from = node.span.from.saturating_add(1);
         let to = node.span.to.saturating_sub(1);
@@ -91,7 +91,7 @@ fn after_comma(gap: &str) -> Option<&str> {
 
 /// Returns what is between the key of the last member and its value, or `None` if there is no
 /// member.
-pub fn colon_of<'t>(text: &'t str, node: &Node) -> Option<&'t str> {
+pub fn colon_of<'t>(text: &'t str, node: &TreeNode) -> Option<&'t str> {
     let member = node.children.last()?;
     let field = slice(
         text,

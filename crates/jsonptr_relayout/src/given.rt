@@ -1,6 +1,6 @@
 //! Texts of values that are new in a document.
 
-use crate::tree::Node;
+use crate::tree::TreeNode;
 use jsonptr_value::MAX_DEPTH;
 use std::alloc::{AllocError, Global};
 use std::collections::BTreeMap;
@@ -11,7 +11,7 @@ pub struct Piece<'t> {
     /// The text.
     pub text: &'t str,
     /// The value.
-    pub node: &'t Node,
+    pub node: &'t TreeNode,
 }
 
 /// Values by their hashes.
@@ -26,7 +26,7 @@ pub type Given<'t> = BTreeMap<u64, Piece<'t>>;
 pub fn given_values<'t>(
     alloc: Global,
     texts: &'t [&'t str],
-    trees: &'t [Option<Node>],
+    trees: &'t [Option<TreeNode>],
 ) -> Result<Given<'t>, AllocError> {
     let mut given = BTreeMap::new(alloc);
     for (text, tree) in texts.iter().zip(trees.iter()) {

@@ -18,8 +18,7 @@ pub fn of_text(text: &str) -> u64 {
     hasher.finish()
 }
 
-/// Returns the hash of a token that is a whole value. Returns `None` for any other token, and for a
-/// number out of range.
+/// Returns the hash of a token that is a whole value, and `None` for any other token.
 pub fn of_scalar(token: Token<'_>) -> Option<u64> {
     match token {
         Token::String(text) => Some(of_text(text)),

@@ -4,7 +4,7 @@ use crate::align::{Step, align};
 use crate::gaps::{Gaps, before, indent_after};
 use crate::given::{Given, Piece};
 use crate::style::Style;
-use crate::tree::{Kind, Node, slice};
+use crate::tree::{NodeKind, TreeNode, slice};
 use jsonptr_json_edits::locate::Span;
 use std::alloc::{AllocError, Global};
 
@@ -39,7 +39,7 @@ pub struct At<'a> {
 #[derive(Drop)]
 struct Frame<'a> {
     text: &'a str,
-    old: &'a Node,
+    old: &'a TreeNode,
     new: Piece<'a>,
     gaps: Gaps<'a>,
     at: At<'a>,
@@ -66,7 +66,7 @@ impl<'t> Layer<'t> {
     #[cycle(lay)]
     pub fn lay(
         &mut self,
-        old: &Node,
+        old: &TreeNode,
         new: Piece<'_>,
         at: At<'_>,
         depth: usize,
@@ -87,7 +87,7 @@ impl<'t> Layer<'t> {
     #[cycle(lay)]
     fn lay_children(
         &mut self,
-        old: &Node,
+        old: &TreeNode,
         new: Piece<'_>,
         at: At<'_>,
         depth: usize,
@@ -254,7 +254,7 @@ fn new_lead<'a>(frame: &Frame<'a>) -> Lead<'a> {
 }
 
 /// Returns one of the last children that is an array or an object of this kind and has children.
-fn sibling_like(parent: &Node, kind: Kind) -> Option<&Node> {
+fn sibling_like(parent: &TreeNode, kind: NodeKind) -> Option<&TreeNode> {
     let children = parent.children.iter().rev().take(MOST_SIBLINGS);
     for child in children {
         if child.node.kind == kind && !child.node.children.is_empty() {
@@ -265,17 +265,17 @@ fn sibling_like(parent: &Node, kind: Kind) -> Option<&Node> {
 }
 
 /// Returns the opening bracket of an array or an object.
-pub fn opening(kind: Kind) -> char {
+pub fn opening(kind: NodeKind) -> char {
     match kind {
-        Kind::Object => '{',
+        NodeKind::Object => '{',
         _ => '[',
     }
 }
 
 /// Returns the closing bracket of an array or an object.
-pub fn closing(kind: Kind) -> char {
+pub fn closing(kind: NodeKind) -> char {
     match kind {
-        Kind::Object => '}',
+        NodeKind::Object => '}',
         _ => ']',
     }
 }

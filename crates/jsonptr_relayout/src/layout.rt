@@ -4,16 +4,15 @@ ghost use Rattle.serde_json.specs.Data.{Data};
 ghost use Rattle.serde_json.specs.Read.{read};
 ghost use Rattle.serde_json.specs.View.{view};
 ghost use Rattle.jsonptr_tree.specs.Json.{nodes};
-ghost use Rattle.jsonptr_relayout.specs.Relaying.{text_of, ReadsAs, IsKept, FailsToRelay, FailsToRelayText};
+ghost use Rattle.jsonptr_relayout.specs.Relaying.{text_of_relaid, ReadsAs, KeepsLayout, FailsToRelay, FailsToRelayText};
 
 use crate::given::{Piece, given_values};
 use crate::lay::{At, Layer};
 use crate::relaid::{Relaid, RelayoutError};
-use crate::same::is_same;
 use crate::style::Style;
-use crate::tree::{Node, read_tree};
-use jsonptr_json_search::outcome::ReadError;
-use jsonptr_value::{MAX_DEPTH, nests_within};
+use crate::tree::{TreeNode, read_tree};
+use jsonptr_diff::are_same;
+use jsonptr_value::{MAX_DEPTH, ReadError, nests_within};
 use serde_json::Value;
 use std::alloc::{AllocError, Global};
 
@@ -38,8 +37,8 @@ use std::alloc::{AllocError, Global};
 /// assert_eq!(rt; relaid.as_str(), r#"{ "a": [1, 2, 3] }"#);
 /// ```
 pub fn relayout(alloc: Global, old: &str, new: &Value) -> Result<Relaid, RelayoutError>
-    ensures reads { IfOk result (λ r. ReadsAs (text_of r) (nodes (view new.now))) }
-    ensures same { ReadsAs old.now (nodes (view new.now)) → IfOk result (IsKept old.now) }
+    ensures reads { IfOk result (λ r. ReadsAs (text_of_relaid r) (nodes (view new.now))) }
+    ensures kept { ReadsAs old.now (nodes (view new.now)) → IfOk result (KeepsLayout old.now) }
     ensures refused { IfErr result (FailsToRelay old.now (view new.now)) }
 {
     relayout_with(alloc, old, new, &[])
@@ -68,14 +67,14 @@ pub fn relayout_with(
     new: &Value,
     given: &[&str],
 ) -> Result<Relaid, RelayoutError>
-    ensures reads { IfOk result (λ r. ReadsAs (text_of r) (nodes (view new.now))) }
-    ensures same { ReadsAs old.now (nodes (view new.now)) → IfOk result (IsKept old.now) }
+    ensures reads { IfOk result (λ r. ReadsAs (text_of_relaid r) (nodes (view new.now))) }
+    ensures kept { ReadsAs old.now (nodes (view new.now)) → IfOk result (KeepsLayout old.now) }
     ensures refused { IfErr result (FailsToRelay old.now (view new.now)) }
 {
     let Some(document) = read_document(alloc, old)? else {
         return Err(RelayoutError::NotJson);
     };
-    if is_same(alloc, &document, new)? {
+    if are_same(&document, new) {
         return Ok(Relaid::Kept(String::from_str(alloc, old)?));
     }
     if !nests_within(new, MAX_DEPTH) {
@@ -89,7 +88,7 @@ pub fn relayout_with(
 }
 
 /// Returns the document of the text `new` in the layout of the text `old`, as [`relayout`] does. A value
-/// that is new keeps its text, but for the white space around its tokens.
+/// that is new keeps its text, except the white space around its tokens.
 ///
 /// # Errors
 ///
@@ -104,8 +103,8 @@ pub fn relayout_with(
 /// assert_eq!(rt; relaid.as_str(), "[1, 2, 3.10]");
 /// ```
 pub fn relayout_text(alloc: Global, old: &str, new: &str) -> Result<Relaid, RelayoutError>
-    ensures reads { IfOk result (λ r. (d : Data) × (read new.now ≡ Some d) × ReadsAs (text_of r) (nodes d)) }
-    ensures same { (d : Data) → read new.now ≡ Some d → ReadsAs old.now (nodes d) → IfOk result (IsKept old.now) }
+    ensures reads { IfOk result (λ r. (d : Data) × (read new.now ≡ Some d) × ReadsAs (text_of_relaid r) (nodes d)) }
+    ensures kept { (d : Data) → read new.now ≡ Some d → ReadsAs old.now (nodes d) → IfOk result (KeepsLayout old.now) }
     ensures refused { IfErr result (FailsToRelayText old.now new.now) }
 {
     let Some(document) = read_document(alloc, old)? else {
@@ -114,7 +113,7 @@ pub fn relayout_text(alloc: Global, old: &str, new: &str) -> Result<Relaid, Rela
     let Some(value) = read_document(alloc, new)? else {
         return Err(RelayoutError::NewNotJson);
     };
-    if is_same(alloc, &document, &value)? {
+    if are_same(&document, &value) {
         return Ok(Relaid::Kept(String::from_str(alloc, old)?));
     }
     match laid_out(alloc, old, new, &[], &value)? {
@@ -131,10 +130,10 @@ pub fn relayout_text(alloc: Global, old: &str, new: &str) -> Result<Relaid, Rela
 fn read_document(alloc: Global, text: &str) -> Result<Option<Value>, AllocError>
     ensures { IfOk result (λ o. option_map view o ≡ read text.now) }
 {
-    match Value::from_str(alloc, text) {
+    match jsonptr_value::read(alloc, text) {
         Ok(value) => Ok(Some(value)),
-        Err(error) if error.is_memory() => Err(AllocError),
-        Err(_) => Ok(None),
+        Err(ReadError::Memory) => Err(AllocError),
+        Err(ReadError::NotJson) => Ok(None),
     }
 }
 
@@ -157,7 +156,7 @@ fn laid_out(
         return Ok(None);
     };
     match read_document(alloc, candidate.as_str())? {
-        Some(document) => if is_same(alloc, &document, new)? {
+        Some(document) => if are_same(&document, new) {
             Ok(Some(candidate))
         } else {
             Ok(None)
@@ -197,11 +196,11 @@ fn candidate(
 #[derive(Drop)]
 struct Trees {
     /// Of the old text.
-    from: Node,
+    from: TreeNode,
     /// Of the new text.
-    to: Node,
+    to: TreeNode,
     /// Of the given texts, where they are JSON.
-    given: Vec<Option<Node>>,
+    given: Vec<Option<TreeNode>>,
 }
 
 /// Makes the text: what is around the old document, and the new document.
@@ -234,7 +233,7 @@ fn relaid_text<'t>(
 }
 
 /// Reads the text, or returns `None` if it is not JSON.
-fn tree_of(alloc: Global, text: &str) -> Result<Option<Node>, AllocError> {
+fn tree_of(alloc: Global, text: &str) -> Result<Option<TreeNode>, AllocError> {
     match read_tree(alloc, text) {
         Ok(node) => Ok(Some(node)),
         Err(ReadError::NotJson) => Ok(None),
@@ -243,7 +242,7 @@ fn tree_of(alloc: Global, text: &str) -> Result<Option<Node>, AllocError> {
 }
 
 /// Reads each of the texts.
-fn trees_of(alloc: Global, texts: &[&str]) -> Result<Vec<Option<Node>>, AllocError> {
+fn trees_of(alloc: Global, texts: &[&str]) -> Result<Vec<Option<TreeNode>>, AllocError> {
     let mut trees = Vec::new(alloc);
     for text in texts {
         trees.push(tree_of(alloc, text)?)?;

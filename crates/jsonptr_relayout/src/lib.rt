@@ -31,7 +31,6 @@ mod hash;
 mod lay;
 mod layout;
 mod relaid;
-mod same;
 mod style;
 mod tree;
 

@@ -1,6 +1,6 @@
 //! What laying a document out returns.
 ghost use Rattle.std.specs.Prelude.{◌≡◌, string_bytes};
-ghost use Rattle.jsonptr_relayout.specs.Relaying.{text_of};
+ghost use Rattle.jsonptr_relayout.specs.Relaying.{text_of_relaid};
 ghost use Rattle.jsonptr_relayout.specs.declared.relaid.RelayoutError.TheVariants.{Memory};
 
 use std::alloc::AllocError;
@@ -18,7 +18,7 @@ pub enum Relaid {
 impl Relaid {
     /// Returns the text.
     pub fn as_str(&self) -> &str
-        ensures { result.now ≡ text_of self.now }
+        ensures { result.now ≡ text_of_relaid self.now }
     {
         match self {
             Relaid::Kept(text) => text.as_str(),
@@ -28,7 +28,7 @@ impl Relaid {
 
     /// Returns the text, without copying it.
     pub fn into_string(self) -> String
-        ensures { string_bytes result ≡ text_of self }
+        ensures { string_bytes result ≡ text_of_relaid self }
     {
         match self {
             Relaid::Kept(text) => text,

@@ -1,7 +1,7 @@
 //! The white space of a document, as its author writes it.
 
 use crate::gaps::{Gaps, colon_of, indent_after};
-use crate::tree::Node;
+use crate::tree::TreeNode;
 
 /// The white space around values.
 #[derive(Clone, Copy, Debug)]
@@ -39,7 +39,7 @@ impl<'t> Style<'t> {
 
     /// Returns the style of the children of an array or an object, which is on a line with this
     /// indentation. Its own layout counts more than that around it.
-    pub fn inside(self, text: &'t str, node: &Node, indent: &str) -> Style<'t> {
+    pub fn inside(self, text: &'t str, node: &TreeNode, indent: &str) -> Style<'t> {
         let mut style = self.like(text, node);
         if let Some(unit) = unit_of(text, node, indent) {
             style.unit = unit;
@@ -48,7 +48,7 @@ impl<'t> Style<'t> {
     }
 
     /// Returns the style with the white space that the array or the object has.
-    pub fn like(self, text: &'t str, node: &Node) -> Style<'t> {
+    pub fn like(self, text: &'t str, node: &TreeNode) -> Style<'t> {
         let Some(gaps) = Gaps::of(text, node) else {
             return self;
         };
@@ -62,7 +62,7 @@ impl<'t> Style<'t> {
     }
 
     /// Takes over the white space inside the brackets of an array or an object on one line.
-    fn set_pad(&mut self, text: &str, node: &Node, open: &'t str) {
+    fn set_pad(&mut self, text: &str, node: &TreeNode, open: &'t str) {
         if text.as_bytes().get(node.span.from) == Some(&b'{') {
             self.brace = open;
         } else {
@@ -85,7 +85,7 @@ fn is_tight(text: &str) -> bool {
 
 /// Returns by what the children of an array or an object are indented, or `None` if they are on its
 /// line.
-fn unit_of<'t>(text: &'t str, node: &Node, indent: &str) -> Option<&'t str> {
+fn unit_of<'t>(text: &'t str, node: &TreeNode, indent: &str) -> Option<&'t str> {
     let gaps = Gaps::of(text, node)?;
     let unit = indent_after(gaps.open)?.strip_prefix(indent)?;
     if unit.is_empty() { None } else { Some(unit) }

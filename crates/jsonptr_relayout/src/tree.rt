@@ -4,13 +4,12 @@ ghost use Rattle.std.specs.Prelude.{◌<◌, ◌≤◌, length, OnOk};
 use crate::hash;
 use json::{Reader, Scratch, Token};
 use jsonptr_json_edits::locate::{Span, trimmed_end};
-use jsonptr_json_search::outcome::ReadError;
-use jsonptr_value::MAX_DEPTH;
+use jsonptr_value::{MAX_DEPTH, ReadError};
 use std::alloc::Global;
 
 /// The kind of a value.
 #[derive(Clone, Copy, Debug, Drop, PartialEq, Eq)]
-pub enum Kind {
+pub enum NodeKind {
     /// Neither an array nor an object.
     Scalar,
     /// An array.
@@ -22,11 +21,11 @@ pub enum Kind {
 /// A value of a text.
 #[cycle(tree)]
 #[derive(Debug, Drop)]
-pub struct Node {
+pub struct TreeNode {
     /// Where the value is.
     pub span: Span,
     /// Its kind.
-    pub kind: Kind,
+    pub kind: NodeKind,
     /// Its hash.
     pub hash: u64,
     /// Its elements or members, in the order of the text.
@@ -42,13 +41,13 @@ pub struct Child {
     /// Where the child begins: a member with its key.
     pub from: usize,
     /// The value.
-    pub node: Node,
+    pub node: TreeNode,
 }
 
 /// What a value consists of.
 #[derive(Drop)]
 struct Parts {
-    kind: Kind,
+    kind: NodeKind,
     hash: u64,
     children: Vec<Child>,
 }
@@ -58,7 +57,7 @@ struct Parts {
 /// # Errors
 ///
 /// [`ReadError::NotJson`] if the text is not JSON, and [`ReadError::Memory`] if an allocation fails.
-pub fn read_tree(alloc: Global, text: &str) -> Result<Node, ReadError> {
+pub fn read_tree(alloc: Global, text: &str) -> Result<TreeNode, ReadError> {
     let mut scratch = Scratch::new(alloc);
     let mut reader = Reader::new(text, &mut scratch)?;
     let node = read_node(alloc, text, &mut reader, MAX_DEPTH)?;
@@ -75,7 +74,7 @@ fn read_node(
     text: &str,
     reader: &mut Reader<'_>,
     depth: usize,
-) -> Result<Node, ReadError>
+) -> Result<TreeNode, ReadError>
     ensures shorter { OnOk result (length reader.new < length reader.old) }
 {
     let from = reader.offset();
@@ -84,7 +83,7 @@ fn read_node(
     };
     let parts = read_parts(alloc, text, reader, token, depth)?;
     let to = end_before(text.as_bytes(), reader.offset());
-    Ok(Node {
+    Ok(TreeNode {
         span: Span { from, to },
         kind: parts.kind,
         hash: parts.hash,
@@ -110,7 +109,7 @@ fn read_parts(
             }
             let children = read_elements(alloc, text, reader, depth - 1)?;
             Ok(Parts {
-                kind: Kind::Array,
+                kind: NodeKind::Array,
                 hash: hash::of_array(&children),
                 children,
             })
@@ -121,14 +120,14 @@ fn read_parts(
             }
             let children = read_members(alloc, text, reader, depth - 1)?;
             Ok(Parts {
-                kind: Kind::Object,
+                kind: NodeKind::Object,
                 hash: hash::of_object(alloc, &children)?,
                 children,
             })
         }
         token => match hash::of_scalar(token) {
             Some(hash) => Ok(Parts {
-                kind: Kind::Scalar,
+                kind: NodeKind::Scalar,
                 hash,
                 children: Vec::new(alloc),
             }),

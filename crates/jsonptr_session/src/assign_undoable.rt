@@ -37,7 +37,7 @@ pub fn assign_undoable<D: SessionDocument>(
     ensures given_sorted { IfOk result (λ u.
         IfPut u (λ v. D.has_sorted_keys doc.old → D.has_sorted_keys v)) }
     ensures refused { IfRefused result (RefusesAssign (D.nodes doc.old) (tokens ptr.entry)) }
-    ensures same { OnErr result (D.is_same doc.old doc.new) }
+    ensures unchanged { OnErr result (D.is_same doc.old doc.new) }
 {
     let landing = landing_of(alloc, &*doc, ptr)?;
     match doc.assign_at(alloc, ptr, value)? {
@@ -63,7 +63,7 @@ pub fn take_back<D: SessionDocument>(
         IfPut undo D.has_sorted_keys → D.has_sorted_keys doc.old → D.has_sorted_keys doc.new) }
     ensures refused { IfErr result (λ r. IsUndoError (D.nodes doc.old) (tokens_at undo) r.cause) }
     ensures handed_back { IfErr result (λ r. r.undo ≡ undo) }
-    ensures same { OnErr result (D.is_same doc.old doc.new) }
+    ensures unchanged { OnErr result (D.is_same doc.old doc.new) }
     ensures no_memory { HasNoTilde (text (tokens_at undo))
         → IfErr result (λ r. IsRefusedAnd r.cause (Refuses (D.nodes doc.old) (tokens_at undo))) }
 {
@@ -104,7 +104,7 @@ fn remove_at<D: SessionDocument>(
         Deletes (D.nodes doc.old) (tokens ptr.entry) D.blank (D.nodes doc.new)) }
     ensures sorted { IfOk result (λ _. D.has_sorted_keys doc.old → D.has_sorted_keys doc.new) }
     ensures refused { IfRefused result (Refuses (D.nodes doc.old) (tokens ptr.entry)) }
-    ensures same { OnErr result (D.is_same doc.old doc.new) }
+    ensures unchanged { OnErr result (D.is_same doc.old doc.new) }
     ensures no_memory { HasNoTilde (text (tokens ptr.entry)) → HasMemory result }
 {
     match doc.delete_at(alloc, ptr)? {

@@ -80,7 +80,7 @@ pub trait SessionDocument: Sized + Drop {
         ensures refused { IfRefused result (Refuses (nodes self.old) (tokens ptr.entry)) }
         ensures unchanged { OnErr result (nodes self.new ≡ nodes self.old) }
         ensures same { OnErr result (is_same self.old self.new) }
-        ensures kept { OnErr result (value.new ≡ value.old) }
+        ensures value_unchanged { OnErr result (value.new ≡ value.old) }
         ensures no_memory { HasNoTilde (text (tokens ptr.entry)) → HasMemory result };
 
     /// Assigns a value at the pointer, and returns the value that it replaced, if any.
@@ -152,7 +152,7 @@ pub fn swap<D: ResolveMut>(
         D.writes document.old (tokens ptr.entry) value.old document.new) }
     ensures refused { IfRefused result (D.refuses document.old (tokens ptr.entry)) }
     ensures unchanged { OnErr result (D.is_same document.old document.new) }
-    ensures kept { OnErr result (value.new ≡ value.old) }
+    ensures value_unchanged { OnErr result (value.new ≡ value.old) }
     ensures no_memory { D.needs_no_memory document.old (tokens ptr.entry) → HasMemory result }
 {
     let place = document.resolve_mut(alloc, ptr)?;

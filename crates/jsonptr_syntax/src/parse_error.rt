@@ -292,7 +292,7 @@ impl Diagnostic for ParseError {
 ///
 /// ```rust
 /// let text = String::from_str(alloc, "/size/~2")?;
-/// let report = PointerBuf::parse(text).err().ok_or("a refusal")?;
+/// let report = PointerBuf::parse(text).err().ok_or("an error")?;
 /// assert!(rt; report.original().is_invalid_encoding());
 /// assert_eq!(rt; report.subject().as_str(), "/size/~2");
 /// ```

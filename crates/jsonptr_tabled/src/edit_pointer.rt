@@ -51,8 +51,8 @@ pub trait EditPointer {
     /// allocation fails; `s` is then dropped.
     fn set_text(&mut self, s: String) -> Result<(), Fault<RichParseError>>
         ensures text { IfOk result (λ _. text (list self.new) ≡ string_bytes s) }
-        ensures refused { IsRefused result ↔ (IsPointer (string_bytes s) → ⊥) }
-        ensures fault { IfRefused result
+        ensures not_pointer { IsRefused result ↔ (IsPointer (string_bytes s) → ⊥) }
+        ensures refused { IfRefused result
             (λ report. IsParseErrorOf (string_bytes s) (original_of report)) }
         ensures subject { IfRefused result (λ report. subject_of report ≡ s) }
         ensures unchanged { IfErr result (λ _. list self.new ≡ list self.old) };

@@ -97,8 +97,8 @@ impl TabledPointer {
     /// no memory for the table; `s` is then dropped.
     pub fn parse(alloc: Global, s: String) -> Result<TabledPointer, Fault<RichParseError>>
         ensures text { IfOk result (λ p. text p ≡ string_bytes s) }
-        ensures refused { IsRefused result ↔ (IsPointer (string_bytes s) → ⊥) }
-        ensures fault { IfRefused result
+        ensures not_pointer { IsRefused result ↔ (IsPointer (string_bytes s) → ⊥) }
+        ensures refused { IfRefused result
             (λ report. IsParseErrorOf (string_bytes s) (original_of report)) }
         ensures subject { IfRefused result (λ report. subject_of report ≡ s) }
     {

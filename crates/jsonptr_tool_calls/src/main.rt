@@ -9,6 +9,7 @@
 //! | `find` | a case of `tools/in_text.py`: a pointer, and the bytes of a text, as hexadecimal digits |
 //! | `change` | a case of `tools/edits_in_text.py`: an edit, a text, a pointer, and an argument |
 //! | `toml` | a case of `tools/edits_in_toml.py`: an edit, a text, a pointer, and a value |
+//! | `comments` | a case of `tools/comments.py`: a call, a text, and for an edit a pointer and an argument |
 //! | `patch` | a case of `tools/patches.py`: a document and a patch document |
 //! | `relayout` | a case of `tools/relayouts.py`: the old text and the new one |
 //! | another | a request of `docs/COMPARING.md` |
@@ -18,6 +19,7 @@
 #![tactic(auto)]
 
 mod cases;
+mod comments;
 mod document;
 mod documents;
 mod edits;
@@ -96,6 +98,7 @@ fn answer(out: &mut Out<'_>, buffers: &mut Buffers, scratch: &mut Scratch, mut w
         "find" => in_text::request(out, scratch, words),
         "change" => text_edits::compare(out, buffers, words),
         "toml" => toml_edits::request(out, words),
+        "comments" => comments::request(out, buffers, words),
         "patch" => patches::round(out, words),
         "relayout" => relayouts::request(out, words),
         request => requests::run(out, request, words),

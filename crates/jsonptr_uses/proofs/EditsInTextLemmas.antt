@@ -1,5 +1,5 @@
 -- Two edits in the text of a document.
-use Rattle.std.proofs.Common.{List, Result, Ok, Err, IfOk, string_bytes}
+use Rattle.std.proofs.Common.{List, Result, Ok, Err, IfOk}
 use Rattle.serde_json.specs.Data.{Data}
 use Rattle.jsonptr.specs.Text.{Text}
 use Rattle.jsonptr_edit_in_text.specs.Bytes.{KeepsBytes, AssignsBytes}

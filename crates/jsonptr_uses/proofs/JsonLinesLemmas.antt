@@ -6,20 +6,20 @@ use Rattle.serde_json.specs.Read.{read}
 use Rattle.jsonptr.specs.Pointer.{tokens}
 use Rattle.jsonptr.specs.Text.{Text}
 use Rattle.jsonptr.specs.declared.pointer.Pointer.{Pointer}
-use Rattle.jsonptr_edit_in_text.specs.Carrying.{value_of}
+use Rattle.jsonptr_edit_in_text.specs.Carrying.{value_of_raw}
 use Rattle.jsonptr_edit_in_text.specs.declared.raw_value.RawValue.{RawValue}
 use Rattle.jsonptr_json_edits.specs.Spacing.{IsBlank}
-use Rattle.jsonptr_lines.specs.Lines.{AreLines}
-use Rattle.jsonptr_lines.specs.Streams.{ForInput}
+use Rattle.jsonptr_io.specs.Lines.{AreLines}
+use Rattle.jsonptr_io.specs.Streams.{ForInput}
 use Rattle.jsonptr_paths.specs.declared.listing.Listed.TheVariants.{AllNodes}
 use Rattle.jsonptr_paths.specs.declared.reading.LineError.{LineError}
-use Rattle.jptr_tasks.specs.Layouts.{Shows, ReadsBack}
+use Rattle.jptr_tasks.specs.Layouts.{ShowsInLayout, ReadsBack}
 use Rattle.jptr_tasks.specs.LineResults.{LineGives, LinesGive, IsReport}
 use Rattle.jptr_tasks.specs.Paths.{ListsText, BuildsText, FailsToBuild, PutsText, StopsText}
 use Rattle.jptr_tasks.specs.Results.{Sets, Yields}
 use Rattle.jptr_tasks.specs.Runs.{IsRun}
-use Rattle.jptr_tasks.specs.declared.failure.Failure.{Failure}
-use Rattle.jptr_tasks.specs.declared.failure.Failure.TheVariants.{BadLine}
+use Rattle.jptr_tasks.specs.declared.task_error.TaskError.{TaskError}
+use Rattle.jptr_tasks.specs.declared.task_error.TaskError.TheVariants.{BadLine}
 use Rattle.jptr_tasks.specs.declared.layout.Layout.{Layout}
 use Rattle.jptr_tasks.specs.declared.layout.Layout.TheVariants.{Kept, Compact}
 use Rattle.jptr_tasks.specs.declared.line.LineTask.{LineTask}
@@ -57,7 +57,7 @@ module _ (run : LineTask) (p : Pointer) (v : RawValue) (task : run.task ≡ Set 
     ]
   ]
 
-  pub tags_each : (ls : List Text) (n : ℕ) (out err : Text) → LinesGive run n ls out err → err ≡ [] → TagsEach (tokens p) (value_of v) ls out
+  pub tags_each : (ls : List Text) (n : ℕ) (out err : Text) → LinesGive run n ls out err → err ≡ [] → TagsEach (tokens p) (value_of_raw v) ls out
   tags_each [] n out err h none = h.0
   tags_each (l ∷ ls) n out err h none =
       let parts : h.1 ++ h.3 ≡ [] = sym h.7 ∙ none in
@@ -77,7 +77,7 @@ module _ (run : LineTask) (p : Pointer) (v : RawValue) (task : run.task ≡ Set 
             )
         | inr here ↦
             let same : out ≡ h.2 = h.6 ∙ ap (λ (t : Text). t ++ h.2) here.1 in
-            inr (here.0, subst (λ (t : Text). TagsEach (tokens p) (value_of v) ls t) (sym same) rest)
+            inr (here.0, subst (λ (t : Text). TagsEach (tokens p) (value_of_raw v) ls t) (sym same) rest)
       ]
 
 -- ---- streams
@@ -90,7 +90,7 @@ for_map None P Q f h = (h.0, f h.0 h.1)
 for_map (Some bytes) P Q f h = f bytes h
 
 pub all_tagged : (run : LineTask) (p : Pointer) (v : RawValue) (known w0 w1 e0 e1 : Known) (ended : Ended) → run.task ≡ Set p v → run.layout ≡ Kept → ended ≡ Fine → IsRun run known w0 w1 e0 e1 ended
-    → ForInput known (λ bytes. (ls : List Text) × (out : Text) × AreLines bytes ls × TagsEach (tokens p) (value_of v) ls out × Appends w0 w1 out)
+    → ForInput known (λ bytes. (ls : List Text) × (out : Text) × AreLines bytes ls × TagsEach (tokens p) (value_of_raw v) ls out × Appends w0 w1 out)
 all_tagged run p v known w0 w1 e0 e1 ended task layout is h = for_map known _ _
     (λ bytes x. (x.0, x.1, x.3.0, tags_each run p v task layout x.0 1 x.1 x.2 x.4 x.3.1, x.5))
     (subst (IsRun run known w0 w1 e0 e1) is h)
@@ -99,7 +99,7 @@ all_tagged run p v known w0 w1 e0 e1 ended task layout is h = for_map known _ _
 
 abbrev Printed : Type 0
 Printed = (layout : Layout) (bytes : List ℕ) (lines out : Text) → ListsText AllNodes bytes lines → BuildsText layout lines out
-    → (d : Data) × (shown : Text) × (read bytes ≡ Some d) × Shows layout d shown × ReadsBack layout d shown × (out ≡ shown ++ 10 ∷ [])
+    → (d : Data) × (shown : Text) × (read bytes ≡ Some d) × ShowsInLayout layout d shown × ReadsBack layout d shown × (out ≡ shown ++ 10 ∷ [])
 
 -- `IsCopied bytes w0 w1`: a line is appended that is read as the document of the bytes
 abbrev IsCopied : Known → Known → List ℕ → Type 0
@@ -115,7 +115,7 @@ copied_line law known w0 w1 first lines stored none same lists builds = for_map 
     (made.0, made.1, made.2, made.4, subst (Appends w0 w1) made.5 builds.2))
     lists
 
-pub copied : (law : Printed) (r : Result (Unit {0}) Failure) (known w0 w1 : Known) (first lines stored : List ℕ) → first ≡ [] → stored ≡ lines → PutsText (ListsText AllNodes) known (Some first) (Some lines) → IfOk r (λ x. PutsText (BuildsText Compact) (Some stored) w0 w1) → IfOk r (λ x. ForInput known (IsCopied w0 w1))
+pub copied : (law : Printed) (r : Result (Unit {0}) TaskError) (known w0 w1 : Known) (first lines stored : List ℕ) → first ≡ [] → stored ≡ lines → PutsText (ListsText AllNodes) known (Some first) (Some lines) → IfOk r (λ x. PutsText (BuildsText Compact) (Some stored) w0 w1) → IfOk r (λ x. ForInput known (IsCopied w0 w1))
 copied law (Ok x) known w0 w1 first lines stored none same lists builds = copied_line law known w0 w1 first lines stored none same lists builds
 copied law (Err e) known w0 w1 first lines stored none same lists builds = tt
 
@@ -123,8 +123,8 @@ some_listed : (known : Known) (first lines : List ℕ) → first ≡ [] → Puts
 some_listed None first lines none h = (h.0, listed h.0 first lines h.1.0 none h.1.2 h.1.1)
 some_listed (Some bytes) first lines none h = (bytes, listed bytes first lines h.0 none h.2 h.1)
 
-pub no_bad_line : (law : (bytes : List ℕ) (lines : Text) (number : ℕ) (e : LineError) → ListsText AllNodes bytes lines → FailsToBuild lines (BadLine number e) → ⊥) (r : Result (Unit {0}) Failure) (known w0 w1 : Known) (first lines stored : List ℕ) → first ≡ [] → stored ≡ lines → PutsText (ListsText AllNodes) known (Some first) (Some lines) → IfErr r (StopsText (BuildsText Compact) FailsToBuild (Some stored) w0 w1) → (number : ℕ) (e : LineError) → r ≡ Err (BadLine number e) → ⊥
+pub no_bad_line : (law : (bytes : List ℕ) (lines : Text) (number : ℕ) (e : LineError) → ListsText AllNodes bytes lines → FailsToBuild lines (BadLine number e) → ⊥) (r : Result (Unit {0}) TaskError) (known w0 w1 : Known) (first lines stored : List ℕ) → first ≡ [] → stored ≡ lines → PutsText (ListsText AllNodes) known (Some first) (Some lines) → IfErr r (StopsText (BuildsText Compact) FailsToBuild (Some stored) w0 w1) → (number : ℕ) (e : LineError) → r ≡ Err (BadLine number e) → ⊥
 no_bad_line law r known w0 w1 first lines stored none same lists stops number e is =
     let some = some_listed known first lines none lists in
-    let why = subst (λ (q : Result (Unit {0}) Failure). IfErr q (StopsText (BuildsText Compact) FailsToBuild (Some stored) w0 w1)) is stops in
+    let why = subst (λ (q : Result (Unit {0}) TaskError). IfErr q (StopsText (BuildsText Compact) FailsToBuild (Some stored) w0 w1)) is stops in
     law some.0 stored number e (subst (ListsText AllNodes some.0) (sym same) some.1) why.1

@@ -17,3 +17,4 @@ mod EditsInTextLemmas
 mod EditsInTomlLemmas
 mod JsonLinesLemmas
 mod StreamsLemmas
+mod LocationsLemmas

@@ -1,12 +1,10 @@
 -- A patch document has one list of operations, up to where their values are kept, and these make one document.
 use Rattle.std.proofs.Common.{◌≡◌, List}
-use Rattle.std.specs.Prelude.{All}
 use Rattle.serde_json.specs.Data.{Data}
 use Rattle.jsonptr.specs.Documents.{IsDocument}
 use Rattle.jsonptr.specs.Json.{nodes, HasSortedKeys}
 use Rattle.jsonptr.specs.Node.{NodeMap}
 use Rattle.jsonptr.proofs.Calling.{nodes_one}
-use Rattle.jsonptr_patch.specs.Order.{OperationHasSortedKeys}
 use Rattle.jsonptr_patch.specs.Patching.{Patches}
 use Rattle.jsonptr_patch.specs.declared.operation.Operation.{Operation}
 use Rattle.jsonptr_patch_document.specs.Document.{IsPatch}

@@ -6,13 +6,13 @@ use Rattle.jsonptr.specs.Pointer.{tokens}
 use Rattle.jsonptr.specs.Text.{Text}
 use Rattle.jsonptr.specs.declared.pointer.Pointer.{Pointer}
 use Rattle.jsonptr_edit_in_text.specs.Bytes.{AssignsBytes}
-use Rattle.jsonptr_edit_in_text.specs.Carrying.{value_of, Carries}
+use Rattle.jsonptr_edit_in_text.specs.Carrying.{value_of_raw, Carries}
 use Rattle.jsonptr_edit_in_text.specs.EditInText.{AssignsInText}
 use Rattle.jsonptr_edit_in_text.specs.declared.raw_value.RawValue.{RawValue}
-use Rattle.jsonptr_lines.specs.Streams.{ForInput}
+use Rattle.jsonptr_io.specs.Streams.{ForInput}
 use Rattle.jptr_tasks.specs.Documents.{Prints, PutsDocument, EndsInBreak}
 use Rattle.jptr_tasks.specs.Results.{Yields}
-use Rattle.jptr_tasks.specs.declared.failure.Failure.{Failure}
+use Rattle.jptr_tasks.specs.declared.task_error.TaskError.{TaskError}
 use Rattle.jptr_tasks.specs.declared.layout.Layout.TheVariants.{Kept}
 use Rattle.jptr_tasks.specs.declared.task.Task.TheVariants.{Set}
 
@@ -23,7 +23,7 @@ for_input (Some bytes) P Q f h = f bytes h
 -- `Assigned p raw bytes out`: `out` is the text `bytes` with the raw value assigned
 abbrev Assigned : Pointer → RawValue → List ℕ → Text → Type 0
 Assigned p raw bytes out =
-    AssignsInText bytes (tokens p) (nodes (value_of raw)) out × AssignsBytes bytes (tokens p) (value_of raw) out × Carries (string_bytes raw.text.flat) out
+    AssignsInText bytes (tokens p) (nodes (value_of_raw raw)) out × AssignsBytes bytes (tokens p) (value_of_raw raw) out × Carries (string_bytes raw.text.flat) out
 
 assigned : (p : Pointer) (raw : RawValue) (bytes out : List ℕ) → Prints (Set p raw) Kept bytes out → Assigned p raw bytes out
 assigned p raw bytes out h = at h.1
@@ -35,8 +35,8 @@ assigned p raw bytes out h = at h.1
         let more = y.3 refl in
         subst (Assigned p raw bytes) (sym y.2) (y.1, more.0, more.1)
 
-pub set_puts : (r : Result (Unit {0}) Failure) (p : Pointer) (raw : RawValue) (known w0 w1 : Option (List ℕ)) → IfOk r (λ x. PutsDocument (Set p raw) Kept known w0 w1)
-    → IfOk r (λ x. ForInput known (λ bytes. (out : Text) × AssignsInText bytes (tokens p) (nodes (value_of raw)) out × AssignsBytes bytes (tokens p) (value_of raw) out × Carries (string_bytes raw.text.flat) out × Appends w0 w1 out))
+pub set_puts : (r : Result (Unit {0}) TaskError) (p : Pointer) (raw : RawValue) (known w0 w1 : Option (List ℕ)) → IfOk r (λ x. PutsDocument (Set p raw) Kept known w0 w1)
+    → IfOk r (λ x. ForInput known (λ bytes. (out : Text) × AssignsInText bytes (tokens p) (nodes (value_of_raw raw)) out × AssignsBytes bytes (tokens p) (value_of_raw raw) out × Carries (string_bytes raw.text.flat) out × Appends w0 w1 out))
 set_puts (Err e) p raw known w0 w1 h = h
 set_puts (Ok u) p raw known w0 w1 h =
     for_input known (λ bytes. (out : Text) × Prints (Set p raw) Kept bytes out × Appends w0 w1 out) _

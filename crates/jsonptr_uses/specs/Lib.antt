@@ -4,6 +4,7 @@ pub mod Undoing
 pub mod Settings
 pub mod References
 pub mod Checking
+pub mod Commented
 pub mod InText
 pub mod Overlay
 pub mod Editing

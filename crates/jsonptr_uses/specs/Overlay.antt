@@ -7,9 +7,9 @@ use Rattle.jsonptr.specs.Delete.{NamesNothing}
 use Rattle.jsonptr.specs.Resolve.{Refuses}
 use Rattle.jsonptr.specs.declared.resolve.Error.{Error}
 
--- `FindsIn upper lower ts value`: `ts` resolve to `value` in `upper`, or to nothing there and to `value` in `lower`.
-abbrev pub FindsIn : Data → Data → List Text → Data → Type 0
-FindsIn upper lower ts value =
+-- `FindsInLayers upper lower ts value`: `ts` resolve to `value` in `upper`, or to nothing there and to `value` in `lower`.
+abbrev pub FindsInLayers : Data → Data → List Text → Data → Type 0
+FindsInLayers upper lower ts value =
     FindsValue upper ts value ⊎ (NamesNothing (nodes upper) ts × FindsValue lower ts value)
 
 -- `RefusesIn upper lower ts e`: `ts` resolve to nothing in either, and `e` reports why for `lower`.

@@ -30,13 +30,13 @@ abbrev pub AllLeadBack : Data → List (Undo Value) → Data → Type 0
 AllLeadBack old [] new = new ≡ old
 AllLeadBack old (u ∷ us) new = (mid : Data) × LeadsBack old u mid × AllLeadBack mid us new
 
--- `value_of e`: the value that the editor `e` holds.
-abbrev pub value_of : Editor → Value
-value_of e = e.document
+-- `editor_value e`: the value that the editor `e` holds.
+abbrev pub editor_value : Editor → Value
+editor_value e = e.document
 
--- `document_of e`: the data of that value.
-abbrev pub document_of : Editor → Data
-document_of e = view e.document
+-- `editor_document e`: the data of that value.
+abbrev pub editor_document : Editor → Data
+editor_document e = view e.document
 
 -- `undos_of e`: the undos of the editor `e`, the oldest one first.
 abbrev pub undos_of : Editor → List (Undo Value)

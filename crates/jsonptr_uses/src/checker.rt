@@ -2,7 +2,7 @@
 //! types.
 ghost use Rattle.std.specs.Prelude.{◌≡◌, ◌↔◌, [], All, IsTrue, IfOk};
 ghost use Rattle.serde_json.specs.View.{view};
-ghost use Rattle.jsonptr_uses.specs.Checking.{kind_of, IsMet, AreFailing};
+ghost use Rattle.jsonptr_uses.specs.Checking.{json_type, IsMet, AreFailing};
 
 use jsonptr::Pointer;
 use serde_json::Value;
@@ -10,7 +10,7 @@ use std::alloc::{AllocError, Global};
 
 /// The types of JSON values.
 #[derive(Clone, Copy, Debug, PartialEq, Eq)]
-pub enum Kind {
+pub enum JsonType {
     /// `null`.
     Null,
     /// `true` or `false`.
@@ -31,7 +31,7 @@ pub struct Required<'a> {
     /// The location of the value.
     pub pointer: Pointer<'a>,
     /// The type of the value.
-    pub kind: Kind,
+    pub kind: JsonType,
 }
 
 /// Returns the requirements that the document does not meet, in the order of the list. A
@@ -73,15 +73,15 @@ fn is_met(alloc: Global, document: &Value, requirement: &Required<'_>) -> Result
 }
 
 /// Returns the type of a value.
-fn type_of(value: &Value) -> Kind
-    ensures { result ≡ kind_of (view value.now) }
+fn type_of(value: &Value) -> JsonType
+    ensures { result ≡ json_type (view value.now) }
 {
     match value {
-        Value::Null => Kind::Null,
-        Value::Bool(_) => Kind::Boolean,
-        Value::Number(_) => Kind::Number,
-        Value::String(_) => Kind::String,
-        Value::Array(_) => Kind::Array,
-        Value::Object(_) => Kind::Object,
+        Value::Null => JsonType::Null,
+        Value::Bool(_) => JsonType::Boolean,
+        Value::Number(_) => JsonType::Number,
+        Value::String(_) => JsonType::String,
+        Value::Array(_) => JsonType::Array,
+        Value::Object(_) => JsonType::Object,
     }
 }

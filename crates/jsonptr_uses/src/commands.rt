@@ -5,10 +5,10 @@ ghost use Rattle.jsonptr.specs.Json.{nodes};
 ghost use Rattle.jsonptr.specs.Pointer.{tokens};
 ghost use Rattle.jsonptr_edit_in_text.specs.EditInText.{AssignsInText};
 
-use jptr_tasks::failure::Failure;
 use jptr_tasks::layout::Layout;
 use jptr_tasks::result::result_in_text;
 use jptr_tasks::task::Task;
+use jptr_tasks::task_error::TaskError;
 use jsonptr::Pointer;
 use jsonptr_edit_in_text::RawValue;
 use serde_json::Value;
@@ -25,13 +25,13 @@ pub fn with_string(
     text: &str,
     pointer: Pointer<'_>,
     value: &str,
-) -> Result<String, Failure>
+) -> Result<String, TaskError>
     ensures { IfOk result (λ s. AssignsInText text.now (tokens pointer.entry)
         (nodes (string value.now)) (string_bytes s)) }
 {
     let value = Value::String(String::from_str(alloc, value)?);
     let Some(value) = RawValue::from_value(alloc, &value)? else {
-        return Err(Failure::TooDeep);
+        return Err(TaskError::TooDeep);
     };
     let task = Task::Set(pointer, value);
     result_in_text(alloc, &task, Layout::Kept, text)

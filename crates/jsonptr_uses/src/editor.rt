@@ -10,7 +10,7 @@ ghost use Rattle.jsonptr.specs.Node.{Path, NodeMap, Names};
 ghost use Rattle.jsonptr.specs.Pointer.{tokens};
 ghost use Rattle.jsonptr.specs.Removing.{Deletes};
 ghost use Rattle.jsonptr.specs.Resolve.{Refuses};
-ghost use Rattle.jsonptr_uses.specs.Undoing.{IsAbove, LeadsBack, IsOpenedOn, document_of, undos_of, value_of};
+ghost use Rattle.jsonptr_uses.specs.Undoing.{IsAbove, LeadsBack, IsOpenedOn, editor_document, undos_of, editor_value};
 
 use jsonptr::tree::json::json_law;
 use jsonptr::tree::writing::put_law;
@@ -40,14 +40,14 @@ impl Editor {
 
     /// Returns the document, with all changes that are not undone.
     pub fn document(&self) -> &Value
-        ensures { result.now ≡ value_of self.now }
+        ensures { result.now ≡ editor_value self.now }
     {
         &self.document
     }
 
     /// Returns the document, and drops the undos.
     pub fn into_document(self) -> Value
-        ensures { result ≡ value_of self }
+        ensures { result ≡ editor_value self }
     {
         self.document
     }
@@ -71,13 +71,13 @@ impl Editor {
         value: Value,
     ) -> Result<(), Fault<assign::Error>>
         ensures assigned { IfOk result (λ _. (was : Option NodeMap)
-            × Assigns (nodes (document_of self.old)) (tokens pointer.entry) (nodes (view value))
-            (nodes (document_of self.new)) was) }
+            × Assigns (nodes (editor_document self.old)) (tokens pointer.entry) (nodes (view value))
+            (nodes (editor_document self.new)) was) }
         ensures opened { (start : Data) → HasSortedKeys (view value)
             → IsOpenedOn start self.old → IsOpenedOn start self.new }
         ensures refused { IfRefused result
-            (RefusesAssign (nodes (document_of self.old)) (tokens pointer.entry)) }
-        ensures stays { OnErr result (document_of self.new ≡ document_of self.old) }
+            (RefusesAssign (nodes (editor_document self.old)) (tokens pointer.entry)) }
+        ensures stays { OnErr result (editor_document self.new ≡ editor_document self.old) }
         ensures undos_stay { OnErr result (undos_of self.new ≡ undos_of self.old) }
     {
         self.undos.reserve(1)?;
@@ -101,14 +101,14 @@ impl Editor {
         pointer: Pointer<'_>,
     ) -> Result<(), Fault<resolve::Error>>
         ensures named { IfOk result (λ _. (w : Path)
-            × Names (nodes (document_of self.old)) (tokens pointer.entry) w) }
-        ensures removed { IfOk result (λ _. Deletes (nodes (document_of self.old))
-            (tokens pointer.entry) (nodes null) (nodes (document_of self.new))) }
+            × Names (nodes (editor_document self.old)) (tokens pointer.entry) w) }
+        ensures removed { IfOk result (λ _. Deletes (nodes (editor_document self.old))
+            (tokens pointer.entry) (nodes null) (nodes (editor_document self.new))) }
         ensures opened { (start : Data)
             → IsOpenedOn start self.old → IsOpenedOn start self.new }
         ensures refused { IfRefused result
-            (Refuses (nodes (document_of self.old)) (tokens pointer.entry)) }
-        ensures stays { OnErr result (document_of self.new ≡ document_of self.old) }
+            (Refuses (nodes (editor_document self.old)) (tokens pointer.entry)) }
+        ensures stays { OnErr result (editor_document self.new ≡ editor_document self.old) }
         ensures undos_stay { OnErr result (undos_of self.new ≡ undos_of self.old) }
     {
         self.undos.reserve(1)?;
@@ -128,7 +128,7 @@ impl Editor {
             → IsOpenedOn start self.old → IsOpenedOn start self.new }
         ensures fewer { IfOk result (λ _.
             length (undos_of self.new) ≡ length (undos_of self.old) - 1) }
-        ensures stays { OnErr result ((document_of self.new ≡ document_of self.old)
+        ensures stays { OnErr result ((editor_document self.new ≡ editor_document self.old)
             × (undos_of self.new ≡ undos_of self.old)) }
         ensures never_refused { (start : Data)
             → IsOpenedOn start self.old → IsRefused result → ⊥ }
@@ -154,7 +154,7 @@ impl Editor {
     /// rest.
     pub fn undo_all(&mut self, alloc: Global) -> Result<(), Fault<resolve::Error>>
         ensures restored { IfOk result (λ _. (start : Data)
-            → IsOpenedOn start self.old → document_of self.new ≡ start) }
+            → IsOpenedOn start self.old → editor_document self.new ≡ start) }
         ensures opened { (start : Data)
             → IsOpenedOn start self.old → IsOpenedOn start self.new }
         ensures never_refused { (start : Data)

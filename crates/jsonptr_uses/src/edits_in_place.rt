@@ -7,7 +7,7 @@ ghost use Rattle.jsonptr.specs.Pointer.{tokens};
 ghost use Rattle.jsonptr.specs.declared.resolve.Error.{Error};
 ghost use Rattle.jsonptr_in_text.specs.InText.{FindsInText, RefusesInText};
 ghost use Rattle.jsonptr_edit_in_text.specs.Bytes.{AssignsBytes, DeletesBytes};
-ghost use Rattle.jsonptr_edit_in_text.specs.EditInText.{AssignsInText, DeletesInText, LacksInText, IsAssignError, IsReadFault};
+ghost use Rattle.jsonptr_edit_in_text.specs.EditInText.{AssignsInText, DeletesInText, LacksInText, IsAssignError, IsEditReadError};
 ghost use Rattle.jsonptr_edit_in_text.specs.PatchInText.{PatchesInText, MovesBytes, IsPatchFault};
 ghost use Rattle.jsonptr_edit_in_text.specs.InPlace.{IsInPlaceError, StaysOneLine};
 ghost use Rattle.jsonptr_edit_in_text.specs.declared.edited.EditError.TheVariants.{Refused};
@@ -77,7 +77,7 @@ pub fn without(
         ⊎ (LacksInText text.now (tokens pointer.entry) × (string_bytes s ≡ text.now))) }
     ensures line { IfOk result (λ s. StaysOneLine text.now (string_bytes s)) }
     ensures refused { IfErr result (IsInPlaceError
-        (DeletesInText text.now (tokens pointer.entry)) (IsReadFault text.now)) }
+        (DeletesInText text.now (tokens pointer.entry)) (IsEditReadError text.now)) }
 {
     let mut buffers = Buffers::new(alloc);
     match delete_in_place(alloc, &mut buffers, text, pointer)? {
@@ -138,7 +138,7 @@ pub fn migrated(
     ensures migrated { IfOk result (λ o. MatchOption o
         ((e : a_patch_error) × IsPatchFault text.now operations.items (Refused e))
         (λ s. PatchesInText text.now operations.items (string_bytes s))) }
-    ensures failed { IfErr result (IsPatchFault text.now operations.items) }
+    ensures refused { IfErr result (IsPatchFault text.now operations.items) }
     ensures not_refused { IfErr result (λ e. (f : a_patch_error) → e ≡ Refused f → ⊥) }
 {
     match apply_in_text(alloc, text, operations) {
@@ -163,7 +163,7 @@ pub fn published(
 ) -> Result<String, EditError<Infallible>>
     ensures deleted { IfOk result (λ s. DeletesInText text.now (tokens secret.entry) (string_bytes s)
         ⊎ (LacksInText text.now (tokens secret.entry) × (string_bytes s ≡ text.now))) }
-    ensures refused { IfErr result (IsReadFault text.now) }
+    ensures refused { IfErr result (IsEditReadError text.now) }
 {
     match delete_in_text(alloc, text, secret)? {
         Some(edited) => Ok(edited.into_string()),

@@ -2,7 +2,7 @@
 ghost use Rattle.std.specs.Prelude.{IfOk, string_bytes};
 ghost use Rattle.toml.specs.View.{view};
 ghost use Rattle.jsonptr.specs.Pointer.{tokens};
-ghost use Rattle.jsonptr_uses.specs.EditsInToml.{Replaces};
+ghost use Rattle.jsonptr_uses.specs.EditsInToml.{AssignsAndDeletes};
 
 use jsonptr::Pointer;
 use jsonptr_edit_in_toml::{InPlaceError, assign_in_place, delete_in_place};
@@ -23,7 +23,7 @@ pub fn replace_in_toml(
     value: Value,
     old: Pointer<'_>,
 ) -> Result<String, InPlaceError>
-    ensures { IfOk result (λ s. Replaces text.now (tokens new.entry) (view value)
+    ensures { IfOk result (λ s. AssignsAndDeletes text.now (tokens new.entry) (view value)
         (tokens old.entry) (string_bytes s)) }
 {
     let both = assign_in_place(alloc, text, new, value)?;

@@ -19,9 +19,9 @@ use std::alloc::Global;
 pub fn sort_exactly(alloc: Global, text: &str) -> Result<String, ExactError>
     ensures sorted { IfOk result (λ s.
         (d : Data) × (read text.now ≡ Some d) × IsInOrder (string_bytes s) d) }
-    ensures kept { IfOk result (λ _. KeepsDigits text.now) }
+    ensures digits { IfOk result (λ _. KeepsDigits text.now) }
     ensures refused { IfErr result (IsExactError text.now) }
 {
     let document = read_exactly(alloc, text)?;
-    Ok(to_string(&document, alloc)?)
+    Ok(to_string(alloc, &document)?)
 }

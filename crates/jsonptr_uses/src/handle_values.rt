@@ -1,22 +1,29 @@
 //! Values of documents in handles, and of texts, as a program in C asks for them.
-ghost use Rattle.std.specs.Prelude.{◌≡◌, ◌↔◌, Some, IfOk, IfErr, IsTrue, MatchOption, length, take};
+ghost use Rattle.std.specs.Prelude.{◌≡◌, ◌↔◌, Some, IfOk, IfErr, IsTrue, List, MatchOption, length, take};
 ghost use Rattle.serde_json.specs.Data.{Data};
 ghost use Rattle.serde_json.specs.Read.{read};
 ghost use Rattle.serde_json.specs.View.{view};
+ghost use Rattle.jsonptr.specs.Text.{Text};
 ghost use Rattle.jsonptr.specs.declared.resolve.Error.{Error};
+ghost use Rattle.jsonptr_in_text.specs.InText.{FindsInText};
+ghost use Rattle.jsonptr_json_edits.specs.Child.{IsValueText};
+ghost use Rattle.jsonptr_edit_in_text.specs.Locating.{IsOutside};
 ghost use Rattle.jsonptr_c_calls.specs.InTexts.{FindsTextIn, IsNotPrintedFrom};
-ghost use Rattle.jsonptr_c_calls.specs.Kinds.{kind_of};
+ghost use Rattle.jsonptr_c_calls.specs.Kinds.{kind_number};
+ghost use Rattle.jsonptr_c_calls.specs.Locations.{IsNotLocated, IsNotPointedAt, PointsAt};
 ghost use Rattle.jsonptr_c_calls.specs.Patches.{IsDiffText};
-ghost use Rattle.jsonptr_c_calls.specs.Values.{FindsAt, FindsString, HoldsWith};
-ghost use Rattle.jsonptr_c_calls.specs.declared.failure.Failure.TheVariants.{NotFound};
-ghost use Rattle.jsonptr_c_calls.specs.declared.values.Layout.TheVariants.{Compact};
+ghost use Rattle.jsonptr_c_calls.specs.Pointers.{HasTokens};
+ghost use Rattle.jsonptr_c_calls.specs.Values.{FindsAtPointer, FindsString, HoldsWith};
+ghost use Rattle.jsonptr_c_calls.specs.declared.call_error.CallError.TheVariants.{NotFound};
+ghost use Rattle.jsonptr_c_calls.specs.declared.values.TextLayout.TheVariants.{Compact};
 
+use jsonptr_c_calls::call_error::CallError;
 use jsonptr_c_calls::documents::{diff, free, node_at, parse, string_at};
-use jsonptr_c_calls::failure::Failure;
 use jsonptr_c_calls::kind::STRING;
+use jsonptr_c_calls::locations::{locate_in, pointer_at_in};
 use jsonptr_c_calls::texts::print_in;
-use jsonptr_c_calls::values::Layout;
-use jsonptr_c_handle::document::Document;
+use jsonptr_c_calls::values::TextLayout;
+use jsonptr_c_handle::handle::Handle;
 use std::alloc::Global;
 
 /// Copies the string that the pointer resolves to in a JSON text to the buffer, and returns its
@@ -30,11 +37,11 @@ pub fn string_in(
     text: &[u8],
     pointer: &[u8],
     out: &mut [u8],
-) -> Result<usize, Failure>
+) -> Result<usize, CallError>
     ensures { IfOk result (λ n. (d : Data) × (read text.now ≡ Some d)
         × FindsString d pointer.now (take n out.new)) }
 {
-    let mut document = Document::empty();
+    let mut document = Handle::empty();
     parse(alloc, &mut document, text)?;
     let copied = string_at(alloc, &mut document, pointer, out);
     free(alloc, &mut document);
@@ -46,9 +53,9 @@ pub fn string_in(
 /// # Errors
 ///
 /// Those of `node_at`.
-pub fn is_string(alloc: Global, document: &mut Document, pointer: &[u8]) -> Result<bool, Failure>
+pub fn is_string(alloc: Global, document: &mut Handle, pointer: &[u8]) -> Result<bool, CallError>
     ensures { IfOk result (λ is. HoldsWith document.old (λ v. (e : Data)
-        × FindsAt (view v) pointer.now e × (IsTrue is ↔ (kind_of e ≡ 3)))) }
+        × FindsAtPointer (view v) pointer.now e × (IsTrue is ↔ (kind_number e ≡ 3)))) }
 {
     let node = node_at(alloc, document, pointer)?;
     Ok(node.kind == STRING)
@@ -65,12 +72,12 @@ pub fn changes_between(
     old: &[u8],
     new: &[u8],
     out: &mut [u8],
-) -> Result<usize, Failure>
+) -> Result<usize, CallError>
     ensures { IfOk result (λ n. (d m : Data) × (read old.now ≡ Some d) × (read new.now ≡ Some m)
         × IsDiffText Compact d m (take n out.new)) }
 {
-    let mut first = Document::empty();
-    let mut second = Document::empty();
+    let mut first = Handle::empty();
+    let mut second = Handle::empty();
     parse(alloc, &mut first, old)?;
     let copied = changes_to(alloc, &mut first, &mut second, new, out);
     free(alloc, &mut first);
@@ -86,16 +93,16 @@ pub fn changes_between(
 /// Those of `parse` and `diff`.
 fn changes_to(
     alloc: Global,
-    first: &mut Document,
-    second: &mut Document,
+    first: &mut Handle,
+    second: &mut Handle,
     text: &[u8],
     out: &mut [u8],
-) -> Result<usize, Failure>
+) -> Result<usize, CallError>
     ensures { IfOk result (λ n. HoldsWith first.old (λ v. (m : Data) × (read text.now ≡ Some m)
         × IsDiffText Compact (view v) m (take n out.new))) }
 {
     parse(alloc, second, text)?;
-    diff(alloc, first, second, Layout::Compact, out)
+    diff(alloc, first, second, TextLayout::Compact, out)
 }
 
 /// Copies the JSON text of the value that the pointer resolves to in a text to the buffer, and returns
@@ -103,22 +110,59 @@ fn changes_to(
 ///
 /// # Errors
 ///
-/// Those of `print_in`, except [`Failure::NotFound`].
+/// Those of `print_in`, except [`CallError::NotFound`].
 pub fn field_in(
     alloc: Global,
     text: &[u8],
     pointer: &[u8],
     out: &mut [u8],
-) -> Result<Option<usize>, Failure>
+) -> Result<Option<usize>, CallError>
     ensures found { IfOk result (λ found. MatchOption found
         ((e : Error) × IsNotPrintedFrom Compact text.now pointer.now (length out.old) (NotFound e))
         (λ n. FindsTextIn Compact text.now pointer.now (take n out.new))) }
-    ensures failed { IfErr result
+    ensures refused { IfErr result
         (IsNotPrintedFrom Compact text.now pointer.now (length out.old)) }
 {
-    match print_in(alloc, text, pointer, Layout::Compact, out) {
+    match print_in(alloc, text, pointer, TextLayout::Compact, out) {
         Ok(copied) => Ok(Some(copied)),
-        Err(Failure::NotFound(_error)) => Ok(None),
+        Err(CallError::NotFound(_error)) => Ok(None),
+        Err(failure) => Err(failure),
+    }
+}
+
+/// Returns the bytes of the value that the pointer resolves to in a JSON text, as they are written.
+///
+/// # Errors
+///
+/// Those of `locate_in`.
+pub fn bytes_in<'t>(alloc: Global, text: &'t [u8], pointer: &[u8]) -> Result<&'t [u8], CallError>
+    ensures found { IfOk result (λ piece. (ts : List Text) × (v : Data) × HasTokens pointer.now ts
+        × FindsInText text.now ts v × IsValueText v piece.now) }
+    ensures refused { IfErr result (IsNotLocated text.now pointer.now) }
+{
+    let span = locate_in(alloc, text, pointer)?;
+    Ok(&text[span.start..span.end])
+}
+
+/// Copies the pointer of the value at the offset in a JSON text to the buffer, and returns its length.
+/// Returns `None` if no value is there.
+///
+/// # Errors
+///
+/// Those of `pointer_at_in`, except [`CallError::NoValue`].
+pub fn pointer_under(
+    alloc: Global,
+    text: &[u8],
+    offset: usize,
+    out: &mut [u8],
+) -> Result<Option<usize>, CallError>
+    ensures found { IfOk result (λ found. MatchOption found (IsOutside text.now offset)
+        (λ n. PointsAt text.now offset (take n out.new))) }
+    ensures refused { IfErr result (IsNotPointedAt text.now offset (length out.old)) }
+{
+    match pointer_at_in(alloc, text, offset, out) {
+        Ok(copied) => Ok(Some(copied)),
+        Err(CallError::NoValue { .. }) => Ok(None),
         Err(failure) => Err(failure),
     }
 }

@@ -4,13 +4,13 @@ ghost use Rattle.serde_json.specs.Data.{Data};
 ghost use Rattle.serde_json.specs.Read.{read};
 ghost use Rattle.serde_json.specs.View.{view};
 ghost use Rattle.jsonptr_c_calls.specs.Patches.{AppliesText};
-ghost use Rattle.jsonptr_c_calls.specs.declared.values.Layout.TheVariants.{Compact};
+ghost use Rattle.jsonptr_c_calls.specs.declared.values.TextLayout.TheVariants.{Compact};
 ghost use Rattle.jsonptr_c_calls.specs.Values.{HoldsWith, FindsTextOf};
 
+use jsonptr_c_calls::call_error::CallError;
 use jsonptr_c_calls::documents::{free, parse, patch, print_at};
-use jsonptr_c_calls::failure::Failure;
-use jsonptr_c_calls::values::Layout;
-use jsonptr_c_handle::document::Document;
+use jsonptr_c_calls::values::TextLayout;
+use jsonptr_c_handle::handle::Handle;
 use std::alloc::Global;
 
 /// Applies a patch document to a JSON text, copies the value that the pointer resolves to in the new
@@ -25,11 +25,11 @@ pub fn value_after_patch(
     operations: &[u8],
     pointer: &[u8],
     out: &mut [u8],
-) -> Result<usize, Failure>
+) -> Result<usize, CallError>
     ensures { IfOk result (λ n. (d m : Data) × (read text.now ≡ Some d)
         × AppliesText operations.now d m × FindsTextOf Compact m pointer.now (take n out.new)) }
 {
-    let mut document = Document::empty();
+    let mut document = Handle::empty();
     parse(alloc, &mut document, text)?;
     let copied = patched_value(alloc, &mut document, operations, pointer, out);
     free(alloc, &mut document);
@@ -44,14 +44,14 @@ pub fn value_after_patch(
 /// Those of `patch` and `print_at`.
 fn patched_value(
     alloc: Global,
-    document: &mut Document,
+    document: &mut Handle,
     operations: &[u8],
     pointer: &[u8],
     out: &mut [u8],
-) -> Result<usize, Failure>
+) -> Result<usize, CallError>
     ensures { IfOk result (λ n. HoldsWith document.old (λ v. (m : Data)
         × AppliesText operations.now (view v) m × FindsTextOf Compact m pointer.now (take n out.new))) }
 {
     patch(alloc, document, operations)?;
-    print_at(alloc, document, pointer, Layout::Compact, out)
+    print_at(alloc, document, pointer, TextLayout::Compact, out)
 }

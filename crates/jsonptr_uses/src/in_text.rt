@@ -6,9 +6,9 @@ ghost use Rattle.serde_json.specs.Read.{read};
 ghost use Rattle.jsonptr.specs.Pointer.{tokens};
 ghost use Rattle.jsonptr_in_text.specs.InText.{FindsInText};
 ghost use Rattle.jsonptr_uses.specs.InText.{IsNumberAt, IsRangeAt};
-ghost use Rattle.jsonptr_uses.specs.declared.sessions.TextFault.TheVariants.{NotJson};
+ghost use Rattle.jsonptr_uses.specs.declared.sessions.TextError.TheVariants.{NotJson};
 
-use crate::sessions::TextFault;
+use crate::sessions::TextError;
 use jsonptr::Pointer;
 use jsonptr_in_text::{InTextError, resolve_in_slice, resolve_in_text};
 use std::alloc::Global;
@@ -20,13 +20,13 @@ use std::alloc::Global;
 ///
 /// # Errors
 ///
-/// [`TextFault::NotJson`] if the text is not JSON, and [`TextFault::Memory`] if an allocation
+/// [`TextError::NotJson`] if the text is not JSON, and [`TextError::Memory`] if an allocation
 /// fails.
 pub fn number_in_text(
     alloc: Global,
     text: &str,
     pointer: Pointer<'_>,
-) -> Result<Option<u64>, TextFault>
+) -> Result<Option<u64>, TextError>
     ensures number { IfOk result (λ n. (d : Data) × (read text.now ≡ Some d)
         × IsNumberAt d (tokens pointer.entry) n) }
     ensures unread { result ≡ Err NotJson → read text.now ≡ None }
@@ -34,8 +34,8 @@ pub fn number_in_text(
     match resolve_in_text(alloc, text, pointer) {
         Ok(value) => Ok(value.as_u64()),
         Err(InTextError::Resolve(_error)) => Ok(None),
-        Err(InTextError::NotJson) => Err(TextFault::NotJson),
-        Err(InTextError::Memory(error)) => Err(TextFault::Memory(error)),
+        Err(InTextError::NotJson) => Err(TextError::NotJson),
+        Err(InTextError::Memory(error)) => Err(TextError::Memory(error)),
     }
 }
 
@@ -53,7 +53,7 @@ pub fn range_in_text(
     text: &str,
     first: Pointer<'_>,
     last: Pointer<'_>,
-) -> Result<Option<(u64, u64)>, TextFault>
+) -> Result<Option<(u64, u64)>, TextError>
     ensures range { IfOk result (λ r. (d : Data) × (read text.now ≡ Some d)
         × IsRangeAt d (tokens first.entry) (tokens last.entry) r) }
 {

@@ -5,34 +5,43 @@ ghost use Rattle.serde_json.specs.Data.{Data};
 ghost use Rattle.serde_json.specs.Read.{read};
 ghost use Rattle.jsonptr.specs.Pointer.{tokens};
 ghost use Rattle.jsonptr.specs.Text.{Text};
-ghost use Rattle.jsonptr_edit_in_text.specs.Carrying.{value_of};
-ghost use Rattle.jsonptr_lines.specs.Lines.{AreLines};
-ghost use Rattle.jsonptr_lines.specs.Streams.{ForInput};
+ghost use Rattle.jsonptr_edit_in_text.specs.Carrying.{value_of_raw};
+ghost use Rattle.jsonptr_io.specs.Lines.{AreLines};
+ghost use Rattle.jsonptr_io.specs.Streams.{ForInput};
 ghost use Rattle.jsonptr_paths.specs.Listing.{Lists};
 ghost use Rattle.jsonptr_paths.specs.declared.listing.Listed.TheVariants.{Leaves};
 ghost use Rattle.jsonptr_paths.specs.declared.reading.LineError.{LineError};
 ghost use Rattle.jptr_tasks.specs.Layouts.{ReadsBack};
 ghost use Rattle.jptr_tasks.specs.LineResults.{StopsRun};
-ghost use Rattle.jptr_tasks.specs.declared.failure.Failure.TheVariants.{BadLine};
+ghost use Rattle.jptr_tasks.specs.declared.task_error.TaskError.TheVariants.{BadLine};
 ghost use Rattle.jptr_tasks.specs.declared.layout.Layout.TheVariants.{Compact};
 ghost use Rattle.jsonptr_uses.specs.JsonLines.{TagsEach};
 
-use jptr_tasks::failure::Failure;
 use jptr_tasks::laws::paths_law;
 use jptr_tasks::layout::Layout;
 use jptr_tasks::line::LineTask;
 use jptr_tasks::lines::{Ended, run_lines};
 use jptr_tasks::paths::{run_build, run_list};
 use jptr_tasks::task::Task;
+use jptr_tasks::task_error::TaskError;
 use jsonptr::Pointer;
 use jsonptr_edit_in_text::RawValue;
-use jsonptr_json_search::outcome::ReadError;
 use jsonptr_paths::listing::Listed;
 use jsonptr_paths::text_listing::list_text;
+use jsonptr_value::ReadError;
 use std::alloc::Global;
 use std::io;
 
-/// Assigns the value at the pointer in the document on each line, as a log is tagged with its source.
+/// A value for each line of a log, and where it is assigned.
+#[derive(Debug, Drop)]
+pub struct Tag<'a> {
+    /// Where.
+    pub pointer: Pointer<'a>,
+    /// The value.
+    pub value: RawValue,
+}
+
+/// Assigns the tag in the document on each line, as a log is tagged with its source.
 /// Returns whether each line has a result. If not, the others are on `errors`, with their numbers.
 ///
 /// # Errors
@@ -40,22 +49,21 @@ use std::io;
 /// Those of [`run_lines`].
 pub fn tag_each_line<R: io::BufRead, W: io::Write, E: io::Write>(
     alloc: Global,
-    pointer: Pointer<'_>,
-    value: RawValue,
+    tag: Tag<'_>,
     input: &mut R,
     output: &mut W,
     errors: &mut E,
-) -> Result<bool, Failure>
+) -> Result<bool, TaskError>
     ensures tagged { IfOk result (λ all. IsTrue all → ForInput (R.remaining input.old)
         (λ bytes. (ls : List Text) × (out : Text) × AreLines bytes ls
-        × TagsEach (tokens pointer.entry) (value_of value) ls out
+        × TagsEach (tokens tag.entry.pointer) (value_of_raw tag.entry.value) ls out
         × Appends (W.contents output.old) (W.contents output.new) out)) }
     ensures reported { IfOk result (λ all. IsFalse all → (report : Text) × (report ≢ [])
         × Appends (E.contents errors.old) (E.contents errors.new) report) }
-    ensures failed { IfErr result StopsRun }
+    ensures refused { IfErr result StopsRun }
 {
     let run = LineTask {
-        task: Task::Set(pointer, value),
+        task: Task::Set(tag.pointer, tag.value),
         layout: Layout::Kept,
         fallback: None,
         name: String::from_str(alloc, "log")?,
@@ -77,7 +85,7 @@ pub fn copy_through_lines<R: io::Read, W: io::Write>(
     alloc: Global,
     input: &mut R,
     output: &mut W,
-) -> Result<(), Failure>
+) -> Result<(), TaskError>
     ensures copied { IfOk result (λ _. ForInput (R.remaining input.old)
         (λ bytes. (d : Data) × (shown : Text)
         × (read bytes ≡ Some d) × ReadsBack Compact d shown

@@ -17,6 +17,7 @@
 //! - [`edits_in_place`]: edits of a text that change only their own bytes.
 //! - [`given_texts`]: a patch that is applied with the texts of its values.
 //! - [`streams`]: a document from a reader to a writer.
+//! - [`commented`]: a setting of a text with comments.
 //! - [`toml_files`]: a TOML file of settings.
 //! - [`edits_in_toml`]: two edits in a TOML text, in place.
 //! - [`handles`]: a document in a handle, as a program in C uses it.
@@ -33,6 +34,7 @@
 
 pub mod checker;
 pub mod commands;
+pub mod commented;
 pub mod cursor_editor;
 pub mod differences;
 pub mod editor;

@@ -5,7 +5,7 @@ ghost use Rattle.jsonptr.specs.Fault.{IfRefused};
 ghost use Rattle.jsonptr.specs.Json.{HasSortedKeys};
 ghost use Rattle.jsonptr.specs.Pointer.{tokens};
 ghost use Rattle.jsonptr.specs.Text.{HasNoTilde, text};
-ghost use Rattle.jsonptr_uses.specs.Overlay.{FindsIn, RefusesIn};
+ghost use Rattle.jsonptr_uses.specs.Overlay.{FindsInLayers, RefusesIn};
 
 use jsonptr::{Assign, Delete, Fault, Pointer, Resolve, assign, resolve};
 use serde_json::Value;
@@ -35,7 +35,7 @@ impl Resolve for Overlay {
 
     type Error = resolve::Error;
 
-    ghost finds = { λ o ts value. FindsIn (view o.upper) (view o.lower) ts (view value) };
+    ghost finds = { λ o ts value. FindsInLayers (view o.upper) (view o.lower) ts (view value) };
 
     ghost refuses = { λ o ts e. RefusesIn (view o.upper) (view o.lower) ts e };
 
@@ -111,7 +111,7 @@ pub fn found_in<'o>(
     pointer: Pointer<'_>,
 ) -> Result<&'o Value, Fault<resolve::Error>>
     ensures found { IfOk result (λ value.
-        FindsIn (view overlay.now.upper) (view overlay.now.lower) (tokens pointer.entry)
+        FindsInLayers (view overlay.now.upper) (view overlay.now.lower) (tokens pointer.entry)
         (view value.now)) }
     ensures refused { IfRefused result
         (RefusesIn (view overlay.now.upper) (view overlay.now.lower) (tokens pointer.entry)) }

@@ -5,16 +5,16 @@ ghost use Rattle.serde_json.specs.Read.{read};
 ghost use Rattle.serde_json.specs.View.{view};
 ghost use Rattle.jsonptr.specs.Text.{Text};
 ghost use Rattle.jsonptr_edit_in_text.specs.RawPatching.{RawPatchBytes};
-ghost use Rattle.jptr_tasks.specs.Results.{PatchesBy};
+ghost use Rattle.jptr_tasks.specs.Results.{PatchesByInLayout};
 ghost use Rattle.jptr_tasks.specs.declared.layout.Layout.TheVariants.{Kept};
 
-use jptr_tasks::failure::Failure;
 use jptr_tasks::inverse::inverse_of;
 use jptr_tasks::laws::inverse_law;
 use jptr_tasks::layout::Layout;
 use jptr_tasks::raw_patch::RawPatch;
 use jptr_tasks::result::result_in_text;
 use jptr_tasks::task::Task;
+use jptr_tasks::task_error::TaskError;
 use std::alloc::Global;
 
 /// The text of a document after a patch, and the text of a patch that takes it back.
@@ -32,14 +32,14 @@ pub struct PatchedText {
 /// # Errors
 ///
 /// Those of [`inverse_of`] and of [`Task::Patch`].
-pub fn patched_text(alloc: Global, text: &str, patch: RawPatch) -> Result<PatchedText, Failure>
+pub fn patched_text(alloc: Global, text: &str, patch: RawPatch) -> Result<PatchedText, TaskError>
     ensures patched { IfOk result (λ p.
-        PatchesBy text.now (view patch.document) Kept (string_bytes p.new)) }
+        PatchesByInLayout text.now (view patch.document) Kept (string_bytes p.new)) }
     ensures carries { IfOk result (λ p.
         RawPatchBytes text.now patch.operations.items (string_bytes p.new)) }
     ensures undone { IfOk result (λ p. (d back : Data) (again : Text)
         → read text.now ≡ Some d → read (string_bytes p.undo) ≡ Some back
-        → PatchesBy (string_bytes p.new) back Kept again → read again ≡ Some d) }
+        → PatchesByInLayout (string_bytes p.new) back Kept again → read again ≡ Some d) }
 {
     inverse_law();
     let inverse = inverse_of(alloc, text, &patch.document, Layout::Compact)?;

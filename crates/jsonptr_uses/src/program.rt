@@ -16,7 +16,7 @@ use std::alloc::Global;
 pub fn printed_line(alloc: Global, words: &[String], input: &[u8]) -> Result<Vec<u8>, RunFault>
     ensures line { IfOk result (λ out. ForLine (map string_bytes words.now) (Some input.now)
         (λ line. out.items ≡ line)) }
-    ensures failed { IfErr result (IsRefusedSo (map string_bytes words.now) (Some input.now)) }
+    ensures refused { IfErr result (IsRefusedSo (map string_bytes words.now) (Some input.now)) }
 {
     let mut rest = input;
     let mut output = Vec::new(alloc);
@@ -38,7 +38,7 @@ pub fn printed_value(
     ensures value { IfOk result (λ value. NeedInput (map string_bytes words.now)
         → ForRequest (map string_bytes words.now)
         (λ request. HasValueOf request input.now (option_map view value))) }
-    ensures failed { IfErr result (IsRefusedSo (map string_bytes words.now) (Some input.now)) }
+    ensures refused { IfErr result (IsRefusedSo (map string_bytes words.now) (Some input.now)) }
 {
     let mut rest = input;
     let mut output = Vec::new(alloc);

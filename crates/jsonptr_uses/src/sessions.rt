@@ -9,7 +9,7 @@ ghost use Rattle.jsonptr_session.specs.Machine.{State, Runs};
 ghost use Rattle.jsonptr_session.specs.Session.{command_of, answer_of};
 ghost use Rattle.jsonptr_session.specs.Order.{CallHas, ReplyHas};
 ghost use Rattle.jsonptr_uses.specs.Sessions.{text_map, string_map, IsJsonString};
-ghost use Rattle.jsonptr_uses.specs.declared.sessions.TextFault.{TextFault};
+ghost use Rattle.jsonptr_uses.specs.declared.sessions.TextError.{TextError};
 
 use jsonptr::PointerBuf;
 use jsonptr::tree::json::json_map_law;
@@ -20,18 +20,18 @@ use std::alloc::{AllocError, Global};
 
 /// Why a session on texts is not run.
 #[derive(Debug, Drop)]
-pub enum TextFault {
+pub enum TextError {
     /// The document or the value of a call is not a JSON text.
     NotJson,
     /// An allocation failed.
     Memory(AllocError),
 }
 
-impl From<AllocError> for TextFault {
-    ghost from_gives = { λ error fault. fault ≡ TextFault.Memory error };
+impl From<AllocError> for TextError {
+    ghost from_gives = { λ error fault. fault ≡ TextError.Memory error };
 
-    fn from(error: AllocError) -> TextFault {
-        TextFault::Memory(error)
+    fn from(error: AllocError) -> TextError {
+        TextError::Memory(error)
     }
 }
 
@@ -52,15 +52,15 @@ pub struct Outcome {
 ///
 /// # Errors
 ///
-/// [`TextFault::NotJson`] if the document or the value of a call is not a JSON text, and
-/// [`TextFault::Memory`] if there is no memory for the values or for the list of replies. No call
+/// [`TextError::NotJson`] if the document or the value of a call is not a JSON text, and
+/// [`TextError::Memory`] if there is no memory for the values or for the list of replies. No call
 /// is then made.
 pub fn run_texts(
     alloc: Global,
     pointer: &mut PointerBuf,
     document: &str,
     calls: &[Call<String>],
-) -> Result<Outcome, TextFault>
+) -> Result<Outcome, TextError>
     ensures read { IfOk result (λ _.
         IsSome (read_text document.now) × All (CallHas IsJsonString) calls.now) }
     ensures runs { IfOk result (λ outcome. Runs json_blank
@@ -72,7 +72,7 @@ pub fn run_texts(
         All (ReplyHas JsonHasSortedKeys) outcome.replies.items) }
     ensures one_value { IfOk result (λ outcome. (d : Data)
         → HasSortedKeys d → nodes d ≡ json_map outcome.document → d ≡ view outcome.document) }
-    ensures not_json { IsErrOf result TextFault.NotJson
+    ensures not_json { IsErrOf result TextError.NotJson
         → IsSome (read_text document.now) → All (CallHas IsJsonString) calls.now → ⊥ }
     ensures unchanged { OnErr result (pointer.new ≡ pointer.old) }
 {
@@ -97,7 +97,7 @@ pub fn run_on_copies(
     second: &mut PointerBuf,
     document: &str,
     calls: &[Call<String>],
-) -> Result<(Outcome, Outcome), TextFault>
+) -> Result<(Outcome, Outcome), TextError>
     ensures pointers { IfOk result (λ both. first.old ≡ second.old
         → All IsSome (map (answer_of json_map) both.0.replies.items)
         → All IsSome (map (answer_of json_map) both.1.replies.items)
@@ -120,12 +120,12 @@ pub fn run_on_copies(
 }
 
 /// Reads the values of the calls from their JSON texts.
-fn read_calls(alloc: Global, calls: &[Call<String>]) -> Result<Vec<Call<Value>>, TextFault>
+fn read_calls(alloc: Global, calls: &[Call<String>]) -> Result<Vec<Call<Value>>, TextError>
     ensures read { IfOk result (λ _. All (CallHas IsJsonString) calls.now) }
     ensures commands { IfOk result (λ made.
         map (command_of json_map) made.items ≡ map (command_of string_map) calls.now) }
     ensures sorted { IfOk result (λ made. All (CallHas JsonHasSortedKeys) made.items) }
-    ensures not_json { IsErrOf result TextFault.NotJson → All (CallHas IsJsonString) calls.now → ⊥ }
+    ensures not_json { IsErrOf result TextError.NotJson → All (CallHas IsJsonString) calls.now → ⊥ }
 {
     let mut made = Vec::new(alloc);
     for call in calls {
@@ -136,12 +136,12 @@ fn read_calls(alloc: Global, calls: &[Call<String>]) -> Result<Vec<Call<Value>>,
 }
 
 /// Reads the value of a call from its JSON text, and copies its other arguments.
-fn read_call(alloc: Global, call: &Call<String>) -> Result<Call<Value>, TextFault>
+fn read_call(alloc: Global, call: &Call<String>) -> Result<Call<Value>, TextError>
     ensures read { IfOk result (λ _. CallHas IsJsonString call.now) }
     ensures command { IfOk result (λ made.
         command_of json_map made ≡ command_of string_map call.now) }
     ensures sorted { IfOk result (λ made. CallHas JsonHasSortedKeys made) }
-    ensures not_json { IsErrOf result TextFault.NotJson → CallHas IsJsonString call.now → ⊥ }
+    ensures not_json { IsErrOf result TextError.NotJson → CallHas IsJsonString call.now → ⊥ }
 {
     match call {
         Call::Parse(text) => Ok(Call::Parse(text.clone()?)),
@@ -160,14 +160,14 @@ fn read_call(alloc: Global, call: &Call<String>) -> Result<Call<Value>, TextFaul
 }
 
 /// Reads a value from a JSON text. Its keys are sorted.
-fn read_value(alloc: Global, text: &str) -> Result<Value, TextFault>
+fn read_value(alloc: Global, text: &str) -> Result<Value, TextError>
     ensures read { IfOk result (λ value. read_text text.now ≡ Some (view value)) }
     ensures sorted { IfOk result (λ value. JsonHasSortedKeys value) }
-    ensures not_json { IsErrOf result TextFault.NotJson → read_text text.now ≡ None }
+    ensures not_json { IsErrOf result TextError.NotJson → read_text text.now ≡ None }
 {
     match Value::from_str(alloc, text) {
         Ok(value) => Ok(value),
-        Err(error) if error.is_memory() => Err(TextFault::Memory(AllocError)),
-        Err(_) => Err(TextFault::NotJson),
+        Err(error) if error.is_memory() => Err(TextError::Memory(AllocError)),
+        Err(_) => Err(TextError::NotJson),
     }
 }

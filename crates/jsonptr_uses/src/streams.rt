@@ -5,17 +5,17 @@ ghost use Rattle.jsonptr.specs.Json.{nodes};
 ghost use Rattle.jsonptr.specs.Pointer.{tokens};
 ghost use Rattle.jsonptr.specs.Text.{Text};
 ghost use Rattle.jsonptr_edit_in_text.specs.Bytes.{AssignsBytes};
-ghost use Rattle.jsonptr_edit_in_text.specs.Carrying.{value_of, Carries};
+ghost use Rattle.jsonptr_edit_in_text.specs.Carrying.{value_of_raw, Carries};
 ghost use Rattle.jsonptr_edit_in_text.specs.EditInText.{AssignsInText};
-ghost use Rattle.jsonptr_lines.specs.Streams.{ForInput};
+ghost use Rattle.jsonptr_io.specs.Streams.{ForInput};
 ghost use Rattle.jptr_tasks.specs.Documents.{StopsDocument};
 ghost use Rattle.jptr_tasks.specs.declared.layout.Layout.TheVariants.{Kept};
 ghost use Rattle.jptr_tasks.specs.declared.task.Task.TheVariants.{Set};
 
 use jptr_tasks::document::run_document;
-use jptr_tasks::failure::Failure;
 use jptr_tasks::layout::Layout;
 use jptr_tasks::task::Task;
+use jptr_tasks::task_error::TaskError;
 use jsonptr::Pointer;
 use jsonptr_edit_in_text::RawValue;
 use std::alloc::Global;
@@ -33,16 +33,16 @@ pub fn set_in_stream<R: io::Read, W: io::Write>(
     value: RawValue,
     input: &mut R,
     output: &mut W,
-) -> Result<(), Failure>
+) -> Result<(), TaskError>
     ensures set { IfOk result (λ _. ForInput (R.remaining input.old) (λ bytes. (out : Text)
-        × AssignsInText bytes (tokens pointer.entry) (nodes (value_of value)) out
-        × AssignsBytes bytes (tokens pointer.entry) (value_of value) out
+        × AssignsInText bytes (tokens pointer.entry) (nodes (value_of_raw value)) out
+        × AssignsBytes bytes (tokens pointer.entry) (value_of_raw value) out
         × Carries (string_bytes value.text.flat) out
         × Appends (W.contents output.old) (W.contents output.new) out)) }
-    ensures failed { IfErr result (StopsDocument (Set pointer.entry value) Kept
+    ensures refused { IfErr result (StopsDocument (Set pointer.entry value) Kept
         (R.remaining input.old) (W.contents output.old) (W.contents output.new)) }
 {
     let task = Task::Set(pointer, value);
     let mut bytes = Vec::new(alloc);
-    run_document(alloc, &task, Layout::Kept, input, &mut bytes, output)
+    run_document(&task, Layout::Kept, input, &mut bytes, output)
 }

@@ -3,7 +3,7 @@ ghost use Rattle.std.specs.Prelude.{◌≡◌, ◌⊎◌, IfOk, IfErr, IsTrue, M
 ghost use Rattle.toml.specs.Data.{Data};
 ghost use Rattle.toml.specs.View.{view};
 ghost use Rattle.jsonptr.specs.Pointer.{tokens};
-ghost use Rattle.jsonptr_in_toml.specs.InToml.{FindsInToml, AssignsInToml, DeletesInToml, ListsInToml, FailsToFind, FailsToAssign, FailsToDelete, FailsToList};
+ghost use Rattle.jsonptr_in_toml.specs.InToml.{FindsInToml, AssignsInToml, DeletesInToml, ListsInToml, FailsToFindInToml, FailsToAssign, FailsToDeleteInToml, FailsToListToml};
 ghost use Rattle.jsonptr_in_toml.specs.declared.error.InTomlError.TheVariants.{NotThere};
 ghost use Rattle.jsonptr_paths.specs.declared.listing.Listed.TheVariants.{Leaves};
 
@@ -25,10 +25,10 @@ pub fn with_default(
     pointer: Pointer<'_>,
     value: Value,
 ) -> Result<Option<String>, InTomlError>
-    ensures done { IfOk result (λ o. MatchOption o
+    ensures assigned { IfOk result (λ o. MatchOption o
         ((v : Data) × FindsInToml text.now (tokens pointer.entry) v)
         (λ s. AssignsInToml text.now (tokens pointer.entry) (view value) (string_bytes s))) }
-    ensures failed { IfErr result (λ e. FailsToFind text.now (tokens pointer.entry) e
+    ensures refused { IfErr result (λ e. FailsToFindInToml text.now (tokens pointer.entry) e
         ⊎ FailsToAssign text.now (tokens pointer.entry) (view value) e) }
 {
     match find_in_toml(alloc, text, pointer) {
@@ -51,9 +51,9 @@ pub fn without_setting(
     text: &str,
     pointer: Pointer<'_>,
 ) -> Result<String, InTomlError>
-    ensures done { IfOk result (λ s. DeletesInToml text.now (tokens pointer.entry) (string_bytes s)
-        ⊎ (FailsToDelete text.now (tokens pointer.entry) NotThere × (string_bytes s ≡ text.now))) }
-    ensures failed { IfErr result (FailsToDelete text.now (tokens pointer.entry)) }
+    ensures deleted { IfOk result (λ s. DeletesInToml text.now (tokens pointer.entry) (string_bytes s)
+        ⊎ (FailsToDeleteInToml text.now (tokens pointer.entry) NotThere × (string_bytes s ≡ text.now))) }
+    ensures refused { IfErr result (FailsToDeleteInToml text.now (tokens pointer.entry)) }
     ensures found { result ≡ Err NotThere → ⊥ }
 {
     match delete_in_toml(alloc, text, pointer) {
@@ -71,7 +71,7 @@ pub fn without_setting(
 /// Those of [`list_in_toml`].
 pub fn has_leaves(alloc: Global, text: &str, lines: &str) -> Result<bool, InTomlError>
     ensures leaves { IfOk result (λ same. IsTrue same → ListsInToml Leaves text.now lines.now) }
-    ensures failed { IfErr result (FailsToList text.now) }
+    ensures refused { IfErr result (FailsToListToml text.now) }
 {
     let listed = list_in_toml(alloc, text, Listed::Leaves)?;
     Ok(listed.as_str() == lines)

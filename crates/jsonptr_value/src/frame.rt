@@ -21,7 +21,7 @@ pub(crate) enum Frame<'v> {
 
 /// Writes the value by a loop, with a stack of its open arrays and objects.
 pub(crate) fn write_deep(alloc: Global, value: &Value, out: &mut Writer) -> Result<(), AllocError>
-    ensures ok { OnOk result (WritesValue (view value.now) out.old.tokens out.new.tokens) }
+    ensures written { OnOk result (WritesValue (view value.now) out.old.tokens out.new.tokens) }
     ensures before { out.new.before ≡ out.old.before }
 {
     let mut stack = Vec::new(alloc);
@@ -39,7 +39,7 @@ fn begin<'v>(
     stack: &mut Vec<Frame<'v>>,
     out: &mut Writer,
 ) -> Result<(), AllocError>
-    ensures ok { OnOk result ((end : List SpecToken)
+    ensures written { OnOk result ((end : List SpecToken)
         → WritesStack stack.new.items out.new.tokens end
         → (middle : List SpecToken)
         × WritesValue (view value.now) out.old.tokens middle
@@ -72,7 +72,7 @@ fn step<'v>(
     stack: &mut Vec<Frame<'v>>,
     out: &mut Writer,
 ) -> Result<(), AllocError>
-    ensures ok { OnOk result ((end : List SpecToken)
+    ensures written { OnOk result ((end : List SpecToken)
         → WritesStack stack.new.items out.new.tokens end
         → (middle : List SpecToken)
         × WritesFrame frame.entry out.old.tokens middle
@@ -93,7 +93,7 @@ fn step_elements<'v>(
     stack: &mut Vec<Frame<'v>>,
     out: &mut Writer,
 ) -> Result<(), AllocError>
-    ensures ok { OnOk result ((end : List SpecToken)
+    ensures written { OnOk result ((end : List SpecToken)
         → WritesStack stack.new.items out.new.tokens end
         → (middle : List SpecToken)
         × WritesElements elements.now out.old.tokens middle
@@ -115,7 +115,7 @@ fn step_members<'v>(
     stack: &mut Vec<Frame<'v>>,
     out: &mut Writer,
 ) -> Result<(), AllocError>
-    ensures ok { OnOk result ((end : List SpecToken)
+    ensures written { OnOk result ((end : List SpecToken)
         → WritesStack stack.new.items out.new.tokens end
         → (middle : List SpecToken)
         × WritesMembersLeft members.entry out.old.tokens middle

@@ -1,5 +1,5 @@
-//! What is true of a JSON value without pointers: how deep it nests, how to print, copy and drop one
-//! that nests deep, and when two numbers are the same.
+//! What is true of a JSON value without pointers: how to read one from a text, how deep it nests, how
+//! to print, copy and drop one that nests deep, and when two numbers are the same.
 //!
 //! `serde_json` prints, clones and drops a value by recursion, so a value that nests deep overflows
 //! the stack. Here only the first 32 levels are taken by recursion, and a loop takes those below.
@@ -10,8 +10,10 @@ mod depth;
 mod drop;
 mod extend;
 mod frame;
+mod from_text;
 mod json_nested;
 mod number;
+mod parsed;
 mod partial;
 mod print;
 mod same;
@@ -21,5 +23,7 @@ mod tree;
 pub use clone::copy;
 pub use depth::{MAX_DEPTH, depth_law, nests_within};
 pub use drop::{Nested, discard};
+pub use from_text::{ReadError, read};
+pub use parsed::{json_parsed_law, toml_parsed_law};
 pub use print::to_string;
 pub use same::{is_same_float, is_same_number};

@@ -12,7 +12,7 @@ use std::alloc::AllocError;
 /// Writes the number in the form in which `serde_json` does.
 #[inline(never)]
 pub(crate) fn write_number(number: &Number, out: &mut Writer) -> Result<(), AllocError>
-    ensures ok { OnOk result ((s : List ℕ)
+    ensures written { OnOk result ((s : List ℕ)
         × (out.new.tokens ≡ out.old.tokens ++ number_token s ∷ [])
         × (number_of s ≡ Some (number_view number.now))
         × (unless_float s ≡ number_text (number_view number.now))) }

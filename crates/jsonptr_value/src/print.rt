@@ -23,7 +23,7 @@ use std::collections::btree_map::Iter;
 /// # Errors
 ///
 /// [`AllocError`] if there is no memory for the text, or for a place in each open array and object.
-pub fn to_string(value: &Value, alloc: Global) -> Result<String, AllocError>
+pub fn to_string(alloc: Global, value: &Value) -> Result<String, AllocError>
     ensures text { IfOk result (λ s. has_float (view value.now) ≡ false
         → string_bytes s ≡ compact_text (view value.now)) }
     ensures compact { IfOk result (λ s. string_bytes s ≡ print (tokens (string_bytes s))) }
@@ -39,7 +39,7 @@ pub fn to_string(value: &Value, alloc: Global) -> Result<String, AllocError>
 /// Writes the value, by recursion down to so many levels and by a loop below them.
 #[cycle(write)]
 fn write(alloc: Global, value: &Value, levels: usize, out: &mut Writer) -> Result<(), AllocError>
-    ensures ok { OnOk result (WritesValue (view value.now) out.old.tokens out.new.tokens) }
+    ensures written { OnOk result (WritesValue (view value.now) out.old.tokens out.new.tokens) }
     ensures before { out.new.before ≡ out.old.before }
 {
     if levels == 0 {
@@ -70,7 +70,7 @@ fn write_child(
     levels: usize,
     out: &mut Writer,
 ) -> Result<(), AllocError>
-    ensures ok { OnOk result (WritesValue (view value.now) out.old.tokens out.new.tokens) }
+    ensures written { OnOk result (WritesValue (view value.now) out.old.tokens out.new.tokens) }
     ensures before { out.new.before ≡ out.old.before }
 {
     match value {
@@ -88,7 +88,7 @@ fn write_elements(
     levels: usize,
     out: &mut Writer,
 ) -> Result<(), AllocError>
-    ensures ok { OnOk result (WritesElements elements.now out.old.tokens out.new.tokens) }
+    ensures written { OnOk result (WritesElements elements.now out.old.tokens out.new.tokens) }
     ensures before { out.new.before ≡ out.old.before }
 {
     for element in elements {
@@ -105,7 +105,7 @@ fn write_members(
     levels: usize,
     out: &mut Writer,
 ) -> Result<(), AllocError>
-    ensures ok { OnOk result (WritesMembersLeft members.entry out.old.tokens out.new.tokens) }
+    ensures written { OnOk result (WritesMembersLeft members.entry out.old.tokens out.new.tokens) }
     ensures before { out.new.before ≡ out.old.before }
 {
     for (key, member) in members {

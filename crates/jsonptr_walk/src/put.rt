@@ -45,6 +45,17 @@ pub struct PutError {
     pub cause: IndexError,
 }
 
+/// Where following a pointer stops.
+#[derive(Drop)]
+struct Stop<'p> {
+    /// The tokens before the one that names no child, for the position of an error.
+    front: PointerText<'p>,
+    /// The token that names no child.
+    token: Token<'p>,
+    /// The tokens after it.
+    rest: PointerText<'p>,
+}
+
 /// Assigns `value` where the tokens of `route` lead, and returns the value that it replaces, if
 /// any.
 ///
@@ -151,68 +162,65 @@ fn put_missing<D: Descend>(
     let Some((front, token, rest)) = token_at(route, offset) else {
         unreachable!();
     };
+    let stop = Stop { front, token, rest };
     let args = DescendArgs {
         alloc,
         route: front,
     };
     match document.descend(&args) {
-        Ok(node) => put_child(alloc, node, front, &token, rest, value),
+        Ok(node) => put_child(alloc, node, &stop, value),
         Err(Fault::Refused(_)) => unreachable!(),
         Err(Fault::Memory(error)) => Err(Fault::Memory(error)),
     }
 }
 
-/// Assigns `value` below `node`, which has no child `token`, and returns the value that it
-/// replaces.
+/// Assigns `value` below `node`, at which following stops, and returns the value that it replaces.
 ///
 /// Adds a member to an object, appends to an array, or replaces a leaf by the expanded value.
-/// Returns `Some` only if `node` was a leaf. `front` are the tokens before `token`, for the
-/// position of an error, and `rest` are those after it.
+/// Returns `Some` only if `node` was a leaf.
 ///
 /// # Errors
 ///
-/// - [`Fault::Refused`] if `node` is an array and `token` is neither `-` nor its length.
+/// - [`Fault::Refused`] if `node` is an array and the token is neither `-` nor its length.
 /// - [`Fault::Memory`] if an allocation fails.
 ///
 /// `node` is unchanged in both cases, and `value` is dropped.
 ///
 /// # Conditions
 ///
-/// `node` has no child that `token` names.
+/// `node` has no child that the token names.
 fn put_child<N: DocumentMut>(
     alloc: Global,
     node: &mut N,
-    front: PointerText<'_>,
-    token: &Token<'_>,
-    rest: PointerText<'_>,
+    stop: &Stop<'_>,
     value: N,
 ) -> Result<Option<N>, Fault<PutError>>
-    requires { LacksStep (N.Document.nodes node.old) [] token.now }
+    requires { LacksStep (N.Document.nodes node.old) [] stop.now.token }
     ensures assigned { IfOk result (λ r.
-        Assigns (N.Document.nodes node.old) (token.now ∷ tokens rest.entry)
+        Assigns (N.Document.nodes node.old) (stop.now.token ∷ tokens stop.now.rest)
         (N.Document.nodes value) (N.Document.nodes node.new)
         (option_map N.Document.nodes r)) }
     ensures sorted { IfOk result (λ _. N.Document.has_sorted_keys value
         → N.Document.has_sorted_keys node.old → N.Document.has_sorted_keys node.new) }
     ensures refused { IfRefused result
-        (IsPutErrorBelow (N.Document.nodes node.old) (tokens front.entry) token.now) }
+        (IsPutErrorBelow (N.Document.nodes node.old) (tokens stop.now.front) stop.now.token) }
     ensures given_back { (e : N) → result ≡ Ok (Some e) → e ≡ node.old }
     ensures unchanged { OnErr result (N.Document.stands_at node.old [] node.new) }
     ensures no_memory { (len : ℕ) → N.Document.nodes node.old [] ≡ Some (an_array len)
-        → HasNoIndex len token.now → HasMemory result }
+        → HasNoIndex len stop.now.token → HasMemory result }
 {
     match node.node() {
         Node::Leaf => {
-            let leaf = replace_leaf(alloc, node, token, rest, value)?;
+            let leaf = replace_leaf(alloc, node, &stop.token, stop.rest, value)?;
             Ok(Some(leaf))
         }
         Node::Object(_) => {
-            insert_member(alloc, node, token, rest, value)?;
+            insert_member(alloc, node, &stop.token, stop.rest, value)?;
             Ok(None)
         }
         Node::Array(elements) => {
             let length = elements.len();
-            push_element(alloc, node, length, front, token, rest, value)?;
+            push_element(alloc, node, length, stop, value)?;
             Ok(None)
         }
     }
@@ -273,9 +281,7 @@ fn insert_member<N: DocumentMut>(
     node.insert(key, grown)
 }
 
-/// Appends `value`, expanded by `rest`, to `node`, an array of `length` elements.
-///
-/// `front` are the tokens before `token`, for the position of an error.
+/// Appends `value`, expanded by the tokens that are left, to `node`, an array of `length` elements.
 ///
 /// # Errors
 ///
@@ -284,30 +290,28 @@ fn insert_member<N: DocumentMut>(
 ///
 /// # Conditions
 ///
-/// `node` is an array of `length` elements, and `token` names none of them.
+/// `node` is an array of `length` elements, and the token names none of them.
 fn push_element<N: DocumentMut>(
     alloc: Global,
     node: &mut N,
     length: usize,
-    front: PointerText<'_>,
-    token: &Token<'_>,
-    rest: PointerText<'_>,
+    stop: &Stop<'_>,
     value: N,
 ) -> Result<(), Fault<PutError>>
     requires array { N.Document.nodes node.old [] ≡ Some (an_array length) }
-    requires lacks { (i : ℕ) → i < length → token.now ≢ dec i }
-    ensures end { IfOk result (λ _. IsTrue (is_append_index length token.now)) }
+    requires lacks { (i : ℕ) → i < length → stop.now.token ≢ dec i }
+    ensures end { IfOk result (λ _. IsTrue (is_append_index length stop.now.token)) }
     ensures pushed { IfOk result (λ _.
-        Pushes (N.Document.nodes node.old) (grown (tokens rest.entry) (N.Document.nodes value))
+        Pushes (N.Document.nodes node.old) (grown (tokens stop.now.rest) (N.Document.nodes value))
         (N.Document.nodes node.new)) }
     ensures sorted { IfOk result (λ _. N.Document.has_sorted_keys value
         → N.Document.has_sorted_keys node.old → N.Document.has_sorted_keys node.new) }
-    ensures refused { IfRefused result (IsPutErrorAfter (tokens front.entry) length token.now) }
+    ensures refused { IfRefused result (IsPutErrorAfter (tokens stop.now.front) length stop.now.token) }
     ensures unchanged { OnErr result (N.Document.stands_at node.old [] node.new) }
-    ensures no_memory { HasNoIndex length token.now → HasMemory result }
+    ensures no_memory { HasNoIndex length stop.now.token → HasMemory result }
 {
-    check_append_index(length, front, token).map_err(Fault::Refused)?;
-    let grown = expand(alloc, rest, value)?;
+    check_append_index(length, stop.front, &stop.token).map_err(Fault::Refused)?;
+    let grown = expand(alloc, stop.rest, value)?;
     node.push(grown)?;
     Ok(())
 }

@@ -67,6 +67,14 @@ static void check_bad(void) {
     EXPECT(jsonptr_lost_number_in_text(NULL, 1, NULL, out, 8, &length, NULL), BAD);
     EXPECT(jsonptr_lost_number_in_text("1", huge, NULL, out, 8, &length, NULL), BAD);
     EXPECT(jsonptr_lost_number_in_text("1", 1, NULL, NULL, 8, &length, NULL), BAD);
+    EXPECT(jsonptr_locate_in_text(NULL, 1, "", 0, &length, &length, NULL), BAD);
+    EXPECT(jsonptr_locate_in_text("1", huge, "", 0, NULL, NULL, NULL), BAD);
+    EXPECT(jsonptr_locate_in_text("1", 1, NULL, 1, NULL, NULL, NULL), BAD);
+    EXPECT(jsonptr_locate_in_text("1", 1, "", huge, NULL, NULL, NULL), BAD);
+    EXPECT(jsonptr_pointer_at_in_text(NULL, 1, 0, out, 8, &length, NULL), BAD);
+    EXPECT(jsonptr_pointer_at_in_text("1", huge, 0, out, 8, &length, NULL), BAD);
+    EXPECT(jsonptr_pointer_at_in_text("1", 1, 0, NULL, 8, &length, NULL), BAD);
+    EXPECT(jsonptr_pointer_at_in_text("1", 1, 0, out, huge, &length, NULL), BAD);
     EXPECT(jsonptr_document_print(&document, 2, out, 8, &length, NULL), BAD);
     EXPECT(jsonptr_document_get(&document, "", 0, JSONPTR_PRETTY | 4u, out, 8, &length, NULL), BAD);
     EXPECT(jsonptr_document_diff(&document, &other, 0x80000000u, out, 8, &length, NULL), BAD);
@@ -82,7 +90,7 @@ static void check_bad(void) {
 static void check_empty(void) {
     jsonptr_document document = parsed("[7]");
     char out[2];
-    size_t length = 9;
+    size_t length = 9, huge = SIZE_MAX;
     EXPECT(jsonptr_pointer_count(NULL, 0, &length, NULL), JSONPTR_OK);
     expect_number("tokens", "NULL", length, 0);
     EXPECT(jsonptr_pointer_count("/a", 2, NULL, NULL), JSONPTR_OK);
@@ -90,6 +98,17 @@ static void check_empty(void) {
     EXPECT(jsonptr_document_parse_with(&document, NULL, 0, JSONPTR_EXACT_NUMBERS, NULL), JSONPTR_NOT_JSON);
     EXPECT(jsonptr_lost_number_in_text("1", 1, NULL, NULL, 0, NULL, NULL), JSONPTR_OK);
     EXPECT(jsonptr_lost_number_in_text("1e-400", 6, NULL, NULL, 0, NULL, NULL), JSONPTR_OK);
+    EXPECT(jsonptr_locate_in_text("[1]", 3, NULL, 0, NULL, NULL, NULL), JSONPTR_OK);
+    EXPECT(jsonptr_locate_in_text(" [1]", 4, "/0", 2, &length, NULL, NULL), JSONPTR_OK);
+    expect_number("start", "/0", length, 2);
+    EXPECT(jsonptr_locate_in_text(" [1]", 4, "", 0, NULL, &length, NULL), JSONPTR_OK);
+    expect_number("end", "the root", length, 4);
+    EXPECT(jsonptr_locate_in_text(NULL, 0, NULL, 0, NULL, NULL, NULL), JSONPTR_NOT_JSON);
+    EXPECT(jsonptr_pointer_at_in_text("[1]", 3, 0, NULL, 0, NULL, NULL), JSONPTR_OK);
+    EXPECT(jsonptr_pointer_at_in_text("[1]", 3, 1, NULL, 0, &length, NULL), JSONPTR_NO_ROOM);
+    expect_number("length", "/0", length, 2);
+    EXPECT(jsonptr_pointer_at_in_text("[1]", 3, huge, NULL, 0, NULL, NULL), JSONPTR_NO_VALUE);
+    EXPECT(jsonptr_pointer_at_in_text(NULL, 0, 0, NULL, 0, NULL, NULL), JSONPTR_NOT_JSON);
     EXPECT(jsonptr_document_get(&document, NULL, 0, 0, NULL, 0, &length, NULL), JSONPTR_NO_ROOM);
     expect_number("length", "the root", length, 3);
     EXPECT(jsonptr_document_get(&document, "/0", 2, 0, NULL, 0, NULL, NULL), JSONPTR_NO_ROOM);

@@ -106,6 +106,25 @@ static jsonptr_status in_text(state *s) {
     return jsonptr_resolve_in_text(TEXT(DOCUMENT), TEXT("/long key that is stored/2"), 0, s->out, sizeof s->out, NULL, NULL);
 }
 
+static jsonptr_status locate(state *s) {
+    size_t start = 7, end = 7;
+    jsonptr_status status = jsonptr_locate_in_text(TEXT(DOCUMENT), TEXT("/a~1b/1"), &start, &end, NULL);
+    expect_number("start", "locate", start, status == JSONPTR_OK ? 10 : 7);
+    expect_number("end", "locate", end, status == JSONPTR_OK ? 20 : 7);
+    (void)s;
+    return status;
+}
+
+static jsonptr_status pointer_at(state *s) {
+    return jsonptr_pointer_at_in_text(TEXT(DOCUMENT), 11, s->out, sizeof s->out, NULL, NULL);
+}
+
+/* A byte in white space after the document: the pointer is looked for in vain. */
+static jsonptr_status no_value(state *s) {
+    jsonptr_status status = jsonptr_pointer_at_in_text(TEXT("{\"a\": [1, 2]} "), 13, s->out, sizeof s->out, NULL, NULL);
+    return status == JSONPTR_NO_VALUE ? JSONPTR_OK : status;
+}
+
 static jsonptr_status token(state *s) {
     return jsonptr_pointer_token(TEXT("/a~1b"), 0, s->out, sizeof s->out, NULL, NULL);
 }
@@ -129,7 +148,8 @@ static const struct {
     jsonptr_status (*call)(state *);
 } calls[] = {
     { "parse", parse }, { "exact", exact }, { "not_exact", not_exact }, { "lost_number", lost_number }, { "print", print }, { "get", get }, { "string", string }, { "node", node }, { "assign", assign },
-    { "delete", delete }, { "patch", patch }, { "fail", fail }, { "inverse", inverse }, { "diff", diff }, { "in_text", in_text }, { "token", token },
+    { "delete", delete }, { "patch", patch }, { "fail", fail }, { "inverse", inverse }, { "diff", diff }, { "in_text", in_text },
+    { "locate", locate }, { "pointer_at", pointer_at }, { "no_value", no_value }, { "token", token },
     { "escape", escape }, { "push", push }, { "message", message },
 };
 

@@ -1,15 +1,18 @@
 """Tests of the Python module alone: what pickles, copies, subclasses, processes and wrong arguments do."""
+import ast
 import concurrent.futures
 import copy
 import multiprocessing
 import os
 import pickle
+import re
 import subprocess
 import sys
 import time
 
 import jsonptr
 
+PAGE = f"{os.path.dirname(os.path.abspath(__file__))}/../../../docs/C.md"
 FIELDS = ("status", "kind", "position", "slash", "offset", "length", "operation", "member")
 
 
@@ -147,12 +150,55 @@ def check_exact():
     assert jsonptr.lost_number(f'{{"{long}": 1e-400}}') == f"/{long}"
 
 
+def check_locations():
+    """Checks where values are, and the pointers at offsets, in bytes."""
+    text = '[1.0, {"~/": "\u00e9\\n"}]'
+    data = text.encode()
+    for pointer, start, end in (("", 0, 21), ("/0", 1, 4), ("/1", 6, 20), ("/1/~0~1", 13, 19)):
+        for given in (text, data, Long(data)):
+            span = jsonptr.locate(given, pointer)
+            assert span == jsonptr.Span(start, end) == (start, end) and (span.start, span.end) == span, span
+    wanted = {0: "", 1: "/0", 3: "/0", 4: "", 6: "/1", 8: "/1", 12: "/1", 13: "/1/~0~1", 18: "/1/~0~1", 19: "/1", 20: ""}
+    assert all(jsonptr.pointer_at(text, at) == jsonptr.pointer_at(data, at) == wanted[at] for at in wanted)
+    assert jsonptr.pointer_at(text, True) == "/0"
+    long = "k" * 10_000
+    assert jsonptr.pointer_at(f'{{"{long}": 1}}', 10_005) == f"/{long}"
+    for offset in (21, -1, 2**63, 2**64, 10**30):
+        error = caught(jsonptr.pointer_at, text, offset)
+        assert type(error) is jsonptr.NotFound and (error.status, error.offset, error.kind) == (17, offset, 0), repr(error)
+        assert str(error) == f"no value is at offset {offset}" and isinstance(error, LookupError)
+    error = caught(jsonptr.locate, text, "/1/x")
+    assert type(error) is jsonptr.NotFound and (error.position, error.slash, error.offset, error.length) == (1, 2, 3, 1)
+    for call, argument in ((jsonptr.locate, ""), (jsonptr.pointer_at, 0)):
+        assert caught(call, "[1,", argument).status == 6 and caught(call, "[1,", argument).offset == 3
+        assert caught(call, b'"\xff"', argument).status == 5 and caught(call, b'"\xff"', argument).member == "text"
+        assert isinstance(caught(call, [1], argument), TypeError)
+    assert caught(jsonptr.locate, "[", "x").status == 7 and isinstance(caught(jsonptr.locate, "1", 0), TypeError)
+    assert isinstance(caught(jsonptr.pointer_at, "1", "0"), TypeError)
+
+
 def check_tokens():
     """Checks the tokens of pointers, and that those of a long one take linear time."""
     assert jsonptr.tokens("") == [] and jsonptr.tokens("//~01/\u00e9~1") == ["", "~1", "\u00e9/"]
     start = time.process_time()
     assert jsonptr.tokens("/~0" * 400_000) == ["~"] * 400_000
     assert time.process_time() - start < 2
+
+
+def check_page():
+    """Checks the first Python code of docs/C.md: it runs, and each expression has the value that is beside it."""
+    with open(PAGE, encoding="utf-8") as file:
+        code = re.search(r"^```python\n(.*?)^```$", file.read(), re.M | re.S)[1]
+    rows, names, values = code.splitlines(), {"print": lambda *_: None}, 0
+    for item in ast.parse(code).body:
+        wanted = rows[item.end_lineno - 1].partition("  # ")[2]
+        source = "\n".join(rows[item.lineno - 1:item.end_lineno])
+        if isinstance(item, ast.Expr) and wanted:
+            assert repr(eval(source, names)) == wanted, source
+            values += 1
+        else:
+            exec(source, names)
+    assert values == 4, values
 
 
 def check_library():
@@ -164,9 +210,10 @@ def check_library():
 
 
 def main():
-    for check in (check_errors, check_processes, check_documents, check_arguments, check_exact, check_tokens, check_library):
+    for check in (check_errors, check_processes, check_documents, check_arguments, check_exact, check_locations, check_tokens,
+                  check_page, check_library):
         check()
-    print("the module jsonptr: errors, processes, documents, arguments, exact numbers, tokens, library")
+    print("the module jsonptr: errors, processes, documents, arguments, exact numbers, locations, tokens, the page, library")
 
 
 if __name__ == "__main__":

@@ -3,16 +3,39 @@
 
 #define COUNT(table) (sizeof(table) / sizeof *(table))
 
-/* The document of RFC 6901, section 5, and what its pointers evaluate to. */
+/* The document of RFC 6901, section 5, what its pointers evaluate to, and where these values are. */
 static const char *rfc_document = "{\"foo\": [\"bar\", \"baz\"], \"\": 0, \"a/b\": 1, \"c%d\": 2, \"e^f\": 3, \"g|h\": 4,"
                                   " \"i\\\\j\": 5, \"k\\\"l\": 6, \" \": 7, \"m~n\": 8}";
 
 static const struct {
     const char *pointer, *value;
+    size_t start, end;
 } rfc_pointers[] = {
-    { "/foo", "[\"bar\",\"baz\"]" }, { "/foo/0", "\"bar\"" }, { "/", "0" }, { "/a~1b", "1" }, { "/c%d", "2" },
-    { "/e^f", "3" }, { "/g|h", "4" }, { "/i\\j", "5" }, { "/k\"l", "6" }, { "/ ", "7" }, { "/m~0n", "8" },
+    { "/foo", "[\"bar\",\"baz\"]", 8, 22 }, { "/foo/0", "\"bar\"", 9, 14 }, { "/", "0", 28, 29 },
+    { "/a~1b", "1", 38, 39 }, { "/c%d", "2", 48, 49 }, { "/e^f", "3", 58, 59 }, { "/g|h", "4", 68, 69 },
+    { "/i\\j", "5", 79, 80 }, { "/k\"l", "6", 90, 91 }, { "/ ", "7", 98, 99 }, { "/m~0n", "8", 108, 109 },
 };
+
+/* Checks where a value is, and the pointer at an offset. */
+static void expect_location(const char *text, const char *pointer, size_t start, size_t end) {
+    size_t from = 0, to = 0;
+    jsonptr_error error;
+    expect_number("status of locating", pointer, jsonptr_locate_in_text(TEXT(text), TEXT(pointer), &from, &to, &error),
+                  JSONPTR_OK);
+    expect_number("status of the error", pointer, error.status, JSONPTR_OK);
+    expect_number("start", pointer, from, start);
+    expect_number("end", pointer, to, end);
+}
+
+static void expect_pointer_at(const char *text, size_t offset, const char *pointer) {
+    char out[64];
+    size_t length = 0;
+    jsonptr_error error;
+    expect_number("status of the offset", pointer,
+                  jsonptr_pointer_at_in_text(TEXT(text), offset, out, sizeof out, &length, &error), JSONPTR_OK);
+    expect_number("status of the error", pointer, error.status, JSONPTR_OK);
+    expect_text("pointer", pointer, out, length, pointer);
+}
 
 static void check_rfc_pointers(void) {
     jsonptr_document document = parsed(rfc_document);
@@ -30,7 +53,12 @@ static void check_rfc_pointers(void) {
                       jsonptr_resolve_in_text(TEXT(rfc_document), TEXT(pointer), 0, out, sizeof out, &length, &error),
                       JSONPTR_OK);
         expect_text("value in text", pointer, out, length, rfc_pointers[i].value);
+        expect_location(rfc_document, pointer, rfc_pointers[i].start, rfc_pointers[i].end);
+        expect_pointer_at(rfc_document, rfc_pointers[i].start, pointer);
+        expect_pointer_at(rfc_document, rfc_pointers[i].end - 1, pointer);
     }
+    expect_location(rfc_document, "", 0, 110);
+    expect_pointer_at(rfc_document, 109, "");
     jsonptr_document_free(&document);
 }
 
@@ -160,6 +188,12 @@ static void check_unresolved(void) {
         expect_number("in text", pointer, jsonptr_resolve_in_text(TEXT(unresolved[i].document), TEXT(pointer), 0, out, sizeof out,
                                                                   &length, &error), JSONPTR_NOT_FOUND);
         expect_error(pointer, &error, JSONPTR_NOT_FOUND, i);
+        size_t start = 77, end = 78;
+        expect_number("locate", pointer, jsonptr_locate_in_text(TEXT(unresolved[i].document), TEXT(pointer), &start, &end,
+                                                                &error), JSONPTR_NOT_FOUND);
+        expect_error(pointer, &error, JSONPTR_NOT_FOUND, i);
+        expect_number("start after an error", pointer, start, 77);
+        expect_number("end after an error", pointer, end, 78);
         jsonptr_document_free(&document);
     }
 }
@@ -196,6 +230,19 @@ static void check_unread(void) {
         expect_number("status in text", text,
                       jsonptr_resolve_in_text(TEXT(text), "", 0, 0, out, sizeof out, &length, &error), unread[i].status);
         expect_number("offset in text", text, error.offset, unread[i].offset);
+        size_t start = 77, end = 78;
+        expect_number("status of locating", text, jsonptr_locate_in_text(TEXT(text), "", 0, &start, &end, &error),
+                      unread[i].status);
+        expect_number("offset of locating", text, error.offset, unread[i].offset);
+        expect_number("start after an error", text, start, 77);
+        expect_number("end after an error", text, end, 78);
+        length = 79;
+        memset(out, '#', sizeof out);
+        expect_number("status of an offset", text,
+                      jsonptr_pointer_at_in_text(TEXT(text), 0, out, sizeof out, &length, &error), unread[i].status);
+        expect_number("offset of the error", text, error.offset, unread[i].offset);
+        expect_number("length after an error", text, length, 79);
+        expect_text("buffer after an error", text, out, sizeof out, "########");
         expect_document(text, &document, "[7]");
         jsonptr_document_free(&document);
     }
@@ -276,6 +323,80 @@ static void check_exact(void) {
     expect_text("a short buffer", text, out, sizeof out, "####");
 }
 
+/* Where values are: with white space, escapes, characters of two bytes, equal numbers and a repeated key. */
+static const struct {
+    const char *text, *pointer;
+    size_t start, end;
+} located[] = {
+    { " [ 1 ] ", "", 1, 6 },
+    { " [ 1 ] ", "/0", 3, 4 },
+    { "[1.0,1.00]", "/1", 5, 9 },
+    { "[1.0, {\"~/\": \"\xc3\xa9\\n\"}]", "/1", 6, 20 },
+    { "[1.0, {\"~/\": \"\xc3\xa9\\n\"}]", "/1/~0~1", 13, 19 },
+    { "{\"\\u0061\" : -1e2 }", "/a", 12, 16 },
+    { "{\"a\": [1, 2], \"a\": [3]}", "/a", 19, 22 },
+    { "{\"a\": [1, 2], \"a\": [3]}", "/a/0", 20, 21 },
+};
+
+/* The pointers at the offsets of a text: NULL where no value is. */
+static const struct {
+    const char *text;
+    size_t offset;
+    const char *pointer;
+} pointed[] = {
+    { " [1.0, {\"~/\": 2}] ", 0, NULL },
+    { " [1.0, {\"~/\": 2}] ", 1, "" },
+    { " [1.0, {\"~/\": 2}] ", 4, "/0" },
+    { " [1.0, {\"~/\": 2}] ", 5, "" },
+    { " [1.0, {\"~/\": 2}] ", 9, "/1" },
+    { " [1.0, {\"~/\": 2}] ", 13, "/1" },
+    { " [1.0, {\"~/\": 2}] ", 14, "/1/~0~1" },
+    { " [1.0, {\"~/\": 2}] ", 15, "/1" },
+    { " [1.0, {\"~/\": 2}] ", 16, "" },
+    { " [1.0, {\"~/\": 2}] ", 17, NULL },
+    { " [1.0, {\"~/\": 2}] ", 18, NULL },
+    { " [1.0, {\"~/\": 2}] ", SIZE_MAX, NULL },
+    { "{\"a\": [1, 2], \"a\": [3]}", 7, "" },
+    { "{\"a\": [1, 2], \"a\": [3]}", 20, "/a/0" },
+};
+
+static void check_locations(void) {
+    for (size_t i = 0; i < COUNT(located); i++) {
+        expect_location(located[i].text, located[i].pointer, located[i].start, located[i].end);
+    }
+    for (size_t i = 0; i < COUNT(pointed); i++) {
+        const char *text = pointed[i].text;
+        if (pointed[i].pointer != NULL) {
+            expect_pointer_at(text, pointed[i].offset, pointed[i].pointer);
+            continue;
+        }
+        char out[4] = "####";
+        size_t length = 9;
+        jsonptr_error error;
+        expect_number("status outside", text,
+                      jsonptr_pointer_at_in_text(TEXT(text), pointed[i].offset, out, sizeof out, &length, &error),
+                      JSONPTR_NO_VALUE);
+        expect_number("status of the error", text, error.status, JSONPTR_NO_VALUE);
+        expect_number("offset", text, error.offset, pointed[i].offset);
+        expect_number("other fields", text, error.kind + error.member + error.position + error.slash + error.length, 0);
+        expect_number("length", text, length, 9);
+        expect_text("buffer", text, out, sizeof out, "####");
+    }
+    char out[4] = "####";
+    size_t length = 0;
+    jsonptr_error error;
+    expect_number("status of a short buffer", "/a~1b",
+                  jsonptr_pointer_at_in_text(TEXT("{\"a/b\":1}"), 7, out, sizeof out, &length, &error), JSONPTR_NO_ROOM);
+    expect_number("length of a short buffer", "/a~1b", length, 5);
+    expect_number("length in the error", "/a~1b", error.length, 5);
+    expect_text("a short buffer", "/a~1b", out, sizeof out, "####");
+    expect_number("status outside", "1", jsonptr_pointer_at_in_text("1", 1, 7, out, sizeof out, &length, &error),
+                  JSONPTR_NO_VALUE);
+    expect_message("offset 7", &error, "no value is at offset 7");
+    error = (jsonptr_error){ .status = JSONPTR_NOT_LOCATED };
+    expect_message("a value that is not located", &error, "value cannot be located in the text");
+}
+
 /* Two texts that are both at fault: which one the error is of. */
 static void check_two_texts(void) {
     jsonptr_document document = parsed("[7]"), empty = JSONPTR_DOCUMENT_INIT;
@@ -288,6 +409,14 @@ static void check_two_texts(void) {
                   jsonptr_resolve_in_text("\xff", 1, "/~", 2, 0, out, sizeof out, &length, &error), JSONPTR_NOT_POINTER);
     expect_number("whole text", "/0 in [7, x]",
                   jsonptr_resolve_in_text("[7, x]", 6, "/0", 2, 0, out, sizeof out, &length, &error), JSONPTR_NOT_JSON);
+    expect_number("pointer first", "x in [", jsonptr_locate_in_text("[", 1, "x", 1, NULL, NULL, &error),
+                  JSONPTR_NOT_POINTER);
+    expect_number("text next", "/0 in \xff", jsonptr_locate_in_text("\xff", 1, "/0", 2, NULL, NULL, &error),
+                  JSONPTR_NOT_UTF8);
+    expect_number("argument", "/0 in \xff", error.member, JSONPTR_ARGUMENT_TEXT);
+    expect_number("argument", "\xff in 1", jsonptr_locate_in_text("1", 1, "\xff", 1, NULL, NULL, &error),
+                  JSONPTR_NOT_UTF8);
+    expect_number("argument", "\xff in 1", error.member, JSONPTR_ARGUMENT_POINTER);
     expect_number("text first", "x = [", jsonptr_document_assign(&document, "x", 1, "[", 1, &error), JSONPTR_NOT_JSON);
     expect_number("text first", "\xff = [\xff", jsonptr_document_assign(&document, "\xff", 1, "[\xff", 2, &error),
                   JSONPTR_NOT_UTF8);
@@ -591,9 +720,9 @@ static void check_faulty(void) {
 static void check_longest_message(void) {
     static const uint32_t greatest[] = { 1000, UINT32_MAX };
     size_t longest = 0;
-    for (uint32_t i = 0; i < 18 * 20 * 10; i++) {
+    for (uint32_t i = 0; i < 20 * 20 * 10; i++) {
         uint32_t status = i / 200, kind = i / 10 % 20, member = i % 10;
-        jsonptr_error error = { status < 17 ? status : greatest[i % 2], kind < 19 ? kind : greatest[i % 2],
+        jsonptr_error error = { status < 19 ? status : greatest[i % 2], kind < 19 ? kind : greatest[i % 2],
                                 member < 9 ? member : greatest[i % 2], UINT32_MAX, UINT64_MAX, UINT64_MAX, UINT64_MAX,
                                 UINT64_MAX, UINT64_MAX, UINT64_MAX, UINT64_MAX };
         char out[200];
@@ -799,6 +928,7 @@ int main(void) {
     check_unread();
     check_numbers();
     check_exact();
+    check_locations();
     check_two_texts();
     check_nodes();
     check_assignments();

@@ -2,7 +2,7 @@
 ghost use Rattle.std.specs.Prelude.{◌≡◌, ◌↔◌, List, None};
 ghost use Rattle.serde_json.specs.Data.{Data};
 ghost use Rattle.serde_json.specs.Read.{read};
-ghost use Rattle.jsonptr_grammar.specs.Text.{Text};
+ghost use Rattle.jsonptr.specs.Text.{Text};
 ghost use Rattle.jsonptr.specs.declared.resolve.Error.{Error};
 ghost use Rattle.jsonptr_in_text.specs.Format.{IsFormatted};
 ghost use Rattle.jsonptr_in_text.specs.InText.{FindsInText, RefusesInText};

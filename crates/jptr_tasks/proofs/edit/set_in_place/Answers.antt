@@ -1,14 +1,14 @@
 use Rattle.std.proofs.Common.{string_bytes}
 use Rattle.jsonptr.specs.Pointer.{tokens}
-use Rattle.jsonptr_edit_in_text.specs.Carrying.{value_of}
+use Rattle.jsonptr_edit_in_text.specs.Carrying.{value_of_raw}
 use Rattle.jptr_tasks.proofs.ResultLemmas.{set_kept, set_fails}
 use Rattle.jptr_tasks.proofs.edit.set_in_place.Goals as goal
 
-pub returns-in-Ok-clause-done : goal.returns-in-Ok-clause-done
-returns-in-Ok-clause-done c =
+pub returns-in-Ok-clause-assigned : goal.returns-in-Ok-clause-assigned
+returns-in-Ok-clause-assigned c =
     set_kept c.args.text.now (tokens c.args.pointer) c.args.value.now (string_bytes c.in-Ok.new)
     c.in-Ok.ensures.assigned c.in-Ok.ensures.bytes c.in-Ok.ensures.carries c.in-Ok.ensures.line
 
-pub returns-in-Err-clause-failed : goal.returns-in-Err-clause-failed
-returns-in-Err-clause-failed c =
-    rw c.from.ensures (set_fails c.args.text.now (tokens c.args.pointer) (value_of c.args.value.now) c.in-Err.error c.in-Err.ensures.refused)
+pub returns-in-Err-clause-refused : goal.returns-in-Err-clause-refused
+returns-in-Err-clause-refused c =
+    rw c.from.ensures (set_fails c.args.text.now (tokens c.args.pointer) (value_of_raw c.args.value.now) c.in-Err.error c.in-Err.ensures.refused)

@@ -3,22 +3,22 @@ use Rattle.serde_json.specs.View.{view}
 use Rattle.jptr_tasks.proofs.InverseLemmas.{not_patch, not_json, not_applied, not_printed}
 use Rattle.jptr_tasks.proofs.inverse.inverse_of.Goals as goal
 
-pub returns-in_err-operations-clause-failed : goal.returns-in_err-operations-clause-failed
-returns-in_err-operations-clause-failed c =
+pub returns-in_err-operations-clause-refused : goal.returns-in_err-operations-clause-refused
+returns-in_err-operations-clause-refused c =
     let p = err_from_is_err_and c.from_residual.result c.from_residual.ensures.1 in
-    rw (p.1, p.2) (not_patch c.args.text.now (view c.args.patch.now) _ c.in_err-operations.ensures.failed)
+    rw (p.1, p.2) (not_patch c.args.text.now (view c.args.patch.now) _ c.in_err-operations.ensures.refused)
 
-pub returns-in_err-document-clause-failed : goal.returns-in_err-document-clause-failed
-returns-in_err-document-clause-failed c =
+pub returns-in_err-document-clause-refused : goal.returns-in_err-document-clause-refused
+returns-in_err-document-clause-refused c =
     let p = err_from_is_err_and c.from_residual-in_err-document.result c.from_residual-in_err-document.ensures.1 in
-    rw (p.1, p.2) (not_json c.args.text.now (view c.args.patch.now) c.in_ok-operations.operations.items _ c.in_ok-operations.ensures.done c.in_err-document.ensures.failed)
+    rw (p.1, p.2) (not_json c.args.text.now (view c.args.patch.now) c.in_ok-operations.operations.items _ c.in_ok-operations.ensures.read c.in_err-document.ensures.refused)
 
-pub returns-in_err-back-clause-failed : goal.returns-in_err-back-clause-failed
-returns-in_err-back-clause-failed c =
+pub returns-in_err-back-clause-refused : goal.returns-in_err-back-clause-refused
+returns-in_err-back-clause-refused c =
     let p = err_from_is_err_and c.from_residual-in_err-back.result c.from_residual-in_err-back.ensures.1 in
-    rw (p.1, p.2) (not_applied c.args.text.now (view c.args.patch.now) (view c.in_ok-document.document) c.in_ok-operations.operations.items _ c.in_ok-operations.ensures.done c.in_ok-document.ensures.done c.in_err-back.ensures.failed)
+    rw (p.1, p.2) (not_applied c.args.text.now (view c.args.patch.now) (view c.in_ok-document.document) c.in_ok-operations.operations.items _ c.in_ok-operations.ensures.read c.in_ok-document.ensures.read c.in_err-back.ensures.refused)
 
-pub returns-in_err-text-clause-failed : goal.returns-in_err-text-clause-failed
-returns-in_err-text-clause-failed c =
+pub returns-in_err-text-clause-refused : goal.returns-in_err-text-clause-refused
+returns-in_err-text-clause-refused c =
     let p = err_from_is_err_and c.from_residual-in_err-text.result c.from_residual-in_err-text.ensures.1 in
-    rw (p.1, p.2) (not_printed c.args.text.now (view c.args.patch.now) (view c.in_ok-document.document) c.in_ok-operations.operations.items c.in_ok-back.back.items _ _ c.in_ok-operations.ensures.done c.in_ok-document.ensures.done c.in_ok-back.ensures.applied c.in_ok-back.ensures.inverse c.in_err-text.ensures.failed)
+    rw (p.1, p.2) (not_printed c.args.text.now (view c.args.patch.now) (view c.in_ok-document.document) c.in_ok-operations.operations.items c.in_ok-back.back.items _ _ c.in_ok-operations.ensures.read c.in_ok-document.ensures.read c.in_ok-back.ensures.applied c.in_ok-back.ensures.inverse c.in_err-text.ensures.refused)

@@ -3,8 +3,8 @@ use Rattle.serde_json.specs.Data.{Data, depth}
 use Rattle.serde_json.specs.Read.{read, max_depth}
 use Rattle.serde_json.proofs.Nesting.{depth-read}
 use Rattle.jsonptr.proofs.Calling.{ascends_read}
-use Rattle.jsonptr_tree.specs.Json.{nodes}
-use Rattle.jsonptr_tree.specs.Node.{NodeMap}
+use Rattle.jsonptr.specs.Json.{nodes}
+use Rattle.jsonptr.specs.Node.{NodeMap}
 use Rattle.jsonptr_value.specs.Nesting.{NestsWithin}
 use Rattle.jsonptr_value.proofs.LevelLemmas.{NestsWithin-depth}
 use Rattle.jsonptr_value.proofs.NestingLemmas.{NestsWithin-more}

@@ -5,7 +5,7 @@ use Rattle.jptr_tasks.proofs.node.read_keys.Goals as goal
 
 pub members-preserved : goal.members-preserved
 members-preserved c =
-    let r = c.in_ok-skip.ensures.ok in
+    let r = c.in_ok-skip.ensures.passed in
     let key = c.in_ok-key.key in
     let named = a_key c.in_ok-name.field-0 c.in-Some.name c.members.reader c.next_key.new.self c.in_ok-name.ensures.value c.in-Some.is in
     let appended : c.push.new.self.items ≡ c.members.keys.items ++ key ∷ [] = search rules in

@@ -4,9 +4,9 @@ use Rattle.jsonptr_edit_in_text.specs.RawPatching.{operations_in, RawPatchBytes}
 use Rattle.jsonptr_edit_in_text.specs.declared.raw_operation.RawOperation.{RawOperation}
 use Rattle.jptr_tasks.proofs.patching.patch_in_place.Goals as goal
 
-pub returns-in-Some-clause-done : goal.returns-in-Some-clause-done
-returns-in-Some-clause-done c =
-    let done = rw c.in-Some.is at c.in_ok-made.ensures.done in
+pub returns-in-Some-clause-patched : goal.returns-in-Some-clause-patched
+returns-in-Some-clause-patched c =
+    let done = rw c.in-Some.is at c.in_ok-made.ensures.patched in
     subst (λ (rs : List RawOperation). PatchesInText c.args.text.now (operations_in rs) (string_bytes c.in-Some.new)) c.as_slice.ensures.value done
 
 pub returns-in-Some-clause-bytes : goal.returns-in-Some-clause-bytes

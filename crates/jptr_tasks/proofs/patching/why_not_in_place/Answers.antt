@@ -6,8 +6,8 @@ use Rattle.jptr_tasks.proofs.patching.why_not_in_place.Goals as goal
 
 pub returns-in-Ok : goal.returns-in-Ok
 returns-in-Ok c =
-    let h = c.in-Ok.ensures.done in
+    let h = c.in-Ok.ensures.patched in
     (refl, (h.0, _, h.1, h.2))
 
 pub returns-in-Err : goal.returns-in-Err
-returns-in-Err c = fails_anew c.args.text.now (view c.args.document.now) Kept c.in-Err.failure c.in-Err.ensures.failed
+returns-in-Err c = fails_anew c.args.text.now (view c.args.document.now) Kept c.in-Err.failure c.in-Err.ensures.refused

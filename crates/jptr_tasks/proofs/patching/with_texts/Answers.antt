@@ -13,5 +13,5 @@ invariant_of-result c =
 pub returns-in-Some-clause-texts : goal.returns-in-Some-clause-texts
 returns-in-Some-clause-texts c = rw c.in-Some.is at c.in_ok-found.ensures.texts
 
-pub returns-in-None-clause-failed : goal.returns-in-None-clause-failed
-returns-in-None-clause-failed c = (c.args.operations.items, c.requires)
+pub returns-in-None-clause-refused : goal.returns-in-None-clause-refused
+returns-in-None-clause-refused c = (c.args.operations.items, c.requires)

@@ -1,13 +1,13 @@
 use Rattle.std.proofs.Common.{length, subst}
 use Rattle.serde_json.specs.View.{view}
-use Rattle.jsonptr_c_calls.specs.Failures.{FailsOn}
+use Rattle.jsonptr_c_calls.specs.Failures.{FailsOnHandle}
 use Rattle.jsonptr_c_calls.specs.Patches.{IsNotCompared}
-use Rattle.jsonptr_c_calls.specs.declared.values.Layout.{Layout}
+use Rattle.jsonptr_c_calls.specs.declared.values.TextLayout.{TextLayout}
 use Rattle.jsonptr_c.proofs.documents.jsonptrcore_document_diff.Goals as goal
 
 pub returns-in-Err-clause-refused : goal.returns-in-Err-clause-refused
 returns-in-Err-clause-refused c = λ failed. (
   c.in-Err.failure,
   c.fail_with_length.ensures.reported,
-  subst (λ (l : Layout). FailsOn c.args.old.now (λ v. FailsOn c.args.new.now (λ w. IsNotCompared l (view v) (view w) (length c.args.out.now) c.in-Err.failure) c.in-Err.failure) c.in-Err.failure) c.layout.ensures c.in-Err.ensures.refused,
+  subst (λ (l : TextLayout). FailsOnHandle c.args.old.now (λ v. FailsOnHandle c.args.new.now (λ w. IsNotCompared l (view v) (view w) (length c.args.out.now) c.in-Err.failure) c.in-Err.failure) c.in-Err.failure) c.layout.ensures c.in-Err.ensures.refused,
 )

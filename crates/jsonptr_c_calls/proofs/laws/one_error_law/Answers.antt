@@ -1,5 +1,5 @@
 use Rattle.jsonptr_patch.specs.declared.comparison.Comparison.TheVariants.{Numeric}
-use Rattle.jsonptr_c_calls.proofs.LawLemmas.{no_pointers, no_tokens, not_escaped, not_pushed, not_popped, not_parsed, not_parsed_exactly, pointer_lacked, not_printed_in, not_read_in, unfound_in, not_assigned_in, not_deleted_in, not_patch, not_applied, not_patched, not_printed_from}
+use Rattle.jsonptr_c_calls.proofs.LawLemmas.{no_pointers, no_tokens, not_escaped, not_pushed, not_popped, not_parsed, not_parsed_exactly, pointer_lacked, not_printed_in, not_read_in, unfound_in, not_assigned_in, not_deleted_in, not_patch, not_applied, not_patched, not_printed_from, not_located, lacks_location}
 use Rattle.jsonptr_c_calls.proofs.laws.one_error_law.Goals as goal
 
 pub returns-clause-count : goal.returns-clause-count
@@ -52,3 +52,9 @@ returns-clause-take_back c = not_patched c.parse_law.ensures.not_both (c.compari
 
 pub returns-clause-print_in : goal.returns-clause-print_in
 returns-clause-print_in c = not_printed_from c.parse_law.ensures.not_both
+
+pub returns-clause-locate : goal.returns-clause-locate
+returns-clause-locate c = not_located c.parse_law.ensures.not_both
+
+pub returns-clause-location : goal.returns-clause-location
+returns-clause-location c = lacks_location c.parse_law.ensures.not_both

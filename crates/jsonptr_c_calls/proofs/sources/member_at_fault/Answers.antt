@@ -9,8 +9,8 @@ use Rattle.jsonptr_c_calls.specs.Sources.{IsFaultOf}
 use Rattle.jsonptr_c_calls.proofs.SourceLemmas.{is_document, never_applied, told}
 use Rattle.jsonptr_c_calls.proofs.sources.member_at_fault.Goals as goal
 
-pub returns-in-Err-Refused-clause-fault : goal.returns-in-Err-Refused-clause-fault
-returns-in-Err-Refused-clause-fault c =
+pub returns-in-Err-Refused-clause-member : goal.returns-in-Err-Refused-clause-member
+returns-in-Err-Refused-clause-member c =
     let document = view c.args.document.now in
     let operations = c.args.operations.items in
     let from = c.args.from in

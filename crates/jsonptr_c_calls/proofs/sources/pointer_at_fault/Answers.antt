@@ -8,8 +8,8 @@ use Rattle.jsonptr_c_calls.specs.Failures.{IsOutOfMemory}
 use Rattle.jsonptr_c_calls.proofs.SourceLemmas.{front_again, only_memory}
 use Rattle.jsonptr_c_calls.proofs.sources.pointer_at_fault.Goals as goal
 
-pub returns-in_err-operations-clause-memory : goal.returns-in_err-operations-clause-memory
-returns-in_err-operations-clause-memory c =
+pub returns-in_err-operations-clause-refused : goal.returns-in_err-operations-clause-refused
+returns-in_err-operations-clause-refused c =
     let memory : IsOutOfMemory c.in_err-operations.field-0.0 = only_memory c.patch_document_law.ensures.not_both c.args.text.now c.requires.applied.0 c.in_err-operations.field-0.0 c.requires.utf8 c.requires.applied.2 c.in_err-operations.ensures.refused in
     search (rules, memory)
 

@@ -4,8 +4,8 @@ use Rattle.jsonptr_command.specs.PrivateOperations.{form_of}
 use Rattle.jsonptr_command.proofs.FormsLemmas.{words_more, pushed, refused_behind}
 use Rattle.jsonptr_command.proofs.operations.read_forms.Goals as goal
 
-pub returns-in_default-clause-err : goal.returns-in_default-clause-err
-returns-in_default-clause-err c = inl (refused_behind form_of string_bytes c.loop-rest.forms.items c.args.words.now c.loop-rest.rest.now c.loop-rest.invariant c.loop-rest-test.ensures c.in_default.ensures, refl)
+pub returns-in_default-clause-refused : goal.returns-in_default-clause-refused
+returns-in_default-clause-refused c = inl (refused_behind form_of string_bytes c.loop-rest.forms.items c.args.words.now c.loop-rest.rest.now c.loop-rest.invariant c.loop-rest-test.ensures c.in_default.ensures, refl)
 
 pub loop-rest-preserved : goal.loop-rest-preserved
 loop-rest-preserved c =

@@ -4,20 +4,20 @@ use Rattle.serde_json.specs.View.{view}
 use Rattle.jsonptr_command.proofs.AnswerLemmas.{after_document, either_given, line_given, fault_given, input_fault_given, value_given}
 use Rattle.jsonptr_command.proofs.run.document_line.Goals as goal
 
-pub returns-in_err-document-clause-err : goal.returns-in_err-document-clause-err
-returns-in_err-document-clause-err g c =
+pub returns-in_err-document-clause-refused : goal.returns-in_err-document-clause-refused
+returns-in_err-document-clause-refused g c =
     let p = err_from_is_err_and c.from_residual.result c.from_residual.ensures.1 in
-    rw (p.1, p.2) (input_fault_given c.args.change _ _ c.in_err-document.ensures.err)
+    rw (p.1, p.2) (input_fault_given c.args.change _ _ c.in_err-document.ensures.refused)
 
-pub returns-clause-ok : goal.returns-clause-ok
-returns-clause-ok g c =
+pub returns-clause-line : goal.returns-clause-line
+returns-clause-line g c =
     IfOk-weaker c.changed_line-line.result _ _
-    (λ line h. line_given c.args.change _ (view c.in_ok-document.document) c.in_ok-document.ensures.value (string_bytes line) h) c.changed_line-line.ensures.ok
+    (λ line h. line_given c.args.change _ (view c.in_ok-document.document) c.in_ok-document.ensures.value (string_bytes line) h) c.changed_line-line.ensures.line
 
-pub returns-clause-err : goal.returns-clause-err
-returns-clause-err g c =
+pub returns-clause-refused : goal.returns-clause-refused
+returns-clause-refused g c =
     IfErr-weaker c.changed_line-line.result _ _
-    (λ e h. fault_given c.args.change _ (view c.in_ok-document.document) c.in_ok-document.ensures.value e h) c.changed_line-line.ensures.err
+    (λ e h. fault_given c.args.change _ (view c.in_ok-document.document) c.in_ok-document.ensures.value e h) c.changed_line-line.ensures.refused
 
 pub returns-clause-value : goal.returns-clause-value
 returns-clause-value g c =
@@ -27,10 +27,10 @@ returns-clause-value g c =
 pub returns-clause-unchanged : goal.returns-clause-unchanged
 returns-clause-unchanged g c =
     IfErr-weaker c.changed_line-line.result _ _
-    (λ e h before. absurd (after_document c.args.change (view c.in_ok-document.document) e h before)) c.changed_line-line.ensures.err
+    (λ e h before. absurd (after_document c.args.change (view c.in_ok-document.document) e h before)) c.changed_line-line.ensures.refused
 
-pub returns-clause-memory : goal.returns-clause-memory
-returns-clause-memory g c =
+pub returns-clause-out_of_memory : goal.returns-clause-out_of_memory
+returns-clause-out_of_memory g c =
     IfErr-weaker c.changed_line-line.result _ _
     (λ e h is. inr (either_given c.args.change _ (view c.in_ok-document.document) c.in_ok-document.ensures.value _ c.changed_line-line.ensures.either))
-    c.changed_line-line.ensures.err
+    c.changed_line-line.ensures.refused

@@ -4,17 +4,17 @@ use Rattle.jsonptr.specs.Text.{Text}
 use Rattle.jsonptr_command.proofs.CommandLemmas.{pointer_refused}
 use Rattle.jsonptr_command.proofs.run.read_two.Goals as goal
 
-pub returns-in_err-parse-in-resolve-clause-err : goal.returns-in_err-parse-in-resolve-clause-err
-returns-in_err-parse-in-resolve-clause-err c =
+pub returns-in_err-parse-in-resolve-clause-refused : goal.returns-in_err-parse-in-resolve-clause-refused
+returns-in_err-parse-in-resolve-clause-refused c =
     pointer_refused _ c.from_residual.result c.args.pointer.now c.in_err-parse-in-resolve.field-0.0 c.from_residual.ensures.1
-    (inl (ap (λ (x : Text). x ∷ c.args.pointer.now ∷ []) c.in-resolve.is)) c.in_err-parse-in-resolve.ensures.fault
+    (inl (ap (λ (x : Text). x ∷ c.args.pointer.now ∷ []) c.in-resolve.is)) c.in_err-parse-in-resolve.ensures.refused
 
-pub returns-in_err-parse-in-tokens-clause-err : goal.returns-in_err-parse-in-tokens-clause-err
-returns-in_err-parse-in-tokens-clause-err c =
+pub returns-in_err-parse-in-tokens-clause-refused : goal.returns-in_err-parse-in-tokens-clause-refused
+returns-in_err-parse-in-tokens-clause-refused c =
     pointer_refused _ c.from_residual-in_err-parse-in-tokens.result c.args.pointer.now c.in_err-parse-in-tokens.field-0.0 c.from_residual-in_err-parse-in-tokens.ensures.1
-    (inr (inl (ap (λ (x : Text). x ∷ c.args.pointer.now ∷ []) c.in-tokens.is))) c.in_err-parse-in-tokens.ensures.fault
+    (inr (inl (ap (λ (x : Text). x ∷ c.args.pointer.now ∷ []) c.in-tokens.is))) c.in_err-parse-in-tokens.ensures.refused
 
-pub returns-in_err-parse-in-delete-clause-err : goal.returns-in_err-parse-in-delete-clause-err
-returns-in_err-parse-in-delete-clause-err c =
+pub returns-in_err-parse-in-delete-clause-refused : goal.returns-in_err-parse-in-delete-clause-refused
+returns-in_err-parse-in-delete-clause-refused c =
     pointer_refused _ c.from_residual-in_err-parse-in-delete.result c.args.pointer.now c.in_err-parse-in-delete.field-0.0 c.from_residual-in_err-parse-in-delete.ensures.1
-    (inr (inr (inr (inl (ap (λ (x : Text). x ∷ c.args.pointer.now ∷ []) c.in-delete.is))))) c.in_err-parse-in-delete.ensures.fault
+    (inr (inr (inr (inl (ap (λ (x : Text). x ∷ c.args.pointer.now ∷ []) c.in-delete.is))))) c.in_err-parse-in-delete.ensures.refused

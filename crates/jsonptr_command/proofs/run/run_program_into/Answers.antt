@@ -15,13 +15,13 @@ returns-in_err-line-clause-left g c =
     rw (p.1, p.2) (leaves_more (g.R.Read.remaining c.args.input.now)
     (λ (bytes : List ℕ). HasValueOf request bytes value)
     (λ (bytes : List ℕ). ForRequest (map string_bytes c.args.words.now) (λ asked. HasValueOf asked bytes value))
-    (λ bytes h. (request, c.in_ok-request.ensures.ok, h)) (option_map view c.args.value.now) value _ c.in_err-line.ensures.left)
+    (λ bytes h. (request, c.in_ok-request.ensures.asked, h)) (option_map view c.args.value.now) value _ c.in_err-line.ensures.left)
 
-pub returns-in_err-write_line-clause-written : goal.returns-in_err-write_line-clause-written
-returns-in_err-write_line-clause-written g c = λ is. (request_of c.in_ok-request.request, c.in_ok-request.ensures.ok, c.in_ok-line.ensures.value)
+pub returns-in_err-write_and_flush-clause-written : goal.returns-in_err-write_and_flush-clause-written
+returns-in_err-write_and_flush-clause-written g c = λ is. (request_of c.in_ok-request.request, c.in_ok-request.ensures.asked, c.in_ok-line.ensures.value)
 
 pub returns-clause-value : goal.returns-clause-value
 returns-clause-value g c = λ needs.
     let request = request_of c.in_ok-request.request in
-    let same = request_one (map string_bytes c.args.words.now) needs.0 request needs.1 c.in_ok-request.ensures.ok in
-    (request, c.in_ok-request.ensures.ok, c.in_ok-line.ensures.value (subst NeedsInput same needs.2))
+    let same = request_one (map string_bytes c.args.words.now) needs.0 request needs.1 c.in_ok-request.ensures.asked in
+    (request, c.in_ok-request.ensures.asked, c.in_ok-line.ensures.value (subst NeedsInput same needs.2))

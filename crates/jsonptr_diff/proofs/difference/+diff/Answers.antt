@@ -152,15 +152,15 @@ diff_elements-returns-clause-turns t c =
 
 pub diff_gap-returns-clause-splices : goal.diff_gap-returns-clause-splices
 diff_gap-returns-clause-splices t c =
-    let whole = view (Array c.args.new.now) in
+    let whole = view (Array c.args.gap.new.now) in
     let base = tokens_of c.args.at.now in
     let old = array_map c.args.old.now in
-    let new = array_map c.args.new.now in
+    let new = array_map c.args.gap.new.now in
     let both = c.if-gap.both in
     let removed = c.args.gap.removed in
     let added = c.args.gap.added in
-    let from = c.args.start.from in
-    let to = c.args.start.to in
+    let from = c.args.gap.from in
+    let to = c.args.gap.to in
     let bound : both ≤ removed = elim c.if-gap.branch [
       | diff_gap-then-gap w ↦ omega (arith, w.both-is)
       | diff_gap-else-gap w ↦ omega (arith, w.both-is, w.if-gap.false)
@@ -178,32 +178,32 @@ diff_gap-returns-clause-splices t c =
 pub follow_elements-loop-done-preserved : goal.follow_elements-loop-done-preserved
 follow_elements-loop-done-preserved t c = record {
   splices = λ first left togo all e s.
-      let whole = view (Array c.args.new.now) in
+      let whole = view (Array c.args.pairs.new.now) in
       let base = tokens_of c.args.at.now in
       let old = array_map c.args.old.now in
-      let new = array_map c.args.new.now in
-      let from = c.args.start.from + c.loop-done.done in
-      let to = c.args.start.to + c.loop-done.done in
+      let new = array_map c.args.pairs.new.now in
+      let from = c.args.pairs.from + c.loop-done.done in
+      let to = c.args.pairs.to + c.loop-done.done in
       let inside : from < length c.args.old.now.items = omega (arith, c.loop-done-test.true, c.requires.old) in
-      let within : to < length c.args.new.now.items = omega (arith, c.loop-done-test.true, c.requires.new) in
+      let within : to < length c.args.pairs.new.now.items = omega (arith, c.loop-done-test.true, c.requires.new) in
       let before = c.loop-done.invariant.splices first left (suc togo) all (omega (arith, e)) s in
       let here = splices_at whole first c.loop-done.patch.items base old new to from (suc togo + left) to from (suc (togo + left)) refl refl (omega arith) before in
-      splices_at whole first c.diff_at.new.patch.items base old new (suc to) (suc from) (togo + left) (c.args.start.to + (c.loop-done.done + 1)) (c.args.start.from + (c.loop-done.done + 1)) (togo + left) (omega arith) (omega arith) refl
+      splices_at whole first c.diff_at.new.patch.items base old new (suc to) (suc from) (togo + left) (c.args.pairs.to + (c.loop-done.done + 1)) (c.args.pairs.from + (c.loop-done.done + 1)) (togo + left) (omega arith) (omega arith) refl
       (splices_put whole (view c.index-in-loop-done.result.now) first c.loop-done.patch.items c.diff_at.new.patch.items base old new to from (togo + left) (length c.args.old.now.items) (nodes (view c.index.result.now)) (nodes (view c.index-in-loop-done.result.now))
-      (element_sorted c.args.new.now to c.index-in-loop-done.result.now within c.index-in-loop-done.ensures) (array_is_array c.args.old.now) inside
-      (element_read c.args.old.now from c.index.result.now inside c.index.ensures) (element_read c.args.new.now to c.index-in-loop-done.result.now within c.index-in-loop-done.ensures)
+      (element_sorted c.args.pairs.new.now to c.index-in-loop-done.result.now within c.index-in-loop-done.ensures) (array_is_array c.args.old.now) inside
+      (element_read c.args.old.now from c.index.result.now inside c.index.ensures) (element_read c.args.pairs.new.now to c.index-in-loop-done.result.now within c.index-in-loop-done.ensures)
       here c.in_ok-diff_at.ensures.turns);
-  parts = appends_join (IsPartBelow (tokens_of c.args.at.now)) c.args.patch.now.items c.loop-done.patch.items c.diff_at.new.patch.items c.loop-done.invariant.parts (parts_under (tokens_of c.args.at.now) (dec (c.args.start.to + c.loop-done.done)) (nodes (view c.index.result.now)) (nodes (view c.index-in-loop-done.result.now)) c.loop-done.patch.items c.diff_at.new.patch.items c.in_ok-diff_at.ensures.changes);
+  parts = appends_join (IsPartBelow (tokens_of c.args.at.now)) c.args.patch.now.items c.loop-done.patch.items c.diff_at.new.patch.items c.loop-done.invariant.parts (parts_under (tokens_of c.args.at.now) (dec (c.args.pairs.to + c.loop-done.done)) (nodes (view c.index.result.now)) (nodes (view c.index-in-loop-done.result.now)) c.loop-done.patch.items c.diff_at.new.patch.items c.in_ok-diff_at.ensures.changes);
   kept = λ same.
       let v = c.index.result.now in
       let w = c.index-in-loop-done.result.now in
-      let here : IsSame v w = subst (λ (u : Value). IsSame u w) (sym c.index.ensures) (subst (λ (u : Value). IsSame (get_or c.args.old.now.items (c.args.start.from + c.loop-done.done) v) u) (sym c.index-in-loop-done.ensures) (same c.loop-done.done v w c.loop-done-test.true)) in
-      changes_kept (tokens_of c.args.at.now ++ dec (c.args.start.to + c.loop-done.done) ∷ []) (nodes (view v)) (nodes (view w)) c.loop-done.patch.items c.diff_at.new.patch.items refl (none_of_same v w here) c.in_ok-diff_at.ensures.changes ∙ c.loop-done.invariant.kept same;
+      let here : IsSame v w = subst (λ (u : Value). IsSame u w) (sym c.index.ensures) (subst (λ (u : Value). IsSame (get_or c.args.old.now.items (c.args.pairs.from + c.loop-done.done) v) u) (sym c.index-in-loop-done.ensures) (same c.loop-done.done v w c.loop-done-test.true)) in
+      changes_kept (tokens_of c.args.at.now ++ dec (c.args.pairs.to + c.loop-done.done) ∷ []) (nodes (view v)) (nodes (view w)) c.loop-done.patch.items c.diff_at.new.patch.items refl (none_of_same v w here) c.in_ok-diff_at.ensures.changes ∙ c.loop-done.invariant.kept same;
 }
 
 pub follow_elements-loop-done-init : goal.follow_elements-loop-done-init
 follow_elements-loop-done-init t c = record {
-  splices = λ first left togo all t s. splices_at (view (Array c.args.new.now)) first c.args.patch.now.items (tokens_of c.args.at.now) (array_map c.args.old.now) (array_map c.args.new.now) c.args.start.to c.args.start.from (c.args.count + left) (c.args.start.to + 0) (c.args.start.from + 0) (togo + left) (omega arith) (omega arith) (omega (arith, t)) s;
+  splices = λ first left togo all t s. splices_at (view (Array c.args.pairs.new.now)) first c.args.patch.now.items (tokens_of c.args.at.now) (array_map c.args.old.now) (array_map c.args.pairs.new.now) c.args.pairs.to c.args.pairs.from (c.args.pairs.count + left) (c.args.pairs.to + 0) (c.args.pairs.from + 0) (togo + left) (omega arith) (omega arith) (omega (arith, t)) s;
   parts = appends_none (IsPartBelow (tokens_of c.args.at.now)) c.args.patch.now.items;
   kept = λ same. refl;
 }
@@ -216,8 +216,8 @@ follow_elements-returns-clause-kept t c = c.loop-done.invariant.kept
 
 pub follow_elements-returns-clause-splices : goal.follow_elements-returns-clause-splices
 follow_elements-returns-clause-splices t c = λ first left all s.
-    let done : c.loop-done.done ≡ c.args.count = omega (arith, c.loop-done-test.false, c.loop-done.auto.done-end) in
-    splices_at (view (Array c.args.new.now)) first c.loop-done.patch.items (tokens_of c.args.at.now) (array_map c.args.old.now) (array_map c.args.new.now) (c.args.start.to + c.loop-done.done) (c.args.start.from + c.loop-done.done) (0 + left) (c.args.start.to + c.args.count) (c.args.start.from + c.args.count) left (omega (arith, done)) (omega (arith, done)) (omega arith)
+    let done : c.loop-done.done ≡ c.args.pairs.count = omega (arith, c.loop-done-test.false, c.loop-done.auto.done-end) in
+    splices_at (view (Array c.args.pairs.new.now)) first c.loop-done.patch.items (tokens_of c.args.at.now) (array_map c.args.old.now) (array_map c.args.pairs.new.now) (c.args.pairs.to + c.loop-done.done) (c.args.pairs.from + c.loop-done.done) (0 + left) (c.args.pairs.to + c.args.pairs.count) (c.args.pairs.from + c.args.pairs.count) left (omega (arith, done)) (omega (arith, done)) (omega arith)
     (c.loop-done.invariant.splices first left 0 all (omega (arith, done)) s)
 
 -- ---- which operations are appended
@@ -279,9 +279,9 @@ diff_elements-returns-clause-changes t c =
     (omega (arith, past), omega (arith, past, both, k.0, inv.new)) in
     ok_both c.add_elements.result _ _ _
     (λ added kept. elements_change c.args.old.now c.args.new.now (tokens_of c.args.at.now) c.args.patch.now.items c.add_elements.new.patch.items
-    (λ all. kept (ends all).1 ∙ c.in_ok-remove_elements.ensures.kept (ends all).0 ∙ (inv.kept all).1)
+    (λ all. kept (ends all).1 ∙ c.in_ok-remove_elements.ensures.unchanged (ends all).0 ∙ (inv.kept all).1)
     (appends_join P c.args.patch.now.items c.remove_elements.new.patch.items c.add_elements.new.patch.items (appends_join P c.args.patch.now.items c.loop-from.patch.items c.remove_elements.new.patch.items inv.parts c.in_ok-remove_elements.ensures.parts) added))
-    c.add_elements.ensures.parts c.add_elements.ensures.kept
+    c.add_elements.ensures.parts c.add_elements.ensures.unchanged
 
 pub diff_gap-returns-clause-kept : goal.diff_gap-returns-clause-kept
 diff_gap-returns-clause-kept t c =
@@ -292,10 +292,10 @@ diff_gap-returns-clause-kept t c =
       | diff_gap-then-gap w ↦ w.both-is
       | diff_gap-else-gap w ↦ w.both-is ∙ sym even
     ] in
-    kept (ap (λ n. c.args.start.to + n) (all ∙ even))
-    ∙ c.in_ok-remove_elements.ensures.kept (omega (arith, all))
-    ∙ c.in_ok-follow_elements.ensures.kept (subst (λ (n : ℕ). AreSameFrom c.args.old.now.items c.args.start.from c.args.new.now.items c.args.start.to n) (sym all) same))
-    c.add_elements.ensures.kept
+    kept (ap (λ n. c.args.gap.to + n) (all ∙ even))
+    ∙ c.in_ok-remove_elements.ensures.unchanged (omega (arith, all))
+    ∙ c.in_ok-follow_elements.ensures.kept (subst (λ (n : ℕ). AreSameFrom c.args.old.now.items c.args.gap.from c.args.gap.new.now.items c.args.gap.to n) (sym all) same))
+    c.add_elements.ensures.unchanged
 
 pub diff_at-returns-in_default-clause-changes : goal.diff_at-returns-in_default-clause-changes
 diff_at-returns-in_default-clause-changes t c = ok_all c.replace_other.result _ _ (λ h. h (leaf_kind c.args.old.now (nodes (view c.args.new.now) []) c.in_default.not-Object c.in_default.not-Array)) c.replace_other.ensures.changes

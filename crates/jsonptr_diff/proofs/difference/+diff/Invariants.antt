@@ -23,11 +23,11 @@ decreases-diff_elements-loop-from l = (l.old_end - l.from) + (l.new_end - l.to)
 abbrev pub invariant-follow_elements-loop-done : goal.invariant-follow_elements-loop-done
 invariant-follow_elements-loop-done l = record {
   parts : AppendsParts (tokens_of l.at) l.fn.patch.items l.patch.items;
-  kept : AreSameFrom l.old.items l.start.from l.new.items l.start.to l.count → l.patch.items ≡ l.fn.patch.items;
+  kept : AreSameFrom l.old.items l.pairs.from l.pairs.new.now.items l.pairs.to l.pairs.count → l.patch.items ≡ l.fn.patch.items;
   splices : (first : List Operation) (left togo : ℕ)
-      → l.start.from + (l.count + left) ≡ length l.old.items → l.done + togo ≡ l.count
-      → Splices (view (Array l.new)) first l.fn.patch.items (tokens_of l.at) (array_map l.old) (array_map l.new) l.start.to l.start.from (l.count + left)
-      → Splices (view (Array l.new)) first l.patch.items (tokens_of l.at) (array_map l.old) (array_map l.new) (l.start.to + l.done) (l.start.from + l.done) (togo + left);
+      → l.pairs.from + (l.pairs.count + left) ≡ length l.old.items → l.done + togo ≡ l.pairs.count
+      → Splices (view (Array l.pairs.new.now)) first l.fn.patch.items (tokens_of l.at) (array_map l.old) (array_map l.pairs.new.now) l.pairs.to l.pairs.from (l.pairs.count + left)
+      → Splices (view (Array l.pairs.new.now)) first l.patch.items (tokens_of l.at) (array_map l.old) (array_map l.pairs.new.now) (l.pairs.to + l.done) (l.pairs.from + l.done) (togo + left);
 }
 
 abbrev pub invariant-follow_members-loop-key : goal.invariant-follow_members-loop-key

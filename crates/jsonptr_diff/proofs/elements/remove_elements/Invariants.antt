@@ -1,6 +1,6 @@
 use Rattle.std.proofs.Common.{◌≡◌, ℕ, ◌+◌, ◌≤◌, List}
 use Rattle.serde_json.specs.Data.{Data}
-use Rattle.jsonptr_tree.specs.Node.{NodeMap}
+use Rattle.jsonptr.specs.Node.{NodeMap}
 use Rattle.jsonptr_patch.specs.declared.operation.Operation.{Operation}
 use Rattle.jsonptr_diff.specs.PrivateDiff.{tokens_of, AppendsParts, IsArray, Splices}
 use Rattle.jsonptr_diff.proofs.elements.remove_elements.Given as goal

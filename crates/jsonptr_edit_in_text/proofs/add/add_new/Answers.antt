@@ -8,34 +8,34 @@ use Rattle.jsonptr_edit_in_text.proofs.add.add_new.Goals as goal
 
 pub returns-then-starts_with-clause-added : goal.returns-then-starts_with-clause-added
 returns-then-starts_with-clause-added c =
-    let old = c.args.text.now in
-    let front = tokens c.args.pointer in
+    let old = c.args.site.now.text.now in
+    let front = tokens c.args.site.now.pointer in
     let x = c.args.token.now in
-    let flat = string_bytes c.args.value.now.flat in
+    let flat = string_bytes c.args.printed.now.flat in
     if_new c.add_member.result
     (λ s. ReachedInText old (string_bytes s) front (MemberAdded x flat))
     (λ s. AddsInText old (front ++ x ∷ []) flat (string_bytes s))
     (λ s h. adds_member old (string_bytes s) front x flat h)
     c.add_member.ensures.reached
 
-pub returns-in-Ok-Next-clause-added : goal.returns-in-Ok-Next-clause-added
-returns-in-Ok-Next-clause-added c =
-    let old = c.args.text.now in
-    let front = tokens c.args.pointer in
+pub returns-then-is_next-clause-added : goal.returns-then-is_next-clause-added
+returns-then-is_next-clause-added c =
+    let old = c.args.site.now.text.now in
+    let front = tokens c.args.site.now.pointer in
     let x = c.args.token.now in
-    let flat = string_bytes c.args.value.now.flat in
+    let flat = string_bytes c.args.printed.now.flat in
     if_new c.append.result
     (λ s. ReachedInText old (string_bytes s) front (ElementAppended x flat))
     (λ s. AddsInText old (front ++ x ∷ []) flat (string_bytes s))
     (λ s h. adds_last old (string_bytes s) front x flat h)
     c.append.ensures.reached
 
-pub returns-in-Ok-Num-clause-added : goal.returns-in-Ok-Num-clause-added
-returns-in-Ok-Num-clause-added c =
-    let old = c.args.text.now in
-    let front = tokens c.args.pointer in
+pub returns-else-is_next-clause-added : goal.returns-else-is_next-clause-added
+returns-else-is_next-clause-added c =
+    let old = c.args.site.now.text.now in
+    let front = tokens c.args.site.now.pointer in
     let x = c.args.token.now in
-    let flat = string_bytes c.args.value.now.flat in
+    let flat = string_bytes c.args.printed.now.flat in
     if_new c.insert.result
     (λ s. ReachedInText old (string_bytes s) front (ElementInserted x flat))
     (λ s. AddsInText old (front ++ x ∷ []) flat (string_bytes s))

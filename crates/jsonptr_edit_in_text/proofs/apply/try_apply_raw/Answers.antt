@@ -1,6 +1,6 @@
 use Rattle.std.proofs.Common.{◌∷◌, List, Option, String, IfOk, IfSome, string_bytes, sym, subst}
 use Rattle.std.specs.declared.alloc.Global.{Global}
-use Rattle.jsonptr_grammar.specs.Text.{Text}
+use Rattle.jsonptr.specs.Text.{Text}
 use Rattle.jsonptr_edit_in_text.specs.PatchInText.{PatchesInText}
 use Rattle.jsonptr_edit_in_text.specs.PrivateOperating.{OperatesInText}
 use Rattle.jsonptr_edit_in_text.specs.RawPatching.{operations_in, GivenBytes, RawPatchBytes}

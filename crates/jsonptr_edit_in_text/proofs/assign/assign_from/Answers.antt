@@ -1,8 +1,8 @@
 use Rattle.std.proofs.Common.{◌≡◌, ◌++◌, [], List, IfOk, IfSome, inl, inr, string_bytes, sym, ap, ◌∙◌, subst, append-nil, arith}
-use Rattle.jsonptr_grammar.specs.Text.{Text}
+use Rattle.jsonptr.specs.Text.{Text}
 use Rattle.jsonptr.specs.Pointer.{tokens}
-use Rattle.jsonptr_tree.specs.Json.{nodes}
-use Rattle.jsonptr_edit_in_text.specs.Carrying.{value_of}
+use Rattle.jsonptr.specs.Json.{nodes}
+use Rattle.jsonptr_edit_in_text.specs.Carrying.{value_of_raw}
 use Rattle.jsonptr_edit_in_text.specs.EditInText.{AssignsInText}
 use Rattle.jsonptr_edit_in_text.specs.Bytes.{ReplacesBytes, ExpandsBytes, GrowsBytes, AssignsBytes}
 use Rattle.jsonptr_edit_in_text.proofs.EditLemmas.{if_new}
@@ -10,49 +10,36 @@ use Rattle.jsonptr_edit_in_text.proofs.assign.assign_from.Goals as goal
 
 pub returns-clause-assigned : goal.returns-clause-assigned
 returns-clause-assigned c =
-    subst (λ (ts : List Text). IfOk c.assign_scalar.result (λ o. IfSome o (λ s. AssignsInText c.args.text.now (tokens c.args.front ++ ts) (nodes (value_of c.args.value.now)) (string_bytes s)))) (sym c.in-Some.ensures)
+    subst (λ (ts : List Text). IfOk c.assign_scalar.result (λ o. IfSome o (λ s. AssignsInText c.args.site.now.text.now (tokens c.args.site.now.pointer ++ ts) (nodes (value_of_raw c.args.raw.now)) (string_bytes s)))) (sym c.in-Some.ensures)
     (c.assign_scalar.ensures.assigned c.in-Some.token (tokens c.in-Some.after) c.in-Some.ensures)
 
 pub returns-in_default-clause-assigned : goal.returns-in_default-clause-assigned
 returns-in_default-clause-assigned c =
     let root : tokens c.args.rest ≡ [] = grind arith in
-    subst (λ (ts : List Text). IfOk c.assign_there.result (λ o. IfSome o (λ s. AssignsInText c.args.text.now ts (nodes (value_of c.args.value.now)) (string_bytes s))))
-    (sym (ap (λ (ts : List Text). tokens c.args.front ++ ts) root ∙ append-nil (tokens c.args.front)))
+    subst (λ (ts : List Text). IfOk c.assign_there.result (λ o. IfSome o (λ s. AssignsInText c.args.site.now.text.now ts (nodes (value_of_raw c.args.raw.now)) (string_bytes s))))
+    (sym (ap (λ (ts : List Text). tokens c.args.site.now.pointer ++ ts) root ∙ append-nil (tokens c.args.site.now.pointer)))
     c.assign_there.ensures.assigned
-
-pub returns-then-starts_with-clause-bytes : goal.returns-then-starts_with-clause-bytes
-returns-then-starts_with-clause-bytes c =
-    let old = c.args.text.now in
-    let front = tokens c.args.front in
-    let x = c.in-Some.token in
-    let after = tokens c.in-Some.after in
-    let v = value_of c.args.value.now in
-    if_new c.assign_member.result
-    (λ s. GrowsBytes old (string_bytes s) front x after v)
-    (λ s. AssignsBytes old (front ++ tokens c.args.rest) v (string_bytes s))
-    (λ s h. inr (front, x, after, ap (λ (ts : List Text). front ++ ts) c.in-Some.ensures, inr h))
-    c.assign_member.ensures.bytes
 
 pub returns-then-starts_with-2-clause-bytes : goal.returns-then-starts_with-2-clause-bytes
 returns-then-starts_with-2-clause-bytes c =
-    let old = c.args.text.now in
-    let front = tokens c.args.front in
+    let old = c.args.site.now.text.now in
+    let front = tokens c.args.site.now.pointer in
     let x = c.in-Some.token in
     let after = tokens c.in-Some.after in
-    let v = value_of c.args.value.now in
-    if_new c.assign_element.result
+    let v = value_of_raw c.args.raw.now in
+    if_new c.assign_child.result
     (λ s. GrowsBytes old (string_bytes s) front x after v)
     (λ s. AssignsBytes old (front ++ tokens c.args.rest) v (string_bytes s))
     (λ s h. inr (front, x, after, ap (λ (ts : List Text). front ++ ts) c.in-Some.ensures, inr h))
-    c.assign_element.ensures.bytes
+    c.assign_child.ensures.bytes
 
 pub returns-clause-bytes : goal.returns-clause-bytes
 returns-clause-bytes c =
-    let old = c.args.text.now in
-    let front = tokens c.args.front in
+    let old = c.args.site.now.text.now in
+    let front = tokens c.args.site.now.pointer in
     let x = c.in-Some.token in
     let after = tokens c.in-Some.after in
-    let v = value_of c.args.value.now in
+    let v = value_of_raw c.args.raw.now in
     if_new c.assign_scalar.result
     (λ s. ExpandsBytes old (string_bytes s) front (tokens c.args.rest) v)
     (λ s. AssignsBytes old (front ++ tokens c.args.rest) v (string_bytes s))
@@ -61,9 +48,9 @@ returns-clause-bytes c =
 
 pub returns-in_default-clause-bytes : goal.returns-in_default-clause-bytes
 returns-in_default-clause-bytes c =
-    let old = c.args.text.now in
-    let front = tokens c.args.front in
-    let v = value_of c.args.value.now in
+    let old = c.args.site.now.text.now in
+    let front = tokens c.args.site.now.pointer in
+    let v = value_of_raw c.args.raw.now in
     let root : tokens c.args.rest ≡ [] = grind arith in
     let all : front ++ tokens c.args.rest ≡ front = ap (λ (ts : List Text). front ++ ts) root ∙ append-nil front in
     if_new c.assign_there.result

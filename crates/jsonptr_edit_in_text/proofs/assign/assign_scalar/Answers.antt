@@ -1,8 +1,8 @@
 use Rattle.std.proofs.Common.{◌≡◌, ◌∷◌, ◌++◌, List, Option, IfSome, string_bytes, refl, subst, ap, ◌∙◌}
-use Rattle.jsonptr_grammar.specs.Text.{Text}
+use Rattle.jsonptr.specs.Text.{Text}
 use Rattle.jsonptr.specs.Pointer.{tokens}
-use Rattle.jsonptr_tree.specs.Growing.{grown}
-use Rattle.jsonptr_tree.specs.Json.{nodes}
+use Rattle.jsonptr.specs.Growing.{grown}
+use Rattle.jsonptr.specs.Json.{nodes}
 use Rattle.jsonptr_json_edits.specs.declared.layout.ValueText.{ValueText}
 use Rattle.jsonptr_edit_in_text.specs.EditInText.{AssignsInText}
 use Rattle.jsonptr_edit_in_text.specs.PrivateReaching.{IsExpanded, ReachedInText, ScalarBecomes}
@@ -10,7 +10,7 @@ use Rattle.jsonptr_edit_in_text.proofs.EditLemmas.{if_new, of_scalar, assigns_sc
 use Rattle.jsonptr_edit_in_text.specs.Bytes.{ExpandsBytes}
 use Rattle.jsonptr_edit_in_text.specs.PrivateReaching.{ReplacesScalarByText}
 use Rattle.json.specs.Lex.{tokens as lexed}
-use Rattle.jsonptr_edit_in_text.specs.Carrying.{value_of, Carries}
+use Rattle.jsonptr_edit_in_text.specs.Carrying.{value_of_raw, Carries}
 use Rattle.jsonptr_edit_in_text.specs.PrivateWrapping.{wrapped}
 use Rattle.jsonptr_edit_in_text.proofs.BytesLemmas.{expands}
 use Rattle.jsonptr_edit_in_text.proofs.WrappingLemmas.{carries_wrapped}
@@ -18,23 +18,23 @@ use Rattle.jsonptr_edit_in_text.proofs.assign.assign_scalar.Goals as goal
 
 pub returns-clause-assigned : goal.returns-clause-assigned
 returns-clause-assigned c = λ x after rest.
-    let flat = string_bytes c.in-Some.value.flat in
-    let e = subst (λ (o : Option ValueText). IfSome o (IsExpanded (tokens c.args.rest) (nodes (value_of c.args.value.now)))) c.in-Some.is c.in_ok-value.ensures.value in
-    let front = tokens c.args.pointer in
+    let flat = string_bytes c.in-Some.printed.flat in
+    let e = subst (λ (o : Option ValueText). IfSome o (IsExpanded (tokens c.args.rest) (nodes (value_of_raw c.args.raw.now)))) c.in-Some.is c.in_ok-printed.ensures.value in
+    let front = tokens c.args.site.now.pointer in
     if_new c.replace_scalar.result
-    (λ s. ReachedInText c.args.text.now (string_bytes s) front (ScalarBecomes flat))
-    (λ s. AssignsInText c.args.text.now (front ++ x ∷ after) (nodes (value_of c.args.value.now)) (string_bytes s))
-    (λ s h. assigns_scalar c.args.text.now (string_bytes s) (front ++ x ∷ after) front x after e.0 (nodes (value_of c.args.value.now)) refl (e.2 ∙ ap (λ (ts : List Text). grown ts (nodes (value_of c.args.value.now))) rest) (of_scalar c.args.text.now (string_bytes s) front flat e.0 e.1 h))
+    (λ s. ReachedInText c.args.site.now.text.now (string_bytes s) front (ScalarBecomes flat))
+    (λ s. AssignsInText c.args.site.now.text.now (front ++ x ∷ after) (nodes (value_of_raw c.args.raw.now)) (string_bytes s))
+    (λ s h. assigns_scalar c.args.site.now.text.now (string_bytes s) (front ++ x ∷ after) front x after e.0 (nodes (value_of_raw c.args.raw.now)) refl (e.2 ∙ ap (λ (ts : List Text). grown ts (nodes (value_of_raw c.args.raw.now))) rest) (of_scalar c.args.site.now.text.now (string_bytes s) front flat e.0 e.1 h))
     c.replace_scalar.ensures.reached
 
 pub returns-clause-bytes : goal.returns-clause-bytes
 returns-clause-bytes c =
-    let old = c.args.text.now in
-    let flat = string_bytes c.in-Some.value.flat in
-    let v = value_of c.args.value.now in
+    let old = c.args.site.now.text.now in
+    let flat = string_bytes c.in-Some.printed.flat in
+    let v = value_of_raw c.args.raw.now in
     let more = tokens c.args.rest in
-    let e = subst (λ (o : Option ValueText). IfSome o (IsExpanded more (nodes v))) c.in-Some.is c.in_ok-value.ensures.value in
-    let front = tokens c.args.pointer in
+    let e = subst (λ (o : Option ValueText). IfSome o (IsExpanded more (nodes v))) c.in-Some.is c.in_ok-printed.ensures.value in
+    let front = tokens c.args.site.now.pointer in
     if_new c.replace_scalar.result
     (λ s. ReplacesScalarByText old (string_bytes s) front flat)
     (λ s. ExpandsBytes old (string_bytes s) front more v)
@@ -43,11 +43,11 @@ returns-clause-bytes c =
 
 pub returns-clause-carries : goal.returns-clause-carries
 returns-clause-carries c =
-    let flat = string_bytes c.in-Some.value.flat in
-    let given = string_bytes c.args.value.now.text.flat in
-    let same = subst (λ (o : Option ValueText). IfSome o (λ t. lexed (string_bytes t.flat) ≡ wrapped (tokens c.args.rest) (lexed given))) c.in-Some.is c.in_ok-value.ensures.same in
+    let flat = string_bytes c.in-Some.printed.flat in
+    let given = string_bytes c.args.raw.now.text.flat in
+    let same = subst (λ (o : Option ValueText). IfSome o (λ t. lexed (string_bytes t.flat) ≡ wrapped (tokens c.args.rest) (lexed given))) c.in-Some.is c.in_ok-printed.ensures.same in
     if_new c.replace_scalar.result
-    (λ s. ReplacesScalarByText c.args.text.now (string_bytes s) (tokens c.args.pointer) flat)
+    (λ s. ReplacesScalarByText c.args.site.now.text.now (string_bytes s) (tokens c.args.site.now.pointer) flat)
     (λ s. Carries given (string_bytes s))
     (λ s h. carries_wrapped (tokens c.args.rest) given flat (string_bytes s) same h.3)
     c.replace_scalar.ensures.bytes

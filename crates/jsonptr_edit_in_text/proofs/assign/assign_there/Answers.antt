@@ -1,8 +1,8 @@
 use Rattle.std.proofs.Common.{string_bytes}
 use Rattle.jsonptr.specs.Pointer.{tokens}
-use Rattle.jsonptr_tree.specs.Json.{nodes}
+use Rattle.jsonptr.specs.Json.{nodes}
 use Rattle.jsonptr_edit_in_text.specs.Bytes.{ReplacesBytes}
-use Rattle.jsonptr_edit_in_text.specs.Carrying.{value_of, Carries}
+use Rattle.jsonptr_edit_in_text.specs.Carrying.{value_of_raw, Carries}
 use Rattle.jsonptr_edit_in_text.specs.EditInText.{AssignsInText}
 use Rattle.jsonptr_edit_in_text.specs.PrivateReaching.{ReachedInText, Becomes, ReplacesByText}
 use Rattle.jsonptr_edit_in_text.proofs.EditLemmas.{if_new, of_value}
@@ -12,31 +12,31 @@ use Rattle.jsonptr_edit_in_text.proofs.assign.assign_there.Goals as goal
 
 pub returns-clause-assigned : goal.returns-clause-assigned
 returns-clause-assigned c =
-    let raw = c.args.value.now in
+    let raw = c.args.raw.now in
     let flat = string_bytes raw.text.flat in
     if_new c.replace.result
-    (λ s. ReachedInText c.args.text.now (string_bytes s) (tokens c.args.pointer) (Becomes flat))
-    (λ s. AssignsInText c.args.text.now (tokens c.args.pointer) (nodes (value_of raw)) (string_bytes s))
-    (λ s h. of_value c.args.text.now (string_bytes s) (tokens c.args.pointer) flat (value_of raw) (raw_reads raw) h)
+    (λ s. ReachedInText c.args.site.now.text.now (string_bytes s) (tokens c.args.site.now.pointer) (Becomes flat))
+    (λ s. AssignsInText c.args.site.now.text.now (tokens c.args.site.now.pointer) (nodes (value_of_raw raw)) (string_bytes s))
+    (λ s h. of_value c.args.site.now.text.now (string_bytes s) (tokens c.args.site.now.pointer) flat (value_of_raw raw) (raw_reads raw) h)
     c.replace.ensures.reached
 
 pub returns-clause-bytes : goal.returns-clause-bytes
 returns-clause-bytes c =
-    let raw = c.args.value.now in
-    let old = c.args.text.now in
+    let raw = c.args.raw.now in
+    let old = c.args.site.now.text.now in
     let flat = string_bytes raw.text.flat in
-    let ts = tokens c.args.pointer in
+    let ts = tokens c.args.site.now.pointer in
     if_new c.replace.result
     (λ s. ReplacesByText old (string_bytes s) ts flat)
-    (λ s. ReplacesBytes old (string_bytes s) ts (value_of raw))
-    (λ s h. replaces_value old (string_bytes s) ts flat (value_of raw) (raw_reads raw) h)
+    (λ s. ReplacesBytes old (string_bytes s) ts (value_of_raw raw))
+    (λ s h. replaces_value old (string_bytes s) ts flat (value_of_raw raw) (raw_reads raw) h)
     c.replace.ensures.bytes
 
 pub returns-clause-carries : goal.returns-clause-carries
 returns-clause-carries c =
-    let flat = string_bytes c.args.value.now.text.flat in
+    let flat = string_bytes c.args.raw.now.text.flat in
     if_new c.replace.result
-    (λ s. ReplacesByText c.args.text.now (string_bytes s) (tokens c.args.pointer) flat)
+    (λ s. ReplacesByText c.args.site.now.text.now (string_bytes s) (tokens c.args.site.now.pointer) flat)
     (λ s. Carries flat (string_bytes s))
     (λ s h. carries_all flat (string_bytes s) h.3)
     c.replace.ensures.bytes

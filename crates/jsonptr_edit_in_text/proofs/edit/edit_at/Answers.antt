@@ -11,8 +11,8 @@ use Rattle.jsonptr_edit_in_text.proofs.edit.edit_at.Goals as goal
 pub returns-clause-reached : goal.returns-clause-reached
 returns-clause-reached c =
     if_new c.edit_by.result
-    (λ s. IsEdited c.args.cut.now.text.now (string_bytes s) (choices c.deref.result.now) c.args.edit.now)
-    (λ s. ReachedInText c.args.cut.now.text.now (string_bytes s) (tokens c.args.pointer) (Makes c.args.edit.now))
-    (λ s h. reached_in_text c.args.cut.now.text.now (string_bytes s) (tokens c.args.pointer) (choices c.in_ok-selectors.selectors.items) (Makes c.args.edit.now) c.in_ok-selectors.ensures
-    (subst (λ (ss : List Selector). IsEdited c.args.cut.now.text.now (string_bytes s) (choices ss) c.args.edit.now) c.deref.ensures.value h))
+    (λ s. IsEdited c.args.cut.now.text.now (string_bytes s) (choices c.deref.result.now) c.args.at.now.edit.now)
+    (λ s. ReachedInText c.args.cut.now.text.now (string_bytes s) (tokens c.args.at.now.pointer) (Makes c.args.at.now.edit.now))
+    (λ s h. reached_in_text c.args.cut.now.text.now (string_bytes s) (tokens c.args.at.now.pointer) (choices c.in_ok-selectors.selectors.items) (Makes c.args.at.now.edit.now) c.in_ok-selectors.ensures
+    (subst (λ (ss : List Selector). IsEdited c.args.cut.now.text.now (string_bytes s) (choices ss) c.args.at.now.edit.now) c.deref.ensures.value h))
     c.edit_by.ensures.edited

@@ -12,7 +12,7 @@ pub returns : goal.returns
 returns c =
     let old = c.args.old.now in
     let new = c.args.new.now in
-    if_true c.is_edited_with.result (IsEdited old new (choices c.deref.result.now) c.args.edit.now) (ReachedInText old new (tokens c.args.pointer) (Makes c.args.edit.now))
-    (λ h. reached_in_text old new (tokens c.args.pointer) (choices c.in_ok-selectors.selectors.items) (Makes c.args.edit.now) c.in_ok-selectors.ensures
-    (subst (λ (ss : List Selector). IsEdited old new (choices ss) c.args.edit.now) c.deref.ensures.value h))
-    c.is_edited_with.ensures
+    if_true c.is_edited.result (IsEdited old new (choices c.deref.result.now) c.args.at.now.edit.now) (ReachedInText old new (tokens c.args.at.now.pointer) (Makes c.args.at.now.edit.now))
+    (λ h. reached_in_text old new (tokens c.args.at.now.pointer) (choices c.in_ok-selectors.selectors.items) (Makes c.args.at.now.edit.now) c.in_ok-selectors.ensures
+    (subst (λ (ss : List Selector). IsEdited old new (choices ss) c.args.at.now.edit.now) c.deref.ensures.value h))
+    c.is_edited.ensures

@@ -1,5 +1,5 @@
 use Rattle.std.proofs.Common.{None, IfOk, IfSome, string_bytes, subst}
-use Rattle.jsonptr_grammar.specs.Text.{Text}
+use Rattle.jsonptr.specs.Text.{Text}
 use Rattle.jsonptr.specs.Pointer.{tokens}
 use Rattle.jsonptr_json_edits.specs.declared.edit.Edit.TheVariants as edit
 use Rattle.jsonptr_json_edits.specs.Editing.{Makes}
@@ -11,19 +11,19 @@ use Rattle.jsonptr_edit_in_text.proofs.insert.append.Goals as goal
 
 pub returns-clause-bytes : goal.returns-clause-bytes
 returns-clause-bytes c =
-    let old = c.args.text.now in
-    let front = tokens c.args.pointer in
+    let old = c.args.site.now.text.now in
+    let front = tokens c.args.site.now.pointer in
     let x = c.args.token.now in
-    let flat = string_bytes c.args.value.now.flat in
+    let flat = string_bytes c.args.printed.now.flat in
     let child = c.in_ok-child.child in
-    if_new c.put_element.result
+    if_new c.put_child.result
     (λ s. ReachedInText old (string_bytes s) front (Makes (edit.Append child)) × AddsPieceByText old (string_bytes s) None flat)
     (λ s. AddsByText old (string_bytes s) front x flat)
     (λ s h. adds_last_element old (string_bytes s) front x flat
     (reached_so old (string_bytes s) front (Makes (edit.Append child)) (ElementAppended x flat) (λ d d2 m. element_appended child x flat c.in-Some-append_index.index d d2 c.in_ok-child.ensures.index c.in-Some-append_index.ensures c.in_ok-child.ensures.value m) h.0)
     h.1)
-    (if_both c.put_element.result
+    (if_both c.put_child.result
     (λ s. ReachedInText old (string_bytes s) front (Makes (edit.Append child)))
     (λ s. AddsPieceByText old (string_bytes s) None flat)
-    c.put_element.ensures.reached
-    (subst (λ (f : Text). IfOk c.put_element.result (λ n. IfSome n (λ s. AddsPieceByText old (string_bytes s) None f))) c.as_str.ensures.value c.put_element.ensures.bytes))
+    c.put_child.ensures.reached
+    (subst (λ (f : Text). IfOk c.put_child.result (λ n. IfSome n (λ s. AddsPieceByText old (string_bytes s) None f))) c.as_str.ensures.value c.put_child.ensures.bytes))

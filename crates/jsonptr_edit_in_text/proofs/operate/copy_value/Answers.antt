@@ -14,8 +14,8 @@ returns-clause-copied c =
     let old = c.args.text.now in
     let from = tokens c.args.from in
     let path = tokens c.args.path in
-    let flat = string_bytes c.in-Some.value.flat in
-    let found = subst (λ (o : Option ValueText). IfSome o (λ t. FindsText old from (string_bytes t.flat))) c.in-Some.is c.in_ok-value.ensures in
+    let flat = string_bytes c.in-Some.printed.flat in
+    let found = subst (λ (o : Option ValueText). IfSome o (λ t. FindsText old from (string_bytes t.flat))) c.in-Some.is c.in_ok-printed.ensures in
     if_new c.add_at.result
     (λ s. AddsInText old path flat (string_bytes s))
     (λ s. CopiesInText old from path (string_bytes s))
@@ -27,8 +27,8 @@ returns-clause-bytes c =
     let old = c.args.text.now in
     let from = tokens c.args.from in
     let path = tokens c.args.path in
-    let flat = string_bytes c.in-Some.value.flat in
-    let found = subst (λ (o : Option ValueText). IfSome o (λ t. FindsText old from (string_bytes t.flat))) c.in-Some.is c.in_ok-value.ensures in
+    let flat = string_bytes c.in-Some.printed.flat in
+    let found = subst (λ (o : Option ValueText). IfSome o (λ t. FindsText old from (string_bytes t.flat))) c.in-Some.is c.in_ok-printed.ensures in
     if_new c.add_at.result
     (λ s. AddsAtByText old path flat (string_bytes s))
     (λ s. CopiesBytes old from path (string_bytes s))

@@ -1,6 +1,6 @@
 use Rattle.std.proofs.Common.{Option, String, IfSome, true≢false, string_bytes, sym, ◌∙◌, subst}
 use Rattle.std.specs.declared.alloc.Global.{Global}
-use Rattle.jsonptr_grammar.specs.Text.{Text}
+use Rattle.jsonptr.specs.Text.{Text}
 use Rattle.jsonptr.specs.Pointer.{tokens}
 use Rattle.jsonptr_patch.specs.Operating.{IsProperFront}
 use Rattle.jsonptr_json_edits.specs.declared.layout.ValueText.{ValueText}
@@ -18,10 +18,10 @@ returns-clause-moved c =
     let old = c.args.text.now in
     let from = tokens c.args.from in
     let path = tokens c.args.path in
-    let flat = string_bytes c.in-Some.value.flat in
+    let flat = string_bytes c.in-Some.printed.flat in
     let left = c.as_str.result.now in
     let apart : IsProperFront from path → ⊥ = λ h. true≢false (sym (c.is_below.ensures.1 h) ∙ c.if-is_below.false) in
-    let found = subst (λ (o : Option ValueText). IfSome o (λ t. FindsText old from (string_bytes t.flat))) c.in-Some.is c.in_ok-value.ensures in
+    let found = subst (λ (o : Option ValueText). IfSome o (λ t. FindsText old from (string_bytes t.flat))) c.in-Some.is c.in_ok-printed.ensures in
     let deleted = subst (λ (o : Option (String Global)). IfSome o (λ s. DeletesInText old from (string_bytes s))) c.in-Some-2.is c.in_ok-left.ensures.deleted in
     let to_left = subst (λ (t : Text). DeletesInText old from t) (sym c.as_str.ensures.value) deleted in
     if_new c.add_at.result
@@ -38,8 +38,8 @@ returns-clause-bytes c =
     let left = c.as_str.result.now in
     let deleted = subst (λ (o : Option (String Global)). IfSome o (λ s. DeletesBytes old from (string_bytes s))) c.in-Some-2.is c.in_ok-left.ensures.bytes in
     let to_left = subst (λ (t : Text). DeletesBytes old from t) (sym c.as_str.ensures.value) deleted in
-    let flat = string_bytes c.in-Some.value.flat in
-    let found = subst (λ (o : Option ValueText). IfSome o (λ t. FindsText old from (string_bytes t.flat))) c.in-Some.is c.in_ok-value.ensures in
+    let flat = string_bytes c.in-Some.printed.flat in
+    let found = subst (λ (o : Option ValueText). IfSome o (λ t. FindsText old from (string_bytes t.flat))) c.in-Some.is c.in_ok-printed.ensures in
     if_new c.add_at.result
     (λ s. AddsAtByText left path flat (string_bytes s))
     (λ s. MovesBytes old from path (string_bytes s))

@@ -1,13 +1,13 @@
 use Rattle.std.proofs.Common.{List, IfOk, IfSome, string_bytes, refl, sym, subst}
 use Rattle.serde_json.specs.View.{view}
-use Rattle.jsonptr_grammar.specs.Text.{Text}
+use Rattle.jsonptr.specs.Text.{Text}
 use Rattle.jsonptr.specs.Pointer.{tokens}
-use Rattle.jsonptr_tree.specs.Json.{nodes}
+use Rattle.jsonptr.specs.Json.{nodes}
 use Rattle.jsonptr_patch.specs.declared.operation.Operation.{Operation}
 use Rattle.jsonptr_patch.specs.declared.operation.Operation.TheVariants.{Remove}
 use Rattle.jsonptr_edit_in_text.specs.Bytes.{DeletesBytes}
 use Rattle.jsonptr_edit_in_text.specs.EditInText.{DeletesInText}
-use Rattle.jsonptr_edit_in_text.specs.Fitting.{Fits}
+use Rattle.jsonptr_edit_in_text.specs.Fitting.{HasFittingText}
 use Rattle.jsonptr_edit_in_text.specs.PatchInText.{MovesBytes, CopiesBytes}
 use Rattle.jsonptr_edit_in_text.specs.PrivateOperating.{OperatesInText, AddsValueInText, PutsInText}
 use Rattle.jsonptr_edit_in_text.specs.RawPatching.{AddsGiven, ReplacesGiven, GivenBytes}
@@ -16,10 +16,10 @@ use Rattle.jsonptr_edit_in_text.proofs.OperatingLemmas.{removes, tests}
 use Rattle.jsonptr_edit_in_text.proofs.operate.operate.Goals as goal
 
 pub add_given-requires : goal.add_given-requires
-add_given-requires c = subst (λ (o : Operation). Fits o c.args.raw.now.text) c.in-Add.is c.args.raw.now.fits
+add_given-requires c = subst (λ (o : Operation). HasFittingText o c.args.operation.now.text) c.in-Add.is c.args.operation.now.fits
 
 pub replace_given-requires : goal.replace_given-requires
-replace_given-requires c = subst (λ (o : Operation). Fits o c.args.raw.now.text) c.in-Replace.is c.args.raw.now.fits
+replace_given-requires c = subst (λ (o : Operation). HasFittingText o c.args.operation.now.text) c.in-Replace.is c.args.operation.now.fits
 
 pub returns-in-Add-clause-applied : goal.returns-in-Add-clause-applied
 returns-in-Add-clause-applied c =
@@ -32,7 +32,7 @@ returns-in-Add-clause-applied c =
 
 pub returns-in-Remove-clause-applied : goal.returns-in-Remove-clause-applied
 returns-in-Remove-clause-applied c =
-    let r = c.delete_in_place.result in
+    let r = c.cut_out.result in
     let old = c.as_str-old.result.now in
     subst (λ (o : Operation). IfOk r (λ n. IfSome n (λ s. OperatesInText (string_bytes c.args.text) o (string_bytes s)))) (sym c.in-Remove.is)
     (if_new r
@@ -40,7 +40,7 @@ returns-in-Remove-clause-applied c =
     (λ s. OperatesInText (string_bytes c.args.text) (Remove c.in-Remove.path) (string_bytes s))
     (λ s h. removes (string_bytes c.args.text) (string_bytes s) c.in-Remove.path h)
     (subst (λ (t : Text). IfOk r (λ n. IfSome n (λ s. DeletesInText t c.in-Remove.path (string_bytes s)))) c.as_str-old.ensures.value
-    (subst (λ (ts : List Text). IfOk r (λ n. IfSome n (λ s. DeletesInText old ts (string_bytes s)))) c.as_ptr-in-Remove.ensures.tokens c.delete_in_place.ensures.deleted)))
+    (subst (λ (ts : List Text). IfOk r (λ n. IfSome n (λ s. DeletesInText old ts (string_bytes s)))) c.as_ptr-in-Remove.ensures.tokens c.cut_out.ensures.deleted)))
 
 pub returns-in-Replace-clause-applied : goal.returns-in-Replace-clause-applied
 returns-in-Replace-clause-applied c =
@@ -60,7 +60,7 @@ pub returns-in-Add-clause-bytes : goal.returns-in-Add-clause-bytes
 returns-in-Add-clause-bytes c =
     let r = c.add_given.result in
     let old = c.as_str-old.result.now in
-    let own = c.args.raw.now.text in
+    let own = c.args.operation.now.text in
     let v = view c.in-Add.value in
     subst (λ (o : Operation). IfOk r (λ n. IfSome n (λ s. GivenBytes (string_bytes c.args.text) o own (string_bytes s)))) (sym c.in-Add.is)
     (subst (λ (t : Text). IfOk r (λ n. IfSome n (λ s. AddsGiven t c.in-Add.path v own (string_bytes s)))) c.as_str-old.ensures.value
@@ -68,18 +68,18 @@ returns-in-Add-clause-bytes c =
 
 pub returns-in-Remove-clause-bytes : goal.returns-in-Remove-clause-bytes
 returns-in-Remove-clause-bytes c =
-    let r = c.delete_in_place.result in
+    let r = c.cut_out.result in
     let old = c.as_str-old.result.now in
-    let own = c.args.raw.now.text in
+    let own = c.args.operation.now.text in
     subst (λ (o : Operation). IfOk r (λ n. IfSome n (λ s. GivenBytes (string_bytes c.args.text) o own (string_bytes s)))) (sym c.in-Remove.is)
     (subst (λ (t : Text). IfOk r (λ n. IfSome n (λ s. DeletesBytes t c.in-Remove.path (string_bytes s)))) c.as_str-old.ensures.value
-    (subst (λ (ts : List Text). IfOk r (λ n. IfSome n (λ s. DeletesBytes old ts (string_bytes s)))) c.as_ptr-in-Remove.ensures.tokens c.delete_in_place.ensures.bytes))
+    (subst (λ (ts : List Text). IfOk r (λ n. IfSome n (λ s. DeletesBytes old ts (string_bytes s)))) c.as_ptr-in-Remove.ensures.tokens c.cut_out.ensures.bytes))
 
 pub returns-in-Replace-clause-bytes : goal.returns-in-Replace-clause-bytes
 returns-in-Replace-clause-bytes c =
     let r = c.replace_given.result in
     let old = c.as_str-old.result.now in
-    let own = c.args.raw.now.text in
+    let own = c.args.operation.now.text in
     let v = view c.in-Replace.value in
     subst (λ (o : Operation). IfOk r (λ n. IfSome n (λ s. GivenBytes (string_bytes c.args.text) o own (string_bytes s)))) (sym c.in-Replace.is)
     (subst (λ (t : Text). IfOk r (λ n. IfSome n (λ s. ReplacesGiven t c.in-Replace.path v own (string_bytes s)))) c.as_str-old.ensures.value
@@ -89,7 +89,7 @@ pub returns-in-Move-clause-bytes : goal.returns-in-Move-clause-bytes
 returns-in-Move-clause-bytes c =
     let r = c.move_value.result in
     let old = c.as_str-old.result.now in
-    let own = c.args.raw.now.text in
+    let own = c.args.operation.now.text in
     let from = tokens c.as_ptr-in-Move.result in
     subst (λ (o : Operation). IfOk r (λ n. IfSome n (λ s. GivenBytes (string_bytes c.args.text) o own (string_bytes s)))) (sym c.in-Move.is)
     (subst (λ (t : Text). IfOk r (λ n. IfSome n (λ s. MovesBytes t c.in-Move.from c.in-Move.path (string_bytes s)))) c.as_str-old.ensures.value
@@ -100,7 +100,7 @@ pub returns-in-Copy-clause-bytes : goal.returns-in-Copy-clause-bytes
 returns-in-Copy-clause-bytes c =
     let r = c.copy_value.result in
     let old = c.as_str-old.result.now in
-    let own = c.args.raw.now.text in
+    let own = c.args.operation.now.text in
     let from = tokens c.as_ptr-in-Copy.result in
     subst (λ (o : Operation). IfOk r (λ n. IfSome n (λ s. GivenBytes (string_bytes c.args.text) o own (string_bytes s)))) (sym c.in-Copy.is)
     (subst (λ (t : Text). IfOk r (λ n. IfSome n (λ s. CopiesBytes t c.in-Copy.from c.in-Copy.path (string_bytes s)))) c.as_str-old.ensures.value
@@ -108,4 +108,4 @@ returns-in-Copy-clause-bytes c =
     (subst (λ (ts : List Text). IfOk r (λ n. IfSome n (λ s. CopiesBytes old from ts (string_bytes s)))) c.as_ptr-in-Copy-2.ensures.tokens c.copy_value.ensures.bytes)))
 
 pub returns-then-branch-clause-bytes : goal.returns-then-branch-clause-bytes
-returns-then-branch-clause-bytes c = subst (λ (o : Operation). GivenBytes (string_bytes c.args.text) o c.args.raw.now.text (string_bytes c.args.text)) (sym c.in-Test.is) refl
+returns-then-branch-clause-bytes c = subst (λ (o : Operation). GivenBytes (string_bytes c.args.text) o c.args.operation.now.text (string_bytes c.args.text)) (sym c.in-Test.is) refl

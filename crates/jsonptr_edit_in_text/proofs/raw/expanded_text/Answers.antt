@@ -1,7 +1,7 @@
 use Rattle.std.proofs.Common.{◌≡◌, Option, String, IfSome, string_bytes, subst}
 use Rattle.std.specs.declared.alloc.Global.{Global}
 use Rattle.json.specs.Lex.{tokens as lexed}
-use Rattle.jsonptr_grammar.specs.Text.{Text}
+use Rattle.jsonptr.specs.Text.{Text}
 use Rattle.jsonptr.specs.Pointer.{tokens}
 use Rattle.jsonptr_edit_in_text.specs.PrivateWrapping.{wrapped}
 use Rattle.jsonptr_edit_in_text.proofs.WrappingLemmas.{expanded_if, tokens_if}
@@ -12,12 +12,12 @@ returns-clause-value c =
     let ts = tokens c.args.pointer in
     let flat = string_bytes c.in-Some.flat in
     let same = subst (λ (o : Option (String Global)). IfSome o (λ s. lexed (string_bytes s) ≡ wrapped ts (lexed c.as_str.result.now))) c.in-Some.is c.in_ok-flat.ensures in
-    expanded_if c.lay_out.result ts c.args.value.now flat (subst (λ (t : Text). lexed flat ≡ wrapped ts (lexed t)) c.as_str.ensures.value same) c.lay_out.ensures.same c.lay_out.ensures.reads
+    expanded_if c.lay_out.result ts c.args.raw.now flat (subst (λ (t : Text). lexed flat ≡ wrapped ts (lexed t)) c.as_str.ensures.value same) c.lay_out.ensures.same c.lay_out.ensures.reads
 
 pub returns-clause-same : goal.returns-clause-same
 returns-clause-same c =
     let ts = tokens c.args.pointer in
     let flat = string_bytes c.in-Some.flat in
-    let raw = string_bytes c.args.value.now.text.flat in
+    let raw = string_bytes c.args.raw.now.text.flat in
     let same = subst (λ (o : Option (String Global)). IfSome o (λ s. lexed (string_bytes s) ≡ wrapped ts (lexed c.as_str.result.now))) c.in-Some.is c.in_ok-flat.ensures in
     tokens_if c.lay_out.result flat (wrapped ts (lexed raw)) (subst (λ (t : Text). lexed flat ≡ wrapped ts (lexed t)) c.as_str.ensures.value same) c.lay_out.ensures.same

@@ -2,7 +2,7 @@ use Rattle.std.proofs.Common.{◌≡◌, Option, Some, None, String, IfSome, str
 use Rattle.std.specs.declared.alloc.Global.{Global}
 use Rattle.serde_json.specs.Data.{Data}
 use Rattle.serde_json.specs.Read.{read}
-use Rattle.jsonptr_grammar.specs.Text.{Text}
+use Rattle.jsonptr.specs.Text.{Text}
 use Rattle.jsonptr.specs.Pointer.{tokens}
 use Rattle.jsonptr_json_search.specs.Search.{choice_of}
 use Rattle.jsonptr_json_edits.specs.Editing.{AddsElement}
@@ -14,9 +14,9 @@ use Rattle.jsonptr_edit_in_text.proofs.remove.cut_element.Goals as goal
 
 pub returns-then-branch-clause-deleted : goal.returns-then-branch-clause-deleted
 returns-then-branch-clause-deleted c =
-    let old = c.args.text.now in
+    let old = c.args.site.now.text.now in
     let new = string_bytes c.in-Some-2.new in
-    let front = tokens c.args.pointer in
+    let front = tokens c.args.site.now.pointer in
     let value = string_bytes c.in_ok-from_str.field-0 in
     let w = choice_of c.in_ok-selector_of.field-0 in
     deletes_element old new value front c.args.token.now w c.in_ok-selector_of.ensures
@@ -24,9 +24,9 @@ returns-then-branch-clause-deleted c =
 
 pub returns-then-branch-clause-bytes : goal.returns-then-branch-clause-bytes
 returns-then-branch-clause-bytes c =
-    let old = c.args.text.now in
+    let old = c.args.site.now.text.now in
     let new = string_bytes c.in-Some-2.new in
-    let front = tokens c.args.pointer in
+    let front = tokens c.args.site.now.pointer in
     let value = c.slice-value.result.now in
     let w = choice_of c.in_ok-selector_of.field-0 in
     cuts_element old new value front c.args.token.now w c.in_ok-selector_of.ensures

@@ -1,10 +1,10 @@
 use Rattle.std.proofs.Common.{◌≡◌, Some, IfOk, IfSome, string_bytes, subst}
 use Rattle.serde_json.specs.Data.{Data}
 use Rattle.serde_json.specs.Read.{read}
-use Rattle.jsonptr_grammar.specs.Text.{Text}
+use Rattle.jsonptr.specs.Text.{Text}
 use Rattle.jsonptr.specs.Pointer.{tokens}
 use Rattle.jsonptr_json_edits.specs.Spacing.{Splices}
-use Rattle.jsonptr_json_edits.specs.Alike.{Holds}
+use Rattle.jsonptr_json_edits.specs.Alike.{HoldsTokens}
 use Rattle.jsonptr_json_edits.specs.Child.{IsValueText}
 use Rattle.jsonptr_edit_in_text.specs.PrivateReaching.{ReachedInText, Trades, ReplacesByText, ReplacesScalarByText}
 use Rattle.jsonptr_edit_in_text.proofs.EditLemmas.{if_new, if_both}
@@ -16,10 +16,10 @@ returns-clause-bytes c =
     let old = c.args.cut.now.text.now in
     let was = c.args.cut.now.was.now in
     let piece = c.as_str-piece.result.now in
-    let flat = string_bytes c.args.value.now.flat in
-    let ts = tokens c.args.pointer in
+    let flat = string_bytes c.args.printed.now.flat in
+    let ts = tokens c.args.site.now.pointer in
     let made = subst (λ (f : Text). (e : Data) × (read f ≡ Some e) × IsValueText e piece) c.as_str.ensures.value (c.in_ok-is_value_of.ensures.value c.if-not-branch.false) in
-    let holds = subst (λ (f : Text). Holds f piece) c.as_str.ensures.value (c.in_ok-is_value_of.ensures.holds c.if-not-branch.false) in
+    let holds = subst (λ (f : Text). HoldsTokens f piece) c.as_str.ensures.value (c.in_ok-is_value_of.ensures.holds c.if-not-branch.false) in
     if_new c.edit_at.result
     (λ s. Splices old (string_bytes s) was piece × ReachedInText old (string_bytes s) ts (Trades was flat))
     (λ s. ReplacesByText old (string_bytes s) ts flat)
@@ -36,10 +36,10 @@ returns-clause-scalar c = λ d reads scalar.
     let old = c.args.cut.now.text.now in
     let was = c.args.cut.now.was.now in
     let piece = c.as_str-piece.result.now in
-    let flat = string_bytes c.args.value.now.flat in
-    let ts = tokens c.args.pointer in
+    let flat = string_bytes c.args.printed.now.flat in
+    let ts = tokens c.args.site.now.pointer in
     let made = subst (λ (f : Text). (e : Data) × (read f ≡ Some e) × IsValueText e piece) c.as_str.ensures.value (c.in_ok-is_value_of.ensures.value c.if-not-branch.false) in
-    let holds = subst (λ (f : Text). Holds f piece) c.as_str.ensures.value (c.in_ok-is_value_of.ensures.holds c.if-not-branch.false) in
+    let holds = subst (λ (f : Text). HoldsTokens f piece) c.as_str.ensures.value (c.in_ok-is_value_of.ensures.holds c.if-not-branch.false) in
     if_new c.edit_at.result
     (λ s. Splices old (string_bytes s) was piece × ReachedInText old (string_bytes s) ts (Trades was flat))
     (λ s. ReplacesScalarByText old (string_bytes s) ts flat)

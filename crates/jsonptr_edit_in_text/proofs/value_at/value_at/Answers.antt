@@ -1,5 +1,5 @@
 use Rattle.std.proofs.Common.{List, string_bytes, subst}
-use Rattle.jsonptr_grammar.specs.Text.{Text}
+use Rattle.jsonptr.specs.Text.{Text}
 use Rattle.jsonptr.specs.Pointer.{tokens}
 use Rattle.jsonptr_json_search.specs.Search.{choices}
 use Rattle.jsonptr_json_search.specs.declared.selector.Selector.{Selector}

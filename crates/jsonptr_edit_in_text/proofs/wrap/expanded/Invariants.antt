@@ -1,6 +1,6 @@
 use Rattle.std.proofs.Common.{◌≡◌, List, ◌++◌, length, string_bytes}
 use Rattle.json.specs.Lex.{tokens as lexed}
-use Rattle.jsonptr_grammar.specs.Text.{Text}
+use Rattle.jsonptr.specs.Text.{Text}
 use Rattle.jsonptr.specs.Pointer.{tokens}
 use Rattle.jsonptr_edit_in_text.specs.PrivateWrapping.{wrapped}
 use Rattle.jsonptr_edit_in_text.proofs.wrap.expanded.Given as goal

@@ -2,24 +2,24 @@ use Rattle.std.proofs.Common.{◌≤◌, suc, length, inl}
 use Rattle.toml.specs.View.{view}
 use Rattle.jsonptr.specs.Pointer.{tokens}
 use Rattle.toml_parser.specs.Strings.{recursion_limit as max_depth}
-use Rattle.jsonptr_tree.specs.TomlValue.{HasSortedKeys}
+use Rattle.jsonptr.specs.TomlValue.{HasSortedKeys}
 use Rattle.jsonptr_in_toml.specs.InToml.{AssignsTo}
 use Rattle.jsonptr_edit_in_toml.specs.Failing.{AssignsInOrder}
 use Rattle.jsonptr_edit_in_toml.proofs.ChangingLemmas.{reads_in_order, refuted, not_more, assigned_print, assign_fails_then}
 use Rattle.jsonptr_edit_in_toml.proofs.assign.assign_in_toml_text.Goals as goal
 
-pub returns-then-is_long-clause-failed : goal.returns-then-is_long-clause-failed
-returns-then-is_long-clause-failed c = inl ((view c.in_ok-document.document, c.in_ok-document.ensures.done), c.is_long.ensures.0 c.if-is_long.true)
+pub returns-then-is_long-clause-refused : goal.returns-then-is_long-clause-refused
+returns-then-is_long-clause-refused c = inl ((view c.in_ok-document.document, c.in_ok-document.ensures.document), c.is_long.ensures.0 c.if-is_long.true)
 
 pub returns-in-Ok-clause-printed : goal.returns-in-Ok-clause-printed
 returns-in-Ok-clause-printed c =
-    let made : AssignsTo c.args.text.now (tokens c.args.pointer) (view c.args.value) (view c.assign.new.self) = (view c.in_ok-document.document, c.in_ok-document.ensures.done, (_, c.in-Ok.ensures.assigned.assigned)) in
+    let made : AssignsTo c.args.text.now (tokens c.args.pointer) (view c.args.value) (view c.assign.new.self) = (view c.in_ok-document.document, c.in_ok-document.ensures.document, (_, c.in-Ok.ensures.assigned.assigned)) in
     assigned_print c.args.text.now (tokens c.args.pointer) (view c.args.value) (view c.assign.new.self) c.choose.result made c.choose.ensures.printed
 
-pub returns-in-Ok-clause-failed : goal.returns-in-Ok-clause-failed
-returns-in-Ok-clause-failed c =
-    let reads = c.in_ok-document.ensures.done in
+pub returns-in-Ok-clause-refused : goal.returns-in-Ok-clause-refused
+returns-in-Ok-clause-refused c =
+    let reads = c.in_ok-document.ensures.document in
     let old : HasSortedKeys (view c.in_ok-document.document) = reads_in_order c.args.text.now (view c.in_ok-document.document) reads in
     let made : AssignsInOrder c.args.text.now (tokens c.args.pointer) (view c.args.value) (view c.assign.new.self) = ((view c.in_ok-document.document, reads, (_, c.in-Ok.ensures.assigned.assigned)), λ sorted. c.in-Ok.ensures.sorted sorted old) in
     let short : length (tokens c.args.pointer) ≤ suc max_depth = not_more (suc max_depth) (length (tokens c.args.pointer)) (refuted _ _ c.is_long.ensures.1 c.if-is_long.false) in
-    assign_fails_then c.args.text.now (tokens c.args.pointer) (view c.args.value) (view c.assign.new.self) c.choose.result short made c.choose.ensures.failed
+    assign_fails_then c.args.text.now (tokens c.args.pointer) (view c.args.value) (view c.assign.new.self) c.choose.result short made c.choose.ensures.refused

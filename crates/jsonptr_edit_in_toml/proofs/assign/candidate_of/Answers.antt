@@ -1,7 +1,7 @@
 use Rattle.std.proofs.Common.{subst}
 use Rattle.toml.specs.View.{view}
 use Rattle.jsonptr.specs.Pointer.{tokens}
-use Rattle.jsonptr_grammar.specs.Text.{Text}
+use Rattle.jsonptr.specs.Text.{Text}
 use Rattle.jsonptr_edit_in_toml.specs.Bytes.{IsAlone}
 use Rattle.jsonptr_edit_in_toml.proofs.assign.candidate_of.Goals as goal
 

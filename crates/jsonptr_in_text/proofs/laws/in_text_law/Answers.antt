@@ -1,6 +1,6 @@
 use Rattle.std.proofs.Common.{◌≡◌, Some, sym, ◌∙◌, subst}
 use Rattle.serde_json.specs.Data.{Data}
-use Rattle.jsonptr_tree.specs.Json.{nodes, FindsValue}
+use Rattle.jsonptr.specs.Json.{nodes, FindsValue}
 use Rattle.jsonptr.specs.Resolve.{Refuses}
 use Rattle.jsonptr_in_text.proofs.laws.in_text_law.Goals as goal
 

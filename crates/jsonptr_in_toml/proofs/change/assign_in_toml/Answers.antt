@@ -2,13 +2,13 @@ use Rattle.std.proofs.Common.{inl}
 use Rattle.toml.specs.View.{view}
 use Rattle.jsonptr.specs.Pointer.{tokens}
 use Rattle.jsonptr_in_toml.specs.InToml.{AssignsTo}
-use Rattle.jsonptr_in_toml.proofs.ChangeLemmas.{assigns_then, assign_fails_then}
+use Rattle.jsonptr_in_toml.proofs.ChangeLemmas.{assign_fails_then}
 use Rattle.jsonptr_in_toml.proofs.change.assign_in_toml.Goals as goal
 
-pub returns-then-is_long-clause-failed : goal.returns-then-is_long-clause-failed
-returns-then-is_long-clause-failed c = inl ((view c.in_ok-document.document, c.in_ok-document.ensures.done), c.is_long.ensures.0 c.if-is_long.true)
+pub returns-then-is_long-clause-refused : goal.returns-then-is_long-clause-refused
+returns-then-is_long-clause-refused c = inl ((view c.in_ok-document.document, c.in_ok-document.ensures.document), c.is_long.ensures.0 c.if-is_long.true)
 
-pub returns-in-Ok-clause-failed : goal.returns-in-Ok-clause-failed
-returns-in-Ok-clause-failed c =
-    let made : AssignsTo c.args.text.now (tokens c.args.pointer) (view c.args.value) (view c.assign.new.self) = (view c.in_ok-document.document, c.in_ok-document.ensures.done, (_, c.in-Ok.ensures.assigned.assigned)) in
-    assign_fails_then c.args.text.now (tokens c.args.pointer) (view c.args.value) (view c.assign.new.self) c.print_toml.result made c.print_toml.ensures.failed
+pub returns-in-Ok-clause-refused : goal.returns-in-Ok-clause-refused
+returns-in-Ok-clause-refused c =
+    let made : AssignsTo c.args.text.now (tokens c.args.pointer) (view c.args.value) (view c.assign.new.self) = (view c.in_ok-document.document, c.in_ok-document.ensures.document, (_, c.in-Ok.ensures.assigned.assigned)) in
+    assign_fails_then c.args.text.now (tokens c.args.pointer) (view c.args.value) (view c.assign.new.self) c.print_toml.result made c.print_toml.ensures.refused

@@ -1,5 +1,5 @@
 use Rattle.std.proofs.Common.{refl, sym, ap}
-use Rattle.jsonptr_tree.specs.Content.{map_of}
+use Rattle.jsonptr.specs.Content.{map_of}
 use Rattle.jsonptr_journal.specs.Location.{contents_of}
 use Rattle.jsonptr_journal.proofs.LeadingLemmas.{stops_nothing}
 use Rattle.jsonptr_journal.proofs.addition.replace_at.Goals as goal
@@ -20,4 +20,4 @@ returns-in-Ok-clause-replaced g c =
     }
 
 pub returns-in-Err-clause-missing : goal.returns-in-Err-clause-missing
-returns-in-Err-clause-missing g c = stops_nothing (map_of (g.D.NodeMut.contents c.args.doc.now)) c.args.path.now c.in-Err._error.offset (c.in-Err.ensures.value.1 c.requires)
+returns-in-Err-clause-missing g c = stops_nothing (map_of (g.D.NodeMut.contents c.args.document.now)) c.args.path.now c.in-Err._error.offset (c.in-Err.ensures.value.1 c.requires)

@@ -1,5 +1,5 @@
 use Rattle.std.proofs.Common.{IsSome, Option, sym, subst, refl}
-use Rattle.jsonptr_tree.specs.Content.{Content}
+use Rattle.jsonptr.specs.Content.{Content}
 use Rattle.jsonptr_journal.specs.Location.{path_of, contents_of}
 use Rattle.jsonptr_journal.specs.Changes.{HasElement, PutsElement}
 use Rattle.jsonptr_journal.proofs.ThereLemmas.{changed_there}
@@ -9,21 +9,21 @@ use Rattle.jsonptr_journal.proofs.addition.undo_addition.Goals as goal
 pub overwrite-requires : goal.overwrite-requires
 overwrite-requires g c =
     let o = rw c.in-Replaced.is at c.requires.2 in
-    subst (λ (x : Option Content). IsSome x) (sym (changed_there (path_of c.in-Replaced.location) _ c.requires.1 (g.D.NodeMut.contents c.args.doc.now) o)) refl
+    subst (λ (x : Option Content). IsSome x) (sym (changed_there (path_of c.in-Replaced.location) _ c.requires.1 (g.D.NodeMut.contents c.args.document.now) o)) refl
 
-pub remove_element_at-requires : goal.remove_element_at-requires
-remove_element_at-requires g c =
+pub remove_element-requires : goal.remove_element-requires
+remove_element-requires g c =
     let o = rw c.in-Element.is at c.requires.2 in
-    has_after (path_of c.in-Element.array) (PutsElement c.in-Element.index c.requires.0) (HasElement c.in-Element.index) c.requires.1 (g.D.NodeMut.contents c.args.doc.now) (element_has c.in-Element.index c.requires.0) o
+    has_after (path_of c.in-Element.array) (PutsElement c.in-Element.index c.requires.0) (HasElement c.in-Element.index) c.requires.1 (g.D.NodeMut.contents c.args.document.now) (element_has c.in-Element.index c.requires.0) o
 
 pub returns-in-Replaced : goal.returns-in-Replaced
 returns-in-Replaced g c = λ v was a.
     let o = rw c.in-Replaced.is at a in
-    undone_by (path_of c.in-Replaced.location) _ _ v (contents_of c.overwrite.result) was (g.D.NodeMut.contents c.args.doc.now) (g.D.NodeMut.contents c.overwrite.new.doc)
+    undone_by (path_of c.in-Replaced.location) _ _ v (contents_of c.overwrite.result) was (g.D.NodeMut.contents c.args.document.now) (g.D.NodeMut.contents c.overwrite.new.document)
     (node_undone (contents_of c.in-Replaced.old) v (contents_of c.overwrite.result)) o c.overwrite.ensures
 
 pub returns-in-Element : goal.returns-in-Element
 returns-in-Element g c = λ v was a.
     let o = rw c.in-Element.is at a in
-    undone_by (path_of c.in-Element.array) _ _ v (contents_of c.remove_element_at.result) was (g.D.NodeMut.contents c.args.doc.now) (g.D.NodeMut.contents c.remove_element_at.new.doc)
-    (element_undone c.in-Element.index v (contents_of c.remove_element_at.result)) o c.remove_element_at.ensures
+    undone_by (path_of c.in-Element.array) _ _ v (contents_of c.remove_element.result) was (g.D.NodeMut.contents c.args.document.now) (g.D.NodeMut.contents c.remove_element.new.document)
+    (element_undone c.in-Element.index v (contents_of c.remove_element.result)) o c.remove_element.ensures

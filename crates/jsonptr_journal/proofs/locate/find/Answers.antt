@@ -11,11 +11,11 @@ returns-in_default-2 c = reaches_nothing _ _ _ _ _ _ (rw c.in-Some.ensures at c.
 pub loop-token-preserved-in_ok-push : goal.loop-token-preserved-in_ok-push
 loop-token-preserved-in_ok-push c =
     let child = rw c.in-Some-2.is at c.in_ok-child.ensures in
-    subst (λ (ps : List Part). Reaches (view c.args.doc.now) (tokens c.args.ptr) (tokens c.in-Some.after) ps (view c.in-Some-2.child.node.now)) (sym c.in_ok-push.ensures.items)
+    subst (λ (ps : List Part). Reaches (view c.args.document.now) (tokens c.args.pointer) (tokens c.in-Some.after) ps (view c.in-Some-2.child.node.now)) (sym c.in_ok-push.ensures.items)
     (reaches_more _ _ _ _ _ _ (rw c.in-Some.ensures at c.loop-token.invariant) c.in-Some-2.child.part (view c.in-Some-2.child.node.now) child.named child.there)
 
 pub loop-token-preserved : goal.loop-token-preserved
 loop-token-preserved c =
     let child = rw c.in-Some-2.is at c.in_ok-child.ensures in
-    subst (λ (ps : List Part). Reaches (view c.args.doc.now) (tokens c.args.ptr) (tokens c.in-Some.after) ps (view c.in-Some-2.child.node.now)) (sym c.in_ok-push.ensures.items)
+    subst (λ (ps : List Part). Reaches (view c.args.document.now) (tokens c.args.pointer) (tokens c.in-Some.after) ps (view c.in-Some-2.child.node.now)) (sym c.in_ok-push.ensures.items)
     (reaches_more _ _ _ _ _ _ (rw c.in-Some.ensures at c.loop-token.invariant) c.in-Some-2.child.part (view c.in-Some-2.child.node.now) child.named child.there)

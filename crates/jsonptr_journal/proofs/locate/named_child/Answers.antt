@@ -1,6 +1,6 @@
 use Rattle.std.proofs.Common.{◌≡◌, ap, ◌∙◌}
 use Rattle.std.specs.BTreeMap.{get_by_text}
-use Rattle.jsonptr_grammar.specs.Text.{Text}
+use Rattle.jsonptr.specs.Text.{Text}
 use Rattle.jsonptr_journal.proofs.LocatingLemmas.{member_selected, member_lacking}
 use Rattle.jsonptr_journal.proofs.locate.named_child.Goals as goal
 

@@ -1,5 +1,5 @@
 use Rattle.std.proofs.Common.{sym, ap, ◌∙◌}
-use Rattle.jsonptr_tree.specs.Content.{get_member}
+use Rattle.jsonptr.specs.Content.{get_member}
 use Rattle.jsonptr_journal.specs.Children.{members_in, members_of}
 use Rattle.jsonptr_journal.proofs.MembersLemmas.{map_lacks, map_finds, map_rises, members-remove, not_lacking}
 use Rattle.jsonptr_journal.proofs.members.remove.Goals as goal

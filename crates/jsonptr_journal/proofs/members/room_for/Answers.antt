@@ -1,6 +1,6 @@
 use Rattle.std.proofs.Common.{◌≡◌, List, [], ◌∷◌, ◌++◌, String, string_bytes, Global, sym, ap, ◌∙◌, subst, append_assoc, append-nil}
 use Rattle.serde_json.specs.declared.value.Value.{Value, Null}
-use Rattle.jsonptr_tree.specs.Content.{Members}
+use Rattle.jsonptr.specs.Content.{Members}
 use Rattle.jsonptr_journal.specs.Location.{contents_of}
 use Rattle.jsonptr_journal.specs.Children.{members_in, members_of, KeysRise}
 use Rattle.jsonptr_journal.proofs.MembersLemmas.{SameKeys, map_rises, room_more, room_of_all}

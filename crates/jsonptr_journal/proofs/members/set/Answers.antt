@@ -1,7 +1,7 @@
 use Rattle.std.proofs.Common.{string_bytes, sym}
 use Rattle.jsonptr_journal.specs.Children.{members_of}
 use Rattle.jsonptr_journal.proofs.MembersLemmas.{map_lacks, map_finds, map_put, not_lacking}
-use Rattle.jsonptr_tree.specs.Content.{get_member}
+use Rattle.jsonptr.specs.Content.{get_member}
 use Rattle.jsonptr_journal.proofs.members.set.Goals as goal
 
 pub unreachable-requires : goal.unreachable-requires

@@ -1,16 +1,16 @@
 use Rattle.std.proofs.Common.{◌≡◌, [], ◌∷◌, ◌++◌, sym, ap, ◌∙◌}
-use Rattle.jsonptr_tree.specs.Node.{key, place}
-use Rattle.jsonptr_journal.specs.Location.{path_of, step_of}
+use Rattle.jsonptr.specs.Node.{key, place}
+use Rattle.jsonptr_journal.specs.Location.{path_of, part_step}
 use Rattle.jsonptr_journal.specs.declared.location.Part.{Part}
 use Rattle.jsonptr_journal.proofs.ParentLemmas.{parent_has_member, parent_has_element}
 use Rattle.jsonptr_journal.proofs.removal.remove.Goals as goal
 
-pub remove_member_at-requires : goal.remove_member_at-requires
-remove_member_at-requires g c =
-    let split : path_of c.args.location ≡ path_of c.in-Some.parent ++ key c.as_str.result.now ∷ [] = (rw (c.in-Some.parent-is, c.in-Some.last-is) at c.in-Some.ensures) ∙ ap (λ (p : Part). path_of c.in-Some.parent ++ step_of p ∷ []) c.in-Key.is ∙ ap (λ (t : _). path_of c.in-Some.parent ++ key t ∷ []) (sym c.as_str.ensures.value) in
-    parent_has_member c.as_str.result.now (path_of c.args.location) (path_of c.in-Some.parent) (g.D.NodeMut.contents c.args.doc.now) split c.requires
+pub remove_member-requires : goal.remove_member-requires
+remove_member-requires g c =
+    let split : path_of c.args.location ≡ path_of c.in-Some.parent ++ key c.as_str.result.now ∷ [] = (rw (c.in-Some.parent-is, c.in-Some.last-is) at c.in-Some.ensures) ∙ ap (λ (p : Part). path_of c.in-Some.parent ++ part_step p ∷ []) c.in-Key.is ∙ ap (λ (t : _). path_of c.in-Some.parent ++ key t ∷ []) (sym c.as_str.ensures.value) in
+    parent_has_member c.as_str.result.now (path_of c.args.location) (path_of c.in-Some.parent) (g.D.NodeMut.contents c.args.document.now) split c.requires
 
-pub remove_element_at-requires : goal.remove_element_at-requires
-remove_element_at-requires g c =
-    let split : path_of c.args.location ≡ path_of c.in-Some.parent ++ place c.in-Index.index ∷ [] = (rw (c.in-Some.parent-is, c.in-Some.last-is) at c.in-Some.ensures) ∙ ap (λ (p : Part). path_of c.in-Some.parent ++ step_of p ∷ []) c.in-Index.is in
-    parent_has_element c.in-Index.index (path_of c.args.location) (path_of c.in-Some.parent) (g.D.NodeMut.contents c.args.doc.now) split c.requires
+pub remove_element-requires : goal.remove_element-requires
+remove_element-requires g c =
+    let split : path_of c.args.location ≡ path_of c.in-Some.parent ++ place c.in-Index.index ∷ [] = (rw (c.in-Some.parent-is, c.in-Some.last-is) at c.in-Some.ensures) ∙ ap (λ (p : Part). path_of c.in-Some.parent ++ part_step p ∷ []) c.in-Index.is in
+    parent_has_element c.in-Index.index (path_of c.args.location) (path_of c.in-Some.parent) (g.D.NodeMut.contents c.args.document.now) split c.requires

@@ -1,8 +1,8 @@
 use Rattle.std.proofs.Common.{◌≡◌, ℕ, ◌<◌, List, Some, None, refl, sym, ◌∙◌, subst}
 use Rattle.serde_json.specs.declared.value.Value.{Object}
-use Rattle.jsonptr_grammar.specs.Text.{Text, HasNoTilde, text}
-use Rattle.jsonptr_tree.specs.Content.{child}
-use Rattle.jsonptr_tree.specs.Node.{key, place}
+use Rattle.jsonptr.specs.Text.{Text, HasNoTilde, text}
+use Rattle.jsonptr.specs.Content.{child}
+use Rattle.jsonptr.specs.Node.{key, place}
 use Rattle.jsonptr_journal.specs.Location.{contents_of}
 use Rattle.jsonptr_journal.specs.Writing.{write_step}
 use Rattle.jsonptr_journal.specs.PrivateTokenStep.{IsTokenAt}
@@ -17,7 +17,7 @@ index_mut-node-requires c =
 
 pub returns-in-Some-as_array_mut : goal.returns-in-Some-as_array_mut
 returns-in-Some-as_array_mut c =
-    let ts = c.args.ptr.now in let o = c.args.offset in let x = c.in-Some.token in let next = c.in-Some.next in
+    let ts = c.args.pointer.now in let o = c.args.offset in let x = c.in-Some.token in let next = c.in-Some.next in
     let t : IsTokenAt ts o x next = subst (λ (us : List Text). IsTokenAt us o x next) c.as_ptr.ensures.tokens c.in-Some.ensures in
     let at = c.args.at.now in let vs = c.in-Some-as_array_mut.elements.now in let is = c.in-Some-as_array_mut.ensures.value in let i = c.in-Some-element_in.index in let e = c.index_mut-node.result.now in
     let named = λ (plain : HasNoTilde (text ts)). element_named (contents_of at) x i c.in-Some-element_in.ensures in
@@ -28,7 +28,7 @@ returns-in-Some-as_array_mut c =
 
 pub returns-in-Some-get_mut : goal.returns-in-Some-get_mut
 returns-in-Some-get_mut c =
-    let ts = c.args.ptr.now in let o = c.args.offset in let x = c.in-Some.token in let next = c.in-Some.next in
+    let ts = c.args.pointer.now in let o = c.args.offset in let x = c.in-Some.token in let next = c.in-Some.next in
     let t : IsTokenAt ts o x next = subst (λ (us : List Text). IsTokenAt us o x next) c.as_ptr.ensures.tokens c.in-Some.ensures in
     let at = c.args.at.now in let m = c.in-Some-as_object_mut.members.now in let is = c.in-Some-as_object_mut.ensures.value in let k = c.encoded.result.now in let e = c.in-Some-get_mut.node.now in
     let read = λ (plain : HasNoTilde (text ts)). c.encoded.ensures ∙ plain_at ts o x next t plain in
@@ -47,7 +47,7 @@ returns-in-Some-get_mut c =
 
 pub returns-in-Some-as_object_mut : goal.returns-in-Some-as_object_mut
 returns-in-Some-as_object_mut c =
-    let ts = c.args.ptr.now in let o = c.args.offset in let x = c.in-Some.token in let next = c.in-Some.next in
+    let ts = c.args.pointer.now in let o = c.args.offset in let x = c.in-Some.token in let next = c.in-Some.next in
     let t : IsTokenAt ts o x next = subst (λ (us : List Text). IsTokenAt us o x next) c.as_ptr.ensures.tokens c.in-Some.ensures in
     let at = c.args.at.now in let m = c.in-Some-as_object_mut.members.now in let is = c.in-Some-as_object_mut.ensures.value in let k = c.encoded.result.now in
     let read = λ (plain : HasNoTilde (text ts)). c.encoded.ensures ∙ plain_at ts o x next t plain in (
@@ -66,7 +66,7 @@ returns-in-Some-as_object_mut c =
 
 pub returns : goal.returns
 returns c =
-    let ts = c.args.ptr.now in let o = c.args.offset in let x = c.in-Some.token in let next = c.in-Some.next in
+    let ts = c.args.pointer.now in let o = c.args.offset in let x = c.in-Some.token in let next = c.in-Some.next in
     let t : IsTokenAt ts o x next = subst (λ (us : List Text). IsTokenAt us o x next) c.as_ptr.ensures.tokens c.in-Some.ensures in
     let at = c.args.at.now in (
       (refl, (λ w. tt), refl),

@@ -6,14 +6,14 @@ use Rattle.jsonptr_json_search.proofs.ReadingLemmas.{reads_object}
 use Rattle.jsonptr_json_edits.specs.Editing.{InsertsMember}
 use Rattle.jsonptr_json_edits.proofs.add.add.Goals as goal
 
-pub returns-in_ok-add_member-in-BeginObject-clause-ok : goal.returns-in_ok-add_member-in-BeginObject-clause-ok
-returns-in_ok-add_member-in-BeginObject-clause-ok c =
-    let r = c.in_ok-add_member-in-BeginObject.ensures.ok in (
+pub returns-in_ok-add_member-in-BeginObject-clause-passed : goal.returns-in_ok-add_member-in-BeginObject-clause-passed
+returns-in_ok-add_member-in-BeginObject-clause-passed c =
+    let r = c.in_ok-add_member-in-BeginObject.ensures.passed in (
       object r.0,
       object r.1,
       r.2,
-      reads_object c.args.depth c.args.short.now c.same_token.new.one c.add_member.new.short r.0 (omega arith) (c.in_ok-token.ensures.one ∙ ap (λ k. token_of k ∷ c.same_token.new.one) c.in-BeginObject.is) r.3,
-      reads_object c.args.depth c.args.long.now c.same_token.new.two c.add_member.new.long r.1 (omega arith) (c.in_ok-token.ensures.two ∙ ap (λ k. token_of k ∷ c.same_token.new.two) c.in-BeginObject.is) r.4,
-      subst (λ (s : List ℕ). read s ≡ Some r.2) c.as_str-value.ensures.value r.5,
-      record { ms = r.0; ms2 = r.1; old = refl; new = refl; inserts = subst (λ (k : List ℕ). InsertsMember k r.2 r.0 r.1) c.as_str-key.ensures.value r.6 },
+      reads_object c.args.depth c.args.readers.now.one c.same_token.new.one c.add_member.new.readers.one r.0 (omega arith) (c.in_ok-token.ensures.one ∙ ap (λ k. token_of k ∷ c.same_token.new.one) c.in-BeginObject.is) r.3,
+      reads_object c.args.depth c.args.readers.now.two c.same_token.new.two c.add_member.new.readers.two r.1 (omega arith) (c.in_ok-token.ensures.two ∙ ap (λ k. token_of k ∷ c.same_token.new.two) c.in-BeginObject.is) r.4,
+      subst (λ (s : List ℕ). read s ≡ Some r.2) c.as_str-in-BeginObject.ensures.value r.5,
+      record { ms = r.0; ms2 = r.1; old = refl; new = refl; inserts = subst (λ (k : List ℕ). InsertsMember k r.2 r.0 r.1) c.as_str.ensures.value r.6 },
     )

@@ -9,36 +9,36 @@ use Rattle.jsonptr_json_edits.proofs.AddingLemmas.{items_after}
 use Rattle.jsonptr_json_edits.proofs.add.add_item.Goals as goal
 
 pub items-init : goal.items-init
-items-init c = ([], [], items_begin c.args.depth c.args.short.now, items_begin c.args.depth c.args.long.now, refl, refl, omega arith, omega arith)
+items-init c = ([], [], items_begin c.args.depth c.args.readers.now.one, items_begin c.args.depth c.args.readers.now.two, refl, refl, omega arith, omega arith)
 
 pub items-preserved : goal.items-preserved
 items-preserved c =
     let i = c.items.invariant in
-    let r = c.in_ok-visit_item.ensures.ok in
+    let r = c.in_ok-visit_item.ensures.passed in
     let more = c.items-test.ensures in
-    let less = c.in_ok-visit_item.ensures.long_shorter in
-    let shorter : length c.visit_item.new.long < length c.items.long = subst (λ (ts : List Token). length c.visit_item.new.long < length ts) more.1 less in
-    let short = c.in_ok-visit_item.ensures.short_shorter in
-    let next = items_after c.items.is_done c.is_at-wanted.result c.args.index c.args.depth c.args.value.now c.args.short.now c.items.short c.visit_item.new.short i.0 i.1 r.0 i.2 i.5 r.2 (λ e. sym i.4 ∙ c.is_at-wanted.ensures.0 e) in (
+    let less = c.in_ok-visit_item.ensures.two_shorter in
+    let shorter : length c.visit_item.new.readers.two < length c.items.readers.two = subst (λ (ts : List Token). length c.visit_item.new.readers.two < length ts) more.1 less in
+    let short = c.in_ok-visit_item.ensures.one_shorter in
+    let next = items_after c.items.is_done c.is_at-wanted.result c.args.index c.args.depth c.args.value.now c.args.readers.now.one c.items.readers.one c.visit_item.new.readers.one i.0 i.1 r.0 i.2 i.5 r.2 (λ e. sym i.4 ∙ c.is_at-wanted.ensures.0 e) in (
       next.0,
       i.1 ++ r.0 ∷ [],
       next.1,
-      items_go_on c.args.depth c.args.long.now c.items.long c.take_end_array.new.self c.visit_item.new.long i.1 r.0 i.3 more r.1 less,
+      items_go_on c.args.depth c.args.readers.now.two c.items.readers.two c.take_end_array.new.self c.visit_item.new.readers.two i.1 r.0 i.3 more r.1 less,
       omega (arith, i.4, length-append i.1 (r.0 ∷ [])),
       subst (λ (b : Bool). ItemsAdded b c.args.index c.args.value.now next.0 (i.1 ++ r.0 ∷ [])) (sym c.is_either-is_done.ensures) next.2,
       omega (arith, i.6, short),
       omega (arith, i.7, shorter),
     )
 
-pub returns-clause-ok : goal.returns-clause-ok
-returns-clause-ok c =
+pub returns-clause-passed : goal.returns-clause-passed
+returns-clause-passed c =
     let i = c.items.invariant in
     let h = subst (λ (b : Bool). ItemsAdded b c.args.index c.args.value.now i.0 i.1) c.if-not-is_done.false i.5 in (
       with_items_before i.0 no_items,
       with_items_before i.1 no_items,
       h.e,
-      items_close c.args.depth c.args.short.now c.items.short c.take_end_array-2.new.self i.0 i.2 c.if-not-take_end_array.ensures,
-      items_close c.args.depth c.args.long.now c.items.long c.take_end_array.new.self i.1 i.3 c.items-test.ensures,
+      items_close c.args.depth c.args.readers.now.one c.items.readers.one c.take_end_array-2.new.self i.0 i.2 c.if-not-take_end_array.ensures,
+      items_close c.args.depth c.args.readers.now.two c.items.readers.two c.take_end_array.new.self i.1 i.3 c.items-test.ensures,
       h.reads,
       inserts_item c.args.index c.args.value.now i.0 i.1 h,
     )

@@ -7,12 +7,12 @@ use Rattle.jsonptr_json_edits.proofs.add.add_item.Given as goal
 abbrev pub invariant-items : goal.invariant-items
 invariant-items l =
     (ds ds2 : List Data)
-    × ItemsSoFar l.depth l.initial.short l.short ds
-    × ItemsSoFar l.depth l.initial.long l.long ds2
+    × ItemsSoFar l.depth l.initial.readers.one l.readers.one ds
+    × ItemsSoFar l.depth l.initial.readers.two l.readers.two ds2
     × (l.count ≡ length ds2)
     × ItemsAdded l.is_done l.index l.value ds ds2
-    × (length l.short ≤ length l.initial.short)
-    × (length l.long ≤ length l.initial.long)
+    × (length l.readers.one ≤ length l.initial.readers.one)
+    × (length l.readers.two ≤ length l.initial.readers.two)
 
 abbrev pub decreases-items : goal.decreases-items
-decreases-items l = length l.long
+decreases-items l = length l.readers.two

@@ -7,11 +7,11 @@ use Rattle.jsonptr_json_edits.proofs.add.add_member.Given as goal
 abbrev pub invariant-members : goal.invariant-members
 invariant-members l =
     (ms ms2 : Members)
-    × MembersSoFar l.depth l.initial.short l.short ms
-    × MembersSoFar l.depth l.initial.long l.long ms2
-    × MembersAdded l.is_done l.key l.value ms ms2
-    × (length l.short ≤ length l.initial.short)
-    × (length l.long ≤ length l.initial.long)
+    × MembersSoFar l.depth l.initial.readers.one l.readers.one ms
+    × MembersSoFar l.depth l.initial.readers.two l.readers.two ms2
+    × MembersAdded l.is_done l.member.key.now l.value ms ms2
+    × (length l.readers.one ≤ length l.initial.readers.one)
+    × (length l.readers.two ≤ length l.initial.readers.two)
 
 abbrev pub decreases-members : goal.decreases-members
-decreases-members l = length l.long
+decreases-members l = length l.readers.two

@@ -6,11 +6,11 @@ use Rattle.jsonptr_json_edits.proofs.append.append_item.Given as goal
 abbrev pub invariant-items : goal.invariant-items
 invariant-items l =
     (before : List Data)
-    × ItemsSoFar l.depth l.initial.short l.short before
-    × ItemsSoFar l.depth l.initial.long l.long before
+    × ItemsSoFar l.depth l.initial.readers.one l.readers.one before
+    × ItemsSoFar l.depth l.initial.readers.two l.readers.two before
     × (l.count ≡ length before)
-    × (length l.short ≤ length l.initial.short)
-    × (length l.long ≤ length l.initial.long)
+    × (length l.readers.one ≤ length l.initial.readers.one)
+    × (length l.readers.two ≤ length l.initial.readers.two)
 
 abbrev pub decreases-items : goal.decreases-items
-decreases-items l = length l.short
+decreases-items l = length l.readers.one

@@ -21,24 +21,24 @@ decreases-change_member l = 3 * l.depth + 2
 abbrev pub invariant-change_item-items : goal.invariant-change_item-items
 invariant-change_item-items l =
     (ds ds2 : List Data)
-    × ItemsSoFar l.depth l.initial.old l.old ds
-    × ItemsSoFar l.depth l.initial.new l.new ds2
+    × ItemsSoFar l.depth l.initial.readers.one l.readers.one ds
+    × ItemsSoFar l.depth l.initial.readers.two l.readers.two ds2
     × (l.count ≡ length ds)
-    × ItemsSo l.is_done l.index (ChangesAt (choices l.selectors) (Makes l.edit)) ds ds2
-    × (length l.old ≤ length l.initial.old)
-    × (length l.new ≤ length l.initial.new)
+    × ItemsSo l.is_done l.index (ChangesAt (choices l.at.selectors.now) (Makes l.at.edit.now)) ds ds2
+    × (length l.readers.one ≤ length l.initial.readers.one)
+    × (length l.readers.two ≤ length l.initial.readers.two)
 
 abbrev pub decreases-change_item-items : goal.decreases-change_item-items
-decreases-change_item-items l = length l.old
+decreases-change_item-items l = length l.readers.one
 
 abbrev pub invariant-change_member-members : goal.invariant-change_member-members
 invariant-change_member-members l =
     (ms ms2 : Members)
-    × MembersSoFar l.depth l.initial.old l.old ms
-    × MembersSoFar l.depth l.initial.new l.new ms2
-    × MembersSo l.is_done l.key (ChangesAt (choices l.selectors) (Makes l.edit)) ms ms2
-    × (length l.old ≤ length l.initial.old)
-    × (length l.new ≤ length l.initial.new)
+    × MembersSoFar l.depth l.initial.readers.one l.readers.one ms
+    × MembersSoFar l.depth l.initial.readers.two l.readers.two ms2
+    × MembersSo l.is_done l.member.key.now (ChangesAt (choices l.at.selectors.now) (Makes l.at.edit.now)) ms ms2
+    × (length l.readers.one ≤ length l.initial.readers.one)
+    × (length l.readers.two ≤ length l.initial.readers.two)
 
 abbrev pub decreases-change_member-members : goal.decreases-change_member-members
-decreases-change_member-members l = length l.old
+decreases-change_member-members l = length l.readers.one

@@ -7,30 +7,30 @@ use Rattle.serde_json.specs.Find.{get_member, get_item}
 use Rattle.jsonptr_json_search.specs.PrivateReading.{with_items_before}
 use Rattle.jsonptr_json_search.specs.Search.{Choice, choice_of, choices}
 use Rattle.jsonptr_json_search.proofs.ReadingLemmas.{items_begin, items_go_on, items_close, members_begin, members_go_on, members_close, reads_array, reads_object, a_key, no_key}
-use Rattle.jsonptr_json_edits.specs.Leading.{LeadsTo}
+use Rattle.jsonptr_json_edits.specs.Leading.{LeadsToText}
 use Rattle.jsonptr_json_edits.specs.PrivateLeading.{ChildLeads, ChildLeadsIf}
 use Rattle.jsonptr_json_edits.proofs.LeadingLemmas.{next_item, next_member, leads_by_item, leads_by_member}
 use Rattle.jsonptr_json_edits.proofs.lead.+pass.Goals as goal
 
-pub pass-returns-in_ok-pass_item-in-BeginArray-clause-ok :
-    goal.pass-returns-in_ok-pass_item-in-BeginArray-clause-ok
-pass-returns-in_ok-pass_item-in-BeginArray-clause-ok t c =
-    let r = c.in_ok-pass_item-in-BeginArray.ensures.ok in
+pub pass-returns-in_ok-pass_item-in-BeginArray-clause-passed :
+    goal.pass-returns-in_ok-pass_item-in-BeginArray-clause-passed
+pass-returns-in_ok-pass_item-in-BeginArray-clause-passed t c =
+    let r = c.in_ok-pass_item-in-BeginArray.ensures.passed in
     let split : choices c.args.target.selectors.now ≡ choice_of c.in-Some.selector.now ∷ choices c.in-Some.selectors.now = ap choices c.in-Some.ensures.cases.0 in (
       array r.0,
       reads_array c.args.depth c.args.reader.now c.next.new.self c.pass_item.new.reader r.0 (omega arith) (c.in-Some-next.ensures.value ∙ ap (λ k. token_of k ∷ c.next.new.self) c.in-BeginArray.is) r.1,
-      subst (λ (cs : List Choice). LeadsTo cs c.args.target.value.now (array r.0)) (sym split)
+      subst (λ (cs : List Choice). LeadsToText cs c.args.target.value.now (array r.0)) (sym split)
           (leads_by_item c.in-Some.selector.now c.in_ok-index-in-BeginArray.index r.0 (choices c.in-Some.selectors.now) c.args.target.value.now (grind arith) r.2),
     )
 
-pub pass-returns-in_ok-pass_member-in-BeginObject-clause-ok :
-    goal.pass-returns-in_ok-pass_member-in-BeginObject-clause-ok
-pass-returns-in_ok-pass_member-in-BeginObject-clause-ok t c =
-    let r = c.in_ok-pass_member-in-BeginObject.ensures.ok in
+pub pass-returns-in_ok-pass_member-in-BeginObject-clause-passed :
+    goal.pass-returns-in_ok-pass_member-in-BeginObject-clause-passed
+pass-returns-in_ok-pass_member-in-BeginObject-clause-passed t c =
+    let r = c.in_ok-pass_member-in-BeginObject.ensures.passed in
     let split : choices c.args.target.selectors.now ≡ choice_of c.in-Some.selector.now ∷ choices c.in-Some.selectors.now = ap choices c.in-Some.ensures.cases.0 in (
       object r.0,
       reads_object c.args.depth c.args.reader.now c.next.new.self c.pass_member.new.reader r.0 (omega arith) (c.in-Some-next.ensures.value ∙ ap (λ k. token_of k ∷ c.next.new.self) c.in-BeginObject.is) r.1,
-      subst (λ (cs : List Choice). LeadsTo cs c.args.target.value.now (object r.0)) (sym split)
+      subst (λ (cs : List Choice). LeadsToText cs c.args.target.value.now (object r.0)) (sym split)
           (leads_by_member c.in-Some.selector.now r.0 (choices c.in-Some.selectors.now) c.args.target.value.now
           (subst (λ (k : List ℕ). ChildLeads (get_member k r.0) (choices c.in-Some.selectors.now) c.args.target.value.now) c.as_str-key.ensures.value r.2)),
     )
@@ -41,7 +41,7 @@ pass_item-items-init t c = ([], items_begin c.args.depth c.args.reader.now, refl
 pub pass_item-items-preserved : goal.pass_item-items-preserved
 pass_item-items-preserved t c =
     let i = c.items.invariant in
-    let r = c.in_ok-visit.ensures.ok in
+    let r = c.in_ok-visit.ensures.passed in
     let more = c.items-test.ensures in
     let less = c.in_ok-visit.ensures.shorter in
     let shorter : length c.visit.new.reader < length c.items.reader = subst (λ (ts : List Token). length c.visit.new.reader < length ts) more.1 less in
@@ -55,8 +55,8 @@ pass_item-items-preserved t c =
       omega (arith, i.4, shorter),
     )
 
-pub pass_item-returns-clause-ok : goal.pass_item-returns-clause-ok
-pass_item-returns-clause-ok t c =
+pub pass_item-returns-clause-passed : goal.pass_item-returns-clause-passed
+pass_item-returns-clause-passed t c =
     let i = c.items.invariant in
     let done : c.items.is_done ≡ true = grind arith in (
       with_items_before i.0 no_items,
@@ -70,7 +70,7 @@ pass_member-members-init t c = (no_members, members_begin c.args.depth c.args.re
 pub pass_member-members-preserved : goal.pass_member-members-preserved
 pass_member-members-preserved t c =
     let i = c.members.invariant in
-    let r = c.in_ok-visit.ensures.ok in
+    let r = c.in_ok-visit.ensures.passed in
     let named = a_key c.in_ok-name.field-0 c.in-Some.name c.members.reader c.next_key.new.self c.in_ok-name.ensures.value c.in-Some.is in
     let less = c.in_ok-visit.ensures.shorter in
     let passed = read_key-shorter c.members.reader (Some c.in-Some.name.now) c.next_key.new.self named in
@@ -84,8 +84,8 @@ pass_member-members-preserved t c =
       omega (arith, i.3, less, passed),
     )
 
-pub pass_member-returns-clause-ok : goal.pass_member-returns-clause-ok
-pass_member-returns-clause-ok t c =
+pub pass_member-returns-clause-passed : goal.pass_member-returns-clause-passed
+pass_member-returns-clause-passed t c =
     let i = c.members.invariant in
     let done : c.members.is_done ≡ true = grind arith in (
       i.0,

@@ -11,13 +11,13 @@ abbrev pub decreases-find_member : goal.decreases-find_member
 decreases-find_member l = 2 * l.depth + 1
 
 abbrev pub invariant-find_item-items : goal.invariant-find_item-items
-invariant-find_item-items l = length l.reader ≤ length l.initial.reader
+invariant-find_item-items l = length l.search.reader ≤ length l.initial.search.reader
 
 abbrev pub decreases-find_item-items : goal.decreases-find_item-items
-decreases-find_item-items l = length l.reader
+decreases-find_item-items l = length l.search.reader
 
 abbrev pub invariant-find_member-members : goal.invariant-find_member-members
-invariant-find_member-members l = length l.reader ≤ length l.initial.reader
+invariant-find_member-members l = length l.search.reader ≤ length l.initial.search.reader
 
 abbrev pub decreases-find_member-members : goal.decreases-find_member-members
-decreases-find_member-members l = length l.reader
+decreases-find_member-members l = length l.search.reader

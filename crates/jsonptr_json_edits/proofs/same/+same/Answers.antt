@@ -10,24 +10,24 @@ use Rattle.jsonptr_json_edits.proofs.AlikeLemmas.{alike_begin, alike_token, alik
 use Rattle.jsonptr_json_edits.proofs.SideLemmas.{both_scalar, no_name}
 use Rattle.jsonptr_json_edits.proofs.same.+same.Goals as goal
 
-pub same-returns-in_ok-same_items-in-BeginArray-clause-ok : goal.same-returns-in_ok-same_items-in-BeginArray-clause-ok
-same-returns-in_ok-same_items-in-BeginArray-clause-ok t c =
-    let r = c.in_ok-same_items-in-BeginArray.ensures.ok in (
+pub same-returns-in_ok-same_items-in-BeginArray-clause-passed : goal.same-returns-in_ok-same_items-in-BeginArray-clause-passed
+same-returns-in_ok-same_items-in-BeginArray-clause-passed t c =
+    let r = c.in_ok-same_items-in-BeginArray.ensures.passed in (
       array r.0,
       reads_array c.args.one_depth c.args.one.now c.same_token.new.one c.same_items.new.one r.0 (omega arith) (c.in_ok-token.ensures.one ∙ ap (λ k. token_of k ∷ c.same_token.new.one) c.in-BeginArray.is) r.1,
       reads_array c.args.two_depth c.args.two.now c.same_token.new.two c.same_items.new.two r.0 (omega arith) (c.in_ok-token.ensures.two ∙ ap (λ k. token_of k ∷ c.same_token.new.two) c.in-BeginArray.is) r.2,
     )
 
-pub same-returns-in_ok-same_members-in-BeginObject-clause-ok : goal.same-returns-in_ok-same_members-in-BeginObject-clause-ok
-same-returns-in_ok-same_members-in-BeginObject-clause-ok t c =
-    let r = c.in_ok-same_members-in-BeginObject.ensures.ok in (
+pub same-returns-in_ok-same_members-in-BeginObject-clause-passed : goal.same-returns-in_ok-same_members-in-BeginObject-clause-passed
+same-returns-in_ok-same_members-in-BeginObject-clause-passed t c =
+    let r = c.in_ok-same_members-in-BeginObject.ensures.passed in (
       object r.0,
       reads_object c.args.one_depth c.args.one.now c.same_token.new.one c.same_members.new.one r.0 (omega arith) (c.in_ok-token.ensures.one ∙ ap (λ k. token_of k ∷ c.same_token.new.one) c.in-BeginObject.is) r.1,
       reads_object c.args.two_depth c.args.two.now c.same_token.new.two c.same_members.new.two r.0 (omega arith) (c.in_ok-token.ensures.two ∙ ap (λ k. token_of k ∷ c.same_token.new.two) c.in-BeginObject.is) r.2,
     )
 
-pub same-returns-then-is_scalar-clause-ok : goal.same-returns-then-is_scalar-clause-ok
-same-returns-then-is_scalar-clause-ok t c = both_scalar c.args.one_depth c.args.two_depth c.args.one.now c.same_token.new.one c.args.two.now c.same_token.new.two c.in_ok-token.token c.in_ok-token.ensures.one c.in_ok-token.ensures.two c.in_default.not-BeginArray c.in_default.not-BeginObject (sym c.is_scalar.ensures ∙ c.if-is_scalar.true)
+pub same-returns-then-is_scalar-clause-passed : goal.same-returns-then-is_scalar-clause-passed
+same-returns-then-is_scalar-clause-passed t c = both_scalar c.args.one_depth c.args.two_depth c.args.one.now c.same_token.new.one c.args.two.now c.same_token.new.two c.in_ok-token.token c.in_ok-token.ensures.one c.in_ok-token.ensures.two c.in_default.not-BeginArray c.in_default.not-BeginObject (sym c.is_scalar.ensures ∙ c.if-is_scalar.true)
 
 pub same_items-items-init : goal.same_items-items-init
 same_items-items-init t c = ([], items_begin c.args.one_depth c.args.one.now, items_begin c.args.two_depth c.args.two.now, omega arith, omega arith, alike_begin c.args.one.now c.args.two.now)
@@ -35,7 +35,7 @@ same_items-items-init t c = ([], items_begin c.args.one_depth c.args.one.now, it
 pub same_items-items-preserved : goal.same_items-items-preserved
 same_items-items-preserved t c =
     let i = c.items.invariant in
-    let r = c.in_ok-same.ensures.ok in
+    let r = c.in_ok-same.ensures.passed in
     let more = c.items-test.ensures in
     let also = c.if-take_end_array.ensures in
     let less = c.in_ok-same.ensures.one_shorter in
@@ -52,8 +52,8 @@ same_items-items-preserved t c =
           (subst (λ (ts : List Token). AreAlike c.take_end_array.new.self c.same.new.one ts c.same.new.two) also.1 c.in_ok-same.ensures.alike)),
     )
 
-pub same_items-returns-clause-ok : goal.same_items-returns-clause-ok
-same_items-returns-clause-ok t c =
+pub same_items-returns-clause-passed : goal.same_items-returns-clause-passed
+same_items-returns-clause-passed t c =
     let i = c.items.invariant in (
       with_items_before i.0 no_items,
       items_close c.args.one_depth c.args.one.now c.items.one c.take_end_array.new.self i.0 i.1 c.items-test.ensures,
@@ -66,7 +66,7 @@ same_members-members-init t c = (no_members, members_begin c.args.one_depth c.ar
 pub same_members-members-preserved : goal.same_members-members-preserved
 same_members-members-preserved t c =
     let i = c.members.invariant in
-    let r = c.in_ok-same.ensures.ok in
+    let r = c.in_ok-same.ensures.passed in
     let named = a_key c.in_ok-name.field-0 c.in-Some.name c.members.one c.next_key.new.self c.in_ok-name.ensures.value c.in-Some.is in
     let twin = c.in_ok-same_key.ensures in
     let less = c.in_ok-same.ensures.one_shorter in
@@ -82,8 +82,8 @@ same_members-members-preserved t c =
           (alike_more c.members.one c.next_key.new.self c.same.new.one c.members.two c.same_key.new.reader c.same.new.two (alike_key c.in-Some.name.now c.members.one c.next_key.new.self c.members.two c.same_key.new.reader named twin) c.in_ok-same.ensures.alike),
     )
 
-pub same_members-returns-clause-ok : goal.same_members-returns-clause-ok
-same_members-returns-clause-ok t c =
+pub same_members-returns-clause-passed : goal.same_members-returns-clause-passed
+same_members-returns-clause-passed t c =
     let i = c.members.invariant in (
       i.0,
       members_close c.args.one_depth c.args.one.now c.members.one c.next_key.new.self i.0 i.1 (no_key c.in_ok-name.field-0 c.members.one c.next_key.new.self c.in_ok-name.ensures.value c.in_default.not-Some),

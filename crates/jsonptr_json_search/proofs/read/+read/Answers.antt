@@ -6,61 +6,61 @@ use Rattle.json.proofs.Grammar.{read_key-shorter}
 use Rattle.serde_json.specs.Data.{Data, Items, Members, put}
 use Rattle.serde_json.specs.View.{view, items_view, members_view}
 use Rattle.serde_json.proofs.Views.{view-Array, view-Object, members_view-insert_entry}
-use Rattle.jsonptr_json_search.specs.Reading.{Reads, ReadsItems}
+use Rattle.jsonptr_json_search.specs.Reading.{ReadsTokens, ReadsItems}
 use Rattle.jsonptr_json_search.specs.PrivateReading.{ItemsSoFar, MembersSoFar}
 use Rattle.jsonptr_json_search.proofs.ReadingLemmas.{items_go_on, items_close, items_stop, members_go_on, members_close, members_stop, members_no_more, unreadable_end, scalar_reads, unreadable_scalar, reads_array, unreadable_array, reads_object, unreadable_object, array_too_deep, object_too_deep, no_token, a_key, no_key, with_items_before-no_items, map_view-append}
 use Rattle.jsonptr_json_search.proofs.read.+read.Goals as goal
 
-pub read-returns-in_default-clause-err : goal.read-returns-in_default-clause-err
-read-returns-in_default-clause-err t c = λ _. unreadable_end c.args.depth c.args.reader.now (no_token _ _ _ c.next.ensures.value c.in_default.not-Some)
+pub read-returns-in_default-clause-refused : goal.read-returns-in_default-clause-refused
+read-returns-in_default-clause-refused t c = λ _. unreadable_end c.args.depth c.args.reader.now (no_token _ _ _ c.next.ensures.value c.in_default.not-Some)
 
-pub read-returns-then-depth-eq0-clause-err : goal.read-returns-then-depth-eq0-clause-err
-read-returns-then-depth-eq0-clause-err t c = λ _. array_too_deep c.args.depth c.args.reader.now c.next.new.self c.if-depth-eq0.true (c.in-Some.ensures.value ∙ ap (λ k. token_of k ∷ c.next.new.self) c.in-BeginArray.is)
+pub read-returns-then-depth-eq0-clause-refused : goal.read-returns-then-depth-eq0-clause-refused
+read-returns-then-depth-eq0-clause-refused t c = λ _. array_too_deep c.args.depth c.args.reader.now c.next.new.self c.if-depth-eq0.true (c.in-Some.ensures.value ∙ ap (λ k. token_of k ∷ c.next.new.self) c.in-BeginArray.is)
 
-pub read-returns-in_err-items-in-BeginArray-clause-err :
-    goal.read-returns-in_err-items-in-BeginArray-clause-err
-read-returns-in_err-items-in-BeginArray-clause-err t c = λ e.
+pub read-returns-in_err-items-in-BeginArray-clause-refused :
+    goal.read-returns-in_err-items-in-BeginArray-clause-refused
+read-returns-in_err-items-in-BeginArray-clause-refused t c = λ e.
     unreadable_array c.args.depth c.args.reader.now c.next.new.self (omega arith) (c.in-Some.ensures.value ∙ ap (λ k. token_of k ∷ c.next.new.self) c.in-BeginArray.is)
-    (c.in_err-items-in-BeginArray.ensures.err (grind (arith, e, c.from_residual.ensures)))
+    (c.in_err-items-in-BeginArray.ensures.refused (grind (arith, e, c.from_residual.ensures)))
 
-pub read-returns-then-depth-eq0-2-clause-err : goal.read-returns-then-depth-eq0-2-clause-err
-read-returns-then-depth-eq0-2-clause-err t c = λ _. object_too_deep c.args.depth c.args.reader.now c.next.new.self c.if-depth-eq0-2.true (c.in-Some.ensures.value ∙ ap (λ k. token_of k ∷ c.next.new.self) c.in-BeginObject.is)
+pub read-returns-then-depth-eq0-2-clause-refused : goal.read-returns-then-depth-eq0-2-clause-refused
+read-returns-then-depth-eq0-2-clause-refused t c = λ _. object_too_deep c.args.depth c.args.reader.now c.next.new.self c.if-depth-eq0-2.true (c.in-Some.ensures.value ∙ ap (λ k. token_of k ∷ c.next.new.self) c.in-BeginObject.is)
 
-pub read-returns-in_err-members-in-BeginObject-clause-err :
-    goal.read-returns-in_err-members-in-BeginObject-clause-err
-read-returns-in_err-members-in-BeginObject-clause-err t c = λ e.
+pub read-returns-in_err-members-in-BeginObject-clause-refused :
+    goal.read-returns-in_err-members-in-BeginObject-clause-refused
+read-returns-in_err-members-in-BeginObject-clause-refused t c = λ e.
     unreadable_object c.args.depth c.args.reader.now c.next.new.self (omega arith) (c.in-Some.ensures.value ∙ ap (λ k. token_of k ∷ c.next.new.self) c.in-BeginObject.is)
-    (c.in_err-members-in-BeginObject.ensures.err (grind (arith, e, c.from_residual-in_err-members-in-BeginObject.ensures)))
+    (c.in_err-members-in-BeginObject.ensures.refused (grind (arith, e, c.from_residual-in_err-members-in-BeginObject.ensures)))
 
-pub read-returns-in_ok-items-in-BeginArray-clause-ok :
-    goal.read-returns-in_ok-items-in-BeginArray-clause-ok
-read-returns-in_ok-items-in-BeginArray-clause-ok t c =
+pub read-returns-in_ok-items-in-BeginArray-clause-value :
+    goal.read-returns-in_ok-items-in-BeginArray-clause-value
+read-returns-in_ok-items-in-BeginArray-clause-value t c =
     let r = c.in_ok-items-in-BeginArray in
-    subst (λ (d : Data). Reads c.args.depth c.args.reader.now d c.read_items.new.reader) (sym (view-Array r.items))
-    (reads_array c.args.depth c.args.reader.now c.next.new.self c.read_items.new.reader (items_view r.items.items) (omega arith) (c.in-Some.ensures.value ∙ ap (λ k. token_of k ∷ c.next.new.self) c.in-BeginArray.is) r.ensures.ok)
+    subst (λ (d : Data). ReadsTokens c.args.depth c.args.reader.now d c.read_items.new.reader) (sym (view-Array r.items))
+    (reads_array c.args.depth c.args.reader.now c.next.new.self c.read_items.new.reader (items_view r.items.items) (omega arith) (c.in-Some.ensures.value ∙ ap (λ k. token_of k ∷ c.next.new.self) c.in-BeginArray.is) r.ensures.value)
 
-pub read-returns-in_ok-members-in-BeginObject-clause-ok :
-    goal.read-returns-in_ok-members-in-BeginObject-clause-ok
-read-returns-in_ok-members-in-BeginObject-clause-ok t c =
+pub read-returns-in_ok-members-in-BeginObject-clause-value :
+    goal.read-returns-in_ok-members-in-BeginObject-clause-value
+read-returns-in_ok-members-in-BeginObject-clause-value t c =
     let r = c.in_ok-members-in-BeginObject in
-    subst (λ (d : Data). Reads c.args.depth c.args.reader.now d c.read_members.new.reader) (sym (view-Object r.members))
-    (reads_object c.args.depth c.args.reader.now c.next.new.self c.read_members.new.reader (members_view r.members.entries) (omega arith) (c.in-Some.ensures.value ∙ ap (λ k. token_of k ∷ c.next.new.self) c.in-BeginObject.is) r.ensures.ok)
+    subst (λ (d : Data). ReadsTokens c.args.depth c.args.reader.now d c.read_members.new.reader) (sym (view-Object r.members))
+    (reads_object c.args.depth c.args.reader.now c.next.new.self c.read_members.new.reader (members_view r.members.entries) (omega arith) (c.in-Some.ensures.value ∙ ap (λ k. token_of k ∷ c.next.new.self) c.in-BeginObject.is) r.ensures.value)
 
-pub read-returns-in_err-scalar-in_default-token-clause-err :
-    goal.read-returns-in_err-scalar-in_default-token-clause-err
-read-returns-in_err-scalar-in_default-token-clause-err t c = λ e.
-    let none = c.in_err-scalar-in_default-token.ensures.err (grind (arith, e, c.from_residual-in_err-scalar-in_default-token.ensures)) in
+pub read-returns-in_err-scalar-in_default-token-clause-refused :
+    goal.read-returns-in_err-scalar-in_default-token-clause-refused
+read-returns-in_err-scalar-in_default-token-clause-refused t c = λ e.
+    let none = c.in_err-scalar-in_default-token.ensures.refused (grind (arith, e, c.from_residual-in_err-scalar-in_default-token.ensures)) in
     unreadable_scalar c.args.depth c.args.reader.now c.next.new.self c.in-Some.token c.in-Some.ensures.value c.in_default-token.not-BeginArray c.in_default-token.not-BeginObject (ap is_some none)
 
-pub read-returns-in_ok-scalar-in_default-token-clause-ok :
-    goal.read-returns-in_ok-scalar-in_default-token-clause-ok
-read-returns-in_ok-scalar-in_default-token-clause-ok t c =
+pub read-returns-in_ok-scalar-in_default-token-clause-value :
+    goal.read-returns-in_ok-scalar-in_default-token-clause-value
+read-returns-in_ok-scalar-in_default-token-clause-value t c =
     let r = c.in_ok-scalar-in_default-token in
-    scalar_reads c.args.depth c.args.reader.now c.next.new.self c.in-Some.token (view r.scalar) c.in-Some.ensures.value c.in_default-token.not-BeginArray c.in_default-token.not-BeginObject r.ensures.ok
+    scalar_reads c.args.depth c.args.reader.now c.next.new.self c.in-Some.token (view r.scalar) c.in-Some.ensures.value c.in_default-token.not-BeginArray c.in_default-token.not-BeginObject r.ensures.value
 
-pub read_items-returns-in_err-item-clause-err : goal.read_items-returns-in_err-item-clause-err
-read_items-returns-in_err-item-clause-err t c = λ e.
-    items_stop c.args.depth c.args.reader.now c.items.reader c.take_end_array.new.self (map view c.items.found.items) c.items.invariant.0 c.items-test.ensures (c.in_err-item.ensures.err (grind (arith, e, c.from_residual.ensures)))
+pub read_items-returns-in_err-item-clause-refused : goal.read_items-returns-in_err-item-clause-refused
+read_items-returns-in_err-item-clause-refused t c = λ e.
+    items_stop c.args.depth c.args.reader.now c.items.reader c.take_end_array.new.self (map view c.items.found.items) c.items.invariant.0 c.items-test.ensures (c.in_err-item.ensures.refused (grind (arith, e, c.from_residual.ensures)))
 
 pub read_items-items-preserved : goal.read_items-items-preserved
 read_items-items-preserved t c =
@@ -71,24 +71,24 @@ read_items-items-preserved t c =
     let less : length c.read.new.reader < length c.items.reader = subst (λ (ts : List Token). length c.read.new.reader < length ts) more.1 r.shorter in
     let longer = map_view-append c.items.found.items c.push.new.self.items v c.in_ok-push.ensures.items in (
       subst (λ (ds : List Data). ItemsSoFar c.args.depth c.args.reader.now c.read.new.reader ds) (sym longer)
-          (items_go_on c.args.depth c.args.reader.now c.items.reader c.take_end_array.new.self c.read.new.reader (map view c.items.found.items) (view v) i.0 more r.ok r.shorter),
+          (items_go_on c.args.depth c.args.reader.now c.items.reader c.take_end_array.new.self c.read.new.reader (map view c.items.found.items) (view v) i.0 more r.value r.shorter),
       omega (arith, i.1),
     )
 
-pub read_items-returns-clause-ok : goal.read_items-returns-clause-ok
-read_items-returns-clause-ok t c =
+pub read_items-returns-clause-value : goal.read_items-returns-clause-value
+read_items-returns-clause-value t c =
     subst (λ (ds : Items). ReadsItems c.args.depth c.args.reader.now ds c.take_end_array.new.self) (with_items_before-no_items (map view c.items.found.items))
     (items_close c.args.depth c.args.reader.now c.items.reader c.take_end_array.new.self (map view c.items.found.items) c.items.invariant.0 c.items-test.ensures)
 
-pub read_members-returns-in_err-name-clause-err : goal.read_members-returns-in_err-name-clause-err
-read_members-returns-in_err-name-clause-err t c = λ _.
+pub read_members-returns-in_err-name-clause-refused : goal.read_members-returns-in_err-name-clause-refused
+read_members-returns-in_err-name-clause-refused t c = λ _.
     members_no_more c.args.depth c.args.reader.now c.members.reader (members_view c.members.found.entries) c.members.invariant.0 c.in_err-name.ensures.value
 
-pub read_members-returns-in_err-member-clause-err :
-    goal.read_members-returns-in_err-member-clause-err
-read_members-returns-in_err-member-clause-err t c = λ e.
+pub read_members-returns-in_err-member-clause-refused :
+    goal.read_members-returns-in_err-member-clause-refused
+read_members-returns-in_err-member-clause-refused t c = λ e.
     let named = a_key c.in_ok-name.field-0 c.in-Some.name c.members.reader c.next_key.new.self c.in_ok-name.ensures.value c.in-Some.is in
-    members_stop c.args.depth c.args.reader.now c.members.reader c.next_key.new.self c.in-Some.name.now (members_view c.members.found.entries) c.members.invariant.0 named (c.in_err-member.ensures.err (grind (arith, e, c.from_residual-in_err-member.ensures)))
+    members_stop c.args.depth c.args.reader.now c.members.reader c.next_key.new.self c.in-Some.name.now (members_view c.members.found.entries) c.members.invariant.0 named (c.in_err-member.ensures.refused (grind (arith, e, c.from_residual-in_err-member.ensures)))
 
 pub read_members-members-preserved : goal.read_members-members-preserved
 read_members-members-preserved t c =
@@ -104,10 +104,10 @@ read_members-members-preserved t c =
     let inserted : members_view c.insert.new.self.entries ≡ put k (view v) old =
     ap members_view c.in_ok-insert.ensures.entries ∙ members_view-insert_entry c.members.found.entries c.in_ok-key.key v ∙ ap (λ name. put name (view v) old) copied in (
       subst (λ (ms : Members). MembersSoFar c.args.depth c.args.reader.now c.read.new.reader ms) (sym inserted)
-          (members_go_on c.args.depth c.args.reader.now c.members.reader c.next_key.new.self c.read.new.reader k (view v) old i.0 named r.ok (omega arith)),
+          (members_go_on c.args.depth c.args.reader.now c.members.reader c.next_key.new.self c.read.new.reader k (view v) old i.0 named r.value (omega arith)),
       omega (arith, i.1),
     )
 
-pub read_members-returns-clause-ok : goal.read_members-returns-clause-ok
-read_members-returns-clause-ok t c =
+pub read_members-returns-clause-value : goal.read_members-returns-clause-value
+read_members-returns-clause-value t c =
     members_close c.args.depth c.args.reader.now c.members.reader c.next_key.new.self (members_view c.members.found.entries) c.members.invariant.0 (no_key c.in_ok-name.field-0 c.members.reader c.next_key.new.self c.in_ok-name.ensures.value c.in_default.not-Some)

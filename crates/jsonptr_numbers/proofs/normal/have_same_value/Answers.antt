@@ -1,7 +1,7 @@
 use Rattle.std.proofs.Common.{◌≡◌, ℕ, List, ◌^◌, ◌<◌, ◌≤◌, ◌⊎◌, inl, inr, sym, ◌∙◌, subst, rules, true≢false, arith}
 use Rattle.fast_float.specs.Text.{Parts}
 use Rattle.jsonptr_numbers.specs.Decimal.{parts_of, WriteSame, HaveSameValue}
-use Rattle.jsonptr_numbers.specs.Kept.{IsShort, HasHugeExponent}
+use Rattle.jsonptr_numbers.specs.Kept.{HasShortDigits, HasHugeExponent}
 use Rattle.jsonptr_numbers.specs.PrivateNormal.{IsNormal, IsSame, IsBig}
 use Rattle.jsonptr_numbers.specs.declared.normal.Normal.{Normal}
 use Rattle.jsonptr_numbers.proofs.ValueLemmas.{same_numbers, other_numbers, long_other, long_not_short, many_not_short}
@@ -10,9 +10,9 @@ use Rattle.jsonptr_numbers.proofs.normal.have_same_value.Goals as goal
 differ : (raw printed : List ℕ) (p q : Parts) → p ≡ parts_of raw → q ≡ parts_of printed → (WriteSame p q → ⊥) → HaveSameValue raw printed → ⊥
 differ raw printed p q e k f h = f (rw (e, k) h.size)
 
-big_printed : (printed : List ℕ) (q : Parts) → q ≡ parts_of printed → IsBig q → IsShort (parts_of printed) → ⊥
-big_printed printed q k (inl long) h = long_not_short q long (subst IsShort (sym k) h)
-big_printed printed q k (inr huge) h = let here : IsShort q = subst IsShort (sym k) h in omega (arith, here.exponent, huge)
+big_printed : (printed : List ℕ) (q : Parts) → q ≡ parts_of printed → IsBig q → HasShortDigits (parts_of printed) → ⊥
+big_printed printed q k (inl long) h = long_not_short q long (subst HasShortDigits (sym k) h)
+big_printed printed q k (inr huge) h = let here : HasShortDigits q = subst HasShortDigits (sym k) h in omega (arith, here.exponent, huge)
 
 big_raw : (raw printed : List ℕ) (p q : Parts) (m : Normal) → p ≡ parts_of raw → q ≡ parts_of printed → IsNormal q m → m.digits < 2 ^ 64 → IsBig p
     → (HaveSameValue raw printed → ⊥) ⊎ HasHugeExponent (parts_of raw)
@@ -52,4 +52,4 @@ pub returns-else-other-lt-TEN_TO_17-clause-differ : goal.returns-else-other-lt-T
 returns-else-other-lt-TEN_TO_17-clause-differ c t =
     let other : IsNormal c.numeral_of.result c.in-Some.other = c.in-Some.ensures {u = tt} in
     let many : 10 ^ 17 ≤ c.in-Some.other.digits = omega arith in
-    inr (inr (λ h. many_not_short c.numeral_of.result c.in-Some.other other many (subst IsShort (sym c.numeral_of.ensures) h)))
+    inr (inr (λ h. many_not_short c.numeral_of.result c.in-Some.other other many (subst HasShortDigits (sym c.numeral_of.ensures) h)))

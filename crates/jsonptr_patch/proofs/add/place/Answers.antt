@@ -1,5 +1,5 @@
 use Rattle.std.proofs.Common.{inl, refl, ap, sym, ◌∙◌, length, option_map}
-use Rattle.jsonptr_tree.specs.Content.{label_of}
+use Rattle.jsonptr.specs.Content.{label_of}
 use Rattle.jsonptr_journal.specs.declared.addition.Target.{Target}
 use Rattle.jsonptr_journal.specs.declared.locate.Located.{Located}
 use Rattle.jsonptr_patch.proofs.AddingLemmas.{scalar_lacks, parent_refused}

@@ -24,17 +24,17 @@ returns-in_ok-back-in-Move-clause-back c =
     (λ e n tokens p. (o ∷ [], ap₂ (λ (ts us : List Text). variant.Move ts us ∷ []) c.in_ok-place-in-Move.ensures.cases c.in_ok-back-in-Move.ensures.cases, one_back c.args.inverse.now.items c.append-in-Move.new.inverse.items o e))
     c.append-in-Move.ensures)
 
-pub returns-in_ok-path-in-Add-clause-kept : goal.returns-in_ok-path-in-Add-clause-kept
-returns-in_ok-path-in-Add-clause-kept c = ok_all c.append.result _ _
+pub returns-in_ok-path-in-Add-clause-sorted : goal.returns-in_ok-path-in-Add-clause-sorted
+returns-in_ok-path-in-Add-clause-sorted c = ok_all c.append.result _ _
     (λ e. appended c.args.inverse.now.items c.append.new.inverse.items (variant.Remove c.in_ok-path-in-Add.path) e tt)
     c.append.ensures
 
-pub returns-in_ok-path-in-Copy-clause-kept : goal.returns-in_ok-path-in-Copy-clause-kept
-returns-in_ok-path-in-Copy-clause-kept c = ok_all c.append-in-Copy.result _ _
+pub returns-in_ok-path-in-Copy-clause-sorted : goal.returns-in_ok-path-in-Copy-clause-sorted
+returns-in_ok-path-in-Copy-clause-sorted c = ok_all c.append-in-Copy.result _ _
     (λ e. appended c.args.inverse.now.items c.append-in-Copy.new.inverse.items (variant.Remove c.in_ok-path-in-Copy.path) e tt)
     c.append-in-Copy.ensures
 
-pub returns-in_ok-back-in-Move-clause-kept : goal.returns-in_ok-back-in-Move-clause-kept
-returns-in_ok-back-in-Move-clause-kept c = ok_all c.append-in-Move.result _ _
+pub returns-in_ok-back-in-Move-clause-sorted : goal.returns-in_ok-back-in-Move-clause-sorted
+returns-in_ok-back-in-Move-clause-sorted c = ok_all c.append-in-Move.result _ _
     (λ e. appended c.args.inverse.now.items c.append-in-Move.new.inverse.items (variant.Move c.in_ok-place-in-Move.place c.in_ok-back-in-Move.back) e tt)
     c.append-in-Move.ensures

@@ -3,12 +3,12 @@ use Rattle.jsonptr_tree.proofs.JsonLemmas.{content_one}
 use Rattle.jsonptr_journal.specs.Location.{contents_of}
 use Rattle.jsonptr_patch.proofs.inverse.apply_comparing_with_inverse.Goals as goal
 
-pub record_with_inverse-requires : goal.record_with_inverse-requires
-record_with_inverse-requires c = (contents_of c.args.doc.now, c.new-journal.ensures (contents_of c.args.doc.now))
+pub record_with_inverse-requires-clause-undone : goal.record_with_inverse-requires-clause-undone
+record_with_inverse-requires-clause-undone c = (contents_of c.args.doc.now, c.new-journal.ensures (contents_of c.args.doc.now))
 
 pub undo-requires : goal.undo-requires
 undo-requires c = (contents_of c.args.doc.now, c.in-Err.ensures.undone (contents_of c.args.doc.now) (c.new-journal.ensures (contents_of c.args.doc.now)))
 
-pub returns-in-Err-clause-unchanged : goal.returns-in-Err-clause-unchanged
-returns-in-Err-clause-unchanged c = content_one (view c.undo.new.doc) (view c.args.doc.now)
+pub returns-clause-unchanged : goal.returns-clause-unchanged
+returns-clause-unchanged c = content_one (view c.undo.new.document) (view c.args.doc.now)
     (c.undo.ensures (contents_of c.args.doc.now) (c.in-Err.ensures.undone (contents_of c.args.doc.now) (c.new-journal.ensures (contents_of c.args.doc.now))))

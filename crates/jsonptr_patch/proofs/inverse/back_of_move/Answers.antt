@@ -1,54 +1,59 @@
-use Rattle.std.proofs.Common.{sym, ◌∙◌, true≢false}
+use Rattle.std.proofs.Common.{inl, inr, sym, ◌∙◌, subst, true≢false}
+use Rattle.serde_json.specs.Data.{Data}
 use Rattle.serde_json.specs.View.{view}
-use Rattle.jsonptr.specs.Json.{nodes}
+use Rattle.jsonptr.specs.Json.{nodes, HasSortedKeys}
 use Rattle.jsonptr.specs.Pointer.{tokens}
-use Rattle.jsonptr_tree.proofs.JsonLemmas.{content_one}
+use Rattle.jsonptr.specs.Content.{map_of}
+use Rattle.jsonptr_walk.proofs.FollowLemmas.{refused_on}
 use Rattle.jsonptr_journal.specs.Location.{path_of, contents_of}
+use Rattle.jsonptr_patch.specs.Inverse.{TakesMoveBack}
+use Rattle.jsonptr_patch.specs.Operating.{RefusesTarget}
 use Rattle.jsonptr_patch.proofs.BackLemmas.{way_taken_back, way_add_refused}
 use Rattle.jsonptr_patch.proofs.ChangeMapLemmas.{takes_node}
 use Rattle.jsonptr_patch.proofs.OperatingLemmas.{ok_all, refused_all, left_refused}
 use Rattle.jsonptr_patch.proofs.PlaceLemmas.{named_there}
-use Rattle.jsonptr_patch.proofs.ChangeOrderLemmas.{sorted_taken, sorted_without}
 use Rattle.jsonptr_patch.proofs.inverse.back_of_move.Goals as goal
 
 pub returns-then-diverges-clause-back : goal.returns-then-diverges-clause-back
 returns-then-diverges-clause-back c = ok_all c.back_of_way.result _ _
-    (λ h. (h.1, way_taken_back (nodes (view c.args.doc.now)) (tokens c.args.from) (tokens c.args.path) (path_of c.in_ok-location.location) h.0 h.1 (c.diverges.ensures c.if-diverges.true) c.in_ok-location.ensures.found h.2 h.3, h.4))
+    (λ h. (h.1, way_taken_back (nodes (view c.args.document.now)) (tokens c.args.from) (tokens c.args.path) (path_of c.in_ok-location.location) h.0 h.1 (c.diverges.ensures c.if-diverges.true) c.in_ok-location.ensures.found h.2 h.3, h.4))
     c.back_of_way.ensures.back
 
 pub returns-then-diverges-clause-refused : goal.returns-then-diverges-clause-refused
 returns-then-diverges-clause-refused c = refused_all c.back_of_way.result _ _
-    (λ e. way_add_refused (nodes (view c.args.doc.now)) c.args.number (tokens c.args.from) (tokens c.args.path) (path_of c.in_ok-location.location) e (c.diverges.ensures c.if-diverges.true) c.in_ok-location.ensures.found)
+    (λ e. way_add_refused (nodes (view c.args.document.now)) c.args.turn.number (tokens c.args.from) (tokens c.args.path) (path_of c.in_ok-location.location) e (c.diverges.ensures c.if-diverges.true) c.in_ok-location.ensures.found)
     c.back_of_way.ensures.refused
 
-pub take-requires : goal.take-requires
-take-requires c = named_there (contents_of c.args.doc.now) (tokens c.args.from) (path_of c.in_ok-location.location) c.in_ok-location.ensures.found
+pub back_in_left-requires : goal.back_in_left-requires
+back_in_left-requires c = named_there (contents_of c.args.document.now) (tokens c.args.from) (path_of c.in_ok-location.location) c.in_ok-location.ensures.found
 
-pub returns-in_err-value-clause-same : goal.returns-in_err-value-clause-same
-returns-in_err-value-clause-same c = content_one (view c.take.new.doc) (view c.args.doc.now) c.in_err-value.ensures.unchanged
+pub returns-in_err-back-clause-refused : goal.returns-in_err-back-clause-refused
+returns-in_err-back-clause-refused c = refused_on (Unit {0}) _ c.in_err-back.field-0.0 _ _
+    (λ e r. left_refused (nodes (view c.args.document.now)) (map_of r.0) (map_of r.1) c.args.turn.number (tokens c.args.from) (tokens c.args.path) e
+    (λ f. true≢false (sym (c.is_proper_front.ensures.1 f) ∙ c.if-is_proper_front.false))
+    (takes_node (path_of c.in_ok-location.location) r.0 (contents_of c.args.document.now) r.1 (tokens c.args.from) r.2 c.in_ok-location.ensures.found)
+    r.3)
+    c.in_err-back.ensures.refused c.from_residual-in_err-back.ensures.1
 
 pub returns-clause-back : goal.returns-clause-back
 returns-clause-back c =
-    let taken = takes_node (path_of c.in_ok-location.location) (contents_of c.in_ok-value.field-0.value) (contents_of c.args.doc.now) (contents_of c.take.new.doc) (tokens c.args.from) c.in_ok-value.ensures.taken c.in_ok-location.ensures.found in
-    ok_all c.back_in_left-appended.result _ _
+    let b = c.in_ok-back.ensures.back in let o = c.in_ok-back.back in
+    ok_all c.append_reverse.result _ _
     (λ h.
-    let r = h (nodes (view c.args.doc.now)) taken.found in
-    (r.1, (r.0, nodes (view c.in_ok-value.field-0.value), nodes (view c.take.new.doc), taken, r.2, r.3), r.4))
-    c.back_in_left-appended.ensures.back
+    let r = h (tokens c.args.path) in
+    let reverse = subst (λ (x : Data). TakesMoveBack (nodes x) (tokens c.args.from) (tokens c.args.path) o r.0) c.in_ok-back.ensures.unchanged r.1 in
+    (r.0, (o, map_of b.0, map_of b.1, takes_node (path_of c.in_ok-location.location) b.0 (contents_of c.args.document.now) b.1 (tokens c.args.from) b.2 c.in_ok-location.ensures.found, b.3, reverse), r.2))
+    c.append_reverse.ensures.back
 
 pub returns-clause-refused : goal.returns-clause-refused
-returns-clause-refused c = refused_all c.back_in_left-appended.result _ _
-    (λ e. left_refused (nodes (view c.args.doc.now)) (nodes (view c.in_ok-value.field-0.value)) (nodes (view c.take.new.doc)) c.args.number (tokens c.args.from) (tokens c.args.path) e
-    (λ f. true≢false (sym (c.is_proper_front.ensures.1 f) ∙ c.if-is_proper_front.false))
-    (takes_node (path_of c.in_ok-location.location) (contents_of c.in_ok-value.field-0.value) (contents_of c.args.doc.now) (contents_of c.take.new.doc) (tokens c.args.from) c.in_ok-value.ensures.taken c.in_ok-location.ensures.found))
-    c.back_in_left-appended.ensures.refused
+returns-clause-refused c = refused_all c.append_reverse.result _ _
+    (λ e r. inr (
+      (λ f. true≢false (sym (c.is_proper_front.ensures.1 f) ∙ c.if-is_proper_front.false)),
+      inl (subst (λ (x : Data). RefusesTarget (nodes x) c.args.turn.number (tokens c.args.from) e) c.in_ok-back.ensures.unchanged r),
+    ))
+    c.append_reverse.ensures.refused
 
-pub returns-clause-same : goal.returns-clause-same
-returns-clause-same c = content_one (view c.undo_removal.new.doc) (view c.args.doc.now) (c.undo_removal.ensures (contents_of c.args.doc.now) c.in_ok-value.ensures.undone)
-
-pub returns-clause-kept : goal.returns-clause-kept
-returns-clause-kept c = ok_all c.back_in_left-appended.result _ _
-    (λ h s. h
-    (sorted_taken (path_of c.in_ok-location.location) (contents_of c.in_ok-value.field-0.value) (contents_of c.args.doc.now) (contents_of c.take.new.doc) c.in_ok-value.ensures.taken s)
-    (sorted_without (path_of c.in_ok-location.location) (contents_of c.in_ok-value.field-0.value) (contents_of c.args.doc.now) (contents_of c.take.new.doc) c.in_ok-value.ensures.taken s))
-    c.back_in_left-appended.ensures.kept
+pub returns-clause-inverse_sorted : goal.returns-clause-inverse_sorted
+returns-clause-inverse_sorted c = ok_all c.append_reverse.result _ _
+    (λ h s. h (c.in_ok-back.ensures.sorted s) (subst (λ (x : Data). HasSortedKeys x) (sym c.in_ok-back.ensures.unchanged) s))
+    c.append_reverse.ensures.sorted

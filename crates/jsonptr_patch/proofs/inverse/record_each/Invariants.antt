@@ -14,8 +14,8 @@ abbrev pub invariant-loop-operation : goal.invariant-loop-operation
 invariant-loop-operation l = record {
   rest : l.yielded ++ into_iter_items l.operation-iterator ≡ l.fn.operations.items;
   counted : l.number ≡ length l.yielded;
-  done : (n : NodeMap) × PatchesBy l.fn.comparison (nodes (view l.initial.doc)) l.yielded n × IsPending (nodes (view l.doc)) l.later.items n × Patches n (reverse l.inverse.items) (nodes (view l.initial.doc));
-  ordered : All OperationHasSortedKeys l.fn.operations.items → HasSortedKeys (view l.initial.doc) → HasSortedKeys (view l.doc);
-  kept : All OperationHasSortedKeys l.fn.operations.items → HasSortedKeys (view l.initial.doc) → All OperationHasSortedKeys l.inverse.items;
-  recorded : Records l.initial.journal l.initial.doc l.journal l.doc;
+  done : (n : NodeMap) × PatchesBy l.fn.first.comparison (nodes (view l.initial.document)) l.yielded n × IsPending (nodes (view l.document)) l.run.later.items n × Patches n (reverse l.inverse.items) (nodes (view l.initial.document));
+  ordered : All OperationHasSortedKeys l.fn.operations.items → HasSortedKeys (view l.initial.document) → HasSortedKeys (view l.document);
+  kept : All OperationHasSortedKeys l.fn.operations.items → HasSortedKeys (view l.initial.document) → All OperationHasSortedKeys l.inverse.items;
+  recorded : Records l.initial.run.journal l.initial.document l.run.journal l.document;
 }

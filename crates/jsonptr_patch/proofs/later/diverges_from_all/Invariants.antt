@@ -9,6 +9,6 @@ use Rattle.jsonptr_patch.proofs.later.diverges_from_all.Given as goal
 
 abbrev pub invariant-loop-one : goal.invariant-loop-one
 invariant-loop-one l = record {
-  known : IfSome l.known (λ p. IsObjectAt (nodes (view l.fn.doc)) (tokens p));
-  apart : (k : ℕ) (x : Later) → k < l.one-index → Diverges (nodes (view l.fn.doc)) (tokens l.fn.ptr) (slice_index_or l.fn.later k x).path;
+  known : IfSome l.known (λ p. IsObjectAt (nodes (view l.fn.document)) (tokens p));
+  apart : (k : ℕ) (x : Later) → k < l.one-index → Diverges (nodes (view l.fn.document)) (tokens l.fn.pointer) (slice_index_or l.fn.later k x).path;
 }

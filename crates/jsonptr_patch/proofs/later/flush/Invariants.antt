@@ -1,3 +1,4 @@
+use Rattle.std.proofs.Common.{◌≡◌, []}
 use Rattle.std.specs.Vec.Iter.{into_iter_items}
 use Rattle.serde_json.specs.View.{view}
 use Rattle.jsonptr.specs.Json.{nodes, HasSortedKeys}
@@ -8,7 +9,8 @@ use Rattle.jsonptr_patch.proofs.later.flush.Given as goal
 
 abbrev pub invariant-loop-one : goal.invariant-loop-one
 invariant-loop-one l = record {
-  pending : (n : NodeMap) → IsPending (nodes (view l.initial.doc)) l.fn.later.items n → IsPending (nodes (view l.doc)) (into_iter_items l.one-iterator) n;
-  ordered : HasSortedKeys (view l.initial.doc) → HasSortedKeys (view l.doc);
-  recorded : Records l.initial.journal l.initial.doc l.journal l.doc;
+  pending : (n : NodeMap) → IsPending (nodes (view l.initial.document)) l.fn.run.later.items n → IsPending (nodes (view l.document)) (into_iter_items l.one-iterator) n;
+  emptied : l.run.later.items ≡ [];
+  ordered : HasSortedKeys (view l.initial.document) → HasSortedKeys (view l.document);
+  recorded : Records l.initial.run.journal l.initial.document l.run.journal l.document;
 }

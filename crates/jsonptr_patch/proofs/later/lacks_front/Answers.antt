@@ -6,5 +6,5 @@ use Rattle.jsonptr_patch.proofs.later.lacks_front.Goals as goal
 
 pub returns-then-text-start : goal.returns-then-text-start
 returns-then-text-start c = λ t rest e.
-    let short : length (text (tokens c.args.ptr)) ≤ length (text (tokens c.args.front)) = omega (arith, c.if-text-start.true, ap length c.as_str-text.ensures.tokens, ap length c.as_str-start.ensures.tokens) in
-    c.differ.ensures t (no_longer (tokens c.args.ptr) (tokens c.args.front) rest short e)
+    let short : length (text (tokens c.args.pointer)) ≤ length (text (tokens c.args.front)) = omega (arith, c.if-text-start.true, ap length c.as_str-text.ensures.tokens, ap length c.as_str-start.ensures.tokens) in
+    c.differ.ensures t (no_longer (tokens c.args.pointer) (tokens c.args.front) rest short e)

@@ -6,5 +6,5 @@ returns-clause-applied c = ok_all c.record_apart.result _ _
     (λ h n p.
     let s = c.in_ok-settle.ensures.stands n p in
     let r = h s.0 s.1 in
-    (r.0, s.2.applied c.args.comparison r.0 r.1, r.2))
+    (r.0, s.2.applied c.args.turn.comparison r.0 r.1, r.2))
     c.record_apart.ensures.applied

@@ -11,8 +11,8 @@ pub returns-in-Some-blank-clause-taken : goal.returns-in-Some-blank-clause-taken
 returns-in-Some-blank-clause-taken c =
     let here = path_of c.in-Some.location in
     let a = c.in-Some-blank.ensures in
-    let member = subst (λ (ts : List Text). IsMemberAt (nodes (view c.args.doc.now)) ts here) c.as_ptr.ensures.tokens c.in-Some.ensures in
+    let member = subst (λ (ts : List Text). IsMemberAt (nodes (view c.args.document.now)) ts here) c.as_ptr.ensures.tokens c.in-Some.ensures in
     record {
-      blank = record { path = here; named = member_named (contents_of c.args.doc.now) a.old c.args.from.now here member a.there; written = a };
+      blank = record { path = here; named = member_named (contents_of c.args.document.now) a.old c.args.from.now here member a.there; written = a };
       undone = a;
     }

@@ -9,7 +9,7 @@ use Rattle.jsonptr_patch.proofs.later.take_place.Goals as goal
 
 pub returns-clause-apart : goal.returns-clause-apart
 returns-clause-apart c = λ _.
-    let d = nodes (view c.args.doc.now) in
+    let d = nodes (view c.args.document.now) in
     let ls = c.args.later.now.items in
     let next : c.in-Some.index + 1 ≡ suc c.in-Some.index = omega arith in
     let before : c.split_at.result.0.now ≡ take c.in-Some.index ls = c.split_at.ensures.front ∙ ap (take c.in-Some.index) c.as_slice-waiting.ensures.value in
@@ -22,5 +22,5 @@ returns-clause-apart c = λ _.
 pub returns-clause-frees : goal.returns-clause-frees
 returns-clause-frees c = λ _ n p.
     let at = c.in-Some.ensures in
-    let r = place_taken c.args.doc.now n c.args.operation.now c.args.later.now.items c.in-Some.index c.remove.result at.0 (subst (λ (ks : List Later). IsWaitingAt ks c.in-Some.index at.0) c.as_slice.ensures.value at.1) at.2 at.3 p in
-    (r.0, subst (λ (ks : List Later). IsPending (nodes (view c.args.doc.now)) ks r.0) (sym c.remove.ensures.items) r.1, r.2)
+    let r = place_taken c.args.document.now n c.args.operation.now c.args.later.now.items c.in-Some.index c.remove.result at.0 (subst (λ (ks : List Later). IsWaitingAt ks c.in-Some.index at.0) c.as_slice.ensures.value at.1) at.2 at.3 p in
+    (r.0, subst (λ (ks : List Later). IsPending (nodes (view c.args.document.now)) ks r.0) (sym c.remove.ensures.items) r.1, r.2)

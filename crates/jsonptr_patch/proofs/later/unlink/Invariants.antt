@@ -7,6 +7,6 @@ use Rattle.jsonptr_patch.proofs.later.unlink.Given as goal
 
 abbrev pub invariant-loop-one : goal.invariant-loop-one
 invariant-loop-one l = record {
-  pending : (n : NodeMap) → IsPending (nodes (view l.initial.doc)) l.fn.later.items n → IsPending (nodes (view l.doc)) (into_iter_items l.one-iterator) n;
-  ordered : HasSortedKeys (view l.initial.doc) → HasSortedKeys (view l.doc);
+  pending : (n : NodeMap) → IsPending (nodes (view l.initial.document)) l.fn.run.later.items n → IsPending (nodes (view l.document)) (into_iter_items l.one-iterator) n;
+  ordered : HasSortedKeys (view l.initial.document) → HasSortedKeys (view l.document);
 }

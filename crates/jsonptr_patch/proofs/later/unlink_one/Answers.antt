@@ -1,4 +1,4 @@
-use Rattle.jsonptr_tree.specs.Content.{map_of}
+use Rattle.jsonptr.specs.Content.{map_of}
 use Rattle.jsonptr_journal.specs.Location.{path_of, contents_of}
 use Rattle.jsonptr_patch.proofs.ChangeMapLemmas.{takes_node}
 use Rattle.jsonptr_patch.proofs.ChangeOrderLemmas.{sorted_without}
@@ -8,12 +8,12 @@ use Rattle.jsonptr_patch.proofs.later.unlink_one.Goals as goal
 pub remove-requires : goal.remove-requires
 remove-requires c =
     let named = rw c.in-Some.is at c.requires in
-    named_there (contents_of c.args.doc.now) c.args.one.path (path_of c.in-Some.location) named
+    named_there (contents_of c.args.document.now) c.args.one.path (path_of c.in-Some.location) named
 
 pub returns-in-Some-clause-removed : goal.returns-in-Some-clause-removed
 returns-in-Some-clause-removed c =
     let named = rw c.in-Some.is at c.requires in
-    (map_of (contents_of c.remove.result), takes_node (path_of c.in-Some.location) (contents_of c.remove.result) (contents_of c.args.doc.now) (contents_of c.remove.new.doc) c.args.one.path c.remove.ensures named)
+    (map_of (contents_of c.remove.result), takes_node (path_of c.in-Some.location) (contents_of c.remove.result) (contents_of c.args.document.now) (contents_of c.remove.new.document) c.args.one.path c.remove.ensures named)
 
 pub returns-in-Some-clause-sorted : goal.returns-in-Some-clause-sorted
-returns-in-Some-clause-sorted c = λ s. sorted_without (path_of c.in-Some.location) (contents_of c.remove.result) (contents_of c.args.doc.now) (contents_of c.remove.new.doc) c.remove.ensures s
+returns-in-Some-clause-sorted c = λ s. sorted_without (path_of c.in-Some.location) (contents_of c.remove.result) (contents_of c.args.document.now) (contents_of c.remove.new.document) c.remove.ensures s

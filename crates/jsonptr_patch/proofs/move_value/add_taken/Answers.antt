@@ -4,10 +4,10 @@ use Rattle.jsonptr_patch.proofs.PlaceLemmas.{place_allows, place_adds, place_sor
 use Rattle.jsonptr_patch.proofs.move_value.add_taken.Goals as goal
 
 pub add-requires : goal.add-requires
-add-requires c = place_allows (contents_of c.args.doc.now) (tokens c.args.path) c.in-Ok.place c.in-Ok.ensures.found
+add-requires c = place_allows (contents_of c.args.document.now) (tokens c.args.path) c.in-Ok.place c.in-Ok.ensures.found
 
 pub returns-in-Ok-add-clause-added : goal.returns-in-Ok-add-clause-added
-returns-in-Ok-add-clause-added c = place_adds (contents_of c.args.doc.now) (contents_of c.args.value) (contents_of c.add.new.doc) (tokens c.args.path) c.in-Ok.place c.in-Ok.ensures.found c.in-Ok-add.ensures.added
+returns-in-Ok-add-clause-added c = place_adds (contents_of c.args.document.now) (contents_of c.args.value) (contents_of c.add.new.document) (tokens c.args.path) c.in-Ok.place c.in-Ok.ensures.found c.in-Ok-add.ensures.added
 
 pub returns-in-Ok-add-clause-sorted : goal.returns-in-Ok-add-clause-sorted
-returns-in-Ok-add-clause-sorted c = place_sorted (contents_of c.args.doc.now) (contents_of c.args.value) (contents_of c.add.new.doc) c.in-Ok.place c.in-Ok-add.ensures.added
+returns-in-Ok-add-clause-sorted c = place_sorted (contents_of c.args.document.now) (contents_of c.args.value) (contents_of c.add.new.document) c.in-Ok.place c.in-Ok-add.ensures.added

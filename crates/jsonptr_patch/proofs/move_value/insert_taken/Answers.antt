@@ -4,10 +4,10 @@ use Rattle.jsonptr_patch.proofs.PlaceLemmas.{place_allows, place_adds, place_sor
 use Rattle.jsonptr_patch.proofs.move_value.insert_taken.Goals as goal
 
 pub insert-requires : goal.insert-requires
-insert-requires c = place_allows (contents_of c.args.doc.now) (tokens c.args.path) c.in-Ok.place c.in-Ok.ensures.found
+insert-requires c = place_allows (contents_of c.args.document.now) (tokens c.args.path) c.in-Ok.place c.in-Ok.ensures.found
 
 pub returns-in-Ok-insert-clause-added : goal.returns-in-Ok-insert-clause-added
-returns-in-Ok-insert-clause-added c = place_adds (contents_of c.args.doc.now) (contents_of c.args.value) (contents_of c.insert.new.doc) (tokens c.args.path) c.in-Ok.place c.in-Ok.ensures.found c.in-Ok-insert.ensures.added
+returns-in-Ok-insert-clause-added c = place_adds (contents_of c.args.document.now) (contents_of c.args.value) (contents_of c.insert.new.document) (tokens c.args.path) c.in-Ok.place c.in-Ok.ensures.found c.in-Ok-insert.ensures.added
 
 pub returns-in-Ok-insert-clause-sorted : goal.returns-in-Ok-insert-clause-sorted
-returns-in-Ok-insert-clause-sorted c = place_sorted (contents_of c.args.doc.now) (contents_of c.args.value) (contents_of c.insert.new.doc) c.in-Ok.place c.in-Ok-insert.ensures.added
+returns-in-Ok-insert-clause-sorted c = place_sorted (contents_of c.args.document.now) (contents_of c.args.value) (contents_of c.insert.new.document) c.in-Ok.place c.in-Ok-insert.ensures.added

@@ -4,11 +4,11 @@ use Rattle.serde_json.specs.View.{view}
 use Rattle.serde_json.specs.declared.value.Value.{Value, Null}
 use Rattle.jsonptr.specs.Json.{nodes}
 use Rattle.jsonptr.specs.Pointer.{tokens}
-use Rattle.jsonptr_tree.specs.Content.{Content}
+use Rattle.jsonptr.specs.Content.{Content}
 use Rattle.jsonptr_tree.proofs.JsonLemmas.{content_one}
 use Rattle.jsonptr_journal.specs.Location.{path_of, contents_of}
 use Rattle.jsonptr_journal.specs.Writing.{At}
-use Rattle.jsonptr_journal.specs.Changes.{Replaces}
+use Rattle.jsonptr_journal.specs.Changes.{ReplacesContent}
 use Rattle.jsonptr_patch.specs.Operating.{RefusesMove}
 use Rattle.jsonptr_patch.proofs.ChangeOrderLemmas.{sorted_without}
 use Rattle.jsonptr_patch.proofs.LaterLemmas.{blank_sorted, member_named, alone_there, alone_moved, alone_refused}
@@ -16,34 +16,34 @@ use Rattle.jsonptr_patch.proofs.OperatingLemmas.{for_refused}
 use Rattle.jsonptr_patch.proofs.move_value.move_member.Goals as goal
 
 pub remove-requires : goal.remove-requires
-remove-requires c = alone_there c.args.doc.now c.blank.new.doc c.insert_taken.new.doc c.in-Some.value (tokens c.args.from) (tokens c.args.path) c.args.location c.requires.member c.requires.ways c.in-Some.ensures c.in-Ok.ensures.added
+remove-requires c = alone_there c.args.document.now c.blank.new.document c.insert_taken.new.document c.in-Some.value (tokens c.args.from) (tokens c.args.path) c.args.location c.requires.member c.requires.ways c.in-Some.ensures c.in-Ok.ensures.added
 
 pub returns-in-Ok-clause-moved : goal.returns-in-Ok-clause-moved
-returns-in-Ok-clause-moved c = alone_moved c.args.doc.now c.blank.new.doc c.insert_taken.new.doc c.remove.new.doc c.in-Some.value (contents_of c.remove.result) (tokens c.args.from) (tokens c.args.path) c.args.location c.requires.member c.requires.ways c.in-Some.ensures c.in-Ok.ensures.added c.remove.ensures
+returns-in-Ok-clause-moved c = alone_moved c.args.document.now c.blank.new.document c.insert_taken.new.document c.remove.new.document c.in-Some.value (contents_of c.remove.result) (tokens c.args.from) (tokens c.args.path) c.args.location c.requires.member c.requires.ways c.in-Some.ensures c.in-Ok.ensures.added c.remove.ensures
 
 pub returns-in-Ok-clause-sorted : goal.returns-in-Ok-clause-sorted
 returns-in-Ok-clause-sorted c = λ s.
     let a = c.in-Some.ensures in
-    let both = blank_sorted (path_of c.args.location) c.in-Some.value c.args.doc.now c.blank.new.doc (tokens c.args.from) a (member_named (contents_of c.args.doc.now) a.old (tokens c.args.from) (path_of c.args.location) c.requires.member a.there) s in
-    sorted_without (path_of c.args.location) (contents_of c.remove.result) (contents_of c.insert_taken.new.doc) (contents_of c.remove.new.doc) c.remove.ensures (c.in-Ok.ensures.sorted both.0 both.1)
+    let both = blank_sorted (path_of c.args.location) c.in-Some.value c.args.document.now c.blank.new.document (tokens c.args.from) a (member_named (contents_of c.args.document.now) a.old (tokens c.args.from) (path_of c.args.location) c.requires.member a.there) s in
+    sorted_without (path_of c.args.location) (contents_of c.remove.result) (contents_of c.insert_taken.new.document) (contents_of c.remove.new.document) c.remove.ensures (c.in-Ok.ensures.sorted both.0 both.1)
 
 pub undo_removal-requires : goal.undo_removal-requires
 undo_removal-requires c = (
-  contents_of c.args.doc.now,
-  subst (λ (v : Value). At (path_of c.args.location) (Replaces (contents_of v) (contents_of Null)) (contents_of c.args.doc.now) (contents_of c.insert_taken.new.doc)) (sym c.in-Err.ensures.returned)
-      (subst (λ (d : Content). At (path_of c.args.location) (Replaces (contents_of c.in-Some.value) (contents_of Null)) (contents_of c.args.doc.now) d) (sym c.in-Err.ensures.unchanged) c.in-Some.ensures),
+  contents_of c.args.document.now,
+  subst (λ (v : Value). At (path_of c.args.location) (ReplacesContent (contents_of v) (contents_of Null)) (contents_of c.args.document.now) (contents_of c.insert_taken.new.document)) (sym c.in-Err.ensures.returned)
+      (subst (λ (d : Content). At (path_of c.args.location) (ReplacesContent (contents_of c.in-Some.value) (contents_of Null)) (contents_of c.args.document.now) d) (sym c.in-Err.ensures.unchanged) c.in-Some.ensures),
 )
 
 pub returns-in-Err-clause-refused : goal.returns-in-Err-clause-refused
-returns-in-Err-clause-refused c = for_refused (Unit {0}) c.in-Err.field-0.fault _ (RefusesMove (nodes (view c.args.doc.now)) c.args.number (tokens c.args.from) (tokens c.args.path))
-    (λ e. alone_refused c.args.doc.now c.blank.new.doc c.in-Some.value c.args.number (tokens c.args.from) (tokens c.args.path) c.args.location e c.requires.member c.requires.ways c.in-Some.ensures)
+returns-in-Err-clause-refused c = for_refused (Unit {0}) c.in-Err.field-0.fault _ (RefusesMove (nodes (view c.args.document.now)) c.args.turn.number (tokens c.args.from) (tokens c.args.path))
+    (λ e. alone_refused c.args.document.now c.blank.new.document c.in-Some.value c.args.turn.number (tokens c.args.from) (tokens c.args.path) c.args.location e c.requires.member c.requires.ways c.in-Some.ensures)
     c.in-Err.ensures.refused
 
 pub returns-in-Err-clause-unchanged : goal.returns-in-Err-clause-unchanged
-returns-in-Err-clause-unchanged c = content_one (view c.undo_removal.new.doc) (view c.args.doc.now)
-    (c.undo_removal.ensures (contents_of c.args.doc.now)
-    (subst (λ (v : Value). At (path_of c.args.location) (Replaces (contents_of v) (contents_of Null)) (contents_of c.args.doc.now) (contents_of c.insert_taken.new.doc)) (sym c.in-Err.ensures.returned)
-    (subst (λ (d : Content). At (path_of c.args.location) (Replaces (contents_of c.in-Some.value) (contents_of Null)) (contents_of c.args.doc.now) d) (sym c.in-Err.ensures.unchanged) c.in-Some.ensures)))
+returns-in-Err-clause-unchanged c = content_one (view c.undo_removal.new.document) (view c.args.document.now)
+    (c.undo_removal.ensures (contents_of c.args.document.now)
+    (subst (λ (v : Value). At (path_of c.args.location) (ReplacesContent (contents_of v) (contents_of Null)) (contents_of c.args.document.now) (contents_of c.insert_taken.new.document)) (sym c.in-Err.ensures.returned)
+    (subst (λ (d : Content). At (path_of c.args.location) (ReplacesContent (contents_of c.in-Some.value) (contents_of Null)) (contents_of c.args.document.now) d) (sym c.in-Err.ensures.unchanged) c.in-Some.ensures)))
 
 pub returns-in_default-clause-unchanged : goal.returns-in_default-clause-unchanged
-returns-in_default-clause-unchanged c = subst (λ (x : Data). OnErr c.move_any.result (view c.move_any.new.doc ≡ x)) (content_one (view c.blank.new.doc) (view c.args.doc.now) c.in_default.ensures.1) c.move_any.ensures.unchanged
+returns-in_default-clause-unchanged c = subst (λ (x : Data). OnErr c.move_any.result (view c.move_any.new.document ≡ x)) (content_one (view c.blank.new.document) (view c.args.document.now) c.in_default.ensures.1) c.move_any.ensures.unchanged

@@ -2,8 +2,8 @@ use Rattle.std.proofs.Common.{sym, ◌∙◌, subst, true≢false}
 use Rattle.serde_json.specs.View.{view}
 use Rattle.serde_json.specs.declared.value.Value.{Value}
 use Rattle.jsonptr.specs.Pointer.{tokens}
-use Rattle.jsonptr_tree.specs.Content.{Content}
-use Rattle.jsonptr_tree.specs.Json.{nodes}
+use Rattle.jsonptr.specs.Content.{Content}
+use Rattle.jsonptr.specs.Json.{nodes}
 use Rattle.jsonptr_tree.proofs.JsonLemmas.{content_one}
 use Rattle.jsonptr_journal.specs.Location.{path_of, contents_of}
 use Rattle.jsonptr_journal.specs.Undoing.{IsRemoval}
@@ -16,41 +16,41 @@ use Rattle.jsonptr_patch.proofs.PlaceLemmas.{named_there}
 use Rattle.jsonptr_patch.proofs.move_value.moved.Goals as goal
 
 pub take-requires : goal.take-requires
-take-requires c = named_there (contents_of c.args.doc.now) (tokens c.args.from) (path_of c.in_ok-location.location) c.in_ok-location.ensures.found
+take-requires c = named_there (contents_of c.args.document.now) (tokens c.args.from) (path_of c.in_ok-location.location) c.in_ok-location.ensures.found
 
 pub returns-in_err-value-clause-unchanged : goal.returns-in_err-value-clause-unchanged
-returns-in_err-value-clause-unchanged c = on_err _ _ (content_one (view c.take.new.doc) (view c.args.doc.now) c.in_err-value.ensures.unchanged)
+returns-in_err-value-clause-unchanged c = on_err _ _ (content_one (view c.take.new.document) (view c.args.document.now) c.in_err-value.ensures.unchanged)
 
 pub returns-in-Ok-clause-moved : goal.returns-in-Ok-clause-moved
 returns-in-Ok-clause-moved c = record {
   node = nodes (view c.in_ok-value.field-0.value);
-  left = nodes (view c.take.new.doc);
+  left = nodes (view c.take.new.document);
   apart = λ f. true≢false (sym (c.is_proper_front.ensures.1 f) ∙ c.if-is_proper_front.false);
-  taken = takes_node (path_of c.in_ok-location.location) (contents_of c.in_ok-value.field-0.value) (contents_of c.args.doc.now) (contents_of c.take.new.doc) (tokens c.args.from) c.in_ok-value.ensures.taken c.in_ok-location.ensures.found;
+  taken = takes_node (path_of c.in_ok-location.location) (contents_of c.in_ok-value.field-0.value) (contents_of c.args.document.now) (contents_of c.take.new.document) (tokens c.args.from) c.in_ok-value.ensures.taken c.in_ok-location.ensures.found;
   added = c.in-Ok.ensures.added;
 }
 
 pub returns-in-Ok-clause-sorted : goal.returns-in-Ok-clause-sorted
 returns-in-Ok-clause-sorted c = λ a. c.in-Ok.ensures.sorted
-    (sorted_taken (path_of c.in_ok-location.location) (contents_of c.in_ok-value.field-0.value) (contents_of c.args.doc.now) (contents_of c.take.new.doc) c.in_ok-value.ensures.taken a)
-    (sorted_without (path_of c.in_ok-location.location) (contents_of c.in_ok-value.field-0.value) (contents_of c.args.doc.now) (contents_of c.take.new.doc) c.in_ok-value.ensures.taken a)
+    (sorted_taken (path_of c.in_ok-location.location) (contents_of c.in_ok-value.field-0.value) (contents_of c.args.document.now) (contents_of c.take.new.document) c.in_ok-value.ensures.taken a)
+    (sorted_without (path_of c.in_ok-location.location) (contents_of c.in_ok-value.field-0.value) (contents_of c.args.document.now) (contents_of c.take.new.document) c.in_ok-value.ensures.taken a)
 
 pub undo_removal-requires : goal.undo_removal-requires
 undo_removal-requires c = (
-  contents_of c.args.doc.now,
-  subst (λ (v : Value). IsRemoval c.in_ok-value.field-0.removal (contents_of v) (contents_of c.args.doc.now) (contents_of c.add_taken.new.doc)) (sym c.in-Err.ensures.returned)
-      (subst (λ (d : Content). IsRemoval c.in_ok-value.field-0.removal (contents_of c.in_ok-value.field-0.value) (contents_of c.args.doc.now) d) (sym c.in-Err.ensures.unchanged) c.in_ok-value.ensures.undone),
+  contents_of c.args.document.now,
+  subst (λ (v : Value). IsRemoval c.in_ok-value.field-0.removal (contents_of v) (contents_of c.args.document.now) (contents_of c.add_taken.new.document)) (sym c.in-Err.ensures.returned)
+      (subst (λ (d : Content). IsRemoval c.in_ok-value.field-0.removal (contents_of c.in_ok-value.field-0.value) (contents_of c.args.document.now) d) (sym c.in-Err.ensures.unchanged) c.in_ok-value.ensures.undone),
 )
 
 pub returns-in-Err-clause-refused : goal.returns-in-Err-clause-refused
-returns-in-Err-clause-refused c = for_refused Entry c.in-Err.field-0.fault _ (RefusesMove (nodes (view c.args.doc.now)) c.args.number (tokens c.args.from) (tokens c.args.path))
-    (λ e. left_refused (nodes (view c.args.doc.now)) (nodes (view c.in_ok-value.field-0.value)) (nodes (view c.take.new.doc)) c.args.number (tokens c.args.from) (tokens c.args.path) e
+returns-in-Err-clause-refused c = for_refused Entry c.in-Err.field-0.fault _ (RefusesMove (nodes (view c.args.document.now)) c.args.turn.number (tokens c.args.from) (tokens c.args.path))
+    (λ e. left_refused (nodes (view c.args.document.now)) (nodes (view c.in_ok-value.field-0.value)) (nodes (view c.take.new.document)) c.args.turn.number (tokens c.args.from) (tokens c.args.path) e
     (λ f. true≢false (sym (c.is_proper_front.ensures.1 f) ∙ c.if-is_proper_front.false))
-    (takes_node (path_of c.in_ok-location.location) (contents_of c.in_ok-value.field-0.value) (contents_of c.args.doc.now) (contents_of c.take.new.doc) (tokens c.args.from) c.in_ok-value.ensures.taken c.in_ok-location.ensures.found))
+    (takes_node (path_of c.in_ok-location.location) (contents_of c.in_ok-value.field-0.value) (contents_of c.args.document.now) (contents_of c.take.new.document) (tokens c.args.from) c.in_ok-value.ensures.taken c.in_ok-location.ensures.found))
     c.in-Err.ensures.refused
 
 pub returns-in-Err-clause-unchanged : goal.returns-in-Err-clause-unchanged
-returns-in-Err-clause-unchanged c = content_one (view c.undo_removal.new.doc) (view c.args.doc.now)
-    (c.undo_removal.ensures (contents_of c.args.doc.now)
-    (subst (λ (v : Value). IsRemoval c.in_ok-value.field-0.removal (contents_of v) (contents_of c.args.doc.now) (contents_of c.add_taken.new.doc)) (sym c.in-Err.ensures.returned)
-    (subst (λ (d : Content). IsRemoval c.in_ok-value.field-0.removal (contents_of c.in_ok-value.field-0.value) (contents_of c.args.doc.now) d) (sym c.in-Err.ensures.unchanged) c.in_ok-value.ensures.undone)))
+returns-in-Err-clause-unchanged c = content_one (view c.undo_removal.new.document) (view c.args.document.now)
+    (c.undo_removal.ensures (contents_of c.args.document.now)
+    (subst (λ (v : Value). IsRemoval c.in_ok-value.field-0.removal (contents_of v) (contents_of c.args.document.now) (contents_of c.add_taken.new.document)) (sym c.in-Err.ensures.returned)
+    (subst (λ (d : Content). IsRemoval c.in_ok-value.field-0.removal (contents_of c.in_ok-value.field-0.value) (contents_of c.args.document.now) d) (sym c.in-Err.ensures.unchanged) c.in_ok-value.ensures.undone)))

@@ -6,8 +6,8 @@ use Rattle.jsonptr_patch.specs.Order.{OperationHasSortedKeys}
 use Rattle.jsonptr_patch.proofs.OperatingLemmas.{each_at, all_but_last}
 use Rattle.jsonptr_patch.proofs.patch.apply_comparing.Goals as goal
 
-pub apply_all-requires : goal.apply_all-requires
-apply_all-requires c = (contents_of c.args.doc.now, c.new-journal.ensures (contents_of c.args.doc.now))
+pub apply_all-requires-clause-undone : goal.apply_all-requires-clause-undone
+apply_all-requires-clause-undone c = (contents_of c.args.doc.now, c.new-journal.ensures (contents_of c.args.doc.now))
 
 pub undo-requires : goal.undo-requires
 undo-requires c = (contents_of c.args.doc.now, c.in-Err.ensures.undone (contents_of c.args.doc.now) (c.new-journal.ensures (contents_of c.args.doc.now)))
@@ -18,6 +18,6 @@ returns-in-Ok-clause-sorted c = λ all a. c.in-Ok.ensures.sorted
     (each_at OperationHasSortedKeys _ _ [] c.in-Some.last all (sym c.in-Some.ensures.items))
     a
 
-pub returns-in-Err-clause-unchanged : goal.returns-in-Err-clause-unchanged
-returns-in-Err-clause-unchanged c = content_one (view c.undo.new.doc) (view c.args.doc.now)
+pub returns-clause-unchanged : goal.returns-clause-unchanged
+returns-clause-unchanged c = content_one (view c.undo.new.document) (view c.args.doc.now)
     (c.undo.ensures (contents_of c.args.doc.now) (c.in-Err.ensures.undone (contents_of c.args.doc.now) (c.new-journal.ensures (contents_of c.args.doc.now))))

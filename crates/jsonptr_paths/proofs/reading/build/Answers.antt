@@ -13,20 +13,20 @@ loop-rest-preserved c =
           some
           c.first_line.ensures
           c.loop-rest.invariant.1
-          c.in-Ok.ensures.done,
+          c.in-Ok.ensures.assigned,
       omega (arith, less, c.loop-rest.invariant.2),
       c.in-Ok.ensures.sorted c.loop-rest.invariant.3,
       c.in-Ok.ensures.readable c.loop-rest.invariant.4,
     )
 
-pub returns-clause-done : goal.returns-clause-done
-returns-clause-done c =
+pub returns-clause-built : goal.returns-clause-built
+returns-clause-built c =
     built c.args.text.now c.loop-rest.rest.now c.loop-rest.number (nodes (view c.loop-rest.document))
     (none_left c.loop-rest.rest.now c.is_empty.result c.is_empty.ensures c.loop-rest-test.false)
     c.loop-rest.invariant.1
 
-pub returns-in-Err-clause-failed : goal.returns-in-Err-clause-failed
-returns-in-Err-clause-failed c =
+pub returns-in-Err-clause-refused : goal.returns-in-Err-clause-refused
+returns-in-Err-clause-refused c =
     stopped c.args.text.now c.loop-rest.rest.now c.first_line.result.0.now c.first_line.result.1.now c.loop-rest.number (nodes (view c.loop-rest.document)) c.in-Err.fault c.at_line.result
     c.lines_law.ensures.some
     (some_left c.loop-rest.rest.now c.is_empty.result c.is_empty.ensures c.loop-rest-test.true)

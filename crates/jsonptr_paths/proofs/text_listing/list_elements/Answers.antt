@@ -5,9 +5,9 @@ use Rattle.jsonptr_paths.specs.declared.listing.Lister.{Lister}
 use Rattle.jsonptr_paths.proofs.ElementsLemmas.{elements_listed, full_shown}
 use Rattle.jsonptr_paths.proofs.text_listing.list_elements.Goals as goal
 
-pub returns-clause-ok : goal.returns-clause-ok
-returns-clause-ok c =
-    let r = c.in_ok-len.ensures.ok in (
+pub returns-clause-listed : goal.returns-clause-listed
+returns-clause-listed c =
+    let r = c.in_ok-len.ensures.listed in (
       with_items_before r.0 no_items,
       r.1,
       elements_listed (λ (l : Lister). l.which) (λ (l : Lister). string_bytes l.out) r.0 _ c.visit_elements.new.visitor

@@ -14,23 +14,23 @@ list_elements-requires c =
     let opens : length c.in_ok-reader.reader ≡ suc (length c.next.new.self) = ap (λ ts. length ts) c.in-Some-BeginArray.ensures.value in
     record { few = omega (arith, tokens_few c.args.text.now, same, opens) }
 
-pub returns-in_err-lines-in-Some-BeginArray-clause-failed : goal.returns-in_err-lines-in-Some-BeginArray-clause-failed
-returns-in_err-lines-in-Some-BeginArray-clause-failed c = λ e.
+pub returns-in_err-lines-in-Some-BeginArray-clause-refused : goal.returns-in_err-lines-in-Some-BeginArray-clause-refused
+returns-in_err-lines-in-Some-BeginArray-clause-refused c = λ e.
     whole_unreadable c.args.text.now c.in_ok-reader.reader (sym c.in_ok-reader.ensures.ok)
     (unreadable_array 127 c.in_ok-reader.reader c.next.new.self (omega arith) (c.in-Some-BeginArray.ensures.value ∙ ap (λ k. token_of k ∷ c.next.new.self) c.in-Some-BeginArray.field-0-is)
-    (c.in_err-lines-in-Some-BeginArray.ensures.err (grind (arith, e, c.from_residual-in_err-lines-in-Some-BeginArray.ensures))))
+    (c.in_err-lines-in-Some-BeginArray.ensures.refused (grind (arith, e, c.from_residual-in_err-lines-in-Some-BeginArray.ensures))))
 
-pub returns-in-None-clause-done : goal.returns-in-None-clause-done
-returns-in-None-clause-done c =
-    let r = c.in_ok-lines-in-Some-BeginArray.ensures.ok in
+pub returns-in-None-clause-listed : goal.returns-in-None-clause-listed
+returns-in-None-clause-listed c =
+    let r = c.in_ok-lines-in-Some-BeginArray.ensures.listed in
     let end : c.list_elements.new.reader ≡ [] = c.in-None.ensures.value.0 in
     let opens : c.in_ok-reader.reader ≡ begin_array ∷ c.next.new.self = c.in-Some-BeginArray.ensures.value ∙ ap (λ k. token_of k ∷ c.next.new.self) c.in-Some-BeginArray.field-0-is in
     let all : ReadsItems 126 c.next.new.self r.0 [] = subst (λ (ts : List Token). ReadsItems 126 c.next.new.self r.0 ts) end r.1 in
     (array r.0, whole_read c.args.text.now (array r.0) c.in_ok-reader.reader (sym c.in_ok-reader.ensures.ok) (reads_array 127 c.in_ok-reader.reader c.next.new.self [] r.0 (omega arith) opens all), r.2)
 
-pub returns-in-Some-BeginArray-clause-failed : goal.returns-in-Some-BeginArray-clause-failed
-returns-in-Some-BeginArray-clause-failed c = λ _.
-    let r = c.in_ok-lines-in-Some-BeginArray.ensures.ok in
+pub returns-in-Some-BeginArray-clause-refused : goal.returns-in-Some-BeginArray-clause-refused
+returns-in-Some-BeginArray-clause-refused c = λ _.
+    let r = c.in_ok-lines-in-Some-BeginArray.ensures.listed in
     let more : c.list_elements.new.reader ≡ token_of c.in-Some.field-0 ∷ c.next-in-Some-BeginArray.new.self = c.in-Some.ensures.value in
     let opens : c.in_ok-reader.reader ≡ begin_array ∷ c.next.new.self = c.in-Some-BeginArray.ensures.value ∙ ap (λ k. token_of k ∷ c.next.new.self) c.in-Some-BeginArray.field-0-is in
     let all : ReadsItems 126 c.next.new.self r.0 (token_of c.in-Some.field-0 ∷ c.next-in-Some-BeginArray.new.self) = subst (λ (ts : List Token). ReadsItems 126 c.next.new.self r.0 ts) more r.1 in

@@ -9,15 +9,15 @@ use Rattle.jsonptr_paths.proofs.text_listing.visit_elements.Goals as goal
 pub elements-init : goal.elements-init
 elements-init g c = ([], items_begin 126 c.args.reader.now, refl, omega arith, elements_none g.T.Visitor.visits c.args.visitor.now)
 
-pub returns-in_err-visit_next-clause-err : goal.returns-in_err-visit_next-clause-err
-returns-in_err-visit_next-clause-err g c = λ e.
+pub returns-in_err-visit_next-clause-refused : goal.returns-in_err-visit_next-clause-refused
+returns-in_err-visit_next-clause-refused g c = λ e.
     let i = c.elements.invariant in
-    items_stop 126 c.args.reader.now c.elements.reader c.take_end_array.new.self i.0 i.1 c.elements-test.ensures (c.in_err-visit_next.ensures.err (grind (arith, e, c.from_residual.ensures)))
+    items_stop 126 c.args.reader.now c.elements.reader c.take_end_array.new.self i.0 i.1 c.elements-test.ensures (c.in_err-visit_next.ensures.refused (grind (arith, e, c.from_residual.ensures)))
 
 pub elements-preserved : goal.elements-preserved
 elements-preserved g c =
     let i = c.elements.invariant in
-    let r = c.in_ok-visit_next.ensures.ok in
+    let r = c.in_ok-visit_next.ensures.listed in
     let more = c.elements-test.ensures in
     let shorter = c.in_ok-visit_next.ensures.shorter in
     let less : length c.visit_next.new.reader < length c.elements.reader = subst (λ (ts : List Token). length c.visit_next.new.reader < length ts) more.1 shorter in (
@@ -28,7 +28,7 @@ elements-preserved g c =
       elements_more g.T.Visitor.visits i.0 r.0 (dec c.elements.len ∷ []) c.args.visitor.now c.elements.visitor c.visit_next.new.visitor (ap (λ (n : ℕ). dec n ∷ []) i.2) i.4 r.2,
     )
 
-pub returns-clause-ok : goal.returns-clause-ok
-returns-clause-ok g c =
+pub returns-clause-listed : goal.returns-clause-listed
+returns-clause-listed g c =
     let i = c.elements.invariant in
     (i.0, items_close 126 c.args.reader.now c.elements.reader c.take_end_array.new.self i.0 i.1 c.elements-test.ensures, i.2, i.4)

@@ -3,7 +3,7 @@ use Rattle.std.proofs.lemmas.Result.{IfOk-weaker}
 use Rattle.toml.specs.View.{view}
 use Rattle.toml.specs.declared.value.Value.{Value, Array, Table}
 use Rattle.jsonptr.specs.Text.{Text}
-use Rattle.jsonptr_tree.specs.TomlValue.{nodes}
+use Rattle.jsonptr.specs.TomlValue.{nodes}
 use Rattle.jsonptr.specs.Pointer.{tokens}
 use Rattle.jsonptr_paths.specs.PrivateWalking.{inside_toml}
 use Rattle.jsonptr_paths.proofs.WalkingLemmas.{EntryOf}

@@ -1,6 +1,5 @@
 use Rattle.std.proofs.Common.{◌≡◌, List, ◌∷◌, [], Result, Ok, Err, IfOk, IfErr, String, string_bytes, sym, subst}
 use Rattle.std.specs.declared.alloc.Global.{Global}
-use Rattle.jsonptr.specs.Text.{Text}
 use Rattle.jsonptr_patch.specs.declared.operation.Operation.{Operation}
 use Rattle.jsonptr_patch.specs.declared.operation.Operation.TheVariants.{Move}
 use Rattle.jsonptr_edit_in_text.specs.InPlace.{IsInPlaceError}

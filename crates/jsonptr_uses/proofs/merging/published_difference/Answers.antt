@@ -1,4 +1,4 @@
-use Rattle.std.proofs.Common.{List, ℕ, string_bytes, subst}
+use Rattle.std.proofs.Common.{string_bytes, subst}
 use Rattle.serde_json.specs.Data.{Data}
 use Rattle.jsonptr_value.specs.JsonText.{IsCompact}
 use Rattle.jsonptr_uses.proofs.merging.published_difference.Goals as goal

@@ -39,7 +39,7 @@ returns-in-Ok-clause-same c =
     (λ e. c.round_trip_law.ensures.same_value (view c.args.document.now) e (string_bytes c.in-Ok.lines))
     c.as_str.ensures.value
     c.in-Ok.ensures
-    c.build.ensures.done
+    c.build.ensures.built
     c.build.ensures.sorted
 
 pub returns-in-Ok-clause-no_line : goal.returns-in-Ok-clause-no_line
@@ -48,4 +48,4 @@ returns-in-Ok-clause-no_line c =
     (c.round_trip_law.ensures.no_error (view c.args.document.now) (string_bytes c.in-Ok.lines))
     c.as_str.ensures.value
     c.in-Ok.ensures
-    c.build.ensures.failed
+    c.build.ensures.refused

@@ -12,4 +12,4 @@ returns-in-Some-reference-clause-refused c =
 
 pub returns-in-Err-clause-refused : goal.returns-in-Err-clause-refused
 returns-in-Err-clause-refused c =
-    (c.loop-turn._turn, tokens c.loop-turn.place, c.in-Some.text.now, c.loop-turn-test.true, c.loop-turn.invariant, (view c.in_ok-value.value.now, c.in_ok-value.ensures.found, sym c.in-Some.ensures), c.in-Err.ensures.fault)
+    (c.loop-turn._turn, tokens c.loop-turn.place, c.in-Some.text.now, c.loop-turn-test.true, c.loop-turn.invariant, (view c.in_ok-value.value.now, c.in_ok-value.ensures.found, sym c.in-Some.ensures), c.in-Err.ensures.refused)

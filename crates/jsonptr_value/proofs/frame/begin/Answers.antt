@@ -15,28 +15,28 @@ use Rattle.jsonptr_value.proofs.StackLemmas.{last_first, stack_length-push}
 use Rattle.jsonptr_value.proofs.WritingLemmas.{writes_array, writes_object}
 use Rattle.jsonptr_value.proofs.frame.begin.Goals as goal
 
-pub returns-in-Null-clause-ok : goal.returns-in-Null-clause-ok
-returns-in-Null-clause-ok c =
+pub returns-in-Null-clause-written : goal.returns-in-Null-clause-written
+returns-in-Null-clause-written c =
     let seen : null ≡ view c.args.value.now = rw c.in-Null.is (search (rules, the_lemmas)) in
     on_ok_weaker c.null.result (λ e. λ end h. (_, (json.null, e, ap Some seen, omega arith, ap outline seen), h)) c.null.ensures.ok
 
-pub returns-in-Bool-clause-ok : goal.returns-in-Bool-clause-ok
-returns-in-Bool-clause-ok c =
+pub returns-in-Bool-clause-written : goal.returns-in-Bool-clause-written
+returns-in-Bool-clause-written c =
     let seen : boolean c.in-Bool.b ≡ view c.args.value.now = rw c.in-Bool.is (search (rules, the_lemmas)) in
     on_ok_weaker c.boolean.result (λ e. λ end h. (_, (json.boolean c.in-Bool.b, e, ap Some seen, omega arith, ap outline seen), h)) c.boolean.ensures.ok
 
-pub returns-in-String-clause-ok : goal.returns-in-String-clause-ok
-returns-in-String-clause-ok c =
+pub returns-in-String-clause-written : goal.returns-in-String-clause-written
+returns-in-String-clause-written c =
     let seen : string c.as_str.result.now ≡ view c.args.value.now = rw c.in-String.is (search (rules, the_lemmas)) in
     on_ok_weaker c.string.result (λ e. λ end h. (_, (json.string c.as_str.result.now, e, ap Some seen, omega arith, ap outline seen), h)) c.string.ensures.ok
 
-pub returns-in-Number-clause-ok : goal.returns-in-Number-clause-ok
-returns-in-Number-clause-ok c =
+pub returns-in-Number-clause-written : goal.returns-in-Number-clause-written
+returns-in-Number-clause-written c =
     let seen : number (number_view c.in-Number.number) ≡ view c.args.value.now = rw c.in-Number.is (search (rules, the_lemmas)) in
-    on_ok_weaker c.write_number.result (λ w. λ end h. (_, (json.number w.0, w.1, ap (option_map number) w.2 ∙ ap Some seen, omega arith, ap json.number w.3 ∙ ap outline seen), h)) c.write_number.ensures.ok
+    on_ok_weaker c.write_number.result (λ w. λ end h. (_, (json.number w.0, w.1, ap (option_map number) w.2 ∙ ap Some seen, omega arith, ap json.number w.3 ∙ ap outline seen), h)) c.write_number.ensures.written
 
-pub returns-in_ok-push-in-Array-clause-ok : goal.returns-in_ok-push-in-Array-clause-ok
-returns-in_ok-push-in-Array-clause-ok c = λ end h.
+pub returns-in_ok-push-in-Array-clause-written : goal.returns-in_ok-push-in-Array-clause-written
+returns-in_ok-push-in-Array-clause-written c = λ end h.
     let vs = c.as_slice.result.now in
     let seen : array (items_view vs) ≡ view c.args.value.now = ap (λ xs. array (items_view xs)) c.as_slice.ensures.value ∙ sym (ap view c.in-Array.is ∙ view-Array c.in-Array.elements) in
     let opened : c.begin_array.new.self.tokens ≡ c.args.out.now.tokens ++ begin_array ∷ [] = search rules in
@@ -51,8 +51,8 @@ returns-in_ok-push-in-Array-clause-smaller c =
     let pushed : c.push.new.self.items ≡ c.args.stack.now.items ++ Elements c.as_slice.result ∷ [] = search rules in
     omega (arith, ap stack_length pushed, stack_length-push c.args.stack.now.items (Elements c.as_slice.result), ap value_length seen)
 
-pub returns-in_ok-push-in-Object-clause-ok : goal.returns-in_ok-push-in-Object-clause-ok
-returns-in_ok-push-in-Object-clause-ok c = λ end h.
+pub returns-in_ok-push-in-Object-clause-written : goal.returns-in_ok-push-in-Object-clause-written
+returns-in_ok-push-in-Object-clause-written c = λ end h.
     let es = c.in-Object.members.entries in
     let seen : object (members_view es) ≡ view c.args.value.now = sym (ap view c.in-Object.is ∙ view-Object c.in-Object.members) in
     let opened : c.begin_object.new.self.tokens ≡ c.args.out.now.tokens ++ begin_object ∷ [] = search rules in

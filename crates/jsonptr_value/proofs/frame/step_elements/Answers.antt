@@ -14,13 +14,13 @@ no_length : (vs : List Value) → length vs ≡ 0 → vs ≡ []
 no_length [] e = refl
 no_length (v ∷ vs) e = absurd (omega (arith, e))
 
-pub returns-in_default-clause-ok : goal.returns-in_default-clause-ok
-returns-in_default-clause-ok c =
+pub returns-in_default-clause-written : goal.returns-in_default-clause-written
+returns-in_default-clause-written c =
     let none : c.args.elements.now ≡ [] = no_length c.args.elements.now c.in_default.ensures.cases in
     on_ok_weaker c.end_array.result (λ e. λ end h. (_, subst (λ (vs : List Value). WritesElements vs c.args.out.now.tokens c.end_array.new.self.tokens) (sym none) (writes_no_elements _ _ e), h)) c.end_array.ensures.ok
 
-pub returns-clause-ok : goal.returns-clause-ok
-returns-clause-ok c =
+pub returns-clause-written : goal.returns-clause-written
+returns-clause-written c =
     let v = c.in-Some.element.now in
     let vs = c.in-Some.rest.now in
     let all : c.args.elements.now ≡ v ∷ vs = c.in-Some.ensures.cases.0 in
@@ -28,7 +28,7 @@ returns-clause-ok c =
     on_ok_weaker c.begin.result (λ begun. λ end h.
     let m = begun end h in
     let top = last_first c.args.stack.now.items (Elements c.in-Some.rest) _ _ (subst (λ (fs : List Frame). WritesStack fs m.0 end) pushed m.2) in
-    (top.0, subst (λ (xs : List Value). WritesElements xs c.args.out.now.tokens top.0) (sym all) (writes_element v vs _ _ _ m.1 top.1), top.2)) c.begin.ensures.ok
+    (top.0, subst (λ (xs : List Value). WritesElements xs c.args.out.now.tokens top.0) (sym all) (writes_element v vs _ _ _ m.1 top.1), top.2)) c.begin.ensures.written
 
 pub returns-clause-smaller : goal.returns-clause-smaller
 returns-clause-smaller c =

@@ -11,13 +11,13 @@ use Rattle.jsonptr_value.proofs.LengthLemmas.{members_length-first}
 use Rattle.jsonptr_value.proofs.WritingLemmas.{writes_no_members, writes_member}
 use Rattle.jsonptr_value.proofs.frame.step_members.Goals as goal
 
-pub returns-in_default-clause-ok : goal.returns-in_default-clause-ok
-returns-in_default-clause-ok c =
+pub returns-in_default-clause-written : goal.returns-in_default-clause-written
+returns-in_default-clause-written c =
     let none : c.args.members ≡ [] = c.in_default.ensures.steps.0 in
     on_ok_weaker c.end_object.result (λ e. λ end h. (_, subst (λ (es : List Entry). WritesMembersLeft es c.args.out.now.tokens c.end_object.new.self.tokens) (sym none) (writes_no_members _ _ e), h)) c.end_object.ensures.ok
 
-pub returns-clause-ok : goal.returns-clause-ok
-returns-clause-ok c =
+pub returns-clause-written : goal.returns-clause-written
+returns-clause-written c =
     let m : Entry = (c.in-Some.key.now, c.in-Some.member.now) in
     let es = c.next.new.self in
     let all : c.args.members ≡ m ∷ es = c.in-Some.ensures.steps in
@@ -26,7 +26,7 @@ returns-clause-ok c =
     on_ok_weaker c.begin.result (λ begun. λ end h.
     let w = begun end h in
     let top = last_first c.args.stack.now.items (Members es) _ _ (subst (λ (fs : List Frame). WritesStack fs w.0 end) pushed w.2) in
-    (top.0, subst (λ (xs : List Entry). WritesMembersLeft xs c.args.out.now.tokens top.0) (sym all) (writes_member m es _ _ _ _ named w.1 top.1), top.2)) c.begin.ensures.ok
+    (top.0, subst (λ (xs : List Entry). WritesMembersLeft xs c.args.out.now.tokens top.0) (sym all) (writes_member m es _ _ _ _ named w.1 top.1), top.2)) c.begin.ensures.written
 
 pub returns-clause-smaller : goal.returns-clause-smaller
 returns-clause-smaller c =

@@ -11,7 +11,7 @@ pub loop-frame-preserved : goal.loop-frame-preserved
 loop-frame-preserved c = (
   c.step.ensures.before ∙ c.loop-frame.invariant.0,
   λ end h.
-      let m = c.in_ok-step.ensures.ok end h in
+      let m = c.in_ok-step.ensures.written end h in
       c.loop-frame.invariant.1 end (subst (λ (fs : List Frame). WritesStack fs c.loop-frame.out.tokens end) (sym c.in-Some.ensures.items)
       (back_last c.pop.new.self.items c.in-Some.frame _ m.0 end m.1 m.2)),
 )

@@ -47,14 +47,14 @@ read_negative : (z : ℤ) → int_lt z (pos 0) ≡ true → SFits w64 z → numb
 read_negative (pos n) e fits = absurd (grind arith)
 read_negative (negsuc n) e fits = number_of-negative n (grind arith)
 
-pub returns-in-Some-clause-ok : goal.returns-in-Some-clause-ok
-returns-in-Some-clause-ok c =
+pub returns-in-Some-clause-written : goal.returns-in-Some-clause-written
+returns-in-Some-clause-written c =
     let seen : unsigned c.in-Some.n ≡ number_view c.args.number.now = is_unsigned _ _ (sym c.as_u64.ensures ∙ c.in-Some.is) in
     let read = number_of-decimal c.in-Some.n (omega arith) in
     on_ok_weaker c.u64.result (λ e. (_, e, read ∙ ap Some seen, unless_float-number_of _ _ read ∙ ap number_text seen)) c.u64.ensures.ok
 
-pub returns-in-Some-as_i64-clause-ok : goal.returns-in-Some-as_i64-clause-ok
-returns-in-Some-as_i64-clause-ok c =
+pub returns-in-Some-as_i64-clause-written : goal.returns-in-Some-as_i64-clause-written
+returns-in-Some-as_i64-clause-written c =
     let z = c.in-Some-as_i64.n in
     let seen : negative z ≡ number_view c.args.number.now = is_negative _ _ (sym c.as_u64.ensures ∙ c.in_default.is) (sym c.as_i64.ensures ∙ c.in-Some-as_i64.is) in
     let below : int_lt z (pos 0) ≡ true = below_zero c.args.number.now.n z c.args.number.now.valid (sym seen) in
@@ -63,8 +63,8 @@ returns-in-Some-as_i64-clause-ok c =
     let a = c.i64.ensures.ok in
     on_ok_weaker c.i64.result (λ e. (_, e ∙ ap (λ i. c.args.out.now.tokens ++ token (signed_decimal i) ∷ []) (to_z-of_z fits), read ∙ ap Some seen, unless_float-number_of _ _ read ∙ ap number_text seen)) c.i64.ensures.ok
 
-pub returns-clause-ok : goal.returns-clause-ok
-returns-clause-ok c =
+pub returns-clause-written : goal.returns-clause-written
+returns-clause-written c =
     let x = c.in-Some-as_f64.x in
     let is : float (to_float (number_view c.args.number.now)) ≡ number_view c.args.number.now = is_float _ (sym c.as_u64.ensures ∙ c.in_default.is) (sym c.as_i64.ensures ∙ c.in_default-as_i64.is) in
     let same : x ≡ to_float (number_view c.args.number.now) = the_same _ _ (sym c.in-Some-as_f64.is ∙ c.as_f64.ensures) in

@@ -12,7 +12,7 @@ returns-clause-reads_back c =
     let ts = c.write.new.out.tokens in
     let text : string_bytes c.from_utf8_unchecked.result ≡ print ts =
     ap (λ v. v.items) c.from_utf8_unchecked.ensures.value ∙ c.into_inner.ensures.items ∙ ap (λ b. b ++ print ts) (c.write.ensures.before ∙ c.new-out.ensures.before ∙ c.in_ok-with_capacity.ensures.items) in
-    read_back _ ts _ (subst (λ old. WritesValue (view c.args.value.now) old ts) c.new-out.ensures.tokens c.in_ok-write.ensures.ok) (ap tokens text ∙ c.into_inner.ensures.reads_back)
+    read_back _ ts _ (subst (λ old. WritesValue (view c.args.value.now) old ts) c.new-out.ensures.tokens c.in_ok-write.ensures.written) (ap tokens text ∙ c.into_inner.ensures.reads_back)
 
 pub returns-clause-compact : goal.returns-clause-compact
 returns-clause-compact c =
@@ -26,7 +26,7 @@ returns-clause-order c =
     let ts = c.write.new.out.tokens in
     let text : string_bytes c.from_utf8_unchecked.result ≡ print ts =
     ap (λ v. v.items) c.from_utf8_unchecked.ensures.value ∙ c.into_inner.ensures.items ∙ ap (λ b. b ++ print ts) (c.write.ensures.before ∙ c.new-out.ensures.before ∙ c.in_ok-with_capacity.ensures.items) in
-    let w = subst (λ old. WritesValue (view c.args.value.now) old ts) c.new-out.ensures.tokens c.in_ok-write.ensures.ok in
+    let w = subst (λ old. WritesValue (view c.args.value.now) old ts) c.new-out.ensures.tokens c.in_ok-write.ensures.written in
     (w.0, ap tokens text ∙ c.into_inner.ensures.reads_back ∙ w.1, w.4)
 
 pub returns-clause-text : goal.returns-clause-text

@@ -1,6 +1,6 @@
 use Rattle.std.proofs.Common.{rules, ◌≡◌, ◌<◌, List, [], ◌∷◌, ◌++◌, length, subst}
 use Rattle.std.specs.Vec.{vec_capacity}
-use Rattle.jsonptr_tree.specs.Node.{Path}
+use Rattle.jsonptr.specs.Node.{Path}
 use Rattle.jsonptr_journal.specs.Location.{path_of}
 use Rattle.jsonptr_journal.specs.Children.{members_of}
 use Rattle.jsonptr_journal.specs.Writing.{At}

@@ -3,8 +3,8 @@ use Rattle.jsonptr_journal.specs.declared.journal.Entry.{Entry}
 use Rattle.jsonptr_journal.proofs.ChainLemmas.{next_page}
 use Rattle.jsonptr_journal.proofs.journal.Journal.turn_to.Goals as goal
 
-pub returns-clause-same : goal.returns-clause-same
-returns-clause-same c = next_page c.args.self.now _
+pub returns-clause-undone : goal.returns-clause-undone
+returns-clause-undone c = next_page c.args.self.now _
     (c.push_reserved.ensures.items
     ∙ ap (λ (ps : List (Vec Entry Global)). ps ++ c.replace-filled.result ∷ []) c.in_ok-reserve.ensures.items
     ∙ ap (λ (p : Vec Entry Global). c.args.self.now.full.items ++ p ∷ []) c.replace-filled.ensures.value)

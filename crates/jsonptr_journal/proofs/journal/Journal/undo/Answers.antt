@@ -1,5 +1,5 @@
 use Rattle.std.proofs.Common.{sym, subst}
-use Rattle.jsonptr_tree.specs.Content.{Content}
+use Rattle.jsonptr.specs.Content.{Content}
 use Rattle.jsonptr_journal.specs.Journal.{Pages}
 use Rattle.jsonptr_journal.proofs.journal.Journal.undo.Goals as goal
 

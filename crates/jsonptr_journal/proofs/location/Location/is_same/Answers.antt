@@ -2,15 +2,15 @@ use Rattle.std.proofs.Common.{◌≡◌, ap, string_bytes, sym, true≢false}
 use Rattle.std.specs.Bool.{Decides}
 use Rattle.std.proofs.lemmas.Bool.Decides.{Decides-eqb}
 use Rattle.std.proofs.lemmas.Slice.Eq.{bytes_eq-Decides}
-use Rattle.jsonptr_tree.specs.Node.{key, place}
+use Rattle.jsonptr.specs.Node.{key, place}
 use Rattle.jsonptr_journal.specs.declared.location.Part.{Part}
 use Rattle.jsonptr_journal.specs.declared.location.Part.TheVariants as part
-use Rattle.jsonptr_journal.specs.Location.{step_of}
+use Rattle.jsonptr_journal.specs.Location.{part_step}
 use Rattle.jsonptr_journal.proofs.LocationLemmas.{same_steps}
 use Rattle.jsonptr_journal.specs.contracts.location.PartPartialEq.TheImpl as the_impl
 use Rattle.jsonptr_journal.proofs.location.Location.is_same.Goals as goal
 
-decides : (p q : Part) → Decides (the_impl.eq-value.it p q) (step_of p ≡ step_of q)
+decides : (p q : Part) → Decides (the_impl.eq-value.it p q) (part_step p ≡ part_step q)
 decides (part.Key k) (part.Key l) =
     (λ h. ap key ((bytes_eq-Decides (string_bytes k) (string_bytes l)).0 h), λ h. let same : string_bytes k ≡ string_bytes l = cc in (bytes_eq-Decides (string_bytes k) (string_bytes l)).1 same)
 decides (part.Key k) (part.Index j) = (λ h. absurd (true≢false (sym h)), λ h. let no : ⊥ = cc in absurd no)

@@ -42,8 +42,8 @@ use Rattle.jsonptr_journal.proofs.node_mut.NoSuchNode.TheLaws as error_laws
 use Rattle.jsonptr_journal.specs.declared.location.Location.{Location as Guide}
 use Rattle.jsonptr_journal.specs.contracts.location.Location as guide_row
 use Rattle.jsonptr_journal.proofs.location.Location.TheLaws as guide_laws
-use Rattle.jsonptr_tree.specs.Node.{Path}
-use Rattle.jsonptr_tree.specs.Content.{content_at}
+use Rattle.jsonptr.specs.Node.{Path}
+use Rattle.jsonptr.specs.Content.{content_at}
 use Rattle.std.proofs.Common.{suc, Some, None}
 use Rattle.jsonptr_journal.specs.Location.{path_of, contents_of, LeadsNowhereAt}
 use Rattle.jsonptr_journal.specs.PrivateNodeMut.{MovesTo, MovesBack, IsLost, LendsMove}

@@ -41,14 +41,14 @@ use Rattle.jsonptr_journal.specs.contracts.token_step.NoSuchToken as FS
 use Rattle.jsonptr_journal.proofs.token_step.NoSuchToken.TheLaws as error_laws
 use Rattle.jsonptr.specs.contracts.pointer.buf.PointerBuf as guide_row
 use Rattle.jsonptr.proofs.pointer.buf.PointerBuf.TheLaws as guide_laws
-use Rattle.jsonptr_grammar.specs.Text.{Text, HasNoTilde, text}
-use Rattle.jsonptr_tree.specs.Node.{Path, Names}
-use Rattle.jsonptr_tree.specs.Content.{map_of, FindsContent}
+use Rattle.jsonptr.specs.Text.{Text, HasNoTilde, text}
+use Rattle.jsonptr.specs.Node.{Path, Names}
+use Rattle.jsonptr.specs.Content.{map_of, FindsContent}
 use Rattle.jsonptr_journal.specs.Location.{contents_of}
 use Rattle.jsonptr_journal.specs.PrivateTokenStep.{MovesTo, MovesBack, IsLost, LendsMove}
 use Rattle.jsonptr_journal.specs.Writing.{write_at}
 use Rattle.jsonptr_walk.specs.PrivateDescend.{Begins}
-use Rattle.jsonptr_journal.specs.Leading.{StopsIn}
+use Rattle.jsonptr_journal.specs.Leading.{StopsAtOffset}
 use Rattle.jsonptr_journal.proofs.TokenLemmas.{Trail, move_fits, trail_none, trail_more, trail_here, trail_leads, trail_puts, trail_lost, trail_same}
 use Rattle.jsonptr_journal.proofs.token_step.token_step.Met.{met}
 use Rattle.jsonptr_journal.specs.contracts.token_step.token_step as g
@@ -147,7 +147,7 @@ module _ {M : Type 1} {𝓤 : Ura M} (𝓛 : Logic 𝓤) (𝓜 : Model 𝓤 𝓛
         (λ w n. IsOk r → Plain → (p : Path) → Names (map_of (contents_of doc.now)) all p → contents_of n ≡ write_at p (contents_of w) (contents_of doc.now)) (λ n. OnErr r (Plain → contents_of n ≡ contents_of doc.now))
 
     abbrev Stopped : Ro.Denot → Type 0
-    Stopped r = IfOk r (λ v. Plain → FindsContent (contents_of doc.now) all (contents_of v.now)) × IfErr r (λ e. Plain → StopsIn (map_of (contents_of doc.now)) all e.offset)
+    Stopped r = IfOk r (λ v. Plain → FindsContent (contents_of doc.now) all (contents_of v.now)) × IfErr r (λ e. Plain → StopsAtOffset (map_of (contents_of doc.now)) all e.offset)
 
     exits : (r : Ro.Denot) (v : Val) → Stopped r → ent 𝓤 (sep 𝓤 (sem 𝓛 (Ro.own_val r (v ∷ []))) (sep 𝓤 (sem 𝓛 (Lent r)) Alive)) (Post v)
     exits r v value =
@@ -259,7 +259,7 @@ module _ {M : Type 1} {𝓤 : Ura M} (𝓛 : Logic 𝓤) (𝓜 : Model 𝓤 𝓛
           (λ e is. rewrite ! 0 (λ (u : Rt.Denot). ‵ (Rt.own_val u (v ∷ []))) is refl $ rewrite ! 1 (λ (u : Rt.Denot). ‵ (Lends x i u)) is refl $
           let told : Gives x i (Err e) = subst (Gives x i) is gives in
           let lost : IsLost all i x.now = told.1.1 in
-          let stopped : Stopped (Err e) = (tt, λ plain. subst (λ (n : ℕ). StopsIn (map_of (contents_of doc.now)) all n) (sym told.1.0) (trail_lost all doc.now x.now F i (kept plain) plain lost)) in
+          let stopped : Stopped (Err e) = (tt, λ plain. subst (λ (n : ℕ). StopsAtOffset (map_of (contents_of doc.now)) all n) (sym told.1.0) (trail_lost all doc.now x.now F i (kept plain) plain lost)) in
           use1 𝓛 (some (λ (ev : Val). given ((v ≡ live 1 (vcons ev vnil)) × (T (has_ty Whyτ ev) × WT ev)) (‵ (Why.own_val e (ev ∷ []))))) (err_out 𝓛 LR Why Whyτ refl (error_laws.the_row_laws.lawful 𝓛) e v) $ pick ! (λ ev. learn ! (λ told. move ! (1 ∷ []) $ fpick ! (λ s. move ! (1 ∷ []) $
           -- [the fault; the last value of x; what the document follows; the tokens; the way]
           lands_as ! told.0 refl (and_tt _ told.1.0, (record { fits = lit< tt }, (told.1.1, tt))) $

@@ -1,0 +1,103 @@
+//! JSON with comments and trailing commas: what is read past, and edits that keep the comments.
+
+use crate::program_error::{NOT_APPLIED, ProgramError};
+use jptr_tasks::document::document_result;
+use jptr_tasks::layout::Layout;
+use jptr_tasks::task::Task;
+use jptr_tasks::task_error::TaskError;
+use jsonptr::{Fault, Pointer};
+use jsonptr_comments::without_comments;
+use jsonptr_edit_in_text::{Buffers, EditError, InPlaceError};
+use jsonptr_edit_with_comments::{
+    WithCommentsError, assign_raw_with_comments, delete_with_comments,
+};
+use std::alloc::{AllocError, Global};
+use std::borrow::CowStr;
+
+/// Why a document with comments is not laid out anew.
+const OTHER_LAYOUT: &str = "the document has comments, which another layout would lose";
+
+/// Returns the text with spaces instead of its comments and trailing commas, or `None` if it has none.
+pub fn bare(alloc: Global, name: &str, text: &str) -> Result<Option<String>, ProgramError> {
+    match without_comments(alloc, text) {
+        Ok(CowStr::Borrowed(_same)) => Ok(None),
+        Ok(CowStr::Owned(bare)) => Ok(Some(bare)),
+        Err(Fault::Refused(error)) => Err(ProgramError::of_comment(
+            alloc,
+            name,
+            text,
+            error.offset,
+        )),
+        Err(Fault::Memory(_error)) => Err(ProgramError::Memory),
+    }
+}
+
+/// Returns the error of a document with this name, whose comments a command would lose.
+pub fn other_layout(alloc: Global, name: &str) -> ProgramError {
+    ProgramError::new(alloc, NOT_APPLIED, name, OTHER_LAYOUT)
+}
+
+/// Returns the error of a document with this name, in which the task is not done beside comments.
+pub fn not_in_place(alloc: Global, task: &Task<'_>, name: &str) -> ProgramError {
+    let message = match task {
+        Task::Patch(_) => "only set and delete change a text with comments",
+        _ => "the edit cannot be made in the text with its comments",
+    };
+    ProgramError::new(alloc, NOT_APPLIED, name, message)
+}
+
+/// Returns the text with comments after the task, which is no patch. A value that is found is printed without comments: as
+/// it is written, or on lines if it has comments in it.
+pub fn edited_with_comments(
+    alloc: Global,
+    task: &Task<'_>,
+    text: &str,
+    bare: &str,
+) -> Result<String, TaskError> {
+    let mut buffers = Buffers::new(alloc);
+    match task {
+        Task::Get(_, _) => found(alloc, task, text, bare),
+        Task::Set(pointer, value) => {
+            match assign_raw_with_comments(alloc, &mut buffers, text, *pointer, value) {
+                Ok(new) => Ok(new),
+                Err(error) => Err(TaskError::from(in_place_error(error))),
+            }
+        }
+        Task::Delete(pointer) => deleted(alloc, &mut buffers, text, *pointer),
+        Task::Patch(_) => Err(TaskError::NotInPlace),
+    }
+}
+
+/// Returns what is printed for a value that is found in the text without comments.
+fn found(alloc: Global, task: &Task<'_>, text: &str, bare: &str) -> Result<String, TaskError> {
+    let value = document_result(alloc, task, Layout::Kept, bare.as_bytes())?;
+    if text.contains(value.as_str().trim_end()) {
+        Ok(value)
+    } else {
+        document_result(alloc, task, Layout::Pretty, bare.as_bytes())
+    }
+}
+
+/// Returns the text without the value that the pointer resolves to.
+fn deleted(
+    alloc: Global,
+    buffers: &mut Buffers,
+    text: &str,
+    pointer: Pointer<'_>,
+) -> Result<String, TaskError> {
+    match delete_with_comments(alloc, buffers, text, pointer) {
+        Ok(Some(new)) => Ok(new),
+        Ok(None) => Err(TaskError::NotThere),
+        Err(error) => Err(TaskError::from(in_place_error(error))),
+    }
+}
+
+/// Returns the error of an edit of a text whose comments are closed.
+fn in_place_error<E>(error: WithCommentsError<E>) -> InPlaceError<E> {
+    match error {
+        WithCommentsError::Comment(_error) => InPlaceError::Failed(EditError::NotJson),
+        WithCommentsError::NotInPlace => InPlaceError::NotInPlace,
+        WithCommentsError::Failed(error) => InPlaceError::Failed(error),
+        WithCommentsError::Memory(error) => InPlaceError::Failed(EditError::Memory(error)),
+    }
+}

@@ -1,0 +1,69 @@
+//! The flag `--no-expand`: no container is created on the way to a value, and no scalar replaced by one.
+
+use crate::program_error::{NOT_APPLIED, ProgramError};
+use crate::source::Source;
+use crate::toml_file;
+use jptr_tasks::node::scalar_above;
+use jptr_tasks::task::Task;
+use jptr_tasks::task_error::TaskError;
+use jsonptr::Pointer;
+use jsonptr_in_toml::{InTomlError, find_in_toml};
+use std::alloc::Global;
+use toml::Value;
+
+/// What is said of a scalar on the way.
+const SCALAR: &str = "a scalar is on the way, and --no-expand replaces none";
+
+/// What is said after the error of a container that is missing on the way in a JSON document.
+const NO_CONTAINER: &str = "; --no-expand creates no container";
+
+/// What is said of an array or a table that is missing on the way in a TOML document.
+const NO_TABLE: &str = "an array or a table on the way is missing, and --no-expand creates none";
+
+/// Fails if the task would create a container in the JSON text, or replace a scalar by one.
+pub fn check_expansion(
+    alloc: Global,
+    task: &Task<'_>,
+    name: &str,
+    text: &str,
+) -> Result<(), ProgramError> {
+    let Task::Set(pointer, _) = task else {
+        return Ok(());
+    };
+    match scalar_above(alloc, text, *pointer) {
+        Ok(None) => Ok(()),
+        Ok(Some(_)) => Err(ProgramError::new(alloc, NOT_APPLIED, name, SCALAR)),
+        Err(TaskError::NotJson) => Err(ProgramError::of_bytes(alloc, name, text.as_bytes())),
+        Err(error) => Err(ProgramError::of_error_with_hint(
+            alloc,
+            name,
+            pointer.as_str(),
+            error,
+            NO_CONTAINER,
+        )),
+    }
+}
+
+/// Fails if an assignment at the pointer would create an array or a table in the TOML document, or
+/// replace a scalar by one.
+pub fn check_toml_expansion(
+    alloc: Global,
+    source: &Source<'_>,
+    pointer: Pointer<'_>,
+) -> Result<(), ProgramError> {
+    let Some(above) = pointer.parent() else {
+        return Ok(());
+    };
+    match find_in_toml(alloc, source.text(alloc)?, above) {
+        Ok(Value::Array(_)) => Ok(()),
+        Ok(Value::Table(_)) => Ok(()),
+        Ok(_) => Err(ProgramError::new(alloc, NOT_APPLIED, source.name, SCALAR)),
+        Err(InTomlError::NoValue(_error)) => Err(ProgramError::new(
+            alloc,
+            NOT_APPLIED,
+            source.name,
+            NO_TABLE,
+        )),
+        Err(error) => Err(toml_file::toml_error(alloc, source, above, error)),
+    }
+}

@@ -1,0 +1,204 @@
+//! Commands that are one operation of a patch (RFC 6902): `insert`, `move`, `copy` and `rename`.
+
+use crate::given::Given;
+use crate::operands::{argument, check_json, pointer_of};
+use crate::program_error::{NOT_APPLIED, ProgramError, USAGE};
+use crate::source::Source;
+use crate::style::style_of;
+use crate::task::{run_task, tried};
+use clap::ArgMatches;
+use jptr_tasks::node::{NodeType, type_in_text};
+use jptr_tasks::patching::raw_patch;
+use jptr_tasks::raw_patch::RawPatch;
+use jptr_tasks::task::Task;
+use jptr_tasks::task_error::TaskError;
+use jsonptr::{Pointer, PointerBuf, Token};
+use jsonptr_in_text::{InTextError, exists_in_text};
+use jsonptr_patch::PatchError;
+use serde_json::Value;
+use std::alloc::{AllocError, Global};
+use std::borrow::CowStr;
+
+/// An operation, and the pointers that an error can be about.
+#[derive(Drop)]
+struct Operation<'a> {
+    /// The text of the patch that it is.
+    patch: String,
+    /// Where the value is taken from, if it is in the document.
+    from: Option<Pointer<'a>>,
+    /// Where it is put.
+    path: Pointer<'a>,
+}
+
+/// Inserts a value before an element of an array, or adds a member: the operation `add`.
+pub fn insert(rt: &HostRuntime, matches: &ArgMatches<'_>) -> Result<u8, ProgramError> {
+    let alloc = rt.alloc();
+    check_json(alloc, "insert", matches.get_str("FILE"))?;
+    let path = pointer_of(alloc, argument(matches, "POINTER"))?;
+    let value = Given::read(rt, matches, argument(matches, "JSON"))?.raw(alloc)?;
+    let value = value.text.flat.as_str();
+    let quoted = quoted(alloc, path)?;
+    let patch = format!(in alloc; "[{{\"op\":\"add\",\"path\":{quoted},\"value\":{value}}}]")?;
+    let operation = Operation {
+        patch,
+        from: None,
+        path,
+    };
+    run(rt, matches, &operation)
+}
+
+/// Moves or copies a value: the operation with this name.
+pub fn transfer(
+    rt: &HostRuntime,
+    matches: &ArgMatches<'_>,
+    name: &str,
+) -> Result<u8, ProgramError> {
+    let alloc = rt.alloc();
+    check_json(alloc, name, matches.get_str("FILE"))?;
+    let from = pointer_of(alloc, argument(matches, "FROM"))?;
+    let path = pointer_of(alloc, argument(matches, "POINTER"))?;
+    run(rt, matches, &transfer_of(alloc, name, from, path)?)
+}
+
+/// Returns the operation that moves or copies a value.
+fn transfer_of<'a>(
+    alloc: Global,
+    name: &str,
+    from: Pointer<'a>,
+    path: Pointer<'a>,
+) -> Result<Operation<'a>, AllocError> {
+    let (old, new) = (quoted(alloc, from)?, quoted(alloc, path)?);
+    let patch = format!(in alloc; "[{{\"op\":\"{name}\",\"from\":{old},\"path\":{new}}}]")?;
+    Ok(Operation {
+        patch,
+        from: Some(from),
+        path,
+    })
+}
+
+/// Returns the text of the pointer as a JSON string.
+fn quoted(alloc: Global, pointer: Pointer<'_>) -> Result<String, AllocError> {
+    Value::String(String::from_str(alloc, pointer.as_str())?).to_string(alloc)
+}
+
+/// Gives a member another key. Fails if the object has a member with that key.
+pub fn rename(rt: &HostRuntime, matches: &ArgMatches<'_>) -> Result<u8, ProgramError> {
+    let alloc = rt.alloc();
+    check_json(alloc, "rename", matches.get_str("FILE"))?;
+    let from = pointer_of(alloc, argument(matches, "POINTER"))?;
+    let Some(parent) = from.parent() else {
+        return Err(ProgramError::new(alloc, USAGE, "POINTER", "the root has no key"));
+    };
+    let mut path = parent.to_buf(alloc)?;
+    let key = argument(matches, "KEY");
+    path.push_back(Token::new(alloc, CowStr::Borrowed(key))?)?;
+    let source = Source::open(rt, matches)?;
+    check_member(alloc, &source, parent, &path)?;
+    let operation = transfer_of(alloc, "move", from, path.as_ptr())?;
+    put(rt, matches, &source, &operation)
+}
+
+/// Fails if the parent is no object, or has a member with the new pointer.
+fn check_member(
+    alloc: Global,
+    source: &Source<'_>,
+    parent: Pointer<'_>,
+    path: &PointerBuf,
+) -> Result<(), ProgramError> {
+    let text = source.text(alloc)?;
+    match type_in_text(alloc, text, parent) {
+        Ok(NodeType::Object) => {}
+        Ok(_) => return Err(ProgramError::new(
+            alloc,
+            NOT_APPLIED,
+            source.name,
+            "not a member of an object",
+        )),
+        Err(error) => return Err(source.error(alloc, parent.as_str(), error)),
+    }
+    match exists_in_text(alloc, text, path.as_ptr()) {
+        Ok(false) => Ok(()),
+        Ok(true) => Err(ProgramError::new(
+            alloc,
+            NOT_APPLIED,
+            source.name,
+            "there is a member with this key",
+        )),
+        Err(error) => Err(source.error(alloc, path.as_ptr().as_str(), TaskError::from(error))),
+    }
+}
+
+/// Runs the operation on the document, or on each line.
+fn run(
+    rt: &HostRuntime,
+    matches: &ArgMatches<'_>,
+    operation: &Operation<'_>,
+) -> Result<u8, ProgramError> {
+    if matches.get_flag("lines") {
+        let patch = patch_of(rt.alloc(), operation.patch.as_str())?;
+        return run_task(rt, matches, Task::Patch(patch));
+    }
+    put(rt, matches, &Source::open(rt, matches)?, operation)
+}
+
+/// Returns the patch with this text.
+fn patch_of(alloc: Global, patch: &str) -> Result<RawPatch, ProgramError> {
+    let document = match Value::from_str(alloc, patch) {
+        Ok(document) => document,
+        Err(error) if error.is_memory() => return Err(ProgramError::Memory),
+        // The value is JSON, but the patch with it nests two levels deeper.
+        Err(_) => return Err(ProgramError::of_error(alloc, "JSON", "", TaskError::PatchTooDeep)),
+    };
+    match raw_patch(alloc, document, patch) {
+        Ok(raw) => Ok(raw),
+        Err(error) => Err(ProgramError::of_error(alloc, "JSON", "", error)),
+    }
+}
+
+/// Prints the document after the operation, or replaces the text of the file by it.
+fn put(
+    rt: &HostRuntime,
+    matches: &ArgMatches<'_>,
+    source: &Source<'_>,
+    operation: &Operation<'_>,
+) -> Result<u8, ProgramError> {
+    let alloc = rt.alloc();
+    let style = style_of(alloc, matches)?;
+    let task = Task::Patch(patch_of(alloc, operation.patch.as_str())?);
+    match tried(alloc, &task, style, source)? {
+        Ok(new) => {
+            source.put(rt, new.as_str())?;
+            Ok(0)
+        }
+        Err(error) => {
+            let pointer = pointer_at_fault(alloc, source, operation)?;
+            Err(source.error(alloc, pointer.as_str(), error_of(error)))
+        }
+    }
+}
+
+/// Returns the error of the one operation, without its number.
+fn error_of(error: TaskError) -> TaskError {
+    match error {
+        TaskError::BadPatch(PatchError::NoTarget { cause, .. }) => TaskError::NoValue(cause),
+        TaskError::BadPatch(PatchError::BadPlace { cause, .. }) => TaskError::BadPlace(cause),
+        error => error,
+    }
+}
+
+/// Returns the pointer that an error is about: the one that the value is taken from, if it does not resolve.
+fn pointer_at_fault<'a>(
+    alloc: Global,
+    source: &Source<'_>,
+    operation: &Operation<'a>,
+) -> Result<Pointer<'a>, ProgramError> {
+    let Some(from) = operation.from else {
+        return Ok(operation.path);
+    };
+    match exists_in_text(alloc, source.text(alloc)?, from) {
+        Ok(true) => Ok(operation.path),
+        Ok(false) => Ok(from),
+        Err(InTextError::Memory(_error)) => Err(ProgramError::Memory),
+        Err(_error) => Ok(operation.path),
+    }
+}

@@ -1,0 +1,290 @@
+//! The errors of the program, as they are printed.
+
+use crate::syntax::{explain, unclosed_comment};
+use jptr_tasks::task_error::TaskError;
+use jsonptr::diagnostic::Diagnostic;
+use jsonptr::{EncodingError, ParseError, PointerBuf};
+use serde_json::Value;
+use simdutf8::basic::from_utf8;
+use std::alloc::{AllocError, AllocFailed, Global};
+
+/// An error of the program: its exit status, and what is printed on standard error.
+#[derive(Debug, Drop)]
+pub enum ProgramError {
+    /// Nobody reads the output any more. That is no error, and nothing is printed.
+    OutputClosed,
+    /// An allocation failed.
+    Memory,
+    /// Any other error, with its exit status and its text.
+    Other(u8, String),
+}
+
+/// The exit status if a pointer, a patch or an edit does not apply, or two values differ.
+pub const NOT_APPLIED: u8 = 1;
+/// The exit status if the command line is wrong.
+pub const USAGE: u8 = 2;
+/// The exit status if a text is not JSON or TOML, or a number loses digits.
+pub const NOT_JSON: u8 = 3;
+/// The exit status if an allocation failed.
+pub const MEMORY: u8 = 4;
+/// The exit status if a file could not be read or written.
+pub const FILE: u8 = 5;
+
+impl ProgramError {
+    /// Returns the exit status.
+    pub fn status(&self) -> u8 {
+        match self {
+            ProgramError::OutputClosed => 0,
+            ProgramError::Memory => MEMORY,
+            ProgramError::Other(status, _) => *status,
+        }
+    }
+
+    /// Returns what is printed on standard error, with its line breaks.
+    pub fn text(&self) -> Option<&str> {
+        match self {
+            ProgramError::OutputClosed => None,
+            ProgramError::Memory => Some("jptr: out of memory\n"),
+            ProgramError::Other(_, text) => Some(text.as_str()),
+        }
+    }
+
+    /// Returns the error with one line of text: the program, the name of the file or argument, and
+    /// the message.
+    pub fn new(alloc: Global, status: u8, name: &str, message: &str) -> ProgramError {
+        ProgramError::of_text(status, line(alloc, name, message))
+    }
+
+    /// Returns the error with the line of a message that was made.
+    pub fn of_message(
+        alloc: Global,
+        status: u8,
+        name: &str,
+        message: Result<String, AllocError>,
+    ) -> ProgramError {
+        match message {
+            Ok(message) => ProgramError::new(alloc, status, name, message.as_str()),
+            Err(_) => ProgramError::Memory,
+        }
+    }
+
+    /// Returns the error with a text that was made.
+    fn of_text(status: u8, text: Result<String, AllocError>) -> ProgramError {
+        match text {
+            Ok(text) => ProgramError::Other(status, text),
+            Err(_) => ProgramError::Memory,
+        }
+    }
+
+    /// Returns the error with what is at fault, drawn on lines after its text.
+    pub fn with_drawing(self, drawing: Result<Option<String>, AllocError>) -> ProgramError {
+        match (self, drawing) {
+            (ProgramError::Other(status, text), Ok(Some(drawing))) => {
+                ProgramError::of_text(status, append_lines(text, drawing.as_str()))
+            }
+            (error, Ok(_)) => error,
+            (_error, Err(_)) => ProgramError::Memory,
+        }
+    }
+
+    /// Returns the error at this pointer in the input with this name.
+    pub fn of_error(alloc: Global, name: &str, pointer: &str, error: TaskError) -> ProgramError {
+        let hint = hint_of(&error);
+        ProgramError::of_error_with_hint(alloc, name, pointer, error, hint)
+    }
+
+    /// Returns the error at this pointer in the input with this name, with a hint.
+    pub fn of_error_with_hint(
+        alloc: Global,
+        name: &str,
+        pointer: &str,
+        error: TaskError,
+        hint: &str,
+    ) -> ProgramError {
+        ProgramError::of_text(error.status(), text_of(alloc, name, pointer, error, hint))
+    }
+
+    /// Returns the error of a document that is not a patch.
+    pub fn of_patch(alloc: Global, name: &str, document: &Value, error: TaskError) -> ProgramError {
+        ProgramError::of_text(error.status(), patch_text(alloc, name, document, error))
+    }
+
+    /// Returns the error of an argument that is not a pointer.
+    pub fn of_pointer(alloc: Global, text: &str, error: ParseError) -> ProgramError {
+        ProgramError::of_text(NOT_APPLIED, pointer_text(alloc, text, error))
+    }
+
+    /// Returns the error of an argument that is not a token.
+    pub fn of_token(alloc: Global, text: &str, error: EncodingError) -> ProgramError {
+        ProgramError::of_text(NOT_APPLIED, token_text(alloc, text, error))
+    }
+
+    /// Returns the error of a value that is not a JSON text. A word may be meant as a string.
+    pub fn of_value(alloc: Global, name: &str, text: &str) -> ProgramError {
+        match ProgramError::of_bytes(alloc, name, text.as_bytes()) {
+            ProgramError::Other(status, line) => ProgramError::of_text(
+                status,
+                hinted(alloc, text, line),
+            ),
+            error => error,
+        }
+    }
+
+    /// Returns the error of a text with a comment at the offset that is not closed.
+    pub fn of_comment(alloc: Global, name: &str, text: &str, offset: usize) -> ProgramError {
+        ProgramError::of_message(alloc, NOT_JSON, name, unclosed_comment(alloc, text, offset))
+    }
+
+    /// Returns the error of bytes that are not a JSON text.
+    pub fn of_bytes(alloc: Global, name: &str, bytes: &[u8]) -> ProgramError {
+        ProgramError::of_text(NOT_JSON, json_text(alloc, name, bytes))
+    }
+}
+
+/// Returns the message of an error of the value with this text. If the value begins with a letter, the
+/// first line says what a string needs.
+fn hinted(alloc: Global, text: &str, message: String) -> Result<String, AllocError> {
+    let is_word = text.chars().next().is_some_and(|c| c.is_alphabetic());
+    if !is_word {
+        return Ok(message);
+    }
+    let whole = message.as_str();
+    let end = match whole.find('\n') {
+        Some(at) => at,
+        None => whole.len(),
+    };
+    let line = whole.get(..end).unwrap_or("");
+    let drawing = whole.get(end.saturating_add(1)..).unwrap_or("");
+    format!(in alloc; "{line}; a string needs quotes, or --string\n{drawing}")
+}
+
+/// Returns the line of an error.
+fn line(alloc: Global, name: &str, message: &str) -> Result<String, AllocError> {
+    let name = shown(alloc, name)?;
+    format!(in alloc; "jptr: {name}: {message}\n")
+}
+
+/// Returns the text as it is shown: each control character in it is escaped.
+pub fn shown(alloc: Global, text: &str) -> Result<String, AllocError> {
+    let mut shown = String::new(alloc);
+    for c in text.chars() {
+        if c.is_control() {
+            for escaped in c.escape_default() {
+                shown.push(escaped)?;
+            }
+        } else {
+            shown.push(c)?;
+        }
+    }
+    Ok(shown)
+}
+
+impl From<AllocError> for ProgramError {
+    /// Returns the error of a failed allocation.
+    fn from(_error: AllocError) -> ProgramError {
+        ProgramError::Memory
+    }
+}
+
+impl<T: Drop> From<AllocFailed<T>> for ProgramError {
+    /// Returns the error of a failed allocation, and drops the value that had no room.
+    fn from(_error: AllocFailed<T>) -> ProgramError {
+        ProgramError::Memory
+    }
+}
+
+/// Returns the text of an error with the hint. A failed allocation has none.
+fn text_of(
+    alloc: Global,
+    name: &str,
+    pointer: &str,
+    error: TaskError,
+    hint: &str,
+) -> Result<String, AllocError> {
+    if matches!(error, TaskError::Memory(_)) {
+        return Err(AllocError);
+    }
+    let name = shown(alloc, name)?;
+    let text = format!(in alloc; "jptr: {name}: {error}{hint}\n")?;
+    match drawing(alloc, pointer, error)? {
+        Some(drawn) => append_lines(text, drawn.as_str()),
+        None => Ok(text),
+    }
+}
+
+/// Returns the text with further lines, and a line break after them.
+fn append_lines(text: String, lines: &str) -> Result<String, AllocError> {
+    let mut text = text;
+    text.push_str(lines)?;
+    text.push('\n')?;
+    Ok(text)
+}
+
+/// Returns what is printed after the text of an error: what to do about it.
+fn hint_of(error: &TaskError) -> &'static str {
+    match error {
+        TaskError::NotInPlace => "; --reformat prints the document anew",
+        _ => "",
+    }
+}
+
+/// Returns the pointer with carets below the token at fault, if the error is about a pointer.
+fn drawing(alloc: Global, pointer: &str, error: TaskError) -> Result<Option<String>, AllocError> {
+    let Ok(subject) = PointerBuf::from_text(alloc, pointer) else {
+        return Ok(None);
+    };
+    match error {
+        TaskError::NoValue(error) => Ok(Some(error.into_report(subject).render(alloc)?)),
+        TaskError::BadPlace(error) => Ok(Some(error.into_report(subject).render(alloc)?)),
+        _ => Ok(None),
+    }
+}
+
+/// Returns the text of the error of a document that is not a patch, with the pointer at fault if there
+/// is one. A failed allocation has no text.
+fn patch_text(
+    alloc: Global,
+    name: &str,
+    document: &Value,
+    error: TaskError,
+) -> Result<String, AllocError> {
+    let TaskError::NotPatch(error) = error else {
+        return Err(AllocError);
+    };
+    let name = shown(alloc, name)?;
+    let text = format!(in alloc; "jptr: {name}: {error}\n")?;
+    let Some(pointer) = error.pointer_text(document) else {
+        return Ok(text);
+    };
+    let report = error.into_report(String::from_str(alloc, pointer)?);
+    append_lines(text, report.render(alloc)?.as_str())
+}
+
+/// Returns the text of the error of a pointer.
+fn pointer_text(alloc: Global, pointer: &str, error: ParseError) -> Result<String, AllocError> {
+    let text = format!(in alloc; "jptr: POINTER: {error}\n")?;
+    let report = error.into_report(String::from_str(alloc, pointer)?);
+    append_lines(text, report.render(alloc)?.as_str())
+}
+
+/// Returns the text of the error of a token.
+fn token_text(alloc: Global, token: &str, error: EncodingError) -> Result<String, AllocError> {
+    let text = format!(in alloc; "jptr: TOKEN: {error}\n")?;
+    let report = error.into_report(String::from_str(alloc, token)?);
+    append_lines(text, report.render(alloc)?.as_str())
+}
+
+/// Returns the text of the error of bytes that are not JSON, with its line and column.
+fn json_text(alloc: Global, name: &str, bytes: &[u8]) -> Result<String, AllocError> {
+    let name = shown(alloc, name)?;
+    if let Ok(text) = from_utf8(bytes) {
+        if let Some(why) = explain(alloc, text)? {
+            return format!(in alloc; "jptr: {name}: {why}\n");
+        }
+    }
+    match Value::from_slice(alloc, bytes) {
+        Ok(_) => format!(in alloc; "jptr: {name}: not JSON\n"),
+        Err(error) if error.is_memory() => Err(AllocError),
+        Err(error) => format!(in alloc; "jptr: {name}: not JSON: {error}\n"),
+    }
+}

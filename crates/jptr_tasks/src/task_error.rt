@@ -1,0 +1,195 @@
+//! The errors of a command, and its exit status.
+ghost use Rattle.std.specs.Prelude.{◌≡◌};
+ghost use Rattle.jptr_tasks.specs.Failures.{error_of_resolving, of_assign_error, of_delete_error, of_patch_error, of_strict_assign_error, of_strict_delete_error, of_build_error, status_of_task, status_of_line};
+ghost use Rattle.jptr_tasks.specs.declared.task_error.TaskError.TheVariants.{Memory};
+
+use jsonptr::{assign, resolve};
+use jsonptr_edit_in_text::{EditError, InPlaceError};
+use jsonptr_in_text::InTextError;
+use jsonptr_patch::PatchError;
+use jsonptr_patch_document::PatchDocumentError;
+use jsonptr_paths::reading::{BuildError, LineError};
+use std::alloc::AllocError;
+use std::convert::Infallible;
+use thiserror::Error;
+
+/// An error of a command. Its text is one line.
+#[derive(Debug, Drop, Error)]
+pub enum TaskError {
+    /// A patch document is not a patch.
+    #[error(transparent)]
+    NotPatch(PatchDocumentError),
+    /// The pointer does not resolve to a value.
+    #[error(transparent)]
+    NoValue(resolve::Error),
+    /// No value can be assigned at the pointer.
+    #[error(transparent)]
+    BadPlace(assign::Error),
+    /// The pointer of the value to delete does not resolve.
+    #[error("delete failed: json pointer does not resolve")]
+    NotThere,
+    /// An operation of the patch fails.
+    #[error(transparent)]
+    BadPatch(PatchError),
+    /// The new document nests deeper than 127.
+    #[error("the new document nests deeper than 127")]
+    TooDeep,
+    /// The edit is possible, but not in place: the document would have to be printed anew.
+    #[error("the edit cannot be made in place")]
+    NotInPlace,
+    /// The value is there, but the check of where its text is failed.
+    #[error("the value cannot be located in the text")]
+    NotLocated,
+    /// The patch that turns one document into another nests deeper than 127.
+    #[error("the patch would nest deeper than 127")]
+    PatchTooDeep,
+    /// The result of a line contains a line break.
+    #[error("the result contains a line break")]
+    LineBreak,
+    /// The line with this number, from 1, adds no value to the document that lines build.
+    #[error("line {0}: {1}")]
+    BadLine(usize, LineError),
+    /// Lines are not UTF-8.
+    #[error("not UTF-8")]
+    NotUtf8,
+    /// The text is not a JSON text, or not UTF-8.
+    #[error("not JSON")]
+    NotJson,
+    /// An allocation failed.
+    #[error("out of memory")]
+    Memory(AllocError),
+    /// A read failed.
+    #[error("reading failed")]
+    Read,
+    /// A write failed.
+    #[error("writing failed")]
+    Write,
+}
+
+impl TaskError {
+    /// Returns the exit status of the program: 3 if a text or a line is not JSON or not UTF-8, or if two
+    /// documents have no patch that can be read; 4 if an allocation failed; 5 if a read or a write failed;
+    /// and 1 for each other error.
+    pub fn status(&self) -> u8
+        ensures { result ≡ status_of_task self.now }
+    {
+        match self {
+            TaskError::NotPatch(_)
+            | TaskError::NoValue(_)
+            | TaskError::BadPlace(_)
+            | TaskError::NotThere
+            | TaskError::BadPatch(_)
+            | TaskError::TooDeep
+            | TaskError::NotInPlace
+            | TaskError::NotLocated
+            | TaskError::LineBreak => 1,
+            TaskError::BadLine(_, error) => line_status(error),
+            TaskError::PatchTooDeep | TaskError::NotUtf8 | TaskError::NotJson => 3,
+            TaskError::Memory(_) => 4,
+            TaskError::Read | TaskError::Write => 5,
+        }
+    }
+}
+
+/// Returns the exit status for a line that adds no value: 3 if it is not a pointer, a tab and a JSON
+/// text, and 1 if no value can be assigned there.
+fn line_status(error: &LineError) -> u8
+    ensures { result ≡ status_of_line error.now }
+{
+    match error {
+        LineError::NoTab | LineError::NotPointer | LineError::NotJson => 3,
+        LineError::TooDeep | LineError::BadPlace(_) => 1,
+    }
+}
+
+impl From<BuildError> for TaskError {
+    ghost from_gives = { λ error failure. failure ≡ of_build_error error };
+
+    fn from(error: BuildError) -> TaskError {
+        match error {
+            BuildError::Line(number, error) => TaskError::BadLine(number, error),
+            BuildError::Memory(error) => TaskError::Memory(error),
+        }
+    }
+}
+
+impl From<AllocError> for TaskError {
+    ghost from_gives = { λ error failure. failure ≡ Memory error };
+
+    fn from(error: AllocError) -> TaskError {
+        TaskError::Memory(error)
+    }
+}
+
+impl From<InTextError> for TaskError {
+    ghost from_gives = { λ error failure. failure ≡ error_of_resolving error };
+
+    fn from(error: InTextError) -> TaskError {
+        match error {
+            InTextError::NotJson => TaskError::NotJson,
+            InTextError::Resolve(error) => TaskError::NoValue(error),
+            InTextError::Memory(error) => TaskError::Memory(error),
+        }
+    }
+}
+
+impl From<EditError<assign::Error>> for TaskError {
+    ghost from_gives = { λ error failure. failure ≡ of_assign_error error };
+
+    fn from(error: EditError<assign::Error>) -> TaskError {
+        match error {
+            EditError::NotJson => TaskError::NotJson,
+            EditError::Refused(error) => TaskError::BadPlace(error),
+            EditError::TooDeep => TaskError::TooDeep,
+            EditError::Memory(error) => TaskError::Memory(error),
+        }
+    }
+}
+
+impl From<EditError<Infallible>> for TaskError {
+    ghost from_gives = { λ error failure. failure ≡ of_delete_error error };
+
+    fn from(error: EditError<Infallible>) -> TaskError {
+        match error {
+            EditError::NotJson => TaskError::NotJson,
+            EditError::Refused(never) => match never {},
+            EditError::TooDeep => TaskError::TooDeep,
+            EditError::Memory(error) => TaskError::Memory(error),
+        }
+    }
+}
+
+impl From<EditError<PatchError>> for TaskError {
+    ghost from_gives = { λ error failure. failure ≡ of_patch_error error };
+
+    fn from(error: EditError<PatchError>) -> TaskError {
+        match error {
+            EditError::NotJson => TaskError::NotJson,
+            EditError::Refused(error) => TaskError::BadPatch(error),
+            EditError::TooDeep => TaskError::TooDeep,
+            EditError::Memory(error) => TaskError::Memory(error),
+        }
+    }
+}
+
+impl From<InPlaceError<assign::Error>> for TaskError {
+    ghost from_gives = { λ error failure. failure ≡ of_strict_assign_error error };
+
+    fn from(error: InPlaceError<assign::Error>) -> TaskError {
+        match error {
+            InPlaceError::NotInPlace => TaskError::NotInPlace,
+            InPlaceError::Failed(error) => TaskError::from(error),
+        }
+    }
+}
+
+impl From<InPlaceError<Infallible>> for TaskError {
+    ghost from_gives = { λ error failure. failure ≡ of_strict_delete_error error };
+
+    fn from(error: InPlaceError<Infallible>) -> TaskError {
+        match error {
+            InPlaceError::NotInPlace => TaskError::NotInPlace,
+            InPlaceError::Failed(error) => TaskError::from(error),
+        }
+    }
+}

@@ -1,0 +1,64 @@
+//! Where values are in JSON texts.
+ghost use Rattle.std.specs.Prelude.{◌≡◌, ◌≢◌, [], take, length as list_length};
+ghost use Rattle.jsonptr_c_calls.specs.ErrorNumbers.{no_error};
+ghost use Rattle.jsonptr_c_calls.specs.Locations.{IsNotLocated, IsNotPointedAt, LocatesInText, PointsAt};
+ghost use Rattle.jsonptr_c_calls.specs.Outcomes.{IsLengthOf, Reports};
+ghost use Rattle.jsonptr_c_calls.specs.declared.call_error.CallError.{CallError};
+
+use jsonptr_c_calls::error_numbers::ErrorRecord;
+use jsonptr_c_calls::locations::{locate_in, pointer_at_in};
+use jsonptr_c_calls::outcome::{fail, fail_with_length, succeed};
+use std::alloc::Global;
+
+/// Writes the offset of the first byte of the value at the pointer in a JSON text, and that after its
+/// last byte.
+#[unsafe(no_mangle)]
+pub extern "C" fn jsonptrcore_text_locate(
+    alloc: Global,
+    text: &[u8],
+    pointer: &[u8],
+    start: &mut usize,
+    end: &mut usize,
+    error: &mut ErrorRecord,
+) -> u32
+    ensures success { result ≡ 0 → error.new ≡ no_error }
+    ensures located { result ≡ 0 → LocatesInText text.now pointer.now start.new end.new }
+    ensures refused { result ≢ 0 → (e : CallError) × Reports e pointer.now result error.new
+        × IsNotLocated text.now pointer.now e }
+    ensures unchanged { result ≢ 0 → (start.new ≡ start.old) × (end.new ≡ end.old) }
+{
+    match locate_in(alloc, text, pointer) {
+        Ok(span) => {
+            *start = span.start;
+            *end = span.end;
+            succeed(error)
+        }
+        Err(failure) => fail(&failure, pointer, error),
+    }
+}
+
+/// Copies the pointer of the value at the offset in a JSON text to the buffer.
+#[unsafe(no_mangle)]
+pub extern "C" fn jsonptrcore_text_pointer_at(
+    alloc: Global,
+    text: &[u8],
+    offset: usize,
+    out: &mut [u8],
+    length: &mut usize,
+    error: &mut ErrorRecord,
+) -> u32
+    ensures success { result ≡ 0 → error.new ≡ no_error }
+    ensures pointed { result ≡ 0 → PointsAt text.now offset (take length.new out.new) }
+    ensures refused { result ≢ 0 → (e : CallError) × Reports e [] result error.new
+        × IsNotPointedAt text.now offset (list_length out.old) e }
+    ensures unchanged { result ≢ 0 → out.new ≡ out.old }
+    ensures length { result ≢ 0 → IsLengthOf error.new length.old length.new }
+{
+    match pointer_at_in(alloc, text, offset, out) {
+        Ok(copied) => {
+            *length = copied;
+            succeed(error)
+        }
+        Err(failure) => fail_with_length(&failure, b"", length, error),
+    }
+}

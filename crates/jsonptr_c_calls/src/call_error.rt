@@ -1,0 +1,86 @@
+//! Why a call fails.
+ghost use Rattle.std.specs.Prelude.{◌≡◌};
+ghost use Rattle.jsonptr_c_calls.specs.declared.call_error.CallError.TheVariants.{Memory};
+
+use jsonptr::{ParseError, assign, resolve};
+use jsonptr_numbers::Lost;
+use jsonptr_patch::PatchError;
+use jsonptr_patch_document::{Member, PatchDocumentError};
+use std::alloc::AllocError;
+
+/// A text that is passed to a call.
+#[derive(Clone, Copy, Debug)]
+pub enum Argument {
+    /// A JSON Pointer.
+    Pointer,
+    /// A token of a pointer, decoded.
+    Token,
+    /// A JSON text.
+    Text,
+}
+
+/// Why a call fails.
+#[derive(Debug, Drop)]
+pub enum CallError {
+    /// An allocation failed.
+    Memory(AllocError),
+    /// The buffer is shorter than the result.
+    NoRoom {
+        /// The length of the result, in bytes.
+        needed: usize,
+    },
+    /// The handle holds no document.
+    NoDocument,
+    /// A text is not UTF-8.
+    NotUtf8 {
+        /// The text.
+        argument: Argument,
+        /// The offset of the first byte that is not.
+        offset: usize,
+    },
+    /// A text is not JSON.
+    NotJson {
+        /// The offset at which reading stopped.
+        offset: usize,
+    },
+    /// A number of a text loses digits.
+    NotExact(Lost),
+    /// A text is not a pointer.
+    NotPointer(ParseError),
+    /// A pointer has no token at a position.
+    NoToken,
+    /// A pointer does not resolve to a value.
+    NotFound(resolve::Error),
+    /// The value is in the text, but its bytes are not found.
+    NotLocated,
+    /// No value of the text is at an offset.
+    NoValue {
+        /// The offset.
+        offset: usize,
+    },
+    /// A value is of another kind than the call reads.
+    OtherKind,
+    /// The document would nest deeper than 10,127.
+    TooDeep,
+    /// The patch document that takes a patch back would nest deeper than 127.
+    DeepInverse,
+    /// A value cannot be assigned at a pointer.
+    NotAssigned(assign::Error),
+    /// A document is not a patch.
+    NotPatch(PatchDocumentError),
+    /// An operation of a patch fails.
+    PatchFailed {
+        /// Why.
+        error: PatchError,
+        /// The member of the operation with the pointer at fault, if a pointer is at fault.
+        member: Option<Member>,
+    },
+}
+
+impl From<AllocError> for CallError {
+    ghost from_gives = { λ error failure. failure ≡ Memory error };
+
+    fn from(error: AllocError) -> CallError {
+        CallError::Memory(error)
+    }
+}

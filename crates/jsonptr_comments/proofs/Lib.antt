@@ -1,0 +1,11 @@
+pub mod ScanningLemmas
+pub mod PieceLemmas
+pub mod DoneLemmas
+pub mod StepLemmas
+pub mod FirstLemmas
+pub mod UnchangedLemmas
+pub mod TwiceLemmas
+pub mod WordLemmas
+pub mod TokenLemmas
+pub mod JsonLemmas
+pub mod StopLemmas

@@ -1,0 +1,4 @@
+pub mod Comments
+pub mod PrivateScanning
+pub mod PrivateStepping
+pub mod Faults

@@ -1,0 +1,24 @@
+//! JSON text with comments and trailing commas, as in `tsconfig.json` and in the settings of editors.
+//!
+//! [`without_comments`] returns the same text with spaces instead of them. It has the same length, so
+//! every call on JSON text can read it, and each offset in it is one of the old text.
+//!
+//! ```rust
+//! let text = "{ // size\n  \"size\": 3, /* px */\n}";
+//! let json = without_comments(alloc, text)?;
+//! assert_eq!(rt; json.as_str(), "{        \n  \"size\": 3          \n}");
+//! ```
+//!
+//! In the examples `rt` is the runtime that `main` and each test receive, and `alloc` is
+//! `rt.alloc()`, the allocator.
+#![tactic(auto)]
+
+mod comments;
+mod error;
+mod kind;
+pub mod laws;
+mod scan;
+mod step;
+
+pub use comments::without_comments;
+pub use error::CommentError;

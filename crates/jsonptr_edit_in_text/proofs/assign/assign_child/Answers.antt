@@ -1,0 +1,93 @@
+use Rattle.std.proofs.Common.{◌≡◌, ◌∷◌, ◌++◌, Option, IfSome, string_bytes, refl, subst}
+use Rattle.jsonptr.specs.Pointer.{tokens}
+use Rattle.jsonptr.specs.Json.{nodes}
+use Rattle.jsonptr_json_edits.specs.declared.layout.ValueText.{ValueText}
+use Rattle.jsonptr_edit_in_text.specs.EditInText.{AssignsInText}
+use Rattle.jsonptr_edit_in_text.specs.PrivateReaching.{IsExpanded, ReachedInText, MemberAdded, ElementAppended}
+use Rattle.jsonptr_edit_in_text.proofs.EditLemmas.{if_new, of_member, assigns_member, of_element, assigns_end}
+use Rattle.jsonptr_edit_in_text.specs.Bytes.{GrowsBytes}
+use Rattle.jsonptr_edit_in_text.specs.PrivateReaching.{AddsByText}
+use Rattle.json.specs.Lex.{tokens as lexed}
+use Rattle.jsonptr_edit_in_text.specs.Carrying.{value_of_raw, Carries}
+use Rattle.jsonptr_edit_in_text.specs.PrivateWrapping.{wrapped}
+use Rattle.jsonptr_edit_in_text.proofs.BytesLemmas.{grows_bytes}
+use Rattle.jsonptr_edit_in_text.proofs.WrappingLemmas.{carries_wrapped}
+use Rattle.jsonptr_edit_in_text.proofs.assign.assign_child.Goals as goal
+
+pub returns-then-starts_with-clause-assigned : goal.returns-then-starts_with-clause-assigned
+returns-then-starts_with-clause-assigned c =
+    let flat = string_bytes c.in-Some.printed.flat in
+    let e = subst (λ (o : Option ValueText). IfSome o (IsExpanded (tokens c.args.missing.now.after) (nodes (value_of_raw c.args.raw.now)))) c.in-Some.is c.in_ok-printed.ensures.value in
+    let front = tokens c.args.site.now.pointer in
+    let x = c.args.missing.now.token.now in
+    let after = tokens c.args.missing.now.after in
+    if_new c.add_member.result
+    (λ s. ReachedInText c.args.site.now.text.now (string_bytes s) front (MemberAdded x flat))
+    (λ s. AssignsInText c.args.site.now.text.now (front ++ x ∷ after) (nodes (value_of_raw c.args.raw.now)) (string_bytes s))
+    (λ s h. assigns_member c.args.site.now.text.now (string_bytes s) (front ++ x ∷ after) front x after e.0 (nodes (value_of_raw c.args.raw.now)) refl e.2 (of_member c.args.site.now.text.now (string_bytes s) front x flat e.0 e.1 h))
+    c.add_member.ensures.reached
+
+pub returns-then-starts_with-clause-bytes : goal.returns-then-starts_with-clause-bytes
+returns-then-starts_with-clause-bytes c =
+    let old = c.args.site.now.text.now in
+    let flat = string_bytes c.in-Some.printed.flat in
+    let v = value_of_raw c.args.raw.now in
+    let e = subst (λ (o : Option ValueText). IfSome o (IsExpanded (tokens c.args.missing.now.after) (nodes v))) c.in-Some.is c.in_ok-printed.ensures.value in
+    let front = tokens c.args.site.now.pointer in
+    let x = c.args.missing.now.token.now in
+    let after = tokens c.args.missing.now.after in
+    if_new c.add_member.result
+    (λ s. AddsByText old (string_bytes s) front x flat)
+    (λ s. GrowsBytes old (string_bytes s) front x after v)
+    (λ s h. grows_bytes old (string_bytes s) front x after flat v e.0 e.1 e.2 h)
+    c.add_member.ensures.bytes
+
+pub returns-then-starts_with-clause-carries : goal.returns-then-starts_with-clause-carries
+returns-then-starts_with-clause-carries c =
+    let flat = string_bytes c.in-Some.printed.flat in
+    let given = string_bytes c.args.raw.now.text.flat in
+    let same = subst (λ (o : Option ValueText). IfSome o (λ t. lexed (string_bytes t.flat) ≡ wrapped (tokens c.args.missing.now.after) (lexed given))) c.in-Some.is c.in_ok-printed.ensures.same in
+    if_new c.add_member.result
+    (λ s. AddsByText c.args.site.now.text.now (string_bytes s) (tokens c.args.site.now.pointer) c.args.missing.now.token.now flat)
+    (λ s. Carries given (string_bytes s))
+    (λ s h. carries_wrapped (tokens c.args.missing.now.after) given flat (string_bytes s) same h.3)
+    c.add_member.ensures.bytes
+
+pub returns-clause-assigned : goal.returns-clause-assigned
+returns-clause-assigned c =
+    let flat = string_bytes c.in-Some.printed.flat in
+    let e = subst (λ (o : Option ValueText). IfSome o (IsExpanded (tokens c.args.missing.now.after) (nodes (value_of_raw c.args.raw.now)))) c.in-Some.is c.in_ok-printed.ensures.value in
+    let front = tokens c.args.site.now.pointer in
+    let x = c.args.missing.now.token.now in
+    let after = tokens c.args.missing.now.after in
+    if_new c.append.result
+    (λ s. ReachedInText c.args.site.now.text.now (string_bytes s) front (ElementAppended x flat))
+    (λ s. AssignsInText c.args.site.now.text.now (front ++ x ∷ after) (nodes (value_of_raw c.args.raw.now)) (string_bytes s))
+    (λ s h. assigns_end c.args.site.now.text.now (string_bytes s) (front ++ x ∷ after) front x after e.0 (nodes (value_of_raw c.args.raw.now)) refl e.2 (of_element c.args.site.now.text.now (string_bytes s) front x flat e.0 e.1 h))
+    c.append.ensures.reached
+
+pub returns-clause-bytes : goal.returns-clause-bytes
+returns-clause-bytes c =
+    let old = c.args.site.now.text.now in
+    let flat = string_bytes c.in-Some.printed.flat in
+    let v = value_of_raw c.args.raw.now in
+    let e = subst (λ (o : Option ValueText). IfSome o (IsExpanded (tokens c.args.missing.now.after) (nodes v))) c.in-Some.is c.in_ok-printed.ensures.value in
+    let front = tokens c.args.site.now.pointer in
+    let x = c.args.missing.now.token.now in
+    let after = tokens c.args.missing.now.after in
+    if_new c.append.result
+    (λ s. AddsByText old (string_bytes s) front x flat)
+    (λ s. GrowsBytes old (string_bytes s) front x after v)
+    (λ s h. grows_bytes old (string_bytes s) front x after flat v e.0 e.1 e.2 h)
+    c.append.ensures.bytes
+
+pub returns-clause-carries : goal.returns-clause-carries
+returns-clause-carries c =
+    let flat = string_bytes c.in-Some.printed.flat in
+    let given = string_bytes c.args.raw.now.text.flat in
+    let same = subst (λ (o : Option ValueText). IfSome o (λ t. lexed (string_bytes t.flat) ≡ wrapped (tokens c.args.missing.now.after) (lexed given))) c.in-Some.is c.in_ok-printed.ensures.same in
+    if_new c.append.result
+    (λ s. AddsByText c.args.site.now.text.now (string_bytes s) (tokens c.args.site.now.pointer) c.args.missing.now.token.now flat)
+    (λ s. Carries given (string_bytes s))
+    (λ s h. carries_wrapped (tokens c.args.missing.now.after) given flat (string_bytes s) same h.3)
+    c.append.ensures.bytes

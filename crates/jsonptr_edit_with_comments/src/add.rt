@@ -1,0 +1,296 @@
+//! Where a new child comes in a text with comments. These are hints: no contract says that they are
+//! right.
+
+use crate::change::{Change, Comma};
+use crate::gap::gap_of;
+use crate::site::{Family, Texts};
+use jsonptr_json_edits::layout::slice;
+use jsonptr_json_edits::locate::{Extent, Span};
+use std::alloc::{AllocError, Global};
+
+/// A new child, as the text without comments has it after the edit.
+#[derive(Clone, Copy, Debug)]
+struct NewChild<'t> {
+    /// Its name, if it is a member.
+    name: &'t str,
+    /// What is between the name and the value.
+    colon: &'t str,
+    /// Its value.
+    value: &'t str,
+    /// The white space between a comma and the next child.
+    space: &'t str,
+}
+
+impl<'t> NewChild<'t> {
+    /// Returns the child with this white space, with comments in the array or object or not.
+    ///
+    /// Where a sibling has comments, the edit without comments copies white space that is as long.
+    fn of(texts: Texts<'t>, new: Extent, space: &'t str, is_commented: bool) -> NewChild<'t> {
+        let field = slice(texts.new, new.child.from, new.value);
+        let name_end = match field.rfind('"') {
+            Some(quote) => quote.saturating_add(1),
+            None => 0,
+        };
+        let colon = slice(field, name_end, field.len());
+        NewChild {
+            name: slice(field, 0, name_end),
+            colon: if is_commented && colon.len() > 2 {
+                ": "
+            } else {
+                colon
+            },
+            value: slice(texts.new, new.value, new.child.to),
+            space: if is_commented {
+                last_line(space)
+            } else {
+                space
+            },
+        }
+    }
+}
+
+/// Returns the white space from its last line break on. On one line, returns a space at most.
+fn last_line(space: &str) -> &str {
+    let Some(at) = space.rfind('\n') else {
+        return slice(space, 0, space.len().min(1));
+    };
+    let start = if slice(space, 0, at).ends_with('\r') {
+        at.saturating_sub(1)
+    } else {
+        at
+    };
+    slice(space, start, space.len())
+}
+
+/// A location of a new child.
+#[derive(Clone, Copy, Debug)]
+struct Location {
+    /// A comma that comes before it.
+    comma: Comma,
+    /// What is replaced.
+    was: Span,
+}
+
+/// Returns the change that adds the child at the position.
+///
+/// # Errors
+///
+/// [`AllocError`] if an allocation fails.
+pub fn addition(
+    alloc: Global,
+    texts: Texts<'_>,
+    family: &Family,
+    position: usize,
+) -> Result<Option<Change>, AllocError> {
+    let Some(new) = family.new.get(position) else {
+        return Ok(None);
+    };
+    let span = family.container;
+    let is_commented = slice(texts.text, span.from, span.to)
+        != slice(texts.old, span.from, span.to);
+    let Some(last) = family.old.last() else {
+        return first(alloc, texts, family, *new);
+    };
+    let Some(next) = family.old.get(position) else {
+        let space = space_before(texts, family, position);
+        let child = NewChild::of(texts, *new, space, is_commented);
+        return append(alloc, texts, family, *last, child);
+    };
+    let space = space_before(texts, family, position.saturating_add(1));
+    let child = NewChild::of(texts, *new, space, is_commented);
+    let from = match position.checked_sub(1) {
+        Some(before) => end_of(family, before),
+        None => family.container.from.saturating_add(1),
+    };
+    let gap = Span {
+        from,
+        to: next.child.from,
+    };
+    insert(alloc, texts, gap, child)
+}
+
+/// Returns the offset after the child at the position.
+fn end_of(family: &Family, position: usize) -> usize {
+    match family.old.get(position) {
+        Some(child) => child.child.to,
+        None => family.container.from.saturating_add(1),
+    }
+}
+
+/// Returns the white space between the comma and the child at the position, after the edit.
+fn space_before<'t>(texts: Texts<'t>, family: &Family, position: usize) -> &'t str {
+    let Some(before) = position.checked_sub(1) else {
+        return "";
+    };
+    match (family.new.get(before), family.new.get(position)) {
+        (Some(one), Some(two)) => {
+            let gap = slice(texts.new, one.child.to, two.child.from);
+            match gap.find(',') {
+                Some(comma) => slice(gap, comma.saturating_add(1), gap.len()),
+                None => "",
+            }
+        }
+        _ => "",
+    }
+}
+
+/// Returns the change that puts the child after the last one: after the comments on its line, with a
+/// trailing comma if that has one.
+fn append(
+    alloc: Global,
+    texts: Texts<'_>,
+    family: &Family,
+    last: Extent,
+    new: NewChild<'_>,
+) -> Result<Option<Change>, AllocError> {
+    let from = last.child.to;
+    let gap = gap_of(texts.text, from, family.container.to.saturating_sub(1));
+    let is_over_lines = new.space.contains('\n');
+    if gap.has_line_comment && !is_over_lines {
+        return put(
+            alloc,
+            at(from),
+            &[",", new.space, new.name, new.colon, new.value],
+        );
+    }
+    match gap.comma {
+        Some(comma) => {
+            let after = gap.tail.max(comma.saturating_add(1));
+            put(
+                alloc,
+                at(after),
+                &[new.space, new.name, new.colon, new.value, ","],
+            )
+        }
+        None => if is_over_lines && gap.tail > from {
+            let location = Location {
+                comma: Comma::Put(from),
+                was: empty(gap.tail),
+            };
+            put(
+                alloc,
+                location,
+                &[new.space, new.name, new.colon, new.value],
+            )
+        } else {
+            put(
+                alloc,
+                at(gap.tail),
+                &[",", new.space, new.name, new.colon, new.value],
+            )
+        },
+    }
+}
+
+/// Returns the change that puts the child into the gap before another one. Comments that are on lines
+/// of their own stay before that one.
+fn insert(
+    alloc: Global,
+    texts: Texts<'_>,
+    span: Span,
+    new: NewChild<'_>,
+) -> Result<Option<Change>, AllocError> {
+    let gap = gap_of(texts.text, span.from, span.to);
+    if gap.ends_line {
+        return if new.space.contains('\n') {
+            let comma = gap.comma.unwrap_or(span.from.saturating_sub(1));
+            let after = gap.tail.max(comma.saturating_add(1));
+            put(
+                alloc,
+                at(after),
+                &[new.space, new.name, new.colon, new.value, ","],
+            )
+        } else {
+            put(
+                alloc,
+                at(span.to),
+                &[new.name, new.colon, new.value, ",", new.space],
+            )
+        };
+    }
+    match gap.comma {
+        Some(comma) => put(
+            alloc,
+            at(comma.saturating_add(1)),
+            &[new.space, new.name, new.colon, new.value, ","],
+        ),
+        None => if gap.comments_end.is_some() {
+            put(
+                alloc,
+                at(span.from),
+                &[new.name, new.colon, new.value, ",", new.space],
+            )
+        } else {
+            put(
+                alloc,
+                at(span.to),
+                &[new.name, new.colon, new.value, ",", new.space],
+            )
+        },
+    }
+}
+
+/// Returns the change that puts the only child into an empty array or object, after its comments.
+fn first(
+    alloc: Global,
+    texts: Texts<'_>,
+    family: &Family,
+    new: Extent,
+) -> Result<Option<Change>, AllocError> {
+    let from = family.container.from.saturating_add(1);
+    let to = family.container.to.saturating_sub(1);
+    let end = texts.moved(family.container).to.saturating_sub(1);
+    let lead = slice(texts.new, from, new.child.from);
+    let body = slice(texts.new, new.child.from, new.child.to);
+    let trail = slice(texts.new, new.child.to, end);
+    let Some(after) = gap_of(texts.text, from, to).comments_end else {
+        return put(alloc, replacing(from, to), &[lead, body, trail]);
+    };
+    let rest = slice(texts.text, after, to);
+    if !lead.contains('\n') {
+        put(alloc, at(after), &[" ", body])
+    } else if rest.contains('\n') {
+        put(alloc, at(after), &[lead, body])
+    } else {
+        put(alloc, replacing(after, to), &[lead, body, trail])
+    }
+}
+
+/// Returns the empty span at the offset.
+fn empty(offset: usize) -> Span {
+    Span {
+        from: offset,
+        to: offset,
+    }
+}
+
+/// Returns the location at the offset.
+fn at(offset: usize) -> Location {
+    replacing(offset, offset)
+}
+
+/// Returns the location instead of what is between the offsets.
+fn replacing(from: usize, to: usize) -> Location {
+    Location {
+        comma: Comma::Same,
+        was: Span { from, to },
+    }
+}
+
+/// Returns the change that puts the texts to the location, one after another.
+fn put(alloc: Global, location: Location, parts: &[&str]) -> Result<Option<Change>, AllocError> {
+    let mut piece = String::new(alloc);
+    for part in parts {
+        piece.push_str(*part)?;
+    }
+    Ok(Some(Change {
+        comma: location.comma,
+        was: location.was,
+        piece,
+        child: Extent {
+            child: location.was,
+            value: location.was.from,
+        },
+        key: None,
+    }))
+}

@@ -1,0 +1,136 @@
+//! Assigning in a text with comments.
+ghost use Rattle.std.specs.Prelude.{IfOk, IfErr, string_bytes};
+ghost use Rattle.serde_json.specs.View.{view};
+ghost use Rattle.jsonptr.specs.Pointer.{tokens};
+ghost use Rattle.jsonptr.specs.Json.{nodes};
+ghost use Rattle.jsonptr_edit_in_text.specs.Bytes.{AssignsBytes};
+ghost use Rattle.jsonptr_edit_in_text.specs.Carrying.{value_of_raw, Carries};
+ghost use Rattle.jsonptr_edit_in_text.specs.EditInText.{AssignsInText, IsAssignError};
+ghost use Rattle.jsonptr_edit_with_comments.specs.EditWithComments.{Becomes, EditsAs, IsWithCommentsError};
+ghost use Rattle.jsonptr_edit_with_comments.specs.Edits.{IsOneEdit};
+
+use crate::error::{WithCommentsError, failed, read_past};
+use crate::put::put_edit;
+use crate::site::Texts;
+use jsonptr::{Pointer, assign};
+use jsonptr_edit_in_text::{RawValue, assign_in_place, assign_raw_in_place};
+use jsonptr_json_edits::buffers::Buffers;
+use serde_json::Value;
+use std::alloc::Global;
+
+/// Assigns the value at the pointer in the document that the text with comments contains, as
+/// [`assign_in_place`] does in a text without comments.
+///
+/// | Edit | Comments |
+/// |---|---|
+/// | a value is replaced | those inside the old value go with it; all others stay |
+/// | a member or an element is added at the end | all stay; those on the line of the last child stay on its line |
+///
+/// A list over lines with a trailing comma has one after the edit, and others have none. An empty
+/// container keeps its comments, and the new child comes after them.
+///
+/// Reads the text with comments once and the result once, beside what [`assign_in_place`] reads.
+///
+/// # Errors
+///
+/// - [`WithCommentsError::Comment`] if a block comment is not closed.
+/// - [`WithCommentsError::Failed`] with the error of the edit of the text without comments.
+/// - [`WithCommentsError::NotInPlace`] if the edit is possible, but is not made in one piece of the text
+///   with comments.
+/// - [`WithCommentsError::Memory`] if an allocation fails before or after that edit.
+///
+/// # Examples
+///
+/// ```rust
+/// let text = "{\n  \"sizes\": [\n    1, // one\n    2 // two\n  ]\n}\n";
+/// let mut buffers = Buffers::new(alloc);
+/// let path = Pointer::parse("/sizes/-")?;
+/// let new = assign_with_comments(alloc, &mut buffers, text, path, Value::from(3))?;
+/// let want = "{\n  \"sizes\": [\n    1, // one\n    2, // two\n    3\n  ]\n}\n";
+/// assert_eq!(rt; new.as_str(), want);
+/// ```
+pub fn assign_with_comments(
+    alloc: Global,
+    buffers: &mut Buffers,
+    text: &str,
+    pointer: Pointer<'_>,
+    value: Value,
+) -> Result<String, WithCommentsError<assign::Error>>
+    ensures assigned { IfOk result (λ s. Becomes
+        (λ old new. AssignsInText old (tokens pointer.entry) (nodes (view value)) new) text.now (string_bytes s)) }
+    ensures edits { IfOk result (λ s. EditsAs
+        (λ old new. AssignsBytes old (tokens pointer.entry) (view value) new) text.now (string_bytes s)) }
+    ensures bytes { IfOk result (λ s. IsOneEdit text.now (string_bytes s)) }
+    ensures refused { IfErr result (IsWithCommentsError
+        (λ old new. AssignsInText old (tokens pointer.entry) (nodes (view value)) new)
+        (λ old e. IsAssignError old (tokens pointer.entry) (view value) e) text.now) }
+{
+    let bare = read_past(alloc, text)?;
+    let old = bare.as_str();
+    match assign_in_place(alloc, buffers, old, pointer, value) {
+        Ok(new) => {
+            let texts = Texts {
+                text,
+                old,
+                new: new.as_str(),
+            };
+            match put_edit(alloc, buffers, texts, pointer)? {
+                Some(made) => Ok(made),
+                None => Err(WithCommentsError::NotInPlace),
+            }
+        }
+        Err(error) => Err(failed(error)),
+    }
+}
+
+/// Assigns the value with its own text at the pointer, as [`assign_with_comments`] does: with its members
+/// in their order, and its numbers as they are written.
+///
+/// # Errors
+///
+/// Those of [`assign_with_comments`].
+///
+/// # Examples
+///
+/// ```rust
+/// let mut buffers = Buffers::new(alloc);
+/// let price = RawValue::parse(alloc, "1.10")?;
+/// let path = Pointer::parse("/price")?;
+/// let text = "{\"price\": 1.00, /* EUR */}";
+/// let new = assign_raw_with_comments(alloc, &mut buffers, text, path, &price)?;
+/// assert_eq!(rt; new.as_str(), "{\"price\": 1.10, /* EUR */}");
+/// ```
+pub fn assign_raw_with_comments(
+    alloc: Global,
+    buffers: &mut Buffers,
+    text: &str,
+    pointer: Pointer<'_>,
+    value: &RawValue,
+) -> Result<String, WithCommentsError<assign::Error>>
+    ensures assigned { IfOk result (λ s. Becomes
+        (λ old new. AssignsInText old (tokens pointer.entry) (nodes (value_of_raw value.now)) new) text.now (string_bytes s)) }
+    ensures edits { IfOk result (λ s. EditsAs
+        (λ old new. AssignsBytes old (tokens pointer.entry) (value_of_raw value.now) new
+        × Carries (string_bytes value.now.text.flat) new) text.now (string_bytes s)) }
+    ensures bytes { IfOk result (λ s. IsOneEdit text.now (string_bytes s)) }
+    ensures refused { IfErr result (IsWithCommentsError
+        (λ old new. AssignsInText old (tokens pointer.entry) (nodes (value_of_raw value.now)) new)
+        (λ old e. IsAssignError old (tokens pointer.entry) (value_of_raw value.now) e) text.now) }
+{
+    let bare = read_past(alloc, text)?;
+    let old = bare.as_str();
+    match assign_raw_in_place(alloc, buffers, old, pointer, value) {
+        Ok(new) => {
+            let texts = Texts {
+                text,
+                old,
+                new: new.as_str(),
+            };
+            match put_edit(alloc, buffers, texts, pointer)? {
+                Some(made) => Ok(made),
+                None => Err(WithCommentsError::NotInPlace),
+            }
+        }
+        Err(error) => Err(failed(error)),
+    }
+}

@@ -1,0 +1,74 @@
+//! Deleting in a text with comments.
+ghost use Rattle.std.specs.Prelude.{IfOk, IfErr, IfSome, MatchOption, string_bytes};
+ghost use Rattle.jsonptr.specs.Pointer.{tokens};
+ghost use Rattle.jsonptr_edit_in_text.specs.Bytes.{DeletesBytes};
+ghost use Rattle.jsonptr_edit_in_text.specs.EditInText.{DeletesInText, IsEditReadError};
+ghost use Rattle.jsonptr_edit_with_comments.specs.EditWithComments.{Becomes, EditsAs, Lacks, IsWithCommentsError};
+ghost use Rattle.jsonptr_edit_with_comments.specs.Edits.{IsOneEdit};
+
+use crate::error::{WithCommentsError, failed, read_past};
+use crate::put::put_edit;
+use crate::site::Texts;
+use jsonptr::Pointer;
+use jsonptr_edit_in_text::delete_in_place;
+use jsonptr_json_edits::buffers::Buffers;
+use std::alloc::Global;
+use std::convert::Infallible;
+
+/// Deletes the value that the pointer resolves to in the document that the text with comments contains, as
+/// [`delete_in_place`] does in a text without comments. Returns `None` if it resolves to nothing.
+///
+/// The comments inside the child go with it, and those after it on its line, also after its comma. Those
+/// on lines above it stay. Where it shares a line with a child that follows, the comments between that
+/// one and the comma stay. If the last child is removed, the one before it keeps its comma only if the
+/// list has a trailing comma.
+///
+/// # Errors
+///
+/// - [`WithCommentsError::Comment`] if a block comment is not closed.
+/// - [`WithCommentsError::Failed`] if `serde_json` does not read the text without comments.
+/// - [`WithCommentsError::NotInPlace`] if the edit is possible, but is not made in one piece of the text
+///   with comments, as for two members with the same key.
+/// - [`WithCommentsError::Memory`] if an allocation fails before or after that edit.
+///
+/// # Examples
+///
+/// ```rust
+/// let text = "[\n  1, // one\n  // above two\n  2, // two\n  3\n]\n";
+/// let mut buffers = Buffers::new(alloc);
+/// let new = delete_with_comments(alloc, &mut buffers, text, Pointer::parse("/1")?)?;
+/// let want = "[\n  1, // one\n  // above two\n  3\n]\n";
+/// assert_eq!(rt; new.ok_or("a value")?.as_str(), want);
+/// ```
+pub fn delete_with_comments(
+    alloc: Global,
+    buffers: &mut Buffers,
+    text: &str,
+    pointer: Pointer<'_>,
+) -> Result<Option<String>, WithCommentsError<Infallible>>
+    ensures deleted { IfOk result (λ o. MatchOption o (Lacks text.now (tokens pointer.entry))
+        (λ s. Becomes (λ old new. DeletesInText old (tokens pointer.entry) new) text.now (string_bytes s))) }
+    ensures edits { IfOk result (λ o. IfSome o (λ s. EditsAs
+        (λ old new. DeletesBytes old (tokens pointer.entry) new) text.now (string_bytes s))) }
+    ensures bytes { IfOk result (λ o. IfSome o (λ s. IsOneEdit text.now (string_bytes s))) }
+    ensures refused { IfErr result (IsWithCommentsError
+        (λ old new. DeletesInText old (tokens pointer.entry) new) (λ old e. IsEditReadError old e) text.now) }
+{
+    let bare = read_past(alloc, text)?;
+    let old = bare.as_str();
+    match delete_in_place(alloc, buffers, old, pointer) {
+        Ok(None) => Ok(None),
+        Ok(Some(new)) => {
+            let texts = Texts {
+                text,
+                old,
+                new: new.as_str(),
+            };
+            match put_edit(alloc, buffers, texts, pointer)? {
+                Some(made) => Ok(Some(made)),
+                None => Err(WithCommentsError::NotInPlace),
+            }
+        }
+        Err(error) => Err(failed(error)),
+    }
+}

@@ -1,0 +1,94 @@
+//! An edit of a text without comments, put into the text with them.
+ghost use Rattle.std.specs.Prelude.{IfOk, IfSome, string_bytes};
+ghost use Rattle.jsonptr_edit_with_comments.specs.Edits.{IsLaidOut, IsOneEdit};
+
+use crate::add::addition;
+use crate::change::{Change, Comma, changed};
+use crate::remove::removal;
+use crate::same::is_laid_out;
+use crate::site::{Family, Site, Texts, site_of};
+use jsonptr::Pointer;
+use jsonptr_json_edits::buffers::Buffers;
+use jsonptr_json_edits::layout::slice;
+use jsonptr_json_edits::locate::{Extent, Span};
+use std::alloc::{AllocError, Global};
+
+/// Returns the text with comments after the edit at the pointer, or `None` if its place is not found.
+///
+/// # Errors
+///
+/// [`AllocError`] if an allocation fails.
+pub fn put_edit(
+    alloc: Global,
+    buffers: &mut Buffers,
+    texts: Texts<'_>,
+    pointer: Pointer<'_>,
+) -> Result<Option<String>, AllocError>
+    ensures laid_out { IfOk result
+        (λ made. IfSome made (λ s. IsLaidOut texts.entry.new.now (string_bytes s))) }
+    ensures bytes { IfOk result
+        (λ made. IfSome made (λ s. IsOneEdit texts.entry.text.now (string_bytes s))) }
+{
+    let Some(site) = site_of(alloc, buffers, texts, pointer)? else {
+        return Ok(None);
+    };
+    let Some(change) = change_of(alloc, texts, site)? else {
+        return Ok(None);
+    };
+    let Some(made) = changed(alloc, buffers, texts.text, &change)? else {
+        return Ok(None);
+    };
+    if is_laid_out(alloc, buffers, texts.new, made.as_str())? {
+        Ok(Some(made))
+    } else {
+        Ok(None)
+    }
+}
+
+/// Returns the change that makes the edit, or `None` if it is not found.
+fn change_of(alloc: Global, texts: Texts<'_>, site: Site) -> Result<Option<Change>, AllocError> {
+    match site {
+        Site::Replaced(span) => Ok(Some(replacement(alloc, texts, span)?)),
+        Site::Added(family, position) => addition(alloc, texts, &family, position),
+        Site::Removed(family, position, key) => removed(alloc, texts, &family, position, key),
+    }
+}
+
+/// Returns the change that replaces the value at the span.
+fn replacement(alloc: Global, texts: Texts<'_>, span: Span) -> Result<Change, AllocError> {
+    let new = texts.moved(span);
+    Ok(Change {
+        comma: Comma::Same,
+        was: span,
+        piece: String::from_str(alloc, slice(texts.new, new.from, new.to))?,
+        child: Extent {
+            child: span,
+            value: span.from,
+        },
+        key: None,
+    })
+}
+
+/// Returns the change that removes the child at the position. A member has the key.
+fn removed(
+    alloc: Global,
+    texts: Texts<'_>,
+    family: &Family,
+    position: usize,
+    key: String,
+) -> Result<Option<Change>, AllocError> {
+    let Some(child) = family.old.get(position) else {
+        return Ok(None);
+    };
+    let Some(removal) = removal(texts, family, position) else {
+        return Ok(None);
+    };
+    let is_object = slice(texts.old, family.container.from, family.container.to).starts_with('{');
+    Ok(Some(Change {
+        comma: removal.comma,
+        was: removal.was,
+        piece: String::new(alloc),
+        child: *child,
+        key: if is_object { Some(key) } else { None },
+    }))
+}

@@ -1,0 +1,73 @@
+//! Texts with the same tokens.
+ghost use Rattle.std.specs.Prelude.{◌≡◌, IfOk, IsTrue};
+ghost use Rattle.json.specs.Lex.{tokens};
+ghost use Rattle.json.specs.Reads.{token_of};
+ghost use Rattle.jsonptr_edit_with_comments.specs.Edits.{IsLaidOut};
+
+use json::{Reader, Token};
+use jsonptr::Fault;
+use jsonptr_comments::without_comments;
+use jsonptr_json_edits::buffers::Buffers;
+use std::alloc::{AllocError, Global};
+
+/// Returns whether the text without its comments has the tokens of `new`.
+///
+/// # Errors
+///
+/// [`AllocError`] if an allocation fails.
+pub fn is_laid_out(
+    alloc: Global,
+    buffers: &mut Buffers,
+    new: &str,
+    text: &str,
+) -> Result<bool, AllocError>
+    ensures { IfOk result (λ b. IsTrue b → IsLaidOut new.now text.now) }
+{
+    match without_comments(alloc, text) {
+        Ok(json) => have_same_tokens(buffers, json.as_str(), new),
+        Err(Fault::Refused(_)) => Ok(false),
+        Err(Fault::Memory(error)) => Err(error),
+    }
+}
+
+/// Returns whether the texts have the same tokens.
+fn have_same_tokens(buffers: &mut Buffers, text: &str, other: &str) -> Result<bool, AllocError>
+    ensures { IfOk result (λ b. IsTrue b → tokens text.now ≡ tokens other.now) }
+{
+    let mut one = Reader::new(text, &mut buffers.old)?;
+    let mut two = Reader::new(other, &mut buffers.new)?;
+    Ok(agree(&mut one, &mut two))
+}
+
+/// Returns whether both readers have the same tokens left.
+fn agree(one: &mut Reader<'_>, two: &mut Reader<'_>) -> bool
+    ensures { IsTrue result → one.old ≡ two.old }
+{
+    while let Some(token) = one.next() {
+        let Some(twin) = two.next() else {
+            return false;
+        };
+        if !are_same(token, twin) {
+            return false;
+        }
+    }
+    two.next().is_none()
+}
+
+/// Returns whether the tokens are equal.
+fn are_same(token: Token<'_>, twin: Token<'_>) -> bool
+    ensures { IsTrue result → token_of twin.entry ≡ token_of token.entry }
+{
+    match (token, twin) {
+        (Token::Key(text), Token::Key(other)) => text == other,
+        (Token::String(text), Token::String(other)) => text == other,
+        (Token::Number(text), Token::Number(other)) => text == other,
+        (Token::Bool(value), Token::Bool(other)) => value == other,
+        (Token::BeginObject, Token::BeginObject) => true,
+        (Token::EndObject, Token::EndObject) => true,
+        (Token::BeginArray, Token::BeginArray) => true,
+        (Token::EndArray, Token::EndArray) => true,
+        (Token::Null, Token::Null) => true,
+        _ => false,
+    }
+}

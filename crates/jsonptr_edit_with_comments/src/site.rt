@@ -1,0 +1,190 @@
+//! What an edit changes in a text without comments. These are hints: no contract says that they are
+//! right.
+
+use jsonptr::Pointer;
+use jsonptr_in_text::selectors::selectors_of;
+use jsonptr_json_edits::buffers::Buffers;
+use jsonptr_json_edits::edit::CheckError;
+use jsonptr_json_edits::layout::slice;
+use jsonptr_json_edits::locate::{Extent, Place, Span, children, locate};
+use jsonptr_json_search::selector::Selector;
+use std::alloc::{AllocError, Global};
+
+/// A text with comments, the same text without them, and that one after an edit.
+#[derive(Clone, Copy, Debug)]
+pub struct Texts<'t> {
+    /// The text with comments.
+    pub text: &'t str,
+    /// The text without comments. It has the same length.
+    pub old: &'t str,
+    /// The text without comments, after the edit.
+    pub new: &'t str,
+}
+
+impl<'t> Texts<'t> {
+    /// Returns where a value is after the edit in it.
+    pub fn moved(&self, span: Span) -> Span {
+        let to = span.to.saturating_add(self.new.len());
+        Span {
+            from: span.from,
+            to: to.saturating_sub(self.old.len()),
+        }
+    }
+}
+
+/// An array or an object, and its children before the edit and after it.
+#[derive(Debug, Drop)]
+pub struct Family {
+    /// Where the array or object is, before the edit.
+    pub container: Span,
+    /// Its children before the edit.
+    pub old: Vec<Extent>,
+    /// Its children after the edit.
+    pub new: Vec<Extent>,
+}
+
+/// What an edit changes.
+#[derive(Debug, Drop)]
+pub enum Site {
+    /// The value at the span is replaced.
+    Replaced(Span),
+    /// A child is added, which has this position.
+    Added(Family, usize),
+    /// The child at the position is removed. A member has this key.
+    Removed(Family, usize, String),
+}
+
+/// What the last token of a pointer leads to.
+#[derive(Debug, Drop)]
+struct Last {
+    /// The value.
+    value: Span,
+    /// The array or object that has it.
+    container: Span,
+    /// Its position among all children.
+    position: usize,
+    /// How many children the token selects.
+    count: usize,
+    /// The token, decoded.
+    key: String,
+}
+
+/// Returns what the edit at the pointer changes, or `None` if that is not found.
+///
+/// # Errors
+///
+/// [`AllocError`] if an allocation fails.
+pub fn site_of(
+    alloc: Global,
+    buffers: &mut Buffers,
+    texts: Texts<'_>,
+    pointer: Pointer<'_>,
+) -> Result<Option<Site>, AllocError> {
+    let mut selectors = selectors_of(alloc, pointer)?;
+    let Some(place) = place_of(alloc, buffers, texts.old, &selectors)? else {
+        return Ok(None);
+    };
+    if place.followed < selectors.len() {
+        return site_of_missing(alloc, buffers, texts, place.value);
+    }
+    let Some(selector) = selectors.pop() else {
+        return Ok(Some(Site::Replaced(place.value)));
+    };
+    let last = Last {
+        value: place.value,
+        container: place.container,
+        position: place.positions.last().copied().unwrap_or(0),
+        count: place.same.len(),
+        key: selector.key,
+    };
+    site_of_child(alloc, buffers, texts, last)
+}
+
+/// Returns what the edit changes at a pointer that leads no further than to the value at the span.
+fn site_of_missing(
+    alloc: Global,
+    buffers: &mut Buffers,
+    texts: Texts<'_>,
+    span: Span,
+) -> Result<Option<Site>, AllocError> {
+    let there = slice(texts.old, span.from, span.to);
+    if !there.starts_with('{') && !there.starts_with('[') {
+        return Ok(Some(Site::Replaced(span)));
+    }
+    let Some(family) = family_of(alloc, buffers, texts, span)? else {
+        return Ok(None);
+    };
+    let position = family.old.len();
+    Ok(Some(Site::Added(family, position)))
+}
+
+/// Returns what the edit changes at a pointer that leads to a child.
+fn site_of_child(
+    alloc: Global,
+    buffers: &mut Buffers,
+    texts: Texts<'_>,
+    last: Last,
+) -> Result<Option<Site>, AllocError> {
+    let Some(family) = family_of(alloc, buffers, texts, last.container)? else {
+        return Ok(None);
+    };
+    let (old, new) = (family.old.len(), family.new.len());
+    if new == old {
+        return Ok(Some(Site::Replaced(last.value)));
+    }
+    if new > old {
+        return Ok(Some(Site::Added(family, last.position)));
+    }
+    if last.count > 1 {
+        return Ok(None);
+    }
+    Ok(Some(Site::Removed(family, last.position, last.key)))
+}
+
+/// Returns the array or object at the span, which has the edit in it, with its children.
+fn family_of(
+    alloc: Global,
+    buffers: &mut Buffers,
+    texts: Texts<'_>,
+    container: Span,
+) -> Result<Option<Family>, AllocError> {
+    let Some(old) = children_of(alloc, buffers, texts.old, container)? else {
+        return Ok(None);
+    };
+    let Some(new) = children_of(alloc, buffers, texts.new, texts.moved(container))? else {
+        return Ok(None);
+    };
+    Ok(Some(Family {
+        container,
+        old,
+        new,
+    }))
+}
+
+/// Returns where the selectors lead in the text, or `None` if the text is not JSON.
+fn place_of(
+    alloc: Global,
+    buffers: &mut Buffers,
+    text: &str,
+    selectors: &[Selector],
+) -> Result<Option<Place>, AllocError> {
+    match locate(alloc, &mut buffers.old, text, selectors) {
+        Ok(place) => Ok(Some(place)),
+        Err(CheckError::Mismatch) => Ok(None),
+        Err(CheckError::Memory) => Err(AllocError),
+    }
+}
+
+/// Returns where the children of the array or object are, or `None` if it is neither.
+fn children_of(
+    alloc: Global,
+    buffers: &mut Buffers,
+    text: &str,
+    container: Span,
+) -> Result<Option<Vec<Extent>>, AllocError> {
+    match children(alloc, &mut buffers.old, text, container) {
+        Ok(extents) => Ok(Some(extents)),
+        Err(CheckError::Mismatch) => Ok(None),
+        Err(CheckError::Memory) => Err(AllocError),
+    }
+}

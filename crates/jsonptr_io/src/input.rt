@@ -1,0 +1,54 @@
+//! Reading a reader to its end.
+ghost use Rattle.std.specs.Prelude.{◌≡◌, ◌≢◌, [], IfSome, IfOk, IfErr, OnOk, OnErr, Some};
+ghost use Rattle.std.specs.Io.KnownBytes.{Consumes, IsAtEnd};
+ghost use Rattle.jsonptr_io.specs.Streams.{ReadsSome};
+ghost use Rattle.jsonptr_io.specs.declared.input.InputError.{InputError};
+
+use std::alloc::{AllocError, Global};
+use std::io::{ErrorKind, Read};
+
+/// Why the input cannot be read.
+#[derive(Debug, Clone, Copy, PartialEq, Eq)]
+pub enum InputError {
+    /// There is no memory for the input.
+    Memory(AllocError),
+    /// A read failed, and was not interrupted.
+    Read,
+}
+
+/// The most bytes that one read returns.
+const CHUNK_LEN: usize = 4096;
+
+/// Reads all bytes that are left. Repeats a read that was interrupted.
+///
+/// # Errors
+///
+/// [`InputError::Read`] if a read fails, and [`InputError::Memory`] if there is no memory for the
+/// bytes. An input without bytes needs no memory. An error may come after some bytes are read.
+pub fn read_all<R: Read>(alloc: Global, input: &mut R) -> Result<Vec<u8>, InputError>
+    ensures bytes { IfOk result
+        (λ v. Consumes (R.remaining input.old) (R.remaining input.new) v.items) }
+    ensures all { IfOk result (λ v. IfSome (R.remaining input.old) (λ xs. v.items ≡ xs)) }
+    ensures end { OnOk result (IsAtEnd (R.remaining input.new)) }
+    ensures refused { OnErr result (ReadsSome (R.remaining input.old) (R.remaining input.new)) }
+    // No bytes need no allocation.
+    ensures no_memory { IfErr result
+        (λ e. e ≢ InputError.Read → R.remaining input.old ≢ Some []) }
+{
+    let mut bytes = Vec::new(alloc);
+    let mut chunk = [0u8; CHUNK_LEN];
+    for _turn in 0..u64::MAX {
+        match input.read(&mut chunk) {
+            Ok(0) => return Ok(bytes),
+            Ok(n) => bytes
+                .extend_from_slice(&chunk[..n])
+                .map_err(InputError::Memory)?,
+            Err(e) => {
+                if e.kind() != ErrorKind::Interrupted {
+                    return Err(InputError::Read);
+                }
+            }
+        }
+    }
+    Err(InputError::Read)
+}

@@ -1,0 +1,77 @@
+//! Reading the next line.
+ghost use Rattle.std.specs.Prelude.{IfOk, OnErr};
+ghost use Rattle.jsonptr_io.specs.Lines.{IsNextLine};
+ghost use Rattle.jsonptr_io.specs.PrivateLines.{CutsBreak};
+ghost use Rattle.jsonptr_io.specs.Streams.{ReadsSome};
+
+use std::alloc::AllocError;
+use std::io::{BufRead, ErrorKind};
+
+/// Why the next line cannot be read.
+#[derive(Debug, Clone, Copy, PartialEq, Eq)]
+pub enum NextLineError {
+    /// There is no memory for the line.
+    Memory(AllocError),
+    /// A read failed.
+    Read,
+}
+
+/// How the line that was read ends.
+#[derive(Debug, Clone, Copy, PartialEq, Eq)]
+pub enum Ending {
+    /// In a line break, `\n`.
+    Break,
+    /// At the end of the input, without a line break. It has at least one byte.
+    Input,
+    /// There is no further line: the input is at its end.
+    Nothing,
+}
+
+/// Reads the next line into `line`, without its line break. What `line` had before is removed, and
+/// its memory is used again.
+///
+/// # Errors
+///
+/// [`NextLineError::Read`] if a read fails, and [`NextLineError::Memory`] if there is no memory for the line.
+/// Some bytes may have been read.
+///
+/// # Examples
+///
+/// ```rust
+/// let mut input = b"one\ntwo".as_slice();
+/// let mut line = Vec::new(alloc);
+/// assert_eq!(rt; next_line(&mut input, &mut line).ok(), Some(Ending::Break));
+/// assert_eq!(rt; line.as_slice(), b"one".as_slice());
+/// assert_eq!(rt; next_line(&mut input, &mut line).ok(), Some(Ending::Input));
+/// assert_eq!(rt; line.as_slice(), b"two".as_slice());
+/// let last = next_line(&mut input, &mut line).ok();
+/// assert_eq!(rt; last, Some(Ending::Nothing));
+/// ```
+pub fn next_line<R: BufRead>(input: &mut R, line: &mut Vec<u8>) -> Result<Ending, NextLineError>
+    ensures line { IfOk result
+        (IsNextLine (R.remaining input.old) (R.remaining input.new) line.new.items) }
+    ensures refused { OnErr result (ReadsSome (R.remaining input.old) (R.remaining input.new)) }
+{
+    line.clear();
+    match input.read_until(b'\n', line) {
+        Ok(0) => Ok(Ending::Nothing),
+        Ok(_) => Ok(cut_break(line)),
+        Err(error) if error.kind() == ErrorKind::OutOfMemory => Err(NextLineError::Memory(
+            AllocError,
+        )),
+        Err(_) => Err(NextLineError::Read),
+    }
+}
+
+/// Removes the line break from the end of the line. Returns how the line ended.
+fn cut_break(line: &mut Vec<u8>) -> Ending
+    ensures { CutsBreak line.old.items line.new.items result }
+{
+    match line.last() {
+        Some(b'\n') => {
+            let _ = line.pop();
+            Ending::Break
+        }
+        _ => Ending::Input,
+    }
+}

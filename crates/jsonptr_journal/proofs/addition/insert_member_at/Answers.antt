@@ -1,9 +1,0 @@
-use Rattle.std.proofs.Common.{refl}
-use Rattle.jsonptr_journal.specs.Location.{path_of, contents_of}
-use Rattle.jsonptr_journal.proofs.ThereLemmas.{same_at}
-use Rattle.jsonptr_journal.proofs.addition.insert_member_at.Goals as goal
-
-pub returns-clause-unchanged : goal.returns-clause-unchanged
-returns-clause-unchanged g c =
-    let made = (rw (c.in-Ok.is) at (c.node_mut.follows.holds c.insert_member.new.node)) refl in
-    same_at c.insert_member.result (path_of c.args.object.now) (g.D.NodeMut.contents c.args.doc.now) _ (contents_of c.in-Ok.node.now) (contents_of c.insert_member.new.node) c.in-Ok.ensures.value.0 made c.insert_member.ensures.unchanged

@@ -1,2 +1,0 @@
-pub mod LineLemmas
-mod WholeLemmas

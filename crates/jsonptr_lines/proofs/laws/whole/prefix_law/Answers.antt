@@ -1,5 +1,0 @@
-use Rattle.jsonptr_lines.proofs.WholeLemmas.{prefix_is}
-use Rattle.jsonptr_lines.proofs.laws.whole.prefix_law.Goals as goal
-
-pub returns : goal.returns
-returns c = prefix_is

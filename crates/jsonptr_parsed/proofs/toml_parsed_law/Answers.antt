@@ -1,8 +1,0 @@
-use Rattle.jsonptr_parsed.proofs.TomlLemmas.{ascends_read, ascends_read_document}
-use Rattle.jsonptr_parsed.proofs.toml_parsed_law.Goals as goal
-
-pub returns-clause-value : goal.returns-clause-value
-returns-clause-value c = ascends_read
-
-pub returns-clause-document : goal.returns-clause-document
-returns-clause-document c = ascends_read_document

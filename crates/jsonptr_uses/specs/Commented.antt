@@ -1,0 +1,18 @@
+-- A setting of a JSON text with comments.
+use Rattle.std.specs.Prelude.{List, ⊤}
+use Rattle.serde_json.specs.Data.{Data}
+use Rattle.jsonptr.specs.Text.{Text}
+use Rattle.jsonptr_comments.specs.Comments.{IsWithoutComments, IsUnterminated}
+use Rattle.jsonptr_in_text.specs.InText.{FindsInText, IsInTextError}
+use Rattle.jsonptr_uses.specs.declared.commented.SettingError.{SettingError}
+use Rattle.jsonptr_uses.specs.declared.commented.SettingError.TheVariants.{Comment, InText, Memory}
+
+-- `HasSetting text tokens v`: without its comments, the text reads as a document in which `tokens` lead to `v`
+abbrev pub HasSetting : Text → List Text → Data → Type 0
+HasSetting text tokens v = (json : Text) × IsWithoutComments text json × FindsInText json tokens v
+
+-- `IsSettingError text tokens e`: `e` is why there is no such value, if it is not for memory
+abbrev pub IsSettingError : Text → List Text → SettingError → Type 0
+IsSettingError text tokens (Comment e) = IsUnterminated text e.offset
+IsSettingError text tokens (InText e) = (json : Text) × IsWithoutComments text json × IsInTextError json tokens e
+IsSettingError text tokens (Memory e) = ⊤

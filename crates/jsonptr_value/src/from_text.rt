@@ -1,0 +1,80 @@
+//! Reading a JSON value from a text.
+ghost use Rattle.std.specs.Prelude.{◌≡◌, Some, None, Err, IfOk};
+ghost use Rattle.serde_json.specs.Read.{read as spec_read};
+ghost use Rattle.serde_json.specs.View.{view};
+ghost use Rattle.jsonptr_tree.specs.Json.{HasSortedKeys};
+ghost use Rattle.jsonptr_value.specs.declared.from_text.ReadError.TheVariants.{NotJson};
+
+use json::Invalid;
+use serde_json::Value;
+use std::alloc::{AllocError, AllocFailed, Global};
+
+/// Why a text is not read as a JSON value.
+#[derive(Clone, Copy, Debug, Drop, PartialEq, Eq)]
+pub enum ReadError {
+    /// `serde_json` does not read the text.
+    NotJson,
+    /// An allocation failed.
+    Memory,
+}
+
+impl From<Invalid> for ReadError {
+    ghost use Rattle.std.specs.Prelude.{◌≡◌};
+    ghost use Rattle.jsonptr_value.specs.declared.from_text.ReadError.TheVariants.{NotJson};
+
+    ghost from_gives = { λ _ error. error ≡ NotJson };
+
+    fn from(_invalid: Invalid) -> ReadError {
+        ReadError::NotJson
+    }
+}
+
+impl From<AllocError> for ReadError {
+    ghost use Rattle.std.specs.Prelude.{◌≡◌};
+    ghost use Rattle.jsonptr_value.specs.declared.from_text.ReadError.TheVariants.{Memory};
+
+    ghost from_gives = { λ _ error. error ≡ Memory };
+
+    fn from(_error: AllocError) -> ReadError {
+        ReadError::Memory
+    }
+}
+
+impl<T: Drop> From<AllocFailed<T>> for ReadError {
+    ghost use Rattle.std.specs.Prelude.{◌≡◌};
+    ghost use Rattle.jsonptr_value.specs.declared.from_text.ReadError.TheVariants.{Memory};
+
+    ghost from_gives = { λ _ error. error ≡ Memory };
+
+    fn from(_error: AllocFailed<T>) -> ReadError {
+        ReadError::Memory
+    }
+}
+
+/// Reads the JSON value that the text is, as `Value::from_str` does. The keys of each of its objects
+/// are sorted.
+///
+/// # Errors
+///
+/// [`ReadError::NotJson`] if `serde_json` does not read the text, and [`ReadError::Memory`] if an
+/// allocation fails.
+///
+/// # Examples
+///
+/// ```rust
+/// let value = jsonptr_value::read(alloc, "[1, 2]")?;
+/// assert_eq!(rt; value.as_array().map(Vec::len), Some(2));
+/// let error = jsonptr_value::read(alloc, "[1, 2").err();
+/// assert_eq!(rt; error, Some(jsonptr_value::ReadError::NotJson));
+/// ```
+pub fn read(alloc: Global, text: &str) -> Result<Value, ReadError>
+    ensures value { IfOk result (λ v. spec_read text.now ≡ Some (view v)) }
+    ensures sorted { IfOk result (λ v. HasSortedKeys (view v)) }
+    ensures refused { result ≡ Err NotJson → spec_read text.now ≡ None }
+{
+    match Value::from_str(alloc, text) {
+        Ok(value) => Ok(value),
+        Err(error) if error.is_memory() => Err(ReadError::Memory),
+        Err(_) => Err(ReadError::NotJson),
+    }
+}
