@@ -594,7 +594,7 @@ def edits_in_toml():
         yield edited("assign in toml", text, pointer, value, answer=f"in place {new}")
     yield edited("assign in toml", text, "/t/b/3", "0", answer=ASSIGN_OUT_OF_BOUNDS.format(4))
     yield edited("assign in toml", text, "/a/b", "0", answer='rewritten [a]\nb = 0\n\n[t]\nb = [1, 2]\n')
-    yield edited("assign in toml", "", "/a" * 82, "0", answer="the values of the new document nest deeper than 80")
+    yield edited("assign in toml", "", "/a" * 82, "0", answer="values of the document would nest deeper than 80")
     deleted = [
         ("/a", text[text.index("\n[t]") :]), ("/t/b/0", text.replace("  1, # x\n", "")), ("/t", "# c\na = 1 # one\n"),
     ]
@@ -603,9 +603,9 @@ def edits_in_toml():
     yield edited("delete in toml", "[a.b]\nc = 1\n", "/a/b", answer="in place [a]\n")
     yield edited("delete in toml", text, "/x", answer="delete failed: json pointer does not resolve")
     for call in ("assign in toml", "delete in toml"):
-        yield edited(call, "a = ", "/a", "1", answer="not TOML")
+        yield edited(call, "a = ", "/a", "1", answer="text is not TOML")
         deep = "a = " + "[" * 80 + "]" * 80 + "\nb = 1\n"
-        yield edited(call, f"[c]\n{deep}", "/b", "1", answer="the values of the document nest deeper than 80")
+        yield edited(call, f"[c]\n{deep}", "/b", "1", answer="values of the document nest deeper than 80")
 
 
 def patches_in_text(pretty):

@@ -46,8 +46,8 @@ TEXT = '{\n  "b": 1.0,\n  "a/b": [1, 2]\n}\n'
 NOT_FOUND = RESOLVE_NOT_FOUND.format(0)
 OUT_OF_BOUNDS = ASSIGN_OUT_OF_BOUNDS.format(5)
 # Errors of an empty text, and of an open brace.
-EMPTY = "not JSON: expected a value, found the end at line 1 column 1\n\n^\n"
-OPEN = "not JSON: expected a key or `}`, found the end at line 1 column 2\n{\n ^\n"
+EMPTY = "text is not JSON: expected a value, found the end at line 1 column 1\n\n^\n"
+OPEN = "text is not JSON: expected a key or `}`, found the end at line 1 column 2\n{\n ^\n"
 
 
 def cases():
@@ -107,6 +107,7 @@ def cases():
     yield from unexpanded()
     yield from operations()
     yield from commented()
+    yield from colours()
     yield from drawings()
     yield from failing()
 
@@ -120,25 +121,30 @@ def operations():
     yield Case(("insert", "--string", "/c", "x y"), TEXT, TEXT.replace("2]\n", '2],\n  "c": "x y"\n'))
     yield Case(("insert", "--compact", "/c", '{"y": 1, "x": 1e5}'), TEXT, '{"b":1.0,"a/b":[1,2],"c":{"y":1,"x":1e5}}\n')
     yield Case(("insert", "--lines", "/0", "0"), "[]\n[1]\n", "[0]\n[0,1]\n")
-    yield Case(("insert", "/c", "x"), TEXT, "", "jptr: JSON: not JSON: expected a value, found `x` at line 1 column 1; a string needs quotes, or --string\nx\n^\n", 3)
+    yield Case(("insert", "/c", "x"), TEXT, "", "jptr: JSON: text is not JSON: expected a value, found `x` at line 1 column 1; a string needs quotes, or --string\nx\n^\n", 3)
     yield Case(("insert", "/a", "1", "x.toml"), "", "", "jptr: insert: not on TOML\n", 2)
     yield Case(("insert", "/a~1b/3", "0"), TEXT, "", f"jptr: standard input: {OUT_OF_BOUNDS}\n/a~1b/3\n      ^ 3 is out of bounds (len: 2)\n", 1)
     yield Case(("insert", "/c", "[" * 125 + "]" * 125, "--compact"), "{}", '{"c":' + "[" * 125 + "]" * 125 + "}\n")
-    yield Case(("insert", "/c", "[" * 126 + "]" * 126), "{}", "", "jptr: JSON: the patch would nest deeper than 127\n", 3)
+    yield Case(("insert", "/c", "[" * 126 + "]" * 126), "{}", "", "jptr: JSON: patch would nest deeper than 127\n", 3)
     yield Case(("move", "/b", "/c"), TEXT, '{\n  "a/b": [1, 2],\n  "c": 1.0\n}\n')
     yield Case(("move", "/a~1b/1", "/a~1b/0"), TEXT, TEXT.replace("1, 2", "2, 1"))
     yield Case(("copy", "/b", "/a~1b/0"), TEXT, TEXT.replace("[1", "[1.0, 1"))
     yield Case(("copy", "/b", "/a~1b", "--compact"), TEXT, '{"b":1.0,"a/b":1.0}\n')
     yield Case(("rename", "/b", "x/y"), TEXT, '{\n  "a/b": [1, 2],\n  "x/y": 1.0\n}\n')
     yield Case(("rename", "/a~1b", "-x", "--compact"), TEXT, '{"b":1.0,"-x":[1,2]}\n')
-    yield Case(("move", "/a~1b", "/a~1b/0"), TEXT, "", "jptr: standard input: patch failed at operation 0: from is a proper prefix of path\n", 1)
     yield Case(("rename", "/b", "a/b"), TEXT, "", "jptr: standard input: there is a member with this key\n", 1)
     yield Case(("rename", "/a~1b/0", "x"), TEXT, "", "jptr: standard input: not a member of an object\n", 1)
     yield Case(("rename", "", "x"), TEXT, "", "jptr: POINTER: the root has no key\n", 2)
+    yield Case(("rename", "/c", "b"), TEXT, "", f"jptr: standard input: {NOT_FOUND}\n/c\n ^ not found in value\n", 1)
+    yield Case(("move", "/a~1b", "/a~1b/0"), TEXT, "", "jptr: standard input: FROM is a proper prefix of POINTER\n", 1)
+    yield Case(("from-paths", "--fill"), "/a\t[]\n/a/2\t3\n", '{"a":[null,null,3]}\n')
+    yield Case(("from-paths", "--fill"), "/a\t{}\n/a/2\t3\n", '{"a":{"2":3}}\n')
+    yield Case(("copy", "--comments", "/b", "/c"), '{"b": [1, 2 /* x */]}', '{"b": [1, 2 /* x */], "c": [1, 2]}')
 
 
 COMMENTED = '{\n  // first\n  "a": 1.0, // one\n  "b": [1, /* x */ 2],\n}\n'
-LOSES_COMMENTS = "jptr: standard input: the document has comments, which another layout would lose\n"
+NOT_BESIDE_COMMENTS = "jptr: standard input: the edit cannot be made in the text with its comments\n"
+LOSES_COMMENTS = "jptr: standard input: the document has comments or trailing commas, which another layout would lose\n"
 
 
 def commented():
@@ -151,6 +157,13 @@ def commented():
     yield Case(("set", "--comments", "/c", "true"), COMMENTED, COMMENTED.replace("2],\n", '2],\n  "c": true,\n'))
     yield Case(("set", "--comments", "/b/-", "3", "/a", "null", "-"), COMMENTED, COMMENTED.replace("2]", "2, 3]").replace("1.0", "null"))
     yield Case(("delete", "--comments", "/a"), COMMENTED, COMMENTED.replace('  "a": 1.0, // one\n', ""))
+    yield Case(("insert", "--comments", "/b/0", "0"), COMMENTED, COMMENTED.replace("[1", "[0, 1"))
+    yield Case(("copy", "--comments", "/a", "/c"), COMMENTED, COMMENTED.replace("2],\n", '2],\n  "c": 1.0,\n'))
+    yield Case(("move", "--comments", "/b/0", "/c"), COMMENTED, COMMENTED.replace("1, /* x */ 2],\n", '/* x */ 2],\n  "c": 1,\n'))
+    yield Case(("move", "--comments", "/a", "/c"), COMMENTED, "", NOT_BESIDE_COMMENTS, 1)
+    yield Case(("rename", "--comments", "/a", "c"), COMMENTED, "", NOT_BESIDE_COMMENTS, 1)
+    yield Case(("rename", "--comments", "/a", "c"), COMMENTED.replace(" // one", ""), '{\n  // first\n  "b": [1, /* x */ 2],\n  "c": 1.0,\n}\n')
+    yield Case(("insert", "--comments", "/b/3", "0"), COMMENTED, "", f"jptr: standard input: {ASSIGN_OUT_OF_BOUNDS.format(2)}\n/b/3\n   ^ 3 is out of bounds (len: 2)\n", 1)
     yield Case(("keys", "--comments", ""), COMMENTED, '"a"\n"b"\n')
     yield Case(("length", "--comments", "/b"), COMMENTED, "2\n")
     yield Case(("test", "--comments", "/b/1", "2"), COMMENTED, "")
@@ -163,7 +176,7 @@ def commented():
     yield Case(("format", "--comments"), "[1]", "[\n  1\n]\n")
     missing = f"jptr: standard input: {NOT_FOUND}\n/c\n ^ not found in value\n"
     yield Case(("get", "--comments", "/c"), COMMENTED, "", missing, 1)
-    hint = "not JSON: expected a key or `}`, found `/` at line 2 column 3; with --comments, comments are read"
+    hint = "text is not JSON: expected a key or `}`, found `/` at line 2 column 3; with --comments, comments are read"
     yield Case(("get", "/a"), COMMENTED, "", f"jptr: standard input: {hint}\n  // first\n  ^\n", 3)
     yield Case(("get", "--comments", "/0"), "[1 /* x", "", "jptr: standard input: comment is not closed at line 1 column 4\n[1 /* x\n   ^\n", 3)
     marked = '\ufeff{"a": [1]}\n'
@@ -171,6 +184,21 @@ def commented():
     yield Case(("set", "/a/0", "2"), marked, marked.replace("1", "2"))
     yield Case(("delete", "--comments", "/a"), f"{marked}// x\n", "\ufeff{}\n// x\n")
     yield Case(("paths",), marked, "/a/0\t1\n")
+
+
+def colours():
+    """JSON with colours: keys are blue, and strings green."""
+    blue, green, plain = "\x1b[34;1m", "\x1b[32m", "\x1b[0m"
+    text = '{"a": ["b\\"", 1.0], "é" : {}}\n'
+    wanted = f'{{{blue}"a"{plain}: [{green}"b\\""{plain}, 1.0], {blue}"é"{plain} : {{}}}}\n'
+    yield Case(("get", "--color", "always", ""), text, wanted)
+    yield Case(("get", "--color", "always", "/a/0", "/a/1", "-"), text, f'{green}"b\\""{plain}\n1.0\n')
+    yield Case(("get", "--color", "always", "--raw", "/a/0"), text, 'b"\n')
+    yield Case(("set", "--color", "always", "/a", "[]"), text, f'{{{blue}"a"{plain}: [], {blue}"é"{plain} : {{}}}}\n')
+    yield Case(("get", "--color", "never", ""), text, text)
+    yield Case(("get", "--color", "auto", ""), text, text)
+    yield Case(("get", "--color", "red", ""), text, "", "jptr: --color: needs always, never or auto\n", 2)
+    yield Case(("get", "--comments", "--color", "always", ""), '["a", // b\n]', '[\n  "a"\n]\n')
 
 
 def drawings():
@@ -262,7 +290,7 @@ def nodes():
         yield Case(words, "{", "", f"jptr: standard input: {OPEN}", 3)
         file = ("x.toml",) if words != ("test", "") else ("1", "x.toml")
         yield Case((*words, *file), "", "", f"jptr: {words[0]}: not on TOML\n", 2)
-    yield Case(("test", "/b", "x"), TEXT, "", "jptr: JSON: not JSON: expected a value, found `x` at line 1 column 1; a string needs quotes, or --string\nx\n^\n", 3)
+    yield Case(("test", "/b", "x"), TEXT, "", "jptr: JSON: text is not JSON: expected a value, found `x` at line 1 column 1; a string needs quotes, or --string\nx\n^\n", 3)
     yield Case(("test", "/b", "@-"), TEXT, "", "jptr: JSON: standard input cannot be the value and the document\n", 2)
     yield Case(("test", "/b", "@/dev/null"), TEXT, "", f"jptr: /dev/null: {EMPTY}", 3)
 
@@ -287,7 +315,7 @@ def several():
     yield Case(("set", "--sort-keys", "/c", "1e-400", "/c", "2"), '{"b": 1}', '{"b":1,"c":2}\n')
     yield Case(("set", "/c", "1", "/b/5", "2"), '{"b":[]}', "",
                "jptr: standard input: assign failed: json pointer token at offset 2 is out of bounds\n/b/5\n   ^ 5 is out of bounds (len: 0)\n", 1)
-    yield Case(("set", "/c", "1", "/d", "x", "-"), "{}", "", "jptr: JSON: not JSON: expected a value, found `x` at line 1 column 1; a string needs quotes, or --string\nx\n^\n", 3)
+    yield Case(("set", "/c", "1", "/d", "x", "-"), "{}", "", "jptr: JSON: text is not JSON: expected a value, found `x` at line 1 column 1; a string needs quotes, or --string\nx\n^\n", 3)
     yield Case(("set", "/a", "@-", "/b", "@-", "/dev/null"), "1", "", "jptr: JSON: standard input cannot be two values\n", 2)
     yield Case(("set", "/a", "1", "/b", "@-"), "1", "", "jptr: JSON: standard input cannot be the value and the document\n", 2)
     no_slash = "json pointer failed to parse; does not start with a slash ('/') and is not empty"
@@ -346,7 +374,7 @@ def own_texts():
     yield Case(("set", "--lines", "/c", given), '{"b": 1.0}\n', f'{{"b": 1.0, "c": {wide}}}\n')
     deep = "[" * 126 + "1.10" + "]" * 126
     yield Case(("set", "/a", deep), "{}", f'{{"a":{deep}}}')
-    failed = "jptr: standard input: the new document nests deeper than 127\n"
+    failed = "jptr: standard input: document would nest deeper than 127\n"
     yield Case(("set", "/a/b", deep), "{}", "", failed, 1)
 
 
@@ -412,7 +440,7 @@ def on_paths():
     yield Case(("from-paths",), "a\t1\n", "", "jptr: standard input: line 1: not a pointer\n", 3)
     yield Case(("from-paths",), "/a\tx\n", "", "jptr: standard input: line 1: not JSON after the tab\n", 3)
     yield Case(("from-paths",), "/x" * 127 + "\t1\n", '{"x":' * 127 + "1" + "}" * 127 + "\n")
-    yield Case(("from-paths",), "/x" * 128 + "\t1\n", "", "jptr: standard input: line 1: the document would nest deeper than 127\n", 1)
+    yield Case(("from-paths",), "/x" * 128 + "\t1\n", "", "jptr: standard input: line 1: document would nest deeper than 127\n", 1)
     message = "assign failed: json pointer token at offset 0 is out of bounds"
     yield Case(("from-paths",), "\t[]\n/1\t1\n", "", f"jptr: standard input: line 2: {message}\n", 1)
     yield from gaps()
@@ -424,7 +452,7 @@ def on_paths():
     yield Case(("paths", "--toml", "--all"), "[[a]]\nb = -inf\n", nodes)
     yield Case(("paths", "--toml"), "", "\t{}\n")
     message = "invalid value, expected a string, number, boolean, date-time, array or inline table"
-    yield Case(("paths", "--toml"), "b = 1\na = ", "", f"jptr: standard input: not TOML: {message} at line 2 column 5\n", 3)
+    yield Case(("paths", "--toml"), "b = 1\na = ", "", f"jptr: standard input: text is not TOML: {message} at line 2 column 5\n", 3)
     commented = "# c\na = 1 # one\n"
     yield Case(("set", "--toml", "/a", "2"), commented, "# c\na = 2 # one\n")
     yield Case(("set", "--toml", "/b/c", "[1]"), commented, commented + "\n[b]\nc = [1]\n")
@@ -436,21 +464,21 @@ def on_paths():
 
 # Texts that are not JSON, what is said of each, and where.
 SYNTAX = [
-    ("[1,]", "not JSON: expected a value, found `]`", 1, 4),
-    ('{"a": 1,}', "not JSON: expected a key, found `}`", 1, 9),
-    ("[1 2]", "not JSON: expected `,` or `]`, found `2`", 1, 4),
-    ('{\n  "é": 1\n  "b": 2\n}', "not JSON: expected `,` or `}`, found `\"`", 3, 3),
-    ('{"a" 1}', "not JSON: expected `:`, found `1`", 1, 6),
-    ("{a: 1}", "not JSON: expected a key or `}`, found `a`", 1, 2),
-    ("[", "not JSON: expected a value or `]`, found the end", 1, 2),
-    ('["a', "not JSON: expected the end of the string, found the end", 1, 4),
-    ('["\\x"]', "not JSON: no escape of a string: `x`", 1, 4),
-    ('["\\u12g4"]', "not JSON: expected a hexadecimal digit, found `g`", 1, 7),
-    ("[01]", "not JSON: expected `,` or `]`, found `1`", 1, 3),
-    ("[-]", "not JSON: expected a digit, found `]`", 1, 3),
-    ("[1.]", "not JSON: expected a digit, found `]`", 1, 4),
-    ("[1e+]", "not JSON: expected a digit, found `]`", 1, 5),
-    ("nul", "not JSON: expected a value, found `n`", 1, 1),
+    ("[1,]", "text is not JSON: expected a value, found `]`", 1, 4),
+    ('{"a": 1,}', "text is not JSON: expected a key, found `}`", 1, 9),
+    ("[1 2]", "text is not JSON: expected `,` or `]`, found `2`", 1, 4),
+    ('{\n  "é": 1\n  "b": 2\n}', "text is not JSON: expected `,` or `}`, found `\"`", 3, 3),
+    ('{"a" 1}', "text is not JSON: expected `:`, found `1`", 1, 6),
+    ("{a: 1}", "text is not JSON: expected a key or `}`, found `a`", 1, 2),
+    ("[", "text is not JSON: expected a value or `]`, found the end", 1, 2),
+    ('["a', "text is not JSON: expected the end of the string, found the end", 1, 4),
+    ('["\\x"]', "text is not JSON: no escape of a string: `x`", 1, 4),
+    ('["\\u12g4"]', "text is not JSON: expected a hexadecimal digit, found `g`", 1, 7),
+    ("[01]", "text is not JSON: expected `,` or `]`, found `1`", 1, 3),
+    ("[-]", "text is not JSON: expected a digit, found `]`", 1, 3),
+    ("[1.]", "text is not JSON: expected a digit, found `]`", 1, 4),
+    ("[1e+]", "text is not JSON: expected a digit, found `]`", 1, 5),
+    ("nul", "text is not JSON: expected a value, found `n`", 1, 1),
     ("[" * 128 + "]" * 128, "JSON, but nested deeper than 127", 1, 128),
 ]
 def gaps():
@@ -482,7 +510,7 @@ def failing():
     not_json = f"jptr: standard input: {OPEN}"
     for words in [("get", "/a"), ("set", "/a", "1"), ("delete", "/a")]:
         yield Case(words, "{", "", not_json, 3)
-    value = "jptr: JSON: not JSON: expected a value, found `{}` at line 1 column 1"
+    value = "jptr: JSON: text is not JSON: expected a value, found `{}` at line 1 column 1"
     yield Case(("set", "/a", "x"), TEXT, "", value.format("x") + "; a string needs quotes, or --string\nx\n^\n", 3)
     yield Case(("set", "/a", "'x'"), TEXT, "", value.format("'") + "\n'x'\n^\n", 3)
     for text, why, line, column in SYNTAX:
@@ -720,7 +748,7 @@ def damaged_lines():
         except ValueError:
             # Reading stops at the end, or at the quote of a string that is cut.
             column = line.rindex('"') + 1 if line.count('"') % 2 else len(line)
-            faults.append((number, f"not JSON at column {column}"))
+            faults.append((number, f"text is not JSON at column {column}"))
             continue
         if "id" in value:
             found.append(str(value["id"]))
@@ -764,7 +792,7 @@ def check_lines():
     check_line_buffered()
     text = "".join(f"{line}\n" for line in lines)
     report = "".join(f"jptr: standard input:{number}: {message}\n" for number, message in faults)
-    damaged = "".join(f"jptr: standard input:{number}: {message}\n" for number, message in faults if message.startswith("not JSON"))
+    damaged = "".join(f"jptr: standard input:{number}: {message}\n" for number, message in faults if message.startswith("text is not JSON"))
     each = "".join(f"{line}\n" for line in found)
     check_result(Case(("get", "--lines", "/id"), text, each, report, 1), run(("get", "--lines", "/id"), text))
     check_result(Case(("get", "--lines", "/id"), text[:-1], each, report, 1), run(("get", "--lines", "/id"), text[:-1]))
@@ -778,7 +806,7 @@ def check_lines():
     words = ("get", "--lines", "--strict", "/id")
     check_result(Case(words, text, each, report.partition("\n")[0] + "\n", 1), run(words, text))
     words = ("get", "--lines", "--raw", "/s")
-    check_result(Case(words, '{"s":"a"}\n{"s":"a\\nb"}\n', "a\n", "jptr: standard input:2: the result contains a line break\n", 1),
+    check_result(Case(words, '{"s":"a"}\n{"s":"a\\nb"}\n', "a\n", "jptr: standard input:2: result contains a line break\n", 1),
                  run(words, '{"s":"a"}\n{"s":"a\\nb"}\n'))
     long = list(digits_of_lines())
     for case in long:
@@ -969,7 +997,7 @@ def check_reformat(folder):
     with open(f"{folder}/patch.json", "w", encoding="utf-8") as file:
         json.dump([{"op": "add", "path": deepest, "value": []}, {"op": "remove", "path": deepest}], file)
     words = ("patch", f"{folder}/patch.json")
-    message = "the edit cannot be made in place"
+    message = "document cannot be edited in place"
     error = f"{message}; --reformat prints the document anew\n"
     anew = text.replace(" ", "")
     for case in [
@@ -1156,17 +1184,24 @@ def check_commented(folder):
     write(path, COMMENTED)
     write(marked, '\ufeff{"a": 1}\n')
     check_result(Case((), "", "1.0\n"), run(("get", "/a", path)))
+    check_result(Case((), "", ""), run(("test", "/a", path)))
+    check_result(Case((), "", "", "", 1), run(("test", "/c", path)))
     check_result(Case((), "", ""), run(("set", "/a", "2", path, "-i")))
     check_result(Case((), "", ""), run(("set", "/a", "2", marked, "-i")))
     check_result(Case((), "", ""), run(("format", marked, "-i")))
-    error = f"jptr: {path}: the document has comments, which another layout would lose\n"
+    error = f"jptr: {path}: the document has comments or trailing commas, which another layout would lose\n"
     check_result(Case((), "", "", error, 1), run(("format", path, "-i")))
     check_result(Case((), "", "", error, 1), run(("relayout", path, marked)))
     check_result(Case((), "", "- /b: [1,2]\n", "", 1), run(("diff", "--text", path, marked)))
-    error = f"jptr: {path}: only set and delete change a text with comments\n"
-    check_result(Case((), "", "", error, 1), run(("insert", "/b/0", "0", path)))
-    expect_files(folder, {path: COMMENTED.replace("1.0", "2"), marked: '\ufeff{\n  "a": 2\n}\n'})
-    return 8
+    check_result(Case((), "", ""), run(("insert", "/b/0", "0", path, "-i")))
+    patch, undo = f"{folder}/patch.json", f"{folder}/undo.json"
+    operations = [{"op": "replace", "path": "/b/0", "value": k} for k in range(17)]
+    write(patch, json.dumps([*operations, {"op": "remove", "path": "/a"}]))
+    check_result(Case((), "", ""), run(("patch", patch, path, "-i", "--inverse", undo)))
+    os.remove(patch)
+    os.remove(undo)
+    expect_files(folder, {path: COMMENTED.replace("[1", "[16, 1").replace('  "a": 1.0, // one\n', ""), marked: '\ufeff{\n  "a": 2\n}\n'})
+    return 11
 
 
 def check_changes(folder):
@@ -1279,7 +1314,7 @@ def check_inverse_fails(folder, patch, path, undo):
     runs = 0
     for old in (None, "{}"):
         for text, operations, words, errors, status in [
-            (deepest, '[{"op": "remove", "path": ""}]', (), f"jptr: {undo}: the patch would nest deeper than 127\n", 3),
+            (deepest, '[{"op": "remove", "path": ""}]', (), f"jptr: {undo}: patch would nest deeper than 127\n", 3),
             (BEFORE, '[{"op": "remove", "path": "/x"}]', (), f"jptr: {path}: patch failed at operation 0: {NOT_FOUND}\n/x\n ^ not found in value\n", 1),
             ("{", "[]", (), f"jptr: {path}: {OPEN}", 3),
             ('{"a": 1e-400}', "[]", (), f"jptr: {path}: the number at /a loses digits: use --lossy\n", 3),
@@ -1379,7 +1414,7 @@ def check_relayout(folder, shim):
         expect_files(folder, {path: TEXT if given.returncode else "[\n  1\n]\n"})
     for new, words, errors, status in [
         ("{", (), f"jptr: standard input: {OPEN}", 3),
-        ('{"a": 1e400}', (), "jptr: standard input: not JSON: number out of range at line 1 column 12\n", 3),
+        ('{"a": 1e400}', (), "jptr: standard input: text is not JSON: number out of range at line 1 column 12\n", 3),
         ('{"a": 1e-400}', (), "jptr: standard input: the number at /a loses digits: use --lossy\n", 3),
     ]:
         write(path, TEXT)

@@ -5,8 +5,8 @@
 
 PROGRAM is the built program of crates/jsonptr_tool_calls. Of N random texts with comments and trailing commas, half are
 damaged. What is left of each must be what a reader in Python leaves; of a text that is not damaged, also what its
-parts leave. Each edit of a file with comments must make the text that is expected, byte for byte: the file is a tree of
-children with their comments, which is edited in Python and laid out again.
+parts leave. Each edit of a file with comments, and each patch of up to five, must make the text that is expected, byte
+for byte: the file is a tree of children with their comments, which is edited in Python and laid out again.
 """
 import argparse
 import collections

@@ -9,7 +9,7 @@ look. A file counts in a row if it has a location for the edit whose siblings ag
 - indentation: a new object in an object over lines, in a file all of whose containers over lines indent by one unit: each level
   of the new object is indented by that unit.
 - empty: a child of an empty container in a container over lines, in a file in which no container with children of that kind is
-  on one line: the child has a line of its own, indented by the unit.
+  on one line: the child has a line of its own, indented by the unit, and a colon as that of the container.
 - row: a copy of the last row appended to an array over lines, each element of which is an array or object on one line with one
   style: the new row is on one line, in that style.
 - flat: an object on one line with one style is replaced by one with other values: the new one has that style.
@@ -23,6 +23,7 @@ import argparse
 import collections
 import json
 import os
+import re
 import sys
 from multiprocessing import Pool
 
@@ -94,6 +95,12 @@ def indentation(text, nodes):
             return
 
 
+def colon_before(text, child):
+    """Returns the colon before the value of a member, with the white space around it, or the usual one if it is an element."""
+    found = re.search(r"[ \t]*:[ \t]*$", text[: child.value.start])
+    return found.group() if child.key is not None and found else ": "
+
+
 def empty(text, nodes):
     """The row of empty containers."""
     for kind in (True, False):
@@ -109,7 +116,7 @@ def empty(text, nodes):
                 token = child.key if child.key is not None else str(value.children.index(child))
                 lead = spans.indentation(text, inner.start)
                 newline = "\r\n" if "\r\n" in text else "\n"
-                name = f'"{KEY}": ' if kind else ""
+                name = f'"{KEY}"{colon_before(text, child)}' if kind else ""
                 wanted = f"{text[inner.start]}{newline}{lead}{unit}{name}1{newline}{lead}{text[inner.end - 1]}"
                 yield "assign", (*tokens, token, KEY if kind else "-"), "1", lambda new, wanted=wanted: wanted in new
                 return

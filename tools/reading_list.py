@@ -45,6 +45,17 @@ OTHERS = {
         ("jsonptr_paths/src/toml_listing.rt", ["list_toml"]),
         ("jsonptr_paths/src/reading.rt", ["build"]),
     ],
+    "JSON with comments": [
+        ("jsonptr_comments/src/comments.rt", ["without_comments"]),
+        ("jsonptr_edit_with_comments/src/assign.rt", ["assign_with_comments"]),
+        ("jsonptr_edit_with_comments/src/delete.rt", ["delete_with_comments"]),
+        ("jsonptr_edit_with_comments/src/apply.rt", ["apply_with_comments"]),
+    ],
+    "numbers that lose digits": [
+        ("jsonptr_numbers/src/find.rt", ["find_lost"]),
+        ("jsonptr_numbers/src/kept.rt", ["is_kept"]),
+        ("jsonptr_numbers/src/exact.rt", ["read_exactly"]),
+    ],
     "layouts": [("jsonptr_relayout/src/layout.rt", ["relayout", "relayout_with", "relayout_text"])],
     "TOML text": [("jsonptr_in_toml/src/change.rt", ["find_in_toml", "assign_in_toml", "delete_in_toml"])],
     "edits in TOML text": [

@@ -4,6 +4,7 @@ import json
 from dataclasses import dataclass, field
 from typing import NamedTuple
 
+NEW_KEYS = [f"new{number}" for number in range(9)]
 SCALARS = ("0", "-1.5", "true", "null", '"a"', '"// b"', '"/*"')
 
 
@@ -42,6 +43,14 @@ class Case(NamedTuple):
     kind: str
     request: tuple
     wanted: str
+
+
+class Operation(NamedTuple):
+    """An operation of a patch, with the text of its value if it has one."""
+
+    name: str
+    path: str
+    value: str
 
 
 def lay_out(value, layout, level):
@@ -151,30 +160,47 @@ def remove(container, place):
         container.below = above + container.below
 
 
-def case(chance):
-    """Returns a random edit of a random file."""
-    made = Files(chance)
-    root = made.root()
-    before, after = chance.choice(("", "// file" + made.layout.newline)), chance.choice(("", made.layout.newline))
-    text = before + lay_out(root, made.layout, 0) + after
-    new = copy.deepcopy(root)
-    tokens, container = chance.choice(list(containers_of(new, [])))
+def edit(chance, root):
+    """Makes a random edit of a document: the operation of a patch, with the text of its value. Returns it."""
+    tokens, container = chance.choice(list(containers_of(root, [])))
     count, fresh = len(container.children), chance.choice(SCALARS)
     kind = chance.choice(("add", "remove", "replace"))
     if kind in ("remove", "replace") and (not count or (not tokens and count < 2)):
         kind = "add"
     if kind == "add":
-        key = "new" if container.is_object else None
+        keys = {child.key for child in container.children}
+        key = next(it for it in NEW_KEYS if it not in keys) if container.is_object else None
         add(container, count, Child(key, fresh))
-        request = ("assign", text, pointer([*tokens, key or "-"]), fresh)
-    else:
-        place = chance.randrange(0 if tokens else 1, count)
-        child = container.children[place]
-        path = pointer([*tokens, child.key if container.is_object else str(place)])
-        if kind == "remove":
-            remove(container, place)
-            request = ("delete", text, path, "")
-        else:
-            child.value = fresh
-            request = ("assign", text, path, fresh)
-    return Case(kind, request, before + lay_out(new, made.layout, 0) + after)
+        return Operation(kind, pointer([*tokens, key or "-"]), fresh)
+    place = chance.randrange(0 if tokens else 1, count)
+    child = container.children[place]
+    path = pointer([*tokens, child.key if container.is_object else str(place)])
+    if kind == "remove":
+        remove(container, place)
+        return Operation(kind, path, "")
+    child.value = fresh
+    return Operation(kind, path, fresh)
+
+
+def patch_of(operations):
+    """Returns the text of the patch document (RFC 6902) with these operations."""
+    made = []
+    for operation in operations:
+        value = f', "value": {operation.value}' if operation.value else ""
+        made.append(f'{{"op": "{operation.name}", "path": {json.dumps(operation.path)}{value}}}')
+    return f"[{', '.join(made)}]"
+
+
+def case(chance):
+    """Returns a random edit of a random file, or a patch of some edits."""
+    made = Files(chance)
+    root = made.root()
+    before, after = chance.choice(("", "// file" + made.layout.newline)), chance.choice(("", made.layout.newline))
+    text = before + lay_out(root, made.layout, 0) + after
+    new = copy.deepcopy(root)
+    operations = [edit(chance, new) for _ in range(chance.choice((1, 1, 2, 3, 5)))]
+    wanted = before + lay_out(new, made.layout, 0) + after
+    first = operations[0]
+    if len(operations) > 1 or chance.random() < 0.2:
+        return Case("patch", ("patch", text, "", patch_of(operations)), wanted)
+    return Case(first.name, ("delete" if first.name == "remove" else "assign", text, first.path, first.value), wanted)

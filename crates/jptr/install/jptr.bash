@@ -22,19 +22,19 @@ _jptr() {
     # The operands before the first file: pointers, values and texts, which are not completed.
     local words before=0
     case $command in
-        get) before=1 words="--toml --raw --pretty --compact --lossy --indent --sort-keys --default --lines --strict --line-buffered --comments --help" ;;
-        set) before=2 words="--string --no-expand --create --toml --reformat --pretty --compact --lossy --indent --sort-keys --in-place --lines --strict --line-buffered --comments --help" ;;
-        delete) before=1 words="--toml --reformat --pretty --compact --lossy --indent --sort-keys --in-place --lines --strict --line-buffered --comments --help" ;;
-        insert) before=2 words="--string --reformat --pretty --compact --lossy --indent --sort-keys --in-place --lines --strict --line-buffered --help" ;;
-        move | copy) before=2 words="--reformat --pretty --compact --lossy --indent --sort-keys --in-place --lines --strict --line-buffered --help" ;;
-        rename) before=2 words="--reformat --pretty --compact --lossy --indent --sort-keys --in-place --help" ;;
+        get) before=1 words="--toml --raw --pretty --compact --lossy --indent --sort-keys --color --default --lines --strict --line-buffered --comments --help" ;;
+        set) before=2 words="--string --no-expand --create --toml --reformat --pretty --compact --lossy --indent --sort-keys --color --in-place --lines --strict --line-buffered --comments --help" ;;
+        delete) before=1 words="--toml --reformat --pretty --compact --lossy --indent --sort-keys --color --in-place --lines --strict --line-buffered --comments --help" ;;
+        insert) before=2 words="--string --reformat --pretty --compact --lossy --indent --sort-keys --color --in-place --lines --strict --line-buffered --comments --help" ;;
+        move | copy) before=2 words="--reformat --pretty --compact --lossy --indent --sort-keys --color --in-place --lines --strict --line-buffered --comments --help" ;;
+        rename) before=2 words="--reformat --pretty --compact --lossy --indent --sort-keys --color --in-place --comments --help" ;;
         keys) before=1 words="--raw --comments --help" ;;
         length | type) before=1 words="--comments --help" ;;
         test) before=2 words="--string --comments --help" ;;
         paths) words="--toml --all --lossy --comments --help" ;;
         from-paths) words="--fill --pretty --compact --lossy --help" ;;
-        patch) words="--check --inverse --reformat --pretty --compact --lossy --indent --sort-keys --in-place --lines --strict --line-buffered --help" ;;
-        format) words="--pretty --compact --lossy --indent --sort-keys --in-place --lines --strict --line-buffered --comments --help" ;;
+        patch) words="--check --inverse --reformat --pretty --compact --lossy --indent --sort-keys --color --in-place --lines --strict --line-buffered --comments --help" ;;
+        format) words="--pretty --compact --lossy --indent --sort-keys --color --in-place --lines --strict --line-buffered --comments --help" ;;
         relayout) words="--lossy --reformat --in-place --comments --help" ;;
         locate) before=$((has_place ? 0 : 1)) words="--at --comments --help" ;;
         diff) words="--text --pretty --compact --lossy --color --comments --help" ;;

@@ -117,7 +117,7 @@ fn insert<'a>(alloc: Global) -> Result<Command<'a>, AllocError> {
         .arg(file(alloc))?
         .arg(string_flag(alloc))?
         .arg(reformat_flag(alloc)?)?;
-    with_edits(alloc, command)
+    with_comments(alloc, with_edits(alloc, command)?)
 }
 
 /// Returns the command `move` or `copy`.
@@ -129,10 +129,12 @@ fn transfer<'a>(
     let command = Command::new(alloc, name)
         .about(about)
         .arg(arg!(in alloc; <FROM> "The pointer of the value"))?
-        .arg(arg!(in alloc; <POINTER> "The pointer where it is put, as by insert"))?
+        .arg(
+            arg!(in alloc; <POINTER> "The pointer where it is put, as by insert; an index counts without a moved value"),
+        )?
         .arg(file(alloc))?
         .arg(reformat_flag(alloc)?)?;
-    with_edits(alloc, command)
+    with_comments(alloc, with_edits(alloc, command)?)
 }
 
 /// Returns the command `rename`.
@@ -144,6 +146,7 @@ fn rename<'a>(alloc: Global) -> Result<Command<'a>, AllocError> {
         .arg(pointer(alloc))?
         .arg(arg!(in alloc; <KEY> "The new key, as it is").allow_hyphen_values(true))?
         .arg(file(alloc))?
+        .arg(comments_flag(alloc))?
         .arg(reformat_flag(alloc)?)?;
     with_in_place(alloc, with_order(alloc, command)?)
 }
@@ -184,7 +187,7 @@ fn test<'a>(alloc: Global) -> Result<Command<'a>, AllocError> {
         )
         .arg(pointer(alloc))?
         .arg(
-            arg!(in alloc; [JSON] "The value to compare with, or @FILE for that of a file").allow_negative_numbers(
+            arg!(in alloc; [JSON] "The value to compare with, or @FILE for that of a file; a file whose name is no JSON is FILE").allow_negative_numbers(
                 true,
             ),
         )?
@@ -226,7 +229,9 @@ fn from_paths<'a>(alloc: Global) -> Result<Command<'a>, AllocError> {
 /// Returns the command `patch`.
 fn patch<'a>(alloc: Global) -> Result<Command<'a>, AllocError> {
     let command = Command::new(alloc, "patch")
-        .about("Prints the document after a JSON Patch (RFC 6902)")
+        .about(
+            "Prints the document after a JSON Patch (RFC 6902); errors count its operations from 0",
+        )
         .arg(arg!(in alloc; <PATCHFILE> "The patch document, or - for standard input"))?
         .arg(file(alloc))?
         .arg(
@@ -240,7 +245,7 @@ fn patch<'a>(alloc: Global) -> Result<Command<'a>, AllocError> {
                 .conflicts_with("lines")?,
         )?
         .arg(reformat_flag(alloc)?)?;
-    with_edits(alloc, command)
+    with_comments(alloc, with_edits(alloc, command)?)
 }
 
 /// Returns the command `format`.
@@ -279,7 +284,7 @@ fn locate<'a>(alloc: Global) -> Result<Command<'a>, AllocError> {
                 .value_name("LINE:COLUMN")
                 .action(ArgAction::Set)
                 .help(
-                    "Prints the pointer of the innermost value at this place instead; FILE is then the only argument",
+                    "Prints the pointer of the innermost value at this place instead, of the object if that is a key; FILE is then the only argument",
                 ),
         )?
         .arg(comments_flag(alloc))
@@ -298,11 +303,7 @@ fn diff<'a>(alloc: Global) -> Result<Command<'a>, AllocError> {
                 .conflicts_with("pretty")?
                 .conflicts_with("compact")?,
         )?
-        .arg(
-            arg!(in alloc; --color <WHEN> "Colours the lines of --text: always, never, or auto, on a terminal if NO_COLOR is not set").requires_arg(
-                "text",
-            )?,
-        )?
+        .arg(color_flag(alloc).requires_arg("text")?)?
         .arg(comments_flag(alloc))?;
     with_layout(alloc, command)
 }
@@ -404,9 +405,15 @@ fn with_layout<'a>(alloc: Global, command: Command<'a>) -> Result<Command<'a>, A
         .arg(lossy_flag(alloc))
 }
 
-/// Adds the flags for the layout of a text, and for the order of its members.
+/// Returns the flag for colours.
+fn color_flag<'a>(alloc: Global) -> Arg<'a> {
+    arg!(in alloc; --color <WHEN> "Colours what is printed: always, never, or auto, on a terminal if NO_COLOR is not set")
+}
+
+/// Adds the flags for the layout of a text, for the order of its members, and for colours.
 fn with_order<'a>(alloc: Global, command: Command<'a>) -> Result<Command<'a>, AllocError> {
     with_layout(alloc, command)?
+        .arg(color_flag(alloc))?
         .arg(
             Arg::new(alloc, "sort-keys")
                 .long("sort-keys")

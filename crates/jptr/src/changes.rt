@@ -12,7 +12,7 @@ use std::alloc::{AllocError, Global};
 /// pointer, and the values before and after it.
 pub fn changes_of(alloc: Global, document: Value, patch: &str) -> Result<String, ProgramError> {
     let mut document = document;
-    let Ok(patch) = Value::from_str(alloc, patch) else {
+    let Ok(patch) = jsonptr_value::read(alloc, patch) else {
         return Err(ProgramError::Memory);
     };
     let Ok(operations) = operations_of(alloc, &patch) else {

@@ -13,16 +13,17 @@ use crate::operation::{insert, rename, transfer};
 use crate::output::{print_line, print_text};
 use crate::patch_file::PatchFile;
 use crate::paths::{from_paths, paths};
-use crate::program_error::{NOT_APPLIED, ProgramError, USAGE};
+use crate::program_error::ProgramError;
 use crate::relayout::relayout;
 use crate::several::{delete_each, get_each, get_task, set_each, set_task};
-use crate::source::{Format, Source};
+use crate::source::{FileFormat, Source};
 use crate::style::{layout_of, style_of};
 use crate::task::{on_source, run_styled, run_task};
 use crate::{arguments, toml_file};
 use clap::error::ErrorKind;
 use clap::{ArgMatches, Error};
 use jptr_tasks::difference::difference_of;
+use jptr_tasks::exit_status::{NOT_APPLIED, USAGE};
 use jptr_tasks::layout::{Layout, show};
 use jptr_tasks::task::Task;
 use jsonptr::{Pointer, Token};
@@ -101,7 +102,7 @@ fn get(rt: &HostRuntime, matches: &ArgMatches<'_>) -> Result<u8, ProgramError> {
     }
     let text = argument(matches, "POINTER");
     let pointer = pointer_of(alloc, text)?;
-    if Format::of(matches) == Format::Toml {
+    if FileFormat::of(matches) == FileFormat::Toml {
         return toml_file::get(rt, matches, pointer);
     }
     run_task(rt, matches, get_task(alloc, matches, text)?)
@@ -111,7 +112,7 @@ fn get(rt: &HostRuntime, matches: &ArgMatches<'_>) -> Result<u8, ProgramError> {
 fn set(rt: &HostRuntime, matches: &ArgMatches<'_>) -> Result<u8, ProgramError> {
     let more = more_operands(rt.alloc(), matches)?;
     let text = argument(matches, "POINTER");
-    if more.is_empty() && Format::of(matches) == Format::Toml {
+    if more.is_empty() && FileFormat::of(matches) == FileFormat::Toml {
         return toml_file::set(rt, matches, pointer_of(rt.alloc(), text)?);
     }
     if !more.is_empty() || matches.get_flag("no-expand") || matches.get_flag("create") {
@@ -129,7 +130,7 @@ fn delete(rt: &HostRuntime, matches: &ArgMatches<'_>) -> Result<u8, ProgramError
     }
     let text = argument(matches, "POINTER");
     let pointer = pointer_of(rt.alloc(), text)?;
-    if Format::of(matches) == Format::Toml {
+    if FileFormat::of(matches) == FileFormat::Toml {
         return toml_file::delete(rt, matches, pointer);
     }
     run_task(rt, matches, Task::Delete(pointer))
@@ -163,7 +164,7 @@ fn format(rt: &HostRuntime, matches: &ArgMatches<'_>) -> Result<u8, ProgramError
     let mut style = style_of(alloc, matches)?;
     style.layout = format_layout(matches, style.layout);
     let task = Task::Get(Pointer::root(), None);
-    if Format::of(matches) == Format::Commented && !matches.get_flag("lines") {
+    if FileFormat::of(matches) == FileFormat::Commented && !matches.get_flag("lines") {
         let source = Source::open(rt, matches)?;
         source.check_bare(alloc)?;
         return on_source(rt, &task, style, &source);
@@ -235,7 +236,7 @@ fn read_side<'a>(
     side: &str,
 ) -> Result<Source<'a>, ProgramError> {
     let file = Some(argument(matches, side));
-    Source::read_as(rt, Format::of_file(matches, file), file)
+    Source::read_as(rt, FileFormat::of_file(matches, file), file)
 }
 
 /// Prints the tokens of a pointer.

@@ -1,21 +1,27 @@
 //! JSON with comments and trailing commas: what is read past, and edits that keep the comments.
 
-use crate::program_error::{NOT_APPLIED, ProgramError};
+use crate::program_error::ProgramError;
 use jptr_tasks::document::document_result;
+use jptr_tasks::exit_status::NOT_APPLIED;
 use jptr_tasks::layout::Layout;
+use jptr_tasks::raw_patch::RawPatch;
 use jptr_tasks::task::Task;
 use jptr_tasks::task_error::TaskError;
 use jsonptr::{Fault, Pointer};
 use jsonptr_comments::without_comments;
 use jsonptr_edit_in_text::{Buffers, EditError, InPlaceError};
 use jsonptr_edit_with_comments::{
-    WithCommentsError, assign_raw_with_comments, delete_with_comments,
+    WithCommentsError, assign_raw_with_comments, delete_with_comments, try_apply_raw_with_comments,
 };
 use std::alloc::{AllocError, Global};
 use std::borrow::CowStr;
 
 /// Why a document with comments is not laid out anew.
-const OTHER_LAYOUT: &str = "the document has comments, which another layout would lose";
+const OTHER_LAYOUT: &str =
+    "the document has comments or trailing commas, which another layout would lose";
+
+/// Why a document with comments is not edited.
+const NOT_BESIDE_COMMENTS: &str = "the edit cannot be made in the text with its comments";
 
 /// Returns the text with spaces instead of its comments and trailing commas, or `None` if it has none.
 pub fn bare(alloc: Global, name: &str, text: &str) -> Result<Option<String>, ProgramError> {
@@ -37,16 +43,12 @@ pub fn other_layout(alloc: Global, name: &str) -> ProgramError {
     ProgramError::new(alloc, NOT_APPLIED, name, OTHER_LAYOUT)
 }
 
-/// Returns the error of a document with this name, in which the task is not done beside comments.
-pub fn not_in_place(alloc: Global, task: &Task<'_>, name: &str) -> ProgramError {
-    let message = match task {
-        Task::Patch(_) => "only set and delete change a text with comments",
-        _ => "the edit cannot be made in the text with its comments",
-    };
-    ProgramError::new(alloc, NOT_APPLIED, name, message)
+/// Returns the error of a document with this name, in which an edit is not made beside comments.
+pub fn not_in_place(alloc: Global, name: &str) -> ProgramError {
+    ProgramError::new(alloc, NOT_APPLIED, name, NOT_BESIDE_COMMENTS)
 }
 
-/// Returns the text with comments after the task, which is no patch. A value that is found is printed without comments: as
+/// Returns the text with comments after the task. A value that is found is printed without comments: as
 /// it is written, or on lines if it has comments in it.
 pub fn edited_with_comments(
     alloc: Global,
@@ -64,17 +66,17 @@ pub fn edited_with_comments(
             }
         }
         Task::Delete(pointer) => deleted(alloc, &mut buffers, text, *pointer),
-        Task::Patch(_) => Err(TaskError::NotInPlace),
+        Task::Patch(patch) => patched(alloc, task, patch, text, bare),
     }
 }
 
 /// Returns what is printed for a value that is found in the text without comments.
 fn found(alloc: Global, task: &Task<'_>, text: &str, bare: &str) -> Result<String, TaskError> {
-    let value = document_result(alloc, task, Layout::Kept, bare.as_bytes())?;
+    let value = document_result(alloc, bare.as_bytes(), task, Layout::Kept)?;
     if text.contains(value.as_str().trim_end()) {
         Ok(value)
     } else {
-        document_result(alloc, task, Layout::Pretty, bare.as_bytes())
+        document_result(alloc, bare.as_bytes(), task, Layout::Pretty)
     }
 }
 
@@ -89,6 +91,25 @@ fn deleted(
         Ok(Some(new)) => Ok(new),
         Ok(None) => Err(TaskError::NotThere),
         Err(error) => Err(TaskError::from(in_place_error(error))),
+    }
+}
+
+/// Returns the text after the patch. Its error is that of the patch of the text without comments.
+fn patched(
+    alloc: Global,
+    task: &Task<'_>,
+    patch: &RawPatch,
+    text: &str,
+    bare: &str,
+) -> Result<String, TaskError> {
+    let mut buffers = Buffers::new(alloc);
+    let operations = patch.operations.as_slice();
+    if let Some(new) = try_apply_raw_with_comments(alloc, &mut buffers, text, operations)? {
+        return Ok(new);
+    }
+    match document_result(alloc, bare.as_bytes(), task, Layout::Kept) {
+        Ok(_new) => Err(TaskError::NotInPlace),
+        Err(error) => Err(error),
     }
 }
 

@@ -1,8 +1,9 @@
 //! Numbers whose digits would be lost.
 
-use crate::program_error::{NOT_JSON, ProgramError};
-use crate::style::Style;
+use crate::program_error::ProgramError;
+use crate::style::OutputStyle;
 use clap::ArgMatches;
+use jptr_tasks::exit_status::NOT_JSON;
 use jptr_tasks::layout::Layout;
 use jptr_tasks::result::result_in_text;
 use jptr_tasks::task::Task;
@@ -11,6 +12,7 @@ use jsonptr_edit_in_text::RawOperation;
 use jsonptr_numbers::{Lost, find_lost};
 use simdutf8::basic::from_utf8;
 use std::alloc::{AllocError, Global};
+use thiserror::Error;
 
 /// Returns whether the flags allow that digits are lost.
 pub fn is_lossy(matches: &ArgMatches<'_>) -> bool {
@@ -34,16 +36,20 @@ pub fn check_bytes(alloc: Global, name: &str, bytes: &[u8]) -> Result<(), Progra
     }
 }
 
-/// A number that loses digits, and what it is in.
-#[derive(Drop)]
+/// A number that loses digits, and what it is in. Its text does not name the argument that it is in.
+#[derive(Debug, Drop, Error)]
 pub enum LossError {
     /// A number of the document.
+    #[error("{0}: use --lossy")]
     Document(Lost),
     /// A number of the value that is assigned.
+    #[error("{0}: use --lossy")]
     Value(Lost),
     /// A number of the value of the patch's operation at this position.
+    #[error("operation {0}: {1}: use --lossy")]
     Operation(usize, Lost),
     /// A number of the value of the line with this number.
+    #[error("line {0}: {1}: use --lossy")]
     Line(usize, Lost),
 }
 
@@ -57,34 +63,18 @@ impl LossError {
         }
     }
 
-    /// Returns what is said of the number, without the name of an argument.
-    fn text(&self, alloc: Global) -> Result<String, AllocError> {
-        match self {
-            LossError::Document(lost) | LossError::Value(lost) => format!(in alloc;
-                "{lost}: use --lossy"
-            ),
-            LossError::Operation(position, lost) => {
-                format!(in alloc; "operation {position}: {lost}: use --lossy")
-            }
-            LossError::Line(number, lost) => format!(in alloc;
-                "line {number}: {lost}: use --lossy"
-            ),
-        }
-    }
-
-    /// Returns what is said of the number.
+    /// Returns its text, after the name of the argument with the number.
     pub fn message(&self, alloc: Global) -> Result<String, AllocError> {
-        let text = self.text(alloc)?;
         match self.argument() {
-            Some(name) => format!(in alloc; "{name}: {text}"),
-            None => Ok(text),
+            Some(name) => format!(in alloc; "{name}: {self}"),
+            None => self.to_string(alloc),
         }
     }
 
     /// Returns the error of the number in the input with this name, if it is in no argument.
     fn error(&self, alloc: Global, name: &str) -> ProgramError {
         let name = self.argument().unwrap_or(name);
-        ProgramError::of_message(alloc, NOT_JSON, name, self.text(alloc))
+        ProgramError::of_message(alloc, NOT_JSON, name, self.to_string(alloc))
     }
 }
 
@@ -92,7 +82,7 @@ impl LossError {
 ///
 /// They are read to sort the members, and where an edit cannot be made in the text, which is known to
 /// happen with patches alone.
-pub fn is_checked(task: &Task<'_>, style: Style) -> bool {
+pub fn is_checked(task: &Task<'_>, style: OutputStyle) -> bool {
     if style.is_lossy {
         return false;
     }
@@ -111,7 +101,7 @@ pub fn is_checked(task: &Task<'_>, style: Style) -> bool {
 pub fn loss_of(
     alloc: Global,
     task: &Task<'_>,
-    style: Style,
+    style: OutputStyle,
     text: &str,
 ) -> Result<Option<LossError>, AllocError> {
     if !is_checked(task, style) {
@@ -122,7 +112,7 @@ pub fn loss_of(
     if in_document.is_none() && in_values.is_none() {
         return Ok(None);
     }
-    match result_in_text(alloc, task, Layout::Kept, text) {
+    match result_in_text(alloc, text, task, Layout::Kept) {
         Ok(new) => loss_in_result(alloc, style.layout, new.as_str()),
         Err(TaskError::NotInPlace) => Ok(first_of(in_document, in_values)),
         Err(TaskError::Memory(error)) => Err(error),
@@ -192,7 +182,7 @@ fn first_of(in_document: Option<Lost>, in_values: Option<LossError>) -> Option<L
 pub fn check_result(
     alloc: Global,
     task: &Task<'_>,
-    style: Style,
+    style: OutputStyle,
     name: &str,
     bytes: &[u8],
 ) -> Result<(), ProgramError> {

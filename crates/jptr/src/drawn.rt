@@ -10,6 +10,7 @@ use jsonptr::diagnostic::Diagnostic;
 use jsonptr::{Fault, Pointer, assign, resolve};
 use jsonptr_in_text::{InTextError, resolve_in_text};
 use jsonptr_patch::{Comparison, Operation, PatchError, apply_comparing};
+use jsonptr_value::ReadError;
 use serde_json::Value;
 use simdutf8::basic::from_utf8;
 use std::alloc::{AllocError, Global};
@@ -80,10 +81,13 @@ fn fault_of_operation(
     let Some((operation, before)) = split_at(alloc, patch, position_of(error))? else {
         return Ok(None);
     };
-    let mut document = match Value::from_slice(alloc, bytes) {
+    let Ok(text) = from_utf8(bytes) else {
+        return Ok(None);
+    };
+    let mut document = match jsonptr_value::read(alloc, text) {
         Ok(document) => document,
-        Err(error) if error.is_memory() => return Err(AllocError),
-        Err(_) => return Ok(None),
+        Err(ReadError::Memory) => return Err(AllocError),
+        Err(ReadError::NotJson) => return Ok(None),
     };
     match apply_comparing(alloc, &mut document, before, Comparison::Numeric) {
         Ok(()) => fault_of(alloc, &mut document, &operation),

@@ -1,12 +1,12 @@
 //! Running a task on each line of an input, so that no number loses digits.
 
 use crate::digits::{LossError, is_checked, loss_of};
-use crate::style::Style;
+use crate::style::OutputStyle;
 use jptr_tasks::line::{Line, LineTask, put_fault, put_line};
 use jptr_tasks::lines::{Ended, run_lines};
 use jptr_tasks::task_error::TaskError;
 use jsonptr_edit_in_text::Buffers;
-use jsonptr_io::read::{Ending, NextLineError, next_line};
+use jsonptr_io::read::{Ending, next_line};
 use simdutf8::basic::from_utf8;
 use std::alloc::{AllocError, Global};
 use std::io::{BufRead, Write};
@@ -17,7 +17,7 @@ pub struct ExactTask<'a> {
     /// The task, and what is printed.
     pub run: LineTask<'a>,
     /// How the results are printed.
-    pub style: Style,
+    pub style: OutputStyle,
 }
 
 /// Does the task on each line of the input, as [`run_lines`] does. A line is also at fault if a number of
@@ -54,7 +54,7 @@ fn read_lines<R: BufRead, W: Write, E: Write>(
     let mut line = Vec::new(alloc);
     let mut ended = Ended::Fine;
     for number in 1..u64::MAX {
-        let ending = read_line(input, &mut line)?;
+        let ending = next_line(input, &mut line)?;
         if ending == Ending::Nothing {
             return Ok(ended);
         }
@@ -73,15 +73,6 @@ fn read_lines<R: BufRead, W: Write, E: Write>(
         }
     }
     Err(TaskError::Read)
-}
-
-/// Reads the next line.
-fn read_line<R: BufRead>(input: &mut R, line: &mut Vec<u8>) -> Result<Ending, TaskError> {
-    match next_line(input, line) {
-        Ok(ending) => Ok(ending),
-        Err(NextLineError::Memory(error)) => Err(TaskError::Memory(error)),
-        Err(NextLineError::Read) => Err(TaskError::Read),
-    }
 }
 
 /// Writes the result of the line, or reports it. Returns whether the line has a result.

@@ -1,8 +1,9 @@
 //! The flag `--no-expand`: no container is created on the way to a value, and no scalar replaced by one.
 
-use crate::program_error::{NOT_APPLIED, ProgramError};
+use crate::program_error::ProgramError;
 use crate::source::Source;
 use crate::toml_file;
+use jptr_tasks::exit_status::NOT_APPLIED;
 use jptr_tasks::node::scalar_above;
 use jptr_tasks::task::Task;
 use jptr_tasks::task_error::TaskError;

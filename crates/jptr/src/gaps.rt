@@ -1,6 +1,8 @@
 //! Arrays whose elements are missing in lines that build a document.
 
-use crate::program_error::{NOT_APPLIED, ProgramError};
+use crate::program_error::ProgramError;
+use jptr_tasks::exit_status::NOT_APPLIED;
+use jsonptr::index::Index;
 use std::alloc::{AllocError, Global};
 
 /// The greatest number of elements that are added to an array at once.
@@ -8,7 +10,7 @@ const MOST: usize = 1_048_576;
 
 /// A line, with what is before it.
 #[derive(Clone, Copy, Drop)]
-struct Line<'t> {
+struct PathLine<'t> {
     /// Its number, from 1.
     number: usize,
     /// The text of its pointer.
@@ -41,9 +43,9 @@ impl Cursor {
     }
 
     /// Returns the next line of the text, which is this one, and moves past it.
-    fn pass<'t>(&mut self, text: &'t str, line: &'t str) -> Line<'t> {
+    fn pass<'t>(&mut self, text: &'t str, line: &'t str) -> PathLine<'t> {
         self.number = self.number.saturating_add(1);
-        let passed = Line {
+        let passed = PathLine {
             number: self.number,
             pointer: pointer_of_line(line),
             previous: pointer_of_line(text.get(self.last..self.next).unwrap_or("")),
@@ -57,7 +59,7 @@ impl Cursor {
 
 /// Elements that are missing in an array: those from one index up to another.
 #[derive(Clone, Copy, Drop)]
-struct Gap<'t> {
+struct MissingElements<'t> {
     /// The text of the array's pointer.
     above: &'t str,
     /// The index of the first one.
@@ -85,7 +87,7 @@ pub fn check_gaps(alloc: Global, name: &str, text: &str) -> Result<(), ProgramEr
 }
 
 /// Fails if the line makes an object of an array whose elements are missing.
-fn check_line(alloc: Global, name: &str, line: Line<'_>) -> Result<(), ProgramError> {
+fn check_line(alloc: Global, name: &str, line: PathLine<'_>) -> Result<(), ProgramError> {
     for (slash, byte) in line.pointer.as_bytes().iter().enumerate() {
         if *byte == b'/' {
             if let Some(gap) = new_gap(alloc, line, slash)? {
@@ -115,7 +117,7 @@ pub fn fill_gaps(alloc: Global, name: &str, text: &str) -> Result<Filled, Progra
 fn fill_line(
     alloc: Global,
     name: &str,
-    line: Line<'_>,
+    line: PathLine<'_>,
     filled: &mut Filled,
 ) -> Result<(), ProgramError> {
     for (slash, byte) in line.pointer.as_bytes().iter().enumerate() {
@@ -134,7 +136,12 @@ fn fill_line(
 }
 
 /// Fails if too many elements are missing.
-fn check_size(alloc: Global, name: &str, number: usize, gap: Gap<'_>) -> Result<(), ProgramError> {
+fn check_size(
+    alloc: Global,
+    name: &str,
+    number: usize,
+    gap: MissingElements<'_>,
+) -> Result<(), ProgramError> {
     if gap.to.saturating_sub(gap.from) <= MOST {
         return Ok(());
     }
@@ -162,7 +169,12 @@ impl Filled {
     }
 
     /// Adds a line with `null` for each element of the gap.
-    fn add_nulls(&mut self, alloc: Global, number: usize, gap: Gap<'_>) -> Result<(), AllocError> {
+    fn add_nulls(
+        &mut self,
+        alloc: Global,
+        number: usize,
+        gap: MissingElements<'_>,
+    ) -> Result<(), AllocError> {
         for index in gap.from..gap.to {
             let above = gap.above;
             let line = format!(in alloc; "{above}/{index}\tnull")?;
@@ -182,7 +194,7 @@ fn pointer_of_line(line: &str) -> &str {
 
 /// Returns the gap before the element that the token after the slash names, in the array that the line
 /// before goes through too.
-fn next_gap<'t>(line: Line<'t>, slash: usize) -> Option<Gap<'t>> {
+fn next_gap<'t>(line: PathLine<'t>, slash: usize) -> Option<MissingElements<'t>> {
     if !is_shared(line, slash) {
         return None;
     }
@@ -190,15 +202,19 @@ fn next_gap<'t>(line: Line<'t>, slash: usize) -> Option<Gap<'t>> {
     let from = index_after(line.previous, slash)?.saturating_add(1);
     let above = line.pointer.get(..slash)?;
     if from < to {
-        Some(Gap { above, from, to })
+        Some(MissingElements { above, from, to })
     } else {
         None
     }
 }
 
 /// Returns the gap before the element that the token after the slash names, in a container that no line
-/// before goes through.
-fn new_gap<'t>(alloc: Global, line: Line<'t>, slash: usize) -> Result<Option<Gap<'t>>, AllocError> {
+/// before goes through. It may have a line of its own, as an empty array.
+fn new_gap<'t>(
+    alloc: Global,
+    line: PathLine<'t>,
+    slash: usize,
+) -> Result<Option<MissingElements<'t>>, AllocError> {
     if is_shared(line, slash) {
         return Ok(None);
     }
@@ -206,14 +222,19 @@ fn new_gap<'t>(alloc: Global, line: Line<'t>, slash: usize) -> Result<Option<Gap
     else {
         return Ok(None);
     };
-    if to == 0 || is_known(alloc, line.earlier, above)? {
+    if to == 0 {
         return Ok(None);
     }
-    Ok(Some(Gap { above, from: 0, to }))
+    let is_empty_array = has_line(alloc, line.earlier, above, "\t[")?
+        && !has_line(alloc, line.earlier, above, "/")?;
+    if !is_empty_array && is_known(alloc, line.earlier, above)? {
+        return Ok(None);
+    }
+    Ok(Some(MissingElements { above, from: 0, to }))
 }
 
 /// Returns whether the line before goes through the container above the slash.
-fn is_shared(line: Line<'_>, slash: usize) -> bool {
+fn is_shared(line: PathLine<'_>, slash: usize) -> bool {
     match line.pointer.get(..slash.saturating_add(1)) {
         Some(front) => line.previous.starts_with(front),
         None => false,
@@ -227,10 +248,10 @@ fn index_after(pointer: &str, slash: usize) -> Option<usize> {
         Some((token, _rest)) => token,
         None => rest,
     };
-    if token.starts_with('+') || (token.starts_with('0') && token != "0") {
-        return None;
+    match token.parse::<Index>() {
+        Ok(Index::Num(index)) => Some(index),
+        _ => None,
     }
-    token.parse::<usize>().ok()
 }
 
 /// Returns whether one of the lines goes through the container, or has a container as its value above it.
@@ -267,12 +288,12 @@ fn has_line(alloc: Global, lines: &str, pointer: &str, then: &str) -> Result<boo
 }
 
 /// Returns the error of a line before which elements are missing.
-fn gap_error(alloc: Global, name: &str, number: usize, gap: Gap<'_>) -> ProgramError {
+fn gap_error(alloc: Global, name: &str, number: usize, gap: MissingElements<'_>) -> ProgramError {
     ProgramError::of_message(alloc, NOT_APPLIED, name, message(alloc, number, gap))
 }
 
 /// Returns what is said of a line before which elements are missing.
-fn message(alloc: Global, number: usize, gap: Gap<'_>) -> Result<String, AllocError> {
+fn message(alloc: Global, number: usize, gap: MissingElements<'_>) -> Result<String, AllocError> {
     let (above, to) = (gap.above, gap.to);
     let at = if above.is_empty() { "" } else { " at " };
     format!(in alloc;

@@ -23,8 +23,8 @@ const SET_USER: u32 = 0o4000;
 const SET_GROUP: u32 = 0o2000;
 
 /// Opens the file for an edit, and reads its text.
-pub fn open_file(rt: &HostRuntime, path: &str) -> Result<(Target, Vec<u8>), ProgramError> {
-    match Target::open(rt, path) {
+pub fn open_file(rt: &HostRuntime, path: &str) -> Result<(EditedFile, Vec<u8>), ProgramError> {
+    match EditedFile::open(rt, path) {
         Ok(opened) => Ok(opened),
         Err(error) => Err(file_error(rt.alloc(), path, &error)),
     }
@@ -34,7 +34,7 @@ pub fn open_file(rt: &HostRuntime, path: &str) -> Result<(Target, Vec<u8>), Prog
 pub fn replace_text(
     rt: &HostRuntime,
     path: &str,
-    target: &Target,
+    target: &EditedFile,
     text: &str,
 ) -> Result<(), ProgramError> {
     match target.replace(rt, text) {
@@ -53,7 +53,7 @@ pub fn replace_text(
 /// A regular file that is open for an edit. While it is, no other edit of this program opens it, if the
 /// file system has locks.
 #[derive(Drop)]
-pub struct Target {
+pub struct EditedFile {
     /// Its path, without links.
     path: String,
     /// The open file, which has the lock.
@@ -62,14 +62,14 @@ pub struct Target {
     seen: Metadata,
 }
 
-impl Target {
+impl EditedFile {
     /// Opens the file, and reads its text. A symbolic link is followed, and stays.
     ///
     /// # Errors
     ///
     /// Those of the system; one if the file is not a regular file; and one if another edit has it
     /// open.
-    fn open(rt: &HostRuntime, path: &str) -> io::Result<(Target, Vec<u8>)> {
+    fn open(rt: &HostRuntime, path: &str) -> io::Result<(EditedFile, Vec<u8>)> {
         let path = String::from_str(rt.alloc(), fs::canonicalize(rt, path)?.as_path().as_str())?;
         let mut file = File::open(rt, path.as_str())?;
         let seen = file.metadata()?;
@@ -86,7 +86,7 @@ impl Target {
         }
         let mut bytes = Vec::new(rt.alloc());
         file.read_to_end(&mut bytes)?;
-        Ok((Target { path, file, seen }, bytes))
+        Ok((EditedFile { path, file, seen }, bytes))
     }
 
     /// Replaces the text of the file.
@@ -113,7 +113,7 @@ struct System<'t> {
     /// The runtime.
     rt: &'t HostRuntime,
     /// The file that is replaced.
-    target: &'t Target,
+    target: &'t EditedFile,
     /// The new text.
     text: &'t str,
     /// The temporary file, once it is there.
@@ -264,7 +264,7 @@ fn take_rights(file: &File, seen: &Metadata) -> io::Result<()> {
 }
 
 /// Fails if the file is not the one that was opened, or was changed since.
-fn look(rt: &HostRuntime, target: &Target) -> io::Result<()> {
+fn look(rt: &HostRuntime, target: &EditedFile) -> io::Result<()> {
     let now = fs::metadata(rt, target.path.as_str())?;
     if is_same(&now, &target.seen) {
         Ok(())

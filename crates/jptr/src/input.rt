@@ -1,6 +1,8 @@
 //! The input of a command: a file, or standard input.
 
-use crate::program_error::{FILE, ProgramError};
+use crate::program_error::ProgramError;
+use jptr_tasks::exit_status::FILE;
+use jsonptr_value::ReadError;
 use serde_json::Value;
 use simdutf8::basic::from_utf8;
 use std::alloc::Global;
@@ -59,7 +61,7 @@ pub fn open(rt: &HostRuntime, file: Option<&str>) -> Result<Input, ProgramError>
 }
 
 /// Reads all of the input.
-pub fn read_all(rt: &HostRuntime, file: Option<&str>) -> Result<Vec<u8>, ProgramError> {
+pub fn read_input(rt: &HostRuntime, file: Option<&str>) -> Result<Vec<u8>, ProgramError> {
     let mut input = open(rt, file)?;
     let mut bytes = Vec::new(rt.alloc());
     match input.read_to_end(&mut bytes) {
@@ -78,10 +80,10 @@ pub fn text_in<'a>(alloc: Global, name: &str, bytes: &'a [u8]) -> Result<&'a str
 
 /// Returns the value that the bytes of a JSON document are.
 pub fn value_in(alloc: Global, name: &str, bytes: &[u8]) -> Result<Value, ProgramError> {
-    match Value::from_slice(alloc, bytes) {
+    match jsonptr_value::read(alloc, text_in(alloc, name, bytes)?) {
         Ok(value) => Ok(value),
-        Err(error) if error.is_memory() => Err(ProgramError::Memory),
-        Err(_) => Err(ProgramError::of_bytes(alloc, name, bytes)),
+        Err(ReadError::Memory) => Err(ProgramError::Memory),
+        Err(ReadError::NotJson) => Err(ProgramError::of_bytes(alloc, name, bytes)),
     }
 }
 

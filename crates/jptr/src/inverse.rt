@@ -2,12 +2,13 @@
 
 use crate::digits::check_inverse;
 use crate::input::{is_standard, name_of};
-use crate::program_error::{ProgramError, USAGE};
+use crate::program_error::ProgramError;
 use crate::source::Source;
-use crate::style::{Style, style_of};
+use crate::style::{OutputStyle, style_of};
 use crate::task::source_result;
 use crate::written::Written;
 use clap::ArgMatches;
+use jptr_tasks::exit_status::USAGE;
 use jptr_tasks::inverse::inverse_of;
 use jptr_tasks::raw_patch::RawPatch;
 use jptr_tasks::task::Task;
@@ -22,7 +23,7 @@ struct Patching<'a> {
     /// The patch.
     patch: RawPatch,
     /// How the new document and the inverse are printed.
-    style: Style,
+    style: OutputStyle,
     /// The name of the file for the inverse.
     undo: &'a str,
 }

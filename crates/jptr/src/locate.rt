@@ -4,9 +4,10 @@ use crate::input::{is_standard, name_of};
 use crate::operands::{check_json, pointer_of};
 use crate::output::print_line;
 use crate::position::Position;
-use crate::program_error::{NOT_APPLIED, ProgramError, USAGE};
-use crate::source::{Format, Source};
+use crate::program_error::ProgramError;
+use crate::source::{FileFormat, Source};
 use clap::ArgMatches;
+use jptr_tasks::exit_status::{NOT_APPLIED, USAGE};
 use jptr_tasks::task_error::TaskError;
 use jsonptr::Pointer;
 use jsonptr_edit_in_text::{LocateError, PointerAt, locate_in_text, pointer_at};
@@ -44,7 +45,7 @@ fn print_position(
     let alloc = rt.alloc();
     let pointer = pointer_of(alloc, pointer)?;
     check_json(alloc, "locate", file)?;
-    let source = Source::read_as(rt, Format::of_file(matches, file), file)?;
+    let source = Source::read_as(rt, FileFormat::of_file(matches, file), file)?;
     match locate_in_text(alloc, source.text(alloc)?, pointer) {
         Ok(located) => {
             let line = position_line(alloc, file, Position::after(located.before))?;
@@ -66,7 +67,7 @@ fn print_pointer(
         return Err(ProgramError::new(alloc, USAGE, "--at", "is not LINE:COLUMN, both from 1"));
     };
     check_json(alloc, "locate", file)?;
-    let source = Source::read_as(rt, Format::of_file(matches, file), file)?;
+    let source = Source::read_as(rt, FileFormat::of_file(matches, file), file)?;
     let text = source.text(alloc)?;
     let Some(offset) = position.offset_in(text) else {
         return Err(nothing_at(alloc, &source, place));

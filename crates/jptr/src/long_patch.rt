@@ -3,7 +3,7 @@
 use crate::patch_file::PatchFile;
 use crate::program_error::ProgramError;
 use crate::source::Source;
-use crate::style::{Style, indented, style_of};
+use crate::style::{OutputStyle, indented, style_of};
 use crate::task::{checked, on_source};
 use clap::ArgMatches;
 use jptr_tasks::layout::Layout;
@@ -47,7 +47,7 @@ pub fn patch_long(
 /// Returns the new document, or `None` if the operations have to be applied in the text, one by one.
 fn new_text(
     alloc: Global,
-    style: Style,
+    style: OutputStyle,
     bytes: &[u8],
     patch: &PatchFile<'_>,
 ) -> Result<Option<String>, TaskError> {
@@ -77,7 +77,7 @@ fn loses_digits(alloc: Global, text: &str) -> Result<bool, AllocError> {
 /// Applies the operations in the text.
 fn one_by_one(
     rt: &HostRuntime,
-    style: Style,
+    style: OutputStyle,
     is_check: bool,
     source: &Source<'_>,
     patch: PatchFile<'_>,

@@ -14,7 +14,6 @@ mod drawn;
 mod exact_lines;
 mod expansion;
 mod gaps;
-mod given;
 mod in_place;
 mod input;
 mod inverse;
@@ -35,6 +34,7 @@ mod style;
 mod syntax;
 mod task;
 mod toml_file;
+mod value_argument;
 mod written;
 
 use std::process::ExitCode;
@@ -44,10 +44,8 @@ fn main(rt: HostRuntime) -> ExitCode {
     match commands::run(&rt) {
         Ok(status) => ExitCode::from(status),
         Err(error) => {
-            if let Some(text) = error.text() {
-                // If standard error fails too, there is nowhere to report it.
-                let _ = eprint!(rt; "{text}");
-            }
+            // If standard error fails too, there is nowhere to report it.
+            let _ = eprint!(rt; "{error}");
             ExitCode::from(error.status())
         }
     }

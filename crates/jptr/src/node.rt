@@ -1,19 +1,22 @@
 //! Commands on the value that a pointer resolves to: its type, its length, its keys, and a test.
 
-use crate::given::Given;
-use crate::operands::{argument, pointer_of};
+use crate::operands::{argument, check_json, file_of, pointer_of};
 use crate::output::print_text;
-use crate::program_error::{NOT_APPLIED, ProgramError};
-use crate::source::Source;
+use crate::program_error::ProgramError;
+use crate::source::{FileFormat, Source};
 use crate::style::layout_of;
+use crate::value_argument::ValueArgument;
 use clap::ArgMatches;
+use jptr_tasks::exit_status::NOT_APPLIED;
 use jptr_tasks::layout::{Layout, show};
 use jptr_tasks::node::{NodeType, equals_in_text, keys_in_text, length_in_text, type_in_text};
 use jptr_tasks::task_error::TaskError;
 use jsonptr::Pointer;
 use jsonptr_in_text::exists_in_text;
+use jsonptr_value::ReadError;
 use serde_json::{Map, Value};
 use std::alloc::{AllocError, Global};
+use std::fs;
 
 /// Prints the type, the length or the keys of the value, as the command with this name says.
 pub fn print_node(
@@ -75,16 +78,40 @@ fn key_lines(
 pub fn test(rt: &HostRuntime, matches: &ArgMatches<'_>) -> Result<u8, ProgramError> {
     let alloc = rt.alloc();
     let pointer = pointer_of(alloc, argument(matches, "POINTER"))?;
-    let value = match matches.get_str("JSON") {
-        Some(word) => Some(Given::read(rt, matches, word)?.json(alloc)?),
-        None => None,
+    let word = matches.get_str("JSON");
+    let is_file = is_file(rt, matches, word);
+    let value = match word {
+        Some(word) if !is_file => Some(ValueArgument::read(rt, matches, word)?.json(alloc)?),
+        _ => None,
     };
-    let source = Source::open_json(rt, matches, "test")?;
+    let file = if is_file { word } else { file_of(matches) };
+    check_json(alloc, "test", file)?;
+    let source = Source::read_as(rt, FileFormat::of_file(matches, file), file)?;
     match passes(alloc, source.text(alloc)?, pointer, value) {
         Ok(true) => Ok(0),
         Ok(false) => Ok(NOT_APPLIED),
         Err(TaskError::NoValue(_error)) => Ok(NOT_APPLIED),
         Err(error) => Err(source.error(alloc, pointer.as_str(), error)),
+    }
+}
+
+/// Returns whether the last argument is the name of a file, and not a JSON text.
+fn is_file(rt: &HostRuntime, matches: &ArgMatches<'_>, word: Option<&str>) -> bool {
+    match word {
+        Some(word) => matches.get_str("FILE").is_none()
+            && !matches.get_flag("string")
+            && is_not_json(rt.alloc(), word)
+            && fs::metadata(rt, word).is_ok(),
+        None => false,
+    }
+}
+
+/// Returns whether the text is not JSON, as far as there is memory to read it.
+fn is_not_json(alloc: Global, text: &str) -> bool {
+    match jsonptr_value::read(alloc, text) {
+        Err(ReadError::NotJson) => true,
+        Err(ReadError::Memory) => false,
+        Ok(_value) => false,
     }
 }
 

@@ -1,7 +1,8 @@
 //! The arguments of a command: pointers and files.
 
-use crate::program_error::{ProgramError, USAGE};
+use crate::program_error::ProgramError;
 use clap::ArgMatches;
+use jptr_tasks::exit_status::USAGE;
 use jsonptr::Pointer;
 use std::alloc::{AllocError, Global};
 

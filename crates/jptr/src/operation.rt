@@ -1,12 +1,13 @@
 //! Commands that are one operation of a patch (RFC 6902): `insert`, `move`, `copy` and `rename`.
 
-use crate::given::Given;
 use crate::operands::{argument, check_json, pointer_of};
-use crate::program_error::{NOT_APPLIED, ProgramError, USAGE};
+use crate::program_error::ProgramError;
 use crate::source::Source;
 use crate::style::style_of;
 use crate::task::{run_task, tried};
+use crate::value_argument::ValueArgument;
 use clap::ArgMatches;
+use jptr_tasks::exit_status::{NOT_APPLIED, USAGE};
 use jptr_tasks::node::{NodeType, type_in_text};
 use jptr_tasks::patching::raw_patch;
 use jptr_tasks::raw_patch::RawPatch;
@@ -15,13 +16,17 @@ use jptr_tasks::task_error::TaskError;
 use jsonptr::{Pointer, PointerBuf, Token};
 use jsonptr_in_text::{InTextError, exists_in_text};
 use jsonptr_patch::PatchError;
+use jsonptr_value::ReadError;
 use serde_json::Value;
 use std::alloc::{AllocError, Global};
 use std::borrow::CowStr;
 
+/// Why a value is not moved.
+const INTO_SELF: &str = "FROM is a proper prefix of POINTER";
+
 /// An operation, and the pointers that an error can be about.
 #[derive(Drop)]
-struct Operation<'a> {
+struct SingleOperation<'a> {
     /// The text of the patch that it is.
     patch: String,
     /// Where the value is taken from, if it is in the document.
@@ -35,11 +40,11 @@ pub fn insert(rt: &HostRuntime, matches: &ArgMatches<'_>) -> Result<u8, ProgramE
     let alloc = rt.alloc();
     check_json(alloc, "insert", matches.get_str("FILE"))?;
     let path = pointer_of(alloc, argument(matches, "POINTER"))?;
-    let value = Given::read(rt, matches, argument(matches, "JSON"))?.raw(alloc)?;
+    let value = ValueArgument::read(rt, matches, argument(matches, "JSON"))?.raw(alloc)?;
     let value = value.text.flat.as_str();
     let quoted = quoted(alloc, path)?;
     let patch = format!(in alloc; "[{{\"op\":\"add\",\"path\":{quoted},\"value\":{value}}}]")?;
-    let operation = Operation {
+    let operation = SingleOperation {
         patch,
         from: None,
         path,
@@ -66,10 +71,10 @@ fn transfer_of<'a>(
     name: &str,
     from: Pointer<'a>,
     path: Pointer<'a>,
-) -> Result<Operation<'a>, AllocError> {
+) -> Result<SingleOperation<'a>, AllocError> {
     let (old, new) = (quoted(alloc, from)?, quoted(alloc, path)?);
     let patch = format!(in alloc; "[{{\"op\":\"{name}\",\"from\":{old},\"path\":{new}}}]")?;
-    Ok(Operation {
+    Ok(SingleOperation {
         patch,
         from: Some(from),
         path,
@@ -93,15 +98,16 @@ pub fn rename(rt: &HostRuntime, matches: &ArgMatches<'_>) -> Result<u8, ProgramE
     let key = argument(matches, "KEY");
     path.push_back(Token::new(alloc, CowStr::Borrowed(key))?)?;
     let source = Source::open(rt, matches)?;
-    check_member(alloc, &source, parent, &path)?;
+    check_member(alloc, &source, from, parent, &path)?;
     let operation = transfer_of(alloc, "move", from, path.as_ptr())?;
     put(rt, matches, &source, &operation)
 }
 
-/// Fails if the parent is no object, or has a member with the new pointer.
+/// Fails if the parent is no object, if it has no such member, or if it has one with the new pointer.
 fn check_member(
     alloc: Global,
     source: &Source<'_>,
+    from: Pointer<'_>,
     parent: Pointer<'_>,
     path: &PointerBuf,
 ) -> Result<(), ProgramError> {
@@ -115,6 +121,9 @@ fn check_member(
             "not a member of an object",
         )),
         Err(error) => return Err(source.error(alloc, parent.as_str(), error)),
+    }
+    if let Err(error) = type_in_text(alloc, text, from) {
+        return Err(source.error(alloc, from.as_str(), error));
     }
     match exists_in_text(alloc, text, path.as_ptr()) {
         Ok(false) => Ok(()),
@@ -132,7 +141,7 @@ fn check_member(
 fn run(
     rt: &HostRuntime,
     matches: &ArgMatches<'_>,
-    operation: &Operation<'_>,
+    operation: &SingleOperation<'_>,
 ) -> Result<u8, ProgramError> {
     if matches.get_flag("lines") {
         let patch = patch_of(rt.alloc(), operation.patch.as_str())?;
@@ -143,11 +152,13 @@ fn run(
 
 /// Returns the patch with this text.
 fn patch_of(alloc: Global, patch: &str) -> Result<RawPatch, ProgramError> {
-    let document = match Value::from_str(alloc, patch) {
+    let document = match jsonptr_value::read(alloc, patch) {
         Ok(document) => document,
-        Err(error) if error.is_memory() => return Err(ProgramError::Memory),
+        Err(ReadError::Memory) => return Err(ProgramError::Memory),
         // The value is JSON, but the patch with it nests two levels deeper.
-        Err(_) => return Err(ProgramError::of_error(alloc, "JSON", "", TaskError::PatchTooDeep)),
+        Err(ReadError::NotJson) => {
+            return Err(ProgramError::of_error(alloc, "JSON", "", TaskError::PatchTooDeep));
+        }
     };
     match raw_patch(alloc, document, patch) {
         Ok(raw) => Ok(raw),
@@ -160,7 +171,7 @@ fn put(
     rt: &HostRuntime,
     matches: &ArgMatches<'_>,
     source: &Source<'_>,
-    operation: &Operation<'_>,
+    operation: &SingleOperation<'_>,
 ) -> Result<u8, ProgramError> {
     let alloc = rt.alloc();
     let style = style_of(alloc, matches)?;
@@ -169,6 +180,9 @@ fn put(
         Ok(new) => {
             source.put(rt, new.as_str())?;
             Ok(0)
+        }
+        Err(TaskError::BadPatch(PatchError::MoveIntoSelf { .. })) => {
+            Err(ProgramError::new(alloc, NOT_APPLIED, source.name, INTO_SELF))
         }
         Err(error) => {
             let pointer = pointer_at_fault(alloc, source, operation)?;
@@ -190,7 +204,7 @@ fn error_of(error: TaskError) -> TaskError {
 fn pointer_at_fault<'a>(
     alloc: Global,
     source: &Source<'_>,
-    operation: &Operation<'a>,
+    operation: &SingleOperation<'a>,
 ) -> Result<Pointer<'a>, ProgramError> {
     let Some(from) = operation.from else {
         return Ok(operation.path);

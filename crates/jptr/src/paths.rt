@@ -4,7 +4,7 @@ use crate::digits::{check_bytes, check_lines, is_lossy};
 use crate::gaps::{check_gaps, fill_gaps};
 use crate::output::print_text;
 use crate::program_error::ProgramError;
-use crate::source::{Format, Source};
+use crate::source::{FileFormat, Source};
 use crate::style::layout_of;
 use crate::toml_file;
 use clap::ArgMatches;
@@ -24,8 +24,13 @@ pub fn paths(rt: &HostRuntime, matches: &ArgMatches<'_>) -> Result<u8, ProgramEr
         Listed::Leaves
     };
     let lines = match source.format {
-        Format::Json | Format::Commented => lines_of(alloc, which, is_lossy(matches), &source)?,
-        Format::Toml => toml_file::lines_of(alloc, which, &source)?,
+        FileFormat::Json | FileFormat::Commented => lines_of(
+            alloc,
+            which,
+            is_lossy(matches),
+            &source,
+        )?,
+        FileFormat::Toml => toml_file::lines_of(alloc, which, &source)?,
     };
     print_text(rt, lines.as_str())?;
     Ok(0)
@@ -38,7 +43,7 @@ fn lines_of(
     is_lossy: bool,
     source: &Source<'_>,
 ) -> Result<String, ProgramError> {
-    match listed_text(alloc, which, &source.bytes) {
+    match listed_text(alloc, &source.bytes, which) {
         Ok(lines) => {
             if !is_lossy {
                 check_bytes(alloc, source.name, &source.bytes)?;
@@ -56,7 +61,7 @@ pub fn from_paths(rt: &HostRuntime, matches: &ArgMatches<'_>) -> Result<u8, Prog
     if matches.get_flag("fill") {
         return from_filled(rt, matches, &lines);
     }
-    match built_text(alloc, layout_of(matches), &lines.bytes) {
+    match built_text(alloc, &lines.bytes, layout_of(matches)) {
         Ok(text) => {
             check_gaps(alloc, lines.name, from_utf8(&lines.bytes).unwrap_or(""))?;
             put_built(rt, matches, &lines, text.as_str())
@@ -76,7 +81,7 @@ fn from_filled(
         return Err(lines.error(alloc, "", TaskError::NotUtf8));
     };
     let filled = fill_gaps(alloc, lines.name, text)?;
-    match built_text(alloc, layout_of(matches), filled.text.as_bytes()) {
+    match built_text(alloc, filled.text.as_bytes(), layout_of(matches)) {
         Ok(text) => put_built(rt, matches, lines, text.as_str()),
         Err(TaskError::BadLine(number, error)) => {
             let error = TaskError::BadLine(filled.number_of(number), error);

@@ -1,34 +1,30 @@
 //! The errors of the program, as they are printed.
 
 use crate::syntax::{explain, unclosed_comment};
+use jptr_tasks::exit_status::{MEMORY, NOT_APPLIED, NOT_JSON};
 use jptr_tasks::task_error::TaskError;
 use jsonptr::diagnostic::Diagnostic;
 use jsonptr::{EncodingError, ParseError, PointerBuf};
 use serde_json::Value;
 use simdutf8::basic::from_utf8;
 use std::alloc::{AllocError, AllocFailed, Global};
+use thiserror::Error;
 
 /// An error of the program: its exit status, and what is printed on standard error.
-#[derive(Debug, Drop)]
+///
+/// Its text is what is printed, with its line breaks.
+#[derive(Debug, Drop, Error)]
 pub enum ProgramError {
     /// Nobody reads the output any more. That is no error, and nothing is printed.
+    #[error("")]
     OutputClosed,
     /// An allocation failed.
+    #[error("jptr: out of memory\n")]
     Memory,
     /// Any other error, with its exit status and its text.
+    #[error("{1}")]
     Other(u8, String),
 }
-
-/// The exit status if a pointer, a patch or an edit does not apply, or two values differ.
-pub const NOT_APPLIED: u8 = 1;
-/// The exit status if the command line is wrong.
-pub const USAGE: u8 = 2;
-/// The exit status if a text is not JSON or TOML, or a number loses digits.
-pub const NOT_JSON: u8 = 3;
-/// The exit status if an allocation failed.
-pub const MEMORY: u8 = 4;
-/// The exit status if a file could not be read or written.
-pub const FILE: u8 = 5;
 
 impl ProgramError {
     /// Returns the exit status.
@@ -37,15 +33,6 @@ impl ProgramError {
             ProgramError::OutputClosed => 0,
             ProgramError::Memory => MEMORY,
             ProgramError::Other(status, _) => *status,
-        }
-    }
-
-    /// Returns what is printed on standard error, with its line breaks.
-    pub fn text(&self) -> Option<&str> {
-        match self {
-            ProgramError::OutputClosed => None,
-            ProgramError::Memory => Some("jptr: out of memory\n"),
-            ProgramError::Other(_, text) => Some(text.as_str()),
         }
     }
 
@@ -283,8 +270,8 @@ fn json_text(alloc: Global, name: &str, bytes: &[u8]) -> Result<String, AllocErr
         }
     }
     match Value::from_slice(alloc, bytes) {
-        Ok(_) => format!(in alloc; "jptr: {name}: not JSON\n"),
+        Ok(_) => format!(in alloc; "jptr: {name}: text is not JSON\n"),
         Err(error) if error.is_memory() => Err(AllocError),
-        Err(error) => format!(in alloc; "jptr: {name}: not JSON: {error}\n"),
+        Err(error) => format!(in alloc; "jptr: {name}: text is not JSON: {error}\n"),
     }
 }

@@ -3,9 +3,10 @@
 use crate::digits::{check_text, is_lossy};
 use crate::input::is_standard;
 use crate::operands::check_json;
-use crate::program_error::{NOT_APPLIED, ProgramError, USAGE};
+use crate::program_error::ProgramError;
 use crate::source::Source;
 use clap::ArgMatches;
+use jptr_tasks::exit_status::{NOT_APPLIED, USAGE};
 use jsonptr_relayout::{Relaid, RelayoutError, relayout_text};
 use std::alloc::Global;
 

@@ -2,14 +2,15 @@
 //! printed or changed.
 
 use crate::expansion::check_expansion;
-use crate::given::{Given, json_default};
 use crate::operands::{argument, pointer_of};
 use crate::output::print_text;
-use crate::program_error::{ProgramError, USAGE};
-use crate::source::{Format, Source};
-use crate::style::{Style, style_of};
+use crate::program_error::ProgramError;
+use crate::source::{FileFormat, Source};
+use crate::style::{OutputStyle, style_of};
 use crate::task::{result_of, source_result};
+use crate::value_argument::{ValueArgument, json_default};
 use clap::ArgMatches;
+use jptr_tasks::exit_status::USAGE;
 use jptr_tasks::layout::Layout;
 use jptr_tasks::task::Task;
 use jsonptr::Pointer;
@@ -33,7 +34,7 @@ pub fn set_task<'a>(
     value: &str,
 ) -> Result<Task<'a>, ProgramError> {
     let pointer = pointer_of(rt.alloc(), pointer)?;
-    let value = Given::read(rt, matches, value)?.raw(rt.alloc())?;
+    let value = ValueArgument::read(rt, matches, value)?.raw(rt.alloc())?;
     Ok(Task::Set(pointer, value))
 }
 
@@ -52,10 +53,12 @@ pub fn get_each(
     }
     let style = style_of(alloc, matches)?;
     let source = Source::open(rt, matches)?;
-    print_text(
-        rt,
-        values_of(alloc, tasks.as_slice(), style, &source)?.as_str(),
-    )?;
+    let values = values_of(alloc, tasks.as_slice(), style, &source)?;
+    if style.layout == Layout::Raw {
+        print_text(rt, values.as_str())?;
+    } else {
+        source.print(rt, values.as_str())?;
+    }
     Ok(0)
 }
 
@@ -63,7 +66,7 @@ pub fn get_each(
 fn values_of(
     alloc: Global,
     tasks: &[Task<'_>],
-    style: Style,
+    style: OutputStyle,
     source: &Source<'_>,
 ) -> Result<String, ProgramError> {
     let mut values = String::new(alloc);
@@ -155,7 +158,7 @@ fn edit_each(
 fn edited_by_each(
     alloc: Global,
     tasks: &[Task<'_>],
-    style: Style,
+    style: OutputStyle,
     expands: bool,
     source: &Source<'_>,
 ) -> Result<String, ProgramError> {
@@ -175,7 +178,7 @@ fn check_several(alloc: Global, matches: &ArgMatches<'_>) -> Result<(), ProgramE
     if matches.get_flag("lines") {
         return Err(ProgramError::new(alloc, USAGE, "--lines", "takes one pointer"));
     }
-    if Format::of(matches) == Format::Toml {
+    if FileFormat::of(matches) == FileFormat::Toml {
         return Err(ProgramError::new(alloc, USAGE, "POINTER", "on TOML, one alone"));
     }
     Ok(())

@@ -1,15 +1,17 @@
 //! The document that a command reads: from standard input or a file, which may be changed in place.
 
+use crate::colors::{are_colored, colored_json};
 use crate::comments::{bare, other_layout};
 use crate::drawn::fault_of_patch;
-use crate::in_place::{Target, open_file, replace_text};
-use crate::input::{is_standard, name_of, read_all, text_in, value_in};
+use crate::in_place::{EditedFile, open_file, replace_text};
+use crate::input::{is_standard, name_of, read_input, text_in, value_in};
 use crate::operands::{check_json, file_of, is_commented_name, is_toml_name};
 use crate::output::print_text;
-use crate::program_error::{ProgramError, USAGE};
+use crate::program_error::ProgramError;
 use crate::task::document_error;
 use crate::written::Written;
 use clap::ArgMatches;
+use jptr_tasks::exit_status::USAGE;
 use jptr_tasks::task_error::TaskError;
 use serde_json::Value;
 use simdutf8::basic::from_utf8;
@@ -22,7 +24,7 @@ const MARK: &str = "\u{feff}";
 
 /// The format of a document.
 #[derive(Clone, Copy, PartialEq, Eq)]
-pub enum Format {
+pub enum FileFormat {
     /// JSON.
     Json,
     /// JSON with comments and trailing commas.
@@ -31,20 +33,20 @@ pub enum Format {
     Toml,
 }
 
-impl Format {
+impl FileFormat {
     /// Returns the format of the document: by the flag, or by the name of its file.
-    pub fn of(matches: &ArgMatches<'_>) -> Format {
-        Format::of_file(matches, file_of(matches))
+    pub fn of(matches: &ArgMatches<'_>) -> FileFormat {
+        FileFormat::of_file(matches, file_of(matches))
     }
 
     /// Returns the format of the document in this file: by the flag, or by its name.
-    pub fn of_file(matches: &ArgMatches<'_>, file: Option<&str>) -> Format {
+    pub fn of_file(matches: &ArgMatches<'_>, file: Option<&str>) -> FileFormat {
         if is_toml_name(file) || matches.get_flag("toml") {
-            Format::Toml
+            FileFormat::Toml
         } else if is_commented_name(file) || matches.get_flag("comments") {
-            Format::Commented
+            FileFormat::Commented
         } else {
-            Format::Json
+            FileFormat::Json
         }
     }
 }
@@ -55,7 +57,7 @@ pub struct Source<'a> {
     /// Its name in errors.
     pub name: &'a str,
     /// Its format.
-    pub format: Format,
+    pub format: FileFormat,
     /// Its bytes, without a byte order mark at their start. In JSON there are spaces instead of comments
     /// and trailing commas.
     pub bytes: Vec<u8>,
@@ -64,9 +66,11 @@ pub struct Source<'a> {
     /// Whether it starts with a byte order mark.
     pub has_mark: bool,
     /// Its file, if that is changed in place.
-    pub target: Option<Target>,
+    pub target: Option<EditedFile>,
     /// What happens to it if its file is missing.
     pub missing: Option<Missing>,
+    /// Whether what is printed of it has colours, if that is JSON.
+    is_colored: bool,
 }
 
 /// What happens to a document whose file is missing.
@@ -83,7 +87,7 @@ impl<'a> Source<'a> {
     /// and makes the document if the flag `--create` is there and its file is missing.
     pub fn open(rt: &HostRuntime, matches: &ArgMatches<'a>) -> Result<Source<'a>, ProgramError> {
         let file = file_of(matches);
-        let format = Format::of(matches);
+        let format = FileFormat::of(matches);
         if let Some(missing) = missing_file(rt, matches, file)? {
             let bytes = empty_document(rt.alloc(), format)?;
             let mut source = Source::of(rt.alloc(), name_of(file), format, bytes)?;
@@ -91,10 +95,11 @@ impl<'a> Source<'a> {
             return Ok(source);
         }
         if matches.get_flag("in-place") {
-            Source::open_target(rt, format, file)
-        } else {
-            Source::read_as(rt, format, file)
+            return Source::open_target(rt, format, file);
         }
+        let mut source = Source::read_as(rt, format, file)?;
+        source.is_colored = are_colored(rt, matches)?;
+        Ok(source)
     }
 
     /// Reads the document of a command that takes JSON alone, as [`open`](Source::open) does.
@@ -109,23 +114,23 @@ impl<'a> Source<'a> {
 
     /// Reads a document that is JSON, or the lines that build one. It is not changed in place.
     pub fn read(rt: &HostRuntime, file: Option<&'a str>) -> Result<Source<'a>, ProgramError> {
-        Source::read_as(rt, Format::Json, file)
+        Source::read_as(rt, FileFormat::Json, file)
     }
 
     /// Reads a document of this format, which is not changed in place.
     pub fn read_as(
         rt: &HostRuntime,
-        format: Format,
+        format: FileFormat,
         file: Option<&'a str>,
     ) -> Result<Source<'a>, ProgramError> {
-        Source::of(rt.alloc(), name_of(file), format, read_all(rt, file)?)
+        Source::of(rt.alloc(), name_of(file), format, read_input(rt, file)?)
     }
 
     /// Returns the document with this name and these bytes.
     pub fn of(
         alloc: Global,
         name: &'a str,
-        format: Format,
+        format: FileFormat,
         bytes: Vec<u8>,
     ) -> Result<Source<'a>, ProgramError> {
         let mut source = Source {
@@ -136,11 +141,12 @@ impl<'a> Source<'a> {
             has_mark: false,
             target: None,
             missing: None,
+            is_colored: false,
         };
-        if format != Format::Toml {
+        if format != FileFormat::Toml {
             source.cut_mark(alloc)?;
         }
-        if format == Format::Commented {
+        if format == FileFormat::Commented {
             source.set_comments_aside(alloc)?;
         }
         Ok(source)
@@ -173,7 +179,7 @@ impl<'a> Source<'a> {
     /// Reads a document of this format, and opens its file for a change.
     fn open_target(
         rt: &HostRuntime,
-        format: Format,
+        format: FileFormat,
         file: Option<&'a str>,
     ) -> Result<Source<'a>, ProgramError> {
         if is_standard(file) {
@@ -205,8 +211,8 @@ impl<'a> Source<'a> {
     /// Returns its text, which in JSON has spaces instead of comments.
     pub fn text(&self, alloc: Global) -> Result<&str, ProgramError> {
         match self.format {
-            Format::Json | Format::Commented => text_in(alloc, self.name, &self.bytes),
-            Format::Toml => match from_utf8(&self.bytes) {
+            FileFormat::Json | FileFormat::Commented => text_in(alloc, self.name, &self.bytes),
+            FileFormat::Toml => match from_utf8(&self.bytes) {
                 Ok(text) => Ok(text),
                 Err(_) => Err(self.error(alloc, "", TaskError::NotUtf8)),
             },
@@ -249,6 +255,15 @@ impl<'a> Source<'a> {
         }
     }
 
+    /// Prints a text that is made of it, with colours if it is JSON without comments.
+    pub fn print(&self, rt: &HostRuntime, new: &str) -> Result<(), ProgramError> {
+        if self.is_colored && self.format != FileFormat::Toml && self.commented.is_none() {
+            print_text(rt, colored_json(rt.alloc(), new)?.as_str())
+        } else {
+            print_text(rt, new)
+        }
+    }
+
     /// Prints the whole text, or replaces the text of the file by it.
     fn put_text(&self, rt: &HostRuntime, new: &str) -> Result<(), ProgramError> {
         if self.missing == Some(Missing::Written) {
@@ -256,7 +271,7 @@ impl<'a> Source<'a> {
             return Ok(());
         }
         match &self.target {
-            None => print_text(rt, new),
+            None => self.print(rt, new),
             Some(target) => if self.is_its_text(new) {
                 Ok(())
             } else {
@@ -296,11 +311,11 @@ fn missing_file(
 }
 
 /// Returns the bytes of a document that is made: null, or an empty table.
-fn empty_document(alloc: Global, format: Format) -> Result<Vec<u8>, AllocError> {
+fn empty_document(alloc: Global, format: FileFormat) -> Result<Vec<u8>, AllocError> {
     let mut bytes = Vec::new(alloc);
     match format {
-        Format::Json | Format::Commented => bytes.extend_from_slice(b"null\n")?,
-        Format::Toml => {}
+        FileFormat::Json | FileFormat::Commented => bytes.extend_from_slice(b"null\n")?,
+        FileFormat::Toml => {}
     }
     Ok(bytes)
 }

@@ -1,8 +1,9 @@
 //! How results are printed.
 
 use crate::digits::is_lossy;
-use crate::program_error::{ProgramError, USAGE};
+use crate::program_error::ProgramError;
 use clap::ArgMatches;
+use jptr_tasks::exit_status::USAGE;
 use jptr_tasks::layout::Layout;
 use jptr_tasks::task_error::TaskError;
 use jsonptr_edit_in_text::{Buffers, IndentError, indent_text};
@@ -13,7 +14,7 @@ const SPACES: &str = "                ";
 
 /// How the document is edited and printed.
 #[derive(Clone, Copy)]
-pub struct Style {
+pub struct OutputStyle {
     /// How the result is printed.
     pub layout: Layout,
     /// The indentation of a level, if the flag `--indent` has one.
@@ -24,9 +25,9 @@ pub struct Style {
     pub is_lossy: bool,
 }
 
-impl Style {
+impl OutputStyle {
     /// Returns the style of a document that is made: on lines, unless another layout is asked for.
-    pub fn for_new(self) -> Style {
+    pub fn for_new(self) -> OutputStyle {
         let mut style = self;
         if style.layout == Layout::Kept {
             style.layout = Layout::Pretty;
@@ -36,7 +37,7 @@ impl Style {
 
     /// Returns the style of an edit of a document that is laid out after the last edit. If that is done
     /// anew, an edit is too where it cannot be made in the text.
-    pub fn for_edit(self) -> Style {
+    pub fn for_edit(self) -> OutputStyle {
         let mut style = self;
         style.reformats = self.reformats || self.layout != Layout::Kept;
         style.layout = Layout::Kept;
@@ -75,12 +76,12 @@ fn is_pretty(matches: &ArgMatches<'_>) -> bool {
 }
 
 /// Returns how the document is edited and printed.
-pub fn style_of(alloc: Global, matches: &ArgMatches<'_>) -> Result<Style, ProgramError> {
+pub fn style_of(alloc: Global, matches: &ArgMatches<'_>) -> Result<OutputStyle, ProgramError> {
     let indent = match matches.get_str("indent") {
         Some(text) => Some(indent_of(alloc, text)?),
         None => None,
     };
-    Ok(Style {
+    Ok(OutputStyle {
         layout: layout_of(matches),
         indent,
         reformats: matches.get_flag("reformat"),
@@ -104,7 +105,7 @@ fn indent_of(alloc: Global, text: &str) -> Result<&'static str, ProgramError> {
 }
 
 /// Returns what is printed, with the indentation of the style.
-pub fn indented(alloc: Global, style: Style, printed: String) -> Result<String, TaskError> {
+pub fn indented(alloc: Global, style: OutputStyle, printed: String) -> Result<String, TaskError> {
     let Some(indent) = style.indent else {
         return Ok(printed);
     };

@@ -323,12 +323,14 @@ fn reason_of(alloc: Global, after: &str, fault: SyntaxError) -> Result<String, A
     match fault {
         SyntaxError::Expected(what) => {
             let found = found_in(alloc, after)?;
-            format!(in alloc; "not JSON: expected {what}, found {found}")
+            format!(in alloc; "text is not JSON: expected {what}, found {found}")
         }
-        SyntaxError::Control => format!(in alloc; "not JSON: a control character in a string"),
+        SyntaxError::Control => format!(in alloc;
+            "text is not JSON: a control character in a string"
+        ),
         SyntaxError::Escape => {
             let found = found_in(alloc, after)?;
-            format!(in alloc; "not JSON: no escape of a string: {found}")
+            format!(in alloc; "text is not JSON: no escape of a string: {found}")
         }
         SyntaxError::Depth => format!(in alloc; "JSON, but nested deeper than {MAX_DEPTH}"),
         SyntaxError::Comment => format!(in alloc; "comment is not closed"),

@@ -1,5 +1,6 @@
 //! Running a task: on one document, on each line, or on a file in place.
 
+use crate::colors::are_colored;
 use crate::comments::{edited_with_comments, not_in_place, other_layout};
 use crate::digits::{check_result, is_checked};
 use crate::drawn::fault_of_task;
@@ -7,11 +8,12 @@ use crate::exact_lines::{ExactTask, run_exact_lines};
 use crate::input::{name_of, open};
 use crate::operands::file_of;
 use crate::output::{Output, print_text};
-use crate::program_error::{NOT_APPLIED, ProgramError, USAGE};
-use crate::source::{Format, Source};
-use crate::style::{Style, indented, style_of};
+use crate::program_error::ProgramError;
+use crate::source::{FileFormat, Source};
+use crate::style::{OutputStyle, indented, style_of};
 use clap::ArgMatches;
 use jptr_tasks::document::{document_result, run_document};
+use jptr_tasks::exit_status::{NOT_APPLIED, USAGE};
 use jptr_tasks::layout::{Layout, show};
 use jptr_tasks::line::LineTask;
 use jptr_tasks::lines::Ended;
@@ -38,14 +40,14 @@ pub fn run_styled(
     rt: &HostRuntime,
     matches: &ArgMatches<'_>,
     task: Task<'_>,
-    style: Style,
+    style: OutputStyle,
 ) -> Result<u8, ProgramError> {
     let file = file_of(matches);
     if matches.get_flag("check") {
         checked(rt.alloc(), &task, &Source::open(rt, matches)?)
     } else if matches.get_flag("lines") {
         on_lines(rt, matches, task, style)
-    } else if is_read_first(matches, &task, style) {
+    } else if is_read_first(matches, &task, style) || are_colored(rt, matches)? {
         on_source(rt, &task, style, &Source::open(rt, matches)?)
     } else {
         on_document(rt, &task, style, file)
@@ -54,16 +56,16 @@ pub fn run_styled(
 
 /// Returns whether the document is read before anything is printed: to change its file, to read past
 /// comments, to look for numbers that lose digits, or to print the result with an indentation of its own.
-fn is_read_first(matches: &ArgMatches<'_>, task: &Task<'_>, style: Style) -> bool {
+fn is_read_first(matches: &ArgMatches<'_>, task: &Task<'_>, style: OutputStyle) -> bool {
     matches.get_flag("in-place")
-        || Format::of(matches) == Format::Commented
+        || FileFormat::of(matches) == FileFormat::Commented
         || style.indent.is_some()
         || (style.layout != Layout::Kept && is_checked(task, style))
 }
 
 /// Runs the task on a document that is read, and prints nothing.
 pub fn checked(alloc: Global, task: &Task<'_>, source: &Source<'_>) -> Result<u8, ProgramError> {
-    match document_result(alloc, task, Layout::Kept, &source.bytes) {
+    match document_result(alloc, &source.bytes, task, Layout::Kept) {
         Ok(_new) => Ok(0),
         // The operations apply, but not in place.
         Err(TaskError::NotInPlace) => Ok(0),
@@ -75,7 +77,7 @@ pub fn checked(alloc: Global, task: &Task<'_>, source: &Source<'_>) -> Result<u8
 fn on_document(
     rt: &HostRuntime,
     task: &Task<'_>,
-    style: Style,
+    style: OutputStyle,
     file: Option<&str>,
 ) -> Result<u8, ProgramError> {
     let alloc = rt.alloc();
@@ -92,7 +94,7 @@ fn on_document(
             Ok(0)
         }
         Err(error) => {
-            let source = Source::of(alloc, name_of(file), Format::Json, bytes)?;
+            let source = Source::of(alloc, name_of(file), FileFormat::Json, bytes)?;
             if source.has_mark {
                 return on_source(rt, task, style, &source);
             }
@@ -106,12 +108,13 @@ fn on_document(
 pub fn on_source(
     rt: &HostRuntime,
     task: &Task<'_>,
-    style: Style,
+    style: OutputStyle,
     source: &Source<'_>,
 ) -> Result<u8, ProgramError> {
     let new = source_result(rt.alloc(), task, style, source)?;
     match task {
-        Task::Get(_, _) if source.target.is_none() => print_text(rt, new.as_str())?,
+        Task::Get(_, _) if style.layout == Layout::Raw => print_text(rt, new.as_str())?,
+        Task::Get(_, _) if source.target.is_none() => source.print(rt, new.as_str())?,
         _ => source.put(rt, new.as_str())?,
     }
     Ok(0)
@@ -121,7 +124,7 @@ pub fn on_source(
 pub fn source_result(
     alloc: Global,
     task: &Task<'_>,
-    style: Style,
+    style: OutputStyle,
     source: &Source<'_>,
 ) -> Result<String, ProgramError> {
     match tried(alloc, task, style, source)? {
@@ -135,7 +138,7 @@ pub fn source_result(
 pub fn tried(
     alloc: Global,
     task: &Task<'_>,
-    style: Style,
+    style: OutputStyle,
     source: &Source<'_>,
 ) -> Result<Result<String, TaskError>, ProgramError> {
     match &source.commented {
@@ -144,7 +147,7 @@ pub fn tried(
                 return Err(other_layout(alloc, source.name));
             }
             match edited_with_comments(alloc, task, text.as_str(), source.text(alloc)?) {
-                Err(TaskError::NotInPlace) => Err(not_in_place(alloc, task, source.name)),
+                Err(TaskError::NotInPlace) => Err(not_in_place(alloc, source.name)),
                 result => Ok(result),
             }
         }
@@ -156,7 +159,7 @@ pub fn tried(
 }
 
 /// Returns whether the result of the task has the comments of the document, or may be a text of it.
-fn keeps_comments(task: &Task<'_>, style: Style, source: &Source<'_>) -> bool {
+fn keeps_comments(task: &Task<'_>, style: OutputStyle, source: &Source<'_>) -> bool {
     match task {
         Task::Get(_, _) => source.target.is_some() || style.layout == Layout::Kept,
         Task::Set(_, _) | Task::Delete(_) | Task::Patch(_) => true,
@@ -168,7 +171,7 @@ fn keeps_comments(task: &Task<'_>, style: Style, source: &Source<'_>) -> bool {
 pub fn result_of(
     alloc: Global,
     task: &Task<'_>,
-    style: Style,
+    style: OutputStyle,
     name: &str,
     bytes: &[u8],
 ) -> Result<String, ProgramError> {
@@ -184,13 +187,13 @@ pub fn result_of(
 pub fn edited(
     alloc: Global,
     task: &Task<'_>,
-    style: Style,
+    style: OutputStyle,
     bytes: &[u8],
 ) -> Result<String, TaskError> {
-    match document_result(alloc, task, style.layout, bytes) {
+    match document_result(alloc, bytes, task, style.layout) {
         Ok(new) => indented(alloc, style, new),
         Err(TaskError::NotInPlace) if style.reformats => {
-            document_result(alloc, task, Layout::Compact, bytes)
+            document_result(alloc, bytes, task, Layout::Compact)
         }
         Err(error) => Err(error),
     }
@@ -238,7 +241,7 @@ fn on_lines(
     rt: &HostRuntime,
     matches: &ArgMatches<'_>,
     task: Task<'_>,
-    style: Style,
+    style: OutputStyle,
 ) -> Result<u8, ProgramError> {
     let alloc = rt.alloc();
     let file = file_of(matches);

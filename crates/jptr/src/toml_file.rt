@@ -1,13 +1,14 @@
 //! Commands on TOML documents. A document is edited in its text, or printed anew.
 
 use crate::expansion::check_toml_expansion;
-use crate::given::{Given, toml_default};
 use crate::operands::argument;
 use crate::output::print_line;
 use crate::position::Position;
-use crate::program_error::{NOT_APPLIED, NOT_JSON, ProgramError, USAGE, shown};
+use crate::program_error::{ProgramError, shown};
 use crate::source::Source;
+use crate::value_argument::{ValueArgument, toml_default};
 use clap::ArgMatches;
+use jptr_tasks::exit_status::{NOT_APPLIED, NOT_JSON, USAGE};
 use jptr_tasks::task_error::TaskError;
 use jsonptr::Pointer;
 use jsonptr_edit_in_toml::{Edited, assign_in_toml_text, delete_in_toml_text};
@@ -16,10 +17,6 @@ use jsonptr_paths::listing::Listed;
 use simdutf8::basic::from_utf8;
 use std::alloc::{AllocError, Global};
 use toml::table_from_str;
-
-/// Why a file is not changed.
-const NOT_IN_PLACE: &str =
-    "document cannot be edited in place; --reformat prints the document anew";
 
 /// Prints the value that the pointer resolves to, or the value of `--default`, as TOML.
 pub fn get(
@@ -52,7 +49,7 @@ pub fn set(
 ) -> Result<u8, ProgramError> {
     let alloc = rt.alloc();
     check_no_lines(alloc, matches)?;
-    let value = Given::read(rt, matches, argument(matches, "JSON"))?.toml(alloc, matches)?;
+    let value = ValueArgument::read(rt, matches, argument(matches, "JSON"))?.toml(alloc, matches)?;
     let source = Source::open(rt, matches)?;
     if matches.get_flag("no-expand") {
         check_toml_expansion(alloc, &source, pointer)?;
@@ -97,7 +94,7 @@ fn put(
     };
     if let Edited::Rewritten(_) = &edited {
         if source.target.is_some() && !matches.get_flag("reformat") {
-            return Err(ProgramError::new(rt.alloc(), NOT_APPLIED, source.name, NOT_IN_PLACE));
+            return Err(source.error(rt.alloc(), pointer.as_str(), TaskError::NotInPlace));
         }
         let shown = shown(rt.alloc(), source.name)?;
         let _ = eprintln!(rt; "jptr: {shown}: printed anew, without its comments and layout");
@@ -153,8 +150,8 @@ fn not_toml(alloc: Global, text: &str) -> Result<String, AllocError> {
             let start = error.span().map_or(0, |span| span.start);
             let Position { line, column } = Position::at(text, start);
             let message = error.message();
-            format!(in alloc; "not TOML: {message} at line {line} column {column}")
+            format!(in alloc; "text is not TOML: {message} at line {line} column {column}")
         }
-        Ok(_) => String::from_str(alloc, "not TOML"),
+        Ok(_) => String::from_str(alloc, "text is not TOML"),
     }
 }

@@ -14,7 +14,7 @@ use Rattle.jsonptr_io.proofs.LineLemmas.{some_lines, all_lines-push, joined-push
 use Rattle.jptr_tasks.specs.LineResults.{LineGives, LinesGive, IsReport, StopsRun}
 use Rattle.jptr_tasks.specs.PrivateLineResults.{Known, IsPut, StopsPut}
 use Rattle.jptr_tasks.specs.Runs.{AreFirstLines, IsEnd, IsRun, RunStopsIn}
-use Rattle.jptr_tasks.specs.PrivateRuns.{Progress, IsTurn, StopsTurn, ended_as}
+use Rattle.jptr_tasks.specs.PrivateRuns.{RunProgress, IsTurn, StopsTurn, ended_as}
 use Rattle.jptr_tasks.specs.declared.task_error.TaskError.{TaskError}
 use Rattle.jptr_tasks.specs.declared.task_error.TaskError.TheVariants.{Write}
 use Rattle.jptr_tasks.specs.declared.line.LineTask.{LineTask}
@@ -167,7 +167,7 @@ are_first bytes ls h = ([], subst (AreLines bytes) (sym (append-nil ls)) h)
 
 -- ---- turn by turn
 
-pub start : (run : LineTask) (r w e : Known) → Progress run 1 true r r w w e e
+pub start : (run : LineTask) (r w e : Known) → RunProgress run 1 true r r w w e e
 start run r w e = record {
   lines = [];
   out = [];
@@ -189,10 +189,10 @@ next_number n k e = omega (arith, e)
 push_count : (ls : List Text) (l : Text) (n : ℕ) → n ≡ length ls + 1 → n ≡ length (ls ++ l ∷ [])
 push_count ls l n e = e ∙ sym (length-append ls (l ∷ []))
 
-module _ (run : LineTask) (n : ℕ) (fine : Bool) (r0 r w0 w e0 e : Known) (p : Progress run n fine r0 r w0 w e0 e) where
+module _ (run : LineTask) (n : ℕ) (fine : Bool) (r0 r w0 w e0 e : Known) (p : RunProgress run n fine r0 r w0 w e0 e) where
   module _ (r1 w1 e1 : Known) where
     -- a line with a line break
-    pub step : (f : Bool) → (run.is_strict ≡ true → (fine && f) ≡ true) → IsTurn run n r r1 w w1 e e1 (Line f) → Progress run (n + 1) (fine && f) r0 r1 w0 w1 e0 e1
+    pub step : (f : Bool) → (run.is_strict ≡ true → (fine && f) ≡ true) → IsTurn run n r r1 w w1 e e1 (Line f) → RunProgress run (n + 1) (fine && f) r0 r1 w0 w1 e0 e1
     step f strict t =
         let put = put_of run n t.0 w w1 e e1 f t.2 in record {
           lines = p.lines ++ t.0 ∷ [];

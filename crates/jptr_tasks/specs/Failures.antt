@@ -3,6 +3,8 @@ use Rattle.std.specs.Prelude.{ℕ}
 use Rattle.std.specs.declared.convert.Infallible.{Infallible}
 use Rattle.jsonptr.specs.declared.assign.Error as assign
 use Rattle.jsonptr_patch.specs.declared.operation.PatchError.{PatchError}
+use Rattle.jsonptr_io.specs.declared.input.InputError.{InputError}
+use Rattle.jsonptr_io.specs.declared.input.InputError.TheVariants as input
 use Rattle.jsonptr_in_text.specs.declared.resolve.InTextError.{InTextError}
 use Rattle.jsonptr_in_text.specs.declared.resolve.InTextError.TheVariants as in_text
 use Rattle.jsonptr_edit_in_text.specs.declared.edited.EditError.{EditError}
@@ -42,6 +44,11 @@ status_of_task NotJson = 3
 status_of_task (Memory e) = 4
 status_of_task Read = 5
 status_of_task Write = 5
+
+-- `of_input_error e`: the error of the command if its input cannot be read
+abbrev pub of_input_error : InputError → TaskError
+of_input_error (input.Memory e) = Memory e
+of_input_error input.Read = Read
 
 -- `error_of_resolving e`: the error of the command if a pointer does not resolve in a text
 abbrev pub error_of_resolving : InTextError → TaskError

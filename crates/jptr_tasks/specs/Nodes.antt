@@ -70,10 +70,10 @@ ListsKeys piece ks =
 abbrev pub IsNoObject : Text → Type 0
 IsNoObject piece = (ts : List Token) → lex.tokens piece ≡ begin_object ∷ ts → ⊥
 
--- `HasKeys text ts found`: `found` are the keys of the object that the tokens `ts` identify in the document of `text`, in the
+-- `HasKeysAt text ts found`: `found` are the keys of the object that the tokens `ts` identify in the document of `text`, in the
 -- order in which they are written there. They identify no object if there are none
-abbrev pub HasKeys : Text → List Text → Option (Vec (String Global) Global) → Type 0
-HasKeys text ts found =
+abbrev pub HasKeysAt : Text → List Text → Option (Vec (String Global) Global) → Type 0
+HasKeysAt text ts found =
     (before piece after : Text) × IsLocated text ts before piece after
     × MatchOption found (IsNoObject piece) (λ v. ListsKeys piece (map string_bytes v.items))
 
@@ -94,14 +94,14 @@ abbrev pub FailsToListKeys : Text → List Text → TaskError → Type 0
 FailsToListKeys text ts NotLocated = (d : Data) × FindsInText text ts d
 FailsToListKeys text ts e = FailsToFind text ts e
 
--- `scalar_of t`: the type `t`, if it is that of a scalar
-abbrev pub scalar_of : NodeType → Option NodeType
-scalar_of variant.Null = Some variant.Null
-scalar_of variant.Boolean = Some variant.Boolean
-scalar_of variant.Number = Some variant.Number
-scalar_of variant.String = Some variant.String
-scalar_of variant.Array = None
-scalar_of variant.Object = None
+-- `scalar_type t`: the type `t`, if it is that of a scalar
+abbrev pub scalar_type : NodeType → Option NodeType
+scalar_type variant.Null = Some variant.Null
+scalar_type variant.Boolean = Some variant.Boolean
+scalar_type variant.Number = Some variant.Number
+scalar_type variant.String = Some variant.String
+scalar_type variant.Array = None
+scalar_type variant.Object = None
 
 -- `HasAbove text ts found`: `ts` are no tokens, or all but the last of them identify a value in the document of `text`. If this
 -- is a scalar, `found` is its type
@@ -109,7 +109,7 @@ abbrev pub HasAbove : Text → List Text → Option NodeType → Type 0
 HasAbove text ts found =
     ((ts ≡ []) × (found ≡ None))
     ⊎ ((front : List Text) × (last : Text) × (t : NodeType)
-    × (ts ≡ front ++ last ∷ []) × HasType text front t × (found ≡ scalar_of t))
+    × (ts ≡ front ++ last ∷ []) × HasType text front t × (found ≡ scalar_type t))
 
 -- `FailsAbove text ts e`: `e` is why all but the last of the tokens `ts` identify no value, if it is not for memory
 abbrev pub FailsAbove : Text → List Text → TaskError → Type 0

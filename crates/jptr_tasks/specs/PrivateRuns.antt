@@ -39,9 +39,9 @@ StopsTurn run n r0 r1 w0 w1 e0 e1 e =
     × AppendsPrefix w0 w1 out
     × AppendsPrefix e0 e1 err))
 
--- `Progress run n fine r0 r w0 w e0 e`: what is known before the line with the number `n` is read. `fine` says that no line
+-- `RunProgress run n fine r0 r w0 w e0 e`: what is known before the line with the number `n` is read. `fine` says that no line
 -- was at fault
-pub record Progress (run : LineTask) (n : ℕ) (fine : Bool) (r0 r w0 w e0 e : Known) : Type 0 where
+pub record RunProgress (run : LineTask) (n : ℕ) (fine : Bool) (r0 r w0 w e0 e : Known) : Type 0 where
   pub lines : List Text
   pub out : Text
   pub err : Text

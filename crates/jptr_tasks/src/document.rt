@@ -28,16 +28,16 @@ use std::io;
 ///
 /// ```rust
 /// let task = Task::Delete(Pointer::parse("/b")?);
-/// let new = document_result(alloc, &task, Layout::Kept, b"{\"a\": 1, \"b\": 1}")?;
+/// let new = document_result(alloc, b"{\"a\": 1, \"b\": 1}", &task, Layout::Kept)?;
 /// assert_eq!(rt; new.as_str(), "{\"a\": 1}");
-/// let compact = document_result(alloc, &task, Layout::Compact, b"{\"a\": 1, \"b\": 1}")?;
+/// let compact = document_result(alloc, b"{\"a\": 1, \"b\": 1}", &task, Layout::Compact)?;
 /// assert_eq!(rt; compact.as_str(), "{\"a\":1}\n");
 /// ```
 pub fn document_result(
     alloc: Global,
+    bytes: &[u8],
     task: &Task<'_>,
     layout: Layout,
-    bytes: &[u8],
 ) -> Result<String, TaskError>
     ensures yielded { IfOk result (λ s. Prints task.now layout bytes.now (string_bytes s)) }
     ensures refused { IfErr result (TaskFailsOn task.now layout bytes.now) }
@@ -45,7 +45,7 @@ pub fn document_result(
     let Ok(text) = from_utf8(bytes) else {
         return Err(TaskError::NotJson);
     };
-    let mut new = result_in_text(alloc, task, layout, text)?;
+    let mut new = result_in_text(alloc, text, task, layout)?;
     if ends_in_break(task, layout) {
         new.push('\n')?;
     }
@@ -94,13 +94,13 @@ pub fn run_document<R: io::Read, W: io::Write>(
     ensures refused { IfErr result (StopsDocument task.now layout (R.remaining input.old)
         (W.contents output.old) (W.contents output.new)) }
 {
-    read_all(input, bytes)?;
-    let new = document_result(*bytes.allocator(), task, layout, bytes)?;
+    read_into(input, bytes)?;
+    let new = document_result(*bytes.allocator(), bytes, task, layout)?;
     put_all(output, new.as_str())
 }
 
-/// Reads all of the input into `bytes`.
-pub(crate) fn read_all<R: io::Read>(input: &mut R, bytes: &mut Vec<u8>) -> Result<(), TaskError>
+/// Reads all of the input into `bytes`. What `bytes` had before is removed, and its memory is used again.
+pub(crate) fn read_into<R: io::Read>(input: &mut R, bytes: &mut Vec<u8>) -> Result<(), TaskError>
     ensures read { OnOk result (IfSome (R.remaining input.old) (λ xs. bytes.new.items ≡ xs)) }
     ensures refused { IfErr result IsReadFailure }
 {
@@ -121,5 +121,5 @@ pub(crate) fn put_all<W: io::Write>(output: &mut W, text: &str) -> Result<(), Ta
     ensures refused { IfErr result (λ e. (e ≡ Write)
         × AppendsPrefix (W.contents output.old) (W.contents output.new) text.now) }
 {
-    write_and_flush(output, text.as_bytes()).map_err(|_| TaskError::Write)
+    Ok(write_and_flush(output, text.as_bytes())?)
 }

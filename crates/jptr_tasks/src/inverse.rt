@@ -1,4 +1,4 @@
-//! The patch document that takes a patch back.
+//! The inverse of a patch document: the one that takes it back.
 ghost use Rattle.std.specs.Prelude.{IfOk, IfErr};
 ghost use Rattle.serde_json.specs.View.{view};
 ghost use Rattle.jsonptr.specs.Json.{nodes};
@@ -16,8 +16,8 @@ use jsonptr_patch::{Comparison, Operation, apply_comparing_with_inverse};
 use serde_json::Value;
 use std::alloc::Global;
 
-/// Returns the patch document that takes this one back: it turns the document of the text after the
-/// patch into the document of the text.
+/// Returns the inverse of the patch document: it turns the document of the text after the patch into
+/// the document of the text.
 ///
 /// [`Task::Patch`](crate::task::Task::Patch) applies both, and after both what is printed is read as
 /// the document of the text ([`inverse_law`](crate::laws::inverse_law)).
@@ -50,18 +50,18 @@ pub fn inverse_of(
 {
     let operations = operations_of(alloc, patch)?;
     let mut document = read_text(alloc, text)?;
-    let back = take_back(alloc, &mut document, operations)?;
-    let text = patch_text(alloc, &back, layout)?;
-    let is_empty = back.is_empty();
+    let inverse = apply_with_inverse(alloc, &mut document, operations)?;
+    let text = patch_text(alloc, &inverse, layout)?;
+    let is_empty = inverse.is_empty();
     Ok(Difference { text, is_empty })
 }
 
-/// Applies the operations, and returns those that take them back.
+/// Applies the operations, and returns their inverse.
 ///
 /// # Errors
 ///
 /// [`TaskError::BadPatch`] if an operation fails, and [`TaskError::Memory`] if an allocation fails.
-fn take_back(
+fn apply_with_inverse(
     alloc: Global,
     document: &mut Value,
     operations: Vec<Operation>,
@@ -69,12 +69,12 @@ fn take_back(
     ensures applied { IfOk result (λ _.
         PatchesBy Numeric (nodes (view document.old)) operations.items
         (nodes (view document.new))) }
-    ensures inverse { IfOk result (λ back.
-        Patches (nodes (view document.new)) back.items (nodes (view document.old))) }
+    ensures inverse { IfOk result (λ inverse.
+        Patches (nodes (view document.new)) inverse.items (nodes (view document.old))) }
     ensures refused { IfErr result (IsApplyFault (nodes (view document.old)) operations.items) }
 {
     match apply_comparing_with_inverse(alloc, document, operations, Comparison::Numeric) {
-        Ok(back) => Ok(back),
+        Ok(inverse) => Ok(inverse),
         Err(Fault::Refused(error)) => Err(TaskError::BadPatch(error)),
         Err(Fault::Memory(error)) => Err(TaskError::Memory(error)),
     }

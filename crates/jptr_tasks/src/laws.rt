@@ -49,7 +49,7 @@ pub fn paths_law()
         → (d : Data) × (shown : Text) × (read bytes ≡ Some d) × ShowsInLayout layout d shown
         × ReadsBack layout d shown
         × (out ≡ shown ++ 10 ∷ []) }
-    ensures no_error { (bytes : List ℕ) (lines : Text) (number : ℕ) (e : LineError)
+    ensures never_refused { (bytes : List ℕ) (lines : Text) (number : ℕ) (e : LineError)
         → ListsText AllNodes bytes lines
         → FailsToBuild lines (BadLine number e)
         → ⊥ }
@@ -64,13 +64,13 @@ pub fn paths_law()
 /// failed allocation, and [`TaskError::NotInPlace`](crate::task_error::TaskError::NotInPlace) in the layout
 /// [`Layout::Kept`](crate::layout::Layout::Kept).
 pub fn difference_law()
-    ensures patched { (a b out : Text) (n m p : Data) (style layout : Layout) (d : Difference)
+    ensures applied { (a b out : Text) (n m p : Data) (style layout : Layout) (d : Difference)
         → read a ≡ Some n → read b ≡ Some m
         → IsDifference (nodes n) (nodes m) style d
         → read (string_bytes d.text) ≡ Some p
         → PatchesByInLayout a p layout out
         → ReadsBack layout m out }
-    ensures never_fails { (a b : Text) (n m p : Data) (style layout : Layout) (d : Difference) (e : TaskError)
+    ensures never_refused { (a b : Text) (n m p : Data) (style layout : Layout) (d : Difference) (e : TaskError)
         → read a ≡ Some n → read b ≡ Some m
         → IsDifference (nodes n) (nodes m) style d
         → read (string_bytes d.text) ≡ Some p
@@ -98,7 +98,7 @@ pub fn inverse_law()
         → IsInverse a patch style u → read (string_bytes u.text) ≡ Some back
         → PatchesByInLayout b back layout out
         → ReadsBack layout d out }
-    ensures never_fails { (a b : Text) (d patch back : Data) (style first layout : Layout) (u : Difference) (e : TaskError)
+    ensures never_refused { (a b : Text) (d patch back : Data) (style first layout : Layout) (u : Difference) (e : TaskError)
         → read a ≡ Some d
         → PatchesByInLayout a patch first b → first ≢ Raw
         → IsInverse a patch style u → read (string_bytes u.text) ≡ Some back

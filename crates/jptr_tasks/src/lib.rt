@@ -5,7 +5,7 @@
 //! - [`layout`]: how the result is printed.
 //! - [`result`]: the result of a task on one text.
 //! - [`difference`]: the patch document that turns one document into another.
-//! - [`inverse`]: the patch document that takes a patch back.
+//! - [`inverse`]: the inverse of a patch document.
 //! - [`document`]: a task on one document, from a reader to a writer.
 //! - [`line`]: a task on one line, and [`lines`]: on each line of an input.
 //! - [`node`]: the type, the length and the keys of a value, and whether it equals another one.
@@ -14,6 +14,7 @@
 //! - [`raw_patch`]: a patch document, with the texts of its values.
 //! - [`replacement`]: replacing the text of a file, whatever moment the system stops at.
 //! - [`task_error`]: the errors, and the exit status of each.
+//! - [`exit_status`]: what each exit status means.
 //! - [`laws`]: lines, differences and inverses as texts, inputs that are cut, and that each input has one
 //!   error.
 #![tactic(auto)]
@@ -21,6 +22,7 @@
 pub mod difference;
 pub mod document;
 mod edit;
+pub mod exit_status;
 pub mod inverse;
 pub mod laws;
 pub mod layout;

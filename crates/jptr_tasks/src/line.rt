@@ -65,7 +65,7 @@ pub fn put_line<W: io::Write, E: io::Write>(
         return Ok(true);
     }
     let alloc = *run.name.allocator();
-    match line_result(alloc, buffers, &run.task, run.layout, line.bytes) {
+    match line_result(alloc, buffers, line.bytes, &run.task, run.layout) {
         Ok(text) => {
             let text = with_break(text)?;
             put_text(output, text.as_str())?;
@@ -90,9 +90,9 @@ pub fn put_line<W: io::Write, E: io::Write>(
 fn line_result(
     alloc: Global,
     buffers: &mut Buffers,
+    line: &[u8],
     task: &Task<'_>,
     layout: Layout,
-    line: &[u8],
 ) -> Result<String, TaskError>
     ensures yielded { IfOk result (λ s. YieldsLine task.now layout line.now (string_bytes s)) }
     ensures refused { IfErr result (λ e. OrMemory e (IsLineFault task.now layout line.now e)) }
@@ -100,7 +100,7 @@ fn line_result(
     let Ok(text) = from_utf8(line) else {
         return Err(TaskError::NotJson);
     };
-    let new = result_in_text_with(alloc, buffers, task, layout, text)?;
+    let new = result_in_text_with(alloc, buffers, text, task, layout)?;
     if new.as_bytes().contains(&b'\n') {
         return Err(TaskError::LineBreak);
     }
@@ -135,10 +135,7 @@ fn put_text<W: io::Write>(output: &mut W, text: &str) -> Result<(), TaskError>
     ensures refused { IfErr result (λ e. (e ≡ Write)
         × AppendsPrefix (W.contents output.old) (W.contents output.new) text.now) }
 {
-    match write_bytes(output, text.as_bytes()) {
-        Ok(()) => Ok(()),
-        Err(_) => Err(TaskError::Write),
-    }
+    Ok(write_bytes(output, text.as_bytes())?)
 }
 
 /// Writes the fallback, if there is one, and to `errors` the report of a line at fault.

@@ -9,7 +9,7 @@ ghost use Rattle.jptr_tasks.specs.declared.task_error.TaskError.TheVariants.{Wri
 use crate::line::{Line, LineTask, put_line};
 use crate::task_error::TaskError;
 use jsonptr_edit_in_text::Buffers;
-use jsonptr_io::read::{Ending, NextLineError, next_line};
+use jsonptr_io::read::{Ending, next_line};
 use std::alloc::Global;
 use std::io;
 
@@ -171,18 +171,16 @@ fn take_turn<R: io::BufRead, W: io::Write, E: io::Write>(
         (R.remaining input.new) (W.contents output.old) (W.contents output.new)
         (E.contents errors.old) (E.contents errors.new)) }
 {
-    match next_line(input, &mut state.bytes) {
-        Ok(Ending::Nothing) => Ok(Turn::NoLine),
-        Ok(Ending::Break) => {
+    match next_line(input, &mut state.bytes)? {
+        Ending::Nothing => Ok(Turn::NoLine),
+        Ending::Break => {
             let is_fine = put_read(run, state, output, errors)?;
             Ok(Turn::Line(is_fine))
         }
-        Ok(Ending::Input) => {
+        Ending::Input => {
             let is_fine = put_read(run, state, output, errors)?;
             Ok(Turn::LastLine(is_fine))
         }
-        Err(NextLineError::Memory(error)) => Err(TaskError::Memory(error)),
-        Err(NextLineError::Read) => Err(TaskError::Read),
     }
 }
 

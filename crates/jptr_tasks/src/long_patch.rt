@@ -48,7 +48,7 @@ pub fn patch_in_layout(
     given: &str,
     layout: Layout,
 ) -> Result<String, TaskError>
-    ensures patched { IfOk result
+    ensures applied { IfOk result
         (λ s. PatchesInLayout text.now (view patch.now) layout (string_bytes s)) }
     ensures refused { IfErr result (FailsToPatch text.now (view patch.now) layout) }
 {
@@ -60,8 +60,8 @@ pub fn patch_in_layout(
 
 /// Applies the patch document to the text, and returns the new document in the layout of the text.
 fn patch_kept(alloc: Global, text: &str, patch: &Value, given: &str) -> Result<String, TaskError>
-    ensures patched { IfOk result (λ s. PatchedBy text.now (view patch.now) (string_bytes s)) }
-    ensures line { IfOk result (λ s. StaysOneLine text.now (string_bytes s)) }
+    ensures applied { IfOk result (λ s. PatchedBy text.now (view patch.now) (string_bytes s)) }
+    ensures one_line { IfOk result (λ s. StaysOneLine text.now (string_bytes s)) }
     ensures refused { IfErr result (FailsToPatch text.now (view patch.now) Layout.Kept) }
 {
     match patched(alloc, text, patch, given) {
@@ -82,7 +82,7 @@ fn patch_laid_out(
     given: &str,
     layout: Layout,
 ) -> Result<String, TaskError>
-    ensures patched { IfOk result
+    ensures applied { IfOk result
         (λ s. Remakes (PatchedBy text.now (view patch.now)) layout (string_bytes s)) }
     ensures refused { IfErr result (FailsToPatch text.now (view patch.now) layout) }
 {
@@ -95,7 +95,7 @@ fn patch_laid_out(
 /// Applies the patch document to the text, and returns the new document in the layout of the text, or
 /// printed if there is no such text.
 fn patched(alloc: Global, text: &str, patch: &Value, given: &str) -> Result<Relaid, TaskError>
-    ensures patched { IfOk result (λ new. PatchedBy text.now (view patch.now) (text_of_relaid new)) }
+    ensures applied { IfOk result (λ new. PatchedBy text.now (view patch.now) (text_of_relaid new)) }
     ensures refused { IfErr result (FailsToPatch text.now (view patch.now) Layout.Compact) }
 {
     let printed = print_anew(alloc, text, patch)?;

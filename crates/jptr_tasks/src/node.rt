@@ -4,7 +4,7 @@ ghost use Rattle.std.specs.Prelude.{◌≡◌, map, length, MatchOption, IfOk, I
 ghost use Rattle.serde_json.specs.View.{view};
 ghost use Rattle.jsonptr.specs.Pointer.{tokens};
 ghost use Rattle.jsonptr_in_text.specs.InText.{FindsInText};
-ghost use Rattle.jptr_tasks.specs.Nodes.{type_of, type_name, length_of_value, HasType, ValueHasLength, HasKeys, ListsKeys, IsNoObject, Tests, FailsToFind, FailsToListKeys, scalar_of, HasAbove, FailsAbove};
+ghost use Rattle.jptr_tasks.specs.Nodes.{type_of, type_name, length_of_value, HasType, ValueHasLength, HasKeysAt, ListsKeys, IsNoObject, Tests, FailsToFind, FailsToListKeys, scalar_type, HasAbove, FailsAbove};
 ghost use Rattle.jptr_tasks.specs.PrivateNodes.{ListsRest};
 
 use crate::task_error::TaskError;
@@ -136,7 +136,7 @@ pub fn keys_in_text(
     text: &str,
     pointer: Pointer<'_>,
 ) -> Result<Option<Vec<String>>, TaskError>
-    ensures found { IfOk result (HasKeys text.now (tokens pointer.entry)) }
+    ensures found { IfOk result (HasKeysAt text.now (tokens pointer.entry)) }
     ensures refused { IfErr result (FailsToListKeys text.now (tokens pointer.entry)) }
 {
     match locate_in_text(alloc, text, pointer) {
@@ -211,14 +211,14 @@ pub fn scalar_above(
         return Ok(None);
     };
     match type_in_text(alloc, text, above) {
-        Ok(found) => Ok(scalar_of(found)),
+        Ok(found) => Ok(scalar_type(found)),
         Err(failure) => Err(failure),
     }
 }
 
 /// Returns the type again if it is that of a scalar.
-fn scalar_of(found: NodeType) -> Option<NodeType>
-    ensures { result ≡ scalar_of found }
+fn scalar_type(found: NodeType) -> Option<NodeType>
+    ensures { result ≡ scalar_type found }
 {
     match found {
         NodeType::Array | NodeType::Object => None,

@@ -35,7 +35,7 @@ pub fn patch(
     patch: &RawPatch,
     layout: Layout,
 ) -> Result<String, TaskError>
-    ensures patched { IfOk result (λ s. PatchesRawInLayout text.now patch.now layout (string_bytes s)) }
+    ensures applied { IfOk result (λ s. PatchesRawInLayout text.now patch.now layout (string_bytes s)) }
     ensures refused { IfErr result (FailsToPatch text.now (view patch.now.document) layout) }
 {
     match layout {
@@ -59,7 +59,7 @@ pub fn patch(
 /// ```rust
 /// let text = r#"[{"op": "add", "path": "/b", "value": {"z": 1.10, "y": 1e5}}]"#;
 /// let patch = raw_patch(alloc, Value::from_str(alloc, text)?, text)?;
-/// let new = result_in_text(alloc, &Task::Patch(patch), Layout::Kept, r#"{"a": 1}"#)?;
+/// let new = result_in_text(alloc, r#"{"a": 1}"#, &Task::Patch(patch), Layout::Kept)?;
 /// assert_eq!(rt; new.as_str(), r#"{"a": 1, "b": {"z": 1.10, "y": 1e5}}"#);
 /// ```
 pub fn raw_patch(alloc: Global, document: Value, text: &str) -> Result<RawPatch, TaskError>
@@ -120,11 +120,11 @@ fn patch_in_place(
     text: &str,
     patch: &RawPatch,
 ) -> Result<String, TaskError>
-    ensures patched { IfOk result (λ s.
+    ensures applied { IfOk result (λ s.
         PatchesInText text.now (operations_in patch.now.operations.items) (string_bytes s)) }
     ensures bytes { IfOk result (λ s.
         RawPatchBytes text.now patch.now.operations.items (string_bytes s)) }
-    ensures line { IfOk result (λ s. StaysOneLine text.now (string_bytes s)) }
+    ensures one_line { IfOk result (λ s. StaysOneLine text.now (string_bytes s)) }
     ensures refused { IfErr result (FailsToPatch text.now (view patch.now.document) Layout.Kept) }
 {
     let made = try_in_place(alloc, buffers, text, patch.operations.as_slice())?;
@@ -142,11 +142,11 @@ fn try_in_place(
     text: &str,
     operations: &[RawOperation],
 ) -> Result<Option<String>, AllocError>
-    ensures patched { IfOk result (λ new. IfSome new (λ s.
+    ensures applied { IfOk result (λ new. IfSome new (λ s.
         PatchesInText text.now (operations_in operations.now) (string_bytes s))) }
     ensures bytes { IfOk result (λ new. IfSome new (λ s.
         RawPatchBytes text.now operations.now (string_bytes s))) }
-    ensures line { IfOk result (λ new. IfSome new (λ s.
+    ensures one_line { IfOk result (λ new. IfSome new (λ s.
         StaysOneLine text.now (string_bytes s))) }
 {
     let Some(new) = try_apply_raw(alloc, buffers, text, operations)? else {
@@ -178,7 +178,7 @@ fn patch_anew(
     patch: &RawPatch,
     layout: Layout,
 ) -> Result<String, TaskError>
-    ensures patched { IfOk result
+    ensures applied { IfOk result
         (λ s. Remakes (PatchedBy text.now (view patch.now.document)) layout (string_bytes s)) }
     ensures refused { IfErr result (FailsToPatch text.now (view patch.now.document) layout) }
 {
@@ -195,7 +195,7 @@ fn patched(
     text: &str,
     patch: &RawPatch,
 ) -> Result<String, TaskError>
-    ensures patched { IfOk result
+    ensures applied { IfOk result
         (λ s. PatchedBy text.now (view patch.now.document) (string_bytes s)) }
     ensures refused { IfErr result (FailsToPatch text.now (view patch.now.document) Layout.Compact) }
 {
@@ -209,7 +209,7 @@ fn patched(
 /// Reads the document of the text, applies the patch document, and prints it. No error is
 /// [`TaskError::NotInPlace`].
 pub(crate) fn print_anew(alloc: Global, text: &str, document: &Value) -> Result<String, TaskError>
-    ensures patched { IfOk result (λ s. PatchedBy text.now (view document.now) (string_bytes s)) }
+    ensures applied { IfOk result (λ s. PatchedBy text.now (view document.now) (string_bytes s)) }
     ensures refused { IfErr result (FailsToPatch text.now (view document.now) Layout.Compact) }
 {
     let operations = operations_of(alloc, document)?;
@@ -218,7 +218,7 @@ pub(crate) fn print_anew(alloc: Global, text: &str, document: &Value) -> Result<
 
 /// Reads the document of the text, applies the operations, and prints it.
 fn apply_anew(alloc: Global, text: &str, operations: Vec<Operation>) -> Result<String, TaskError>
-    ensures patched { IfOk result
+    ensures applied { IfOk result
         (λ s. PatchesInText text.now operations.items (string_bytes s)) }
     ensures refused { IfErr result (FailsToApply text.now operations.items Layout.Compact) }
 {

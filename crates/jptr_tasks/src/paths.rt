@@ -2,7 +2,7 @@
 ghost use Rattle.std.specs.Prelude.{IfOk, IfErr, string_bytes};
 ghost use Rattle.jptr_tasks.specs.Paths.{ListsText, FailsToList, BuildsText, FailsToBuild, PutsText, StopsText};
 
-use crate::document::{put_all, read_all};
+use crate::document::{put_all, read_into};
 use crate::layout::{Layout, show};
 use crate::task_error::TaskError;
 use jsonptr_paths::listing::Listed;
@@ -23,10 +23,10 @@ use std::io;
 /// # Examples
 ///
 /// ```rust
-/// let lines = listed_text(alloc, Listed::Leaves, b"{\"a\": [1, 2]}")?;
+/// let lines = listed_text(alloc, b"{\"a\": [1, 2]}", Listed::Leaves)?;
 /// assert_eq!(rt; lines.as_str(), "/a/0\t1\n/a/1\t2\n");
 /// ```
-pub fn listed_text(alloc: Global, which: Listed, bytes: &[u8]) -> Result<String, TaskError>
+pub fn listed_text(alloc: Global, bytes: &[u8], which: Listed) -> Result<String, TaskError>
     ensures listed { IfOk result (λ s. ListsText which bytes.now (string_bytes s)) }
     ensures refused { IfErr result (FailsToList bytes.now) }
 {
@@ -52,10 +52,10 @@ pub fn listed_text(alloc: Global, which: Listed, bytes: &[u8]) -> Result<String,
 /// # Examples
 ///
 /// ```rust
-/// let document = built_text(alloc, Layout::Compact, b"/a/0\t1\n/a/1\t2\n")?;
+/// let document = built_text(alloc, b"/a/0\t1\n/a/1\t2\n", Layout::Compact)?;
 /// assert_eq!(rt; document.as_str(), "{\"a\":[1,2]}\n");
 /// ```
-pub fn built_text(alloc: Global, layout: Layout, bytes: &[u8]) -> Result<String, TaskError>
+pub fn built_text(alloc: Global, bytes: &[u8], layout: Layout) -> Result<String, TaskError>
     ensures built { IfOk result (λ s. BuildsText layout bytes.now (string_bytes s)) }
     ensures refused { IfErr result (FailsToBuild bytes.now) }
 {
@@ -99,8 +99,8 @@ pub fn run_list<R: io::Read, W: io::Write>(
     ensures refused { IfErr result (StopsText (ListsText which) FailsToList (R.remaining input.old)
         (W.contents output.old) (W.contents output.new)) }
 {
-    read_all(input, bytes)?;
-    let lines = listed_text(alloc, which, bytes)?;
+    read_into(input, bytes)?;
+    let lines = listed_text(alloc, bytes, which)?;
     put_all(output, lines.as_str())
 }
 
@@ -131,7 +131,7 @@ pub fn run_build<R: io::Read, W: io::Write>(
         (R.remaining input.old) (W.contents output.old) (W.contents output.new)) }
 {
     let mut bytes = Vec::new(alloc);
-    read_all(input, &mut bytes)?;
-    let document = built_text(alloc, layout, &bytes)?;
+    read_into(input, &mut bytes)?;
+    let document = built_text(alloc, &bytes, layout)?;
     put_all(output, document.as_str())
 }

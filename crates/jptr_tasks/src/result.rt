@@ -39,23 +39,23 @@ use std::alloc::Global;
 ///
 /// ```rust
 /// let task = Task::Set(Pointer::parse("/b")?, RawValue::parse(alloc, "2")?);
-/// let new = result_in_text(alloc, &task, Layout::Kept, "{\"a\": 1, \"b\": 1}")?;
+/// let new = result_in_text(alloc, "{\"a\": 1, \"b\": 1}", &task, Layout::Kept)?;
 /// assert_eq!(rt; new.as_str(), "{\"a\": 1, \"b\": 2}");
 /// let get = Task::Get(Pointer::parse("/c")?, Some(Value::Null));
-/// let other = result_in_text(alloc, &get, Layout::Kept, new.as_str())?;
+/// let other = result_in_text(alloc, new.as_str(), &get, Layout::Kept)?;
 /// assert_eq!(rt; other.as_str(), "null");
 /// ```
 pub fn result_in_text(
     alloc: Global,
+    text: &str,
     task: &Task<'_>,
     layout: Layout,
-    text: &str,
 ) -> Result<String, TaskError>
     ensures yielded { IfOk result (λ s. Yields task.now layout text.now (string_bytes s)) }
     ensures refused { IfErr result (Fails task.now layout text.now) }
 {
     let mut buffers = Buffers::new(alloc);
-    result_in_text_with(alloc, &mut buffers, task, layout, text)
+    result_in_text_with(alloc, &mut buffers, text, task, layout)
 }
 
 /// Returns the text that the task makes of the text of a document, as [`result_in_text`] does, in
@@ -74,16 +74,16 @@ pub fn result_in_text(
 /// let task = Task::Get(Pointer::parse("/b")?, Some(Value::Null));
 /// let mut buffers = Buffers::new(alloc);
 /// let text = "{\"a\": 1, \"b\": 2}";
-/// let two = result_in_text_with(alloc, &mut buffers, &task, Layout::Kept, text)?;
-/// let null = result_in_text_with(alloc, &mut buffers, &task, Layout::Kept, "[]")?;
+/// let two = result_in_text_with(alloc, &mut buffers, text, &task, Layout::Kept)?;
+/// let null = result_in_text_with(alloc, &mut buffers, "[]", &task, Layout::Kept)?;
 /// assert_eq!(rt; (two.as_str(), null.as_str()), ("2", "null"));
 /// ```
 pub fn result_in_text_with(
     alloc: Global,
     buffers: &mut Buffers,
+    text: &str,
     task: &Task<'_>,
     layout: Layout,
-    text: &str,
 ) -> Result<String, TaskError>
     ensures yielded { IfOk result (λ s. Yields task.now layout text.now (string_bytes s)) }
     ensures refused { IfErr result (Fails task.now layout text.now) }

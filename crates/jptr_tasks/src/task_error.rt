@@ -1,14 +1,18 @@
 //! The errors of a command, and its exit status.
 ghost use Rattle.std.specs.Prelude.{◌≡◌};
-ghost use Rattle.jptr_tasks.specs.Failures.{error_of_resolving, of_assign_error, of_delete_error, of_patch_error, of_strict_assign_error, of_strict_delete_error, of_build_error, status_of_task, status_of_line};
-ghost use Rattle.jptr_tasks.specs.declared.task_error.TaskError.TheVariants.{Memory};
+ghost use Rattle.jptr_tasks.specs.Failures.{error_of_resolving, of_assign_error, of_delete_error, of_patch_error, of_strict_assign_error, of_strict_delete_error, of_build_error, of_input_error, status_of_task, status_of_line};
+ghost use Rattle.jptr_tasks.specs.declared.task_error.TaskError.TheVariants.{Memory, Write};
 
+use crate::exit_status::{FILE, MEMORY, NOT_APPLIED, NOT_JSON};
 use jsonptr::{assign, resolve};
 use jsonptr_edit_in_text::{EditError, InPlaceError};
 use jsonptr_in_text::InTextError;
+use jsonptr_io::input::InputError;
+use jsonptr_io::write::WriteError;
 use jsonptr_patch::PatchError;
 use jsonptr_patch_document::PatchDocumentError;
 use jsonptr_paths::reading::{BuildError, LineError};
+use jsonptr_value::MAX_DEPTH;
 use std::alloc::AllocError;
 use std::convert::Infallible;
 use thiserror::Error;
@@ -32,28 +36,28 @@ pub enum TaskError {
     #[error(transparent)]
     BadPatch(PatchError),
     /// The new document nests deeper than 127.
-    #[error("the new document nests deeper than 127")]
+    #[error("document would nest deeper than {}", MAX_DEPTH)]
     TooDeep,
     /// The edit is possible, but not in place: the document would have to be printed anew.
-    #[error("the edit cannot be made in place")]
+    #[error("document cannot be edited in place")]
     NotInPlace,
     /// The value is there, but the check of where its text is failed.
-    #[error("the value cannot be located in the text")]
+    #[error("value cannot be located in the text")]
     NotLocated,
     /// The patch that turns one document into another nests deeper than 127.
-    #[error("the patch would nest deeper than 127")]
+    #[error("patch would nest deeper than {}", MAX_DEPTH)]
     PatchTooDeep,
     /// The result of a line contains a line break.
-    #[error("the result contains a line break")]
+    #[error("result contains a line break")]
     LineBreak,
     /// The line with this number, from 1, adds no value to the document that lines build.
     #[error("line {0}: {1}")]
     BadLine(usize, LineError),
     /// Lines are not UTF-8.
-    #[error("not UTF-8")]
+    #[error("text is not UTF-8")]
     NotUtf8,
     /// The text is not a JSON text, or not UTF-8.
-    #[error("not JSON")]
+    #[error("text is not JSON")]
     NotJson,
     /// An allocation failed.
     #[error("out of memory")]
@@ -67,9 +71,7 @@ pub enum TaskError {
 }
 
 impl TaskError {
-    /// Returns the exit status of the program: 3 if a text or a line is not JSON or not UTF-8, or if two
-    /// documents have no patch that can be read; 4 if an allocation failed; 5 if a read or a write failed;
-    /// and 1 for each other error.
+    /// Returns the [exit status](crate::exit_status) of the program.
     pub fn status(&self) -> u8
         ensures { result ≡ status_of_task self.now }
     {
@@ -82,23 +84,22 @@ impl TaskError {
             | TaskError::TooDeep
             | TaskError::NotInPlace
             | TaskError::NotLocated
-            | TaskError::LineBreak => 1,
+            | TaskError::LineBreak => NOT_APPLIED,
             TaskError::BadLine(_, error) => line_status(error),
-            TaskError::PatchTooDeep | TaskError::NotUtf8 | TaskError::NotJson => 3,
-            TaskError::Memory(_) => 4,
-            TaskError::Read | TaskError::Write => 5,
+            TaskError::PatchTooDeep | TaskError::NotUtf8 | TaskError::NotJson => NOT_JSON,
+            TaskError::Memory(_) => MEMORY,
+            TaskError::Read | TaskError::Write => FILE,
         }
     }
 }
 
-/// Returns the exit status for a line that adds no value: 3 if it is not a pointer, a tab and a JSON
-/// text, and 1 if no value can be assigned there.
+/// Returns the exit status for a line that adds no value.
 fn line_status(error: &LineError) -> u8
     ensures { result ≡ status_of_line error.now }
 {
     match error {
-        LineError::NoTab | LineError::NotPointer | LineError::NotJson => 3,
-        LineError::TooDeep | LineError::BadPlace(_) => 1,
+        LineError::NoTab | LineError::NotPointer | LineError::NotJson => NOT_JSON,
+        LineError::TooDeep | LineError::BadPlace(_) => NOT_APPLIED,
     }
 }
 
@@ -118,6 +119,25 @@ impl From<AllocError> for TaskError {
 
     fn from(error: AllocError) -> TaskError {
         TaskError::Memory(error)
+    }
+}
+
+impl From<InputError> for TaskError {
+    ghost from_gives = { λ error failure. failure ≡ of_input_error error };
+
+    fn from(error: InputError) -> TaskError {
+        match error {
+            InputError::Memory(error) => TaskError::Memory(error),
+            InputError::Read => TaskError::Read,
+        }
+    }
+}
+
+impl From<WriteError> for TaskError {
+    ghost from_gives = { λ _ failure. failure ≡ Write };
+
+    fn from(_error: WriteError) -> TaskError {
+        TaskError::Write
     }
 }
 

@@ -48,4 +48,4 @@ Maps (Memory e) P fault = fault ≡ Memory e
 -- allocation failed
 abbrev pub fault_text : {E : Type 0} → (E → Option Text) → Fault E → Option Text
 fault_text shows (Refused e) = shows e
-fault_text shows (Memory e) = Some (codes "memory allocation failed")
+fault_text shows (Memory e) = Some (codes "out of memory")

@@ -83,14 +83,14 @@ impl<E> From<AllocError> for Fault<E> {
     }
 }
 
-/// Prints the error of the call, or "memory allocation failed".
+/// Prints the error of the call, or "out of memory".
 impl<E: fmt::Display> fmt::Display for Fault<E> {
     ghost output = { fault_text E.output };
 
     fn fmt<W: fmt::Write>(&self, f: &mut fmt::Formatter<W>) -> fmt::Result {
         match self {
             Fault::Refused(error) => error.fmt(f),
-            Fault::Memory(_) => f.write_str("memory allocation failed"),
+            Fault::Memory(_) => f.write_str("out of memory"),
         }
     }
 }

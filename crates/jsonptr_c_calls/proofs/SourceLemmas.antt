@@ -28,7 +28,7 @@ use Rattle.jsonptr_c_calls.specs.Failures.{IsOutOfMemory}
 use Rattle.jsonptr_c_calls.specs.Depths.{StaysShallow}
 use Rattle.jsonptr_c_calls.specs.Patches.{Blames, IsNotAppliedList, IsNotPatchText, IsPatchText}
 use Rattle.jsonptr_c_calls.specs.Sources.{IsFaultOf, SourceFault}
-use Rattle.jsonptr_c_calls.specs.PrivateSources.{told_by}
+use Rattle.jsonptr_c_calls.specs.PrivateSources.{member_of_error}
 use Rattle.jsonptr_c_calls.specs.declared.call_error.CallError.{CallError}
 use Rattle.jsonptr_c_calls.specs.declared.call_error.CallError.TheVariants.{PatchFailed}
 
@@ -137,7 +137,7 @@ walk : ((n m : NodeMap) (k : ℕ) (o : Operation) (e : PatchError) → IsTree n 
     → (k : ℕ) (n left stop : NodeMap) (ops done : List Operation) (from : List Text) (x : Text) (v : Value) (fails : Operation) (rest : List Operation) (e : PatchError)
     → IsDocument n → PatchesBy Numeric n ops left → PatchesBy Numeric n done stop
     → ops ++ Replace from v ∷ Move from (from ++ x ∷ []) ∷ [] ≡ done ++ fails ∷ rest
-    → RefusesOperationBy Numeric stop k fails e → SourceFault left from (told_by e)
+    → RefusesOperationBy Numeric stop k fails e → SourceFault left from (member_of_error e)
 walk not_both one_map document k n left stop (o ∷ ops) (p ∷ done) from x v fails rest e doc applied before split refused =
     let same : o ≡ p = heads o p (ops ++ Replace from v ∷ Move from (from ++ x ∷ []) ∷ []) (done ++ fails ∷ rest) split in
     let again : AppliesBy Numeric n o before.0 = subst (λ (q : Operation). AppliesBy Numeric n q before.0) (sym same) before.1 in
@@ -154,7 +154,7 @@ walk not_both one_map document k n left stop [] [] from x v fails rest e doc app
     let same : fails ≡ Replace from v = sym (heads (Replace from v) fails (Move from (from ++ x ∷ []) ∷ []) rest split) in
     let one : stop ≡ left = before ∙ sym applied in
     let here : RefusesTarget left k from e = subst (λ (m : NodeMap). RefusesTarget m k from e) one (subst (λ (q : Operation). RefusesOperationBy Numeric stop k q e) same refused) in
-    subst (λ (f : PatchError). SourceFault left from (told_by f)) (sym here.1) (here.0, here.2)
+    subst (λ (f : PatchError). SourceFault left from (member_of_error f)) (sym here.1) (here.0, here.2)
 walk not_both one_map document k n left stop [] (p ∷ []) from x v fails rest e doc applied before split refused =
     let first : p ≡ Replace from v = sym (heads (Replace from v) p (Move from (from ++ x ∷ []) ∷ []) (fails ∷ rest) split) in
     let second : fails ≡ Move from (from ++ x ∷ []) = sym (heads (Move from (from ++ x ∷ [])) fails [] rest (tails (Replace from v) p (Move from (from ++ x ∷ []) ∷ []) (fails ∷ rest) split)) in
@@ -163,8 +163,8 @@ walk not_both one_map document k n left stop [] (p ∷ []) from x v fails rest e
     let there : (w : NodeMap) × Finds left from w = subst (λ (m : NodeMap). (w : NodeMap) × Finds m from w) (sym applied) (sub n put.path, found) in
     last (subst (λ (q : Operation). RefusesOperationBy Numeric stop k q e) second refused) there
   where
-    last : RefusesOperationBy Numeric stop k (Move from (from ++ x ∷ [])) e → ((w : NodeMap) × Finds left from w) → SourceFault left from (told_by e)
-    last (inl h) there = subst (λ (f : PatchError). SourceFault left from (told_by f)) (sym h.0) there
+    last : RefusesOperationBy Numeric stop k (Move from (from ++ x ∷ [])) e → ((w : NodeMap) × Finds left from w) → SourceFault left from (member_of_error e)
+    last (inl h) there = subst (λ (f : PatchError). SourceFault left from (member_of_error f)) (sym h.0) there
     last (inr h) there = absurd (h.0 (x, [], refl))
 walk not_both one_map document k n left stop [] (p ∷ q ∷ done) from x v fails rest e doc applied before split refused =
     absurd (unequal_ends fails done rest (tails (Move from (from ++ x ∷ [])) q [] (done ++ fails ∷ rest) (tails (Replace from v) p (Move from (from ++ x ∷ []) ∷ []) (q ∷ (done ++ fails ∷ rest)) split)))
@@ -174,7 +174,7 @@ pub told : ((n m : NodeMap) (k : ℕ) (o : Operation) (e : PatchError) → IsTre
     → ((n m : NodeMap) (o : Operation) → IsDocument n → AppliesBy Numeric n o m → IsDocument m)
     → (n left : NodeMap) (ops : List Operation) (from : List Text) (x : Text) (v : Value) (e : PatchError)
     → IsDocument n → PatchesBy Numeric n ops left → RefusesPatchBy Numeric n (ops ++ Replace from v ∷ Move from (from ++ x ∷ []) ∷ []) e
-    → IsFaultOf n ops (Some from) (told_by e)
+    → IsFaultOf n ops (Some from) (member_of_error e)
 told not_both one_map document n left ops from x v e doc applied refused = (
   left,
   applied,

@@ -4,10 +4,10 @@ use Rattle.jsonptr_patch.specs.declared.operation.PatchError.TheVariants.{NoTarg
 use Rattle.jsonptr_patch_document.specs.declared.member.Member.{Member}
 use Rattle.jsonptr_patch_document.specs.declared.member.Member.TheVariants.{Path, From}
 
--- `told_by e`: the member at fault, as the error `e` of the operations that find it out tells
-abbrev pub told_by : PatchError → Member
-told_by (NoTarget k cause) = From
-told_by (BadPlace k cause) = Path
-told_by (MoveIntoSelf k) = Path
-told_by (TestFloat k) = Path
-told_by (TestFailed k) = Path
+-- `member_of_error e`: the member at fault, if the operations that find it out fail with `e`
+abbrev pub member_of_error : PatchError → Member
+member_of_error (NoTarget k cause) = From
+member_of_error (BadPlace k cause) = Path
+member_of_error (MoveIntoSelf k) = Path
+member_of_error (TestFloat k) = Path
+member_of_error (TestFailed k) = Path

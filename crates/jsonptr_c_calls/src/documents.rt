@@ -287,9 +287,9 @@ fn put_patched(
     made: Patched,
     out: &mut [u8],
 ) -> Result<usize, CallError>
-    ensures copied { IfOk result (λ n. take n out.new ≡ made.back.items) }
+    ensures copied { IfOk result (λ n. take n out.new ≡ made.inverse.items) }
     ensures held { OnOk result (Holds document.new made.document) }
-    ensures refused { IfErr result (LacksRoom (length made.back.items) (length out.old)) }
+    ensures refused { IfErr result (LacksRoom (length made.inverse.items) (length out.old)) }
     ensures unchanged { OnErr result (out.new ≡ out.old) }
     ensures value_unchanged { OnErr result (Holds document.new old.value) }
 {

@@ -2,7 +2,7 @@
 //! `tools/c/jsonptr.h` defines the same ones.
 ghost use Rattle.std.specs.Prelude.{◌≡◌, ◌==◌, ◌+◌, not, count_by, drop, take};
 ghost use Rattle.std.specs.List.{prefix_len};
-ghost use Rattle.jsonptr_c_calls.specs.ErrorNumbers.{argument_number, assign_row, at_token, escape_length, fault_number, member_number, no_error, of_kind, of_operation, parse_row, patch_document_row, patch_row, pointer_row, record_of, resolve_row, slashes_before, token_length, with_status};
+ghost use Rattle.jsonptr_c_calls.specs.ErrorNumbers.{argument_number, assign_row, at_token, escape_length, fault_number, fields_of, member_number, no_error, of_kind, of_operation, parse_row, patch_document_row, patch_row, pointer_row, record_of, resolve_row, row, slashes_before, status_number, token_length};
 
 use crate::call_error::{Argument, CallError};
 use jsonptr::{ParseError, assign, resolve};
@@ -150,71 +150,82 @@ impl ErrorRecord {
     pub fn of(failure: &CallError, pointer: &[u8]) -> ErrorRecord
         ensures { result ≡ record_of failure.now pointer.now }
     {
-        match failure {
-            CallError::Memory(_) => of_status(NO_MEMORY),
-            CallError::NoRoom { needed } => ErrorRecord {
-                length: *needed as u64,
-                ..of_status(NO_ROOM)
-            },
-            CallError::NoDocument => of_status(NO_DOCUMENT),
-            CallError::NotUtf8 { argument, offset } => ErrorRecord {
-                member: argument_number(*argument),
-                offset: *offset as u64,
-                ..of_status(NOT_UTF8)
-            },
-            CallError::NotJson { offset } => ErrorRecord {
-                offset: *offset as u64,
-                ..of_status(NOT_JSON)
-            },
-            CallError::NotExact(lost) => ErrorRecord {
-                offset: lost.offset.unwrap_or(0) as u64,
-                length: lost.length as u64,
-                ..of_status(NOT_EXACT)
-            },
-            CallError::NotPointer(error) => ErrorRecord {
-                status: NOT_POINTER,
-                ..pointer_row(error, pointer)
-            },
-            CallError::NoToken => of_status(NO_TOKEN),
-            CallError::NotFound(error) => ErrorRecord {
-                status: NOT_FOUND,
-                length: token_length(pointer, error.offset()) as u64,
-                ..resolve_row(error)
-            },
-            CallError::NotLocated => of_status(NOT_LOCATED),
-            CallError::NoValue { offset } => ErrorRecord {
-                offset: *offset as u64,
-                ..of_status(NO_VALUE)
-            },
-            CallError::OtherKind => of_status(OTHER_KIND),
-            CallError::NotAssigned(error) => ErrorRecord {
-                status: NOT_ASSIGNED,
-                length: token_length(pointer, error.offset()) as u64,
-                ..assign_row(error)
-            },
-            CallError::NotPatch(error) => ErrorRecord {
-                status: NOT_PATCH,
-                ..patch_document_row(error)
-            },
-            CallError::PatchFailed { error, member } => ErrorRecord {
-                status: PATCH_FAILED,
-                ..patch_row(error, fault_number(*member))
-            },
-            CallError::TooDeep => of_status(TOO_DEEP),
-            CallError::DeepInverse => ErrorRecord {
-                kind: KIND_DEEP_INVERSE,
-                ..of_status(TOO_DEEP)
-            },
+        ErrorRecord {
+            status: status_number(failure),
+            ..fields_of(failure, pointer)
         }
     }
 }
 
-/// Returns the record of an error that has only a status.
-fn of_status(status: u32) -> ErrorRecord
-    ensures { result ≡ with_status status no_error }
+/// Returns the status of a call that fails with the error.
+fn status_number(failure: &CallError) -> u32
+    ensures { result ≡ status_number failure.now }
+{
+    match failure {
+        CallError::Memory(_) => NO_MEMORY,
+        CallError::NoRoom { .. } => NO_ROOM,
+        CallError::NoDocument => NO_DOCUMENT,
+        CallError::NotUtf8 { .. } => NOT_UTF8,
+        CallError::NotJson { .. } => NOT_JSON,
+        CallError::NotExact(_) => NOT_EXACT,
+        CallError::NotPointer(_) => NOT_POINTER,
+        CallError::NoToken => NO_TOKEN,
+        CallError::NotFound(_) => NOT_FOUND,
+        CallError::NotLocated => NOT_LOCATED,
+        CallError::NoValue { .. } => NO_VALUE,
+        CallError::OtherKind => OTHER_KIND,
+        CallError::NotAssigned(_) => NOT_ASSIGNED,
+        CallError::NotPatch(_) => NOT_PATCH,
+        CallError::PatchFailed { .. } => PATCH_FAILED,
+        CallError::TooDeep | CallError::DeepInverse => TOO_DEEP,
+    }
+}
+
+/// Returns the record of an error of a call with this pointer, without its status.
+fn fields_of(failure: &CallError, pointer: &[u8]) -> ErrorRecord
+    ensures { result ≡ fields_of failure.now pointer.now }
+{
+    match failure {
+        CallError::NoRoom { needed } => ErrorRecord {
+            length: *needed as u64,
+            ..ErrorRecord::none()
+        },
+        CallError::NotUtf8 { argument, offset } => ErrorRecord {
+            member: argument_number(*argument),
+            ..at_offset(*offset)
+        },
+        CallError::NotJson { offset } | CallError::NoValue { offset } => at_offset(*offset),
+        CallError::NotExact(lost) => ErrorRecord {
+            length: lost.length as u64,
+            ..at_offset(lost.offset.unwrap_or(0))
+        },
+        CallError::NotPointer(error) => pointer_row(error, pointer),
+        CallError::NotFound(error) => ErrorRecord {
+            length: token_length(pointer, error.offset()) as u64,
+            ..resolve_row(error)
+        },
+        CallError::NotAssigned(error) => ErrorRecord {
+            length: token_length(pointer, error.offset()) as u64,
+            ..assign_row(error)
+        },
+        CallError::NotPatch(error) => patch_document_row(error),
+        CallError::PatchFailed { error, member } => patch_row(error, fault_number(*member)),
+        CallError::DeepInverse => of_kind(KIND_DEEP_INVERSE),
+        CallError::Memory(_)
+        | CallError::NoDocument
+        | CallError::NoToken
+        | CallError::NotLocated
+        | CallError::OtherKind
+        | CallError::TooDeep => ErrorRecord::none(),
+    }
+}
+
+/// Returns the record of an error that has only an offset.
+fn at_offset(offset: usize) -> ErrorRecord
+    ensures { result ≡ row 0 0 0 0 0 0 offset 0 }
 {
     ErrorRecord {
-        status,
+        offset: offset as u64,
         ..ErrorRecord::none()
     }
 }

@@ -14,7 +14,7 @@ use std::alloc::Global;
 
 /// The bytes of a value in a JSON text.
 #[derive(Clone, Copy, Debug)]
-pub struct Span {
+pub struct TextSpan {
     /// The offset of the first byte.
     pub start: usize,
     /// The offset after the last byte.
@@ -32,13 +32,13 @@ pub struct Span {
 /// - [`CallError::NotFound`] if the pointer does not resolve to a value.
 /// - [`CallError::NotLocated`] if the check of the offsets fails.
 /// - [`CallError::Memory`] if an allocation fails.
-pub fn locate_in(alloc: Global, text: &[u8], pointer: &[u8]) -> Result<Span, CallError>
+pub fn locate_in(alloc: Global, text: &[u8], pointer: &[u8]) -> Result<TextSpan, CallError>
     ensures located { IfOk result (λ s. LocatesInText text.now pointer.now s.start s.end) }
     ensures refused { IfErr result (IsNotLocated text.now pointer.now) }
 {
     let pointer = parse(pointer)?;
     match locate_in_text(alloc, text_of(Argument::Text, text)?, pointer) {
-        Ok(located) => Ok(Span {
+        Ok(located) => Ok(TextSpan {
             start: located.before.len(),
             end: text.len() - located.after.len(),
         }),

@@ -97,7 +97,7 @@ pub struct Patched {
     /// The document after the patch.
     pub document: Value,
     /// The text of the patch document that takes it back.
-    pub back: Vec<u8>,
+    pub inverse: Vec<u8>,
 }
 
 /// Returns the document after the operations of the patch document, and the text of a patch document
@@ -126,8 +126,8 @@ pub fn patched_copy(
     ensures shallow { OnOk result (StaysShallow (view document.old) patch.items) }
     ensures sorted { IfOk result (λ made. All OperationHasSortedKeys patch.items
         → HasSortedKeys (view document.old) → HasSortedKeys (view made.document)) }
-    ensures back { IfOk result (λ made.
-        IsBackText layout (view made.document) (view document.old) made.back.items) }
+    ensures inverse { IfOk result (λ made.
+        IsBackText layout (view made.document) (view document.old) made.inverse.items) }
     ensures refused { IfErr result (IsNotPatched (view document.old) text.now patch.items) }
     ensures unchanged { view document.new ≡ view document.old }
 {
@@ -136,8 +136,8 @@ pub fn patched_copy(
     }
     let mut changed = copy(alloc, document)?;
     match apply_comparing_with_inverse(alloc, &mut changed, patch, Comparison::Numeric) {
-        Ok(back) => Ok(Patched {
-            back: back_text(alloc, &back, layout)?,
+        Ok(inverse) => Ok(Patched {
+            inverse: inverse_text(alloc, &inverse, layout)?,
             document: changed,
         }),
         Err(fault) => Err(failure_of(alloc, document, text, fault)),
@@ -151,13 +151,13 @@ pub fn patched_copy(
 ///
 /// [`CallError::NoRoom`] if the buffer is shorter than the text. Buffer and document are unchanged.
 pub fn keep(document: &mut Value, made: Patched, out: &mut [u8]) -> Result<usize, CallError>
-    ensures copied { IfOk result (λ n. take n out.new ≡ made.back.items) }
+    ensures copied { IfOk result (λ n. take n out.new ≡ made.inverse.items) }
     ensures replaced { OnOk result (document.new ≡ made.document) }
-    ensures refused { IfErr result (LacksRoom (length made.back.items) (length out.old)) }
+    ensures refused { IfErr result (LacksRoom (length made.inverse.items) (length out.old)) }
     ensures unchanged { OnErr result (out.new ≡ out.old) }
     ensures document_unchanged { OnErr result (document.new ≡ document.old) }
 {
-    let copied = copy_to(&made.back, out)?;
+    let copied = copy_to(&made.inverse, out)?;
     *document = made.document;
     Ok(copied)
 }
@@ -169,14 +169,18 @@ pub fn keep(document: &mut Value, made: Patched, out: &mut [u8]) -> Result<usize
 /// - [`CallError::DeepInverse`] if the document nests deeper than 127, so that its text would not be
 ///   read.
 /// - [`CallError::Memory`] if an allocation fails.
-fn back_text(alloc: Global, back: &Vec<Operation>, layout: TextLayout) -> Result<Vec<u8>, CallError>
-    ensures text { IfOk result (λ text. IsPatchText text.items back.now.items
-        × IsJsonText layout (document_of back.now.items) text.items) }
+fn inverse_text(
+    alloc: Global,
+    inverse: &Vec<Operation>,
+    layout: TextLayout,
+) -> Result<Vec<u8>, CallError>
+    ensures text { IfOk result (λ text. IsPatchText text.items inverse.now.items
+        × IsJsonText layout (document_of inverse.now.items) text.items) }
     ensures refused { IfErr result (λ e. IsOutOfMemory e
-        ⊎ ((max_depth < depth (document_of back.now.items)) × (e ≡ DeepInverse))) }
+        ⊎ ((max_depth < depth (document_of inverse.now.items)) × (e ≡ DeepInverse))) }
 {
     writing_law();
-    let document = write_patch(alloc, back)?;
+    let document = write_patch(alloc, inverse)?;
     if !nests_within(&document, MAX_DEPTH) {
         return Err(CallError::DeepInverse);
     }

@@ -2,7 +2,7 @@
 //!
 //! The error of a move or a copy does not say whether `from` or `path` is at fault. So the patch
 //! document is read once more, and the operations before that one are applied again, with two after
-//! them that tell. The second of these always fails, so the document stays unchanged.
+//! them that find it out. The second of these always fails, so the document stays unchanged.
 ghost use Rattle.std.specs.Prelude.{◌≡◌, ◌⊎◌, ◌∷◌, ◌++◌, [], IfErr, IfOk, IsUtf8, List, Option, take};
 ghost use Rattle.serde_json.specs.View.{view};
 ghost use Rattle.serde_json.specs.declared.value.Value.{Value as JsonValue};
@@ -20,7 +20,7 @@ ghost use Rattle.jsonptr_patch_document.specs.declared.member.Member.{Member as 
 ghost use Rattle.jsonptr_c_calls.specs.Failures.{IsOutOfMemory};
 ghost use Rattle.jsonptr_c_calls.specs.Patches.{Blames, IsPatchText};
 ghost use Rattle.jsonptr_c_calls.specs.Sources.{IsFaultOf, source_at};
-ghost use Rattle.jsonptr_c_calls.specs.PrivateSources.{told_by};
+ghost use Rattle.jsonptr_c_calls.specs.PrivateSources.{member_of_error};
 ghost use Rattle.jsonptr_c_calls.specs.declared.call_error.CallError.TheVariants.{PatchFailed};
 
 use crate::call_error::CallError;
@@ -158,18 +158,18 @@ fn member_at_fault(
     match apply_comparing(
         alloc,
         document,
-        telling(alloc, operations, from)?,
+        with_probe(alloc, operations, from)?,
         Comparison::Numeric,
     ) {
         Ok(()) => unreachable!(),
-        Err(Fault::Refused(error)) => Ok(told_by(&error)),
+        Err(Fault::Refused(error)) => Ok(member_of_error(&error)),
         Err(Fault::Memory(error)) => Err(CallError::Memory(error)),
     }
 }
 
 /// Returns `from` if the error is that of a pointer that does not resolve, and else `path`.
-fn told_by(error: &PatchError) -> Member
-    ensures { result ≡ told_by error.now }
+fn member_of_error(error: &PatchError) -> Member
+    ensures { result ≡ member_of_error error.now }
 {
     match error {
         PatchError::NoTarget { .. } => Member::From,
@@ -183,7 +183,7 @@ fn told_by(error: &PatchError) -> Member
 /// # Errors
 ///
 /// [`AllocError`] if an allocation fails.
-fn telling(
+fn with_probe(
     alloc: Global,
     operations: Vec<Operation>,
     from: PointerBuf,

@@ -338,7 +338,7 @@ fn document_line<R: Read>(
     ensures restored { IfErr result (λ e. IsOperationFault e → ForInput (R.remaining input.old)
         (λ bytes. option_map view value.new ≡ json_of bytes)) }
     ensures unchanged { IfErr result (λ e. ComesBeforeDocument e → value.new ≡ value.old) }
-    ensures out_of_memory { IfErr result (λ e. e ≡ Memory alloc_error → (value.new ≡ value.old)
+    ensures left { IfErr result (λ e. e ≡ Memory alloc_error → (value.new ≡ value.old)
         ⊎ ForInput (R.remaining input.old)
         (λ bytes. (option_map view value.new ≡ json_of bytes)
         ⊎ HasValueOf (asked_by change.entry) bytes (option_map view value.new))) }

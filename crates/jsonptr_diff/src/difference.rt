@@ -11,9 +11,9 @@ ghost use Rattle.jsonptr_diff.specs.PrivateDiff.{tokens_of, Turns, AppendsChange
 ghost use Rattle.jsonptr_diff.specs.PrivateSame.{AreSameFrom};
 
 use crate::align::next_gap;
-use crate::elements::{Span, add_elements, remove_elements};
+use crate::elements::{IndexRange, add_elements, remove_elements};
 use crate::laws::difference_law;
-use crate::location::Way;
+use crate::location::Location;
 use crate::members::add_members;
 use crate::same::{is_same, is_small_same, same_suffix};
 use crate::write::{remove, replace};
@@ -83,12 +83,12 @@ pub fn diff(alloc: Global, old: &Value, new: &Value) -> Result<Vec<Operation>, A
     if is_same(old, new) {
         return Ok(patch);
     }
-    diff_at(alloc, old, new, &Way::Root, &mut patch)?;
+    diff_at(alloc, old, new, &Location::Root, &mut patch)?;
     Ok(patch)
 }
 
-/// Turns `doc` into `new` by the patch of [`diff`], in place. What is the same in both stays where it
-/// is.
+/// Turns `document` into `new` by the patch of [`diff`], in place. What is the same in both stays
+/// where it is.
 ///
 /// The document then has the node map of `new`. If the keys of each object are in ascending order in
 /// both, as in parsed documents, it is `new`. If both are the same, nothing is allocated.
@@ -105,18 +105,18 @@ pub fn diff(alloc: Global, old: &Value, new: &Value) -> Result<Vec<Operation>, A
 /// # Errors
 ///
 /// [`AllocError`] if an allocation fails, and no other error. The document is unchanged.
-pub fn change(alloc: Global, doc: &mut Value, new: &Value) -> Result<(), AllocError>
-    ensures changed { IfOk result (λ _. nodes (view doc.new) ≡ nodes (view new.now)) }
+pub fn change(alloc: Global, document: &mut Value, new: &Value) -> Result<(), AllocError>
+    ensures changed { IfOk result (λ _. nodes (view document.new) ≡ nodes (view new.now)) }
     ensures same { IfOk result (λ _.
-        HasSortedKeys (view doc.old) → HasSortedKeys (view new.now)
-        → view doc.new ≡ view new.now) }
-    ensures unchanged { OnErr result (view doc.new ≡ view doc.old) }
-    ensures no_memory { nodes (view doc.old) ≡ nodes (view new.now)
+        HasSortedKeys (view document.old) → HasSortedKeys (view new.now)
+        → view document.new ≡ view new.now) }
+    ensures unchanged { OnErr result (view document.new ≡ view document.old) }
+    ensures no_memory { nodes (view document.old) ≡ nodes (view new.now)
         → IsOk result }
 {
     difference_law();
-    let patch = diff(alloc, doc, new)?;
-    match apply(alloc, doc, patch) {
+    let patch = diff(alloc, document, new)?;
+    match apply(alloc, document, patch) {
         Ok(()) => Ok(()),
         Err(Fault::Memory(error)) => Err(error),
         Err(Fault::Refused(_error)) => unreachable!(),
@@ -133,7 +133,7 @@ fn diff_at(
     alloc: Global,
     old: &Value,
     new: &Value,
-    at: &Way<'_>,
+    at: &Location<'_>,
     patch: &mut Vec<Operation>,
 ) -> Result<(), AllocError>
     ensures turns { IfOk result (λ _. Turns (view new.now) patch.old.items patch.new.items
@@ -164,7 +164,7 @@ fn diff_members(
     alloc: Global,
     old: &Map<String, Value>,
     new: &Map<String, Value>,
-    at: &Way<'_>,
+    at: &Location<'_>,
     patch: &mut Vec<Operation>,
 ) -> Result<(), AllocError>
     ensures turns { IfOk result (λ _. Turns (view (an_object new.now))
@@ -187,7 +187,7 @@ fn follow_members<'a>(
     alloc: Global,
     old: &'a Map<String, Value>,
     new: &Map<String, Value>,
-    at: &'a Way<'a>,
+    at: &'a Location<'a>,
     patch: &mut Vec<Operation>,
 ) -> Result<(), AllocError>
     ensures turns { IfOk result (λ _. Turns (view (an_object new.now))
@@ -197,7 +197,7 @@ fn follow_members<'a>(
         (object_map old.now) (object_map new.now) patch.old.items patch.new.items) }
 {
     for (key, member) in old.iter() {
-        let below = Way::Member(at, key.as_str());
+        let below = Location::Member(at, key.as_str());
         match new.get(key.as_str()) {
             Some(other) => diff_at(alloc, member, other, &below, patch)?,
             None => remove(alloc, &below, patch)?,
@@ -216,7 +216,7 @@ fn diff_elements(
     alloc: Global,
     old: &Vec<Value>,
     new: &Vec<Value>,
-    at: &Way<'_>,
+    at: &Location<'_>,
     patch: &mut Vec<Operation>,
 ) -> Result<(), AllocError>
     ensures turns { IfOk result (λ _. Turns (view (an_array new.now))
@@ -250,7 +250,7 @@ fn diff_elements(
     add_elements(
         alloc,
         new,
-        Span {
+        IndexRange {
             from: to,
             to: new_end,
         },
@@ -298,7 +298,7 @@ fn diff_gap(
     alloc: Global,
     old: &Vec<Value>,
     gap: Stretch<'_>,
-    at: &Way<'_>,
+    at: &Location<'_>,
     patch: &mut Vec<Operation>,
 ) -> Result<(), AllocError>
     requires old { gap.from + gap.removed ≤ length old.now.items }
@@ -333,7 +333,7 @@ fn diff_gap(
     add_elements(
         alloc,
         gap.new,
-        Span {
+        IndexRange {
             from: to,
             to: gap.to + gap.added,
         },
@@ -353,7 +353,7 @@ fn follow_elements(
     alloc: Global,
     old: &Vec<Value>,
     pairs: Pairs<'_>,
-    at: &Way<'_>,
+    at: &Location<'_>,
     patch: &mut Vec<Operation>,
 ) -> Result<(), AllocError>
     requires old { pairs.from + pairs.count ≤ length old.now.items }
@@ -376,7 +376,7 @@ fn follow_elements(
             alloc,
             &old[from],
             &pairs.new[to],
-            &Way::Element(&*at, to),
+            &Location::Element(&*at, to),
             patch,
         )?;
     }
@@ -392,7 +392,7 @@ fn replace_other(
     alloc: Global,
     value: &Value,
     new: &Value,
-    at: &Way<'_>,
+    at: &Location<'_>,
     patch: &mut Vec<Operation>,
 ) -> Result<(), AllocError>
     ensures turns { IfOk result (λ _. Turns (view new.now) patch.old.items patch.new.items

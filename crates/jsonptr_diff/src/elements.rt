@@ -7,7 +7,7 @@ ghost use Rattle.jsonptr.specs.Node.{NodeMap};
 ghost use Rattle.jsonptr_patch.specs.declared.operation.Operation.{Operation as an_operation};
 ghost use Rattle.jsonptr_diff.specs.PrivateDiff.{tokens_of, AppendsParts, IsArray, Splices, array_map};
 
-use crate::location::Way;
+use crate::location::Location;
 use crate::write::{add, remove};
 use jsonptr_patch::Operation;
 use serde_json::Value;
@@ -22,7 +22,7 @@ pub fn remove_elements(
     alloc: Global,
     index: usize,
     count: usize,
-    at: &Way<'_>,
+    at: &Location<'_>,
     patch: &mut Vec<Operation>,
 ) -> Result<(), AllocError>
     ensures splices { IfOk result (λ _.
@@ -35,22 +35,22 @@ pub fn remove_elements(
     ensures unchanged { IfOk result (λ _. count ≡ 0 → patch.new.items ≡ patch.old.items) }
 {
     for _done in 0..count {
-        remove(alloc, &Way::Element(&*at, index), patch)?;
+        remove(alloc, &Location::Element(&*at, index), patch)?;
     }
     Ok(())
 }
 
-/// A part of an array.
+/// The indices of a part of an array.
 #[derive(Clone, Copy)]
-pub struct Span {
+pub struct IndexRange {
     /// The index of its first element.
     pub from: usize,
     /// The index after its last element.
     pub to: usize,
 }
 
-/// Appends the operations that insert the elements of `new` in the span into the array at the location,
-/// at their indices.
+/// Appends the operations that insert the elements of `new` in the range into the array at the
+/// location, at their indices.
 ///
 /// # Errors
 ///
@@ -58,23 +58,24 @@ pub struct Span {
 pub fn add_elements(
     alloc: Global,
     new: &Vec<Value>,
-    span: Span,
-    at: &Way<'_>,
+    range: IndexRange,
+    at: &Location<'_>,
     patch: &mut Vec<Operation>,
 ) -> Result<(), AllocError>
-    requires order { span.from ≤ span.to }
-    requires within { span.to ≤ length new.now.items }
+    requires order { range.from ≤ range.to }
+    requires within { range.to ≤ length new.now.items }
     ensures splices { IfOk result (λ _. (first : List an_operation) (c : NodeMap) (k left : ℕ)
         → Splices (view (an_array new.now)) first patch.old.items (tokens_of at.now)
-        c (array_map new.now) span.from k left
+        c (array_map new.now) range.from k left
         → Splices (view (an_array new.now)) first patch.new.items (tokens_of at.now)
-        c (array_map new.now) span.to k left) }
+        c (array_map new.now) range.to k left) }
     ensures parts { IfOk result (λ _.
         AppendsParts (tokens_of at.now) patch.old.items patch.new.items) }
-    ensures unchanged { IfOk result (λ _. span.from ≡ span.to → patch.new.items ≡ patch.old.items) }
+    ensures unchanged { IfOk result (λ _.
+        range.from ≡ range.to → patch.new.items ≡ patch.old.items) }
 {
-    for index in span.from..span.to {
-        add(alloc, &new[index], &Way::Element(&*at, index), patch)?;
+    for index in range.from..range.to {
+        add(alloc, &new[index], &Location::Element(&*at, index), patch)?;
     }
     Ok(())
 }

@@ -69,8 +69,8 @@ pub fn child<'v, D: Document>(
 /// [`ChildError`] if the token is not an index, or if its index is not less than `length`.
 #[tactic(auto, using(crate::proofs::ChildLemmas::beyond_place))]
 pub(crate) fn index_in(token: &Token<'_>, length: usize) -> Result<usize, ChildError>
-    ensures place { IfOk result (IsIndexIn length token.now) }
-    ensures no_place { IfErr result (LacksElement length token.now) }
+    ensures index { IfOk result (IsIndexIn length token.now) }
+    ensures no_index { IfErr result (LacksElement length token.now) }
 {
     match token.to_index() {
         Ok(index) => index.for_len(length).map_err(ChildError::OutOfBounds),

@@ -32,13 +32,13 @@ pub fn locate_child<'t, D: Document>(
     at: &D,
     token: &'t Token<'_>,
 ) -> Result<ChildRef<'t>, AllocError>
-    ensures way { IfOk result (IsChildRef (D.nodes at.now) token.now) }
+    ensures child { IfOk result (IsChildRef (D.nodes at.now) token.now) }
     ensures no_memory { HasNoTilde (esc token.now) → IsOk result }
 {
     match at.node() {
         Node::Leaf => Ok(ChildRef::Missing(ChildError::Unreachable)),
         Node::Array(elements) => match index_in(token, elements.len()) {
-            Ok(place) => Ok(ChildRef::Element(place)),
+            Ok(index) => Ok(ChildRef::Element(index)),
             Err(cause) => Ok(ChildRef::Missing(cause)),
         },
         Node::Object(_) => Ok(ChildRef::Member(token.decoded(alloc)?)),

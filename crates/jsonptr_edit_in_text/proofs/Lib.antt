@@ -5,6 +5,7 @@ mod RewritingLemmas
 mod WrappingLemmas
 pub mod BytesLemmas
 pub mod EditLemmas
+pub mod InPlaceLemmas
 pub mod RawLemmas
 pub mod ReachingLemmas
 pub mod RemoveLemmas

@@ -7,7 +7,7 @@ ghost use Rattle.jsonptr_edit_in_text.specs.PrivateReaching.{AddsByText};
 
 use crate::edit::edit_by;
 use crate::insert::{add_member, append, insert};
-use crate::place::{Site, place_of};
+use crate::place::Site;
 use crate::replace::replace_at;
 use jsonptr::{Pointer, Token};
 use jsonptr_in_text::selectors::selectors_of;
@@ -16,6 +16,7 @@ use jsonptr_json_edits::child::is_value_of;
 use jsonptr_json_edits::cut::cut_at;
 use jsonptr_json_edits::edit::{Edit, EditAt};
 use jsonptr_json_edits::layout::{ValueText, replacement};
+use jsonptr_json_edits::locate::place_of;
 use jsonptr_json_edits::spacing::is_trimmed;
 use jsonptr_json_search::selector::Selector;
 use std::alloc::{AllocError, Global};

@@ -9,7 +9,7 @@ ghost use Rattle.jsonptr_edit_in_text.specs.EditInText.{edited_text, AssignsInTe
 
 use crate::edited::{EditError, Edited};
 use crate::insert::{add_member, append};
-use crate::place::{Site, place_of};
+use crate::place::Site;
 use crate::raw::expanded_text;
 use crate::raw_value::RawValue;
 use crate::replace::{replace, replace_scalar};
@@ -17,6 +17,7 @@ use crate::rewrite::assign_and_print;
 use jsonptr::{Pointer, Token, assign};
 use jsonptr_in_text::selectors::selectors_of;
 use jsonptr_json_edits::buffers::Buffers;
+use jsonptr_json_edits::locate::place_of;
 use jsonptr_value::{MAX_DEPTH, nests_within};
 use serde_json::Value;
 use std::alloc::{AllocError, Global};

@@ -19,12 +19,13 @@ pub struct PointerAt<'t> {
     pub located: Located<'t>,
 }
 
-/// Returns the pointer of the value whose text contains the byte at the offset, and where that text is.
+/// Returns the pointer of a value whose text contains the byte at the offset, and where that text is.
 /// Returns `None` if the byte is before or after the document, or if the text ends before it.
 ///
 /// The bytes of a value are those from its first to its last one, as in [`locate_in_text`]: the byte of a
 /// key, or of white space between the members of an object, is one of that object. Of all such values
-/// it is the innermost one. If a key is repeated, only the last member has a pointer.
+/// it is the innermost one, except in a member whose key comes again: no pointer leads there, and the
+/// value is one around that member, perhaps the whole document.
 ///
 /// Reads the text up to the offset, and twice for each value that is looked at: as a rule one or two.
 /// That the value contains the byte is proved, and that it is the innermost one is tested.

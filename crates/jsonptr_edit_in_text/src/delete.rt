@@ -6,7 +6,7 @@ ghost use Rattle.jsonptr_edit_in_text.specs.Bytes.{KeepsBytes, DeletesBytes, Rep
 ghost use Rattle.jsonptr_edit_in_text.specs.EditInText.{edited_text, DeletesInText, LacksInText, IsEditReadError};
 
 use crate::edited::{EditError, Edited};
-use crate::place::{Site, place_of};
+use crate::place::Site;
 use crate::remove::cut_children;
 use crate::replace::replace_at;
 use crate::rewrite::delete_and_print;
@@ -14,6 +14,7 @@ use crate::value_text::value_text;
 use jsonptr::Pointer;
 use jsonptr_in_text::selectors::selectors_of;
 use jsonptr_json_edits::buffers::Buffers;
+use jsonptr_json_edits::locate::place_of;
 use serde_json::Value;
 use std::alloc::{AllocError, Global};
 use std::convert::Infallible;

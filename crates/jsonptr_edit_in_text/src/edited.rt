@@ -3,6 +3,7 @@ ghost use Rattle.std.specs.Prelude.{◌≡◌, string_bytes};
 ghost use Rattle.jsonptr_edit_in_text.specs.EditInText.{edited_text};
 ghost use Rattle.jsonptr_edit_in_text.specs.declared.edited.EditError.TheVariants.{Memory};
 
+use jsonptr_value::MAX_DEPTH;
 use std::alloc::AllocError;
 use std::fmt::Display;
 use thiserror::Error;
@@ -59,7 +60,7 @@ pub enum EditError<E> {
     #[error("{0}")]
     Refused(E),
     /// The new document nests deeper than 127, so that its text could not be read.
-    #[error("document would nest deeper than 127")]
+    #[error("document would nest deeper than {}", MAX_DEPTH)]
     TooDeep,
     /// An allocation failed.
     #[error("out of memory")]

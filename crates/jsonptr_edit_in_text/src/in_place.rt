@@ -1,5 +1,5 @@
 //! Edits of a text that are made in place or not at all.
-ghost use Rattle.std.specs.Prelude.{IfOk, IfErr, IfSome, MatchOption, string_bytes};
+ghost use Rattle.std.specs.Prelude.{◌≡◌, IfOk, IfErr, IfSome, MatchOption, string_bytes};
 ghost use Rattle.serde_json.specs.View.{view};
 ghost use Rattle.jsonptr.specs.Pointer.{tokens};
 ghost use Rattle.jsonptr.specs.Json.{nodes};
@@ -9,6 +9,7 @@ ghost use Rattle.jsonptr_edit_in_text.specs.EditInText.{AssignsInText, DeletesIn
 ghost use Rattle.jsonptr_edit_in_text.specs.PatchInText.{PatchesInText, PatchBytes, IsPatchFault};
 ghost use Rattle.jsonptr_edit_in_text.specs.RawPatching.{operations_in, RawPatchBytes};
 ghost use Rattle.jsonptr_edit_in_text.specs.InPlace.{IsInPlaceError, StaysOneLine};
+ghost use Rattle.jsonptr_edit_in_text.specs.declared.edited.Edited.TheVariants.{InPlace};
 
 use crate::apply::{apply_in_text_with, apply_raw_in_text_with};
 use crate::assign::{assign_in_text_with, assign_raw_in_text_with};
@@ -56,21 +57,14 @@ pub fn assign_in_place(
         (nodes (view value)) (string_bytes s)) }
     ensures bytes { IfOk result (λ s.
         AssignsBytes text.now (tokens pointer.entry) (view value) (string_bytes s)) }
-    ensures line { IfOk result (λ s. StaysOneLine text.now (string_bytes s)) }
+    ensures one_line { IfOk result (λ s. StaysOneLine text.now (string_bytes s)) }
     ensures refused { IfErr result (IsInPlaceError
         (AssignsInText text.now (tokens pointer.entry) (nodes (view value)))
         (IsAssignError text.now (tokens pointer.entry)
         (view value))) }
 {
     match assign_in_text_with(alloc, buffers, text, pointer, value) {
-        Ok(Edited::InPlace(new)) => {
-            if stays_one_line(text, new.as_str()) {
-                Ok(new)
-            } else {
-                Err(InPlaceError::NotInPlace)
-            }
-        }
-        Ok(Edited::Rewritten(_new)) => Err(InPlaceError::NotInPlace),
+        Ok(edited) => kept_in_place(text, edited).ok_or(InPlaceError::NotInPlace),
         Err(error) => Err(InPlaceError::Failed(error)),
     }
 }
@@ -104,21 +98,14 @@ pub fn assign_raw_in_place(
     ensures bytes { IfOk result (λ s.
         AssignsBytes text.now (tokens pointer.entry) (value_of_raw value.now) (string_bytes s)) }
     ensures carries { IfOk result (λ s. Carries (string_bytes value.now.text.flat) (string_bytes s)) }
-    ensures line { IfOk result (λ s. StaysOneLine text.now (string_bytes s)) }
+    ensures one_line { IfOk result (λ s. StaysOneLine text.now (string_bytes s)) }
     ensures refused { IfErr result (IsInPlaceError
         (AssignsInText text.now (tokens pointer.entry) (nodes (value_of_raw value.now)))
         (IsAssignError text.now (tokens pointer.entry)
         (value_of_raw value.now))) }
 {
     match assign_raw_in_text_with(alloc, buffers, text, pointer, value) {
-        Ok(Edited::InPlace(new)) => {
-            if stays_one_line(text, new.as_str()) {
-                Ok(new)
-            } else {
-                Err(InPlaceError::NotInPlace)
-            }
-        }
-        Ok(Edited::Rewritten(_new)) => Err(InPlaceError::NotInPlace),
+        Ok(edited) => kept_in_place(text, edited).ok_or(InPlaceError::NotInPlace),
         Err(error) => Err(InPlaceError::Failed(error)),
     }
 }
@@ -139,20 +126,16 @@ pub fn delete_in_place(
         (λ s. DeletesInText text.now (tokens pointer.entry) (string_bytes s))) }
     ensures bytes { IfOk result (λ o. IfSome o (λ s.
         DeletesBytes text.now (tokens pointer.entry) (string_bytes s))) }
-    ensures line { IfOk result (λ o. IfSome o (λ s. StaysOneLine text.now (string_bytes s))) }
+    ensures one_line { IfOk result (λ o. IfSome o (λ s. StaysOneLine text.now (string_bytes s))) }
     ensures refused { IfErr result (IsInPlaceError
         (DeletesInText text.now (tokens pointer.entry)) (IsEditReadError text.now)) }
 {
     match delete_in_text_with(alloc, buffers, text, pointer) {
         Ok(None) => Ok(None),
-        Ok(Some(Edited::InPlace(new))) => {
-            if stays_one_line(text, new.as_str()) {
-                Ok(Some(new))
-            } else {
-                Err(InPlaceError::NotInPlace)
-            }
-        }
-        Ok(Some(Edited::Rewritten(_new))) => Err(InPlaceError::NotInPlace),
+        Ok(Some(edited)) => match kept_in_place(text, edited) {
+            Some(new) => Ok(Some(new)),
+            None => Err(InPlaceError::NotInPlace),
+        },
         Err(error) => Err(InPlaceError::Failed(error)),
     }
 }
@@ -172,19 +155,12 @@ pub fn apply_in_place(
     ensures applied { IfOk result
         (λ s. PatchesInText text.now operations.items (string_bytes s)) }
     ensures bytes { IfOk result (λ s. PatchBytes text.now operations.items (string_bytes s)) }
-    ensures line { IfOk result (λ s. StaysOneLine text.now (string_bytes s)) }
+    ensures one_line { IfOk result (λ s. StaysOneLine text.now (string_bytes s)) }
     ensures refused { IfErr result (IsInPlaceError
         (PatchesInText text.now operations.items) (IsPatchFault text.now operations.items)) }
 {
     match apply_in_text_with(alloc, buffers, text, operations) {
-        Ok(Edited::InPlace(new)) => {
-            if stays_one_line(text, new.as_str()) {
-                Ok(new)
-            } else {
-                Err(InPlaceError::NotInPlace)
-            }
-        }
-        Ok(Edited::Rewritten(_new)) => Err(InPlaceError::NotInPlace),
+        Ok(edited) => kept_in_place(text, edited).ok_or(InPlaceError::NotInPlace),
         Err(error) => Err(InPlaceError::Failed(error)),
     }
 }
@@ -215,20 +191,28 @@ pub fn apply_raw_in_place(
     ensures applied { IfOk result
         (λ s. PatchesInText text.now (operations_in operations.items) (string_bytes s)) }
     ensures bytes { IfOk result (λ s. RawPatchBytes text.now operations.items (string_bytes s)) }
-    ensures line { IfOk result (λ s. StaysOneLine text.now (string_bytes s)) }
+    ensures one_line { IfOk result (λ s. StaysOneLine text.now (string_bytes s)) }
     ensures refused { IfErr result (IsInPlaceError
         (PatchesInText text.now (operations_in operations.items))
         (IsPatchFault text.now (operations_in operations.items))) }
 {
     match apply_raw_in_text_with(alloc, buffers, text, operations) {
-        Ok(Edited::InPlace(new)) => {
-            if stays_one_line(text, new.as_str()) {
-                Ok(new)
-            } else {
-                Err(InPlaceError::NotInPlace)
-            }
-        }
-        Ok(Edited::Rewritten(_new)) => Err(InPlaceError::NotInPlace),
+        Ok(edited) => kept_in_place(text, edited).ok_or(InPlaceError::NotInPlace),
         Err(error) => Err(InPlaceError::Failed(error)),
+    }
+}
+
+/// Returns the new text, if it was made in place. Of a text of one line it is one line too.
+fn kept_in_place(text: &str, edited: Edited) -> Option<String>
+    ensures in_place { IfSome result (λ s. edited ≡ InPlace s) }
+    ensures one_line { IfSome result (λ s. StaysOneLine text.now (string_bytes s)) }
+{
+    match edited {
+        Edited::InPlace(new) => if stays_one_line(text, new.as_str()) {
+            Some(new)
+        } else {
+            None
+        },
+        Edited::Rewritten(_new) => None,
     }
 }

@@ -9,7 +9,7 @@ ghost use Rattle.jsonptr_edit_in_text.specs.PrivateOperating.{ElementInserted};
 ghost use Rattle.jsonptr_edit_in_text.specs.PrivateReaching.{ReachedInText, MemberAdded, ElementAppended, AddsPieceByText, AddsByText};
 
 use crate::edit::{EditAtPointer, edit_at};
-use crate::place::{Site, children_of};
+use crate::place::Site;
 use jsonptr::Token;
 use jsonptr::index::Index;
 use jsonptr_in_text::selectors::selector_of;
@@ -18,6 +18,7 @@ use jsonptr_json_edits::child::is_one_child;
 use jsonptr_json_edits::cut::cut_at;
 use jsonptr_json_edits::edit::{Child, Edit};
 use jsonptr_json_edits::layout::{Container, Piece, ValueText, addition};
+use jsonptr_json_edits::locate::children_of;
 use jsonptr_json_edits::spacing::is_blank;
 use jsonptr_json_search::selector::Selector;
 use serde_json::Value;

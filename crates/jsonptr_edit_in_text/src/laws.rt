@@ -6,6 +6,9 @@ ghost use Rattle.jsonptr_in_text.specs.InText.{FindsInText};
 ghost use Rattle.jsonptr_io.specs.Lines.{IsOneLine};
 ghost use Rattle.jsonptr_json_edits.specs.Spacing.{IsBlank, Splices};
 ghost use Rattle.jsonptr_edit_in_text.specs.Bytes.{AddsPiece, CutsBytes, ReplacesBytes};
+ghost use Rattle.jsonptr_edit_in_text.specs.PatchInText.{PatchBytes};
+ghost use Rattle.jsonptr_edit_in_text.specs.RawPatching.{operations_in, RawPatchBytes};
+ghost use Rattle.jsonptr_edit_in_text.specs.declared.raw_operation.RawOperation.{RawOperation};
 
 /// States that the bytes of an edit can be put back.
 ///
@@ -30,4 +33,10 @@ pub fn undo_law()
 pub fn line_law()
     ensures { (old new was piece : Text)
         → Splices old new was piece → IsOneLine old → (IsOneLine new ↔ IsOneLine piece) }
+{}
+
+/// States that operations with the texts of their values change the bytes that the operations alone say.
+pub fn raw_patch_law()
+    ensures { (old new : Text) (rs : List RawOperation)
+        → RawPatchBytes old rs new → PatchBytes old (operations_in rs) new }
 {}

@@ -69,6 +69,6 @@ pub use jsonptr_json_edits::buffers::Buffers;
 pub use locate::{LocateError, Located, locate_in_text, locate_in_text_with};
 pub use one_line::stays_one_line;
 pub use raw_operation::RawOperation;
-pub use raw_patch::raw_operations;
+pub use raw_patch::{raw_operations, without_texts};
 pub use raw_value::RawValue;
 pub use rewrite::apply_and_print;

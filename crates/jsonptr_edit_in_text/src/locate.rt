@@ -3,13 +3,13 @@ ghost use Rattle.std.specs.Prelude.{IfOk, IfErr, IfSome};
 ghost use Rattle.jsonptr.specs.Pointer.{tokens};
 ghost use Rattle.jsonptr_edit_in_text.specs.Locating.{IsLocated, IsLocateError};
 
-use crate::place::place_of;
 use jsonptr::Pointer;
 use jsonptr_in_text::selectors::selectors_of;
 use jsonptr_in_text::{InTextError, resolve_in_text_with};
 use jsonptr_json_edits::buffers::Buffers;
 use jsonptr_json_edits::cut::{Cut, cut_at};
 use jsonptr_json_edits::lead::{Target, leads_to};
+use jsonptr_json_edits::locate::place_of;
 use jsonptr_json_edits::spacing::is_trimmed;
 use std::alloc::{AllocError, Global};
 use thiserror::Error;

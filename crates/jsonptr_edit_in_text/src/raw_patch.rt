@@ -7,14 +7,13 @@ ghost use Rattle.jsonptr_edit_in_text.specs.Fitting.{HasFittingText, brings_valu
 ghost use Rattle.jsonptr_edit_in_text.specs.RawPatching.{operations_in, IsGivenIn};
 ghost use Rattle.jsonptr_edit_in_text.specs.declared.raw_value.RawValue.{RawValue};
 
-use crate::place::{children_of, place_of};
 use crate::raw_operation::RawOperation;
 use crate::raw_value::RawValue;
 use jsonptr_in_text::InTextError;
 use jsonptr_json_edits::buffers::Buffers;
 use jsonptr_json_edits::cut::cut_at;
 use jsonptr_json_edits::layout::slice;
-use jsonptr_json_edits::locate::{Extent, Span};
+use jsonptr_json_edits::locate::{Extent, Span, children_of, place_of};
 use jsonptr_json_edits::spacing::is_trimmed;
 use jsonptr_json_search::selector::Selector;
 use jsonptr_patch::Operation;
@@ -176,7 +175,19 @@ fn own_text(
     }
 }
 
-/// Returns the operations without texts.
+/// Returns the operations without texts, so that their values are printed.
+///
+/// # Errors
+///
+/// [`AllocError`] if an allocation fails.
+///
+/// # Examples
+///
+/// ```rust
+/// let remove = Operation::Remove { path: PointerBuf::from_text(alloc, "/a")? };
+/// let raws = without_texts(alloc, vec![in alloc; remove]?)?;
+/// assert!(rt; raws.len() == 1 && raws[0].text.is_none());
+/// ```
 pub fn without_texts(
     alloc: Global,
     operations: Vec<Operation>,

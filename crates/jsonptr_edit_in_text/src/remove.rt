@@ -7,7 +7,7 @@ ghost use Rattle.jsonptr_edit_in_text.specs.Bytes.{CutsBytes, CutsInTurn, CutsMe
 ghost use Rattle.jsonptr_edit_in_text.specs.EditInText.{DeletesInText};
 
 use crate::edit::{EditAtPointer, is_edited_at};
-use crate::place::{Site, children_of};
+use crate::place::Site;
 use jsonptr::Token;
 use jsonptr_in_text::selectors::selector_of;
 use jsonptr_json_edits::buffers::Buffers;
@@ -15,7 +15,7 @@ use jsonptr_json_edits::child::is_one_child;
 use jsonptr_json_edits::cut::{cut_at, splice};
 use jsonptr_json_edits::edit::{Child, Edit};
 use jsonptr_json_edits::layout::{Container, removal, slice};
-use jsonptr_json_edits::locate::{Extent, Span};
+use jsonptr_json_edits::locate::{Extent, Span, children_of};
 use std::alloc::{AllocError, Global};
 
 /// Cuts out each child that the token selects of the value that the pointer resolves to. The site is that

@@ -8,7 +8,7 @@ ghost use Rattle.jsonptr_edit_in_text.specs.Bytes.{IsScalar};
 ghost use Rattle.jsonptr_edit_in_text.specs.PrivateReaching.{ReachedInText, Trades, Becomes, ScalarBecomes, ReplacesByText, ReplacesScalarByText};
 
 use crate::edit::{EditAtPointer, edit_at};
-use crate::place::{Site, place_of};
+use crate::place::Site;
 use jsonptr::Pointer;
 use jsonptr_in_text::selectors::selectors_of;
 use jsonptr_json_edits::buffers::Buffers;
@@ -16,6 +16,7 @@ use jsonptr_json_edits::child::is_value_of;
 use jsonptr_json_edits::cut::{Cut, cut_at};
 use jsonptr_json_edits::edit::Edit;
 use jsonptr_json_edits::layout::{ValueText, replacement};
+use jsonptr_json_edits::locate::place_of;
 use jsonptr_json_edits::spacing::is_trimmed;
 use jsonptr_json_search::find::find_in_text_with;
 use jsonptr_json_search::outcome::Outcome;

@@ -3,12 +3,12 @@ ghost use Rattle.std.specs.Prelude.{IfOk, IfSome, string_bytes};
 ghost use Rattle.jsonptr.specs.Pointer.{tokens};
 ghost use Rattle.jsonptr_edit_in_text.specs.PrivateOperating.{FindsText};
 
-use crate::place::place_of;
 use jsonptr::Pointer;
 use jsonptr_in_text::selectors::selectors_of;
 use jsonptr_json_edits::buffers::Buffers;
 use jsonptr_json_edits::layout::{ValueText, text_at};
 use jsonptr_json_edits::lead::{Target, leads_to};
+use jsonptr_json_edits::locate::place_of;
 use std::alloc::{AllocError, Global};
 
 /// Returns the text of the value that the pointer resolves to, with its numbers and strings as they

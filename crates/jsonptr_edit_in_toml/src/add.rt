@@ -4,7 +4,7 @@ use crate::keys::{key_text, push_keys, push_token};
 use crate::outline::{Outline, Role, indent_of, outline_of};
 use crate::part::add_part;
 use crate::piece::{has_headers, section_text};
-use crate::plan::{Addition, Child, Keys};
+use crate::plan::{Addition, Keys, TomlChild};
 use crate::span::{
     ByteSpan, comments_above, is_blank_line, is_tight, line_start, newline_of, skip_blank_lines,
     skip_comment_lines, skip_own_comments, slice, text_start,
@@ -354,7 +354,7 @@ fn whole_lines(
     } else {
         lines
     };
-    let child = Child {
+    let child = TomlChild {
         span: ByteSpan {
             from: 0,
             to: rest.len(),

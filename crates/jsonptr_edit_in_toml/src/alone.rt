@@ -7,7 +7,7 @@ ghost use Rattle.jsonptr_edit_in_toml.specs.Bytes.{IsFiller, IsComma, HaveOneTom
 
 use crate::check::{is_document_of, is_text_of};
 use crate::cut::cut_at;
-use crate::plan::{Child, Keys};
+use crate::plan::{Keys, TomlChild};
 use jsonptr::{Assign, Fault, Pointer};
 use std::alloc::{AllocError, Global};
 use toml::{Table, Value};
@@ -44,7 +44,7 @@ fn is_comma(alloc: Global, text: &str) -> Result<bool, AllocError>
 
 /// Returns whether both texts are white space, line breaks and comments, and at most one of them has a
 /// comma.
-fn have_one_comma(alloc: Global, lead: &str, trail: &str) -> Result<bool, AllocError>
+fn have_one_toml_comma(alloc: Global, lead: &str, trail: &str) -> Result<bool, AllocError>
     ensures { IfOk result (λ have. IsTrue have → HaveOneTomlComma lead.now trail.now) }
 {
     if !is_filler(alloc, lead)? {
@@ -106,11 +106,11 @@ pub fn is_alone(
 
 /// Returns whether the text is one member or element with the value, with at most one comma and white
 /// space, line breaks and comments beside it.
-pub fn is_one_child(
+pub fn is_one_toml_child(
     alloc: Global,
     text: &str,
     pointer: Pointer<'_>,
-    child: &Child,
+    child: &TomlChild,
     value: &Value,
 ) -> Result<bool, AllocError>
     ensures { IfOk result (λ is. IsTrue is
@@ -122,5 +122,5 @@ pub fn is_one_child(
     if !is_alone(alloc, cut.was, pointer, &child.keys, value)? {
         return Ok(false);
     }
-    have_one_comma(alloc, cut.before, cut.after)
+    have_one_toml_comma(alloc, cut.before, cut.after)
 }

@@ -10,7 +10,7 @@ ghost use Rattle.jsonptr_edit_in_toml.specs.Bytes.{AssignsTomlBytes, IsAlone};
 ghost use Rattle.jsonptr_edit_in_toml.specs.Failing.{FailsToAssignInText, IsEditFault};
 
 use crate::add::plan_addition;
-use crate::alone::{is_alone, is_filler, is_one_child};
+use crate::alone::{is_alone, is_filler, is_one_toml_child};
 use crate::check::{has_deep_values, is_document_of};
 use crate::cut::{cut_at, splice};
 use crate::edited::Edited;
@@ -173,7 +173,7 @@ fn added(
         return Ok(None);
     };
     let piece = joined(alloc, plan.lead.as_str(), cut.was, plan.rest.as_str())?;
-    if !is_one_child(alloc, piece.as_str(), pointer, &plan.child, value)? {
+    if !is_one_toml_child(alloc, piece.as_str(), pointer, &plan.child, value)? {
         return Ok(None);
     }
     if !is_filler(alloc, cut.was)? {

@@ -9,7 +9,7 @@ ghost use Rattle.jsonptr_edit_in_toml.specs.EditInToml.{toml_text_of, DeletesInT
 ghost use Rattle.jsonptr_edit_in_toml.specs.Bytes.{DeletesTomlBytes, IsEmptyToml, Empties};
 ghost use Rattle.jsonptr_edit_in_toml.specs.Failing.{FailsToDeleteInText};
 
-use crate::alone::{empty_table, is_alone, is_one_child};
+use crate::alone::{empty_table, is_alone, is_one_toml_child};
 use crate::assign::choose;
 use crate::cut::{cut_at, splice};
 use crate::edited::Edited;
@@ -96,7 +96,7 @@ fn removed(
     let Some(cut) = cut_at(text, plan.span.from, plan.span.to) else {
         return Ok(None);
     };
-    if !is_one_child(alloc, cut.was, pointer, &plan.child, found)? {
+    if !is_one_toml_child(alloc, cut.was, pointer, &plan.child, found)? {
         return Ok(None);
     }
     let Some(left) = &plan.left else {

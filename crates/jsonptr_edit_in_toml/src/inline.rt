@@ -1,6 +1,6 @@
 //! The elements of arrays and the members of inline tables. These are hints: no contract says that they
 //! are right.
-use crate::keys::{Ending, Route, follow, is_index};
+use crate::keys::{KeyEnd, Route, follow, is_index};
 use crate::skip::{keys_end, value_end};
 use crate::span::{ByteSpan, skip_blanks, skip_filler};
 use std::alloc::{AllocError, Global};
@@ -31,12 +31,12 @@ pub struct Container {
     /// How many tokens lead to it.
     pub count: usize,
     /// The part that the tokens lead to, if they lead to one.
-    pub found: Option<Found>,
+    pub found: Option<FoundPart>,
 }
 
 /// A part that tokens lead to.
 #[derive(Clone, Copy, Debug)]
-pub struct Found {
+pub struct FoundPart {
     /// The part.
     pub part: Part,
     /// How many tokens lead to it.
@@ -94,10 +94,10 @@ fn find_part(
     parts: &Vec<Part>,
     route: &Route,
     count: usize,
-) -> Result<Option<Found>, AllocError> {
+) -> Result<Option<FoundPart>, AllocError> {
     for part in parts.iter() {
         if let Some(count) = follow_part(alloc, text, part, route, count)? {
-            return Ok(Some(Found { part: *part, count }));
+            return Ok(Some(FoundPart { part: *part, count }));
         }
     }
     Ok(None)
@@ -118,7 +118,7 @@ fn follow_part(
         });
     }
     let reach = follow(alloc, text, part.key, route, count)?;
-    Ok(if reach.ending == Ending::Whole {
+    Ok(if reach.ending == KeyEnd::Whole {
         Some(reach.count)
     } else {
         None

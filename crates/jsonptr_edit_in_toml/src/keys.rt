@@ -20,7 +20,7 @@ pub struct Route {
 
 /// How a dotted key ends beside the tokens.
 #[derive(Clone, Copy, Debug, PartialEq, Eq)]
-pub enum Ending {
+pub enum KeyEnd {
     /// All keys are tokens.
     Whole,
     /// The keys go on after the last token.
@@ -35,7 +35,7 @@ pub struct Reach {
     /// How many tokens it leads along, with those before it.
     pub count: usize,
     /// How it ends.
-    pub ending: Ending,
+    pub ending: KeyEnd,
 }
 
 /// Returns the route of the pointer.
@@ -97,7 +97,7 @@ pub fn follow(
             route,
             reach.count,
         )?;
-        if reach.ending != Ending::Whole {
+        if reach.ending != KeyEnd::Whole {
             break;
         }
         match after_dot(text, to) {
@@ -111,7 +111,7 @@ pub fn follow(
 /// Returns how far one key leads, as it is written, after so many tokens.
 fn step(alloc: Global, written: &str, route: &Route, count: usize) -> Result<Reach, AllocError> {
     let reach = enter_element(route, count);
-    if reach.ending != Ending::Whole {
+    if reach.ending != KeyEnd::Whole {
         return Ok(reach);
     }
     let Some(token) = route.tokens.get(reach.count) else {
@@ -141,7 +141,7 @@ pub fn enter_element(route: &Route, count: usize) -> Reach {
 fn whole(count: usize) -> Reach {
     Reach {
         count,
-        ending: Ending::Whole,
+        ending: KeyEnd::Whole,
     }
 }
 
@@ -149,7 +149,7 @@ fn whole(count: usize) -> Reach {
 fn deeper(count: usize) -> Reach {
     Reach {
         count,
-        ending: Ending::Deeper,
+        ending: KeyEnd::Deeper,
     }
 }
 
@@ -157,7 +157,7 @@ fn deeper(count: usize) -> Reach {
 fn beside(count: usize) -> Reach {
     Reach {
         count,
-        ending: Ending::Beside,
+        ending: KeyEnd::Beside,
     }
 }
 

@@ -1,7 +1,7 @@
 //! How the headers and pairs of a text lie beside the tokens of a pointer. These are hints: no contract
 //! says that they are right.
 use crate::items::{Item, ItemKind, items_of};
-use crate::keys::{Ending, Route, enter_element, follow, pointer_of, push_token, route_of};
+use crate::keys::{KeyEnd, Route, enter_element, follow, pointer_of, push_token, route_of};
 use crate::span::{ByteSpan, skip_blanks, slice};
 use jsonptr::{Pointer, PointerBuf};
 use std::alloc::{AllocError, Global};
@@ -82,10 +82,10 @@ fn trace_pair(
     }
     let reach = follow(alloc, text, item.key, route, header.shared)?;
     let role = match reach.ending {
-        Ending::Whole if reach.count == route.tokens.len() => Role::Exact,
-        Ending::Whole => Role::Through,
-        Ending::Deeper => Role::Inside,
-        Ending::Beside => Role::Outside,
+        KeyEnd::Whole if reach.count == route.tokens.len() => Role::Exact,
+        KeyEnd::Whole => Role::Through,
+        KeyEnd::Deeper => Role::Inside,
+        KeyEnd::Beside => Role::Outside,
     };
     Ok(Trace {
         role,
@@ -102,7 +102,7 @@ fn trace_header(
     route: &mut Route,
 ) -> Result<Trace, AllocError> {
     let mut reach = follow(alloc, text, item.key, route, 0)?;
-    if reach.ending == Ending::Whole {
+    if reach.ending == KeyEnd::Whole {
         if item.kind == ItemKind::Element {
             if let Some(tables) = route.counts.get_mut(reach.count) {
                 *tables = tables.saturating_add(1);
@@ -111,8 +111,8 @@ fn trace_header(
         reach = enter_element(route, reach.count);
     }
     let role = match reach.ending {
-        Ending::Whole if reach.count < route.tokens.len() => Role::Above,
-        Ending::Beside => Role::Outside,
+        KeyEnd::Whole if reach.count < route.tokens.len() => Role::Above,
+        KeyEnd::Beside => Role::Outside,
         _ => Role::Inside,
     };
     Ok(Trace {

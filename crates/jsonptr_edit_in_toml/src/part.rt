@@ -3,7 +3,7 @@
 use crate::inline::{Container, Part, container_of};
 use crate::keys::push_keys;
 use crate::outline::{Outline, Role};
-use crate::plan::{Addition, Child, Keys};
+use crate::plan::{Addition, Keys, TomlChild};
 use crate::span::{
     ByteSpan, ends_line, is_comment_line, is_tight, line_end, line_start, newline_of, skip_blanks,
     slice,
@@ -99,7 +99,7 @@ fn addition_of(added: Added, part: &str, keys: Keys) -> Result<Addition, AllocEr
         span: added.span,
         lead: added.lead,
         rest,
-        child: Child {
+        child: TomlChild {
             span: ByteSpan {
                 from,
                 to: from.saturating_add(part.len()),

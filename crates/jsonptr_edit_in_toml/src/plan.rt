@@ -13,7 +13,7 @@ pub enum Keys {
 
 /// A member or an element within a piece of a text.
 #[derive(Debug, Drop)]
-pub struct Child {
+pub struct TomlChild {
     /// Where it is in the piece, without the comma beside it.
     pub span: ByteSpan,
     /// The keys that it is at.
@@ -43,7 +43,7 @@ pub struct Addition {
     /// The second part of the new text.
     pub rest: String,
     /// The child in the new text.
-    pub child: Child,
+    pub child: TomlChild,
 }
 
 /// The text of a member or an element that is cut out.
@@ -52,7 +52,7 @@ pub struct Removal {
     /// What is cut out.
     pub span: ByteSpan,
     /// The child in it.
-    pub child: Child,
+    pub child: TomlChild,
     /// The text of the table or array that is left, if nothing else mentions it.
     pub left: Option<Left>,
 }

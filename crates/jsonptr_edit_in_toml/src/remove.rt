@@ -3,7 +3,7 @@ use crate::inline::{Container, Part, container_of};
 use crate::items::ItemKind;
 use crate::keys::{push_keys, push_pointer};
 use crate::outline::{Outline, Role, indent_of, outline_of};
-use crate::plan::{Child, Keys, Left, Removal};
+use crate::plan::{Keys, Left, Removal, TomlChild};
 use crate::span::{
     ByteSpan, blank_lines_above, comments_above, ends_line, line_start, newline_of, next_line,
     skip_blank_lines, skip_blanks, skip_own_comments, text_start,
@@ -36,7 +36,7 @@ pub fn plan_removal(
 
 /// Returns the removal of whole lines.
 fn lines(span: ByteSpan, keys: PointerBuf, left: Option<Left>) -> Removal {
-    let child = Child {
+    let child = TomlChild {
         span: ByteSpan {
             from: 0,
             to: span.to.saturating_sub(span.from),
@@ -216,7 +216,7 @@ fn remove_part(
     }
     let span = part_span(text, &container, &found.part);
     let is_element = found.part.key.from == found.part.key.to;
-    let child = Child {
+    let child = TomlChild {
         span: ByteSpan {
             from: found.part.whole.from.saturating_sub(span.from),
             to: found.part.whole.to.saturating_sub(span.from),

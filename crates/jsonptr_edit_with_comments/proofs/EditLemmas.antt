@@ -18,7 +18,7 @@ use Rattle.jsonptr_edit_with_comments.specs.PrivateErrors.{with_comments}
 use Rattle.jsonptr_edit_with_comments.specs.declared.error.WithCommentsError.{WithCommentsError}
 
 -- texts with the same tokens are read alike
-read_same : (t u : Text) → tokens t ≡ tokens u → read t ≡ read u
+pub read_same : (t u : Text) → tokens t ≡ tokens u → read t ≡ read u
 read_same t u same = ap (λ (ts : List Token). option_and_then of_json (option_and_then (λ p. if_last p.0 p.1) (value max_depth ts))) same
 
 pub assigned : (text old new made : Text) (ts : List Text) (v : NodeMap) → IsWithoutComments text old → IsLaidOut new made → AssignsInText old ts v new → Becomes (λ a b. AssignsInText a ts v b) text made

@@ -1,3 +1,4 @@
 pub mod EditWithComments
 pub mod Edits
 pub mod PrivateErrors
+pub mod Patches

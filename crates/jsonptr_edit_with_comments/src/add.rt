@@ -2,8 +2,8 @@
 //! right.
 
 use crate::change::{Change, Comma};
+use crate::effect::{Family, Texts};
 use crate::gap::gap_of;
-use crate::site::{Family, Texts};
 use jsonptr_json_edits::layout::slice;
 use jsonptr_json_edits::locate::{Extent, Span};
 use std::alloc::{AllocError, Global};
@@ -71,7 +71,7 @@ struct Location {
     was: Span,
 }
 
-/// Returns the change that adds the child at the position.
+/// Returns the change that adds the child at the position, or `None` if there is no such child.
 ///
 /// # Errors
 ///
@@ -89,32 +89,20 @@ pub fn addition(
     let is_commented = slice(texts.text, span.from, span.to)
         != slice(texts.old, span.from, span.to);
     let Some(last) = family.old.last() else {
-        return first(alloc, texts, family, *new);
+        return Ok(Some(first(alloc, texts, family, *new)?));
     };
     let Some(next) = family.old.get(position) else {
         let space = space_before(texts, family, position);
         let child = NewChild::of(texts, *new, space, is_commented);
-        return append(alloc, texts, family, *last, child);
+        return Ok(Some(append(alloc, texts, family, *last, child)?));
     };
     let space = space_before(texts, family, position.saturating_add(1));
     let child = NewChild::of(texts, *new, space, is_commented);
-    let from = match position.checked_sub(1) {
-        Some(before) => end_of(family, before),
-        None => family.container.from.saturating_add(1),
-    };
     let gap = Span {
-        from,
+        from: family.end_before(position),
         to: next.child.from,
     };
-    insert(alloc, texts, gap, child)
-}
-
-/// Returns the offset after the child at the position.
-fn end_of(family: &Family, position: usize) -> usize {
-    match family.old.get(position) {
-        Some(child) => child.child.to,
-        None => family.container.from.saturating_add(1),
-    }
+    Ok(Some(insert(alloc, texts, gap, child)?))
 }
 
 /// Returns the white space between the comma and the child at the position, after the edit.
@@ -142,7 +130,7 @@ fn append(
     family: &Family,
     last: Extent,
     new: NewChild<'_>,
-) -> Result<Option<Change>, AllocError> {
+) -> Result<Change, AllocError> {
     let from = last.child.to;
     let gap = gap_of(texts.text, from, family.container.to.saturating_sub(1));
     let is_over_lines = new.space.contains('\n');
@@ -189,7 +177,7 @@ fn insert(
     texts: Texts<'_>,
     span: Span,
     new: NewChild<'_>,
-) -> Result<Option<Change>, AllocError> {
+) -> Result<Change, AllocError> {
     let gap = gap_of(texts.text, span.from, span.to);
     if gap.ends_line {
         return if new.space.contains('\n') {
@@ -236,7 +224,7 @@ fn first(
     texts: Texts<'_>,
     family: &Family,
     new: Extent,
-) -> Result<Option<Change>, AllocError> {
+) -> Result<Change, AllocError> {
     let from = family.container.from.saturating_add(1);
     let to = family.container.to.saturating_sub(1);
     let end = texts.moved(family.container).to.saturating_sub(1);
@@ -278,12 +266,12 @@ fn replacing(from: usize, to: usize) -> Location {
 }
 
 /// Returns the change that puts the texts to the location, one after another.
-fn put(alloc: Global, location: Location, parts: &[&str]) -> Result<Option<Change>, AllocError> {
+fn put(alloc: Global, location: Location, parts: &[&str]) -> Result<Change, AllocError> {
     let mut piece = String::new(alloc);
     for part in parts {
         piece.push_str(*part)?;
     }
-    Ok(Some(Change {
+    Ok(Change {
         comma: location.comma,
         was: location.was,
         piece,
@@ -292,5 +280,5 @@ fn put(alloc: Global, location: Location, parts: &[&str]) -> Result<Option<Chang
             value: location.was.from,
         },
         key: None,
-    }))
+    })
 }

@@ -9,9 +9,9 @@ ghost use Rattle.jsonptr_edit_in_text.specs.EditInText.{AssignsInText, IsAssignE
 ghost use Rattle.jsonptr_edit_with_comments.specs.EditWithComments.{Becomes, EditsAs, IsWithCommentsError};
 ghost use Rattle.jsonptr_edit_with_comments.specs.Edits.{IsOneEdit};
 
+use crate::effect::Texts;
 use crate::error::{WithCommentsError, failed, read_past};
 use crate::put::put_edit;
-use crate::site::Texts;
 use jsonptr::{Pointer, assign};
 use jsonptr_edit_in_text::{RawValue, assign_in_place, assign_raw_in_place};
 use jsonptr_json_edits::buffers::Buffers;

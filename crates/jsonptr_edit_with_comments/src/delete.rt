@@ -6,9 +6,9 @@ ghost use Rattle.jsonptr_edit_in_text.specs.EditInText.{DeletesInText, IsEditRea
 ghost use Rattle.jsonptr_edit_with_comments.specs.EditWithComments.{Becomes, EditsAs, Lacks, IsWithCommentsError};
 ghost use Rattle.jsonptr_edit_with_comments.specs.Edits.{IsOneEdit};
 
+use crate::effect::Texts;
 use crate::error::{WithCommentsError, failed, read_past};
 use crate::put::put_edit;
-use crate::site::Texts;
 use jsonptr::Pointer;
 use jsonptr_edit_in_text::delete_in_place;
 use jsonptr_json_edits::buffers::Buffers;

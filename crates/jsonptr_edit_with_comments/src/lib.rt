@@ -10,29 +10,34 @@
 //! ```
 //!
 //! - [`assign_with_comments`] and [`delete_with_comments`] edit at a pointer, as `assign` and `delete` do.
-//! - [`assign_raw_with_comments`] brings a value with its own text.
+//! - [`apply_with_comments`] applies a patch (RFC 6902).
+//! - [`assign_raw_with_comments`] and [`apply_raw_with_comments`] bring values with their own texts.
 //!
 //! Each call makes two promises. *Meaning*: without its comments, the new text reads as the document
 //! that the call on documents makes. *Bytes*: one piece of the text is replaced, at most one comma is put
 //! in or taken out before it, and all other bytes stay. The piece is white space, or it is one value or
-//! one child with the comments in it and beside it on its line.
+//! one child with the comments in it and beside it on its line. A patch does that once for each operation,
+//! and twice for a `move`.
 //!
 //! In the examples `rt` is the runtime that `main` and each test receive, and `alloc` is
 //! `rt.alloc()`, the allocator.
 #![tactic(auto)]
 
 mod add;
+mod apply;
 mod assign;
 mod change;
 mod delete;
+mod effect;
 mod error;
 mod gap;
+mod operate;
 mod put;
 mod remove;
 mod same;
-mod site;
 
+pub use apply::{apply_raw_with_comments, apply_with_comments, try_apply_raw_with_comments};
 pub use assign::{assign_raw_with_comments, assign_with_comments};
 pub use delete::delete_with_comments;
 pub use error::WithCommentsError;
-pub use jsonptr_edit_in_text::{Buffers, RawValue};
+pub use jsonptr_edit_in_text::{Buffers, RawOperation, RawValue};

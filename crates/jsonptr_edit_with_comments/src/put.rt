@@ -4,16 +4,16 @@ ghost use Rattle.jsonptr_edit_with_comments.specs.Edits.{IsLaidOut, IsOneEdit};
 
 use crate::add::addition;
 use crate::change::{Change, Comma, changed};
+use crate::effect::{Effect, Family, Texts, effect_of};
 use crate::remove::removal;
 use crate::same::is_laid_out;
-use crate::site::{Family, Site, Texts, site_of};
 use jsonptr::Pointer;
 use jsonptr_json_edits::buffers::Buffers;
 use jsonptr_json_edits::layout::slice;
 use jsonptr_json_edits::locate::{Extent, Span};
 use std::alloc::{AllocError, Global};
 
-/// Returns the text with comments after the edit at the pointer, or `None` if its place is not found.
+/// Returns the text with comments after the edit at the pointer, or `None` if what it changes is not found.
 ///
 /// # Errors
 ///
@@ -29,10 +29,10 @@ pub fn put_edit(
     ensures bytes { IfOk result
         (λ made. IfSome made (λ s. IsOneEdit texts.entry.text.now (string_bytes s))) }
 {
-    let Some(site) = site_of(alloc, buffers, texts, pointer)? else {
+    let Some(effect) = effect_of(alloc, buffers, texts, pointer)? else {
         return Ok(None);
     };
-    let Some(change) = change_of(alloc, texts, site)? else {
+    let Some(change) = change_of(alloc, texts, effect)? else {
         return Ok(None);
     };
     let Some(made) = changed(alloc, buffers, texts.text, &change)? else {
@@ -46,11 +46,15 @@ pub fn put_edit(
 }
 
 /// Returns the change that makes the edit, or `None` if it is not found.
-fn change_of(alloc: Global, texts: Texts<'_>, site: Site) -> Result<Option<Change>, AllocError> {
-    match site {
-        Site::Replaced(span) => Ok(Some(replacement(alloc, texts, span)?)),
-        Site::Added(family, position) => addition(alloc, texts, &family, position),
-        Site::Removed(family, position, key) => removed(alloc, texts, &family, position, key),
+fn change_of(
+    alloc: Global,
+    texts: Texts<'_>,
+    effect: Effect,
+) -> Result<Option<Change>, AllocError> {
+    match effect {
+        Effect::Replaced(span) => Ok(Some(replacement(alloc, texts, span)?)),
+        Effect::Added(family, position) => addition(alloc, texts, &family, position),
+        Effect::Removed(family, position, key) => removed(alloc, texts, &family, position, key),
     }
 }
 

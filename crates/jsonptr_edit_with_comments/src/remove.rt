@@ -2,8 +2,8 @@
 //! that they are right.
 
 use crate::change::Comma;
+use crate::effect::{Family, Texts};
 use crate::gap::{Gap, gap_of};
-use crate::site::{Family, Texts};
 use jsonptr_json_edits::layout::{self, Container, slice};
 use jsonptr_json_edits::locate::Span;
 
@@ -39,10 +39,7 @@ pub struct Removed {
 /// Returns what is removed with the child at the position, or `None` if that is not clear.
 pub fn removal(texts: Texts<'_>, family: &Family, position: usize) -> Option<Removed> {
     let child = family.old.get(position)?.child;
-    let from = match position.checked_sub(1) {
-        Some(before) => family.old.get(before)?.child.to,
-        None => family.container.from.saturating_add(1),
-    };
+    let from = family.end_before(position);
     let to = match family.old.get(position.saturating_add(1)) {
         Some(next) => next.child.from,
         None => family.container.to.saturating_sub(1),

@@ -11,7 +11,7 @@ use Rattle.jsonptr.specs.Assigning.{Assigns}
 use Rattle.jsonptr.specs.Removing.{Deletes}
 use Rattle.jsonptr.specs.Resolve.{Refuses}
 use Rattle.jsonptr.specs.Assign.{RefusesAssign}
-use Rattle.jsonptr_paths.specs.TomlListing.{Lists}
+use Rattle.jsonptr_paths.specs.TomlListing.{ListsToml}
 use Rattle.jsonptr_paths.specs.declared.listing.Listed.{Listed}
 use Rattle.jsonptr_in_toml.specs.declared.error.InTomlError.{InTomlError}
 use Rattle.jsonptr_in_toml.specs.declared.error.InTomlError.TheVariants.{NotToml, DocumentTooDeep, NoValue, BadPlace, NotThere, TooDeep, NoText, Memory}
@@ -64,7 +64,7 @@ DeletesInToml text ts new = (d2 : Data) × DeletesTo text ts d2 × PrintsAs d2 n
 
 -- `ListsInToml which text out`: `out` lists the nodes, or the leaves, of the document of `text`
 abbrev pub ListsInToml : Listed → Text → Text → Type 0
-ListsInToml which text out = (d : Data) × ReadsAsToml text d × Lists which d out
+ListsInToml which text out = (d : Data) × ReadsAsToml text d × ListsToml which d out
 
 -- `FailsToFindInToml text ts e`: `e` is why no value is found, if it is not for memory
 abbrev pub FailsToFindInToml : Text → List Text → InTomlError → Type 0

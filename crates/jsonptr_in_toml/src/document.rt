@@ -20,6 +20,15 @@ use toml::{Table, Value, table_from_str, table_to_string};
 /// - [`InTomlError::NotToml`] if the text is not TOML.
 /// - [`InTomlError::DocumentTooDeep`] if the values of the document nest deeper than 80.
 /// - [`InTomlError::Memory`] if an allocation fails.
+///
+/// # Examples
+///
+/// ```rust
+/// let document = read_toml(alloc, "[server]\nport = 80\n")?;
+/// assert_eq!(rt; document.to_string(alloc)?.as_str(), "{ server = { port = 80 } }");
+/// let error = read_toml(alloc, "port = ").err().ok_or("an error")?;
+/// assert_eq!(rt; error.to_string(alloc)?.as_str(), "text is not TOML");
+/// ```
 pub fn read_toml(alloc: Global, text: &str) -> Result<Value, InTomlError>
     ensures document { IfOk result (λ v. ReadsAsToml text.now (view v)) }
     ensures refused { IfErr result (IsTomlReadError text.now) }
@@ -58,6 +67,15 @@ fn shallow(table: Table) -> Result<Value, InTomlError>
 /// - [`InTomlError::TooDeep`] if the values of the table nest deeper than 80.
 /// - [`InTomlError::NoText`] if the value is not a table, or has a date-time that TOML has no text for.
 /// - [`InTomlError::Memory`] if an allocation fails.
+///
+/// # Examples
+///
+/// ```rust
+/// let document = toml::Value::from_str(alloc, "{ server = { port = 80 } }")?;
+/// let text = print_toml(alloc, document)?;
+/// assert_eq!(rt; text.as_str(), "[server]\nport = 80\n");
+/// assert!(rt; print_toml(alloc, 1.into()).is_err());
+/// ```
 pub fn print_toml(alloc: Global, value: Value) -> Result<String, InTomlError>
     ensures printed { IfOk result (λ s. PrintsAs (view value) (string_bytes s)) }
     ensures refused { IfErr result (IsPrintFault (view value)) }

@@ -2,6 +2,7 @@
 ghost use Rattle.std.specs.Prelude.{◌≡◌};
 ghost use Rattle.jsonptr_in_toml.specs.declared.error.InTomlError.TheVariants.{Memory};
 
+use crate::depth::MAX_TOML_DEPTH;
 use jsonptr::{assign, resolve};
 use std::alloc::AllocError;
 use thiserror::Error;
@@ -10,10 +11,10 @@ use thiserror::Error;
 #[derive(Debug, Drop, Error)]
 pub enum InTomlError {
     /// The text is not a TOML document.
-    #[error("not TOML")]
+    #[error("text is not TOML")]
     NotToml,
     /// The values of the document nest deeper than 80.
-    #[error("the values of the document nest deeper than 80")]
+    #[error("values of the document nest deeper than {}", MAX_TOML_DEPTH)]
     DocumentTooDeep,
     /// The pointer does not resolve to a value.
     #[error(transparent)]
@@ -25,10 +26,10 @@ pub enum InTomlError {
     #[error("delete failed: json pointer does not resolve")]
     NotThere,
     /// The values of the new document nest deeper than 80, so that its text could not be read.
-    #[error("the values of the new document nest deeper than 80")]
+    #[error("values of the document would nest deeper than {}", MAX_TOML_DEPTH)]
     TooDeep,
     /// The new document is not a table, or has a date-time that TOML has no text for.
-    #[error("the new document has no TOML text")]
+    #[error("document would have no TOML text")]
     NoText,
     /// An allocation failed.
     #[error("out of memory")]

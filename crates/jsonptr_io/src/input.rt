@@ -6,13 +6,16 @@ ghost use Rattle.jsonptr_io.specs.declared.input.InputError.{InputError};
 
 use std::alloc::{AllocError, Global};
 use std::io::{ErrorKind, Read};
+use thiserror::Error;
 
-/// Why the input cannot be read.
-#[derive(Debug, Clone, Copy, PartialEq, Eq)]
+/// Why an input, or its next line, cannot be read.
+#[derive(Debug, Clone, Copy, PartialEq, Eq, Error)]
 pub enum InputError {
-    /// There is no memory for the input.
+    /// The allocation for the bytes failed.
+    #[error("out of memory")]
     Memory(AllocError),
     /// A read failed, and was not interrupted.
+    #[error("reading failed")]
     Read,
 }
 
@@ -23,8 +26,9 @@ const CHUNK_LEN: usize = 4096;
 ///
 /// # Errors
 ///
-/// [`InputError::Read`] if a read fails, and [`InputError::Memory`] if there is no memory for the
-/// bytes. An input without bytes needs no memory. An error may come after some bytes are read.
+/// [`InputError::Read`] if a read fails, or after 2^64 - 1 reads, and [`InputError::Memory`] if the
+/// allocation for the bytes fails. An input without bytes needs no allocation. An error may come
+/// after some bytes are read.
 pub fn read_all<R: Read>(alloc: Global, input: &mut R) -> Result<Vec<u8>, InputError>
     ensures bytes { IfOk result
         (λ v. Consumes (R.remaining input.old) (R.remaining input.new) v.items) }

@@ -4,17 +4,9 @@ ghost use Rattle.jsonptr_io.specs.Lines.{IsNextLine};
 ghost use Rattle.jsonptr_io.specs.PrivateLines.{CutsBreak};
 ghost use Rattle.jsonptr_io.specs.Streams.{ReadsSome};
 
+use crate::input::InputError;
 use std::alloc::AllocError;
 use std::io::{BufRead, ErrorKind};
-
-/// Why the next line cannot be read.
-#[derive(Debug, Clone, Copy, PartialEq, Eq)]
-pub enum NextLineError {
-    /// There is no memory for the line.
-    Memory(AllocError),
-    /// A read failed.
-    Read,
-}
 
 /// How the line that was read ends.
 #[derive(Debug, Clone, Copy, PartialEq, Eq)]
@@ -32,8 +24,8 @@ pub enum Ending {
 ///
 /// # Errors
 ///
-/// [`NextLineError::Read`] if a read fails, and [`NextLineError::Memory`] if there is no memory for the line.
-/// Some bytes may have been read.
+/// [`InputError::Read`] if a read fails, and [`InputError::Memory`] if the allocation for the line
+/// fails. Some bytes may have been read.
 ///
 /// # Examples
 ///
@@ -47,7 +39,7 @@ pub enum Ending {
 /// let last = next_line(&mut input, &mut line).ok();
 /// assert_eq!(rt; last, Some(Ending::Nothing));
 /// ```
-pub fn next_line<R: BufRead>(input: &mut R, line: &mut Vec<u8>) -> Result<Ending, NextLineError>
+pub fn next_line<R: BufRead>(input: &mut R, line: &mut Vec<u8>) -> Result<Ending, InputError>
     ensures line { IfOk result
         (IsNextLine (R.remaining input.old) (R.remaining input.new) line.new.items) }
     ensures refused { OnErr result (ReadsSome (R.remaining input.old) (R.remaining input.new)) }
@@ -56,10 +48,8 @@ pub fn next_line<R: BufRead>(input: &mut R, line: &mut Vec<u8>) -> Result<Ending
     match input.read_until(b'\n', line) {
         Ok(0) => Ok(Ending::Nothing),
         Ok(_) => Ok(cut_break(line)),
-        Err(error) if error.kind() == ErrorKind::OutOfMemory => Err(NextLineError::Memory(
-            AllocError,
-        )),
-        Err(_) => Err(NextLineError::Read),
+        Err(error) if error.kind() == ErrorKind::OutOfMemory => Err(InputError::Memory(AllocError)),
+        Err(_) => Err(InputError::Read),
     }
 }
 

@@ -4,9 +4,11 @@ ghost use Rattle.std.specs.Io.KnownBytes.{Appends};
 ghost use Rattle.jsonptr_io.specs.Streams.{AppendsPrefix};
 
 use std::io::Write;
+use thiserror::Error;
 
 /// A write failed, wrote nothing or was interrupted, or a flush failed.
-#[derive(Debug, Clone, Copy, PartialEq, Eq)]
+#[derive(Debug, Clone, Copy, PartialEq, Eq, Error)]
+#[error("writing failed")]
 pub struct WriteError;
 
 /// Writes all of these bytes. It does not flush.

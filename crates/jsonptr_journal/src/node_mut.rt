@@ -14,14 +14,14 @@ ghost use Rattle.jsonptr_journal.specs.Leading.{StopsAtOffset};
 ghost use Rattle.jsonptr_journal.specs.Writing.{write_at};
 
 use crate::location::{Location, Part};
-use crate::token_step::{NoSuchToken, token_step};
+use crate::token_step::{TokenError, token_step};
 use jsonptr::PointerBuf;
 use jsonptr_walk::descend::StepResult;
 use serde_json::{Map, Value};
 
 /// A location is not in the document.
 #[derive(Debug, Drop)]
-pub struct NoSuchNode {
+pub struct NodeError {
     /// The position of the first step that leads nowhere.
     pub position: usize,
 }
@@ -38,9 +38,9 @@ pub trait NodeMut: Sized {
     ///
     /// # Errors
     ///
-    /// [`NoSuchNode`] with the first step that leads nowhere, if the location is not in the document,
+    /// [`NodeError`] with the first step that leads nowhere, if the location is not in the document,
     /// which is unchanged.
-    fn node_mut(&mut self, location: &Location) -> Result<&mut Value, NoSuchNode>
+    fn node_mut(&mut self, location: &Location) -> Result<&mut Value, NodeError>
         ensures* writes_back { sem 𝓛 (follows_so Self.row the_row self.entry.ghost_name
             (name_if_ok (λ v. v.ghost_name) result)
             (λ w n. IsOk result → contents n
@@ -60,9 +60,9 @@ pub trait NodeMut: Sized {
     ///
     /// # Errors
     ///
-    /// [`NoSuchToken`] with the first token that names no child, if the pointer leads to no node. The
+    /// [`TokenError`] with the first token that names no child, if the pointer leads to no node. The
     /// document is unchanged.
-    fn token_mut(&mut self, pointer: &PointerBuf) -> Result<&mut Value, NoSuchToken>
+    fn token_mut(&mut self, pointer: &PointerBuf) -> Result<&mut Value, TokenError>
         ensures* writes_back { sem 𝓛 (follows_so Self.row the_row self.entry.ghost_name
             (name_if_ok (λ v. v.ghost_name) result)
             (λ w n. IsOk result → HasNoTilde (text pointer.now) → (p : Path)
@@ -81,7 +81,7 @@ fn step<'v>(
     at: &'v mut Value,
     location: &Location,
     i: usize,
-) -> Result<StepResult<'v, Value>, NoSuchNode>
+) -> Result<StepResult<'v, Value>, NodeError>
     ensures* writes_back { sem 𝓛
         (LendsMove the_row (λ v. v) at.entry (path_of location.now) i result) }
     ensures value { IfOk result (λ r.
@@ -107,10 +107,10 @@ fn step<'v>(
                         down: true,
                     })
                 } else {
-                    Err(NoSuchNode { position: i })
+                    Err(NodeError { position: i })
                 }
             }
-            None => Err(NoSuchNode { position: i }),
+            None => Err(NodeError { position: i }),
         },
         Part::Key(key) => match at.as_object_mut() {
             Some(members) => match members.get_mut(key.as_str()) {
@@ -119,9 +119,9 @@ fn step<'v>(
                     next,
                     down: true,
                 }),
-                None => Err(NoSuchNode { position: i }),
+                None => Err(NodeError { position: i }),
             },
-            None => Err(NoSuchNode { position: i }),
+            None => Err(NodeError { position: i }),
         },
     }
 }
@@ -131,7 +131,7 @@ impl NodeMut for Value {
 
     ghost contents = { contents_of };
 
-    fn node_mut(&mut self, location: &Location) -> Result<&mut Value, NoSuchNode> {
+    fn node_mut(&mut self, location: &Location) -> Result<&mut Value, NodeError> {
         let mut at = self;
         let mut i = 0;
         loop {
@@ -149,7 +149,7 @@ impl NodeMut for Value {
         }
     }
 
-    fn token_mut(&mut self, pointer: &PointerBuf) -> Result<&mut Value, NoSuchToken> {
+    fn token_mut(&mut self, pointer: &PointerBuf) -> Result<&mut Value, TokenError> {
         let mut at = self;
         let mut offset = 0;
         loop {

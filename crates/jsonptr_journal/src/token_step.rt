@@ -19,7 +19,7 @@ use serde_json::Value;
 
 /// A pointer leads to no node of a document.
 #[derive(Debug, Drop)]
-pub struct NoSuchToken {
+pub struct TokenError {
     /// The offset of the first token that names no child.
     pub offset: usize,
 }
@@ -59,7 +59,7 @@ pub fn token_step<'v>(
     at: &'v mut Value,
     pointer: &PointerBuf,
     offset: usize,
-) -> Result<StepResult<'v, Value>, NoSuchToken>
+) -> Result<StepResult<'v, Value>, TokenError>
     ensures* writes_back { sem 𝓛 (LendsMove the_row (λ v. v) at.entry pointer.now offset result) }
     ensures value { IfOk result (λ r.
         MovesTo pointer.now offset r.down at.old r.next r.node.now)
@@ -91,9 +91,9 @@ pub fn token_step<'v>(
                     next,
                     down: true,
                 }),
-                None => Err(NoSuchToken { offset }),
+                None => Err(TokenError { offset }),
             },
-            None => Err(NoSuchToken { offset }),
+            None => Err(TokenError { offset }),
         },
     }
 }

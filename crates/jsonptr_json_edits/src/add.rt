@@ -7,8 +7,9 @@ ghost use Rattle.jsonptr_json_search.specs.Search.{choice_of};
 ghost use Rattle.jsonptr_json_edits.specs.Editing.{AddsElement, AddsChosenMember, InsertsItem, InsertsMember};
 ghost use Rattle.jsonptr_json_edits.specs.PrivateEditing.{AddsItemIf, AddsMemberIf};
 
+use crate::check_error::CheckError;
 use crate::decide::{Found, Wanted, is_at, is_either, is_text, may_follow};
-use crate::edit::{CheckError, Child};
+use crate::edit::Child;
 use crate::same::{Readers, same, same_key, same_text, same_token};
 use json::{Scratch, Token};
 use jsonptr_json_search::skip::skip;
@@ -72,7 +73,7 @@ pub fn insert(
     match token {
         Token::BeginArray => {
             let index = child.selector.index.ok_or(CheckError::Mismatch)?;
-            add_item(scratch, readers, depth - 1, index, child.value.as_str())?;
+            add_element(scratch, readers, depth - 1, index, child.value.as_str())?;
             Ok(())
         }
         _ => Err(CheckError::Mismatch),
@@ -84,7 +85,7 @@ pub fn insert(
 /// # Errors
 ///
 /// As [`add`].
-fn add_item(
+fn add_element(
     scratch: &mut Scratch,
     readers: &mut Readers<'_>,
     depth: usize,
@@ -99,12 +100,12 @@ fn add_item(
 {
     let mut count = 0;
     let mut is_done = false;
-    'items: while !readers.two.take_end_array() {
+    'elements: while !readers.two.take_end_array() {
         if count == usize::MAX {
             return Err(CheckError::Mismatch);
         }
         let wanted = is_at(count, index);
-        visit_item(scratch, readers, depth, wanted, value)?;
+        visit_element(scratch, readers, depth, wanted, value)?;
         is_done = is_either(is_done, wanted);
         count += 1;
     }
@@ -120,7 +121,7 @@ fn add_item(
 /// # Errors
 ///
 /// As [`add`].
-fn visit_item(
+fn visit_element(
     scratch: &mut Scratch,
     readers: &mut Readers<'_>,
     depth: usize,

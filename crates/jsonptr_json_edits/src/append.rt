@@ -6,8 +6,9 @@ ghost use Rattle.jsonptr_json_search.specs.Reading.{ReadsTokens, ReadsItems};
 ghost use Rattle.jsonptr_json_search.specs.Search.{choice_of, items_count};
 ghost use Rattle.jsonptr_json_edits.specs.Editing.{Appends, InsertsItem};
 
+use crate::check_error::CheckError;
 use crate::decide::is_at;
-use crate::edit::{CheckError, Child};
+use crate::edit::Child;
 use crate::same::{Readers, same, same_text, same_token};
 use json::{Scratch, Token};
 
@@ -36,7 +37,7 @@ pub fn append(
     match token {
         Token::BeginArray => {
             let index = child.selector.index.ok_or(CheckError::Mismatch)?;
-            append_item(scratch, readers, depth - 1, index, child.value.as_str())?;
+            append_element(scratch, readers, depth - 1, index, child.value.as_str())?;
             Ok(())
         }
         _ => Err(CheckError::Mismatch),
@@ -49,7 +50,7 @@ pub fn append(
 /// # Errors
 ///
 /// As [`append`].
-fn append_item(
+fn append_element(
     scratch: &mut Scratch,
     readers: &mut Readers<'_>,
     depth: usize,
@@ -63,7 +64,7 @@ fn append_item(
     ensures two_shorter { OnOk result (length readers.new.two < length readers.old.two) }
 {
     let mut count = 0;
-    'items: while !readers.one.take_end_array() {
+    'elements: while !readers.one.take_end_array() {
         if readers.two.take_end_array() || count == usize::MAX {
             return Err(CheckError::Mismatch);
         }

@@ -9,8 +9,9 @@ ghost use Rattle.jsonptr_json_edits.specs.PrivateEditing.{ChangesIf};
 use crate::add::{add, insert};
 use crate::append::append;
 use crate::buffers::Buffers;
+use crate::check_error::CheckError;
 use crate::decide::{Wanted, is_at, is_either, is_text, may_follow};
-use crate::edit::{CheckError, Edit, EditAt};
+use crate::edit::{Edit, EditAt};
 use crate::same::{Readers, same, same_key, same_text, same_token};
 use json::{Reader, Scratch, Token};
 use jsonptr_value::MAX_DEPTH;
@@ -95,7 +96,7 @@ fn change(
     match token {
         Token::BeginArray => {
             let index = selector.index.ok_or(CheckError::Mismatch)?;
-            change_item(scratch, readers, depth - 1, index, rest)?;
+            change_element(scratch, readers, depth - 1, index, rest)?;
             Ok(())
         }
         Token::BeginObject => {
@@ -149,7 +150,7 @@ fn make(
 ///
 /// As [`check`].
 #[cycle(change)]
-fn change_item(
+fn change_element(
     scratch: &mut Scratch,
     readers: &mut Readers<'_>,
     depth: usize,
@@ -166,7 +167,7 @@ fn change_item(
 {
     let mut count = 0;
     let mut is_done = false;
-    'items: while !readers.one.take_end_array() {
+    'elements: while !readers.one.take_end_array() {
         if readers.two.take_end_array() || count == usize::MAX {
             return Err(CheckError::Mismatch);
         }

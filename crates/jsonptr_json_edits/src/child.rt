@@ -7,9 +7,9 @@ ghost use Rattle.jsonptr_json_edits.specs.Alike.{HoldsTokens, HoldsIf};
 ghost use Rattle.jsonptr_json_edits.specs.Child.{IsValueText, IsMemberText, HaveOneComma, IsOneChild, IsReadAs};
 
 use crate::buffers::Buffers;
+use crate::check_error::CheckError;
 use crate::cut::cut_at;
 use crate::decide::is_text;
-use crate::edit::CheckError;
 use crate::locate::{Extent, trimmed_end};
 use crate::same::same_text;
 use crate::spacing::{is_blank, is_colon, is_comma, is_trimmed};

@@ -1,4 +1,7 @@
 //! What is decided at each child.
+//!
+//! Each test is a function, also one that is a single operator: a proof can name the result of a call,
+//! and has its clause as a fact.
 ghost use Rattle.std.specs.Prelude.{◌≡◌, ◌↔◌, ◌||◌, IsTrue};
 ghost use Rattle.jsonptr_json_edits.specs.PrivateEditing.{MayFollow};
 

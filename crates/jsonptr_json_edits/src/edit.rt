@@ -1,8 +1,6 @@
-//! The edits of a text, and why two texts are not known to differ by one.
+//! The edits of a text.
 
-use json::Invalid;
 use jsonptr_json_search::selector::Selector;
-use std::alloc::AllocError;
 
 /// What an edit does to the value at its location. It owns the JSON texts that it names.
 #[derive(Debug, Drop)]
@@ -43,35 +41,4 @@ pub struct EditAt<'a> {
     pub positions: &'a [usize],
     /// The edit.
     pub edit: &'a Edit,
-}
-
-/// Why two texts are not known to differ by an edit.
-#[derive(Clone, Copy, Debug, Drop, PartialEq, Eq)]
-pub enum CheckError {
-    /// They differ elsewhere, or one of them is not JSON.
-    Mismatch,
-    /// An allocation failed.
-    Memory,
-}
-
-impl From<Invalid> for CheckError {
-    ghost use Rattle.std.specs.Prelude.{◌≡◌};
-    ghost use Rattle.jsonptr_json_edits.specs.declared.edit.CheckError.TheVariants.{Mismatch};
-
-    ghost from_gives = { λ _ error. error ≡ Mismatch };
-
-    fn from(_invalid: Invalid) -> CheckError {
-        CheckError::Mismatch
-    }
-}
-
-impl From<AllocError> for CheckError {
-    ghost use Rattle.std.specs.Prelude.{◌≡◌};
-    ghost use Rattle.jsonptr_json_edits.specs.declared.edit.CheckError.TheVariants.{Memory};
-
-    ghost from_gives = { λ _ error. error ≡ Memory };
-
-    fn from(_error: AllocError) -> CheckError {
-        CheckError::Memory
-    }
 }

@@ -8,8 +8,8 @@ ghost use Rattle.jsonptr_json_edits.specs.Leading.{LeadsToText, LeadsInText};
 ghost use Rattle.jsonptr_json_edits.specs.PrivateLeading.{LeadsIf, ChildLeads};
 
 use crate::buffers::Buffers;
+use crate::check_error::CheckError;
 use crate::decide::{Wanted, is_at, is_either, is_text, may_follow};
-use crate::edit::CheckError;
 use crate::same::same_text;
 use json::{Reader, Scratch, Token};
 use jsonptr_json_search::selector::Selector;
@@ -101,7 +101,7 @@ fn pass(
     match token {
         Token::BeginArray => {
             let index = selector.index.ok_or(CheckError::Mismatch)?;
-            pass_item(scratch, reader, depth - 1, index, rest)?;
+            pass_element(scratch, reader, depth - 1, index, rest)?;
             Ok(())
         }
         Token::BeginObject => {
@@ -123,7 +123,7 @@ fn pass(
 ///
 /// As [`check`].
 #[cycle(pass)]
-fn pass_item(
+fn pass_element(
     scratch: &mut Scratch,
     reader: &mut Reader<'_>,
     depth: usize,
@@ -136,7 +136,7 @@ fn pass_item(
 {
     let mut count = 0;
     let mut is_done = false;
-    'items: while !reader.take_end_array() {
+    'elements: while !reader.take_end_array() {
         if count == usize::MAX {
             return Err(CheckError::Mismatch);
         }

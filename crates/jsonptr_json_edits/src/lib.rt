@@ -8,6 +8,7 @@ mod add;
 mod append;
 pub mod buffers;
 pub mod check;
+mod check_error;
 pub mod child;
 pub mod cut;
 mod decide;

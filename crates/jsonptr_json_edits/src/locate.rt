@@ -2,12 +2,12 @@
 //! right, and [`is_edited`](crate::check::is_edited) judges what is made of them.
 ghost use Rattle.std.specs.Prelude.{◌<◌, length, OnOk};
 
-use crate::edit::CheckError;
+use crate::buffers::Buffers;
 use crate::spacing::is_space;
 use json::{Reader, Scratch, Token};
 use jsonptr_json_search::scalar::is_scalar;
 use jsonptr_json_search::selector::Selector;
-use jsonptr_value::MAX_DEPTH;
+use jsonptr_value::{MAX_DEPTH, ReadError};
 use std::alloc::{AllocError, Global};
 
 /// Where something begins and ends in a text, in bytes.
@@ -43,18 +43,54 @@ pub struct Extent {
     pub value: usize,
 }
 
+/// Returns where the selectors lead in the text, as far as they do, or `None` if the text is not JSON.
+///
+/// # Errors
+///
+/// [`AllocError`] if an allocation fails.
+pub fn place_of(
+    alloc: Global,
+    buffers: &mut Buffers,
+    text: &str,
+    selectors: &[Selector],
+) -> Result<Option<Place>, AllocError> {
+    or_none(locate(alloc, &mut buffers.old, text, selectors))
+}
+
+/// Returns where the children of the array or object at the span are, or `None` if it is neither.
+///
+/// # Errors
+///
+/// [`AllocError`] if an allocation fails.
+pub fn children_of(
+    alloc: Global,
+    buffers: &mut Buffers,
+    text: &str,
+    span: Span,
+) -> Result<Option<Vec<Extent>>, AllocError> {
+    or_none(children(alloc, &mut buffers.old, text, span))
+}
+
+/// Returns what was found, or `None` in a text that is not JSON.
+fn or_none<T: Drop>(found: Result<T, ReadError>) -> Result<Option<T>, AllocError> {
+    match found {
+        Ok(found) => Ok(Some(found)),
+        Err(ReadError::NotJson) => Ok(None),
+        Err(ReadError::Memory) => Err(AllocError),
+    }
+}
+
 /// Returns where the selectors lead in the text, as far as they do.
 ///
 /// # Errors
 ///
-/// [`CheckError::Mismatch`] if the text is not JSON, and [`CheckError::Memory`] if an allocation
-/// fails.
-pub fn locate(
+/// [`ReadError::NotJson`] if the text is not JSON, and [`ReadError::Memory`] if an allocation fails.
+fn locate(
     alloc: Global,
     scratch: &mut Scratch,
     text: &str,
     selectors: &[Selector],
-) -> Result<Place, CheckError> {
+) -> Result<Place, ReadError> {
     let all = Span { from: 0, to: 0 };
     let mut search = Search {
         text,
@@ -89,7 +125,7 @@ fn find(
     depth: usize,
     selectors: &[Selector],
     level: usize,
-) -> Result<(), CheckError>
+) -> Result<(), ReadError>
     ensures shorter { OnOk result (length search.new.reader < length search.old.reader) }
 {
     let from = search.reader.offset();
@@ -100,24 +136,24 @@ fn find(
         return Ok(());
     };
     let Some(token) = search.reader.next() else {
-        return Err(CheckError::Mismatch);
+        return Err(ReadError::NotJson);
     };
     let entered = match token {
         Token::BeginArray => {
             if depth == 0 {
-                return Err(CheckError::Mismatch);
+                return Err(ReadError::NotJson);
             }
-            find_item(search, depth - 1, selector, rest, level)?
+            find_element(search, depth - 1, selector, rest, level)?
         }
         Token::BeginObject => {
             if depth == 0 {
-                return Err(CheckError::Mismatch);
+                return Err(ReadError::NotJson);
             }
             find_member(search, depth - 1, selector, rest, level)?
         }
         _ => {
             if !is_scalar(token) {
-                return Err(CheckError::Mismatch);
+                return Err(ReadError::NotJson);
             }
             false
         }
@@ -142,18 +178,18 @@ impl<'t> Search<'t> {
 /// Follows the selector and the others in the elements of an array. Returns whether there is such
 /// an element.
 #[cycle(find)]
-fn find_item(
+fn find_element(
     search: &mut Search<'_>,
     depth: usize,
     selector: &Selector,
     rest: &[Selector],
     level: usize,
-) -> Result<bool, CheckError>
+) -> Result<bool, ReadError>
     ensures shorter { OnOk result (length search.new.reader < length search.old.reader) }
 {
     let mut entered = false;
     let mut count = 0usize;
-    'items: while !search.reader.take_end_array() {
+    'elements: while !search.reader.take_end_array() {
         if selector.index == Some(count) {
             note(&mut search.place, level, count, rest.is_empty())?;
             find(search, depth, rest, level.saturating_add(1))?;
@@ -175,7 +211,7 @@ fn find_member(
     selector: &Selector,
     rest: &[Selector],
     level: usize,
-) -> Result<bool, CheckError>
+) -> Result<bool, ReadError>
     ensures shorter { OnOk result (length search.new.reader < length search.old.reader) }
 {
     let mut entered = false;
@@ -197,20 +233,20 @@ fn find_member(
 ///
 /// # Errors
 ///
-/// [`CheckError::Mismatch`] if it is not an array or an object, and [`CheckError::Memory`] if an
+/// [`ReadError::NotJson`] if it is not an array or an object, and [`ReadError::Memory`] if an
 /// allocation fails.
-pub fn children(
+fn children(
     alloc: Global,
     scratch: &mut Scratch,
     text: &str,
     span: Span,
-) -> Result<Vec<Extent>, CheckError> {
+) -> Result<Vec<Extent>, ReadError> {
     let container = text.get(span.from..span.to).unwrap_or("");
     let mut reader = Reader::new(container, scratch)?;
     match reader.next() {
         Some(Token::BeginArray) => elements(alloc, &mut reader, text, span.from),
         Some(Token::BeginObject) => members(alloc, &mut reader, text, span.from),
-        _ => Err(CheckError::Mismatch),
+        _ => Err(ReadError::NotJson),
     }
 }
 
@@ -220,9 +256,9 @@ fn elements(
     reader: &mut Reader<'_>,
     text: &str,
     base: usize,
-) -> Result<Vec<Extent>, CheckError> {
+) -> Result<Vec<Extent>, ReadError> {
     let mut extents = Vec::new(alloc);
-    'items: while !reader.take_end_array() {
+    'elements: while !reader.take_end_array() {
         let from = base.saturating_add(reader.offset());
         reader.skip_value(MAX_DEPTH)?;
         let to = end_of_value(text.as_bytes(), base.saturating_add(reader.offset()));
@@ -244,7 +280,7 @@ fn members(
     reader: &mut Reader<'_>,
     text: &str,
     base: usize,
-) -> Result<Vec<Extent>, CheckError> {
+) -> Result<Vec<Extent>, ReadError> {
     let mut extents = Vec::new(alloc);
     let mut from = base.saturating_add(reader.offset());
     'members: while let Some(_) = reader.next_key()? {
@@ -284,7 +320,7 @@ fn keep(extents: &mut Vec<Extent>, extent: Extent) -> Result<(), AllocError> {
 
 /// Returns where the value before the next token ends. White space, a comma and more white space
 /// may be between the two.
-fn end_of_value(bytes: &[u8], next: usize) -> usize {
+pub fn end_of_value(bytes: &[u8], next: usize) -> usize {
     let end = trimmed_end(bytes, next);
     if end > 0 && bytes.get(end - 1) == Some(&b',') {
         trimmed_end(bytes, end - 1)

@@ -8,7 +8,7 @@ ghost use Rattle.serde_json.specs.Read.{read};
 ghost use Rattle.jsonptr_json_search.specs.Reading.{ReadsTokens, ReadsItems, ReadsMembers};
 ghost use Rattle.jsonptr_json_edits.specs.Alike.{AreAlike};
 
-use crate::edit::CheckError;
+use crate::check_error::CheckError;
 use json::{Invalid, Reader, Scratch, Token};
 use jsonptr_json_search::scalar::is_scalar;
 use jsonptr_value::MAX_DEPTH;
@@ -47,7 +47,7 @@ pub fn same(
             if one_depth == 0 || two_depth == 0 {
                 return Err(Invalid);
             }
-            same_items(one, two, one_depth - 1, two_depth - 1)?;
+            same_elements(one, two, one_depth - 1, two_depth - 1)?;
             Ok(())
         }
         Token::BeginObject => {
@@ -72,7 +72,7 @@ pub fn same(
 /// As [`same`].
 #[cycle(same)]
 #[inline(never)]
-fn same_items(
+fn same_elements(
     one: &mut Reader<'_>,
     two: &mut Reader<'_>,
     one_depth: usize,
@@ -84,7 +84,7 @@ fn same_items(
     ensures one_shorter { OnOk result (length one.new < length one.old) }
     ensures two_shorter { OnOk result (length two.new < length two.old) }
 {
-    'items: while !one.take_end_array() {
+    'elements: while !one.take_end_array() {
         if two.take_end_array() {
             return Err(Invalid);
         }

@@ -92,7 +92,7 @@ fn find(
             if depth == 0 {
                 return Err(ReadError::NotJson);
             }
-            let (found, len) = find_item(alloc, reader, depth - 1, selector.index, rest)?;
+            let (found, len) = find_element(alloc, reader, depth - 1, selector.index, rest)?;
             Ok(or_stopped(found, left, Kind::Array(len)))
         }
         Token::BeginObject => {
@@ -145,7 +145,7 @@ struct Child<'s> {
 ///
 /// As [`find_in_text`].
 #[cycle(find)]
-fn find_item(
+fn find_element(
     alloc: Global,
     reader: &mut Reader<'_>,
     depth: usize,
@@ -161,8 +161,8 @@ fn find_item(
 {
     let mut found = None;
     let mut len = 0;
-    'items: while !reader.take_end_array() {
-        let wanted = is_at(index, len);
+    'elements: while !reader.take_end_array() {
+        let wanted = is_at(len, index);
         let child = Child { wanted, selectors };
         found = visit(alloc, reader, depth, child, found)?;
         len += 1;
@@ -228,8 +228,8 @@ fn visit(
     }
 }
 
-/// Returns whether the index is this one.
-fn is_at(index: Option<usize>, count: usize) -> bool
+/// Returns whether the count is the index.
+fn is_at(count: usize, index: Option<usize>) -> bool
     ensures { IsTrue result ↔ (index ≡ Some count) }
 {
     match index {

@@ -33,8 +33,8 @@ pub fn read(alloc: Global, reader: &mut Reader<'_>, depth: usize) -> Result<Valu
             if depth == 0 {
                 return Err(ReadError::NotJson);
             }
-            let items = read_items(alloc, reader, depth - 1)?;
-            Ok(Value::Array(items))
+            let elements = read_elements(alloc, reader, depth - 1)?;
+            Ok(Value::Array(elements))
         }
         Token::BeginObject => {
             if depth == 0 {
@@ -84,16 +84,20 @@ fn read_scalar(alloc: Global, token: Token<'_>) -> Result<Value, ReadError>
 /// As [`read`].
 #[cycle(read)]
 #[inline(never)]
-fn read_items(alloc: Global, reader: &mut Reader<'_>, depth: usize) -> Result<Vec<Value>, ReadError>
+fn read_elements(
+    alloc: Global,
+    reader: &mut Reader<'_>,
+    depth: usize,
+) -> Result<Vec<Value>, ReadError>
     ensures value { IfOk result
         (λ v. ReadsItems depth reader.old (items_view v.items) reader.new) }
     ensures shorter { OnOk result (length reader.new < length reader.old) }
     ensures refused { result ≡ Err NotJson → UnreadableItems depth reader.old }
 {
     let mut found = Vec::new(alloc);
-    'items: while !reader.take_end_array() {
-        let item = read(alloc, reader, depth)?;
-        found.push(item)?;
+    'elements: while !reader.take_end_array() {
+        let element = read(alloc, reader, depth)?;
+        found.push(element)?;
     }
     Ok(found)
 }

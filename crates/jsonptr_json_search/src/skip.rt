@@ -26,7 +26,7 @@ pub fn skip(reader: &mut Reader<'_>, depth: usize) -> Result<(), Invalid>
             if depth == 0 {
                 return Err(Invalid);
             }
-            skip_items(reader, depth - 1)?;
+            skip_elements(reader, depth - 1)?;
             Ok(())
         }
         Token::BeginObject => {
@@ -51,12 +51,12 @@ pub fn skip(reader: &mut Reader<'_>, depth: usize) -> Result<(), Invalid>
 /// As [`skip`].
 #[cycle(skip)]
 #[inline(never)]
-fn skip_items(reader: &mut Reader<'_>, depth: usize) -> Result<(), Invalid>
+fn skip_elements(reader: &mut Reader<'_>, depth: usize) -> Result<(), Invalid>
     ensures passed { OnOk result ((ds : Items) × ReadsItems depth reader.old ds reader.new) }
     ensures shorter { OnOk result (length reader.new < length reader.old) }
     ensures refused { IsErr result → UnreadableItems depth reader.old }
 {
-    'items: while !reader.take_end_array() {
+    'elements: while !reader.take_end_array() {
         skip(reader, depth)?;
     }
     Ok(())

@@ -8,6 +8,7 @@ ghost use Rattle.jsonptr_numbers.specs.declared.exact.ExactError.TheVariants.{Me
 
 use crate::find::find_lost;
 use crate::lost::Lost;
+use jsonptr_value::ReadError;
 use serde_json::Value;
 use std::alloc::{AllocError, Global};
 use thiserror::Error;
@@ -56,10 +57,10 @@ pub fn read_exactly(alloc: Global, text: &str) -> Result<Value, ExactError>
     ensures digits { IfOk result (λ _. KeepsDigits text.now) }
     ensures refused { IfErr result (IsExactError text.now) }
 {
-    let value = match Value::from_str(alloc, text) {
+    let value = match jsonptr_value::read(alloc, text) {
         Ok(value) => value,
-        Err(error) if error.is_memory() => return Err(ExactError::Memory(AllocError)),
-        Err(_) => return Err(ExactError::NotJson),
+        Err(ReadError::NotJson) => return Err(ExactError::NotJson),
+        Err(ReadError::Memory) => return Err(ExactError::Memory(AllocError)),
     };
     match find_lost(alloc, text)? {
         Some(lost) => Err(ExactError::Lost(lost)),

@@ -39,15 +39,15 @@ use std::alloc::{AllocError, Global};
 /// [`AllocError`] if an allocation fails.
 pub fn are_apart(
     alloc: Global,
-    doc: &Value,
+    document: &Value,
     left: &[Operation],
     right: &[Operation],
 ) -> Result<bool, AllocError>
     ensures { IfOk result (λ apart.
-        IsTrue apart ↔ PatchesAreApart (nodes (view doc.now)) left.now right.now) }
+        IsTrue apart ↔ PatchesAreApart (nodes (view document.now)) left.now right.now) }
 {
     for operation in left {
-        if !is_apart_from_each(alloc, doc, operation, right)? {
+        if !is_apart_from_each(alloc, document, operation, right)? {
             return Ok(false);
         }
     }

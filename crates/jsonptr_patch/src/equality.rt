@@ -12,8 +12,8 @@ use serde_json::{Map, Number, Value};
 
 /// Returns whether the value is a float or contains one at any depth.
 ///
-/// The stack is in proportion to the depth of the value. So it is called only where memory for the
-/// list of `float_search` is refused.
+/// The stack is in proportion to the depth of the value. So it is called only where the allocation
+/// of the list of `float_search` fails.
 #[cycle(floats)]
 pub fn has_float(value: &Value) -> bool
     ensures { IsTrue result ↔ FloatIn value.now }

@@ -20,7 +20,8 @@ pub(crate) enum Left<'v> {
 
 /// Returns whether the value is a float or contains one at any depth.
 ///
-/// Needs memory in proportion to the depth of the value. Where that is refused, it recurses instead.
+/// Needs memory in proportion to the depth of the value. Where an allocation fails, it recurses
+/// instead.
 pub(crate) fn contains_float(alloc: Global, value: &Value) -> bool
     ensures { IsTrue result ↔ FloatIn value.now }
 {

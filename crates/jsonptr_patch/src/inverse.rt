@@ -103,21 +103,22 @@ pub fn apply_with_inverse(
 /// Those of [`apply_comparing`](crate::apply_comparing). The document is unchanged.
 pub fn apply_comparing_with_inverse(
     alloc: Global,
-    doc: &mut Value,
+    document: &mut Value,
     patch: Vec<Operation>,
     comparison: Comparison,
 ) -> Result<Vec<Operation>, Fault<PatchError>>
     ensures applied { IfOk result (λ _.
-        PatchesBy comparison (nodes (view doc.old)) patch.items (nodes (view doc.new))) }
+        PatchesBy comparison (nodes (view document.old)) patch.items (nodes (view document.new))) }
     ensures sorted { IfOk result (λ _. All OperationHasSortedKeys patch.items
-        → HasSortedKeys (view doc.old) → HasSortedKeys (view doc.new)) }
+        → HasSortedKeys (view document.old) → HasSortedKeys (view document.new)) }
     ensures inverse { IfOk result (λ back.
-        Patches (nodes (view doc.new)) back.items (nodes (view doc.old))) }
+        Patches (nodes (view document.new)) back.items (nodes (view document.old))) }
     ensures inverse_sorted { IfOk result (λ back. All OperationHasSortedKeys patch.items
-        → HasSortedKeys (view doc.old) → All OperationHasSortedKeys back.items) }
+        → HasSortedKeys (view document.old) → All OperationHasSortedKeys back.items) }
     ensures empty { patch.items ≡ [] → IsOk result }
-    ensures refused { IfRefused result (RefusesPatchBy comparison (nodes (view doc.old)) patch.items) }
-    ensures unchanged { OnErr result (view doc.new ≡ view doc.old) }
+    ensures refused { IfRefused result
+        (RefusesPatchBy comparison (nodes (view document.old)) patch.items) }
+    ensures unchanged { OnErr result (view document.new ≡ view document.old) }
 {
     if patch.is_empty() {
         return Ok(Vec::new(alloc));
@@ -132,13 +133,13 @@ pub fn apply_comparing_with_inverse(
         journal,
         later: Vec::new(alloc),
     };
-    match record_with_inverse(first, doc, &mut run, patch) {
+    match record_with_inverse(first, document, &mut run, patch) {
         Ok(back) => {
             run.journal.discard();
             Ok(back)
         }
         Err(fault) => {
-            run.journal.undo(alloc, doc);
+            run.journal.undo(alloc, document);
             Err(fault)
         }
     }
@@ -272,7 +273,7 @@ fn settle_with_back(
     requires pending { (n : NodeMap) × IsPending (nodes (view document.old)) run.old.later.items n }
     ensures apart { IfOk result (λ _. AllDiverge (nodes (view document.new)) (pointers operation.now)
         (paths_of run.new.later.items)) }
-    ensures stands { IfOk result (λ _. (n : NodeMap)
+    ensures there { IfOk result (λ _. (n : NodeMap)
         → IsPending (nodes (view document.old)) run.old.later.items n
         → (k : NodeMap) × IsPending (nodes (view document.new)) run.new.later.items k
         × StandsFor k n operation.now) }

@@ -23,7 +23,7 @@ ghost use Rattle.jsonptr_patch.specs.PrivateRecording.{CanUndo, Records};
 use crate::add::key_of;
 use crate::apart::fork;
 use crate::drop::discard_small;
-use crate::move_value::{NotAdded, add_taken, move_value};
+use crate::move_value::{AddError, add_taken, move_value};
 use crate::operation::{Operation, PatchError};
 use crate::patch::record;
 use crate::target::{no_target, target};
@@ -451,7 +451,7 @@ pub fn settle(
     requires pending { (n : NodeMap) × IsPending (nodes (view document.old)) run.old.later.items n }
     ensures apart { IfOk result (λ _. AllDiverge (nodes (view document.new)) (pointers operation.now)
         (paths_of run.new.later.items)) }
-    ensures stands { IfOk result (λ _. (n : NodeMap)
+    ensures there { IfOk result (λ _. (n : NodeMap)
         → IsPending (nodes (view document.old)) run.old.later.items n
         → (k : NodeMap) × IsPending (nodes (view document.new)) run.new.later.items k
         × StandsFor k n operation.now) }
@@ -609,7 +609,7 @@ fn move_later(
                 });
                 Ok(())
             }
-            Err(NotAdded { value, fault }) => {
+            Err(AddError { value, fault }) => {
                 undo_removal(turn.alloc, document, removal, value);
                 Err(fault)
             }

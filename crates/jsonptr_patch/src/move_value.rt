@@ -133,7 +133,7 @@ fn move_member(
             discard(remove(turn.alloc, document, location));
             Ok(())
         }
-        Err(NotAdded { value, fault }) => {
+        Err(AddError { value, fault }) => {
             undo_removal(turn.alloc, document, Removal::Blank { location }, value);
             Err(fault)
         }
@@ -170,7 +170,7 @@ fn moved(
     let Taken { value, removal } = take(turn.alloc, document, location)?;
     match add_taken(turn, document, path, value) {
         Ok(addition) => Ok(Entry::Moved(removal, addition)),
-        Err(NotAdded { value, fault }) => {
+        Err(AddError { value, fault }) => {
             undo_removal(turn.alloc, document, removal, value);
             Err(fault)
         }
@@ -179,7 +179,7 @@ fn moved(
 
 /// A value that could not be added, and why.
 #[derive(Drop)]
-pub struct NotAdded {
+pub struct AddError {
     /// The value.
     pub value: Value,
     /// Why it could not be added.
@@ -198,7 +198,7 @@ pub fn add_taken(
     document: &mut Value,
     path: Pointer<'_>,
     value: Value,
-) -> Result<Addition, NotAdded>
+) -> Result<Addition, AddError>
     ensures added { IfOk result (λ _. Adds (nodes (view document.old)) (tokens path.entry)
         (nodes (view value)) (nodes (view document.new))) }
     ensures sorted { IfOk result (λ _.
@@ -213,12 +213,12 @@ pub fn add_taken(
     match place(turn, document, path) {
         Ok(place) => match add(turn.alloc, document, place, value) {
             Ok(addition) => Ok(addition),
-            Err(value) => Err(NotAdded {
+            Err(value) => Err(AddError {
                 value,
                 fault: Fault::Memory(AllocError),
             }),
         },
-        Err(fault) => Err(NotAdded { value, fault }),
+        Err(fault) => Err(AddError { value, fault }),
     }
 }
 
@@ -232,7 +232,7 @@ fn insert_taken(
     document: &mut Value,
     path: Pointer<'_>,
     value: Value,
-) -> Result<(), NotAdded>
+) -> Result<(), AddError>
     ensures added { IfOk result (λ _. Adds (nodes (view document.old)) (tokens path.entry)
         (nodes (view value)) (nodes (view document.new))) }
     ensures sorted { IfOk result (λ _.
@@ -245,12 +245,12 @@ fn insert_taken(
     match place(turn, document, path) {
         Ok(place) => match insert(turn.alloc, document, place, value) {
             Ok(()) => Ok(()),
-            Err(value) => Err(NotAdded {
+            Err(value) => Err(AddError {
                 value,
                 fault: Fault::Memory(AllocError),
             }),
         },
-        Err(fault) => Err(NotAdded { value, fault }),
+        Err(fault) => Err(AddError { value, fault }),
     }
 }
 

@@ -106,17 +106,18 @@ pub fn apply(alloc: Global, doc: &mut Value, patch: Vec<Operation>) -> Result<()
 /// [`PatchError::TestFloat`] with [`Comparison::Numeric`].
 pub fn apply_comparing(
     alloc: Global,
-    doc: &mut Value,
+    document: &mut Value,
     patch: Vec<Operation>,
     comparison: Comparison,
 ) -> Result<(), Fault<PatchError>>
     ensures applied { IfOk result (λ _.
-        PatchesBy comparison (nodes (view doc.old)) patch.items (nodes (view doc.new))) }
+        PatchesBy comparison (nodes (view document.old)) patch.items (nodes (view document.new))) }
     ensures sorted { IfOk result (λ _. All OperationHasSortedKeys patch.items
-        → HasSortedKeys (view doc.old) → HasSortedKeys (view doc.new)) }
+        → HasSortedKeys (view document.old) → HasSortedKeys (view document.new)) }
     ensures empty { patch.items ≡ [] → IsOk result }
-    ensures refused { IfRefused result (RefusesPatchBy comparison (nodes (view doc.old)) patch.items) }
-    ensures unchanged { OnErr result (view doc.new ≡ view doc.old) }
+    ensures refused { IfRefused result
+        (RefusesPatchBy comparison (nodes (view document.old)) patch.items) }
+    ensures unchanged { OnErr result (view document.new ≡ view document.old) }
     ensures no_memory { PatchNeedsNoMemory patch.items → HasMemory result }
 {
     let mut operations = patch;
@@ -133,13 +134,13 @@ pub fn apply_comparing(
         journal,
         later: Vec::new(alloc),
     };
-    match apply_all(first, doc, &mut run, operations, last) {
+    match apply_all(first, document, &mut run, operations, last) {
         Ok(()) => {
             run.journal.discard();
             Ok(())
         }
         Err(fault) => {
-            run.journal.undo(alloc, doc);
+            run.journal.undo(alloc, document);
             Err(fault)
         }
     }

@@ -161,7 +161,7 @@ fn put<D: ResolveMut>(
     ensures written { IfOk result (λ _.
         D.writes document.old (tokens pointer.entry) value document.new) }
     ensures refused { IfRefused result (D.refuses document.old (tokens pointer.entry)) }
-    ensures stays { OnErr result (D.is_same document.old document.new) }
+    ensures unchanged { OnErr result (D.is_same document.old document.new) }
     ensures no_memory { D.needs_no_memory document.old (tokens pointer.entry) → HasMemory result }
 {
     let place = document.resolve_mut(alloc, pointer)?;

@@ -22,14 +22,14 @@ emptied (object ms) = object no_members
 abbrev pub IsLeaf : Data → Type 0
 IsLeaf v = emptied v ≡ v
 
--- `IsPlain t`: no byte of `t` is below 32, so `t` has no control character
-abbrev pub IsPlain : Text → Type 0
-IsPlain t = All (λ b. 32 ≤ b) t
+-- `HasNoControl t`: no byte of `t` is below 32, so `t` has no control character
+abbrev pub HasNoControl : Text → Type 0
+HasNoControl t = All (λ b. 32 ≤ b) t
 
 -- `IsField t field`: `field` is printed for the pointer with the text `t`: its text, or the JSON string of its text if the
 -- text has a control character
 abbrev pub IsField : Text → Text → Type 0
-IsField t field = (IsPlain t × (field ≡ t)) ⊎ ((IsPlain t → ⊥) × (field ≡ quoted t))
+IsField t field = (HasNoControl t × (field ≡ t)) ⊎ ((HasNoControl t → ⊥) × (field ≡ quoted t))
 
 -- `IsLineOf p v line`: `line` is the line of the node `v` at the pointer with the text `p`: the pointer, a tab, the value
 -- without its elements or members, and a line feed

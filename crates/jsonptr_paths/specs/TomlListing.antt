@@ -12,49 +12,49 @@ use Rattle.jsonptr_paths.specs.Listing.{IsField}
 use Rattle.jsonptr_paths.specs.declared.listing.Listed.{Listed}
 use Rattle.jsonptr_paths.specs.declared.listing.Listed.TheVariants as listed
 
--- `emptied v`: `v` without its elements or members. A scalar stays as it is
-abbrev pub emptied : Data → Data
-emptied (string s) = string s
-emptied (integer z) = integer z
-emptied (float x) = float x
-emptied (boolean b) = boolean b
-emptied (datetime dt) = datetime dt
-emptied (array ds) = array no_items
-emptied (table ms) = table no_members
+-- `emptied_toml v`: `v` without its elements or members. A scalar stays as it is
+abbrev pub emptied_toml : Data → Data
+emptied_toml (string s) = string s
+emptied_toml (integer z) = integer z
+emptied_toml (float x) = float x
+emptied_toml (boolean b) = boolean b
+emptied_toml (datetime dt) = datetime dt
+emptied_toml (array ds) = array no_items
+emptied_toml (table ms) = table no_members
 
--- `IsLeaf v`: `v` is a scalar, an empty array or an empty table
-abbrev pub IsLeaf : Data → Type 0
-IsLeaf v = emptied v ≡ v
+-- `IsTomlLeaf v`: `v` is a scalar, an empty array or an empty table
+abbrev pub IsTomlLeaf : Data → Type 0
+IsTomlLeaf v = emptied_toml v ≡ v
 
 -- `IsShortToml v t`: `t` is the TOML text of `v` without its elements or members. A string whose TOML text contains a line feed
 -- is a JSON string
 abbrev pub IsShortToml : Data → Text → Type 0
 IsShortToml (string s) t =
     (IsOneLine (string_text s) × (t ≡ string_text s)) ⊎ ((IsOneLine (string_text s) → ⊥) × (t ≡ quoted s))
-IsShortToml v t = IsValueText false (emptied v) t
+IsShortToml v t = IsValueText false (emptied_toml v) t
 
--- `IsLineOf p v line`: `line` is the line of the node `v` at the pointer with the text `p`: the pointer, a tab, the value
+-- `IsTomlLineOf p v line`: `line` is the line of the node `v` at the pointer with the text `p`: the pointer, a tab, the value
 -- without its elements or members, and a line feed
-abbrev pub IsLineOf : Text → Data → Text → Type 0
-IsLineOf p v line =
+abbrev pub IsTomlLineOf : Text → Data → Text → Type 0
+IsTomlLineOf p v line =
     (field short : Text) × IsField p field × IsShortToml v short × (line ≡ field ++ 9 ∷ (short ++ 10 ∷ []))
 
--- `IsShown which p v out`: `out` is printed for the node `v` at the pointer with the text `p`. If leaves alone are listed,
+-- `IsTomlShown which p v out`: `out` is printed for the node `v` at the pointer with the text `p`. If leaves alone are listed,
 -- nothing is printed for any other node
-abbrev pub IsShown : Listed → Text → Data → Text → Type 0
-IsShown listed.AllNodes p v out = IsLineOf p v out
-IsShown listed.Leaves p v out = (IsLeaf v × IsLineOf p v out) ⊎ ((IsLeaf v → ⊥) × (out ≡ []))
+abbrev pub IsTomlShown : Listed → Text → Data → Text → Type 0
+IsTomlShown listed.AllNodes p v out = IsTomlLineOf p v out
+IsTomlShown listed.Leaves p v out = (IsTomlLeaf v × IsTomlLineOf p v out) ⊎ ((IsTomlLeaf v → ⊥) × (out ≡ []))
 
--- `AreShown which d lists out`: `out` is printed for the nodes of `d` that the lists of tokens name, in this order
-abbrev pub AreShown : Listed → Data → List (List Text) → Text → Type 0
-AreShown which d [] out = out ≡ []
-AreShown which d (ts ∷ lists) out =
+-- `AreTomlShown which d lists out`: `out` is printed for the nodes of `d` that the lists of tokens name, in this order
+abbrev pub AreTomlShown : Listed → Data → List (List Text) → Text → Type 0
+AreTomlShown which d [] out = out ≡ []
+AreTomlShown which d (ts ∷ lists) out =
     (v : Data) × (one more : Text)
     × FindsValue d ts v
-    × IsShown which (text ts) v one
-    × AreShown which d lists more
+    × IsTomlShown which (text ts) v one
+    × AreTomlShown which d lists more
     × (out ≡ one ++ more)
 
--- `Lists which d out`: `out` lists the nodes of `d`, or its leaves: a line for each, once, in document order
-abbrev pub Lists : Listed → Data → Text → Type 0
-Lists which d out = (lists : List (List Text)) × IsWalk (nodes d) lists × AreShown which d lists out
+-- `ListsToml which d out`: `out` lists the nodes of `d`, or its leaves: a line for each, once, in document order
+abbrev pub ListsToml : Listed → Data → Text → Type 0
+ListsToml which d out = (lists : List (List Text)) × IsWalk (nodes d) lists × AreTomlShown which d lists out

@@ -24,7 +24,7 @@ pub fn round_trip_law()
         → Lists AllNodes d lines → Builds lines m → m ≡ nodes d }
     ensures same_value { (d e : Data) (lines : Text) → HasSortedKeys d → HasSortedKeys e
         → Lists AllNodes d lines → Builds lines (nodes e) → e ≡ d }
-    ensures no_error { (d : Data) (lines : Text) (number : ℕ) (e : LineError)
+    ensures never_refused { (d : Data) (lines : Text) (number : ℕ) (e : LineError)
         → depth d ≤ max_depth → Lists AllNodes d lines
         → StopsBuilding lines (Line number e) → ⊥ }
 {}

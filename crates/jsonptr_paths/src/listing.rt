@@ -6,7 +6,7 @@ ghost use Rattle.jsonptr.specs.Pointer.{tokens, text_of};
 ghost use Rattle.jsonptr.specs.Text.{Text, text};
 ghost use Rattle.jsonptr_paths.specs.PrivateListing.{IsLine};
 ghost use Rattle.jsonptr_value.specs.JsonText.{IsCompact};
-ghost use Rattle.jsonptr_paths.specs.Listing.{emptied, IsLeaf, IsPlain, IsField, IsLineOf, IsShown, Lists};
+ghost use Rattle.jsonptr_paths.specs.Listing.{emptied, IsLeaf, HasNoControl, IsField, IsLineOf, IsShown, Lists};
 
 use crate::walk::{Visitor, visit_nodes};
 use jsonptr::Pointer;
@@ -182,7 +182,7 @@ pub(crate) fn quoted_text(alloc: Global, text: &str) -> Result<String, AllocErro
 
 /// Returns whether no byte is that of a control character.
 fn is_plain(bytes: &[u8]) -> bool
-    ensures { IsTrue result ↔ IsPlain bytes.now }
+    ensures { IsTrue result ↔ HasNoControl bytes.now }
 {
     bytes.iter().all(|byte| *byte >= 32)
 }

@@ -34,7 +34,7 @@ pub enum LineError {
     NotJson,
     /// The tokens of the pointer and the levels of the value are more than 127 together. The document
     /// would nest deeper than that.
-    #[error("the document would nest deeper than 127")]
+    #[error("document would nest deeper than {}", MAX_DEPTH)]
     TooDeep,
     /// No value can be assigned at the pointer.
     #[error(transparent)]
@@ -196,13 +196,13 @@ fn quoted_pointer(alloc: Global, field: &str) -> Result<Option<PointerBuf>, Allo
         ((t : Text) → read field.now ≡ Some (string t) → IsPointer t → ⊥)
         (λ ts. read field.now ≡ Some (string (text ts)))) }
 {
-    match Value::from_str(alloc, field) {
+    match jsonptr_value::read(alloc, field) {
         Ok(value) => match value.as_str() {
             Some(text) => plain_pointer(alloc, text),
             None => Ok(None),
         },
-        Err(error) if error.is_memory() => Err(AllocError),
-        Err(_) => Ok(None),
+        Err(ReadError::NotJson) => Ok(None),
+        Err(ReadError::Memory) => Err(AllocError),
     }
 }
 

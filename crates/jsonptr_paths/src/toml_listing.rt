@@ -5,7 +5,7 @@ ghost use Rattle.toml.specs.View.{view};
 ghost use Rattle.jsonptr.specs.Pointer.{tokens};
 ghost use Rattle.jsonptr.specs.Text.{Text, text};
 ghost use Rattle.jsonptr_io.specs.Lines.{IsOneLine};
-ghost use Rattle.jsonptr_paths.specs.TomlListing.{emptied, IsLeaf, IsShortToml, IsLineOf, IsShown, Lists};
+ghost use Rattle.jsonptr_paths.specs.TomlListing.{emptied_toml, IsTomlLeaf, IsShortToml, IsTomlLineOf, IsTomlShown, ListsToml};
 
 use crate::listing::{Listed, push_line, quoted_text};
 use crate::toml_walk::visit_nodes;
@@ -35,7 +35,7 @@ use toml::{Table, Value};
 /// assert_eq!(rt; lines.as_str(), "/b/0\t1.0\n/b/1\t\"x\"\n/day\t2024-05-01\n");
 /// ```
 pub fn list_toml(alloc: Global, document: &Value, which: Listed) -> Result<String, AllocError>
-    ensures { IfOk result (λ s. Lists which (view document.now) (string_bytes s)) }
+    ensures { IfOk result (λ s. ListsToml which (view document.now) (string_bytes s)) }
 {
     let mut lister = Lister {
         alloc,
@@ -61,7 +61,7 @@ struct Lister {
 
 impl Visitor<Value> for Lister {
     ghost visits = { λ s ts v t. (t.which ≡ s.which) × ((one : Text)
-        × IsShown s.which (text ts) (view v) one
+        × IsTomlShown s.which (text ts) (view v) one
         × (string_bytes t.out ≡ string_bytes s.out ++ one)) };
 
     fn visit(&mut self, pointer: Pointer<'_>, value: &Value) -> Result<(), AllocError> {
@@ -78,7 +78,7 @@ fn push_shown(
     which: Listed,
 ) -> Result<(), AllocError>
     ensures { IfOk result (λ _. (one : Text)
-        × IsShown which (text (tokens pointer.entry)) (view value.now) one
+        × IsTomlShown which (text (tokens pointer.entry)) (view value.now) one
         × (string_bytes out.new ≡ string_bytes out.old ++ one)) }
 {
     match which {
@@ -95,7 +95,7 @@ fn push_shown(
 
 /// Returns whether the value is a scalar, an empty array or an empty table.
 fn is_leaf(value: &Value) -> bool
-    ensures { IsTrue result ↔ IsLeaf (view value.now) }
+    ensures { IsTrue result ↔ IsTomlLeaf (view value.now) }
 {
     match value {
         Value::Array(elements) => elements.is_empty(),
@@ -116,7 +116,7 @@ fn push_value(
     value: &Value,
 ) -> Result<(), AllocError>
     ensures { IfOk result (λ _. (one : Text)
-        × IsLineOf (text (tokens pointer.entry)) (view value.now) one
+        × IsTomlLineOf (text (tokens pointer.entry)) (view value.now) one
         × (string_bytes out.new ≡ string_bytes out.old ++ one)) }
 {
     let short = short_text(alloc, value)?;

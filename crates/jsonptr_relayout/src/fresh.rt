@@ -3,7 +3,8 @@
 use crate::gaps::{Gaps, key_of};
 use crate::given::Piece;
 use crate::lay::{At, Layer, closing, opening};
-use crate::tree::{Child, NodeKind, TreeNode, slice};
+use crate::tree::{Child, NodeKind, TreeNode};
+use jsonptr_json_edits::layout::slice;
 use std::alloc::AllocError;
 
 /// How many members of a model are looked at for one with a key.
@@ -110,7 +111,10 @@ impl<'t> Layer<'t> {
     /// Appends a value without children.
     fn push_leaf(&mut self, new: Piece<'_>) -> Result<(), AllocError> {
         match new.node.kind {
-            NodeKind::Scalar => self.out.push_str(slice(new.text, new.node.span)),
+            NodeKind::Scalar => {
+                let span = new.node.span;
+                self.out.push_str(slice(new.text, span.from, span.to))
+            }
             NodeKind::Array => self.out.push_str("[]"),
             NodeKind::Object => self.out.push_str("{}"),
         }

@@ -1,7 +1,7 @@
 //! What is around the children of an array or an object.
 
-use crate::tree::{Child, TreeNode, slice};
-use jsonptr_json_edits::locate::Span;
+use crate::tree::{Child, TreeNode};
+use jsonptr_json_edits::layout::slice;
 
 /// The text around the children of an array or an object that has some.
 #[derive(Clone, Copy, Debug)]
@@ -23,20 +23,8 @@ impl<'t> Gaps<'t> {
         let (first, last) = (node.children.first()?, node.children.last()?);
         let from = node.span.from.saturating_add(1);
         let to = node.span.to.saturating_sub(1);
-        let open = slice(
-            text,
-            Span {
-                from,
-                to: first.from,
-            },
-        );
-        let close = slice(
-            text,
-            Span {
-                from: last.node.span.to,
-                to,
-            },
-        );
+        let open = slice(text, from, first.from);
+        let close = slice(text, last.node.span.to, to);
         let between = between(text, &node.children);
         let comma = between.and_then(after_comma);
         Some(Gaps {
@@ -64,13 +52,7 @@ fn between<'t>(text: &'t str, children: &[Child]) -> Option<&'t str> {
 pub fn before<'t>(text: &'t str, children: &[Child], position: usize) -> Option<&'t str> {
     let other = children.get(position.checked_sub(1)?)?;
     let child = children.get(position)?;
-    Some(slice(
-        text,
-        Span {
-            from: other.node.span.to,
-            to: child.from,
-        },
-    ))
+    Some(slice(text, other.node.span.to, child.from))
 }
 
 /// Returns how many line breaks the text has.
@@ -93,25 +75,13 @@ fn after_comma(gap: &str) -> Option<&str> {
 /// member.
 pub fn colon_of<'t>(text: &'t str, node: &TreeNode) -> Option<&'t str> {
     let member = node.children.last()?;
-    let field = slice(
-        text,
-        Span {
-            from: member.from,
-            to: member.node.span.from,
-        },
-    );
+    let field = slice(text, member.from, member.node.span.from);
     field.get(field.rfind('"')?.saturating_add(1)..)
 }
 
 /// Returns the key of a member, with its quotation marks, or an empty text for an element.
 pub fn key_of<'t>(text: &'t str, child: &Child) -> &'t str {
-    let field = slice(
-        text,
-        Span {
-            from: child.from,
-            to: child.node.span.from,
-        },
-    );
+    let field = slice(text, child.from, child.node.span.from);
     match field.rfind('"') {
         Some(at) => field.get(..at.saturating_add(1)).unwrap_or(""),
         None => "",

@@ -4,8 +4,8 @@ use crate::align::{Step, align};
 use crate::gaps::{Gaps, before, indent_after};
 use crate::given::{Given, Piece};
 use crate::style::Style;
-use crate::tree::{NodeKind, TreeNode, slice};
-use jsonptr_json_edits::locate::Span;
+use crate::tree::{NodeKind, TreeNode};
+use jsonptr_json_edits::layout::slice;
 use std::alloc::{AllocError, Global};
 
 /// How many siblings of a new child are looked at for one like it.
@@ -72,7 +72,9 @@ impl<'t> Layer<'t> {
         depth: usize,
     ) -> Result<(), AllocError> {
         if old.hash == new.node.hash {
-            return self.out.push_str(slice(self.old, old.span));
+            return self
+                .out
+                .push_str(slice(self.old, old.span.from, old.span.to));
         }
         if depth == 0 {
             return Ok(());
@@ -153,13 +155,10 @@ impl<'t> Layer<'t> {
             return Ok(());
         };
         let lead = row.next(frame, Some(positions.0));
-        let field = Span {
-            from: child.from,
-            to: child.node.span.from,
-        };
+        let field = slice(self.old, child.from, child.node.span.from);
         self.out.push_str(lead.comma)?;
         self.out.push_str(lead.gap)?;
-        self.out.push_str(slice(self.old, field))?;
+        self.out.push_str(field)?;
         let piece = Piece {
             text: frame.new.text,
             node: &other.node,

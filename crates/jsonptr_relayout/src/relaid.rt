@@ -3,6 +3,7 @@ ghost use Rattle.std.specs.Prelude.{◌≡◌, string_bytes};
 ghost use Rattle.jsonptr_relayout.specs.Relaying.{text_of_relaid};
 ghost use Rattle.jsonptr_relayout.specs.declared.relaid.RelayoutError.TheVariants.{Memory};
 
+use jsonptr_value::MAX_DEPTH;
 use std::alloc::AllocError;
 use thiserror::Error;
 
@@ -47,7 +48,7 @@ pub enum RelayoutError {
     #[error("new text is not JSON")]
     NewNotJson,
     /// The new document nests deeper than 127, so that its text could not be read.
-    #[error("document would nest deeper than 127")]
+    #[error("document would nest deeper than {}", MAX_DEPTH)]
     TooDeep,
     /// An allocation failed.
     #[error("out of memory")]

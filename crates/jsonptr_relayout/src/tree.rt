@@ -3,7 +3,7 @@ ghost use Rattle.std.specs.Prelude.{◌<◌, ◌≤◌, length, OnOk};
 
 use crate::hash;
 use json::{Reader, Scratch, Token};
-use jsonptr_json_edits::locate::{Span, trimmed_end};
+use jsonptr_json_edits::locate::{Span, end_of_value};
 use jsonptr_value::{MAX_DEPTH, ReadError};
 use std::alloc::Global;
 
@@ -82,7 +82,7 @@ fn read_node(
         return Err(ReadError::NotJson);
     };
     let parts = read_parts(alloc, text, reader, token, depth)?;
-    let to = end_before(text.as_bytes(), reader.offset());
+    let to = end_of_value(text.as_bytes(), reader.offset());
     Ok(TreeNode {
         span: Span { from, to },
         kind: parts.kind,
@@ -147,7 +147,7 @@ fn read_elements(
     ensures shorter { OnOk result (length reader.new ≤ length reader.old) }
 {
     let mut children = Vec::new(alloc);
-    'items: while !reader.take_end_array() {
+    'elements: while !reader.take_end_array() {
         let node = read_node(alloc, text, reader, depth)?;
         let from = node.span.from;
         children.push(Child { key: 0, from, node })?;
@@ -174,20 +174,4 @@ fn read_members(
         from = reader.offset();
     }
     Ok(children)
-}
-
-/// Returns where the value before the next token ends. White space, a comma and more white space may
-/// be between the two.
-fn end_before(bytes: &[u8], next: usize) -> usize {
-    let end = trimmed_end(bytes, next);
-    if end > 0 && bytes.get(end - 1) == Some(&b',') {
-        trimmed_end(bytes, end - 1)
-    } else {
-        end
-    }
-}
-
-/// Returns the text at the span, or an empty text if there is no such span.
-pub fn slice(text: &str, span: Span) -> &str {
-    text.get(span.from..span.to).unwrap_or("")
 }

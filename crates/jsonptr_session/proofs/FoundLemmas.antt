@@ -70,7 +70,7 @@ module _ {V D : Type 0} (view : V → D) (content : D → Content) where
       → IfOk r (AssignsValue (map_of (content d)) tokens v m (λ w. map_of (content (view w))) (λ ts e. FindsContent (content d) ts (content (view e))))
       → IfOk r (λ o. IfSome o (λ e. SortedContent (content d) → SortedContent (content (view e))))
   given_ordered d tokens v m (Ok (Some e)) made = λ ordered.
-      let found = made.given_back e refl in
+      let found = made.returned e refl in
       part_has_sorted_keys found.4.path (content d) (content (view e)) ordered found.4.there
   given_ordered d tokens v m (Ok None) made = tt
   given_ordered d tokens v m (Err error) made = tt

@@ -24,23 +24,24 @@ use std::alloc::Global;
 /// fails. The document is unchanged.
 pub fn assign_undoable<D: SessionDocument>(
     alloc: Global,
-    doc: &mut D,
-    ptr: Pointer<'_>,
+    document: &mut D,
+    pointer: Pointer<'_>,
     value: D,
 ) -> Result<Undo<D>, Fault<assign::Error>>
-    ensures assigned { IfOk result (AssignsWithUndo D.nodes (D.nodes doc.old) (tokens ptr.entry)
-        (D.nodes value) (D.nodes doc.new)) }
+    ensures assigned { IfOk result (AssignsWithUndo D.nodes (D.nodes document.old)
+        (tokens pointer.entry) (D.nodes value) (D.nodes document.new)) }
     ensures inverse { IfOk result (λ u. (m : NodeMap)
-        → Undoes D.nodes D.blank (D.nodes doc.new) u m → m ≡ D.nodes doc.old) }
+        → Undoes D.nodes D.blank (D.nodes document.new) u m → m ≡ D.nodes document.old) }
     ensures sorted { IfOk result (λ _.
-        D.has_sorted_keys value → D.has_sorted_keys doc.old → D.has_sorted_keys doc.new) }
+        D.has_sorted_keys value → D.has_sorted_keys document.old → D.has_sorted_keys document.new) }
     ensures given_sorted { IfOk result (λ u.
-        IfPut u (λ v. D.has_sorted_keys doc.old → D.has_sorted_keys v)) }
-    ensures refused { IfRefused result (RefusesAssign (D.nodes doc.old) (tokens ptr.entry)) }
-    ensures unchanged { OnErr result (D.is_same doc.old doc.new) }
+        IfPut u (λ v. D.has_sorted_keys document.old → D.has_sorted_keys v)) }
+    ensures refused { IfRefused result
+        (RefusesAssign (D.nodes document.old) (tokens pointer.entry)) }
+    ensures unchanged { OnErr result (D.is_same document.old document.new) }
 {
-    let landing = landing_of(alloc, &*doc, ptr)?;
-    match doc.assign_at(alloc, ptr, value)? {
+    let landing = landing_of(alloc, &*document, pointer)?;
+    match document.assign_at(alloc, pointer, value)? {
         Some(old) => Ok(Undo::Put(landing, old)),
         None => Ok(Undo::Remove(landing)),
     }
@@ -54,23 +55,26 @@ pub fn assign_undoable<D: SessionDocument>(
 /// contains the undo, and the document is unchanged.
 pub fn take_back<D: SessionDocument>(
     alloc: Global,
-    doc: &mut D,
+    document: &mut D,
     undo: Undo<D>,
 ) -> Result<(), UndoRefused<D>>
     ensures undone { IfOk result (λ _.
-        Undoes D.nodes D.blank (D.nodes doc.old) undo (D.nodes doc.new)) }
+        Undoes D.nodes D.blank (D.nodes document.old) undo (D.nodes document.new)) }
     ensures sorted { IfOk result (λ _.
-        IfPut undo D.has_sorted_keys → D.has_sorted_keys doc.old → D.has_sorted_keys doc.new) }
-    ensures refused { IfErr result (λ r. IsUndoError (D.nodes doc.old) (tokens_at undo) r.cause) }
-    ensures handed_back { IfErr result (λ r. r.undo ≡ undo) }
-    ensures unchanged { OnErr result (D.is_same doc.old doc.new) }
+        IfPut undo D.has_sorted_keys → D.has_sorted_keys document.old
+        → D.has_sorted_keys document.new) }
+    ensures refused { IfErr result (λ r.
+        IsUndoError (D.nodes document.old) (tokens_at undo) r.cause) }
+    ensures returned { IfErr result (λ r. r.undo ≡ undo) }
+    ensures unchanged { OnErr result (D.is_same document.old document.new) }
     ensures no_memory { HasNoTilde (text (tokens_at undo))
-        → IfErr result (λ r. IsRefusedAnd r.cause (Refuses (D.nodes doc.old) (tokens_at undo))) }
+        → IfErr result (λ r.
+        IsRefusedAnd r.cause (Refuses (D.nodes document.old) (tokens_at undo))) }
 {
     match undo {
         Undo::Put(pointer, value) => {
             let mut value = value;
-            match doc.swap_at(alloc, pointer.as_ptr(), &mut value) {
+            match document.swap_at(alloc, pointer.as_ptr(), &mut value) {
                 Ok(()) => Ok(()),
                 Err(cause) => Err(UndoRefused {
                     undo: Undo::Put(pointer, value),
@@ -78,7 +82,7 @@ pub fn take_back<D: SessionDocument>(
                 }),
             }
         }
-        Undo::Remove(pointer) => match remove_at(alloc, doc, pointer.as_ptr()) {
+        Undo::Remove(pointer) => match remove_at(alloc, document, pointer.as_ptr()) {
             Ok(()) => Ok(()),
             Err(cause) => Err(UndoRefused {
                 undo: Undo::Remove(pointer),
@@ -96,19 +100,21 @@ pub fn take_back<D: SessionDocument>(
 /// allocation fails. The document is unchanged.
 fn remove_at<D: SessionDocument>(
     alloc: Global,
-    doc: &mut D,
-    ptr: Pointer<'_>,
+    document: &mut D,
+    pointer: Pointer<'_>,
 ) -> Result<(), Fault<resolve::Error>>
-    ensures named { IfOk result (λ _. (w : Path) × Names (D.nodes doc.old) (tokens ptr.entry) w) }
+    ensures named { IfOk result (λ _.
+        (w : Path) × Names (D.nodes document.old) (tokens pointer.entry) w) }
     ensures removed { IfOk result (λ _.
-        Deletes (D.nodes doc.old) (tokens ptr.entry) D.blank (D.nodes doc.new)) }
-    ensures sorted { IfOk result (λ _. D.has_sorted_keys doc.old → D.has_sorted_keys doc.new) }
-    ensures refused { IfRefused result (Refuses (D.nodes doc.old) (tokens ptr.entry)) }
-    ensures unchanged { OnErr result (D.is_same doc.old doc.new) }
-    ensures no_memory { HasNoTilde (text (tokens ptr.entry)) → HasMemory result }
+        Deletes (D.nodes document.old) (tokens pointer.entry) D.blank (D.nodes document.new)) }
+    ensures sorted { IfOk result (λ _.
+        D.has_sorted_keys document.old → D.has_sorted_keys document.new) }
+    ensures refused { IfRefused result (Refuses (D.nodes document.old) (tokens pointer.entry)) }
+    ensures unchanged { OnErr result (D.is_same document.old document.new) }
+    ensures no_memory { HasNoTilde (text (tokens pointer.entry)) → HasMemory result }
 {
-    match doc.delete_at(alloc, ptr)? {
+    match document.delete_at(alloc, pointer)? {
         Some(_) => Ok(()),
-        None => doc.find_at(alloc, ptr),
+        None => document.find_at(alloc, pointer),
     }
 }

@@ -38,11 +38,11 @@ pub trait SessionDocument: Sized + Drop {
     /// # Errors
     ///
     /// [`Fault::Refused`] if it does not, and [`Fault::Memory`] if an allocation fails.
-    fn find_at(&self, alloc: Global, ptr: Pointer<'_>) -> Result<(), Fault<resolve::Error>>
+    fn find_at(&self, alloc: Global, pointer: Pointer<'_>) -> Result<(), Fault<resolve::Error>>
         ensures found { IfOk result (λ _.
-            (w : Path) × Names (nodes self.now) (tokens ptr.entry) w) }
-        ensures refused { IfRefused result (Refuses (nodes self.now) (tokens ptr.entry)) }
-        ensures no_memory { HasNoTilde (text (tokens ptr.entry)) → HasMemory result };
+            (w : Path) × Names (nodes self.now) (tokens pointer.entry) w) }
+        ensures refused { IfRefused result (Refuses (nodes self.now) (tokens pointer.entry)) }
+        ensures no_memory { HasNoTilde (text (tokens pointer.entry)) → HasMemory result };
 
     /// Returns a copy of the value that the pointer resolves to.
     ///
@@ -50,12 +50,12 @@ pub trait SessionDocument: Sized + Drop {
     ///
     /// [`Fault::Refused`] if the pointer does not resolve to a value, and [`Fault::Memory`] if an
     /// allocation fails.
-    fn copy_at(&self, alloc: Global, ptr: Pointer<'_>) -> Result<Self, Fault<resolve::Error>>
-        ensures found { IfOk result (λ v. Finds (nodes self.now) (tokens ptr.entry) (nodes v)) }
+    fn copy_at(&self, alloc: Global, pointer: Pointer<'_>) -> Result<Self, Fault<resolve::Error>>
+        ensures found { IfOk result (λ v. Finds (nodes self.now) (tokens pointer.entry) (nodes v)) }
         ensures given_sorted { IfOk result (λ v. has_sorted_keys self.now → has_sorted_keys v) }
-        ensures refused { IfRefused result (Refuses (nodes self.now) (tokens ptr.entry)) }
-        ensures no_memory { HasNoTilde (text (tokens ptr.entry))
-            → NamesNothing (nodes self.now) (tokens ptr.entry) → HasMemory result };
+        ensures refused { IfRefused result (Refuses (nodes self.now) (tokens pointer.entry)) }
+        ensures no_memory { HasNoTilde (text (tokens pointer.entry))
+            → NamesNothing (nodes self.now) (tokens pointer.entry) → HasMemory result };
 
     /// Swaps `value` with the value that the pointer resolves to.
     ///
@@ -66,22 +66,22 @@ pub trait SessionDocument: Sized + Drop {
     fn swap_at(
         &mut self,
         alloc: Global,
-        ptr: Pointer<'_>,
+        pointer: Pointer<'_>,
         value: &mut Self,
     ) -> Result<(), Fault<resolve::Error>>
         ensures found { IfOk result (λ _.
-            Finds (nodes self.old) (tokens ptr.entry) (nodes value.new)) }
+            Finds (nodes self.old) (tokens pointer.entry) (nodes value.new)) }
         ensures written { IfOk result (λ _.
-            PutsAt (nodes self.old) (tokens ptr.entry) (nodes value.old) (nodes self.new)) }
+            PutsAt (nodes self.old) (tokens pointer.entry) (nodes value.old) (nodes self.new)) }
         ensures sorted { IfOk result (λ _.
             has_sorted_keys value.old → has_sorted_keys self.old → has_sorted_keys self.new) }
         ensures given_sorted { IfOk result (λ _.
             has_sorted_keys self.old → has_sorted_keys value.new) }
-        ensures refused { IfRefused result (Refuses (nodes self.old) (tokens ptr.entry)) }
+        ensures refused { IfRefused result (Refuses (nodes self.old) (tokens pointer.entry)) }
         ensures unchanged { OnErr result (nodes self.new ≡ nodes self.old) }
         ensures same { OnErr result (is_same self.old self.new) }
         ensures value_unchanged { OnErr result (value.new ≡ value.old) }
-        ensures no_memory { HasNoTilde (text (tokens ptr.entry)) → HasMemory result };
+        ensures no_memory { HasNoTilde (text (tokens pointer.entry)) → HasMemory result };
 
     /// Assigns a value at the pointer, and returns the value that it replaced, if any.
     ///
@@ -92,19 +92,20 @@ pub trait SessionDocument: Sized + Drop {
     fn assign_at(
         &mut self,
         alloc: Global,
-        ptr: Pointer<'_>,
+        pointer: Pointer<'_>,
         value: Self,
     ) -> Result<Option<Self>, Fault<assign::Error>>
-        ensures assigned { IfOk result (λ r. Assigns (nodes self.old) (tokens ptr.entry)
+        ensures assigned { IfOk result (λ r. Assigns (nodes self.old) (tokens pointer.entry)
             (nodes value) (nodes self.new) (option_map nodes r)) }
         ensures sorted { IfOk result (λ _.
             has_sorted_keys value → has_sorted_keys self.old → has_sorted_keys self.new) }
         ensures given_sorted { IfOk result (λ r.
             IfSome r (λ v. has_sorted_keys self.old → has_sorted_keys v)) }
-        ensures refused { IfRefused result (RefusesAssign (nodes self.old) (tokens ptr.entry)) }
+        ensures refused { IfRefused result (RefusesAssign (nodes self.old) (tokens pointer.entry)) }
         ensures unchanged { OnErr result (nodes self.new ≡ nodes self.old) }
         ensures same { OnErr result (is_same self.old self.new) }
-        ensures no_memory { NeedsNothing (nodes self.old) (tokens ptr.entry) → HasMemory result };
+        ensures no_memory { NeedsNothing (nodes self.old) (tokens pointer.entry)
+            → HasMemory result };
 
     /// Removes the value that the pointer resolves to, and returns it. Returns `None` if there is
     /// none.
@@ -112,18 +113,19 @@ pub trait SessionDocument: Sized + Drop {
     /// # Errors
     ///
     /// [`AllocError`] if an allocation fails. The document is unchanged.
-    fn delete_at(&mut self, alloc: Global, ptr: Pointer<'_>) -> Result<Option<Self>, AllocError>
+    fn delete_at(&mut self, alloc: Global, pointer: Pointer<'_>) -> Result<Option<Self>, AllocError>
         ensures deleted { IfOk result (λ r. MatchOption r
-            (NamesNothing (nodes self.old) (tokens ptr.entry) × (nodes self.new ≡ nodes self.old))
-            (λ v. Finds (nodes self.old) (tokens ptr.entry) (nodes v)
-            × Deletes (nodes self.old) (tokens ptr.entry) blank (nodes self.new))) }
+            (NamesNothing (nodes self.old) (tokens pointer.entry)
+            × (nodes self.new ≡ nodes self.old))
+            (λ v. Finds (nodes self.old) (tokens pointer.entry) (nodes v)
+            × Deletes (nodes self.old) (tokens pointer.entry) blank (nodes self.new))) }
         ensures sorted { IfOk result (λ _. has_sorted_keys self.old → has_sorted_keys self.new) }
         ensures given_sorted { IfOk result (λ r.
             IfSome r (λ v. has_sorted_keys self.old → has_sorted_keys v)) }
-        ensures stays { IfOk result (λ r. MatchOption r (is_same self.old self.new) (λ _. ⊤)) }
+        ensures missing { IfOk result (λ r. MatchOption r (is_same self.old self.new) (λ _. ⊤)) }
         ensures unchanged { OnErr result (nodes self.new ≡ nodes self.old) }
         ensures same { OnErr result (is_same self.old self.new) }
-        ensures no_memory { HasNoTilde (text (tokens ptr.entry)) → IsOk result };
+        ensures no_memory { HasNoTilde (text (tokens pointer.entry)) → IsOk result };
 
     // the map of a document is a tree
     ghost is_tree: { (d : Self) → IsTree (nodes d) };
@@ -144,18 +146,18 @@ pub trait SessionDocument: Sized + Drop {
 pub fn swap<D: ResolveMut>(
     alloc: Global,
     document: &mut D,
-    ptr: Pointer<'_>,
+    pointer: Pointer<'_>,
     value: &mut D::Value,
 ) -> Result<(), Fault<D::Error>>
-    ensures found { IfOk result (λ _. D.finds document.old (tokens ptr.entry) value.new) }
+    ensures found { IfOk result (λ _. D.finds document.old (tokens pointer.entry) value.new) }
     ensures written { IfOk result (λ _.
-        D.writes document.old (tokens ptr.entry) value.old document.new) }
-    ensures refused { IfRefused result (D.refuses document.old (tokens ptr.entry)) }
+        D.writes document.old (tokens pointer.entry) value.old document.new) }
+    ensures refused { IfRefused result (D.refuses document.old (tokens pointer.entry)) }
     ensures unchanged { OnErr result (D.is_same document.old document.new) }
     ensures value_unchanged { OnErr result (value.new ≡ value.old) }
-    ensures no_memory { D.needs_no_memory document.old (tokens ptr.entry) → HasMemory result }
+    ensures no_memory { D.needs_no_memory document.old (tokens pointer.entry) → HasMemory result }
 {
-    let place = document.resolve_mut(alloc, ptr)?;
+    let place = document.resolve_mut(alloc, pointer)?;
     mem::swap(place, value);
     Ok(())
 }

@@ -21,35 +21,39 @@ impl SessionDocument for Value {
 
     ghost has_sorted_keys = { λ d. HasSortedKeys (view d) };
 
-    fn find_at(&self, alloc: Global, ptr: Pointer<'_>) -> Result<(), Fault<resolve::Error>> {
-        ptr.resolve(alloc, self)?;
+    fn find_at(&self, alloc: Global, pointer: Pointer<'_>) -> Result<(), Fault<resolve::Error>> {
+        pointer.resolve(alloc, self)?;
         Ok(())
     }
 
-    fn copy_at(&self, alloc: Global, ptr: Pointer<'_>) -> Result<Value, Fault<resolve::Error>> {
-        Ok(ptr.resolve(alloc, self)?.clone()?)
+    fn copy_at(&self, alloc: Global, pointer: Pointer<'_>) -> Result<Value, Fault<resolve::Error>> {
+        Ok(pointer.resolve(alloc, self)?.clone()?)
     }
 
     fn swap_at(
         &mut self,
         alloc: Global,
-        ptr: Pointer<'_>,
+        pointer: Pointer<'_>,
         value: &mut Value,
     ) -> Result<(), Fault<resolve::Error>> {
-        swap(alloc, self, ptr, value)
+        swap(alloc, self, pointer, value)
     }
 
     fn assign_at(
         &mut self,
         alloc: Global,
-        ptr: Pointer<'_>,
+        pointer: Pointer<'_>,
         value: Value,
     ) -> Result<Option<Value>, Fault<assign::Error>> {
-        ptr.assign(alloc, self, value)
+        pointer.assign(alloc, self, value)
     }
 
-    fn delete_at(&mut self, alloc: Global, ptr: Pointer<'_>) -> Result<Option<Value>, AllocError> {
-        ptr.delete(alloc, self)
+    fn delete_at(
+        &mut self,
+        alloc: Global,
+        pointer: Pointer<'_>,
+    ) -> Result<Option<Value>, AllocError> {
+        pointer.delete(alloc, self)
     }
 
     ghost is_tree = { λ d. map_of-IsTree (content (view d)) };

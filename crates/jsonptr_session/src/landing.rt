@@ -11,22 +11,22 @@ use jsonptr::resolve::Error;
 use jsonptr::{Pointer, PointerBuf, Token};
 use std::alloc::{AllocError, Global};
 
-/// Returns a pointer to the location where `assign(ptr, ..)` would store its value. The result is
-/// unspecified if it would fail.
+/// Returns a pointer to the location where `assign(pointer, ..)` would store its value. The result
+/// is unspecified if it would fail.
 ///
 /// # Errors
 ///
 /// [`AllocError`] if an allocation fails.
 pub fn landing_of<D: SessionDocument>(
     alloc: Global,
-    doc: &D,
-    ptr: Pointer<'_>,
+    document: &D,
+    pointer: Pointer<'_>,
 ) -> Result<PointerBuf, AllocError>
-    ensures { IfOk result (NamesLanding (D.nodes doc.now) (tokens ptr.entry)) }
+    ensures { IfOk result (NamesLanding (D.nodes document.now) (tokens pointer.entry)) }
 {
-    match doc.find_at(alloc, ptr) {
-        Ok(()) => ptr.to_buf(alloc),
-        Err(fault) => landing_before(alloc, ptr, &fault.refused()?),
+    match document.find_at(alloc, pointer) {
+        Ok(()) => pointer.to_buf(alloc),
+        Err(fault) => landing_before(alloc, pointer, &fault.refused()?),
     }
 }
 
@@ -37,23 +37,27 @@ pub fn landing_of<D: SessionDocument>(
 /// # Errors
 ///
 /// [`AllocError`] if an allocation fails.
-fn landing_before(alloc: Global, ptr: Pointer<'_>, error: &Error) -> Result<PointerBuf, AllocError>
+fn landing_before(
+    alloc: Global,
+    pointer: Pointer<'_>,
+    error: &Error,
+) -> Result<PointerBuf, AllocError>
     ensures { IfOk result (λ landing. (n : NodeMap)
-        → Refuses n (tokens ptr.entry) error.now
-        → NamesLanding n (tokens ptr.entry) landing) }
+        → Refuses n (tokens pointer.entry) error.now
+        → NamesLanding n (tokens pointer.entry) landing) }
 {
     match error {
-        Error::Unreachable { position, .. } => before(alloc, ptr, *position),
-        Error::NotFound { position, .. } => through(alloc, ptr, *position),
+        Error::Unreachable { position, .. } => before(alloc, pointer, *position),
+        Error::NotFound { position, .. } => through(alloc, pointer, *position),
         // The value becomes the last element, whose index is the array's length. The token fails to
         // parse as that index only if the length exceeds `usize`.
-        Error::FailedToParseIndex { position, .. } => through(alloc, ptr, *position),
+        Error::FailedToParseIndex { position, .. } => through(alloc, pointer, *position),
         Error::OutOfBounds {
             position,
             source,
             ..
         } => {
-            let mut landing = before(alloc, ptr, *position)?;
+            let mut landing = before(alloc, pointer, *position)?;
             landing.push_back(Token::from_number(alloc, source.length)?)?;
             Ok(landing)
         }
@@ -65,13 +69,13 @@ fn landing_before(alloc: Global, ptr: Pointer<'_>, error: &Error) -> Result<Poin
 /// # Errors
 ///
 /// [`AllocError`] if an allocation fails.
-fn before(alloc: Global, ptr: Pointer<'_>, position: usize) -> Result<PointerBuf, AllocError>
+fn before(alloc: Global, pointer: Pointer<'_>, position: usize) -> Result<PointerBuf, AllocError>
     ensures { IfOk result (λ part. (front rest : List Text)
-        → tokens ptr.entry ≡ front ++ rest
+        → tokens pointer.entry ≡ front ++ rest
         → position ≡ length front
         → part ≡ front) }
 {
-    match ptr.get(..position) {
+    match pointer.get(..position) {
         Some(part) => part.to_buf(alloc),
         None => Ok(PointerBuf::root(alloc)),
     }
@@ -82,13 +86,13 @@ fn before(alloc: Global, ptr: Pointer<'_>, position: usize) -> Result<PointerBuf
 /// # Errors
 ///
 /// [`AllocError`] if an allocation fails.
-fn through(alloc: Global, ptr: Pointer<'_>, position: usize) -> Result<PointerBuf, AllocError>
+fn through(alloc: Global, pointer: Pointer<'_>, position: usize) -> Result<PointerBuf, AllocError>
     ensures { IfOk result (λ part. (front : List Text) (x : Text) (rest : List Text)
-        → tokens ptr.entry ≡ front ++ x ∷ rest
+        → tokens pointer.entry ≡ front ++ x ∷ rest
         → position ≡ length front
         → part ≡ front ++ x ∷ []) }
 {
-    match ptr.get(..=position) {
+    match pointer.get(..=position) {
         Some(part) => part.to_buf(alloc),
         None => Ok(PointerBuf::root(alloc)),
     }

@@ -4,7 +4,10 @@ use crate::words::Words;
 use jsonptr::{Fault, Pointer};
 use jsonptr_comments::without_comments;
 use jsonptr_edit_in_text::Buffers;
-use jsonptr_edit_with_comments::{WithCommentsError, assign_with_comments, delete_with_comments};
+use jsonptr_edit_with_comments::{
+    WithCommentsError, apply_with_comments, assign_with_comments, delete_with_comments,
+};
+use jsonptr_patch_document::read_patch;
 use serde_json::Value;
 use std::borrow::CowStr;
 use std::fmt::Display;
@@ -18,6 +21,7 @@ pub fn request(out: &mut Out<'_>, buffers: &mut Buffers, mut words: Words<'_>) {
     let argument = words.next();
     match command {
         "read past" => read_past(out, text),
+        "patch" => patch(out, buffers, text, argument),
         _ => match Pointer::parse(pointer) {
             Ok(pointer) => edit(out, buffers, text, pointer, argument),
             Err(_) => out.unknown(),
@@ -64,6 +68,21 @@ fn edit(
             let made = assign_with_comments(alloc, buffers, text, pointer, value);
             said(out, made)
         }
+        Err(_) => out.unknown(),
+    }
+}
+
+/// Applies the operations of a patch document.
+fn patch(out: &mut Out<'_>, buffers: &mut Buffers, text: &str, argument: &str) {
+    let alloc = out.alloc();
+    match Value::from_str(alloc, argument) {
+        Ok(document) => match read_patch(alloc, &document) {
+            Ok(operations) => {
+                let made = apply_with_comments(alloc, buffers, text, operations);
+                said(out, made)
+            }
+            Err(_) => out.unknown(),
+        },
         Err(_) => out.unknown(),
     }
 }

@@ -1,9 +1,13 @@
--- A setting of a JSON text with comments.
-use Rattle.std.specs.Prelude.{List, ⊤}
+-- Settings in a JSON text with comments.
+use Rattle.std.specs.Prelude.{ℕ, List, ⊤}
 use Rattle.serde_json.specs.Data.{Data}
 use Rattle.jsonptr.specs.Text.{Text}
 use Rattle.jsonptr_comments.specs.Comments.{IsWithoutComments, IsUnterminated}
 use Rattle.jsonptr_in_text.specs.InText.{FindsInText, IsInTextError}
+use Rattle.jsonptr_patch.specs.declared.operation.Operation.{Operation}
+use Rattle.jsonptr_patch.specs.declared.operation.PatchError.TheVariants.{TestFailed}
+use Rattle.jsonptr_edit_in_text.specs.PatchInText.{IsPatchFault}
+use Rattle.jsonptr_edit_in_text.specs.declared.edited.EditError.TheVariants.{Refused}
 use Rattle.jsonptr_uses.specs.declared.commented.SettingError.{SettingError}
 use Rattle.jsonptr_uses.specs.declared.commented.SettingError.TheVariants.{Comment, InText, Memory}
 
@@ -16,3 +20,7 @@ abbrev pub IsSettingError : Text → List Text → SettingError → Type 0
 IsSettingError text tokens (Comment e) = IsUnterminated text e.offset
 IsSettingError text tokens (InText e) = (json : Text) × IsWithoutComments text json × IsInTextError json tokens e
 IsSettingError text tokens (Memory e) = ⊤
+
+-- `FailsTest text os`: one of the operations `os` is a test that fails, in the document of the text without its comments
+abbrev pub FailsTest : Text → List Operation → Type 0
+FailsTest text os = (json : Text) × (k : ℕ) × IsWithoutComments text json × IsPatchFault json os (Refused (TestFailed k))

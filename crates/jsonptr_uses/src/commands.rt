@@ -34,5 +34,5 @@ pub fn with_string(
         return Err(TaskError::TooDeep);
     };
     let task = Task::Set(pointer, value);
-    result_in_text(alloc, &task, Layout::Kept, text)
+    result_in_text(alloc, text, &task, Layout::Kept)
 }

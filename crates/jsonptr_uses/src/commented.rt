@@ -1,12 +1,18 @@
-//! A setting of a JSON text with comments.
-ghost use Rattle.std.specs.Prelude.{◌≡◌, IfOk, IfErr};
+//! Settings in a JSON text with comments.
+ghost use Rattle.std.specs.Prelude.{IfOk, IfErr, MatchOption, string_bytes};
 ghost use Rattle.serde_json.specs.View.{view};
 ghost use Rattle.jsonptr.specs.Pointer.{tokens};
-ghost use Rattle.jsonptr_uses.specs.Commented.{HasSetting, IsSettingError};
+ghost use Rattle.jsonptr_edit_in_text.specs.PatchInText.{PatchesInText, IsPatchFault};
+ghost use Rattle.jsonptr_edit_with_comments.specs.EditWithComments.{Becomes, IsWithCommentsError};
+ghost use Rattle.jsonptr_edit_with_comments.specs.Patches.{PatchEdits};
+ghost use Rattle.jsonptr_uses.specs.Commented.{HasSetting, IsSettingError, FailsTest};
 
 use jsonptr::{Fault, Pointer};
 use jsonptr_comments::{CommentError, without_comments};
+use jsonptr_edit_in_text::EditError;
+use jsonptr_edit_with_comments::{Buffers, WithCommentsError, apply_with_comments};
 use jsonptr_in_text::{InTextError, resolve_in_text};
+use jsonptr_patch::{Operation, PatchError};
 use serde_json::Value;
 use std::alloc::{AllocError, Global};
 
@@ -38,5 +44,33 @@ pub fn setting(alloc: Global, text: &str, pointer: Pointer<'_>) -> Result<Value,
         },
         Err(Fault::Refused(error)) => Err(SettingError::Comment(error)),
         Err(Fault::Memory(error)) => Err(SettingError::Memory(error)),
+    }
+}
+
+/// Applies an upgrade to the text of settings, and keeps its comments. Returns `None` if a test of the
+/// upgrade fails, so that it is not for these settings.
+///
+/// # Errors
+///
+/// Those of `apply_with_comments`, except that a test fails.
+pub fn upgraded(
+    alloc: Global,
+    text: &str,
+    upgrade: Vec<Operation>,
+) -> Result<Option<String>, WithCommentsError<PatchError>>
+    ensures upgraded { IfOk result (λ o. MatchOption o (FailsTest text.now upgrade.items)
+        (λ s. Becomes (λ old new. PatchesInText old upgrade.items new) text.now (string_bytes s)
+        × PatchEdits text.now upgrade.items (string_bytes s))) }
+    ensures refused { IfErr result (IsWithCommentsError
+        (λ old new. PatchesInText old upgrade.items new)
+        (λ old e. IsPatchFault old upgrade.items e) text.now) }
+{
+    let mut buffers = Buffers::new(alloc);
+    match apply_with_comments(alloc, &mut buffers, text, upgrade) {
+        Ok(new) => Ok(Some(new)),
+        Err(WithCommentsError::Failed(EditError::Refused(PatchError::TestFailed { .. }))) => Ok(
+            None,
+        ),
+        Err(error) => Err(error),
     }
 }

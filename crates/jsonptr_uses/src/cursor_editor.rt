@@ -34,7 +34,7 @@ impl CursorEditor {
         ensures opened { HasSortedKeys (view document)
             → IsOpenedOn (view document) (editor_of result) }
         ensures at_root { cursor_of result ≡ [] }
-        ensures stands { IsAtValue result }
+        ensures at_value { IsAtValue result }
     {
         json_law();
         CursorEditor {
@@ -86,10 +86,10 @@ impl CursorEditor {
     pub fn down(&mut self, alloc: Global, token: Token<'_>) -> Result<(), Fault<resolve::Error>>
         ensures moved { IfOk result (λ _.
             cursor_of self.new ≡ cursor_of self.old ++ token.entry ∷ []) }
-        ensures stands { IfOk result (λ _. IsAtValue self.new) }
+        ensures at_value { IfOk result (λ _. IsAtValue self.new) }
         ensures refused { IfRefused result (Refuses (nodes (document_under self.old))
             (cursor_of self.old ++ token.entry ∷ [])) }
-        ensures stays { OnErr result (cursor_of self.new ≡ cursor_of self.old) }
+        ensures unchanged { OnErr result (cursor_of self.new ≡ cursor_of self.old) }
         ensures kept { editor_of self.new ≡ editor_of self.old }
     {
         let below = self.cursor.as_ptr().with_trailing_token(alloc, token)?;
@@ -106,8 +106,8 @@ impl CursorEditor {
     /// [`AllocError`] if an allocation fails. The cursor does not move.
     pub fn up(&mut self) -> Result<Option<Token<'static>>, AllocError>
         ensures moved { IfOk result (λ t. PopsBack (cursor_of self.old) t (cursor_of self.new)) }
-        ensures stands { IsAtValue self.old → IsAtValue self.new }
-        ensures stays { OnErr result (cursor_of self.new ≡ cursor_of self.old) }
+        ensures at_value { IsAtValue self.old → IsAtValue self.new }
+        ensures unchanged { OnErr result (cursor_of self.new ≡ cursor_of self.old) }
         ensures kept { editor_of self.new ≡ editor_of self.old }
     {
         self.cursor.pop_back()
@@ -123,8 +123,8 @@ impl CursorEditor {
     pub fn next(&mut self, alloc: Global) -> Result<bool, AllocError>
         ensures moved { IfOk result (λ there. MovesOn (nodes (document_under self.old))
             (cursor_of self.old) there (cursor_of self.new)) }
-        ensures stands { IsAtValue self.old → IsAtValue self.new }
-        ensures stays { OnErr result (cursor_of self.new ≡ cursor_of self.old) }
+        ensures at_value { IsAtValue self.old → IsAtValue self.new }
+        ensures unchanged { OnErr result (cursor_of self.new ≡ cursor_of self.old) }
         ensures kept { editor_of self.new ≡ editor_of self.old }
     {
         json_law();
@@ -148,11 +148,11 @@ impl CursorEditor {
             (nodes (document_under self.new))) }
         ensures opened { (start : Data) → HasSortedKeys (view value)
             → IsOpenedOn start (editor_of self.old) → IsOpenedOn start (editor_of self.new) }
-        ensures stands { IsAtValue self.old → IsAtValue self.new }
+        ensures at_value { IsAtValue self.old → IsAtValue self.new }
         ensures never_refused { IsAtValue self.old → IsRefused result → ⊥ }
-        ensures stays { OnErr result
+        ensures unchanged { OnErr result
             (document_under self.new ≡ document_under self.old) }
-        ensures undos_stay { OnErr result
+        ensures undos_unchanged { OnErr result
             (undos_of (editor_of self.new) ≡ undos_of (editor_of self.old)) }
         ensures kept { cursor_of self.new ≡ cursor_of self.old }
     {
@@ -175,12 +175,12 @@ impl CursorEditor {
         ensures moved { IfOk result (λ _. IsAbove (cursor_of self.old) (cursor_of self.new)) }
         ensures opened { (start : Data)
             → IsOpenedOn start (editor_of self.old) → IsOpenedOn start (editor_of self.new) }
-        ensures stands { IsAtValue self.old → IsAtValue self.new }
+        ensures at_value { IsAtValue self.old → IsAtValue self.new }
         ensures never_refused { IsAtValue self.old → IsRefused result → ⊥ }
-        ensures stays { OnErr result
+        ensures unchanged { OnErr result
             (document_under self.new ≡ document_under self.old) }
-        ensures cursor_stays { OnErr result (cursor_of self.new ≡ cursor_of self.old) }
-        ensures undos_stay { OnErr result
+        ensures cursor_unchanged { OnErr result (cursor_of self.new ≡ cursor_of self.old) }
+        ensures undos_unchanged { OnErr result
             (undos_of (editor_of self.new) ≡ undos_of (editor_of self.old)) }
     {
         json_law();
@@ -205,7 +205,7 @@ impl CursorEditor {
         ensures never_refused { (start : Data)
             → IsOpenedOn start (editor_of self.old) → IsRefused result → ⊥ }
         ensures at_root { cursor_of self.new ≡ [] }
-        ensures stands { IsAtValue self.new }
+        ensures at_value { IsAtValue self.new }
     {
         json_law();
         self.cursor.clear();

@@ -77,8 +77,8 @@ impl Editor {
             → IsOpenedOn start self.old → IsOpenedOn start self.new }
         ensures refused { IfRefused result
             (RefusesAssign (nodes (editor_document self.old)) (tokens pointer.entry)) }
-        ensures stays { OnErr result (editor_document self.new ≡ editor_document self.old) }
-        ensures undos_stay { OnErr result (undos_of self.new ≡ undos_of self.old) }
+        ensures unchanged { OnErr result (editor_document self.new ≡ editor_document self.old) }
+        ensures undos_unchanged { OnErr result (undos_of self.new ≡ undos_of self.old) }
     {
         self.undos.reserve(1)?;
         let last = assign_with_undo(alloc, &mut self.document, pointer, value)?;
@@ -108,8 +108,8 @@ impl Editor {
             → IsOpenedOn start self.old → IsOpenedOn start self.new }
         ensures refused { IfRefused result
             (Refuses (nodes (editor_document self.old)) (tokens pointer.entry)) }
-        ensures stays { OnErr result (editor_document self.new ≡ editor_document self.old) }
-        ensures undos_stay { OnErr result (undos_of self.new ≡ undos_of self.old) }
+        ensures unchanged { OnErr result (editor_document self.new ≡ editor_document self.old) }
+        ensures undos_unchanged { OnErr result (undos_of self.new ≡ undos_of self.old) }
     {
         self.undos.reserve(1)?;
         let parent_back = undo_of_removal(alloc, &self.document, pointer)?;
@@ -128,7 +128,7 @@ impl Editor {
             → IsOpenedOn start self.old → IsOpenedOn start self.new }
         ensures fewer { IfOk result (λ _.
             length (undos_of self.new) ≡ length (undos_of self.old) - 1) }
-        ensures stays { OnErr result ((editor_document self.new ≡ editor_document self.old)
+        ensures unchanged { OnErr result ((editor_document self.new ≡ editor_document self.old)
             × (undos_of self.new ≡ undos_of self.old)) }
         ensures never_refused { (start : Data)
             → IsOpenedOn start self.old → IsRefused result → ⊥ }

@@ -11,7 +11,7 @@ pub fn pushed_and_popped_back(
 ) -> Result<Option<Token<'static>>, AllocError>
     ensures popped { IfOk result (λ popped. popped ≡ Some token.entry) }
     ensures restored { IfOk result (λ _. pointer.new ≡ pointer.old) }
-    ensures stays { OnErr result
+    ensures left { OnErr result
         ((pointer.new ≡ pointer.old) ⊎ (pointer.new ≡ pointer.old ++ token.entry ∷ [])) }
 {
     pointer.push_back(token)?;
@@ -26,7 +26,7 @@ pub fn pushed_and_popped_front(
 ) -> Result<Option<Token<'static>>, AllocError>
     ensures popped { IfOk result (λ popped. popped ≡ Some token.entry) }
     ensures restored { IfOk result (λ _. pointer.new ≡ pointer.old) }
-    ensures stays { OnErr result
+    ensures left { OnErr result
         ((pointer.new ≡ pointer.old) ⊎ (pointer.new ≡ token.entry ∷ pointer.old)) }
 {
     pointer.push_front(token)?;

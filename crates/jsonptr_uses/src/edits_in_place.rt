@@ -75,7 +75,7 @@ pub fn without(
         (DeletesInText text.now (tokens pointer.entry) (string_bytes s)
         × DeletesBytes text.now (tokens pointer.entry) (string_bytes s))
         ⊎ (LacksInText text.now (tokens pointer.entry) × (string_bytes s ≡ text.now))) }
-    ensures line { IfOk result (λ s. StaysOneLine text.now (string_bytes s)) }
+    ensures one_line { IfOk result (λ s. StaysOneLine text.now (string_bytes s)) }
     ensures refused { IfErr result (IsInPlaceError
         (DeletesInText text.now (tokens pointer.entry)) (IsEditReadError text.now)) }
 {

@@ -33,7 +33,7 @@ pub struct PatchedText {
 ///
 /// Those of [`inverse_of`] and of [`Task::Patch`].
 pub fn patched_text(alloc: Global, text: &str, patch: RawPatch) -> Result<PatchedText, TaskError>
-    ensures patched { IfOk result (λ p.
+    ensures applied { IfOk result (λ p.
         PatchesByInLayout text.now (view patch.document) Kept (string_bytes p.new)) }
     ensures carries { IfOk result (λ p.
         RawPatchBytes text.now patch.operations.items (string_bytes p.new)) }
@@ -44,7 +44,7 @@ pub fn patched_text(alloc: Global, text: &str, patch: RawPatch) -> Result<Patche
     inverse_law();
     let inverse = inverse_of(alloc, text, &patch.document, Layout::Compact)?;
     let task = Task::Patch(patch);
-    let new = result_in_text(alloc, &task, Layout::Kept, text)?;
+    let new = result_in_text(alloc, text, &task, Layout::Kept)?;
     let undo = inverse.text;
     Ok(PatchedText { new, undo })
 }

@@ -33,7 +33,7 @@ pub fn deleted_and_put_back(
     ensures restored { IfOk result (λ _. nodes (view document.new) ≡ nodes (view document.old)) }
     ensures same { IfOk result (λ _.
         HasSortedKeys (view document.old) → view document.new ≡ view document.old) }
-    ensures stays { OnErr result ((view document.new ≡ view document.old)
+    ensures left { OnErr result ((view document.new ≡ view document.old)
         ⊎ Deletes (nodes (view document.old)) (tokens pointer.entry)
         (nodes null) (nodes (view document.new))) }
     ensures never_refused { IsRefused result → ⊥ }
@@ -119,7 +119,7 @@ pub fn changed_and_undone(
     ensures same { IfOk result (λ _. All OperationHasSortedKeys patch.items
         → HasSortedKeys (view document.old) → view document.new ≡ view document.old) }
     ensures refused { IfRefused result (RefusesPatch (nodes (view document.old)) patch.items) }
-    ensures stays { OnErr result ((view document.new ≡ view document.old)
+    ensures left { OnErr result ((view document.new ≡ view document.old)
         ⊎ Patches (nodes (view document.old)) patch.items (nodes (view document.new))) }
 {
     let inverse = apply_with_inverse(alloc, document, patch)?;

@@ -128,14 +128,14 @@ pub fn set(
         → IsApart others (tokens pointer.entry)
         → NamesNothing (nodes (view top.old)) others
         → NamesNothing (nodes (view top.new)) others) }
-    ensures place { IfOk result (λ _.
-        (place : List Text) × IsLocationOf (tokens pointer.entry) place
-        × IsSetAt (nodes (view top.old)) place (nodes (view value)) (nodes (view top.new))) }
+    ensures location { IfOk result (λ _.
+        (location : List Text) × IsLocationOf (tokens pointer.entry) location
+        × IsSetAt (nodes (view top.old)) location (nodes (view value)) (nodes (view top.new))) }
     ensures sorted { IfOk result (λ _.
         HasSortedKeys (view value) → HasSortedKeys (view top.old) → HasSortedKeys (view top.new)) }
     ensures refused { IfRefused result
         (RefusesAssign (nodes (view top.old)) (tokens pointer.entry)) }
-    ensures stays { OnErr result (view top.new ≡ view top.old) }
+    ensures unchanged { OnErr result (view top.new ≡ view top.old) }
 {
     put_law();
     assign_json(alloc, top, pointer, value)

@@ -29,7 +29,7 @@ pub fn pushed_and_resolved<'v>(
     ensures refused { IfRefused result
         (Refuses (nodes (view document.now)) (pointer.old ++ token.entry ∷ [])) }
     ensures refused_pushed { IsRefused result → pointer.new ≡ pointer.old ++ token.entry ∷ [] }
-    ensures stays { OnErr result
+    ensures left { OnErr result
         ((pointer.new ≡ pointer.old) ⊎ (pointer.new ≡ pointer.old ++ token.entry ∷ [])) }
 {
     pointer.push_back(token)?;

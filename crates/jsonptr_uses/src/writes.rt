@@ -34,7 +34,7 @@ pub fn replace<D: ResolveMut>(
         D.writes document.old (tokens pointer.entry) value document.new) }
     ensures found { IfOk result (λ old. D.finds document.old (tokens pointer.entry) old) }
     ensures refused { IfRefused result (D.refuses document.old (tokens pointer.entry)) }
-    ensures stays { OnErr result (D.is_same document.old document.new) }
+    ensures unchanged { OnErr result (D.is_same document.old document.new) }
 {
     let place = document.resolve_mut(alloc, pointer)?;
     Ok(mem::replace(place, value))
@@ -55,7 +55,7 @@ pub fn replace_json(
         FindsValue (view document.old) (tokens pointer.entry) (view old)) }
     ensures refused { IfRefused result
         (Refuses (nodes (view document.old)) (tokens pointer.entry)) }
-    ensures stays { OnErr result (view document.new ≡ view document.old) }
+    ensures unchanged { OnErr result (view document.new ≡ view document.old) }
 {
     replace(alloc, document, pointer, value)
 }
@@ -74,7 +74,7 @@ pub fn replace_toml(
         FindsTomlValue (toml_view document.old) (tokens pointer.entry) (toml_view old)) }
     ensures refused { IfRefused result
         (Refuses (toml_nodes (toml_view document.old)) (tokens pointer.entry)) }
-    ensures stays { OnErr result (toml_view document.new ≡ toml_view document.old) }
+    ensures unchanged { OnErr result (toml_view document.new ≡ toml_view document.old) }
 {
     replace(alloc, document, pointer, value)
 }
@@ -99,7 +99,7 @@ pub fn assign_json(
         → HasSortedKeys (view document.new)) }
     ensures refused { IfRefused result
         (RefusesAssign (nodes (view document.old)) (tokens pointer.entry)) }
-    ensures stays { OnErr result (view document.new ≡ view document.old) }
+    ensures unchanged { OnErr result (view document.new ≡ view document.old) }
 {
     pointer.assign(alloc, document, value)
 }
@@ -122,7 +122,7 @@ pub fn delete_json(
         (NamesNothing (nodes (view document.old)) (tokens pointer.entry)
         × (view document.new ≡ view document.old))
         (λ v. FindsValue (view document.old) (tokens pointer.entry) (view v))) }
-    ensures stays { OnErr result (view document.new ≡ view document.old) }
+    ensures unchanged { OnErr result (view document.new ≡ view document.old) }
 {
     pointer.delete(alloc, document)
 }

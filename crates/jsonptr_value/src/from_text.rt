@@ -8,13 +8,16 @@ ghost use Rattle.jsonptr_value.specs.declared.from_text.ReadError.TheVariants.{N
 use json::Invalid;
 use serde_json::Value;
 use std::alloc::{AllocError, AllocFailed, Global};
+use thiserror::Error;
 
 /// Why a text is not read as a JSON value.
-#[derive(Clone, Copy, Debug, Drop, PartialEq, Eq)]
+#[derive(Clone, Copy, Debug, Drop, PartialEq, Eq, Error)]
 pub enum ReadError {
     /// `serde_json` does not read the text.
+    #[error("text is not JSON")]
     NotJson,
     /// An allocation failed.
+    #[error("out of memory")]
     Memory,
 }
 

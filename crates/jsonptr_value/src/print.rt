@@ -16,13 +16,15 @@ use serde_json::Value;
 use std::alloc::{AllocError, Global};
 use std::collections::btree_map::Iter;
 
-/// Returns the JSON text of the value, without spaces: the one that `Value::to_string` returns.
+/// Returns the JSON text of the value, without spaces: `compact_text` of `serde_json` if the value
+/// contains no float. A float is printed with digits that read back as it.
 ///
-/// Time is linear in the value. The first 32 levels take the stack, by recursion.
+/// Takes time linear in the value. The first 32 levels take the stack, by recursion.
 ///
 /// # Errors
 ///
-/// [`AllocError`] if there is no memory for the text, or for a place in each open array and object.
+/// [`AllocError`] if the allocation for the text fails, or for an entry of each array and object
+/// that is open below the first 32 levels.
 pub fn to_string(alloc: Global, value: &Value) -> Result<String, AllocError>
     ensures text { IfOk result (λ s. has_float (view value.now) ≡ false
         → string_bytes s ≡ compact_text (view value.now)) }

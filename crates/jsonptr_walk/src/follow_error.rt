@@ -1,6 +1,9 @@
 //! Where following a pointer stops.
+ghost use Rattle.std.specs.Prelude.{◌≡◌, length};
+ghost use Rattle.jsonptr_syntax.specs.PointerText.{tokens};
 
 use jsonptr_document::child::ChildError;
+use jsonptr_syntax::pointer_text::PointerText;
 
 /// Where following a pointer stops: before a token that names no child of the node there.
 ///
@@ -17,4 +20,19 @@ pub struct FollowError {
     pub offset: usize,
     /// Why the token names no child.
     pub cause: ChildError,
+}
+
+/// Returns the error of the token after `front`, which names no child because of `cause`.
+///
+/// `offset` is that of the `/` before the token.
+pub fn stop_at(front: PointerText<'_>, offset: usize, cause: ChildError) -> FollowError
+    ensures position { result.position ≡ length (tokens front.entry) }
+    ensures offset { result.offset ≡ offset }
+    ensures cause { result.cause ≡ cause }
+{
+    FollowError {
+        position: front.count(),
+        offset,
+        cause,
+    }
 }

@@ -204,7 +204,7 @@ fn put_child<N: DocumentMut>(
         → N.Document.has_sorted_keys node.old → N.Document.has_sorted_keys node.new) }
     ensures refused { IfRefused result
         (IsPutErrorBelow (N.Document.nodes node.old) (tokens stop.now.front) stop.now.token) }
-    ensures given_back { (e : N) → result ≡ Ok (Some e) → e ≡ node.old }
+    ensures returned { (e : N) → result ≡ Ok (Some e) → e ≡ node.old }
     ensures unchanged { OnErr result (N.Document.stands_at node.old [] node.new) }
     ensures no_memory { (len : ℕ) → N.Document.nodes node.old [] ≡ Some (an_array len)
         → HasNoIndex len stop.now.token → HasMemory result }
@@ -243,7 +243,7 @@ fn replace_leaf<N: DocumentMut>(
         ≡ grown (token.now ∷ tokens rest.entry) (N.Document.nodes value)) }
     ensures sorted { IfOk result (λ _.
         N.Document.has_sorted_keys value → N.Document.has_sorted_keys node.new) }
-    ensures given_back { IfOk result (λ leaf. leaf ≡ node.old) }
+    ensures returned { IfOk result (λ leaf. leaf ≡ node.old) }
     ensures unchanged { OnErr result (N.Document.stands_at node.old [] node.new) }
 {
     let below = expand(alloc, rest, value)?;

@@ -28,7 +28,7 @@ pub fn operation_law()
         → IsTree n → Applies n o m → RefusesOperation n k o e → ⊥ }
     ensures one_map { (n m l : NodeMap) (o : Operation)
         → IsTree n → Applies n o m → Applies n o l → m ≡ l }
-    ensures one_refusal { (n : NodeMap) (k : ℕ) (o : Operation) (e f : PatchError)
+    ensures one_error { (n : NodeMap) (k : ℕ) (o : Operation) (e f : PatchError)
         → IsTree n → RefusesOperation n k o e → RefusesOperation n k o f → e ≡ f }
     ensures document { (n m : NodeMap) (o : Operation)
         → IsDocument n → Applies n o m → IsDocument m }
@@ -47,7 +47,7 @@ pub fn comparing_operation_law()
         → IsTree n → AppliesBy c n o m → RefusesOperationBy c n k o e → ⊥ }
     ensures one_map { (c : Comparison) (n m l : NodeMap) (o : Operation)
         → IsTree n → AppliesBy c n o m → AppliesBy c n o l → m ≡ l }
-    ensures one_refusal { (c : Comparison) (n : NodeMap) (k : ℕ) (o : Operation) (e f : PatchError)
+    ensures one_error { (c : Comparison) (n : NodeMap) (k : ℕ) (o : Operation) (e f : PatchError)
         → IsTree n → RefusesOperationBy c n k o e → RefusesOperationBy c n k o f → e ≡ f }
     ensures document { (c : Comparison) (n m : NodeMap) (o : Operation)
         → IsDocument n → AppliesBy c n o m → IsDocument m }

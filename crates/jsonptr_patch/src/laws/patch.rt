@@ -21,11 +21,11 @@ pub fn patch_law()
         → IsDocument n → Patches n os m → RefusesPatch n os e → ⊥ }
     ensures one_map { (n m l : NodeMap) (os : List Operation)
         → IsDocument n → Patches n os m → Patches n os l → m ≡ l }
-    ensures one_refusal { (n : NodeMap) (os : List Operation) (e f : PatchError)
+    ensures one_error { (n : NodeMap) (os : List Operation) (e f : PatchError)
         → IsDocument n → RefusesPatch n os e → RefusesPatch n os f → e ≡ f }
     ensures document { (n m : NodeMap) (os : List Operation)
         → IsDocument n → Patches n os m → IsDocument m }
-    ensures behind { (n m : NodeMap) (os ps : List Operation)
+    ensures after { (n m : NodeMap) (os ps : List Operation)
         → Patches n (os ++ ps) m ↔ ((l : NodeMap) × Patches n os l × Patches l ps m) }
 {
     operation_law();
@@ -41,11 +41,11 @@ pub fn comparing_patch_law()
         → IsDocument n → PatchesBy c n os m → RefusesPatchBy c n os e → ⊥ }
     ensures one_map { (c : Comparison) (n m l : NodeMap) (os : List Operation)
         → IsDocument n → PatchesBy c n os m → PatchesBy c n os l → m ≡ l }
-    ensures one_refusal { (c : Comparison) (n : NodeMap) (os : List Operation) (e f : PatchError)
+    ensures one_error { (c : Comparison) (n : NodeMap) (os : List Operation) (e f : PatchError)
         → IsDocument n → RefusesPatchBy c n os e → RefusesPatchBy c n os f → e ≡ f }
     ensures document { (c : Comparison) (n m : NodeMap) (os : List Operation)
         → IsDocument n → PatchesBy c n os m → IsDocument m }
-    ensures behind { (c : Comparison) (n m : NodeMap) (os ps : List Operation)
+    ensures after { (c : Comparison) (n m : NodeMap) (os ps : List Operation)
         → PatchesBy c n (os ++ ps) m ↔ ((l : NodeMap) × PatchesBy c n os l × PatchesBy c l ps m) }
 {
     comparing_operation_law();

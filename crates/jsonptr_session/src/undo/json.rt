@@ -87,7 +87,7 @@ pub fn undo(alloc: Global, doc: &mut Value, u: Undo<Value>) -> Result<(), UndoRe
     ensures sorted { IfOk result (λ _. IfPut u (λ v. HasSortedKeys (view v))
         → HasSortedKeys (view doc.old) → HasSortedKeys (view doc.new)) }
     ensures refused { IfErr result (λ r. IsUndoError (json_map doc.old) (tokens_at u) r.cause) }
-    ensures handed_back { IfErr result (λ r. r.undo ≡ u) }
+    ensures returned { IfErr result (λ r. r.undo ≡ u) }
     ensures unchanged { OnErr result (view doc.new ≡ view doc.old) }
     ensures no_memory { HasNoTilde (text (tokens_at u))
         → IfErr result (λ r. IsRefusedAnd r.cause (Refuses (json_map doc.old) (tokens_at u))) }

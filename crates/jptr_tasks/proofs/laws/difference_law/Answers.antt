@@ -22,8 +22,8 @@ no_read text d h k =
     let wrong : ⊥ = cc in
     wrong
 
-pub returns-clause-patched : goal.returns-clause-patched
-returns-clause-patched c a b out n m p style layout d reads_a reads_b diff reads_p y =
+pub returns-clause-applied : goal.returns-clause-applied
+returns-clause-applied c a b out n m p style layout d reads_a reads_b diff reads_p y =
     let os = diff.0 in
     let z = y.3 in
     let is : p ≡ document_of os = one_read (string_bytes d.text) p (document_of os) reads_p diff.3 in
@@ -36,8 +36,8 @@ returns-clause-patched c a b out n m p style layout d reads_a reads_b diff reads
     let one : z.1 ≡ m = c.difference_law.ensures.same n m z.1 os diff.1 done (ascends_read b m reads_b) (ascends_read y.1 z.1 z.3) in
     restyled layout y.1 out m (subst (λ (q : Data). read y.1 ≡ Some q) one z.3) y.4
 
-pub returns-clause-never_fails : goal.returns-clause-never_fails
-returns-clause-never_fails c a b n m p style layout d e reads_a reads_b diff reads_p h =
+pub returns-clause-never_refused : goal.returns-clause-never_refused
+returns-clause-never_refused c a b n m p style layout d e reads_a reads_b diff reads_p h =
     let os = diff.0 in
     let is : p ≡ document_of os = one_read (string_bytes d.text) p (document_of os) reads_p diff.3 in
     let patch : IsPatch p os = subst (λ (q : Data). IsPatch q os) (sym is) (c.writing_law.ensures.read os) in

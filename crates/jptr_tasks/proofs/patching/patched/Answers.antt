@@ -4,8 +4,8 @@ use Rattle.jsonptr_edit_in_text.specs.RawPatching.{operations_in}
 use Rattle.jsonptr_edit_in_text.specs.declared.raw_operation.RawOperation.{RawOperation}
 use Rattle.jptr_tasks.proofs.patching.patched.Goals as goal
 
-pub returns-in-Some-clause-patched : goal.returns-in-Some-clause-patched
-returns-in-Some-clause-patched c =
+pub returns-in-Some-clause-applied : goal.returns-in-Some-clause-applied
+returns-in-Some-clause-applied c =
     let p = c.args.patch.now in
     let applied = rw c.in-Some.is at c.in_ok-made.ensures.applied in
     let made = subst (λ (rs : List RawOperation). PatchesInText c.args.text.now (operations_in rs) (string_bytes c.in-Some.new)) c.as_slice.ensures.value applied in

@@ -6,7 +6,7 @@ use Rattle.jptr_tasks.proofs.patching.why_not_in_place.Goals as goal
 
 pub returns-in-Ok : goal.returns-in-Ok
 returns-in-Ok c =
-    let h = c.in-Ok.ensures.patched in
+    let h = c.in-Ok.ensures.applied in
     (refl, (h.0, _, h.1, h.2))
 
 pub returns-in-Err : goal.returns-in-Err

@@ -15,15 +15,15 @@ returns-in-Err-Refused-clause-member c =
     let operations = c.args.operations.items in
     let from = c.args.from in
     let error = c.in-Err-Refused.error in
-    let refused : RefusesPatchBy Numeric (nodes document) c.in_ok-telling.field-0.items error = search rules in
-    let probed = subst (λ (os : List Operation). RefusesPatchBy Numeric (nodes document) os error) c.in_ok-telling.ensures.2 refused in
-    subst (λ (m : Member). IsFaultOf (nodes document) operations (Some from) m) (sym c.told_by.ensures)
-    (told (c.comparing_operation_law.ensures.not_both Numeric) (c.comparing_operation_law.ensures.one_map Numeric) (c.comparing_operation_law.ensures.document Numeric) (nodes document) c.requires.0 operations from c.in_ok-telling.ensures.1 c.in_ok-telling.ensures.0 error (is_document document) c.requires.1 probed)
+    let refused : RefusesPatchBy Numeric (nodes document) c.in_ok-with_probe.field-0.items error = search rules in
+    let probed = subst (λ (os : List Operation). RefusesPatchBy Numeric (nodes document) os error) c.in_ok-with_probe.ensures.2 refused in
+    subst (λ (m : Member). IsFaultOf (nodes document) operations (Some from) m) (sym c.member_of_error.ensures)
+    (told (c.comparing_operation_law.ensures.not_both Numeric) (c.comparing_operation_law.ensures.one_map Numeric) (c.comparing_operation_law.ensures.document Numeric) (nodes document) c.requires.0 operations from c.in_ok-with_probe.ensures.1 c.in_ok-with_probe.ensures.0 error (is_document document) c.requires.1 probed)
 
 pub unreachable-requires : goal.unreachable-requires
 unreachable-requires c =
     let document = view c.args.document.now in
-    let after = nodes (view c.apply_comparing.new.doc) in
-    let applied : PatchesBy Numeric (nodes document) c.in_ok-telling.field-0.items after = search rules in
-    never_applied (nodes document) after c.args.operations.items c.args.from c.in_ok-telling.ensures.1 c.in_ok-telling.ensures.0
-    (subst (λ (os : List Operation). PatchesBy Numeric (nodes document) os after) c.in_ok-telling.ensures.2 applied)
+    let after = nodes (view c.apply_comparing.new.document) in
+    let applied : PatchesBy Numeric (nodes document) c.in_ok-with_probe.field-0.items after = search rules in
+    never_applied (nodes document) after c.args.operations.items c.args.from c.in_ok-with_probe.ensures.1 c.in_ok-with_probe.ensures.0
+    (subst (λ (os : List Operation). PatchesBy Numeric (nodes document) os after) c.in_ok-with_probe.ensures.2 applied)

@@ -20,7 +20,7 @@ returns-clause-not_both c =
 
 pub returns-clause-one_fault : goal.returns-clause-one_fault
 returns-clause-one_fault c =
-    one_fault (resolving_one c.resolve_law.ensures.not_both c.resolve_law.ensures.one) c.assign_law.ensures.one c.patch_law.ensures.one_refusal
+    one_fault (resolving_one c.resolve_law.ensures.not_both c.resolve_law.ensures.one) c.assign_law.ensures.one c.patch_law.ensures.one_error
 
 pub returns-clause-one_value : goal.returns-clause-one_value
 returns-clause-one_value c =

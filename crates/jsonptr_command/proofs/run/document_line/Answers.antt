@@ -29,8 +29,8 @@ returns-clause-unchanged g c =
     IfErr-weaker c.changed_line-line.result _ _
     (λ e h before. absurd (after_document c.args.change (view c.in_ok-document.document) e h before)) c.changed_line-line.ensures.refused
 
-pub returns-clause-out_of_memory : goal.returns-clause-out_of_memory
-returns-clause-out_of_memory g c =
+pub returns-clause-left : goal.returns-clause-left
+returns-clause-left g c =
     IfErr-weaker c.changed_line-line.result _ _
     (λ e h is. inr (either_given c.args.change _ (view c.in_ok-document.document) c.in_ok-document.ensures.value _ c.changed_line-line.ensures.either))
     c.changed_line-line.ensures.refused

@@ -9,8 +9,8 @@ use Rattle.jsonptr_diff.proofs.elements.add_elements.Given as goal
 abbrev pub invariant-loop-index : goal.invariant-loop-index
 invariant-loop-index l = record {
   splices : (first : List Operation) (c : NodeMap) (k left : ℕ)
-      → Splices (view (Array l.new)) first l.fn.patch.items (tokens_of l.at) c (array_map l.new) l.fn.span.from k left
+      → Splices (view (Array l.new)) first l.fn.patch.items (tokens_of l.at) c (array_map l.new) l.fn.range.from k left
       → Splices (view (Array l.new)) first l.patch.items (tokens_of l.at) c (array_map l.new) l.index k left;
   parts : AppendsParts (tokens_of l.at) l.fn.patch.items l.patch.items;
-  kept : l.fn.span.from ≡ l.index → l.patch.items ≡ l.fn.patch.items;
+  kept : l.fn.range.from ≡ l.index → l.patch.items ≡ l.fn.patch.items;
 }

@@ -12,15 +12,15 @@ use Rattle.jsonptr_json_edits.proofs.ChildLemmas.{one_item, only_differs, one_me
 use Rattle.jsonptr_json_edits.proofs.SideLemmas.{no_name}
 use Rattle.jsonptr_json_edits.proofs.check.+change.Goals as goal
 
-pub change-returns-in_ok-change_item-in-BeginArray-clause-passed :
-    goal.change-returns-in_ok-change_item-in-BeginArray-clause-passed
-change-returns-in_ok-change_item-in-BeginArray-clause-passed t c =
-    let r = c.in_ok-change_item-in-BeginArray.ensures.passed in
+pub change-returns-in_ok-change_element-in-BeginArray-clause-passed :
+    goal.change-returns-in_ok-change_element-in-BeginArray-clause-passed
+change-returns-in_ok-change_element-in-BeginArray-clause-passed t c =
+    let r = c.in_ok-change_element-in-BeginArray.ensures.passed in
     let split : choices c.args.at.selectors.now ≡ choice_of c.in-Some.selector.now ∷ choices c.in-Some.selectors.now = ap choices c.in-Some.ensures.cases.0 in (
       array r.0,
       array r.1,
-      reads_array c.args.depth c.args.readers.now.one c.same_token.new.one c.change_item.new.readers.one r.0 (omega arith) (c.in_ok-token.ensures.one ∙ ap (λ k. token_of k ∷ c.same_token.new.one) c.in-BeginArray.is) r.4,
-      reads_array c.args.depth c.args.readers.now.two c.same_token.new.two c.change_item.new.readers.two r.1 (omega arith) (c.in_ok-token.ensures.two ∙ ap (λ k. token_of k ∷ c.same_token.new.two) c.in-BeginArray.is) r.5,
+      reads_array c.args.depth c.args.readers.now.one c.same_token.new.one c.change_element.new.readers.one r.0 (omega arith) (c.in_ok-token.ensures.one ∙ ap (λ k. token_of k ∷ c.same_token.new.one) c.in-BeginArray.is) r.4,
+      reads_array c.args.depth c.args.readers.now.two c.same_token.new.two c.change_element.new.readers.two r.1 (omega arith) (c.in_ok-token.ensures.two ∙ ap (λ k. token_of k ∷ c.same_token.new.two) c.in-BeginArray.is) r.5,
       subst (λ (cs : List Choice). ChangesAt cs (Makes c.args.at.edit.now) (array r.0) (array r.1)) (sym split)
           (inl (record { ds = r.0; ds2 = r.1; i = c.in_ok-index-in-BeginArray.index; at = r.2; at2 = r.3; old = refl; new = refl; selects = grind arith; differs = r.6; changes = r.7 })),
     )
@@ -38,41 +38,41 @@ change-returns-in_ok-change_member-in-BeginObject-clause-passed t c =
           (inr (record { ms = r.0; ms2 = r.1; at = r.2; at2 = r.3; old = refl; new = refl; differs = subst (λ (k : List ℕ). OnlyMemberDiffers k r.2 r.3 r.0 r.1) c.as_str-key.ensures.value r.6; changes = r.7 })),
     )
 
-pub change_item-items-init : goal.change_item-items-init
-change_item-items-init t c = ([], [], items_begin c.args.depth c.args.readers.now.one, items_begin c.args.depth c.args.readers.now.two, refl, refl, omega arith, omega arith)
+pub change_element-elements-init : goal.change_element-elements-init
+change_element-elements-init t c = ([], [], items_begin c.args.depth c.args.readers.now.one, items_begin c.args.depth c.args.readers.now.two, refl, refl, omega arith, omega arith)
 
-pub change_item-items-preserved : goal.change_item-items-preserved
-change_item-items-preserved t c =
-    let i = c.items.invariant in
+pub change_element-elements-preserved : goal.change_element-elements-preserved
+change_element-elements-preserved t c =
+    let i = c.elements.invariant in
     let r = c.in_ok-visit.ensures.passed in
-    let more = c.items-test.ensures in
+    let more = c.elements-test.ensures in
     let also = c.if-take_end_array.ensures in
     let less = c.in_ok-visit.ensures.one_shorter in
     let less_too = c.in_ok-visit.ensures.two_shorter in
-    let shorter : length c.visit.new.readers.one < length c.items.readers.one = subst (λ (ts : List Token). length c.visit.new.readers.one < length ts) more.1 less in
-    let shorter_too : length c.visit.new.readers.two < length c.items.readers.two = subst (λ (ts : List Token). length c.visit.new.readers.two < length ts) also.1 less_too in (
+    let shorter : length c.visit.new.readers.one < length c.elements.readers.one = subst (λ (ts : List Token). length c.visit.new.readers.one < length ts) more.1 less in
+    let shorter_too : length c.visit.new.readers.two < length c.elements.readers.two = subst (λ (ts : List Token). length c.visit.new.readers.two < length ts) also.1 less_too in (
       i.0 ++ r.0 ∷ [],
       i.1 ++ r.1 ∷ [],
-      items_go_on c.args.depth c.args.readers.now.one c.items.readers.one c.take_end_array.new.self c.visit.new.readers.one i.0 r.0 i.2 more r.2 less,
-      items_go_on c.args.depth c.args.readers.now.two c.items.readers.two c.take_end_array-in-items.new.self c.visit.new.readers.two i.1 r.1 i.3 also r.3 less_too,
+      items_go_on c.args.depth c.args.readers.now.one c.elements.readers.one c.take_end_array.new.self c.visit.new.readers.one i.0 r.0 i.2 more r.2 less,
+      items_go_on c.args.depth c.args.readers.now.two c.elements.readers.two c.take_end_array-in-elements.new.self c.visit.new.readers.two i.1 r.1 i.3 also r.3 less_too,
       omega (arith, i.4, length-append i.0 (r.0 ∷ [])),
       subst (λ (b : Bool). ItemsSo b c.args.index (ChangesAt (choices c.args.at.selectors.now) (Makes c.args.at.edit.now)) (i.0 ++ r.0 ∷ []) (i.1 ++ r.1 ∷ [])) (sym c.is_either-is_done.ensures)
-          (one_item c.items.is_done c.is_at-wanted.result c.args.index (choices c.args.at.selectors.now) c.args.at.edit.now i.0 i.1 r.0 r.1 i.5 r.4 (λ e. sym i.4 ∙ c.is_at-wanted.ensures.0 e)),
+          (one_item c.elements.is_done c.is_at-wanted.result c.args.index (choices c.args.at.selectors.now) c.args.at.edit.now i.0 i.1 r.0 r.1 i.5 r.4 (λ e. sym i.4 ∙ c.is_at-wanted.ensures.0 e)),
       omega (arith, i.6, shorter),
       omega (arith, i.7, shorter_too),
     )
 
-pub change_item-returns-clause-passed : goal.change_item-returns-clause-passed
-change_item-returns-clause-passed t c =
-    let i = c.items.invariant in
-    let done : c.items.is_done ≡ true = grind arith in
+pub change_element-returns-clause-passed : goal.change_element-returns-clause-passed
+change_element-returns-clause-passed t c =
+    let i = c.elements.invariant in
+    let done : c.elements.is_done ≡ true = grind arith in
     let h = subst (λ (b : Bool). ItemsSo b c.args.index (ChangesAt (choices c.args.at.selectors.now) (Makes c.args.at.edit.now)) i.0 i.1) done i.5 in (
       with_items_before i.0 no_items,
       with_items_before i.1 no_items,
       h.at,
       h.at2,
-      items_close c.args.depth c.args.readers.now.one c.items.readers.one c.take_end_array.new.self i.0 i.2 c.items-test.ensures,
-      items_close c.args.depth c.args.readers.now.two c.items.readers.two c.take_end_array-2.new.self i.1 i.3 c.if-not-take_end_array.ensures,
+      items_close c.args.depth c.args.readers.now.one c.elements.readers.one c.take_end_array.new.self i.0 i.2 c.elements-test.ensures,
+      items_close c.args.depth c.args.readers.now.two c.elements.readers.two c.take_end_array-2.new.self i.1 i.3 c.if-not-take_end_array.ensures,
       only_differs c.args.index (ChangesAt (choices c.args.at.selectors.now) (Makes c.args.at.edit.now)) i.0 i.1 h,
       h.changes,
     )

@@ -12,14 +12,14 @@ decreases-change l = 3 * l.depth
 abbrev pub decreases-visit : goal.decreases-visit
 decreases-visit l = 3 * l.depth + 1
 
-abbrev pub decreases-change_item : goal.decreases-change_item
-decreases-change_item l = 3 * l.depth + 2
+abbrev pub decreases-change_element : goal.decreases-change_element
+decreases-change_element l = 3 * l.depth + 2
 
 abbrev pub decreases-change_member : goal.decreases-change_member
 decreases-change_member l = 3 * l.depth + 2
 
-abbrev pub invariant-change_item-items : goal.invariant-change_item-items
-invariant-change_item-items l =
+abbrev pub invariant-change_element-elements : goal.invariant-change_element-elements
+invariant-change_element-elements l =
     (ds ds2 : List Data)
     × ItemsSoFar l.depth l.initial.readers.one l.readers.one ds
     × ItemsSoFar l.depth l.initial.readers.two l.readers.two ds2
@@ -28,8 +28,8 @@ invariant-change_item-items l =
     × (length l.readers.one ≤ length l.initial.readers.one)
     × (length l.readers.two ≤ length l.initial.readers.two)
 
-abbrev pub decreases-change_item-items : goal.decreases-change_item-items
-decreases-change_item-items l = length l.readers.one
+abbrev pub decreases-change_element-elements : goal.decreases-change_element-elements
+decreases-change_element-elements l = length l.readers.one
 
 abbrev pub invariant-change_member-members : goal.invariant-change_member-members
 invariant-change_member-members l =

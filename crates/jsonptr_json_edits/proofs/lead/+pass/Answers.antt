@@ -12,13 +12,13 @@ use Rattle.jsonptr_json_edits.specs.PrivateLeading.{ChildLeads, ChildLeadsIf}
 use Rattle.jsonptr_json_edits.proofs.LeadingLemmas.{next_item, next_member, leads_by_item, leads_by_member}
 use Rattle.jsonptr_json_edits.proofs.lead.+pass.Goals as goal
 
-pub pass-returns-in_ok-pass_item-in-BeginArray-clause-passed :
-    goal.pass-returns-in_ok-pass_item-in-BeginArray-clause-passed
-pass-returns-in_ok-pass_item-in-BeginArray-clause-passed t c =
-    let r = c.in_ok-pass_item-in-BeginArray.ensures.passed in
+pub pass-returns-in_ok-pass_element-in-BeginArray-clause-passed :
+    goal.pass-returns-in_ok-pass_element-in-BeginArray-clause-passed
+pass-returns-in_ok-pass_element-in-BeginArray-clause-passed t c =
+    let r = c.in_ok-pass_element-in-BeginArray.ensures.passed in
     let split : choices c.args.target.selectors.now ≡ choice_of c.in-Some.selector.now ∷ choices c.in-Some.selectors.now = ap choices c.in-Some.ensures.cases.0 in (
       array r.0,
-      reads_array c.args.depth c.args.reader.now c.next.new.self c.pass_item.new.reader r.0 (omega arith) (c.in-Some-next.ensures.value ∙ ap (λ k. token_of k ∷ c.next.new.self) c.in-BeginArray.is) r.1,
+      reads_array c.args.depth c.args.reader.now c.next.new.self c.pass_element.new.reader r.0 (omega arith) (c.in-Some-next.ensures.value ∙ ap (λ k. token_of k ∷ c.next.new.self) c.in-BeginArray.is) r.1,
       subst (λ (cs : List Choice). LeadsToText cs c.args.target.value.now (array r.0)) (sym split)
           (leads_by_item c.in-Some.selector.now c.in_ok-index-in-BeginArray.index r.0 (choices c.in-Some.selectors.now) c.args.target.value.now (grind arith) r.2),
     )
@@ -35,32 +35,32 @@ pass-returns-in_ok-pass_member-in-BeginObject-clause-passed t c =
           (subst (λ (k : List ℕ). ChildLeads (get_member k r.0) (choices c.in-Some.selectors.now) c.args.target.value.now) c.as_str-key.ensures.value r.2)),
     )
 
-pub pass_item-items-init : goal.pass_item-items-init
-pass_item-items-init t c = ([], items_begin c.args.depth c.args.reader.now, refl, tt, omega arith)
+pub pass_element-elements-init : goal.pass_element-elements-init
+pass_element-elements-init t c = ([], items_begin c.args.depth c.args.reader.now, refl, tt, omega arith)
 
-pub pass_item-items-preserved : goal.pass_item-items-preserved
-pass_item-items-preserved t c =
-    let i = c.items.invariant in
+pub pass_element-elements-preserved : goal.pass_element-elements-preserved
+pass_element-elements-preserved t c =
+    let i = c.elements.invariant in
     let r = c.in_ok-visit.ensures.passed in
-    let more = c.items-test.ensures in
+    let more = c.elements-test.ensures in
     let less = c.in_ok-visit.ensures.shorter in
-    let shorter : length c.visit.new.reader < length c.items.reader = subst (λ (ts : List Token). length c.visit.new.reader < length ts) more.1 less in
+    let shorter : length c.visit.new.reader < length c.elements.reader = subst (λ (ts : List Token). length c.visit.new.reader < length ts) more.1 less in
     let cs = choices c.args.target.selectors.now in
     let value = c.args.target.value.now in (
       i.0 ++ r.0 ∷ [],
-      items_go_on c.args.depth c.args.reader.now c.items.reader c.take_end_array.new.self c.visit.new.reader i.0 r.0 i.1 more r.1 less,
+      items_go_on c.args.depth c.args.reader.now c.elements.reader c.take_end_array.new.self c.visit.new.reader i.0 r.0 i.1 more r.1 less,
       omega (arith, i.2, length-append i.0 (r.0 ∷ [])),
       subst (λ (b : Bool). ChildLeadsIf b (get_item c.args.index (with_items_before (i.0 ++ r.0 ∷ []) no_items)) cs value) (sym c.is_either-is_done.ensures)
-          (next_item c.items.is_done c.is_at-wanted.result c.args.index cs value i.0 r.0 i.3 r.2 (λ e. sym i.2 ∙ c.is_at-wanted.ensures.0 e)),
+          (next_item c.elements.is_done c.is_at-wanted.result c.args.index cs value i.0 r.0 i.3 r.2 (λ e. sym i.2 ∙ c.is_at-wanted.ensures.0 e)),
       omega (arith, i.4, shorter),
     )
 
-pub pass_item-returns-clause-passed : goal.pass_item-returns-clause-passed
-pass_item-returns-clause-passed t c =
-    let i = c.items.invariant in
-    let done : c.items.is_done ≡ true = grind arith in (
+pub pass_element-returns-clause-passed : goal.pass_element-returns-clause-passed
+pass_element-returns-clause-passed t c =
+    let i = c.elements.invariant in
+    let done : c.elements.is_done ≡ true = grind arith in (
       with_items_before i.0 no_items,
-      items_close c.args.depth c.args.reader.now c.items.reader c.take_end_array.new.self i.0 i.1 c.items-test.ensures,
+      items_close c.args.depth c.args.reader.now c.elements.reader c.take_end_array.new.self i.0 i.1 c.elements-test.ensures,
       subst (λ (b : Bool). ChildLeadsIf b (get_item c.args.index (with_items_before i.0 no_items)) (choices c.args.target.selectors.now) c.args.target.value.now) done i.3,
     )
 

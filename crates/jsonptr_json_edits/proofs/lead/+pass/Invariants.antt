@@ -12,22 +12,22 @@ decreases-pass l = 3 * l.depth
 abbrev pub decreases-visit : goal.decreases-visit
 decreases-visit l = 3 * l.depth + 1
 
-abbrev pub decreases-pass_item : goal.decreases-pass_item
-decreases-pass_item l = 3 * l.depth + 2
+abbrev pub decreases-pass_element : goal.decreases-pass_element
+decreases-pass_element l = 3 * l.depth + 2
 
 abbrev pub decreases-pass_member : goal.decreases-pass_member
 decreases-pass_member l = 3 * l.depth + 2
 
-abbrev pub invariant-pass_item-items : goal.invariant-pass_item-items
-invariant-pass_item-items l =
+abbrev pub invariant-pass_element-elements : goal.invariant-pass_element-elements
+invariant-pass_element-elements l =
     (ds : List Data)
     × ItemsSoFar l.depth l.initial.reader l.reader ds
     × (l.count ≡ length ds)
     × ChildLeadsIf l.is_done (get_item l.index (with_items_before ds no_items)) (choices l.target.selectors.now) l.target.value.now
     × (length l.reader ≤ length l.initial.reader)
 
-abbrev pub decreases-pass_item-items : goal.decreases-pass_item-items
-decreases-pass_item-items l = length l.reader
+abbrev pub decreases-pass_element-elements : goal.decreases-pass_element-elements
+decreases-pass_element-elements l = length l.reader
 
 abbrev pub invariant-pass_member-members : goal.invariant-pass_member-members
 invariant-pass_member-members l =

@@ -1,5 +1,5 @@
 use Rattle.std.proofs.Common.{length}
 use Rattle.jsonptr_json_edits.proofs.locate.elements.Given as goal
 
-abbrev pub decreases-items : goal.decreases-items
-decreases-items l = length l.reader
+abbrev pub decreases-elements : goal.decreases-elements
+decreases-elements l = length l.reader

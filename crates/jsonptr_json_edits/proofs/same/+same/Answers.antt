@@ -10,12 +10,12 @@ use Rattle.jsonptr_json_edits.proofs.AlikeLemmas.{alike_begin, alike_token, alik
 use Rattle.jsonptr_json_edits.proofs.SideLemmas.{both_scalar, no_name}
 use Rattle.jsonptr_json_edits.proofs.same.+same.Goals as goal
 
-pub same-returns-in_ok-same_items-in-BeginArray-clause-passed : goal.same-returns-in_ok-same_items-in-BeginArray-clause-passed
-same-returns-in_ok-same_items-in-BeginArray-clause-passed t c =
-    let r = c.in_ok-same_items-in-BeginArray.ensures.passed in (
+pub same-returns-in_ok-same_elements-in-BeginArray-clause-passed : goal.same-returns-in_ok-same_elements-in-BeginArray-clause-passed
+same-returns-in_ok-same_elements-in-BeginArray-clause-passed t c =
+    let r = c.in_ok-same_elements-in-BeginArray.ensures.passed in (
       array r.0,
-      reads_array c.args.one_depth c.args.one.now c.same_token.new.one c.same_items.new.one r.0 (omega arith) (c.in_ok-token.ensures.one ∙ ap (λ k. token_of k ∷ c.same_token.new.one) c.in-BeginArray.is) r.1,
-      reads_array c.args.two_depth c.args.two.now c.same_token.new.two c.same_items.new.two r.0 (omega arith) (c.in_ok-token.ensures.two ∙ ap (λ k. token_of k ∷ c.same_token.new.two) c.in-BeginArray.is) r.2,
+      reads_array c.args.one_depth c.args.one.now c.same_token.new.one c.same_elements.new.one r.0 (omega arith) (c.in_ok-token.ensures.one ∙ ap (λ k. token_of k ∷ c.same_token.new.one) c.in-BeginArray.is) r.1,
+      reads_array c.args.two_depth c.args.two.now c.same_token.new.two c.same_elements.new.two r.0 (omega arith) (c.in_ok-token.ensures.two ∙ ap (λ k. token_of k ∷ c.same_token.new.two) c.in-BeginArray.is) r.2,
     )
 
 pub same-returns-in_ok-same_members-in-BeginObject-clause-passed : goal.same-returns-in_ok-same_members-in-BeginObject-clause-passed
@@ -29,35 +29,35 @@ same-returns-in_ok-same_members-in-BeginObject-clause-passed t c =
 pub same-returns-then-is_scalar-clause-passed : goal.same-returns-then-is_scalar-clause-passed
 same-returns-then-is_scalar-clause-passed t c = both_scalar c.args.one_depth c.args.two_depth c.args.one.now c.same_token.new.one c.args.two.now c.same_token.new.two c.in_ok-token.token c.in_ok-token.ensures.one c.in_ok-token.ensures.two c.in_default.not-BeginArray c.in_default.not-BeginObject (sym c.is_scalar.ensures ∙ c.if-is_scalar.true)
 
-pub same_items-items-init : goal.same_items-items-init
-same_items-items-init t c = ([], items_begin c.args.one_depth c.args.one.now, items_begin c.args.two_depth c.args.two.now, omega arith, omega arith, alike_begin c.args.one.now c.args.two.now)
+pub same_elements-elements-init : goal.same_elements-elements-init
+same_elements-elements-init t c = ([], items_begin c.args.one_depth c.args.one.now, items_begin c.args.two_depth c.args.two.now, omega arith, omega arith, alike_begin c.args.one.now c.args.two.now)
 
-pub same_items-items-preserved : goal.same_items-items-preserved
-same_items-items-preserved t c =
-    let i = c.items.invariant in
+pub same_elements-elements-preserved : goal.same_elements-elements-preserved
+same_elements-elements-preserved t c =
+    let i = c.elements.invariant in
     let r = c.in_ok-same.ensures.passed in
-    let more = c.items-test.ensures in
+    let more = c.elements-test.ensures in
     let also = c.if-take_end_array.ensures in
     let less = c.in_ok-same.ensures.one_shorter in
     let less_too = c.in_ok-same.ensures.two_shorter in
-    let shorter : length c.same.new.one < length c.items.one = subst (λ (ts : List Token). length c.same.new.one < length ts) more.1 less in
-    let shorter_too : length c.same.new.two < length c.items.two = subst (λ (ts : List Token). length c.same.new.two < length ts) also.1 less_too in (
+    let shorter : length c.same.new.one < length c.elements.one = subst (λ (ts : List Token). length c.same.new.one < length ts) more.1 less in
+    let shorter_too : length c.same.new.two < length c.elements.two = subst (λ (ts : List Token). length c.same.new.two < length ts) also.1 less_too in (
       i.0 ++ r.0 ∷ [],
-      items_go_on c.args.one_depth c.args.one.now c.items.one c.take_end_array.new.self c.same.new.one i.0 r.0 i.1 more r.1 less,
-      items_go_on c.args.two_depth c.args.two.now c.items.two c.take_end_array-in-items.new.self c.same.new.two i.0 r.0 i.2 also r.2 less_too,
+      items_go_on c.args.one_depth c.args.one.now c.elements.one c.take_end_array.new.self c.same.new.one i.0 r.0 i.1 more r.1 less,
+      items_go_on c.args.two_depth c.args.two.now c.elements.two c.take_end_array-in-elements.new.self c.same.new.two i.0 r.0 i.2 also r.2 less_too,
       omega (arith, i.3),
       omega (arith, i.4),
-      alike_more c.args.one.now c.items.one c.same.new.one c.args.two.now c.items.two c.same.new.two i.5
-          (subst (λ (ts : List Token). AreAlike ts c.same.new.one c.items.two c.same.new.two) more.1
+      alike_more c.args.one.now c.elements.one c.same.new.one c.args.two.now c.elements.two c.same.new.two i.5
+          (subst (λ (ts : List Token). AreAlike ts c.same.new.one c.elements.two c.same.new.two) more.1
           (subst (λ (ts : List Token). AreAlike c.take_end_array.new.self c.same.new.one ts c.same.new.two) also.1 c.in_ok-same.ensures.alike)),
     )
 
-pub same_items-returns-clause-passed : goal.same_items-returns-clause-passed
-same_items-returns-clause-passed t c =
-    let i = c.items.invariant in (
+pub same_elements-returns-clause-passed : goal.same_elements-returns-clause-passed
+same_elements-returns-clause-passed t c =
+    let i = c.elements.invariant in (
       with_items_before i.0 no_items,
-      items_close c.args.one_depth c.args.one.now c.items.one c.take_end_array.new.self i.0 i.1 c.items-test.ensures,
-      items_close c.args.two_depth c.args.two.now c.items.two c.take_end_array-2.new.self i.0 i.2 c.if-not-take_end_array.ensures,
+      items_close c.args.one_depth c.args.one.now c.elements.one c.take_end_array.new.self i.0 i.1 c.elements-test.ensures,
+      items_close c.args.two_depth c.args.two.now c.elements.two c.take_end_array-2.new.self i.0 i.2 c.if-not-take_end_array.ensures,
     )
 
 pub same_members-members-init : goal.same_members-members-init
@@ -90,10 +90,10 @@ same_members-returns-clause-passed t c =
       members_close c.args.two_depth c.args.two.now c.members.two c.next_key-2.new.self i.0 i.2 (no_name c.in_ok-next_key.field-0 c.members.two c.next_key-2.new.self c.is_some.result c.in_ok-next_key.ensures.value c.is_some.ensures c.if-is_some.false),
     )
 
-pub same-returns-in_ok-same_items-in-BeginArray-clause-alike : goal.same-returns-in_ok-same_items-in-BeginArray-clause-alike
-same-returns-in_ok-same_items-in-BeginArray-clause-alike t c =
-    alike_opened Token.begin_array c.args.one.now c.same_token.new.one c.same_items.new.one c.args.two.now c.same_token.new.two c.same_items.new.two
-    (c.in_ok-token.ensures.one ∙ ap (λ k. token_of k ∷ c.same_token.new.one) c.in-BeginArray.is) (c.in_ok-token.ensures.two ∙ ap (λ k. token_of k ∷ c.same_token.new.two) c.in-BeginArray.is) c.in_ok-same_items-in-BeginArray.ensures.alike
+pub same-returns-in_ok-same_elements-in-BeginArray-clause-alike : goal.same-returns-in_ok-same_elements-in-BeginArray-clause-alike
+same-returns-in_ok-same_elements-in-BeginArray-clause-alike t c =
+    alike_opened Token.begin_array c.args.one.now c.same_token.new.one c.same_elements.new.one c.args.two.now c.same_token.new.two c.same_elements.new.two
+    (c.in_ok-token.ensures.one ∙ ap (λ k. token_of k ∷ c.same_token.new.one) c.in-BeginArray.is) (c.in_ok-token.ensures.two ∙ ap (λ k. token_of k ∷ c.same_token.new.two) c.in-BeginArray.is) c.in_ok-same_elements-in-BeginArray.ensures.alike
 
 pub same-returns-in_ok-same_members-in-BeginObject-clause-alike : goal.same-returns-in_ok-same_members-in-BeginObject-clause-alike
 same-returns-in_ok-same_members-in-BeginObject-clause-alike t c =
@@ -103,11 +103,11 @@ same-returns-in_ok-same_members-in-BeginObject-clause-alike t c =
 pub same-returns-then-is_scalar-clause-alike : goal.same-returns-then-is_scalar-clause-alike
 same-returns-then-is_scalar-clause-alike t c = alike_token (token_of c.in_ok-token.token) c.args.one.now c.same_token.new.one c.args.two.now c.same_token.new.two c.in_ok-token.ensures.one c.in_ok-token.ensures.two
 
-pub same_items-returns-clause-alike : goal.same_items-returns-clause-alike
-same_items-returns-clause-alike t c =
-    let i = c.items.invariant in
-    alike_more c.args.one.now c.items.one c.take_end_array.new.self c.args.two.now c.items.two c.take_end_array-2.new.self i.5
-    (alike_items_closed c.items.one c.take_end_array.new.self c.items.two c.take_end_array-2.new.self c.items-test.ensures c.if-not-take_end_array.ensures)
+pub same_elements-returns-clause-alike : goal.same_elements-returns-clause-alike
+same_elements-returns-clause-alike t c =
+    let i = c.elements.invariant in
+    alike_more c.args.one.now c.elements.one c.take_end_array.new.self c.args.two.now c.elements.two c.take_end_array-2.new.self i.5
+    (alike_items_closed c.elements.one c.take_end_array.new.self c.elements.two c.take_end_array-2.new.self c.elements-test.ensures c.if-not-take_end_array.ensures)
 
 pub same_members-returns-clause-alike : goal.same_members-returns-clause-alike
 same_members-returns-clause-alike t c =

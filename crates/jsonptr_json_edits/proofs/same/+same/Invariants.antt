@@ -7,14 +7,14 @@ use Rattle.jsonptr_json_edits.proofs.same.+same.Given as goal
 abbrev pub decreases-same : goal.decreases-same
 decreases-same l = 2 * l.one_depth
 
-abbrev pub decreases-same_items : goal.decreases-same_items
-decreases-same_items l = 2 * l.one_depth + 1
+abbrev pub decreases-same_elements : goal.decreases-same_elements
+decreases-same_elements l = 2 * l.one_depth + 1
 
 abbrev pub decreases-same_members : goal.decreases-same_members
 decreases-same_members l = 2 * l.one_depth + 1
 
-abbrev pub invariant-same_items-items : goal.invariant-same_items-items
-invariant-same_items-items l =
+abbrev pub invariant-same_elements-elements : goal.invariant-same_elements-elements
+invariant-same_elements-elements l =
     (before : List Data)
     × ItemsSoFar l.one_depth l.initial.one l.one before
     × ItemsSoFar l.two_depth l.initial.two l.two before
@@ -22,8 +22,8 @@ invariant-same_items-items l =
     × (length l.two ≤ length l.initial.two)
     × AreAlike l.initial.one l.one l.initial.two l.two
 
-abbrev pub decreases-same_items-items : goal.decreases-same_items-items
-decreases-same_items-items l = length l.one
+abbrev pub decreases-same_elements-elements : goal.decreases-same_elements-elements
+decreases-same_elements-elements l = length l.one
 
 abbrev pub invariant-same_members-members : goal.invariant-same_members-members
 invariant-same_members-members l =

@@ -35,7 +35,7 @@ find-returns-in_ok-found-in-BeginArray-clause-found t c =
     let r = c.in_ok-found-in-BeginArray.ensures.found in
     let split = c.in-Some.ensures.cases in (
       array r.0,
-      reads_array c.args.depth c.args.reader.now c.next.new.self c.find_item.new.reader r.0 (omega arith) (c.in-Some-next.ensures.value ∙ ap (λ k. token_of k ∷ c.next.new.self) c.in-BeginArray.is) r.1,
+      reads_array c.args.depth c.args.reader.now c.next.new.self c.find_element.new.reader r.0 (omega arith) (c.in-Some-next.ensures.value ∙ ap (λ k. token_of k ∷ c.next.new.self) c.in-BeginArray.is) r.1,
       or_child (choices c.args.selectors.now) (choice_of c.in-Some.selector.now) (choices c.in-Some.rest.now) (array r.0) c.in_ok-found-in-BeginArray.found c.or_stopped.result (length c.args.selectors.now) (kind.Array c.in_ok-found-in-BeginArray.len) (ap choices split.0) r.3 c.or_stopped.ensures (ap kind.Array r.2) (sym (choices_len c.args.selectors.now)),
     )
 
@@ -62,30 +62,30 @@ pub find-returns-else-is_scalar-clause-refused : goal.find-returns-else-is_scala
 find-returns-else-is_scalar-clause-refused t c = λ _.
     unreadable_scalar c.args.depth c.args.reader.now c.next.new.self c.in-Some-next.token c.in-Some-next.ensures.value c.in_default-token.not-BeginArray c.in_default-token.not-BeginObject (sym c.is_scalar.ensures ∙ c.if-is_scalar.false)
 
-pub find_item-returns-in_err-found-clause-refused : goal.find_item-returns-in_err-found-clause-refused
-find_item-returns-in_err-found-clause-refused t c = λ e.
-    let i = c.items.invariant in
-    items_stop c.args.depth c.args.reader.now c.items.reader c.take_end_array.new.self i.0 i.1 c.items-test.ensures (c.in_err-found.ensures.refused (grind (arith, e, c.from_residual.ensures)))
+pub find_element-returns-in_err-found-clause-refused : goal.find_element-returns-in_err-found-clause-refused
+find_element-returns-in_err-found-clause-refused t c = λ e.
+    let i = c.elements.invariant in
+    items_stop c.args.depth c.args.reader.now c.elements.reader c.take_end_array.new.self i.0 i.1 c.elements-test.ensures (c.in_err-found.ensures.refused (grind (arith, e, c.from_residual.ensures)))
 
-pub find_item-items-preserved : goal.find_item-items-preserved
-find_item-items-preserved t c =
-    let i = c.items.invariant in
+pub find_element-elements-preserved : goal.find_element-elements-preserved
+find_element-elements-preserved t c =
+    let i = c.elements.invariant in
     let r = c.in_ok-found.ensures.found in
-    let more = c.items-test.ensures in
+    let more = c.elements-test.ensures in
     let shorter = c.in_ok-found.ensures.shorter in
-    let less : length c.visit.new.reader < length c.items.reader = subst (λ (ts : List Token). length c.visit.new.reader < length ts) more.1 shorter in
+    let less : length c.visit.new.reader < length c.elements.reader = subst (λ (ts : List Token). length c.visit.new.reader < length ts) more.1 shorter in
     let wanted : IsTrue c.is_at-wanted.result ↔ (c.args.index ≡ Some (length i.0)) = subst (λ (n : ℕ). IsTrue c.is_at-wanted.result ↔ (c.args.index ≡ Some n)) i.2 c.is_at-wanted.ensures in (
       i.0 ++ r.0 ∷ [],
-      items_go_on c.args.depth c.args.reader.now c.items.reader c.take_end_array.new.self c.visit.new.reader i.0 r.0 i.1 more r.1 shorter,
+      items_go_on c.args.depth c.args.reader.now c.elements.reader c.take_end_array.new.self c.visit.new.reader i.0 r.0 i.1 more r.1 shorter,
       omega (arith, i.2, length-append i.0 (r.0 ∷ [])),
       omega (arith, i.2, i.3, length-append i.0 (r.0 ∷ [])),
-      visited_item c.args.index i.0 r.0 (choices c.args.selectors.now) c.is_at-wanted.result c.items.found c.in_ok-found.found wanted r.2 i.4,
+      visited_item c.args.index i.0 r.0 (choices c.args.selectors.now) c.is_at-wanted.result c.elements.found c.in_ok-found.found wanted r.2 i.4,
     )
 
-pub find_item-returns-clause-found : goal.find_item-returns-clause-found
-find_item-returns-clause-found t c =
-    let i = c.items.invariant in
-    (with_items_before i.0 no_items, items_close c.args.depth c.args.reader.now c.items.reader c.take_end_array.new.self i.0 i.1 c.items-test.ensures, i.2 ∙ sym (len_before i.0), i.4)
+pub find_element-returns-clause-found : goal.find_element-returns-clause-found
+find_element-returns-clause-found t c =
+    let i = c.elements.invariant in
+    (with_items_before i.0 no_items, items_close c.args.depth c.args.reader.now c.elements.reader c.take_end_array.new.self i.0 i.1 c.elements-test.ensures, i.2 ∙ sym (len_before i.0), i.4)
 
 pub find_member-members-init : goal.find_member-members-init
 find_member-members-init t c = (no_members, members_begin c.args.depth c.args.reader.now, omega arith, refl)

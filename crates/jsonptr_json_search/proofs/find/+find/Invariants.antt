@@ -11,22 +11,22 @@ decreases-find l = 3 * l.depth
 abbrev pub decreases-visit : goal.decreases-visit
 decreases-visit l = 3 * l.depth + 1
 
-abbrev pub decreases-find_item : goal.decreases-find_item
-decreases-find_item l = 3 * l.depth + 2
+abbrev pub decreases-find_element : goal.decreases-find_element
+decreases-find_element l = 3 * l.depth + 2
 
 abbrev pub decreases-find_member : goal.decreases-find_member
 decreases-find_member l = 3 * l.depth + 2
 
-abbrev pub invariant-find_item-items : goal.invariant-find_item-items
-invariant-find_item-items l =
+abbrev pub invariant-find_element-elements : goal.invariant-find_element-elements
+invariant-find_element-elements l =
     (before : List Data)
     × ItemsSoFar l.depth l.initial.reader l.reader before
     × (l.len ≡ length before)
     × (length before + length l.reader ≤ length l.initial.reader)
     × IsChildOutcome (element l.index (with_items_before before no_items)) (choices l.selectors) l.found
 
-abbrev pub decreases-find_item-items : goal.decreases-find_item-items
-decreases-find_item-items l = length l.reader
+abbrev pub decreases-find_element-elements : goal.decreases-find_element-elements
+decreases-find_element-elements l = length l.reader
 
 abbrev pub invariant-find_member-members : goal.invariant-find_member-members
 invariant-find_member-members l =

@@ -17,11 +17,11 @@ read-returns-in_default-clause-refused t c = λ _. unreadable_end c.args.depth c
 pub read-returns-then-depth-eq0-clause-refused : goal.read-returns-then-depth-eq0-clause-refused
 read-returns-then-depth-eq0-clause-refused t c = λ _. array_too_deep c.args.depth c.args.reader.now c.next.new.self c.if-depth-eq0.true (c.in-Some.ensures.value ∙ ap (λ k. token_of k ∷ c.next.new.self) c.in-BeginArray.is)
 
-pub read-returns-in_err-items-in-BeginArray-clause-refused :
-    goal.read-returns-in_err-items-in-BeginArray-clause-refused
-read-returns-in_err-items-in-BeginArray-clause-refused t c = λ e.
+pub read-returns-in_err-elements-in-BeginArray-clause-refused :
+    goal.read-returns-in_err-elements-in-BeginArray-clause-refused
+read-returns-in_err-elements-in-BeginArray-clause-refused t c = λ e.
     unreadable_array c.args.depth c.args.reader.now c.next.new.self (omega arith) (c.in-Some.ensures.value ∙ ap (λ k. token_of k ∷ c.next.new.self) c.in-BeginArray.is)
-    (c.in_err-items-in-BeginArray.ensures.refused (grind (arith, e, c.from_residual.ensures)))
+    (c.in_err-elements-in-BeginArray.ensures.refused (grind (arith, e, c.from_residual.ensures)))
 
 pub read-returns-then-depth-eq0-2-clause-refused : goal.read-returns-then-depth-eq0-2-clause-refused
 read-returns-then-depth-eq0-2-clause-refused t c = λ _. object_too_deep c.args.depth c.args.reader.now c.next.new.self c.if-depth-eq0-2.true (c.in-Some.ensures.value ∙ ap (λ k. token_of k ∷ c.next.new.self) c.in-BeginObject.is)
@@ -32,12 +32,12 @@ read-returns-in_err-members-in-BeginObject-clause-refused t c = λ e.
     unreadable_object c.args.depth c.args.reader.now c.next.new.self (omega arith) (c.in-Some.ensures.value ∙ ap (λ k. token_of k ∷ c.next.new.self) c.in-BeginObject.is)
     (c.in_err-members-in-BeginObject.ensures.refused (grind (arith, e, c.from_residual-in_err-members-in-BeginObject.ensures)))
 
-pub read-returns-in_ok-items-in-BeginArray-clause-value :
-    goal.read-returns-in_ok-items-in-BeginArray-clause-value
-read-returns-in_ok-items-in-BeginArray-clause-value t c =
-    let r = c.in_ok-items-in-BeginArray in
-    subst (λ (d : Data). ReadsTokens c.args.depth c.args.reader.now d c.read_items.new.reader) (sym (view-Array r.items))
-    (reads_array c.args.depth c.args.reader.now c.next.new.self c.read_items.new.reader (items_view r.items.items) (omega arith) (c.in-Some.ensures.value ∙ ap (λ k. token_of k ∷ c.next.new.self) c.in-BeginArray.is) r.ensures.value)
+pub read-returns-in_ok-elements-in-BeginArray-clause-value :
+    goal.read-returns-in_ok-elements-in-BeginArray-clause-value
+read-returns-in_ok-elements-in-BeginArray-clause-value t c =
+    let r = c.in_ok-elements-in-BeginArray in
+    subst (λ (d : Data). ReadsTokens c.args.depth c.args.reader.now d c.read_elements.new.reader) (sym (view-Array r.elements))
+    (reads_array c.args.depth c.args.reader.now c.next.new.self c.read_elements.new.reader (items_view r.elements.items) (omega arith) (c.in-Some.ensures.value ∙ ap (λ k. token_of k ∷ c.next.new.self) c.in-BeginArray.is) r.ensures.value)
 
 pub read-returns-in_ok-members-in-BeginObject-clause-value :
     goal.read-returns-in_ok-members-in-BeginObject-clause-value
@@ -58,27 +58,27 @@ read-returns-in_ok-scalar-in_default-token-clause-value t c =
     let r = c.in_ok-scalar-in_default-token in
     scalar_reads c.args.depth c.args.reader.now c.next.new.self c.in-Some.token (view r.scalar) c.in-Some.ensures.value c.in_default-token.not-BeginArray c.in_default-token.not-BeginObject r.ensures.value
 
-pub read_items-returns-in_err-item-clause-refused : goal.read_items-returns-in_err-item-clause-refused
-read_items-returns-in_err-item-clause-refused t c = λ e.
-    items_stop c.args.depth c.args.reader.now c.items.reader c.take_end_array.new.self (map view c.items.found.items) c.items.invariant.0 c.items-test.ensures (c.in_err-item.ensures.refused (grind (arith, e, c.from_residual.ensures)))
+pub read_elements-returns-in_err-element-clause-refused : goal.read_elements-returns-in_err-element-clause-refused
+read_elements-returns-in_err-element-clause-refused t c = λ e.
+    items_stop c.args.depth c.args.reader.now c.elements.reader c.take_end_array.new.self (map view c.elements.found.items) c.elements.invariant.0 c.elements-test.ensures (c.in_err-element.ensures.refused (grind (arith, e, c.from_residual.ensures)))
 
-pub read_items-items-preserved : goal.read_items-items-preserved
-read_items-items-preserved t c =
-    let i = c.items.invariant in
-    let r = c.in_ok-item.ensures in
-    let v = c.in_ok-item.item in
-    let more = c.items-test.ensures in
-    let less : length c.read.new.reader < length c.items.reader = subst (λ (ts : List Token). length c.read.new.reader < length ts) more.1 r.shorter in
-    let longer = map_view-append c.items.found.items c.push.new.self.items v c.in_ok-push.ensures.items in (
+pub read_elements-elements-preserved : goal.read_elements-elements-preserved
+read_elements-elements-preserved t c =
+    let i = c.elements.invariant in
+    let r = c.in_ok-element.ensures in
+    let v = c.in_ok-element.element in
+    let more = c.elements-test.ensures in
+    let less : length c.read.new.reader < length c.elements.reader = subst (λ (ts : List Token). length c.read.new.reader < length ts) more.1 r.shorter in
+    let longer = map_view-append c.elements.found.items c.push.new.self.items v c.in_ok-push.ensures.items in (
       subst (λ (ds : List Data). ItemsSoFar c.args.depth c.args.reader.now c.read.new.reader ds) (sym longer)
-          (items_go_on c.args.depth c.args.reader.now c.items.reader c.take_end_array.new.self c.read.new.reader (map view c.items.found.items) (view v) i.0 more r.value r.shorter),
+          (items_go_on c.args.depth c.args.reader.now c.elements.reader c.take_end_array.new.self c.read.new.reader (map view c.elements.found.items) (view v) i.0 more r.value r.shorter),
       omega (arith, i.1),
     )
 
-pub read_items-returns-clause-value : goal.read_items-returns-clause-value
-read_items-returns-clause-value t c =
-    subst (λ (ds : Items). ReadsItems c.args.depth c.args.reader.now ds c.take_end_array.new.self) (with_items_before-no_items (map view c.items.found.items))
-    (items_close c.args.depth c.args.reader.now c.items.reader c.take_end_array.new.self (map view c.items.found.items) c.items.invariant.0 c.items-test.ensures)
+pub read_elements-returns-clause-value : goal.read_elements-returns-clause-value
+read_elements-returns-clause-value t c =
+    subst (λ (ds : Items). ReadsItems c.args.depth c.args.reader.now ds c.take_end_array.new.self) (with_items_before-no_items (map view c.elements.found.items))
+    (items_close c.args.depth c.args.reader.now c.elements.reader c.take_end_array.new.self (map view c.elements.found.items) c.elements.invariant.0 c.elements-test.ensures)
 
 pub read_members-returns-in_err-name-clause-refused : goal.read_members-returns-in_err-name-clause-refused
 read_members-returns-in_err-name-clause-refused t c = λ _.

@@ -13,10 +13,10 @@ skip-returns-in_default-clause-refused t c = λ _. unreadable_end c.args.depth c
 pub skip-returns-then-depth-eq0-clause-refused : goal.skip-returns-then-depth-eq0-clause-refused
 skip-returns-then-depth-eq0-clause-refused t c = λ _. array_too_deep c.args.depth c.args.reader.now c.next.new.self c.if-depth-eq0.true (c.in-Some.ensures.value ∙ ap (λ k. token_of k ∷ c.next.new.self) c.in-BeginArray.is)
 
-pub skip-returns-in_err-skip_items-in-BeginArray-clause-refused :
-    goal.skip-returns-in_err-skip_items-in-BeginArray-clause-refused
-skip-returns-in_err-skip_items-in-BeginArray-clause-refused t c = λ _.
-    unreadable_array c.args.depth c.args.reader.now c.next.new.self (omega arith) (c.in-Some.ensures.value ∙ ap (λ k. token_of k ∷ c.next.new.self) c.in-BeginArray.is) (c.in_err-skip_items-in-BeginArray.ensures.refused refl)
+pub skip-returns-in_err-skip_elements-in-BeginArray-clause-refused :
+    goal.skip-returns-in_err-skip_elements-in-BeginArray-clause-refused
+skip-returns-in_err-skip_elements-in-BeginArray-clause-refused t c = λ _.
+    unreadable_array c.args.depth c.args.reader.now c.next.new.self (omega arith) (c.in-Some.ensures.value ∙ ap (λ k. token_of k ∷ c.next.new.self) c.in-BeginArray.is) (c.in_err-skip_elements-in-BeginArray.ensures.refused refl)
 
 pub skip-returns-then-depth-eq0-2-clause-refused : goal.skip-returns-then-depth-eq0-2-clause-refused
 skip-returns-then-depth-eq0-2-clause-refused t c = λ _. object_too_deep c.args.depth c.args.reader.now c.next.new.self c.if-depth-eq0-2.true (c.in-Some.ensures.value ∙ ap (λ k. token_of k ∷ c.next.new.self) c.in-BeginObject.is)
@@ -26,11 +26,11 @@ pub skip-returns-in_err-skip_members-in-BeginObject-clause-refused :
 skip-returns-in_err-skip_members-in-BeginObject-clause-refused t c = λ _.
     unreadable_object c.args.depth c.args.reader.now c.next.new.self (omega arith) (c.in-Some.ensures.value ∙ ap (λ k. token_of k ∷ c.next.new.self) c.in-BeginObject.is) (c.in_err-skip_members-in-BeginObject.ensures.refused refl)
 
-pub skip-returns-in_ok-skip_items-in-BeginArray-clause-passed :
-    goal.skip-returns-in_ok-skip_items-in-BeginArray-clause-passed
-skip-returns-in_ok-skip_items-in-BeginArray-clause-passed t c =
-    let r = c.in_ok-skip_items-in-BeginArray.ensures.passed in
-    (array r.0, reads_array c.args.depth c.args.reader.now c.next.new.self c.skip_items.new.reader r.0 (omega arith) (c.in-Some.ensures.value ∙ ap (λ k. token_of k ∷ c.next.new.self) c.in-BeginArray.is) r.1)
+pub skip-returns-in_ok-skip_elements-in-BeginArray-clause-passed :
+    goal.skip-returns-in_ok-skip_elements-in-BeginArray-clause-passed
+skip-returns-in_ok-skip_elements-in-BeginArray-clause-passed t c =
+    let r = c.in_ok-skip_elements-in-BeginArray.ensures.passed in
+    (array r.0, reads_array c.args.depth c.args.reader.now c.next.new.self c.skip_elements.new.reader r.0 (omega arith) (c.in-Some.ensures.value ∙ ap (λ k. token_of k ∷ c.next.new.self) c.in-BeginArray.is) r.1)
 
 pub skip-returns-in_ok-skip_members-in-BeginObject-clause-passed :
     goal.skip-returns-in_ok-skip_members-in-BeginObject-clause-passed
@@ -47,24 +47,24 @@ pub skip-returns-else-is_scalar-clause-refused : goal.skip-returns-else-is_scala
 skip-returns-else-is_scalar-clause-refused t c = λ _.
     unreadable_scalar c.args.depth c.args.reader.now c.next.new.self c.in-Some.token c.in-Some.ensures.value c.in_default-token.not-BeginArray c.in_default-token.not-BeginObject (sym c.is_scalar.ensures ∙ c.if-is_scalar.false)
 
-pub skip_items-items-preserved : goal.skip_items-items-preserved
-skip_items-items-preserved t c =
-    let i = c.items.invariant in
+pub skip_elements-elements-preserved : goal.skip_elements-elements-preserved
+skip_elements-elements-preserved t c =
+    let i = c.elements.invariant in
     let r = c.in_ok-skip.ensures.passed in
-    let more = c.items-test.ensures in
+    let more = c.elements-test.ensures in
     let shorter = c.in_ok-skip.ensures.shorter in
-    let less : length c.skip.new.reader < length c.items.reader = subst (λ (ts : List Token). length c.skip.new.reader < length ts) more.1 shorter in
-    (i.0 ++ r.0 ∷ [], items_go_on c.args.depth c.args.reader.now c.items.reader c.take_end_array.new.self c.skip.new.reader i.0 r.0 i.1 more r.1 shorter, omega (arith, i.2))
+    let less : length c.skip.new.reader < length c.elements.reader = subst (λ (ts : List Token). length c.skip.new.reader < length ts) more.1 shorter in
+    (i.0 ++ r.0 ∷ [], items_go_on c.args.depth c.args.reader.now c.elements.reader c.take_end_array.new.self c.skip.new.reader i.0 r.0 i.1 more r.1 shorter, omega (arith, i.2))
 
-pub skip_items-returns-in_err-skip-clause-refused : goal.skip_items-returns-in_err-skip-clause-refused
-skip_items-returns-in_err-skip-clause-refused t c = λ _.
-    let i = c.items.invariant in
-    items_stop c.args.depth c.args.reader.now c.items.reader c.take_end_array.new.self i.0 i.1 c.items-test.ensures (c.in_err-skip.ensures.refused refl)
+pub skip_elements-returns-in_err-skip-clause-refused : goal.skip_elements-returns-in_err-skip-clause-refused
+skip_elements-returns-in_err-skip-clause-refused t c = λ _.
+    let i = c.elements.invariant in
+    items_stop c.args.depth c.args.reader.now c.elements.reader c.take_end_array.new.self i.0 i.1 c.elements-test.ensures (c.in_err-skip.ensures.refused refl)
 
-pub skip_items-returns-clause-passed : goal.skip_items-returns-clause-passed
-skip_items-returns-clause-passed t c =
-    let i = c.items.invariant in
-    (with_items_before i.0 no_items, items_close c.args.depth c.args.reader.now c.items.reader c.take_end_array.new.self i.0 i.1 c.items-test.ensures)
+pub skip_elements-returns-clause-passed : goal.skip_elements-returns-clause-passed
+skip_elements-returns-clause-passed t c =
+    let i = c.elements.invariant in
+    (with_items_before i.0 no_items, items_close c.args.depth c.args.reader.now c.elements.reader c.take_end_array.new.self i.0 i.1 c.elements-test.ensures)
 
 pub skip_members-members-init : goal.skip_members-members-init
 skip_members-members-init t c = (no_members, members_begin c.args.depth c.args.reader.now, omega arith)

@@ -6,10 +6,10 @@ use Rattle.jsonptr_patch.proofs.ApartnessLemmas.{exact_false, exact_true, one_mo
 use Rattle.jsonptr_patch.proofs.apart.are_apart.Goals as goal
 
 pub returns-then-not-branch : goal.returns-then-not-branch
-returns-then-not-branch c = exact_false _ (fails_left (nodes (view c.args.doc.now)) c.args.left.now (all_pointers c.args.right.now) c.loop-operation.operation-index c.operation-item.result c.in_ok-is_apart_from_each.field-0 c.loop-operation-test.true c.operation-item.is c.in_ok-is_apart_from_each.ensures c.if-not-branch.true)
+returns-then-not-branch c = exact_false _ (fails_left (nodes (view c.args.document.now)) c.args.left.now (all_pointers c.args.right.now) c.loop-operation.operation-index c.operation-item.result c.in_ok-is_apart_from_each.field-0 c.loop-operation-test.true c.operation-item.is c.in_ok-is_apart_from_each.ensures c.if-not-branch.true)
 
 pub loop-operation-preserved : goal.loop-operation-preserved
-loop-operation-preserved c = one_more (λ o. AllDiverge (nodes (view c.args.doc.now)) (pointers o) (all_pointers c.args.right.now)) c.args.left.now c.loop-operation.operation-index c.operation-item.result c.loop-operation-test.true c.operation-item.is (c.in_ok-is_apart_from_each.ensures.0 c.if-not-branch.false) c.loop-operation.invariant
+loop-operation-preserved c = one_more (λ o. AllDiverge (nodes (view c.args.document.now)) (pointers o) (all_pointers c.args.right.now)) c.args.left.now c.loop-operation.operation-index c.operation-item.result c.loop-operation-test.true c.operation-item.is (c.in_ok-is_apart_from_each.ensures.0 c.if-not-branch.false) c.loop-operation.invariant
 
 pub returns : goal.returns
-returns c = exact_true _ (each_left (nodes (view c.args.doc.now)) c.args.left.now (all_pointers c.args.right.now) (λ k x low. c.loop-operation.invariant k x (omega (arith, low, c.loop-operation-test.false))))
+returns c = exact_true _ (each_left (nodes (view c.args.document.now)) c.args.left.now (all_pointers c.args.right.now) (λ k x low. c.loop-operation.invariant k x (omega (arith, low, c.loop-operation-test.false))))

@@ -13,8 +13,8 @@ use Rattle.jsonptr_patch.proofs.inverse.settle_with_back.Goals as goal
 pub returns-then-take_place-clause-apart : goal.returns-then-take_place-clause-apart
 returns-then-take_place-clause-apart c = c.take_place.ensures.apart c.if-take_place.true
 
-pub returns-then-take_place-clause-stands : goal.returns-then-take_place-clause-stands
-returns-then-take_place-clause-stands c = λ n p.
+pub returns-then-take_place-clause-there : goal.returns-then-take_place-clause-there
+returns-then-take_place-clause-there c = λ n p.
     let r = c.take_place.ensures.frees c.if-take_place.true n p in
     (r.0, r.1, freed_stands c.args.document.now r.0 n c.args.operation.now c.take_place.new.later.items r.1 r.2)
 
@@ -24,8 +24,8 @@ returns-then-take_place-clause-back c = λ by n m p a.
     let b = c.in_ok-append_place_back.ensures.back r.0 r.2.tokens r.2.place in
     freed_back by c.args.document.now r.0 n m c.args.operation.now b.0 c.args.inverse.now.items c.append_place_back.new.inverse.items c.take_place.new.later.items r.1 r.2 b.1 b.2 a
 
-pub returns-clause-stands : goal.returns-clause-stands
-returns-clause-stands c = ok_all c.back_of.result _ _
+pub returns-clause-there : goal.returns-clause-there
+returns-clause-there c = ok_all c.back_of.result _ _
     (λ h n p.
     let q = subst (λ (ls : List Later). IsPending (nodes (view c.args.document.now)) ls n) (sym (c.take_place.ensures.unchanged c.if-take_place.false)) p in
     (n, subst (λ (x : Data). IsPending (nodes x) c.make_apart.new.run.later.items n) (sym c.back_of.ensures.unchanged) (c.in_ok-make_apart.ensures.same n q), itself n c.args.operation.now))

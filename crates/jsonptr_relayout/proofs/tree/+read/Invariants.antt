@@ -13,11 +13,11 @@ decreases-read_elements l = 3 * l.depth + 3
 abbrev pub decreases-read_members : goal.decreases-read_members
 decreases-read_members l = 3 * l.depth + 3
 
-abbrev pub invariant-read_elements-items : goal.invariant-read_elements-items
-invariant-read_elements-items l = length l.reader ≤ length l.initial.reader
+abbrev pub invariant-read_elements-elements : goal.invariant-read_elements-elements
+invariant-read_elements-elements l = length l.reader ≤ length l.initial.reader
 
-abbrev pub decreases-read_elements-items : goal.decreases-read_elements-items
-decreases-read_elements-items l = length l.reader
+abbrev pub decreases-read_elements-elements : goal.decreases-read_elements-elements
+decreases-read_elements-elements l = length l.reader
 
 abbrev pub invariant-read_members-members : goal.invariant-read_members-members
 invariant-read_members-members l = length l.reader ≤ length l.initial.reader

@@ -14,11 +14,11 @@ invariant-loop-call g l = record {
   room : length l.yielded + into_iter_len l.call-iterator ≤ vec_capacity l.replies;
   paired : vec_len l.replies ≡ length l.yielded;
   ran : Runs g.D.SessionDocument.blank
-      (record { tokens = g.P.EditPointer.list l.initial.ptr; nodes = g.D.SessionDocument.nodes l.initial.doc })
+      (record { tokens = g.P.EditPointer.list l.initial.pointer; nodes = g.D.SessionDocument.nodes l.initial.document })
       (map (command_of g.D.SessionDocument.nodes) l.yielded) (map (answer_of g.D.SessionDocument.nodes) l.replies.items)
-      (record { tokens = g.P.EditPointer.list l.ptr; nodes = g.D.SessionDocument.nodes l.doc });
+      (record { tokens = g.P.EditPointer.list l.pointer; nodes = g.D.SessionDocument.nodes l.document });
   order : All (CallHas g.D.SessionDocument.has_sorted_keys) l.fn.calls.items
-      → g.D.SessionDocument.has_sorted_keys l.initial.doc → g.D.SessionDocument.has_sorted_keys l.doc;
+      → g.D.SessionDocument.has_sorted_keys l.initial.document → g.D.SessionDocument.has_sorted_keys l.document;
   given_sorted : All (CallHas g.D.SessionDocument.has_sorted_keys) l.fn.calls.items
-      → g.D.SessionDocument.has_sorted_keys l.initial.doc → All (ReplyHas g.D.SessionDocument.has_sorted_keys) l.replies.items;
+      → g.D.SessionDocument.has_sorted_keys l.initial.document → All (ReplyHas g.D.SessionDocument.has_sorted_keys) l.replies.items;
 }

@@ -45,7 +45,7 @@ returns-in-Ok-clause-same c =
 pub returns-in-Ok-clause-no_line : goal.returns-in-Ok-clause-no_line
 returns-in-Ok-clause-no_line c =
     no_line (view c.args.document.now) (string_bytes c.in-Ok.lines) c.as_str.result.now c.build.result
-    (c.round_trip_law.ensures.no_error (view c.args.document.now) (string_bytes c.in-Ok.lines))
+    (c.round_trip_law.ensures.never_refused (view c.args.document.now) (string_bytes c.in-Ok.lines))
     c.as_str.ensures.value
     c.in-Ok.ensures
     c.build.ensures.refused

@@ -19,8 +19,8 @@ returns-clause-others c =
     (λ old assigned. assigned_apart _ _ _ _ _ assigned)
     c.assign_json.ensures.assigned
 
-pub returns-clause-place : goal.returns-clause-place
-returns-clause-place c =
+pub returns-clause-location : goal.returns-clause-location
+returns-clause-location c =
     let n = nodes (view c.args.top.now) in
     let m = nodes (view c.assign_json.new.document) in
     let v = nodes (view c.args.value) in
@@ -36,4 +36,4 @@ pub returns-clause-nothing : goal.returns-clause-nothing
 returns-clause-nothing c =
     IfOk-weaker c.assign_json.result _ _
     (λ _ (at : _) plain. nothing_apart _ _ at.0 _ _ at.1 at.2 plain)
-    (returns-clause-place c)
+    (returns-clause-location c)

@@ -14,7 +14,7 @@ pub returns-in_ok-leaf-in-Leaf-clause-assigned : goal.returns-in_ok-leaf-in-Leaf
 returns-in_ok-leaf-in-Leaf-clause-assigned g c =
     let nodes = g.N.Document.nodes in let n = c.args.node.now in
     leaf_below (nodes n) c.args.stop.now.token (tokens c.args.stop.now.rest) (nodes c.args.value) (g.met.N.Document.has_root n) c.requires c.in-Leaf.ensures.0 (nodes c.replace_leaf.new.node) (nodes c.in_ok-leaf-in-Leaf.leaf) c.in-Leaf.ensures.1
-    c.in_ok-leaf-in-Leaf.ensures.replaced (ap nodes c.in_ok-leaf-in-Leaf.ensures.given_back)
+    c.in_ok-leaf-in-Leaf.ensures.replaced (ap nodes c.in_ok-leaf-in-Leaf.ensures.returned)
 
 pub returns-in_ok-insert_member-in-Object-clause-assigned : goal.returns-in_ok-insert_member-in-Object-clause-assigned
 returns-in_ok-insert_member-in-Object-clause-assigned g c =

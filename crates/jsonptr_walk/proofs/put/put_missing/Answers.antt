@@ -24,9 +24,9 @@ returns-in-Ok-clause-assigned g c =
     c.in-Ok.node.now
     (λ o assigned back. record {
       assigned = assigned_below c.requires front x rest b leads (inner c.args.value) (inner w) _ (option_map inner o) puts assigned;
-      given_back = λ e is. stood (g.D.Descend.finds d) c.in-Ok.node.now e (back e is) (stops c.requires front x rest b leads) (g.met.D.Descend.found_at d front leads.path c.in-Ok.node.now leads.named leads.there);
+      returned = λ e is. stood (g.D.Descend.finds d) c.in-Ok.node.now e (back e is) (stops c.requires front x rest b leads) (g.met.D.Descend.found_at d front leads.path c.in-Ok.node.now leads.named leads.there);
     })
-    c.put_child.ensures.assigned c.put_child.ensures.given_back
+    c.put_child.ensures.assigned c.put_child.ensures.returned
 
 pub returns-in-Ok-clause-refused : goal.returns-in-Ok-clause-refused
 returns-in-Ok-clause-refused g c =

@@ -13,7 +13,7 @@ returns-clause-swapped g c =
     let here : PutsAt (g.D.Document.nodes d) all (inner v) (g.D.Document.nodes (c.descend.follows.lender w)) = subst (λ (m : NodeMap). PutsAt (g.D.Document.nodes d) all m (g.D.Document.nodes (c.descend.follows.lender w))) (ap inner c.swap.ensures.x_after) puts in
     record {
       assigned = assigned_named leads (inner v) _ (inner c.swap.new.y) (ap inner c.swap.ensures.y_after) here;
-      given_back = λ e is.
+      returned = λ e is.
           let same : e ≡ c.swap.new.y = cc in
           stood (g.D.Descend.finds d) c.in_ok-node.node.now e (same ∙ c.swap.ensures.y_after) (stops_named (g.D.Document.nodes d) all leads.path leads.named) (g.met.D.Descend.found_at d all leads.path c.in_ok-node.node.now leads.named leads.there);
     }

@@ -11,7 +11,7 @@ returns-in_ok-child-in-Ok-clause-deleted g c =
     let d = c.args.document.now in let e = c.in-Ok.node.now in let m = c.remove.new.self in let x = c.args.token.now in
     let node = g.met.D.Node.Document in let below = g.D.Node.Document in
     let told = rw c.in-Ok.is at (c.descend.follows.holds m) in
-    let took = takes_out below.nodes below.stands_at e m x c.in_ok-child-in-Ok.child c.remove.result (g.met.D.Node.DocumentMut.is_tree e) c.in_ok-child-in-Ok.ensures.way c.remove.ensures.removed in
+    let took = takes_out below.nodes below.stands_at e m x c.in_ok-child-in-Ok.child c.remove.result (g.met.D.Node.DocumentMut.is_tree e) c.in_ok-child-in-Ok.ensures.child c.remove.ensures.removed in
     below_deleted below.nodes below.stands_at node.has_root node.is_sub e c.in-Ok.ensures.value.0 x m _ _ c.remove.result took (g.met.D.Document.has_root d) (λ stays. g.met.D.Document.is_sub d (c.descend.follows.lender m) [] (told.1 stays)) (told.0 refl)
 
 pub returns-in_ok-child-in-Ok-clause-found : goal.returns-in_ok-child-in-Ok-clause-found
@@ -19,7 +19,7 @@ returns-in_ok-child-in-Ok-clause-found g c =
     let p = c.args.parent in let d = c.args.document.now in let e = c.in-Ok.node.now in let m = c.remove.new.self in let x = c.args.token.now in
     let node = g.met.D.Node.Document in let below = g.D.Node.Document in let leads = c.in-Ok.ensures.value.0 in
     let told = rw c.in-Ok.is at (c.descend.follows.holds m) in
-    let took = takes_out below.nodes below.stands_at e m x c.in_ok-child-in-Ok.child c.remove.result (g.met.D.Node.DocumentMut.is_tree e) c.in_ok-child-in-Ok.ensures.way c.remove.ensures.removed in
+    let took = takes_out below.nodes below.stands_at e m x c.in_ok-child-in-Ok.child c.remove.result (g.met.D.Node.DocumentMut.is_tree e) c.in_ok-child-in-Ok.ensures.child c.remove.ensures.removed in
     below_found below.nodes below.stands_at node.has_root node.is_sub e leads x m c.remove.result _ _ took
     (λ stays. g.met.D.Descend.same_at d (c.descend.follows.lender m) (told.1 stays))
     (λ f s there named. g.met.D.Descend.found_at d (tokens p ++ x ∷ []) (leads.path ++ s ∷ []) f named (g.met.D.Descend.below_at d leads.path s e f leads.there there))

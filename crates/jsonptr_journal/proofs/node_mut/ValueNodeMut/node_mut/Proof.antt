@@ -36,9 +36,9 @@ use Rattle.serde_json.specs.declared.value.Value.{Value}
 use Rattle.jsonptr_walk.specs.contracts.descend.StepResult as L
 use Rattle.jsonptr_walk.proofs.Follows.{follows_self}
 use Rattle.jsonptr_walk.proofs.Outcome.{by_result, and_tt, ok_of, err_of, ok_out, err_out, moved_val, on, off}
-use Rattle.jsonptr_journal.specs.declared.node_mut.NoSuchNode.{NoSuchNode}
-use Rattle.jsonptr_journal.specs.contracts.node_mut.NoSuchNode as FS
-use Rattle.jsonptr_journal.proofs.node_mut.NoSuchNode.TheLaws as error_laws
+use Rattle.jsonptr_journal.specs.declared.node_mut.NodeError.{NodeError}
+use Rattle.jsonptr_journal.specs.contracts.node_mut.NodeError as FS
+use Rattle.jsonptr_journal.proofs.node_mut.NodeError.TheLaws as error_laws
 use Rattle.jsonptr_journal.specs.declared.location.Location.{Location as Guide}
 use Rattle.jsonptr_journal.specs.contracts.location.Location as guide_row
 use Rattle.jsonptr_journal.proofs.location.Location.TheLaws as guide_laws
@@ -158,7 +158,7 @@ module _ {M : Type 1} {𝓤 : Ura M} (𝓛 : Logic 𝓤) (𝓜 : Model 𝓤 𝓛
         fpack ! (Says r) (Follows r) ((F, x.now), (λ w ok. kept_puts all doc.now x.now F i kept none w), tt) $
         move ! (1 ∷ 0 ∷ []) $ by ! (exits r v (kept_leads all doc.now x.now F i kept none, tt, tt))
 
-    failed : (x : MutBor D) (F : D → D) (e : NoSuchNode) (ev : Val) (t : D) → contents_of (F t) ≡ contents_of doc.now → Stopped (Err e)
+    failed : (x : MutBor D) (F : D → D) (e : NodeError) (ev : Val) (t : D) → contents_of (F t) ≡ contents_of doc.now → Stopped (Err e)
         → ent 𝓤 (sep 𝓤 (sem 𝓛 (Why.own_val e (ev ∷ []))) (sep 𝓤 (A.res x.ghost_name (R.coded.code t)) (sep 𝓤 (sem 𝓛 (follows R R doc.ghost_name x.ghost_name F)) Alive))) (Post (live 1 (of_list (ev ∷ []))))
     unfolding such_by follows_by
     failed x F e ev t same stopped =

@@ -8,7 +8,7 @@ returns c =
       some = λ by. patches_some by (law.some by) (law.document by);
       not_both = λ by. patches_refused by (law.one_map by) (law.document by) (law.not_both by);
       one_map = λ by. patches_one by (law.one_map by) (law.document by);
-      one_refusal = λ by. one_refusal by (law.one_map by) (law.document by) (law.not_both by) (law.one_refusal by);
+      one_error = λ by. one_refusal by (law.one_map by) (law.document by) (law.not_both by) (law.one_error by);
       document = λ by. patches_document by (law.one_map by) (law.document by);
-      behind = λ by n m os ps. (patches_behind by n m os ps, λ h. patches_both by n h.0 m os ps h.1 h.2);
+      after = λ by n m os ps. (patches_behind by n m os ps, λ h. patches_both by n h.0 m os ps h.1 h.2);
     }

@@ -9,7 +9,7 @@ returns c =
       some = patches_some Strict law.some law.document;
       not_both = patches_refused Strict law.one_map law.document law.not_both;
       one_map = patches_one Strict law.one_map law.document;
-      one_refusal = one_refusal Strict law.one_map law.document law.not_both law.one_refusal;
+      one_error = one_refusal Strict law.one_map law.document law.not_both law.one_error;
       document = patches_document Strict law.one_map law.document;
-      behind = λ n m os ps. (patches_behind Strict n m os ps, λ h. patches_both Strict n h.0 m os ps h.1 h.2);
+      after = λ n m os ps. (patches_behind Strict n m os ps, λ h. patches_both Strict n h.0 m os ps h.1 h.2);
     }

@@ -7,4 +7,4 @@ use Rattle.jsonptr_session.proofs.UndoLemmas.{restored}
 use Rattle.jsonptr_session.proofs.undo.json.assign_with_undo.Goals as goal
 
 pub returns-clause-restores : goal.returns-clause-restores
-returns-clause-restores c = restored nodes HasSortedKeys nodes_one (Undoes json_map json_blank (json_map c.assign_undoable.new.doc)) (view c.args.doc.now) c.assign_undoable.result c.assign_undoable.ensures.inverse
+returns-clause-restores c = restored nodes HasSortedKeys nodes_one (Undoes json_map json_blank (json_map c.assign_undoable.new.document)) (view c.args.doc.now) c.assign_undoable.result c.assign_undoable.ensures.inverse

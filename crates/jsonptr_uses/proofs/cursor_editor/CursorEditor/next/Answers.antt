@@ -5,8 +5,8 @@ use Rattle.jsonptr.specs.Pointer.{tokens}
 use Rattle.jsonptr_uses.proofs.NextLemmas.{next_named}
 use Rattle.jsonptr_uses.proofs.cursor_editor.CursorEditor.next.Goals as goal
 
-pub returns-in-Some-clause-stands : goal.returns-in-Some-clause-stands
-returns-in-Some-clause-stands c =
+pub returns-in-Some-clause-at_value : goal.returns-in-Some-clause-at_value
+returns-in-Some-clause-at_value c =
     let next = rw c.document.ensures at rw c.in-Some.is at c.in_ok-next.ensures in
     λ _. next_named (nodes (view c.args.self.now.editor.document)) (tokens c.as_ptr.result) c.in-Some.next (c.json_law.ensures.tree (view c.args.self.now.editor.document)) next
 

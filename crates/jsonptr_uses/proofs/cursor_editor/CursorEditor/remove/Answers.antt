@@ -12,8 +12,8 @@ pub returns-in_err-remove-clause-never_refused : goal.returns-in_err-remove-clau
 returns-in_err-remove-clause-never_refused c =
     named_not_refused c.from_residual-in_err-remove.result c.remove.result c.in_err-remove.field-0.0 (nodes (view c.args.self.now.editor.document)) (tokens c.as_ptr-2.result) c.args.self.now.cursor c.as_ptr-2.ensures.tokens c.in_err-remove.was c.remove.ensures.refused c.from_residual-in_err-remove.ensures.1
 
-pub returns-clause-stands : goal.returns-clause-stands
-returns-clause-stands c =
+pub returns-clause-at_value : goal.returns-clause-at_value
+returns-clause-at_value c =
     let n = nodes (view c.args.self.now.editor.document) in
     let m = nodes (view c.remove.new.self.document) in
     let gone = subst (λ (l : List Text). Deletes n l (nodes null) m) c.as_ptr-2.ensures.tokens c.in_ok-remove.ensures.removed in

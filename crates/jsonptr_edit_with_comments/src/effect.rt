@@ -4,10 +4,8 @@
 use jsonptr::Pointer;
 use jsonptr_in_text::selectors::selectors_of;
 use jsonptr_json_edits::buffers::Buffers;
-use jsonptr_json_edits::edit::CheckError;
 use jsonptr_json_edits::layout::slice;
-use jsonptr_json_edits::locate::{Extent, Place, Span, children, locate};
-use jsonptr_json_search::selector::Selector;
+use jsonptr_json_edits::locate::{Extent, Span, children_of, place_of};
 use std::alloc::{AllocError, Global};
 
 /// A text with comments, the same text without them, and that one after an edit.
@@ -43,9 +41,22 @@ pub struct Family {
     pub new: Vec<Extent>,
 }
 
+impl Family {
+    /// Returns the offset after the child before the position, or after the opening bracket.
+    pub fn end_before(&self, position: usize) -> usize {
+        let before = position
+            .checked_sub(1)
+            .and_then(|index| self.old.get(index));
+        match before {
+            Some(child) => child.child.to,
+            None => self.container.from.saturating_add(1),
+        }
+    }
+}
+
 /// What an edit changes.
 #[derive(Debug, Drop)]
-pub enum Site {
+pub enum Effect {
     /// The value at the span is replaced.
     Replaced(Span),
     /// A child is added, which has this position.
@@ -74,21 +85,21 @@ struct Last {
 /// # Errors
 ///
 /// [`AllocError`] if an allocation fails.
-pub fn site_of(
+pub fn effect_of(
     alloc: Global,
     buffers: &mut Buffers,
     texts: Texts<'_>,
     pointer: Pointer<'_>,
-) -> Result<Option<Site>, AllocError> {
+) -> Result<Option<Effect>, AllocError> {
     let mut selectors = selectors_of(alloc, pointer)?;
     let Some(place) = place_of(alloc, buffers, texts.old, &selectors)? else {
         return Ok(None);
     };
     if place.followed < selectors.len() {
-        return site_of_missing(alloc, buffers, texts, place.value);
+        return effect_at_missing(alloc, buffers, texts, place.value);
     }
     let Some(selector) = selectors.pop() else {
-        return Ok(Some(Site::Replaced(place.value)));
+        return Ok(Some(Effect::Replaced(place.value)));
     };
     let last = Last {
         value: place.value,
@@ -97,48 +108,48 @@ pub fn site_of(
         count: place.same.len(),
         key: selector.key,
     };
-    site_of_child(alloc, buffers, texts, last)
+    effect_at_child(alloc, buffers, texts, last)
 }
 
 /// Returns what the edit changes at a pointer that leads no further than to the value at the span.
-fn site_of_missing(
+fn effect_at_missing(
     alloc: Global,
     buffers: &mut Buffers,
     texts: Texts<'_>,
     span: Span,
-) -> Result<Option<Site>, AllocError> {
+) -> Result<Option<Effect>, AllocError> {
     let there = slice(texts.old, span.from, span.to);
     if !there.starts_with('{') && !there.starts_with('[') {
-        return Ok(Some(Site::Replaced(span)));
+        return Ok(Some(Effect::Replaced(span)));
     }
     let Some(family) = family_of(alloc, buffers, texts, span)? else {
         return Ok(None);
     };
     let position = family.old.len();
-    Ok(Some(Site::Added(family, position)))
+    Ok(Some(Effect::Added(family, position)))
 }
 
 /// Returns what the edit changes at a pointer that leads to a child.
-fn site_of_child(
+fn effect_at_child(
     alloc: Global,
     buffers: &mut Buffers,
     texts: Texts<'_>,
     last: Last,
-) -> Result<Option<Site>, AllocError> {
+) -> Result<Option<Effect>, AllocError> {
     let Some(family) = family_of(alloc, buffers, texts, last.container)? else {
         return Ok(None);
     };
     let (old, new) = (family.old.len(), family.new.len());
     if new == old {
-        return Ok(Some(Site::Replaced(last.value)));
+        return Ok(Some(Effect::Replaced(last.value)));
     }
     if new > old {
-        return Ok(Some(Site::Added(family, last.position)));
+        return Ok(Some(Effect::Added(family, last.position)));
     }
     if last.count > 1 {
         return Ok(None);
     }
-    Ok(Some(Site::Removed(family, last.position, last.key)))
+    Ok(Some(Effect::Removed(family, last.position, last.key)))
 }
 
 /// Returns the array or object at the span, which has the edit in it, with its children.
@@ -159,32 +170,4 @@ fn family_of(
         old,
         new,
     }))
-}
-
-/// Returns where the selectors lead in the text, or `None` if the text is not JSON.
-fn place_of(
-    alloc: Global,
-    buffers: &mut Buffers,
-    text: &str,
-    selectors: &[Selector],
-) -> Result<Option<Place>, AllocError> {
-    match locate(alloc, &mut buffers.old, text, selectors) {
-        Ok(place) => Ok(Some(place)),
-        Err(CheckError::Mismatch) => Ok(None),
-        Err(CheckError::Memory) => Err(AllocError),
-    }
-}
-
-/// Returns where the children of the array or object are, or `None` if it is neither.
-fn children_of(
-    alloc: Global,
-    buffers: &mut Buffers,
-    text: &str,
-    container: Span,
-) -> Result<Option<Vec<Extent>>, AllocError> {
-    match children(alloc, &mut buffers.old, text, container) {
-        Ok(extents) => Ok(Some(extents)),
-        Err(CheckError::Mismatch) => Ok(None),
-        Err(CheckError::Memory) => Err(AllocError),
-    }
 }

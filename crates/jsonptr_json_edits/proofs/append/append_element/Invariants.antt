@@ -1,10 +1,10 @@
 use Rattle.std.proofs.Common.{◌≡◌, ◌≤◌, List, length}
 use Rattle.serde_json.specs.Data.{Data}
 use Rattle.jsonptr_json_search.specs.PrivateReading.{ItemsSoFar}
-use Rattle.jsonptr_json_edits.proofs.append.append_item.Given as goal
+use Rattle.jsonptr_json_edits.proofs.append.append_element.Given as goal
 
-abbrev pub invariant-items : goal.invariant-items
-invariant-items l =
+abbrev pub invariant-elements : goal.invariant-elements
+invariant-elements l =
     (before : List Data)
     × ItemsSoFar l.depth l.initial.readers.one l.readers.one before
     × ItemsSoFar l.depth l.initial.readers.two l.readers.two before
@@ -12,5 +12,5 @@ invariant-items l =
     × (length l.readers.one ≤ length l.initial.readers.one)
     × (length l.readers.two ≤ length l.initial.readers.two)
 
-abbrev pub decreases-items : goal.decreases-items
-decreases-items l = length l.readers.one
+abbrev pub decreases-elements : goal.decreases-elements
+decreases-elements l = length l.readers.one

@@ -1,13 +1,15 @@
-//! The values that the command line gives: texts, those of files, and strings.
+//! The values that are arguments: texts, those of files, and strings.
 
 use crate::digits::{check_text, is_lossy};
-use crate::input::{is_standard, name_of, read_all, value_in};
+use crate::input::{is_standard, name_of, read_input, value_in};
 use crate::operands::file_of;
-use crate::program_error::{NOT_JSON, ProgramError, USAGE};
+use crate::program_error::ProgramError;
 use crate::source::past_mark;
 use clap::ArgMatches;
+use jptr_tasks::exit_status::{NOT_JSON, USAGE};
 use jsonptr_edit_in_text::RawValue;
 use jsonptr_in_text::InTextError;
+use jsonptr_value::ReadError;
 use serde_json::Value;
 use simdutf8::basic::from_utf8;
 use std::alloc::Global;
@@ -15,29 +17,29 @@ use std::alloc::Global;
 /// The name of `--default` in errors.
 const DEFAULT: &str = "--default";
 
-/// A value that is given on the command line.
+/// A value that is an argument of the command line.
 #[derive(Drop)]
-pub enum Given<'a> {
+pub enum ValueArgument<'a> {
     /// A string, which is the argument as it is.
     String(&'a str),
     /// A text, after its name in errors: that of the argument, or of the file.
     Text(&'a str, String),
 }
 
-impl<'a> Given<'a> {
+impl<'a> ValueArgument<'a> {
     /// Reads the value: the argument as a string if the flag `--string` is there, after `@` the text of a
     /// file, and else the text of the argument.
     pub fn read(
         rt: &HostRuntime,
         matches: &ArgMatches<'_>,
         argument: &'a str,
-    ) -> Result<Given<'a>, ProgramError> {
+    ) -> Result<ValueArgument<'a>, ProgramError> {
         if matches.get_flag("string") {
-            return Ok(Given::String(argument));
+            return Ok(ValueArgument::String(argument));
         }
         match argument.strip_prefix('@') {
-            Some(file) => Given::read_file(rt, matches, file),
-            None => Ok(Given::Text("JSON", String::from_str(rt.alloc(), argument)?)),
+            Some(file) => ValueArgument::read_file(rt, matches, file),
+            None => Ok(ValueArgument::Text("JSON", String::from_str(rt.alloc(), argument)?)),
         }
     }
 
@@ -46,28 +48,28 @@ impl<'a> Given<'a> {
         rt: &HostRuntime,
         matches: &ArgMatches<'_>,
         file: &'a str,
-    ) -> Result<Given<'a>, ProgramError> {
+    ) -> Result<ValueArgument<'a>, ProgramError> {
         let alloc = rt.alloc();
         if is_standard(Some(file)) && is_standard(file_of(matches)) {
             let message = "standard input cannot be the value and the document";
             return Err(ProgramError::new(alloc, USAGE, "JSON", message));
         }
         let name = name_of(Some(file));
-        let bytes = read_all(rt, Some(file))?;
+        let bytes = read_input(rt, Some(file))?;
         match from_utf8(&bytes) {
-            Ok(text) => Ok(Given::Text(name, String::from_str(alloc, past_mark(text))?)),
-            Err(_) => Err(ProgramError::new(alloc, NOT_JSON, name, "not UTF-8")),
+            Ok(text) => Ok(ValueArgument::Text(name, String::from_str(alloc, past_mark(text))?)),
+            Err(_) => Err(ProgramError::new(alloc, NOT_JSON, name, "text is not UTF-8")),
         }
     }
 
     /// Returns it as a JSON value.
     pub fn json(self, alloc: Global) -> Result<Value, ProgramError> {
         match self {
-            Given::String(text) => Ok(Value::String(String::from_str(alloc, text)?)),
-            Given::Text(name, text) => match Value::from_str(alloc, text.as_str()) {
+            ValueArgument::String(text) => Ok(Value::String(String::from_str(alloc, text)?)),
+            ValueArgument::Text(name, text) => match jsonptr_value::read(alloc, text.as_str()) {
                 Ok(value) => Ok(value),
-                Err(error) if error.is_memory() => Err(ProgramError::Memory),
-                Err(_) => Err(ProgramError::of_value(alloc, name, text.as_str())),
+                Err(ReadError::Memory) => Err(ProgramError::Memory),
+                Err(ReadError::NotJson) => Err(ProgramError::of_value(alloc, name, text.as_str())),
             },
         }
     }
@@ -75,8 +77,8 @@ impl<'a> Given<'a> {
     /// Returns it as a JSON value with its text.
     pub fn raw(self, alloc: Global) -> Result<RawValue, ProgramError> {
         match self {
-            Given::String(text) => string_value(alloc, text),
-            Given::Text(name, text) => match RawValue::parse(alloc, text.as_str()) {
+            ValueArgument::String(text) => string_value(alloc, text),
+            ValueArgument::Text(name, text) => match RawValue::parse(alloc, text.as_str()) {
                 Ok(value) => Ok(value),
                 Err(InTextError::Memory(_)) => Err(ProgramError::Memory),
                 Err(_) => Err(ProgramError::of_value(alloc, name, text.as_str())),
@@ -91,8 +93,8 @@ impl<'a> Given<'a> {
         matches: &ArgMatches<'_>,
     ) -> Result<toml::Value, ProgramError> {
         match self {
-            Given::String(text) => Ok(toml::Value::String(String::from_str(alloc, text)?)),
-            Given::Text(name, text) => toml_value(alloc, matches, name, text.as_str()),
+            ValueArgument::String(text) => Ok(toml::Value::String(String::from_str(alloc, text)?)),
+            ValueArgument::Text(name, text) => toml_value(alloc, matches, name, text.as_str()),
         }
     }
 }

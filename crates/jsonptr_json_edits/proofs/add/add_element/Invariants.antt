@@ -2,10 +2,10 @@ use Rattle.std.proofs.Common.{◌≡◌, ◌≤◌, List, length}
 use Rattle.serde_json.specs.Data.{Data}
 use Rattle.jsonptr_json_search.specs.PrivateReading.{ItemsSoFar}
 use Rattle.jsonptr_json_edits.specs.PrivateEditing.{ItemsAdded}
-use Rattle.jsonptr_json_edits.proofs.add.add_item.Given as goal
+use Rattle.jsonptr_json_edits.proofs.add.add_element.Given as goal
 
-abbrev pub invariant-items : goal.invariant-items
-invariant-items l =
+abbrev pub invariant-elements : goal.invariant-elements
+invariant-elements l =
     (ds ds2 : List Data)
     × ItemsSoFar l.depth l.initial.readers.one l.readers.one ds
     × ItemsSoFar l.depth l.initial.readers.two l.readers.two ds2
@@ -14,5 +14,5 @@ invariant-items l =
     × (length l.readers.one ≤ length l.initial.readers.one)
     × (length l.readers.two ≤ length l.initial.readers.two)
 
-abbrev pub decreases-items : goal.decreases-items
-decreases-items l = length l.readers.two
+abbrev pub decreases-elements : goal.decreases-elements
+decreases-elements l = length l.readers.two

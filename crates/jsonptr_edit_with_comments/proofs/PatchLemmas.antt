@@ -1,0 +1,54 @@
+-- What is known of a text with comments after a patch.
+use Rattle.std.proofs.Common.{◌≡◌, List, [], ◌∷◌, ◌++◌, Option, Some, None, String, Result, Ok, Err, IfOk, IfSome, string_bytes, refl, ap, ◌∙◌, subst}
+use Rattle.std.specs.declared.alloc.AllocError.{AllocError}
+use Rattle.std.specs.declared.alloc.Global.{Global}
+use Rattle.jsonptr.specs.Text.{Text}
+use Rattle.jsonptr_comments.specs.Comments.{IsWithoutComments}
+use Rattle.jsonptr_patch.specs.declared.operation.Operation.{Operation}
+use Rattle.jsonptr_patch.specs.declared.operation.PatchError.{PatchError}
+use Rattle.jsonptr_edit_in_text.specs.PatchInText.{PatchesInText, PatchBytes}
+use Rattle.jsonptr_edit_in_text.specs.RawPatching.{operations_in, RawPatchBytes}
+use Rattle.jsonptr_edit_in_text.specs.declared.raw_operation.RawOperation.{RawOperation}
+use Rattle.jsonptr_edit_with_comments.specs.Edits.{IsLaidOut, IsOneEdit}
+use Rattle.jsonptr_edit_with_comments.specs.EditWithComments.{Becomes, EditsAs}
+use Rattle.jsonptr_edit_with_comments.specs.Patches.{OperationEdits, PatchEdits, IsMadeInTwo}
+use Rattle.jsonptr_edit_with_comments.specs.declared.error.WithCommentsError.{WithCommentsError}
+use Rattle.jsonptr_edit_with_comments.proofs.EditLemmas.{read_same}
+
+abbrev pub Made : Type 0
+Made = Result (Option (String Global)) AllocError
+
+pub operations_push : (rs : List RawOperation) (r : RawOperation) → operations_in (rs ++ r ∷ []) ≡ operations_in rs ++ r.operation ∷ []
+operations_push [] r = refl
+operations_push (q ∷ rs) r = ap (λ (os : List Operation). q.operation ∷ os) (operations_push rs r)
+
+-- one operation more
+pub edits_push : (old mid new : Text) (os : List Operation) (o : Operation) → PatchEdits old os mid → OperationEdits mid o new → PatchEdits old (os ++ o ∷ []) new
+edits_push old mid new [] o h last = (new, subst (λ (t : Text). OperationEdits t o new) h last, refl)
+edits_push old mid new (q ∷ os) o h last = (h.0, h.1, edits_push h.0 mid new os o h.2 last)
+
+-- the text that is made means what the text without comments does
+pub patched : (text old new : Text) (os : List Operation) (r : Made) → IsWithoutComments text old → PatchesInText old os new → IfOk r (λ m. IfSome m (λ s. IsLaidOut new (string_bytes s)))
+    → IfOk r (λ m. IfSome m (λ s. Becomes (λ a b. PatchesInText a os b) text (string_bytes s)))
+patched text old new os (Err e) w a h = h
+patched text old new os (Ok None) w a h = h
+patched text old new os (Ok (Some s)) w a h = (old, h.0, w, h.1, (a.0, a.1, a.2, read_same h.0 new h.2 ∙ a.3, a.4))
+
+pub edited_as : (P : Text → Text → Type 0) (text old new : Text) (r : Made) → IsWithoutComments text old → P old new → IfOk r (λ m. IfSome m (λ s. IsLaidOut new (string_bytes s)))
+    → IfOk r (λ m. IfSome m (λ s. EditsAs P text (string_bytes s)))
+edited_as P text old new (Err e) w p h = h
+edited_as P text old new (Ok None) w p h = h
+edited_as P text old new (Ok (Some s)) w p h = (old, new, w, h, p)
+
+-- the texts of values left aside
+pub plain_edits : ((old new : Text) (rs : List RawOperation) → RawPatchBytes old rs new → PatchBytes old (operations_in rs) new)
+    → (r : Result (String Global) (WithCommentsError PatchError)) (text : Text) (rs : List RawOperation) (os : List Operation) → operations_in rs ≡ os
+    → IfOk r (λ s. EditsAs (λ old new. RawPatchBytes old rs new) text (string_bytes s))
+    → IfOk r (λ s. EditsAs (λ old new. PatchBytes old os new) text (string_bytes s))
+plain_edits law (Err e) text rs os same h = h
+plain_edits law (Ok s) text rs os same h = (h.0, h.1, h.2, h.3, subst (λ (l : List Operation). PatchBytes h.0 l h.1) same (law h.0 h.1 rs h.4))
+
+pub made_in_two : (text left : Text) (r : Made) → IsOneEdit text left → IfOk r (λ m. IfSome m (λ s. IsOneEdit left (string_bytes s))) → IfOk r (λ m. IfSome m (λ s. IsMadeInTwo text (string_bytes s)))
+made_in_two text left (Err e) cut h = h
+made_in_two text left (Ok None) cut h = h
+made_in_two text left (Ok (Some s)) cut h = (left, cut, h)

@@ -1,0 +1,225 @@
+//! Applying a patch in a text with comments (RFC 6902).
+ghost use Rattle.std.specs.Prelude.{IfOk, IfErr, IfSome, string_bytes};
+ghost use Rattle.jsonptr_edit_in_text.specs.PatchInText.{PatchesInText, PatchBytes, IsPatchFault};
+ghost use Rattle.jsonptr_edit_in_text.specs.RawPatching.{operations_in, RawPatchBytes};
+ghost use Rattle.jsonptr_edit_with_comments.specs.EditWithComments.{Becomes, EditsAs, IsWithCommentsError};
+ghost use Rattle.jsonptr_edit_with_comments.specs.Edits.{IsLaidOut};
+ghost use Rattle.jsonptr_edit_with_comments.specs.Patches.{PatchEdits};
+
+use crate::effect::Texts;
+use crate::error::{WithCommentsError, failed, read_past};
+use crate::operate::{bare, operate};
+use crate::same::is_laid_out;
+use jsonptr_edit_in_text::laws::raw_patch_law;
+use jsonptr_edit_in_text::{RawOperation, apply_raw_in_place, try_apply_raw, without_texts};
+use jsonptr_json_edits::buffers::Buffers;
+use jsonptr_patch::{Operation, PatchError};
+use std::alloc::{AllocError, Global};
+
+/// Applies the operations of a patch in order to the document that the text with comments contains, all
+/// of them or none, as [`apply_in_place`](jsonptr_edit_in_text::apply_in_place) does in a text without
+/// comments (RFC 6902, section 5).
+///
+/// | Operation | Comments |
+/// |---|---|
+/// | `add`, `replace`, `copy` | as for [`assign_with_comments`](crate::assign_with_comments); a copy has none, and is on one line if they are left out |
+/// | `remove` | as for [`delete_with_comments`](crate::delete_with_comments) |
+/// | `move` | all stay: a value with a comment in it, or beside it on its line, is not moved |
+/// | `test` | all stay |
+///
+/// Each operation reads the text some six times.
+///
+/// # Errors
+///
+/// - [`WithCommentsError::Comment`] if a block comment is not closed.
+/// - [`WithCommentsError::Failed`] with the error of the patch of the text without comments.
+/// - [`WithCommentsError::NotInPlace`] if the patch is possible, but one of its operations is not made in
+///   the text with comments.
+/// - [`WithCommentsError::Memory`] if an allocation fails before or after that patch.
+///
+/// # Examples
+///
+/// ```rust
+/// let text = "{\n  \"size\": 3, // px\n  \"old\": true\n}\n";
+/// let path = PointerBuf::from_text(alloc, "/size")?;
+/// let replace = Operation::Replace { path, value: Value::from(4) };
+/// let remove = Operation::Remove { path: PointerBuf::from_text(alloc, "/old")? };
+/// let patch = vec![in alloc; replace, remove]?;
+/// let mut buffers = Buffers::new(alloc);
+/// let new = apply_with_comments(alloc, &mut buffers, text, patch)?;
+/// assert_eq!(rt; new.as_str(), "{\n  \"size\": 4 // px\n}\n");
+/// ```
+pub fn apply_with_comments(
+    alloc: Global,
+    buffers: &mut Buffers,
+    text: &str,
+    operations: Vec<Operation>,
+) -> Result<String, WithCommentsError<PatchError>>
+    ensures applied { IfOk result (λ s. Becomes
+        (λ old new. PatchesInText old operations.items new) text.now (string_bytes s)) }
+    ensures edits { IfOk result (λ s. EditsAs
+        (λ old new. PatchBytes old operations.items new) text.now (string_bytes s)) }
+    ensures bytes { IfOk result (λ s. PatchEdits text.now operations.items (string_bytes s)) }
+    ensures refused { IfErr result (IsWithCommentsError
+        (λ old new. PatchesInText old operations.items new)
+        (λ old e. IsPatchFault old operations.items e) text.now) }
+{
+    raw_patch_law();
+    let raws = without_texts(alloc, operations)?;
+    apply_raw_with_comments(alloc, buffers, text, raws)
+}
+
+/// Applies the operations of a patch in order, as [`apply_with_comments`] does, each with the text of its
+/// value.
+///
+/// # Errors
+///
+/// Those of [`apply_with_comments`].
+///
+/// # Examples
+///
+/// ```rust
+/// let path = PointerBuf::from_text(alloc, "/price")?;
+/// let add = Operation::Add { path, value: json!(in alloc; 1.1)? };
+/// let own = RawValue::parse(alloc, "1.10")?;
+/// let mut patch = Vec::new(alloc);
+/// if let Some(price) = RawOperation::with_text(alloc, add, own)? {
+///     patch.push(price)?;
+/// }
+/// let mut buffers = Buffers::new(alloc);
+/// let new = apply_raw_with_comments(alloc, &mut buffers, "{\"price\": 1, /* EUR */}", patch)?;
+/// assert_eq!(rt; new.as_str(), "{\"price\": 1.10, /* EUR */}");
+/// ```
+pub fn apply_raw_with_comments(
+    alloc: Global,
+    buffers: &mut Buffers,
+    text: &str,
+    operations: Vec<RawOperation>,
+) -> Result<String, WithCommentsError<PatchError>>
+    ensures applied { IfOk result (λ s. Becomes
+        (λ old new. PatchesInText old (operations_in operations.items) new) text.now (string_bytes s)) }
+    ensures edits { IfOk result (λ s. EditsAs
+        (λ old new. RawPatchBytes old operations.items new) text.now (string_bytes s)) }
+    ensures bytes { IfOk result (λ s.
+        PatchEdits text.now (operations_in operations.items) (string_bytes s)) }
+    ensures refused { IfErr result (IsWithCommentsError
+        (λ old new. PatchesInText old (operations_in operations.items) new)
+        (λ old e. IsPatchFault old (operations_in operations.items) e) text.now) }
+{
+    if let Some(new) = try_apply_raw_with_comments(alloc, buffers, text, operations.as_slice())? {
+        return Ok(new);
+    }
+    Err(patch_error(alloc, buffers, text, operations))
+}
+
+/// Returns why the operations are not applied to the text with comments.
+fn patch_error(
+    alloc: Global,
+    buffers: &mut Buffers,
+    text: &str,
+    operations: Vec<RawOperation>,
+) -> WithCommentsError<PatchError>
+    ensures { IsWithCommentsError
+        (λ old new. PatchesInText old (operations_in operations.items) new)
+        (λ old e. IsPatchFault old (operations_in operations.items) e) text.now result }
+{
+    match read_past(alloc, text) {
+        Ok(bare) => match apply_raw_in_place(alloc, buffers, bare.as_str(), operations) {
+            Ok(_new) => WithCommentsError::NotInPlace,
+            Err(error) => failed(error),
+        },
+        Err(error) => error,
+    }
+}
+
+/// Applies the operations in order, as [`apply_raw_with_comments`] does. Returns `None` for each of its
+/// errors. So one list of operations serves many texts.
+///
+/// # Errors
+///
+/// [`AllocError`] if an allocation fails.
+///
+/// # Examples
+///
+/// ```rust
+/// let remove = Operation::Remove { path: PointerBuf::from_text(alloc, "/a")? };
+/// let patch = vec![in alloc; RawOperation::new(remove)]?;
+/// let mut buffers = Buffers::new(alloc);
+/// let new = try_apply_raw_with_comments(alloc, &mut buffers, "{\"a\": 1, /* b */ \"b\": 2}", &patch)?;
+/// assert_eq!(rt; new.ok_or("a text")?.as_str(), "{/* b */ \"b\": 2}");
+/// assert!(rt; try_apply_raw_with_comments(alloc, &mut buffers, "{} // none", &patch)?.is_none());
+/// ```
+pub fn try_apply_raw_with_comments(
+    alloc: Global,
+    buffers: &mut Buffers,
+    text: &str,
+    operations: &[RawOperation],
+) -> Result<Option<String>, AllocError>
+    ensures applied { IfOk result (λ made. IfSome made (λ s. Becomes
+        (λ old new. PatchesInText old (operations_in operations.now) new) text.now (string_bytes s))) }
+    ensures edits { IfOk result (λ made. IfSome made (λ s. EditsAs
+        (λ old new. RawPatchBytes old operations.now new) text.now (string_bytes s))) }
+    ensures bytes { IfOk result (λ made. IfSome made
+        (λ s. PatchEdits text.now (operations_in operations.now) (string_bytes s))) }
+{
+    let Some(bare) = bare(alloc, text)? else {
+        return Ok(None);
+    };
+    let old = bare.as_str();
+    let Some(new) = try_apply_raw(alloc, buffers, old, operations)? else {
+        return Ok(None);
+    };
+    let texts = Texts {
+        text,
+        old,
+        new: new.as_str(),
+    };
+    edit_in_turn(alloc, buffers, texts, operations)
+}
+
+/// Makes the edits of the operations, one after the other. Returns `None` if one is not made, or if the
+/// text then has not the tokens that it is to have.
+///
+/// # Errors
+///
+/// [`AllocError`] if an allocation fails.
+fn edit_in_turn(
+    alloc: Global,
+    buffers: &mut Buffers,
+    texts: Texts<'_>,
+    operations: &[RawOperation],
+) -> Result<Option<String>, AllocError>
+    ensures laid_out { IfOk result
+        (λ made. IfSome made (λ s. IsLaidOut texts.entry.new.now (string_bytes s))) }
+    ensures bytes { IfOk result (λ made. IfSome made
+        (λ s. PatchEdits texts.entry.text.now (operations_in operations.now) (string_bytes s))) }
+{
+    let Some(made) = all_edits(alloc, buffers, texts.text, operations)? else {
+        return Ok(None);
+    };
+    if is_laid_out(alloc, buffers, texts.new, made.as_str())? {
+        Ok(Some(made))
+    } else {
+        Ok(None)
+    }
+}
+
+/// Makes the edits of the operations, one after the other. Returns `None` if one is not made.
+fn all_edits(
+    alloc: Global,
+    buffers: &mut Buffers,
+    text: &str,
+    operations: &[RawOperation],
+) -> Result<Option<String>, AllocError>
+    ensures { IfOk result (λ made. IfSome made
+        (λ s. PatchEdits text.now (operations_in operations.now) (string_bytes s))) }
+{
+    let mut current = String::from_str(alloc, text)?;
+    'operations: for operation in operations {
+        let Some(next) = operate(alloc, buffers, current, operation)? else {
+            return Ok(None);
+        };
+        current = next;
+    }
+    Ok(Some(current))
+}
