@@ -601,7 +601,7 @@ def edits_in_toml():
     for pointer, new in deleted:
         yield edited("delete in toml", text, pointer, answer=f"in place {new}")
     yield edited("delete in toml", "[a.b]\nc = 1\n", "/a/b", answer="in place [a]\n")
-    yield edited("delete in toml", text, "/x", answer="delete failed: json pointer does not resolve")
+    yield edited("delete in toml", text, "/x", answer="none")
     for call in ("assign in toml", "delete in toml"):
         yield edited(call, "a = ", "/a", "1", answer="text is not TOML")
         deep = "a = " + "[" * 80 + "]" * 80 + "\nb = 1\n"

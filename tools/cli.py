@@ -143,7 +143,7 @@ def operations():
 
 
 COMMENTED = '{\n  // first\n  "a": 1.0, // one\n  "b": [1, /* x */ 2],\n}\n'
-NOT_BESIDE_COMMENTS = "jptr: standard input: the edit cannot be made in the text with its comments\n"
+LOSES_COMMENT = "jptr: standard input: the edit would lose the comment at line {} column {}\n".format
 LOSES_COMMENTS = "jptr: standard input: the document has comments or trailing commas, which another layout would lose\n"
 
 
@@ -160,8 +160,13 @@ def commented():
     yield Case(("insert", "--comments", "/b/0", "0"), COMMENTED, COMMENTED.replace("[1", "[0, 1"))
     yield Case(("copy", "--comments", "/a", "/c"), COMMENTED, COMMENTED.replace("2],\n", '2],\n  "c": 1.0,\n'))
     yield Case(("move", "--comments", "/b/0", "/c"), COMMENTED, COMMENTED.replace("1, /* x */ 2],\n", '/* x */ 2],\n  "c": 1,\n'))
-    yield Case(("move", "--comments", "/a", "/c"), COMMENTED, "", NOT_BESIDE_COMMENTS, 1)
-    yield Case(("rename", "--comments", "/a", "c"), COMMENTED, "", NOT_BESIDE_COMMENTS, 1)
+    for words in [("move", "/a", "/c"), ("rename", "/a", "c")]:
+        yield Case((*words, "--comments"), COMMENTED, "", LOSES_COMMENT(3, 13), 1)
+        error = LOSES_COMMENT(3, 13).replace("\n", "; --reformat does not apply to a document with comments\n")
+        yield Case((*words, "--comments", "--reformat"), COMMENTED, "", error, 1)
+    yield Case(("move", "--comments", "/b", "/c"), COMMENTED, "", LOSES_COMMENT(4, 12), 1)
+    yield Case(("move", "--comments", "/0", "/1"), "[1, // é\n2 /* é\n*/, 3]", "", LOSES_COMMENT(1, 5), 1)
+    yield Case(("move", "--comments", "/1", "/0"), "[1, // é\n2 /* é\n*/, 3]", "", LOSES_COMMENT(2, 3), 1)
     yield Case(("rename", "--comments", "/a", "c"), COMMENTED.replace(" // one", ""), '{\n  // first\n  "b": [1, /* x */ 2],\n  "c": 1.0,\n}\n')
     yield Case(("insert", "--comments", "/b/3", "0"), COMMENTED, "", f"jptr: standard input: {ASSIGN_OUT_OF_BOUNDS.format(2)}\n/b/3\n   ^ 3 is out of bounds (len: 2)\n", 1)
     yield Case(("keys", "--comments", ""), COMMENTED, '"a"\n"b"\n')
@@ -171,7 +176,9 @@ def commented():
     yield Case(("locate", "--comments", "/b/1"), COMMENTED, "4:20\n")
     yield Case(("locate", "--comments", "--at", "4:20"), COMMENTED, "/b/1\n")
     yield Case(("set", "--comments", "--compact", "/a", "2"), COMMENTED, "", LOSES_COMMENTS, 1)
+    yield Case(("set", "--comments", "--compact", "/a", "2", "/b", "3", "-"), COMMENTED, "", LOSES_COMMENTS, 1)
     yield Case(("set", "--comments", "--compact", "/a", "2"), '{"a": 1}', '{"a":2}\n')
+    yield Case(("set", "--comments", "--reformat", "/a", "2.50"), COMMENTED, COMMENTED.replace("1.0", "2.50"))
     yield Case(("format", "--comments"), COMMENTED, "", LOSES_COMMENTS, 1)
     yield Case(("format", "--comments"), "[1]", "[\n  1\n]\n")
     missing = f"jptr: standard input: {NOT_FOUND}\n/c\n ^ not found in value\n"
@@ -441,8 +448,6 @@ def on_paths():
     yield Case(("from-paths",), "/a\tx\n", "", "jptr: standard input: line 1: not JSON after the tab\n", 3)
     yield Case(("from-paths",), "/x" * 127 + "\t1\n", '{"x":' * 127 + "1" + "}" * 127 + "\n")
     yield Case(("from-paths",), "/x" * 128 + "\t1\n", "", "jptr: standard input: line 1: document would nest deeper than 127\n", 1)
-    message = "assign failed: json pointer token at offset 0 is out of bounds"
-    yield Case(("from-paths",), "\t[]\n/1\t1\n", "", f"jptr: standard input: line 2: {message}\n", 1)
     yield from gaps()
     yield Case(("paths",), "{", "", f"jptr: standard input: {OPEN}", 3)
     table = "[a]\nat = 1979-05-27\nb = [1.0, 'x\"y']\n[c]\ns = \"1\\n2\"\n"
@@ -492,9 +497,16 @@ def gaps():
     yield Case(("from-paths", "--fill"), "", "null\n")
     yield Case(("from-paths", "--fill"), "/a/1\t1\n/a/4/2\t2\n/b\t3\n", '{"a":[null,1,null,null,[null,null,2]],"b":3}\n')
     yield Case(("from-paths",), "/b\t0\n/a/0/1\t1\n", "", gap(2, 1, " at /a/0"), 1)
-    message = "assign failed: json pointer token at offset 2 is out of bounds"
-    yield Case(("from-paths",), "/a/0\t1\n/a/2\t2\n", "", f"jptr: standard input: line 2: {message}\n", 1)
+    missing = "jptr: standard input: line {}: index {} is missing; with --fill, missing elements are null\n".format
+    yield Case(("from-paths",), "\t[]\n/1\t1\n", "", missing(2, 0), 1)
+    yield Case(("from-paths",), "/0\t1\n/2\t1\n", "", missing(2, 1), 1)
+    yield Case(("from-paths",), "/a/0\t1\n/a/2\t2\n", "", missing(2, "1 of /a"), 1)
+    yield Case(("from-paths",), "/a/0\t1\n/a/1/0\t2\n/a/1/3/b\t2\n", "", missing(3, "1 of /a/1"), 1)
     yield Case(("from-paths", "--fill"), "/a/0\t1\n/a/2\t2\n", '{"a":[1,null,2]}\n')
+    # No `null` is added for an element that is not after the line before it.
+    message = "assign failed: json pointer token at offset 2 is out of bounds"
+    for flags in [(), ("--fill",)]:
+        yield Case(("from-paths", *flags), "/a/0\t1\n/b\t1\n/a/2\t2\n", "", f"jptr: standard input: line 3: {message}\n", 1)
     yield Case(("from-paths",), "/a/x\t1\n/a/1\t2\n/b\t3\n/a/2\t4\n", '{"a":{"1":2,"2":4,"x":1},"b":3}\n')
     yield Case(("from-paths",), '/a\t{"b":{}}\n/c\t1\n/a/b/1\t2\n', '{"a":{"b":{"1":2}},"c":1}\n')
     yield Case(("from-paths",), "/a/01\t1\n", '{"a":{"01":1}}\n')
@@ -728,6 +740,35 @@ def check_files(folder):
                 raise CheckFailed(f"{words}: status {given.returncode}, {given.stderr!r}")
             runs += 1
     return runs
+
+
+def check_missing_value(folder):
+    """Checks the error of a file where a value is wanted, and returns the number of runs."""
+    message = "jptr: JSON: {} is a file, not JSON: the value is missing, or a string lacks quotes or --string\n".format
+    word = "jptr: JSON: text is not JSON: expected a value, found `{0}` at line 1 column 1; a string needs quotes, or --string\n{1}\n^\n".format
+    for name in ["app.json", "1", "é\n"]:
+        write(f"{folder}/{name}", '{"a": 2}')
+    os.mkdir(f"{folder}/sub")
+    cases = [
+        Case(("set", "/a", "app.json"), TEXT, "", message("app.json"), 2),
+        Case(("set", "/a", "./app.json", "-i"), TEXT, "", "", 2),
+        Case(("set", "/a", f"{folder}/app.json"), TEXT, "", message(f"{folder}/app.json"), 2),
+        Case(("set", "/a", "é\n"), TEXT, "", message("é\\n"), 2),
+        Case(("insert", "/a", "app.json"), TEXT, "", message("app.json"), 2),
+        Case(("set", "--lines", "/a", "app.json"), TEXT, "", message("app.json"), 2),
+        Case(("set", "/a", "1", "/b", "app.json"), TEXT, "", message("app.json"), 2),
+        Case(("set", "/a", "app.json", "1"), TEXT, "", word("a", "app.json"), 3),
+        Case(("set", "/a", "sub"), TEXT, "", word("s", "sub"), 3),
+        Case(("set", "/a", "1"), "{}", '{"a":1}'),
+        Case(("set", "/a", "--string", "app.json"), "{}", '{"a":"app.json"}'),
+        Case(("test", "/a", "app.json"), "{}", ""),
+    ]
+    for case in cases:
+        given = run(case.words, case.input, cwd=folder)
+        if "-i" in case.words:
+            case = case._replace(errors=given.stderr.decode())
+        check_result(case, given)
+    return len(cases)
 
 
 def damaged_lines():
@@ -1518,9 +1559,10 @@ def main():
         shim = build_shim(folder)
         # First, and alone: a process that another thread starts can hold the end of a pipe that is closed here.
         runs = check_streams() + check_usage()
-        for name in ["files", "in_place", "inverse", "drawings", "changes", "commented", "layouts", "long", "guide", "completions"]:
+        for name in ["files", "in_place", "inverse", "drawings", "changes", "commented", "layouts", "long", "guide", "completions", "missing"]:
             os.mkdir(f"{folder}/{name}")
         runs += check_completions(f"{folder}/completions")
+        runs += check_missing_value(f"{folder}/missing")
         runs += check_files(f"{folder}/files") + check_in_place(f"{folder}/in_place") + check_lines()
         runs += check_inverse(f"{folder}/inverse", shim) + check_relayout(f"{folder}/layouts", shim)
         runs += check_patched(f"{folder}/inverse") + check_drawings(f"{folder}/drawings") + check_changes(f"{folder}/changes")

@@ -18,6 +18,16 @@ EDITS = ["assign", "delete", "apply"]
 OTHERS = {
     "undo": [("jsonptr_session/src/undo/json.rt", UNDO), ("jsonptr_session/src/undo/toml_value.rt", UNDO)],
     "a report that is drawn": [("jsonptr_diagnostic/src/rendering.rt", ["render"])],
+    "the program of the port": [("jsonptr_command/src/run.rt", ["run_program"])],
+    "tabled pointers": [
+        ("jsonptr_tabled/src/tabled.rt", [
+            "new", "parse", "from_plain", "into_plain", "as_ptr", "offsets", "count", "front", "back", "parent", "split_at_offset",
+            "split_at", "get", "push_front", "push_back", "pop_front", "pop_back", "replace", "append", "clear",
+        ]),
+        ("jsonptr_tabled/src/edit_pointer.rt", [
+            "as_ptr", "set_text", "push_front", "push_back", "pop_front", "pop_back", "replace", "append", "clear",
+        ]),
+    ],
     "patches": [
         ("jsonptr_patch/src/patch.rt", ["apply"]),
         ("jsonptr_patch/src/inverse.rt", ["apply_with_inverse"]),
@@ -41,27 +51,27 @@ OTHERS = {
     ],
     "documents as lines": [
         ("jsonptr_paths/src/listing.rt", ["list"]),
-        ("jsonptr_paths/src/text_listing.rt", ["list_text"]),
+        ("jsonptr_paths/src/text_listing.rt", ["list_in_text"]),
         ("jsonptr_paths/src/toml_listing.rt", ["list_toml"]),
         ("jsonptr_paths/src/reading.rt", ["build"]),
     ],
     "JSON with comments": [
         ("jsonptr_comments/src/comments.rt", ["without_comments"]),
-        ("jsonptr_edit_with_comments/src/assign.rt", ["assign_with_comments"]),
+        ("jsonptr_edit_with_comments/src/assign.rt", ["assign_with_comments", "assign_raw_with_comments"]),
         ("jsonptr_edit_with_comments/src/delete.rt", ["delete_with_comments"]),
-        ("jsonptr_edit_with_comments/src/apply.rt", ["apply_with_comments"]),
+        ("jsonptr_edit_with_comments/src/apply.rt", ["apply_with_comments", "apply_raw_with_comments", "try_apply_raw_with_comments"]),
     ],
     "numbers that lose digits": [
         ("jsonptr_numbers/src/find.rt", ["find_lost"]),
         ("jsonptr_numbers/src/kept.rt", ["is_kept"]),
         ("jsonptr_numbers/src/exact.rt", ["read_exactly"]),
     ],
-    "layouts": [("jsonptr_relayout/src/layout.rt", ["relayout", "relayout_with", "relayout_text"])],
-    "TOML text": [("jsonptr_in_toml/src/change.rt", ["find_in_toml", "assign_in_toml", "delete_in_toml"])],
+    "layouts": [("jsonptr_relayout/src/layout.rt", ["relayout", "relayout_with_texts", "relayout_text"])],
+    "TOML text": [("jsonptr_in_toml/src/change.rt", ["resolve_in_toml", "assign_and_print_toml", "delete_and_print_toml"])],
     "edits in TOML text": [
-        ("jsonptr_edit_in_toml/src/assign.rt", ["assign_in_toml_text"]),
-        ("jsonptr_edit_in_toml/src/delete.rt", ["delete_in_toml_text"]),
-        ("jsonptr_edit_in_toml/src/in_place.rt", ["assign_in_place", "delete_in_place"]),
+        ("jsonptr_edit_in_toml/src/assign.rt", ["assign_in_toml"]),
+        ("jsonptr_edit_in_toml/src/delete.rt", ["delete_in_toml"]),
+        ("jsonptr_edit_in_toml/src/in_place.rt", ["assign_in_toml_in_place", "delete_in_toml_in_place"]),
     ],
     "commands on texts and lines": [
         ("jptr_tasks/src/result.rt", ["result_in_text"]),
@@ -71,7 +81,10 @@ OTHERS = {
     "a file that is replaced": [("jptr_tasks/src/replacement.rt", ["replace"])],
     "calls for C": [
         ("jsonptr_c_calls/src/pointers.rt", ["count", "token", "escape", "push", "pop"]),
-        ("jsonptr_c_calls/src/documents.rt", ["parse", "parse_exactly", "free", "print_at", "string_at", "node_at", "assign", "delete", "patch", "diff"]),
+        ("jsonptr_c_calls/src/documents.rt", [
+            "parse", "parse_exactly", "free", "print_at", "string_at", "node_at", "assign", "delete", "patch", "patch_with_inverse",
+            "diff",
+        ]),
         ("jsonptr_c_calls/src/texts.rt", ["print_in", "lost_number_in"]),
         ("jsonptr_c_calls/src/locations.rt", ["locate_in", "pointer_at_in"]),
         ("jsonptr_c_calls/src/outcome.rt", ["succeed", "fail", "fail_with_length"]),

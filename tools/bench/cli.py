@@ -4,9 +4,9 @@
     tools/bench/cli.py [--rounds N] [--only WORD] JPTR [--jq PROGRAM]
 
 JPTR is the built program of crates/jptr. Both programs run on each file. A result is the least processor
-time of all rounds, and the peak memory, which `/usr/bin/time` measures (Debian: `time`). The last line has the
+time of all rounds, and the peak memory, which `/usr/bin/time` measures (Debian: `time`). The last two lines have the
 times of `jptr get --comments` on an array of records with comments, and of `jptr get` on the same text with
-spaces instead of them.
+spaces instead of them: once of a value, and once of the whole document with sorted keys, which is read for that.
 """
 import argparse
 import json
@@ -84,14 +84,15 @@ def print_comments(jptr, rounds):
     count = 100_000
     commented = "[\n" + record % ("key", "each") * count + '  {"name": "last"}\n]\n'
     bare = commented.replace("/* key */", " " * 9).replace("// each", " " * 7)
-    times = []
-    for text, flags in [(commented, ["--comments"]), (bare, [])]:
-        with tempfile.NamedTemporaryFile() as file:
-            file.write(text.encode())
-            file.flush()
-            command = [jptr, "get", *flags, f"/{count}/name"]
-            times.append(min(run(command, file.name)[0] for _ in range(rounds)))
-    print(f"comments, {len(commented) / 1e6:.1f} MB: {1000 * times[0]:.1f} ms, without {1000 * times[1]:.1f} ms, {times[0] / times[1]:.2f}")
+    for what, words in [("a value", [f"/{count}/name"]), ("the document", ["--sort-keys", ""])]:
+        times = []
+        for text, flags in [(commented, ["--comments"]), (bare, [])]:
+            with tempfile.NamedTemporaryFile() as file:
+                file.write(text.encode())
+                file.flush()
+                command = [jptr, "get", *flags, *words]
+                times.append(min(run(command, file.name)[0] for _ in range(rounds)))
+        print(f"comments, {len(commented) / 1e6:.1f} MB, {what}: {1000 * times[0]:.1f} ms, without {1000 * times[1]:.1f} ms, {times[0] / times[1]:.2f}")
 
 
 def main():

@@ -251,6 +251,7 @@ typedef uint32_t jsonptr_status;
  *     a string, number or word is malformed    its first byte, of a string the quote
  *     the text ends too early                  the length of the text
  *     a number is too large for a double       in the number, or after it
+ *     an allocation fails when it is sought    0
  *     anything else                            the fault, or just after it
  *
  * So ["abc\ud800"] and [truex] have offset 1, [1, has 3, [1e999, 2] has 8. */

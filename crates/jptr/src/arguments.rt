@@ -1,122 +1,318 @@
 //! The command line: the commands, and the arguments and flags of each.
 
-use clap::{Arg, ArgAction, Command, arg};
+use clap::{Arg, ArgAction, Command};
 use std::alloc::{AllocError, Global};
 
 /// The version of the project, as in `crates/jsonptr/VERSION`.
 const VERSION: &str = "0.2.0";
 
+/// The names of the commands, in the order of the help.
+const COMMANDS: [&str; 21] = [
+    "get",
+    "set",
+    "delete",
+    "insert",
+    "move",
+    "copy",
+    "rename",
+    "keys",
+    "length",
+    "type",
+    "test",
+    "paths",
+    "from-paths",
+    "patch",
+    "format",
+    "relayout",
+    "locate",
+    "diff",
+    "tokens",
+    "escape",
+    "unescape",
+];
+
+/// An argument or a flag of a command.
+#[derive(Clone, Copy)]
+struct Argument {
+    /// Its name: that of the value, or that of the flag without its dashes.
+    name: &'static str,
+    /// What it is.
+    kind: Kind,
+    /// Its line in the help.
+    help: &'static str,
+    /// The words after a dash that it takes as its value.
+    dashed: Dashed,
+    /// The names of the arguments that it does not go with, with spaces between them.
+    excludes: &'static str,
+    /// The name of the argument that it needs.
+    needs: Option<&'static str>,
+}
+
+/// What an argument is.
+#[derive(Clone, Copy)]
+enum Kind {
+    /// A value that has to be there.
+    Required,
+    /// A value.
+    Optional,
+    /// One value or several.
+    Several,
+    /// A flag.
+    Flag,
+    /// A flag that also has this letter.
+    Letter(char),
+    /// A flag with a value, which has this name.
+    Value(&'static str),
+}
+
+/// Words after a dash that are values.
+#[derive(Clone, Copy)]
+enum Dashed {
+    /// None.
+    Nothing,
+    /// Negative numbers.
+    Numbers,
+    /// All words.
+    Words,
+}
+
+impl Argument {
+    /// Returns the argument with this name.
+    fn new(name: &'static str, kind: Kind, help: &'static str) -> Argument {
+        Argument {
+            name,
+            kind,
+            help,
+            dashed: Dashed::Nothing,
+            excludes: "",
+            needs: None,
+        }
+    }
+
+    /// Returns the argument, which takes these words after a dash.
+    fn taking(self, dashed: Dashed) -> Argument {
+        let mut argument = self;
+        argument.dashed = dashed;
+        argument
+    }
+
+    /// Returns the argument, which does not go with these, named with spaces between them.
+    fn excluding(self, excludes: &'static str) -> Argument {
+        let mut argument = self;
+        argument.excludes = excludes;
+        argument
+    }
+
+    /// Returns the argument, which needs this one.
+    fn needing(self, needs: &'static str) -> Argument {
+        let mut argument = self;
+        argument.needs = Some(needs);
+        argument
+    }
+
+    /// Returns the argument as the command line takes it.
+    fn built<'a>(&self, alloc: Global) -> Result<Arg<'a>, AllocError> {
+        let arg = self.with_values(self.with_names(alloc)).help(self.help);
+        self.with_needs(self.with_exclusions(arg)?)
+    }
+
+    /// Returns an argument with its names.
+    fn with_names<'a>(&self, alloc: Global) -> Arg<'a> {
+        let arg = Arg::new(alloc, self.name);
+        match self.kind {
+            Kind::Required => arg.required(true).value_name(self.name),
+            Kind::Optional | Kind::Several => arg.value_name(self.name),
+            Kind::Flag => arg.long(self.name),
+            Kind::Letter(letter) => arg.short(letter).long(self.name),
+            Kind::Value(value) => arg.long(self.name).value_name(value),
+        }
+    }
+
+    /// Returns the argument with the values that it takes.
+    fn with_values<'a>(&self, arg: Arg<'a>) -> Arg<'a> {
+        let arg = match self.dashed {
+            Dashed::Nothing => arg,
+            Dashed::Numbers => arg.allow_negative_numbers(true),
+            Dashed::Words => arg.allow_hyphen_values(true),
+        };
+        match self.kind {
+            Kind::Required | Kind::Optional | Kind::Value(_) => arg.action(ArgAction::Set),
+            Kind::Several => arg.num_args(1..).action(ArgAction::Append),
+            Kind::Flag | Kind::Letter(_) => arg.action(ArgAction::SetTrue),
+        }
+    }
+
+    /// Returns the argument with those that it does not go with.
+    fn with_exclusions<'a>(&self, arg: Arg<'a>) -> Result<Arg<'a>, AllocError> {
+        let mut arg = arg;
+        for name in self.excludes.split(' ') {
+            if !name.is_empty() {
+                arg = arg.conflicts_with(name)?;
+            }
+        }
+        Ok(arg)
+    }
+
+    /// Returns the argument with the one that it needs.
+    fn with_needs<'a>(&self, arg: Arg<'a>) -> Result<Arg<'a>, AllocError> {
+        match self.needs {
+            Some(name) => arg.requires_arg(name),
+            None => Ok(arg),
+        }
+    }
+}
+
 /// Returns the command line of the program.
 pub fn command<'a>(alloc: Global) -> Result<Command<'a>, AllocError> {
-    Command::new(alloc, "jptr")
-        .bin_name("jptr")?
-        .version(VERSION)
-        .about("Finds and changes values of JSON documents by JSON Pointers")
-        .subcommand_required(true)
-        .arg_required_else_help(true)
-        .subcommand(get(alloc)?)?
-        .subcommand(set(alloc)?)?
-        .subcommand(delete(alloc)?)?
-        .subcommand(insert(alloc)?)?
-        .subcommand(transfer(
+    let mut command = program(alloc)?;
+    for name in COMMANDS {
+        command = command.subcommand(command_named(alloc, name)?)?;
+    }
+    Ok(command)
+}
+
+/// Returns the program without its commands.
+fn program<'a>(alloc: Global) -> Result<Command<'a>, AllocError> {
+    Ok(
+        Command::new(alloc, "jptr")
+            .bin_name("jptr")?
+            .version(VERSION)
+            .about("Finds and changes values of JSON documents by JSON Pointers")
+            .subcommand_required(true)
+            .arg_required_else_help(true),
+    )
+}
+
+/// Returns the command with this name.
+fn command_named<'a>(alloc: Global, name: &'static str) -> Result<Command<'a>, AllocError> {
+    match name {
+        "get" => get(alloc),
+        "set" => set(alloc),
+        "delete" => delete(alloc),
+        "insert" => insert(alloc),
+        "move" => transfer(
             alloc,
-            "move",
+            name,
             "Prints the document with a value moved to another pointer",
-        )?)?
-        .subcommand(transfer(
+        ),
+        "copy" => transfer(
             alloc,
-            "copy",
+            name,
             "Prints the document with a copy of a value at another pointer",
-        )?)?
-        .subcommand(rename(alloc)?)?
-        .subcommand(keys(alloc)?)?
-        .subcommand(length(alloc)?)?
-        .subcommand(node_type(alloc)?)?
-        .subcommand(test(alloc)?)?
-        .subcommand(paths(alloc)?)?
-        .subcommand(from_paths(alloc)?)?
-        .subcommand(patch(alloc)?)?
-        .subcommand(format(alloc)?)?
-        .subcommand(relayout(alloc)?)?
-        .subcommand(locate(alloc)?)?
-        .subcommand(diff(alloc)?)?
-        .subcommand(tokens(alloc)?)?
-        .subcommand(escape(alloc)?)?
-        .subcommand(unescape(alloc)?)
+        ),
+        "rename" => rename(alloc),
+        "keys" => keys(alloc),
+        "length" => length(alloc),
+        "type" => node_type(alloc),
+        "test" => test(alloc),
+        "paths" => paths(alloc),
+        "from-paths" => from_paths(alloc),
+        "patch" => patch(alloc),
+        "format" => format(alloc),
+        "relayout" => relayout(alloc),
+        "locate" => locate(alloc),
+        "diff" => diff(alloc),
+        "tokens" => tokens(alloc),
+        "escape" => escape(alloc),
+        _ => unescape(alloc),
+    }
+}
+
+/// Returns the command with this name and these arguments.
+fn command_of<'a>(
+    alloc: Global,
+    name: &'static str,
+    about: &'static str,
+    arguments: &[Argument],
+) -> Result<Command<'a>, AllocError> {
+    with_arguments(alloc, Command::new(alloc, name).about(about), arguments)
+}
+
+/// Adds the arguments to the command, in order.
+fn with_arguments<'a>(
+    alloc: Global,
+    command: Command<'a>,
+    arguments: &[Argument],
+) -> Result<Command<'a>, AllocError> {
+    let mut command = command;
+    for argument in arguments {
+        command = command.arg(argument.built(alloc)?)?;
+    }
+    Ok(command)
 }
 
 /// Returns the command `get`.
 fn get<'a>(alloc: Global) -> Result<Command<'a>, AllocError> {
-    let command = Command::new(alloc, "get")
-        .about("Prints the value that the pointer resolves to, or those of several pointers")
-        .arg(pointer(alloc))?
-        .arg(files(alloc))?
-        .arg(
-            arg!(in alloc; --default <JSON> "Prints this value if the pointer resolves to none").allow_negative_numbers(
-                true,
-            ),
-        )?
-        .arg(
-            arg!(in alloc; --raw "Prints a string without quotes")
-                .conflicts_with("pretty")?
-                .conflicts_with("indent")?
-                .conflicts_with("sort-keys")?,
-        )?
-        .arg(toml_flag(alloc)?)?;
+    let default = Argument::new(
+        "default",
+        Kind::Value("JSON"),
+        "Prints this value if the pointer resolves to none",
+    );
+    let raw = flag("raw", "Prints a string without quotes");
+    let command = command_of(
+        alloc,
+        "get",
+        "Prints the value that the pointer resolves to, or those of several pointers",
+        &[
+            pointer(),
+            files(),
+            default.taking(Dashed::Numbers),
+            raw.excluding("pretty indent sort-keys"),
+            toml_flag(),
+        ],
+    )?;
     with_comments(alloc, with_lines(alloc, with_order(alloc, command)?)?)
 }
 
 /// Returns the command `set`.
 fn set<'a>(alloc: Global) -> Result<Command<'a>, AllocError> {
-    let command = Command::new(alloc, "set")
-        .about("Prints the document with the value assigned at the pointer, or several values")
-        .arg(pointer(alloc))?
-        .arg(value(alloc))?
-        .arg(
-            arg!(in alloc; [FILE] ... "Further pairs of POINTER and JSON, and then the file; standard input if it is missing or -").allow_negative_numbers(
-                true,
-            ),
-        )?
-        .arg(string_flag(alloc))?
-        .arg(
-            arg!(in alloc; --"no-expand" "Creates no container on the way to the value, and replaces no scalar there").conflicts_with(
-                "lines",
-            )?,
-        )?
-        .arg(
-            arg!(in alloc; --create "Makes the document if FILE is missing").conflicts_with(
-                "lines",
-            )?,
-        )?
-        .arg(toml_flag(alloc)?)?
-        .arg(toml_reformat_flag(alloc)?)?;
+    let more = Argument::new(
+        "FILE",
+        Kind::Several,
+        "Further pairs of POINTER and JSON, and then the file; standard input if it is missing or -",
+    );
+    let no_expand = flag(
+        "no-expand",
+        "Creates no container on the way to the value, and replaces no scalar there",
+    );
+    let create = flag("create", "Makes the document if FILE is missing");
+    let command = command_of(
+        alloc,
+        "set",
+        "Prints the document with the value assigned at the pointer, or several values",
+        &[
+            pointer(),
+            value(),
+            more.taking(Dashed::Numbers),
+            string_flag(),
+            no_expand.excluding("lines"),
+            create.excluding("lines"),
+            toml_flag(),
+            toml_reformat_flag(),
+        ],
+    )?;
     with_comments(alloc, with_edits(alloc, command)?)
 }
 
 /// Returns the command `delete`.
 fn delete<'a>(alloc: Global) -> Result<Command<'a>, AllocError> {
-    let command = Command::new(alloc, "delete")
-        .about(
-            "Prints the document without the value that the pointer resolves to, or without several",
-        )
-        .arg(pointer(alloc))?
-        .arg(files(alloc))?
-        .arg(toml_flag(alloc)?)?
-        .arg(toml_reformat_flag(alloc)?)?;
+    let command = command_of(
+        alloc,
+        "delete",
+        "Prints the document without the value that the pointer resolves to, or without several",
+        &[pointer(), files(), toml_flag(), toml_reformat_flag()],
+    )?;
     with_comments(alloc, with_edits(alloc, command)?)
 }
 
 /// Returns the command `insert`.
 fn insert<'a>(alloc: Global) -> Result<Command<'a>, AllocError> {
-    let command = Command::new(alloc, "insert")
-        .about(
-            "Prints the document with the value inserted before the element at the pointer, or added as a member",
-        )
-        .arg(pointer(alloc))?
-        .arg(value(alloc))?
-        .arg(file(alloc))?
-        .arg(string_flag(alloc))?
-        .arg(reformat_flag(alloc)?)?;
+    let command = command_of(
+        alloc,
+        "insert",
+        "Prints the document with the value inserted before the element at the pointer, or added as a member",
+        &[pointer(), value(), file(), string_flag(), reformat_flag()],
+    )?;
     with_comments(alloc, with_edits(alloc, command)?)
 }
 
@@ -126,327 +322,307 @@ fn transfer<'a>(
     name: &'static str,
     about: &'static str,
 ) -> Result<Command<'a>, AllocError> {
-    let command = Command::new(alloc, name)
-        .about(about)
-        .arg(arg!(in alloc; <FROM> "The pointer of the value"))?
-        .arg(
-            arg!(in alloc; <POINTER> "The pointer where it is put, as by insert; an index counts without a moved value"),
-        )?
-        .arg(file(alloc))?
-        .arg(reformat_flag(alloc)?)?;
+    let from = required("FROM", "The pointer of the value");
+    let path = required(
+        "POINTER",
+        "The pointer where it is put, as by insert; an index counts without a moved value",
+    );
+    let command = command_of(alloc, name, about, &[from, path, file(), reformat_flag()])?;
     with_comments(alloc, with_edits(alloc, command)?)
 }
 
 /// Returns the command `rename`.
 fn rename<'a>(alloc: Global) -> Result<Command<'a>, AllocError> {
-    let command = Command::new(alloc, "rename")
-        .about(
-            "Prints the document with another key for the member at the pointer, which then comes last",
-        )
-        .arg(pointer(alloc))?
-        .arg(arg!(in alloc; <KEY> "The new key, as it is").allow_hyphen_values(true))?
-        .arg(file(alloc))?
-        .arg(comments_flag(alloc))?
-        .arg(reformat_flag(alloc)?)?;
+    let key = required("KEY", "The new key, as it is").taking(Dashed::Words);
+    let command = command_of(
+        alloc,
+        "rename",
+        "Prints the document with another key for the member at the pointer, which then comes last",
+        &[pointer(), key, file(), comments_flag(), reformat_flag()],
+    )?;
     with_in_place(alloc, with_order(alloc, command)?)
 }
 
 /// Returns the command `keys`.
 fn keys<'a>(alloc: Global) -> Result<Command<'a>, AllocError> {
-    Command::new(alloc, "keys")
-        .about("Prints the keys of the object that the pointer resolves to, each on a line")
-        .arg(pointer(alloc))?
-        .arg(file(alloc))?
-        .arg(arg!(in alloc; --raw "Prints each key without quotes"))?
-        .arg(comments_flag(alloc))
+    let raw = flag("raw", "Prints each key without quotes");
+    command_of(
+        alloc,
+        "keys",
+        "Prints the keys of the object that the pointer resolves to, each on a line",
+        &[pointer(), file(), raw, comments_flag()],
+    )
 }
 
 /// Returns the command `length`.
 fn length<'a>(alloc: Global) -> Result<Command<'a>, AllocError> {
-    Command::new(alloc, "length")
-        .about("Prints the number of elements, members or characters of the value")
-        .arg(pointer(alloc))?
-        .arg(file(alloc))?
-        .arg(comments_flag(alloc))
+    command_of(
+        alloc,
+        "length",
+        "Prints the number of elements, members or characters of the value",
+        &[pointer(), file(), comments_flag()],
+    )
 }
 
 /// Returns the command `type`.
 fn node_type<'a>(alloc: Global) -> Result<Command<'a>, AllocError> {
-    Command::new(alloc, "type")
-        .about("Prints the type of the value: null, boolean, number, string, array or object")
-        .arg(pointer(alloc))?
-        .arg(file(alloc))?
-        .arg(comments_flag(alloc))
+    command_of(
+        alloc,
+        "type",
+        "Prints the type of the value: null, boolean, number, string, array or object",
+        &[pointer(), file(), comments_flag()],
+    )
 }
 
 /// Returns the command `test`.
 fn test<'a>(alloc: Global) -> Result<Command<'a>, AllocError> {
-    Command::new(alloc, "test")
-        .about(
-            "Prints nothing. The exit status is 0 if the value is there, and equals JSON if that is given, and else 1",
-        )
-        .arg(pointer(alloc))?
-        .arg(
-            arg!(in alloc; [JSON] "The value to compare with, or @FILE for that of a file; a file whose name is no JSON is FILE").allow_negative_numbers(
-                true,
-            ),
-        )?
-        .arg(file(alloc))?
-        .arg(
-            arg!(in alloc; --string "Takes JSON as a string, without quotes and escapes").requires_arg(
-                "JSON",
-            )?,
-        )?
-        .arg(comments_flag(alloc))
+    let value = optional(
+        "JSON",
+        "The value to compare with, or @FILE for that of a file; a file whose name is no JSON is FILE",
+    );
+    let string = flag(
+        "string",
+        "Takes JSON as a string, without quotes and escapes",
+    );
+    command_of(
+        alloc,
+        "test",
+        "Prints nothing. The exit status is 0 if the value is there, and equals JSON if that is given, and else 1",
+        &[
+            pointer(),
+            value.taking(Dashed::Numbers),
+            file(),
+            string.needing("JSON"),
+            comments_flag(),
+        ],
+    )
 }
 
 /// Returns the command `paths`.
 fn paths<'a>(alloc: Global) -> Result<Command<'a>, AllocError> {
-    Command::new(alloc, "paths")
-        .about("Prints a line for each leaf: its pointer, a tab, and its value")
-        .arg(file(alloc))?
-        .arg(
-            arg!(in alloc; --all "Prints a line for each node, from which from-paths makes the document"),
-        )?
-        .arg(
-            arg!(in alloc; --toml "Takes TOML, as for a file whose name ends in .toml, and prints TOML values").conflicts_with(
-                "comments",
-            )?,
-        )?
-        .arg(lossy_flag(alloc))?
-        .arg(comments_flag(alloc))
+    let all = flag(
+        "all",
+        "Prints a line for each node, from which from-paths makes the document",
+    );
+    let toml = flag(
+        "toml",
+        "Takes TOML, as for a file whose name ends in .toml, and prints TOML values",
+    );
+    command_of(
+        alloc,
+        "paths",
+        "Prints a line for each leaf: its pointer, a tab, and its value",
+        &[
+            file(),
+            all,
+            toml.excluding("comments"),
+            lossy_flag(),
+            comments_flag(),
+        ],
+    )
 }
 
 /// Returns the command `from-paths`.
 fn from_paths<'a>(alloc: Global) -> Result<Command<'a>, AllocError> {
-    let command = Command::new(alloc, "from-paths")
-        .about("Prints the document that lines of pointers, tabs and JSON values build")
-        .arg(file(alloc))?
-        .arg(arg!(in alloc; --fill "Adds null for each element that is missing in an array"))?;
+    let fill = flag(
+        "fill",
+        "Adds null for each element that is missing in an array",
+    );
+    let command = command_of(
+        alloc,
+        "from-paths",
+        "Prints the document that lines of pointers, tabs and JSON values build",
+        &[file(), fill],
+    )?;
     with_layout(alloc, command)
 }
 
 /// Returns the command `patch`.
 fn patch<'a>(alloc: Global) -> Result<Command<'a>, AllocError> {
-    let command = Command::new(alloc, "patch")
-        .about(
-            "Prints the document after a JSON Patch (RFC 6902); errors count its operations from 0",
-        )
-        .arg(arg!(in alloc; <PATCHFILE> "The patch document, or - for standard input"))?
-        .arg(file(alloc))?
-        .arg(
-            arg!(in alloc; --check "Prints nothing: the exit status says whether the patch applies")
-                .conflicts_with("in-place")?
-                .conflicts_with("lines")?,
-        )?
-        .arg(
-            arg!(in alloc; --inverse <UNDO> "Writes the patch that takes this one back to this file")
-                .conflicts_with("check")?
-                .conflicts_with("lines")?,
-        )?
-        .arg(reformat_flag(alloc)?)?;
+    let patch = required("PATCHFILE", "The patch document, or - for standard input");
+    let check = flag(
+        "check",
+        "Prints nothing: the exit status says whether the patch applies",
+    );
+    let inverse = Argument::new(
+        "inverse",
+        Kind::Value("UNDO"),
+        "Writes the patch that takes this one back to this file",
+    );
+    let command = command_of(
+        alloc,
+        "patch",
+        "Prints the document after a JSON Patch (RFC 6902); errors count its operations from 0",
+        &[
+            patch,
+            file(),
+            check.excluding("in-place lines"),
+            inverse.excluding("check lines"),
+            reformat_flag(),
+        ],
+    )?;
     with_comments(alloc, with_edits(alloc, command)?)
 }
 
 /// Returns the command `format`.
 fn format<'a>(alloc: Global) -> Result<Command<'a>, AllocError> {
-    let command = Command::new(alloc, "format")
-        .about("Prints the document with a line for each member and element")
-        .arg(file(alloc))?;
+    let command = command_of(
+        alloc,
+        "format",
+        "Prints the document with a line for each member and element",
+        &[file()],
+    )?;
     with_comments(alloc, with_edits(alloc, command)?)
 }
 
 /// Returns the command `relayout`.
 fn relayout<'a>(alloc: Global) -> Result<Command<'a>, AllocError> {
-    Command::new(alloc, "relayout")
-        .about("Prints a new document in the layout of the file that it was made from")
-        .arg(arg!(in alloc; <FILE> "The file with the layout, or - for standard input"))?
-        .arg(arg!(in alloc; [NEW] "The new document; standard input if it is missing or -"))?
-        .arg(lossy_flag(alloc))?
-        .arg(
-            arg!(in alloc; --reformat "Takes a document as it is that cannot be laid out as the file"),
-        )?
-        .arg(in_place_flag(alloc)?)?
-        .arg(comments_flag(alloc))
+    let old = required("FILE", "The file with the layout, or - for standard input");
+    let new = optional(
+        "NEW",
+        "The new document; standard input if it is missing or -",
+    );
+    let reformat = flag(
+        "reformat",
+        "Takes a document as it is that cannot be laid out as the file",
+    );
+    command_of(
+        alloc,
+        "relayout",
+        "Prints a new document in the layout of the file that it was made from",
+        &[
+            old,
+            new,
+            lossy_flag(),
+            reformat,
+            in_place_flag(),
+            comments_flag(),
+        ],
+    )
 }
 
 /// Returns the command `locate`.
 fn locate<'a>(alloc: Global) -> Result<Command<'a>, AllocError> {
-    Command::new(alloc, "locate")
-        .about(
-            "Prints where the value is that the pointer resolves to: the file, its line and its column",
-        )
-        .arg(arg!(in alloc; [POINTER] "The JSON Pointer (RFC 6901), as /a/0"))?
-        .arg(file(alloc))?
-        .arg(
-            Arg::new(alloc, "at")
-                .long("at")
-                .value_name("LINE:COLUMN")
-                .action(ArgAction::Set)
-                .help(
-                    "Prints the pointer of the innermost value at this place instead, of the object if that is a key; FILE is then the only argument",
-                ),
-        )?
-        .arg(comments_flag(alloc))
+    let pointer = optional("POINTER", "The JSON Pointer (RFC 6901), as /a/0");
+    let at = Argument::new(
+        "at",
+        Kind::Value("LINE:COLUMN"),
+        "Prints the pointer of the innermost value at this place instead, of the object if that is a key; FILE is then the only argument",
+    );
+    command_of(
+        alloc,
+        "locate",
+        "Prints where the value is that the pointer resolves to: the file, its line and its column",
+        &[pointer, file(), at, comments_flag()],
+    )
 }
 
 /// Returns the command `diff`.
 fn diff<'a>(alloc: Global) -> Result<Command<'a>, AllocError> {
-    let command = Command::new(alloc, "diff")
-        .about(
-            "Prints a JSON Patch (RFC 6902) that turns one document into another. The exit status is 1 if they differ",
-        )
-        .arg(arg!(in alloc; <OLD> "The document before, or - for standard input"))?
-        .arg(arg!(in alloc; <NEW> "The document after, or - for standard input"))?
-        .arg(
-            arg!(in alloc; --text "Prints a line for each change instead: its pointer, and the values before and after it")
-                .conflicts_with("pretty")?
-                .conflicts_with("compact")?,
-        )?
-        .arg(color_flag(alloc).requires_arg("text")?)?
-        .arg(comments_flag(alloc))?;
+    let old = required("OLD", "The document before, or - for standard input");
+    let new = required("NEW", "The document after, or - for standard input");
+    let text = flag(
+        "text",
+        "Prints a line for each change instead: its pointer, and the values before and after it",
+    );
+    let command = command_of(
+        alloc,
+        "diff",
+        "Prints a JSON Patch (RFC 6902) that turns one document into another. The exit status is 1 if they differ",
+        &[
+            old,
+            new,
+            text.excluding("pretty compact"),
+            color_flag().needing("text"),
+            comments_flag(),
+        ],
+    )?;
     with_layout(alloc, command)
 }
 
 /// Returns the command `tokens`.
 fn tokens<'a>(alloc: Global) -> Result<Command<'a>, AllocError> {
-    Command::new(alloc, "tokens")
-        .about("Prints the tokens of the pointer, decoded, as a JSON array")
-        .arg(pointer(alloc))?
-        .arg(arg!(in alloc; --raw "Prints each token as a line, without quotes"))
+    let raw = flag("raw", "Prints each token as a line, without quotes");
+    command_of(
+        alloc,
+        "tokens",
+        "Prints the tokens of the pointer, decoded, as a JSON array",
+        &[pointer(), raw],
+    )
 }
 
 /// Returns the command `escape`.
 fn escape<'a>(alloc: Global) -> Result<Command<'a>, AllocError> {
-    Command::new(alloc, "escape")
-        .about("Prints the text as a token of a pointer, with ~0 for ~ and ~1 for /")
-        .arg(arg!(in alloc; <TEXT> "The text").allow_hyphen_values(true))
+    command_of(
+        alloc,
+        "escape",
+        "Prints the text as a token of a pointer, with ~0 for ~ and ~1 for /",
+        &[required("TEXT", "The text").taking(Dashed::Words)],
+    )
 }
 
 /// Returns the command `unescape`.
 fn unescape<'a>(alloc: Global) -> Result<Command<'a>, AllocError> {
-    Command::new(alloc, "unescape")
-        .about("Prints the text of a token of a pointer")
-        .arg(arg!(in alloc; <TOKEN> "The token").allow_hyphen_values(true))
-}
-
-/// Returns the argument for the pointer.
-fn pointer<'a>(alloc: Global) -> Arg<'a> {
-    arg!(in alloc; <POINTER> "The JSON Pointer (RFC 6901), as /a/0")
-}
-
-/// Returns the argument for the file.
-fn file<'a>(alloc: Global) -> Arg<'a> {
-    arg!(in alloc; [FILE] "The file; standard input if it is missing or -")
-}
-
-/// Returns the argument for further pointers and the file.
-fn files<'a>(alloc: Global) -> Arg<'a> {
-    arg!(in alloc; [FILE] ... "Further pointers, and then the file, which must be there after them; standard input if it is missing or -")
-}
-
-/// Returns the argument for the value.
-fn value<'a>(alloc: Global) -> Arg<'a> {
-    arg!(in alloc; <JSON> "The value, or @FILE for that of a file, @- of standard input").allow_negative_numbers(
-        true,
+    command_of(
+        alloc,
+        "unescape",
+        "Prints the text of a token of a pointer",
+        &[required("TOKEN", "The token").taking(Dashed::Words)],
     )
-}
-
-/// Returns the flag for a value that is a string.
-fn string_flag<'a>(alloc: Global) -> Arg<'a> {
-    arg!(in alloc; --string "Takes the value as a string, without quotes and escapes, also after @")
-}
-
-/// Returns the flag for TOML.
-fn toml_flag<'a>(alloc: Global) -> Result<Arg<'a>, AllocError> {
-    arg!(in alloc; --toml "Takes TOML, as for a file whose name ends in .toml").conflicts_with(
-        "comments",
-    )
-}
-
-/// Returns the flag for JSON with comments.
-fn comments_flag<'a>(alloc: Global) -> Arg<'a> {
-    arg!(in alloc; --comments "Takes JSON with comments and trailing commas, as for a file whose name ends in .jsonc")
 }
 
 /// Adds the flag for JSON with comments to a command that takes lines.
 fn with_comments<'a>(alloc: Global, command: Command<'a>) -> Result<Command<'a>, AllocError> {
-    command.arg(comments_flag(alloc).conflicts_with("lines")?)
-}
-
-/// Returns the flag that allows a document to lose its layout.
-fn reformat_flag<'a>(alloc: Global) -> Result<Arg<'a>, AllocError> {
-    arg!(in alloc; --reformat "Prints a document anew that cannot be edited in its text").conflicts_with(
-        "lines",
-    )
-}
-
-/// Returns the flag that allows a document to lose its layout, of a command that takes TOML too.
-fn toml_reformat_flag<'a>(alloc: Global) -> Result<Arg<'a>, AllocError> {
-    arg!(in alloc; --reformat "Prints a document anew that cannot be edited in its text; on TOML, lets --in-place do so").conflicts_with(
-        "lines",
-    )
-}
-
-/// Returns the flag that allows numbers to lose digits.
-fn lossy_flag<'a>(alloc: Global) -> Arg<'a> {
-    arg!(in alloc; --lossy "Takes the nearest double for a number that loses digits")
+    with_arguments(alloc, command, &[comments_flag().excluding("lines")])
 }
 
 /// Adds the flags for the layout.
 fn with_layout<'a>(alloc: Global, command: Command<'a>) -> Result<Command<'a>, AllocError> {
-    command
-        .arg(
-            arg!(in alloc; --pretty "Prints a line for each member and element").conflicts_with(
-                "compact",
-            )?,
-        )?
-        .arg(arg!(in alloc; --compact "Prints without white space"))?
-        .arg(lossy_flag(alloc))
-}
-
-/// Returns the flag for colours.
-fn color_flag<'a>(alloc: Global) -> Arg<'a> {
-    arg!(in alloc; --color <WHEN> "Colours what is printed: always, never, or auto, on a terminal if NO_COLOR is not set")
+    let pretty = flag("pretty", "Prints a line for each member and element");
+    let compact = flag("compact", "Prints without white space");
+    with_arguments(
+        alloc,
+        command,
+        &[pretty.excluding("compact"), compact, lossy_flag()],
+    )
 }
 
 /// Adds the flags for the layout of a text, for the order of its members, and for colours.
 fn with_order<'a>(alloc: Global, command: Command<'a>) -> Result<Command<'a>, AllocError> {
-    with_layout(alloc, command)?
-        .arg(color_flag(alloc))?
-        .arg(
-            Arg::new(alloc, "sort-keys")
-                .long("sort-keys")
-                .help("Sorts the members; prints without white space, or as --pretty does")
-                .action(ArgAction::SetTrue),
-        )?
-        .arg(
-            arg!(in alloc; --indent <N> "Prints as --pretty does, and indents by N spaces, 1 to 16, or by tab").conflicts_with(
-                "compact",
-            )?,
-        )
+    let sort = flag(
+        "sort-keys",
+        "Sorts the members; prints without white space, or as --pretty does",
+    );
+    let indent = Argument::new(
+        "indent",
+        Kind::Value("N"),
+        "Prints as --pretty does, and indents by N spaces, 1 to 16, or by tab",
+    );
+    let command = with_layout(alloc, command)?;
+    with_arguments(
+        alloc,
+        command,
+        &[color_flag(), sort, indent.excluding("compact")],
+    )
 }
 
 /// Adds the flags for one document a line.
 fn with_lines<'a>(alloc: Global, command: Command<'a>) -> Result<Command<'a>, AllocError> {
-    command
-        .arg(
-            arg!(in alloc; --lines "Takes each line as a document, and prints each result as a line")
-                .conflicts_with("pretty")?
-                .conflicts_with("indent")?,
-        )?
-        .arg(
-            arg!(in alloc; --strict "Stops at the first line at fault; needs --lines").requires_arg(
-                "lines",
-            )?,
-        )?
-        .arg(
-            Arg::new(alloc, "line-buffered")
-                .long("line-buffered")
-                .help("Prints each result at once; needs --lines")
-                .action(ArgAction::SetTrue)
-                .requires_arg("lines")?,
-        )
+    let lines = flag(
+        "lines",
+        "Takes each line as a document, and prints each result as a line",
+    );
+    let strict = flag("strict", "Stops at the first line at fault; needs --lines");
+    let buffered = flag("line-buffered", "Prints each result at once; needs --lines");
+    with_arguments(
+        alloc,
+        command,
+        &[
+            lines.excluding("pretty indent"),
+            strict.needing("lines"),
+            buffered.needing("lines"),
+        ],
+    )
 }
 
 /// Adds the flags of a command that edits, or lays out, and takes lines.
@@ -457,15 +633,105 @@ fn with_edits<'a>(alloc: Global, command: Command<'a>) -> Result<Command<'a>, Al
 
 /// Adds the flag for changing the file to a command that takes lines.
 fn with_in_place<'a>(alloc: Global, command: Command<'a>) -> Result<Command<'a>, AllocError> {
-    command.arg(in_place_flag(alloc)?.conflicts_with("lines")?)
+    with_arguments(alloc, command, &[in_place_flag().excluding("lines")])
+}
+
+/// Returns an argument that has to be there.
+fn required(name: &'static str, help: &'static str) -> Argument {
+    Argument::new(name, Kind::Required, help)
+}
+
+/// Returns an argument that may be there.
+fn optional(name: &'static str, help: &'static str) -> Argument {
+    Argument::new(name, Kind::Optional, help)
+}
+
+/// Returns a flag.
+fn flag(name: &'static str, help: &'static str) -> Argument {
+    Argument::new(name, Kind::Flag, help)
+}
+
+/// Returns the argument for the pointer.
+fn pointer() -> Argument {
+    required("POINTER", "The JSON Pointer (RFC 6901), as /a/0")
+}
+
+/// Returns the argument for the file.
+fn file() -> Argument {
+    optional("FILE", "The file; standard input if it is missing or -")
+}
+
+/// Returns the argument for further pointers and the file.
+fn files() -> Argument {
+    Argument::new(
+        "FILE",
+        Kind::Several,
+        "Further pointers, and then the file, which must be there after them; standard input if it is missing or -",
+    )
+}
+
+/// Returns the argument for the value.
+fn value() -> Argument {
+    let help = "The value, or @FILE for that of a file, @- of standard input";
+    required("JSON", help).taking(Dashed::Numbers)
+}
+
+/// Returns the flag for a value that is a string.
+fn string_flag() -> Argument {
+    flag(
+        "string",
+        "Takes the value as a string, without quotes and escapes, also after @",
+    )
+}
+
+/// Returns the flag for TOML.
+fn toml_flag() -> Argument {
+    flag("toml", "Takes TOML, as for a file whose name ends in .toml").excluding("comments")
+}
+
+/// Returns the flag for JSON with comments.
+fn comments_flag() -> Argument {
+    flag(
+        "comments",
+        "Takes JSON with comments and trailing commas, as for a file whose name ends in .jsonc",
+    )
+}
+
+/// Returns the flag that allows a document to lose its layout.
+fn reformat_flag() -> Argument {
+    flag(
+        "reformat",
+        "Prints a document anew that has no comments and cannot be edited in its text",
+    )
+    .excluding("lines")
+}
+
+/// Returns the flag that allows a document to lose its layout, of a command that takes TOML too.
+fn toml_reformat_flag() -> Argument {
+    let help =
+        "Prints a document anew that has no comments and cannot be edited in its text; on TOML, lets --in-place do so";
+    flag("reformat", help).excluding("lines")
+}
+
+/// Returns the flag that allows numbers to lose digits.
+fn lossy_flag() -> Argument {
+    flag(
+        "lossy",
+        "Takes the nearest double for a number that loses digits",
+    )
+}
+
+/// Returns the flag for colours.
+fn color_flag() -> Argument {
+    Argument::new(
+        "color",
+        Kind::Value("WHEN"),
+        "Colours what is printed: always, never, or auto, on a terminal if NO_COLOR is not set",
+    )
 }
 
 /// Returns the flag for changing the file.
-fn in_place_flag<'a>(alloc: Global) -> Result<Arg<'a>, AllocError> {
-    Arg::new(alloc, "in-place")
-        .short('i')
-        .long("in-place")
-        .help("Changes the file, and prints nothing")
-        .action(ArgAction::SetTrue)
-        .requires_arg("FILE")
+fn in_place_flag() -> Argument {
+    let help = "Changes the file, and prints nothing";
+    Argument::new("in-place", Kind::Letter('i'), help).needing("FILE")
 }

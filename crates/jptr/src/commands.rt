@@ -28,6 +28,7 @@ use jptr_tasks::layout::{Layout, show};
 use jptr_tasks::task::Task;
 use jsonptr::{Pointer, Token};
 use serde_json::Value;
+use std::alloc::{AllocError, Global};
 use std::borrow::CowStr;
 use std::{env, io};
 
@@ -197,9 +198,8 @@ fn diff(rt: &HostRuntime, matches: &ArgMatches<'_>) -> Result<u8, ProgramError> 
     let old = before.value(alloc)?;
     let after = read_side(rt, matches, "NEW")?;
     let new = after.value(alloc)?;
-    if !is_lossy(matches) && before.bytes.as_slice() != after.bytes.as_slice() {
-        check_bytes(alloc, before.name, &before.bytes)?;
-        check_bytes(alloc, after.name, &after.bytes)?;
+    if !is_lossy(matches) {
+        check_sides(alloc, &before, &after)?;
     }
     match difference_of(alloc, &old, &new, layout_of(matches)) {
         Ok(difference) => {
@@ -212,6 +212,15 @@ fn diff(rt: &HostRuntime, matches: &ArgMatches<'_>) -> Result<u8, ProgramError> 
         }
         Err(error) => Err(after.error(alloc, "", error)),
     }
+}
+
+/// Fails if a number of one of the documents loses digits, unless their bytes are the same.
+fn check_sides(alloc: Global, before: &Source<'_>, after: &Source<'_>) -> Result<(), ProgramError> {
+    if before.bytes.as_slice() == after.bytes.as_slice() {
+        return Ok(());
+    }
+    check_bytes(alloc, before.name, &before.bytes)?;
+    check_bytes(alloc, after.name, &after.bytes)
 }
 
 /// Prints a line for each change of the document by the patch with this text.
@@ -243,23 +252,36 @@ fn read_side<'a>(
 fn tokens(rt: &HostRuntime, matches: &ArgMatches<'_>) -> Result<u8, ProgramError> {
     let alloc = rt.alloc();
     let pointer = pointer_of(alloc, argument(matches, "POINTER"))?;
+    let texts = decoded_tokens(alloc, pointer)?;
+    if matches.get_flag("raw") {
+        print_text(rt, raw_lines(alloc, texts.as_slice())?.as_str())?;
+        Ok(0)
+    } else {
+        print_line(
+            rt,
+            show(alloc, &Value::Array(texts), Layout::Compact)?.as_str(),
+        )
+    }
+}
+
+/// Returns the tokens of the pointer, decoded.
+fn decoded_tokens(alloc: Global, pointer: Pointer<'_>) -> Result<Vec<Value>, AllocError> {
     let mut texts = Vec::new(alloc);
     for token in pointer.tokens() {
         let text = token.decoded(alloc)?.into_owned(alloc)?;
         texts.push(Value::String(text))?;
     }
-    let mut out = String::new(alloc);
-    if matches.get_flag("raw") {
-        for text in &texts {
-            out.push_str(show(alloc, text, Layout::Raw)?.as_str())?;
-            out.push('\n')?;
-        }
-    } else {
-        out.push_str(show(alloc, &Value::Array(texts), Layout::Compact)?.as_str())?;
-        out.push('\n')?;
+    Ok(texts)
+}
+
+/// Returns a line for each string, without quotes.
+fn raw_lines(alloc: Global, texts: &[Value]) -> Result<String, AllocError> {
+    let mut lines = String::new(alloc);
+    for text in texts {
+        lines.push_str(show(alloc, text, Layout::Raw)?.as_str())?;
+        lines.push('\n')?;
     }
-    print_text(rt, out.as_str())?;
-    Ok(0)
+    Ok(lines)
 }
 
 /// Prints a text as a token.

@@ -13,15 +13,13 @@ use jsonptr_edit_in_text::{Buffers, EditError, InPlaceError};
 use jsonptr_edit_with_comments::{
     WithCommentsError, assign_raw_with_comments, delete_with_comments, try_apply_raw_with_comments,
 };
+use memchr::memmem;
 use std::alloc::{AllocError, Global};
 use std::borrow::CowStr;
 
 /// Why a document with comments is not laid out anew.
 const OTHER_LAYOUT: &str =
     "the document has comments or trailing commas, which another layout would lose";
-
-/// Why a document with comments is not edited.
-const NOT_BESIDE_COMMENTS: &str = "the edit cannot be made in the text with its comments";
 
 /// Returns the text with spaces instead of its comments and trailing commas, or `None` if it has none.
 pub fn bare(alloc: Global, name: &str, text: &str) -> Result<Option<String>, ProgramError> {
@@ -41,11 +39,6 @@ pub fn bare(alloc: Global, name: &str, text: &str) -> Result<Option<String>, Pro
 /// Returns the error of a document with this name, whose comments a command would lose.
 pub fn other_layout(alloc: Global, name: &str) -> ProgramError {
     ProgramError::new(alloc, NOT_APPLIED, name, OTHER_LAYOUT)
-}
-
-/// Returns the error of a document with this name, in which an edit is not made beside comments.
-pub fn not_in_place(alloc: Global, name: &str) -> ProgramError {
-    ProgramError::new(alloc, NOT_APPLIED, name, NOT_BESIDE_COMMENTS)
 }
 
 /// Returns the text with comments after the task. A value that is found is printed without comments: as
@@ -70,10 +63,13 @@ pub fn edited_with_comments(
     }
 }
 
-/// Returns what is printed for a value that is found in the text without comments.
+/// Returns what is printed for a value that is found in the text without comments. A value that is
+/// neither an array nor an object has no comments in it.
 fn found(alloc: Global, task: &Task<'_>, text: &str, bare: &str) -> Result<String, TaskError> {
     let value = document_result(alloc, bare.as_bytes(), task, Layout::Kept)?;
-    if text.contains(value.as_str().trim_end()) {
+    let written = value.as_str().trim_end().as_bytes();
+    let is_scalar = !written.starts_with(b"[") && !written.starts_with(b"{");
+    if is_scalar || memmem::find(text.as_bytes(), written).is_some() {
         Ok(value)
     } else {
         document_result(alloc, bare.as_bytes(), task, Layout::Pretty)
@@ -114,7 +110,7 @@ fn patched(
 }
 
 /// Returns the error of an edit of a text whose comments are closed.
-fn in_place_error<E>(error: WithCommentsError<E>) -> InPlaceError<E> {
+fn in_place_error<E>(error: WithCommentsError<E>) -> InPlaceError<EditError<E>> {
     match error {
         WithCommentsError::Comment(_error) => InPlaceError::Failed(EditError::NotJson),
         WithCommentsError::NotInPlace => InPlaceError::NotInPlace,

@@ -3,7 +3,7 @@
 use crate::program_error::ProgramError;
 use crate::style::OutputStyle;
 use clap::ArgMatches;
-use jptr_tasks::exit_status::NOT_JSON;
+use jptr_tasks::exit_status::BAD_INPUT;
 use jptr_tasks::layout::Layout;
 use jptr_tasks::result::result_in_text;
 use jptr_tasks::task::Task;
@@ -74,7 +74,7 @@ impl LossError {
     /// Returns the error of the number in the input with this name, if it is in no argument.
     fn error(&self, alloc: Global, name: &str) -> ProgramError {
         let name = self.argument().unwrap_or(name);
-        ProgramError::of_message(alloc, NOT_JSON, name, self.to_string(alloc))
+        ProgramError::of_message(alloc, BAD_INPUT, name, self.to_string(alloc))
     }
 }
 

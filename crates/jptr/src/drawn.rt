@@ -40,7 +40,7 @@ pub fn fault_of_patch(
     error: &TaskError,
 ) -> Result<Option<String>, AllocError> {
     match error {
-        TaskError::BadPatch(error) => fault_of_operation(alloc, bytes, patch, error),
+        TaskError::PatchFailed(error) => fault_of_operation(alloc, bytes, patch, error),
         _ => Ok(None),
     }
 }

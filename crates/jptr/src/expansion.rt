@@ -8,7 +8,7 @@ use jptr_tasks::node::scalar_above;
 use jptr_tasks::task::Task;
 use jptr_tasks::task_error::TaskError;
 use jsonptr::Pointer;
-use jsonptr_in_toml::{InTomlError, find_in_toml};
+use jsonptr_in_toml::{InTomlError, resolve_in_toml};
 use std::alloc::Global;
 use toml::Value;
 
@@ -55,11 +55,11 @@ pub fn check_toml_expansion(
     let Some(above) = pointer.parent() else {
         return Ok(());
     };
-    match find_in_toml(alloc, source.text(alloc)?, above) {
+    match resolve_in_toml(alloc, source.text(alloc)?, above) {
         Ok(Value::Array(_)) => Ok(()),
         Ok(Value::Table(_)) => Ok(()),
         Ok(_) => Err(ProgramError::new(alloc, NOT_APPLIED, source.name, SCALAR)),
-        Err(InTomlError::NoValue(_error)) => Err(ProgramError::new(
+        Err(InTomlError::Resolve(_error)) => Err(ProgramError::new(
             alloc,
             NOT_APPLIED,
             source.name,

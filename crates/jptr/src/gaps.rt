@@ -122,17 +122,60 @@ fn fill_line(
 ) -> Result<(), ProgramError> {
     for (slash, byte) in line.pointer.as_bytes().iter().enumerate() {
         if *byte == b'/' {
-            let gap = match next_gap(line, slash) {
-                Some(gap) => Some(gap),
-                None => new_gap(alloc, line, slash)?,
-            };
-            if let Some(gap) = gap {
+            if let Some(gap) = gap_before(alloc, line, slash)? {
                 check_size(alloc, name, line.number, gap)?;
                 filled.add_nulls(alloc, line.number, gap)?;
             }
         }
     }
     Ok(())
+}
+
+/// Returns what is said of the line with this number, whose token after the slash names an element after
+/// the end of an array with this length. Returns `None` if no `null` can be added before it.
+pub fn missing_element(
+    alloc: Global,
+    text: &str,
+    number: usize,
+    slash: usize,
+    length: usize,
+) -> Result<Option<String>, AllocError> {
+    let mut cursor = Cursor::new();
+    for line in text.split('\n') {
+        let passed = cursor.pass(text, line);
+        if passed.number == number {
+            return match gap_before(alloc, passed, slash)? {
+                Some(gap) => Ok(Some(missing_message(alloc, number, gap.above, length)?)),
+                None => Ok(None),
+            };
+        }
+    }
+    Ok(None)
+}
+
+/// Returns what is said of a line before which the element at the index is missing in the array.
+fn missing_message(
+    alloc: Global,
+    number: usize,
+    above: &str,
+    index: usize,
+) -> Result<String, AllocError> {
+    let link = if above.is_empty() { "" } else { " of " };
+    format!(in alloc;
+        "line {number}: index {index}{link}{above} is missing; with --fill, missing elements are null"
+    )
+}
+
+/// Returns the gap before the element that the token after the slash names.
+fn gap_before<'t>(
+    alloc: Global,
+    line: PathLine<'t>,
+    slash: usize,
+) -> Result<Option<MissingElements<'t>>, AllocError> {
+    match next_gap(line, slash) {
+        Some(gap) => Ok(Some(gap)),
+        None => new_gap(alloc, line, slash),
+    }
 }
 
 /// Fails if too many elements are missing.

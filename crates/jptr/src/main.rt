@@ -19,6 +19,7 @@ mod input;
 mod inverse;
 mod locate;
 mod long_patch;
+mod lost_comment;
 mod node;
 mod operands;
 mod operation;

@@ -90,7 +90,7 @@ pub fn test(rt: &HostRuntime, matches: &ArgMatches<'_>) -> Result<u8, ProgramErr
     match passes(alloc, source.text(alloc)?, pointer, value) {
         Ok(true) => Ok(0),
         Ok(false) => Ok(NOT_APPLIED),
-        Err(TaskError::NoValue(_error)) => Ok(NOT_APPLIED),
+        Err(TaskError::Resolve(_error)) => Ok(NOT_APPLIED),
         Err(error) => Err(source.error(alloc, pointer.as_str(), error)),
     }
 }

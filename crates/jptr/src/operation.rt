@@ -14,7 +14,7 @@ use jptr_tasks::raw_patch::RawPatch;
 use jptr_tasks::task::Task;
 use jptr_tasks::task_error::TaskError;
 use jsonptr::{Pointer, PointerBuf, Token};
-use jsonptr_in_text::{InTextError, exists_in_text};
+use jsonptr_in_text::exists_in_text;
 use jsonptr_patch::PatchError;
 use jsonptr_value::ReadError;
 use serde_json::Value;
@@ -94,13 +94,18 @@ pub fn rename(rt: &HostRuntime, matches: &ArgMatches<'_>) -> Result<u8, ProgramE
     let Some(parent) = from.parent() else {
         return Err(ProgramError::new(alloc, USAGE, "POINTER", "the root has no key"));
     };
-    let mut path = parent.to_buf(alloc)?;
-    let key = argument(matches, "KEY");
-    path.push_back(Token::new(alloc, CowStr::Borrowed(key))?)?;
+    let path = member_of(alloc, parent, argument(matches, "KEY"))?;
     let source = Source::open(rt, matches)?;
     check_member(alloc, &source, from, parent, &path)?;
     let operation = transfer_of(alloc, "move", from, path.as_ptr())?;
     put(rt, matches, &source, &operation)
+}
+
+/// Returns the pointer of the member with this key.
+fn member_of(alloc: Global, parent: Pointer<'_>, key: &str) -> Result<PointerBuf, AllocError> {
+    let mut path = parent.to_buf(alloc)?;
+    path.push_back(Token::new(alloc, CowStr::Borrowed(key))?)?;
+    Ok(path)
 }
 
 /// Fails if the parent is no object, if it has no such member, or if it has one with the new pointer.
@@ -181,7 +186,7 @@ fn put(
             source.put(rt, new.as_str())?;
             Ok(0)
         }
-        Err(TaskError::BadPatch(PatchError::MoveIntoSelf { .. })) => {
+        Err(TaskError::PatchFailed(PatchError::MoveIntoSelf { .. })) => {
             Err(ProgramError::new(alloc, NOT_APPLIED, source.name, INTO_SELF))
         }
         Err(error) => {
@@ -194,8 +199,8 @@ fn put(
 /// Returns the error of the one operation, without its number.
 fn error_of(error: TaskError) -> TaskError {
     match error {
-        TaskError::BadPatch(PatchError::NoTarget { cause, .. }) => TaskError::NoValue(cause),
-        TaskError::BadPatch(PatchError::BadPlace { cause, .. }) => TaskError::BadPlace(cause),
+        TaskError::PatchFailed(PatchError::NoTarget { cause, .. }) => TaskError::Resolve(cause),
+        TaskError::PatchFailed(PatchError::BadPlace { cause, .. }) => TaskError::Assign(cause),
         error => error,
     }
 }
@@ -212,7 +217,7 @@ fn pointer_at_fault<'a>(
     match exists_in_text(alloc, source.text(alloc)?, from) {
         Ok(true) => Ok(operation.path),
         Ok(false) => Ok(from),
-        Err(InTextError::Memory(_error)) => Err(ProgramError::Memory),
-        Err(_error) => Ok(operation.path),
+        Err(ReadError::Memory) => Err(ProgramError::Memory),
+        Err(ReadError::NotJson) => Ok(operation.path),
     }
 }

@@ -1,18 +1,21 @@
 //! Commands on a document as lines: its nodes, and the document that lines build.
 
 use crate::digits::{check_bytes, check_lines, is_lossy};
-use crate::gaps::{check_gaps, fill_gaps};
+use crate::gaps::{check_gaps, fill_gaps, missing_element};
 use crate::output::print_text;
 use crate::program_error::ProgramError;
 use crate::source::{FileFormat, Source};
 use crate::style::layout_of;
 use crate::toml_file;
 use clap::ArgMatches;
+use jptr_tasks::exit_status::NOT_APPLIED;
 use jptr_tasks::paths::{built_text, listed_text};
 use jptr_tasks::task_error::TaskError;
+use jsonptr::assign;
 use jsonptr_paths::listing::Listed;
+use jsonptr_paths::reading::LineError;
 use simdutf8::basic::from_utf8;
-use std::alloc::Global;
+use std::alloc::{AllocError, Global};
 
 /// Prints a line for each leaf of a document, or for each node.
 pub fn paths(rt: &HostRuntime, matches: &ArgMatches<'_>) -> Result<u8, ProgramError> {
@@ -66,7 +69,35 @@ pub fn from_paths(rt: &HostRuntime, matches: &ArgMatches<'_>) -> Result<u8, Prog
             check_gaps(alloc, lines.name, from_utf8(&lines.bytes).unwrap_or(""))?;
             put_built(rt, matches, &lines, text.as_str())
         }
-        Err(error) => Err(lines.error(alloc, "", error)),
+        Err(error) => Err(build_error(alloc, &lines, error)),
+    }
+}
+
+/// Returns the error of lines that build no document. If elements of an array are missing, it names the
+/// flag that adds them.
+fn build_error(alloc: Global, lines: &Source<'_>, error: TaskError) -> ProgramError {
+    match missing_message(alloc, &lines.bytes, &error) {
+        Ok(Some(message)) => ProgramError::new(alloc, NOT_APPLIED, lines.name, message.as_str()),
+        Ok(None) => lines.error(alloc, "", error),
+        Err(_) => ProgramError::Memory,
+    }
+}
+
+/// Returns what is said of lines with this error if elements of an array are missing.
+fn missing_message(
+    alloc: Global,
+    lines: &[u8],
+    error: &TaskError,
+) -> Result<Option<String>, AllocError> {
+    match error {
+        TaskError::BadLine(
+            number,
+            LineError::Assign(assign::Error::OutOfBounds { offset, source, .. }),
+        ) => {
+            let text = from_utf8(lines).unwrap_or("");
+            missing_element(alloc, text, *number, *offset, source.length)
+        }
+        _ => Ok(None),
     }
 }
 

@@ -1,7 +1,7 @@
 //! The errors of the program, as they are printed.
 
 use crate::syntax::{explain, unclosed_comment};
-use jptr_tasks::exit_status::{MEMORY, NOT_APPLIED, NOT_JSON};
+use jptr_tasks::exit_status::{BAD_INPUT, MEMORY, NOT_APPLIED};
 use jptr_tasks::task_error::TaskError;
 use jsonptr::diagnostic::Diagnostic;
 use jsonptr::{EncodingError, ParseError, PointerBuf};
@@ -119,12 +119,17 @@ impl ProgramError {
 
     /// Returns the error of a text with a comment at the offset that is not closed.
     pub fn of_comment(alloc: Global, name: &str, text: &str, offset: usize) -> ProgramError {
-        ProgramError::of_message(alloc, NOT_JSON, name, unclosed_comment(alloc, text, offset))
+        ProgramError::of_message(
+            alloc,
+            BAD_INPUT,
+            name,
+            unclosed_comment(alloc, text, offset),
+        )
     }
 
     /// Returns the error of bytes that are not a JSON text.
     pub fn of_bytes(alloc: Global, name: &str, bytes: &[u8]) -> ProgramError {
-        ProgramError::of_text(NOT_JSON, json_text(alloc, name, bytes))
+        ProgramError::of_text(BAD_INPUT, json_text(alloc, name, bytes))
     }
 }
 
@@ -221,8 +226,8 @@ fn drawing(alloc: Global, pointer: &str, error: TaskError) -> Result<Option<Stri
         return Ok(None);
     };
     match error {
-        TaskError::NoValue(error) => Ok(Some(error.into_report(subject).render(alloc)?)),
-        TaskError::BadPlace(error) => Ok(Some(error.into_report(subject).render(alloc)?)),
+        TaskError::Resolve(error) => Ok(Some(error.into_report(subject).render(alloc)?)),
+        TaskError::Assign(error) => Ok(Some(error.into_report(subject).render(alloc)?)),
         _ => Ok(None),
     }
 }

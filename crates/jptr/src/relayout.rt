@@ -46,7 +46,7 @@ fn relaid(
     let new_text = new.text(alloc)?;
     let text = match relayout_text(alloc, old_text, new_text) {
         Ok(Relaid::Kept(text)) => text,
-        Ok(Relaid::Printed(text)) => {
+        Ok(Relaid::Rewritten(text)) => {
             if !matches.get_flag("reformat") {
                 return Err(ProgramError::new(alloc, NOT_APPLIED, old.name, NOT_LAID_OUT));
             }

@@ -39,18 +39,14 @@ pub fn set_task<'a>(
 }
 
 /// Prints the value that each pointer resolves to.
-pub fn get_each(
+pub fn get_each<'a>(
     rt: &HostRuntime,
-    matches: &ArgMatches<'_>,
-    more: &[&str],
+    matches: &ArgMatches<'a>,
+    more: &[&'a str],
 ) -> Result<u8, ProgramError> {
     let alloc = rt.alloc();
     check_several(alloc, matches)?;
-    let mut tasks = Vec::new(alloc);
-    tasks.push(get_task(alloc, matches, argument(matches, "POINTER"))?)?;
-    for text in more {
-        tasks.push(get_task(alloc, matches, *text)?)?;
-    }
+    let tasks = get_tasks(alloc, matches, more)?;
     let style = style_of(alloc, matches)?;
     let source = Source::open(rt, matches)?;
     let values = values_of(alloc, tasks.as_slice(), style, &source)?;
@@ -60,6 +56,20 @@ pub fn get_each(
         source.print(rt, values.as_str())?;
     }
     Ok(0)
+}
+
+/// Returns the tasks of finding the value at each pointer.
+fn get_tasks<'a>(
+    alloc: Global,
+    matches: &ArgMatches<'a>,
+    more: &[&'a str],
+) -> Result<Vec<Task<'a>>, ProgramError> {
+    let mut tasks = Vec::new(alloc);
+    tasks.push(get_task(alloc, matches, argument(matches, "POINTER"))?)?;
+    for text in more {
+        tasks.push(get_task(alloc, matches, *text)?)?;
+    }
+    Ok(tasks)
 }
 
 /// Returns the results of the tasks on the document, one after another.
@@ -141,16 +151,26 @@ fn edit_each(
     } else {
         style
     };
-    let edited = edited_by_each(alloc, tasks, style, expands, &source)?;
-    if style.layout == Layout::Kept {
-        source.put(rt, edited.as_str())?;
-    } else {
+    if style.layout != Layout::Kept {
         source.check_bare(alloc)?;
-        let whole = Task::Get(Pointer::root(), None);
-        let new = result_of(alloc, &whole, style, source.name, edited.as_bytes())?;
-        source.put(rt, new.as_str())?;
     }
+    let edited = edited_by_each(alloc, tasks, style, expands, &source)?;
+    source.put(rt, laid_out(alloc, style, source.name, edited)?.as_str())?;
     Ok(0)
+}
+
+/// Returns the text of the document with this name in the layout of the style.
+fn laid_out(
+    alloc: Global,
+    style: OutputStyle,
+    name: &str,
+    text: String,
+) -> Result<String, ProgramError> {
+    if style.layout == Layout::Kept {
+        return Ok(text);
+    }
+    let whole = Task::Get(Pointer::root(), None);
+    result_of(alloc, &whole, style, name, text.as_bytes())
 }
 
 /// Returns the text of the document after the tasks, one after another. Each is done in the text if that

@@ -16,8 +16,8 @@ use jptr_tasks::task_error::TaskError;
 use serde_json::Value;
 use simdutf8::basic::from_utf8;
 use std::alloc::{AllocError, Global};
-use std::fs;
 use std::io::ErrorKind;
+use std::{fs, mem};
 
 /// The byte order mark of UTF-8.
 const MARK: &str = "\u{feff}";
@@ -61,8 +61,8 @@ pub struct Source<'a> {
     /// Its bytes, without a byte order mark at their start. In JSON there are spaces instead of comments
     /// and trailing commas.
     pub bytes: Vec<u8>,
-    /// Its text with its comments and trailing commas, if it has some.
-    pub commented: Option<String>,
+    /// Its bytes with its comments and trailing commas, if it has some.
+    pub commented: Option<Vec<u8>>,
     /// Whether it starts with a byte order mark.
     pub has_mark: bool,
     /// Its file, if that is changed in place.
@@ -170,8 +170,7 @@ impl<'a> Source<'a> {
             return Ok(());
         };
         if let Some(bare) = bare(alloc, self.name, text)? {
-            self.commented = Some(String::from_str(alloc, text)?);
-            self.bytes = bare.into_bytes();
+            self.commented = Some(mem::replace(&mut self.bytes, bare.into_bytes()));
         }
         Ok(())
     }
@@ -200,10 +199,18 @@ impl<'a> Source<'a> {
         }
     }
 
-    /// Returns its text with its comments.
-    pub fn whole_text(&self, alloc: Global) -> Result<String, ProgramError> {
+    /// Returns its text with its comments and trailing commas, if it has some.
+    pub fn commented_text(&self) -> Option<&str> {
         match &self.commented {
-            Some(text) => Ok(String::from_str(alloc, text.as_str())?),
+            Some(bytes) => from_utf8(bytes).ok(),
+            None => None,
+        }
+    }
+
+    /// Returns its text, with its comments.
+    pub fn whole_text(&self, alloc: Global) -> Result<String, ProgramError> {
+        match self.commented_text() {
+            Some(text) => Ok(String::from_str(alloc, text)?),
             None => Ok(String::from_str(alloc, self.text(alloc)?)?),
         }
     }
@@ -250,7 +257,7 @@ impl<'a> Source<'a> {
     fn is_its_text(&self, text: &str) -> bool {
         let text = if self.has_mark { past_mark(text) } else { text };
         match &self.commented {
-            Some(own) => text == own.as_str(),
+            Some(own) => text.as_bytes() == own.as_slice(),
             None => text.as_bytes() == self.bytes.as_slice(),
         }
     }

@@ -306,16 +306,19 @@ fn drawn(
     let Position { line, column } = Position::after(before);
     let reason = reason_of(alloc, after, fault)?;
     let hint = hint_at(after, fault);
-    let mut out = format!(in alloc; "{reason} at line {line} column {column}{hint}\n")?;
-    let row_start = last_row(before);
-    out.push_str(shown(alloc, row_start)?.as_str())?;
-    out.push_str(shown(alloc, first_row(after))?.as_str())?;
-    out.push('\n')?;
-    for _ in shown(alloc, row_start)?.as_str().chars() {
-        out.push(' ')?;
+    let row = row_with_caret(alloc, last_row(before), first_row(after))?;
+    format!(in alloc; "{reason} at line {line} column {column}{hint}\n{row}")
+}
+
+/// Returns the two parts of a line, and a caret below the start of the second one.
+fn row_with_caret(alloc: Global, before: &str, after: &str) -> Result<String, AllocError> {
+    let (before, after) = (shown(alloc, before)?, shown(alloc, after)?);
+    let mut row = format!(in alloc; "{before}{after}\n")?;
+    for _ in before.as_str().chars() {
+        row.push(' ')?;
     }
-    out.push('^')?;
-    Ok(out)
+    row.push('^')?;
+    Ok(row)
 }
 
 /// Returns what is wrong, in words.

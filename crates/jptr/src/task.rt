@@ -1,11 +1,12 @@
 //! Running a task: on one document, on each line, or on a file in place.
 
 use crate::colors::are_colored;
-use crate::comments::{edited_with_comments, not_in_place, other_layout};
+use crate::comments::{edited_with_comments, other_layout};
 use crate::digits::{check_result, is_checked};
 use crate::drawn::fault_of_task;
 use crate::exact_lines::{ExactTask, run_exact_lines};
 use crate::input::{name_of, open};
+use crate::lost_comment::{CommentedText, not_in_place};
 use crate::operands::file_of;
 use crate::output::{Output, print_text};
 use crate::program_error::ProgramError;
@@ -141,13 +142,23 @@ pub fn tried(
     style: OutputStyle,
     source: &Source<'_>,
 ) -> Result<Result<String, TaskError>, ProgramError> {
-    match &source.commented {
+    match source.commented_text() {
         Some(text) if keeps_comments(task, style, source) => {
             if style.layout != Layout::Kept {
                 return Err(other_layout(alloc, source.name));
             }
-            match edited_with_comments(alloc, task, text.as_str(), source.text(alloc)?) {
-                Err(TaskError::NotInPlace) => Err(not_in_place(alloc, source.name)),
+            let commented = CommentedText {
+                text,
+                bare: source.text(alloc)?,
+            };
+            match edited_with_comments(alloc, task, commented.text, commented.bare) {
+                Err(TaskError::NotInPlace) => Err(not_in_place(
+                    alloc,
+                    source.name,
+                    task,
+                    commented,
+                    style.reformats,
+                )),
                 result => Ok(result),
             }
         }

@@ -8,11 +8,11 @@ use crate::program_error::{ProgramError, shown};
 use crate::source::Source;
 use crate::value_argument::{ValueArgument, toml_default};
 use clap::ArgMatches;
-use jptr_tasks::exit_status::{NOT_APPLIED, NOT_JSON, USAGE};
+use jptr_tasks::exit_status::{BAD_INPUT, NOT_APPLIED, USAGE};
 use jptr_tasks::task_error::TaskError;
 use jsonptr::Pointer;
-use jsonptr_edit_in_toml::{Edited, assign_in_toml_text, delete_in_toml_text};
-use jsonptr_in_toml::{InTomlError, find_in_toml, list_in_toml};
+use jsonptr_edit_in_toml::{Edited, assign_in_toml, delete_in_toml};
+use jsonptr_in_toml::{InTomlError, list_in_toml, resolve_in_toml};
 use jsonptr_paths::listing::Listed;
 use simdutf8::basic::from_utf8;
 use std::alloc::{AllocError, Global};
@@ -27,11 +27,11 @@ pub fn get(
     let alloc = rt.alloc();
     check_no_lines(alloc, matches)?;
     let source = Source::open(rt, matches)?;
-    let value = match find_in_toml(alloc, source.text(alloc)?, pointer) {
+    let value = match resolve_in_toml(alloc, source.text(alloc)?, pointer) {
         Ok(value) => value,
-        Err(InTomlError::NoValue(error)) => match toml_default(alloc, matches)? {
+        Err(InTomlError::Resolve(error)) => match toml_default(alloc, matches)? {
             Some(other) => other,
-            None => return Err(toml_error(alloc, &source, pointer, InTomlError::NoValue(error))),
+            None => return Err(toml_error(alloc, &source, pointer, InTomlError::Resolve(error))),
         },
         Err(error) => return Err(toml_error(alloc, &source, pointer, error)),
     };
@@ -54,7 +54,7 @@ pub fn set(
     if matches.get_flag("no-expand") {
         check_toml_expansion(alloc, &source, pointer)?;
     }
-    let edited = assign_in_toml_text(alloc, source.text(alloc)?, pointer, value);
+    let edited = assign_in_toml(alloc, source.text(alloc)?, pointer, value);
     put(rt, matches, &source, pointer, edited)
 }
 
@@ -67,8 +67,10 @@ pub fn delete(
     let alloc = rt.alloc();
     check_no_lines(alloc, matches)?;
     let source = Source::open(rt, matches)?;
-    let edited = delete_in_toml_text(alloc, source.text(alloc)?, pointer);
-    put(rt, matches, &source, pointer, edited)
+    match delete_in_toml(alloc, source.text(alloc)?, pointer).transpose() {
+        Some(edited) => put(rt, matches, &source, pointer, edited),
+        None => Err(source.error(alloc, pointer.as_str(), TaskError::NotThere)),
+    }
 }
 
 /// Returns a line for each leaf of a document, or for each node.
@@ -119,16 +121,15 @@ pub fn toml_error(
     error: InTomlError,
 ) -> ProgramError {
     let error = match error {
-        InTomlError::NoValue(error) => TaskError::NoValue(error),
-        InTomlError::BadPlace(error) => TaskError::BadPlace(error),
-        InTomlError::NotThere => TaskError::NotThere,
+        InTomlError::Resolve(error) => TaskError::Resolve(error),
+        InTomlError::Assign(error) => TaskError::Assign(error),
         InTomlError::Memory(_) => return ProgramError::Memory,
         InTomlError::NotToml => {
             let message = not_toml(alloc, from_utf8(&source.bytes).unwrap_or(""));
-            return ProgramError::of_message(alloc, NOT_JSON, source.name, message);
+            return ProgramError::of_message(alloc, BAD_INPUT, source.name, message);
         }
         InTomlError::DocumentTooDeep => {
-            return ProgramError::of_message(alloc, NOT_JSON, source.name, error.to_string(alloc));
+            return ProgramError::of_message(alloc, BAD_INPUT, source.name, error.to_string(alloc));
         }
         InTomlError::TooDeep | InTomlError::NoText => {
             return ProgramError::of_message(

@@ -3,16 +3,16 @@
 use crate::digits::{check_text, is_lossy};
 use crate::input::{is_standard, name_of, read_input, value_in};
 use crate::operands::file_of;
-use crate::program_error::ProgramError;
+use crate::program_error::{ProgramError, shown};
 use crate::source::past_mark;
 use clap::ArgMatches;
-use jptr_tasks::exit_status::{NOT_JSON, USAGE};
+use jptr_tasks::exit_status::{BAD_INPUT, USAGE};
 use jsonptr_edit_in_text::RawValue;
-use jsonptr_in_text::InTextError;
 use jsonptr_value::ReadError;
 use serde_json::Value;
 use simdutf8::basic::from_utf8;
 use std::alloc::Global;
+use std::fs;
 
 /// The name of `--default` in errors.
 const DEFAULT: &str = "--default";
@@ -24,6 +24,8 @@ pub enum ValueArgument<'a> {
     String(&'a str),
     /// A text, after its name in errors: that of the argument, or of the file.
     Text(&'a str, String),
+    /// A text that is the argument, where a file has this name and FILE is missing.
+    FileName(&'a str),
 }
 
 impl<'a> ValueArgument<'a> {
@@ -39,6 +41,7 @@ impl<'a> ValueArgument<'a> {
         }
         match argument.strip_prefix('@') {
             Some(file) => ValueArgument::read_file(rt, matches, file),
+            None if is_file_name(rt, matches, argument) => Ok(ValueArgument::FileName(argument)),
             None => Ok(ValueArgument::Text("JSON", String::from_str(rt.alloc(), argument)?)),
         }
     }
@@ -58,7 +61,7 @@ impl<'a> ValueArgument<'a> {
         let bytes = read_input(rt, Some(file))?;
         match from_utf8(&bytes) {
             Ok(text) => Ok(ValueArgument::Text(name, String::from_str(alloc, past_mark(text))?)),
-            Err(_) => Err(ProgramError::new(alloc, NOT_JSON, name, "text is not UTF-8")),
+            Err(_) => Err(ProgramError::new(alloc, BAD_INPUT, name, "text is not UTF-8")),
         }
     }
 
@@ -66,10 +69,13 @@ impl<'a> ValueArgument<'a> {
     pub fn json(self, alloc: Global) -> Result<Value, ProgramError> {
         match self {
             ValueArgument::String(text) => Ok(Value::String(String::from_str(alloc, text)?)),
-            ValueArgument::Text(name, text) => match jsonptr_value::read(alloc, text.as_str()) {
-                Ok(value) => Ok(value),
-                Err(ReadError::Memory) => Err(ProgramError::Memory),
-                Err(ReadError::NotJson) => Err(ProgramError::of_value(alloc, name, text.as_str())),
+            ValueArgument::Text(name, text) => match read(alloc, text.as_str())? {
+                Some(value) => Ok(value),
+                None => Err(ProgramError::of_value(alloc, name, text.as_str())),
+            },
+            ValueArgument::FileName(text) => match read(alloc, text)? {
+                Some(value) => Ok(value),
+                None => Err(missing_value(alloc, text)),
             },
         }
     }
@@ -78,10 +84,13 @@ impl<'a> ValueArgument<'a> {
     pub fn raw(self, alloc: Global) -> Result<RawValue, ProgramError> {
         match self {
             ValueArgument::String(text) => string_value(alloc, text),
-            ValueArgument::Text(name, text) => match RawValue::parse(alloc, text.as_str()) {
-                Ok(value) => Ok(value),
-                Err(InTextError::Memory(_)) => Err(ProgramError::Memory),
-                Err(_) => Err(ProgramError::of_value(alloc, name, text.as_str())),
+            ValueArgument::Text(name, text) => match read_raw(alloc, text.as_str())? {
+                Some(value) => Ok(value),
+                None => Err(ProgramError::of_value(alloc, name, text.as_str())),
+            },
+            ValueArgument::FileName(text) => match read_raw(alloc, text)? {
+                Some(value) => Ok(value),
+                None => Err(missing_value(alloc, text)),
             },
         }
     }
@@ -95,8 +104,49 @@ impl<'a> ValueArgument<'a> {
         match self {
             ValueArgument::String(text) => Ok(toml::Value::String(String::from_str(alloc, text)?)),
             ValueArgument::Text(name, text) => toml_value(alloc, matches, name, text.as_str()),
+            ValueArgument::FileName(text) => toml_value(alloc, matches, "JSON", text),
         }
     }
+}
+
+/// Returns whether a file has this name, and the command has no file.
+fn is_file_name(rt: &HostRuntime, matches: &ArgMatches<'_>, argument: &str) -> bool {
+    if file_of(matches).is_some() {
+        return false;
+    }
+    match fs::metadata(rt, argument) {
+        Ok(found) => found.is_file(),
+        Err(_) => false,
+    }
+}
+
+/// Returns the JSON value with this text, or `None` if it is not JSON.
+fn read(alloc: Global, text: &str) -> Result<Option<Value>, ProgramError> {
+    match jsonptr_value::read(alloc, text) {
+        Ok(value) => Ok(Some(value)),
+        Err(ReadError::Memory) => Err(ProgramError::Memory),
+        Err(ReadError::NotJson) => Ok(None),
+    }
+}
+
+/// Returns the JSON value with its text, or `None` if it is not JSON.
+fn read_raw(alloc: Global, text: &str) -> Result<Option<RawValue>, ProgramError> {
+    match RawValue::parse(alloc, text) {
+        Ok(value) => Ok(Some(value)),
+        Err(ReadError::Memory) => Err(ProgramError::Memory),
+        Err(ReadError::NotJson) => Ok(None),
+    }
+}
+
+/// Returns the error of a command that has the name of a file where a value is wanted.
+fn missing_value(alloc: Global, file: &str) -> ProgramError {
+    let message = match shown(alloc, file) {
+        Ok(name) => format!(in alloc;
+            "{name} is a file, not JSON: the value is missing, or a string lacks quotes or --string"
+        ),
+        Err(error) => Err(error),
+    };
+    ProgramError::of_message(alloc, USAGE, "JSON", message)
 }
 
 /// Returns the text as a JSON string.
@@ -148,7 +198,7 @@ fn toml_value(
     let value = match toml::Value::from_str(alloc, text) {
         Ok(value) => value,
         Err(error) if error.is_memory() => return Err(ProgramError::Memory),
-        Err(_) => return Err(ProgramError::new(alloc, NOT_JSON, name, "not a TOML value")),
+        Err(_) => return Err(ProgramError::new(alloc, BAD_INPUT, name, "not a TOML value")),
     };
     if !is_lossy(matches) {
         check_text(alloc, name, text)?;

@@ -17,7 +17,7 @@ use Rattle.jsonptr_patch.specs.declared.operation.PatchError.{PatchError}
 use Rattle.jsonptr_patch_document.specs.Document.{IsPatch, IsNoPatch}
 use Rattle.jsonptr_patch_document.specs.Writing.{document_of}
 use Rattle.jsonptr_patch_document.specs.declared.error.PatchDocumentError.{PatchDocumentError}
-use Rattle.jsonptr_edit_in_text.specs.PatchInText.{IsPatchFault}
+use Rattle.jsonptr_edit_in_text.specs.PatchInText.{IsPatchError}
 use Rattle.jsonptr_edit_in_text.specs.declared.edited.EditError.TheVariants as edit
 use Rattle.jptr_tasks.specs.Differences.{IsDifference, FailsToDiffer}
 use Rattle.jptr_tasks.specs.Inverting.{IsInverse}
@@ -28,9 +28,9 @@ use Rattle.jsonptr_in_text.specs.declared.format.Format.TheVariants as format
 use Rattle.jsonptr_value.specs.JsonText.{IsCompact}
 use Rattle.jptr_tasks.specs.Layouts.{ShowsInLayout, Lays, ReadsBack}
 use Rattle.jptr_tasks.specs.Results.{FailsToPatch}
-use Rattle.jptr_tasks.specs.declared.difference.Difference.{Difference}
+use Rattle.jptr_tasks.specs.declared.difference.PatchText.{PatchText}
 use Rattle.jptr_tasks.specs.declared.task_error.TaskError.{TaskError}
-use Rattle.jptr_tasks.specs.declared.task_error.TaskError.TheVariants.{NotPatch, BadPatch, TooDeep, NotInPlace, PatchTooDeep, NotJson, Memory, Read}
+use Rattle.jptr_tasks.specs.declared.task_error.TaskError.TheVariants.{NotPatch, PatchFailed, TooDeep, NotInPlace, PatchTooDeep, NotJson, Memory, Read}
 use Rattle.jptr_tasks.specs.declared.layout.Layout.{Layout}
 use Rattle.jptr_tasks.specs.declared.layout.Layout.TheVariants.{Kept, Compact, Pretty, Sorted, SortedPretty, Raw}
 
@@ -86,9 +86,9 @@ restyled Raw text out d reads h =
     unquoted text out d (as_str d) reads (subst (λ (v : Data). MatchOption (as_str v) (out ≡ text) (λ s. out ≡ s)) same h.2)
 
 -- without these four reasons, only a failed allocation is left, and that the edit is not made in place
-pub no_fault : (a : Text) (p : Data) (layout : Layout) (e : TaskError) → ((f : PatchDocumentError) → IsNoPatch p f → ⊥) → (read a ≡ None → ⊥) → ((os : List Operation) (d : Data) (f : PatchError) → IsPatch p os → read a ≡ Some d → RefusesPatchBy Numeric (nodes d) os f → ⊥) → ((os : List Operation) → IsPatch p os → IsPatchFault a os edit.TooDeep → ⊥) → FailsToPatch a p layout e → ((f : AllocError) × (e ≡ Memory f)) ⊎ ((layout ≡ Kept) × (e ≡ NotInPlace))
+pub no_fault : (a : Text) (p : Data) (layout : Layout) (e : TaskError) → ((f : PatchDocumentError) → IsNoPatch p f → ⊥) → (read a ≡ None → ⊥) → ((os : List Operation) (d : Data) (f : PatchError) → IsPatch p os → read a ≡ Some d → RefusesPatchBy Numeric (nodes d) os f → ⊥) → ((os : List Operation) → IsPatch p os → IsPatchError a os edit.TooDeep → ⊥) → FailsToPatch a p layout e → ((f : AllocError) × (e ≡ Memory f)) ⊎ ((layout ≡ Kept) × (e ≡ NotInPlace))
 no_fault a p layout (NotPatch f) patch json refused deep h = absurd (patch f h)
-no_fault a p layout (BadPatch f) patch json refused deep h = absurd (refused h.0 h.1 f h.2 h.3 h.4)
+no_fault a p layout (PatchFailed f) patch json refused deep h = absurd (refused h.0 h.1 f h.2 h.3 h.4)
 no_fault a p layout TooDeep patch json refused deep h = absurd (deep h.0 h.1 h.2)
 no_fault a p layout NotInPlace patch json refused deep h = inr (h.0, refl)
 no_fault a p layout NotJson patch json refused deep h = absurd (json h.1)
@@ -116,7 +116,7 @@ printed SortedPretty text out d reads other h = restyled SortedPretty text out d
 printed Raw text out d reads other h = absurd (other refl)
 
 -- the inverse of a patch turns the one document that the patch makes into the one before
-pub inverse_undoes : (a : Text) (d m patch : Data) (style : Layout) (u : Difference) → ((ps : List Operation) (l : NodeMap) → IsPatch patch ps → PatchesBy Numeric (nodes d) ps l → l ≡ nodes m) → read a ≡ Some d → IsInverse a patch style u → IsDifference (nodes m) (nodes d) style u
+pub inverse_undoes : (a : Text) (d m patch : Data) (style : Layout) (u : PatchText) → ((ps : List Operation) (l : NodeMap) → IsPatch patch ps → PatchesBy Numeric (nodes d) ps l → l ≡ nodes m) → read a ≡ Some d → IsInverse a patch style u → IsDifference (nodes m) (nodes d) style u
 inverse_undoes a d m patch style u one reads inverse =
     let same : inverse.0 ≡ d = one_read a inverse.0 d inverse.3 reads in
     let again : PatchesBy Numeric (nodes d) inverse.1 inverse.2 = subst (λ (q : Data). PatchesBy Numeric (nodes q) inverse.1 inverse.2) same inverse.5 in

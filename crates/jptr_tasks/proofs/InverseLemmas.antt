@@ -12,7 +12,7 @@ use Rattle.jsonptr_patch_document.specs.Document.{IsPatch}
 use Rattle.jptr_tasks.specs.Inverting.{FailsToInvert}
 use Rattle.jptr_tasks.specs.PrivateResults.{IsLayoutError, IsNotPatch, IsPatchTextFault, IsApplyFault}
 use Rattle.jptr_tasks.specs.declared.task_error.TaskError.{TaskError}
-use Rattle.jptr_tasks.specs.declared.task_error.TaskError.TheVariants.{NotPatch, BadPatch, PatchTooDeep, NotJson, Memory, Read}
+use Rattle.jptr_tasks.specs.declared.task_error.TaskError.TheVariants.{NotPatch, PatchFailed, PatchTooDeep, NotJson, Memory, Read}
 
 -- the document is not a patch
 pub not_patch : (text : Text) (p : Data) (e : TaskError) → IsNotPatch p e → FailsToInvert text p e
@@ -28,7 +28,7 @@ not_json text p os other is h = absurd h
 
 -- an operation fails
 pub not_applied : (text : Text) (p d : Data) (os : List Operation) (e : TaskError) → IsPatch p os → read text ≡ Some d → IsApplyFault (nodes d) os e → FailsToInvert text p e
-not_applied text p d os (BadPatch f) is reads h = (os, d, is, reads, h)
+not_applied text p d os (PatchFailed f) is reads h = (os, d, is, reads, h)
 not_applied text p d os (Memory f) is reads h = tt
 not_applied text p d os other is reads h = absurd h
 

@@ -35,7 +35,7 @@ use Rattle.jsonptr_patch_document.specs.declared.error.PatchDocumentError.{Patch
 use Rattle.jsonptr_in_text.specs.InText.{FindsInText, RefusesInText}
 use Rattle.jsonptr_edit_in_text.specs.Carrying.{value_of_raw}
 use Rattle.jsonptr_edit_in_text.specs.EditInText.{AssignsInText, DeletesInText, IsAssignError, LacksInText}
-use Rattle.jsonptr_edit_in_text.specs.PatchInText.{PatchesInText, IsPatchFault}
+use Rattle.jsonptr_edit_in_text.specs.PatchInText.{PatchesInText, IsPatchError}
 use Rattle.jsonptr_edit_in_text.specs.declared.edited.EditError.TheVariants as edit
 use Rattle.jptr_tasks.specs.Documents.{TaskFailsOn}
 use Rattle.jptr_tasks.specs.Layouts.{CanBreak}
@@ -43,7 +43,7 @@ use Rattle.jptr_tasks.specs.LineResults.{IsLineFault, StopsRun}
 use Rattle.jptr_tasks.specs.OneError.{TaskHasSortedKeys, IsOfPlace}
 use Rattle.jptr_tasks.specs.Results.{Gets, FailsToGet, FailsToSet, FailsToDelete, FailsToPatch, Yields, Fails}
 use Rattle.jptr_tasks.specs.declared.task_error.TaskError.{TaskError}
-use Rattle.jptr_tasks.specs.declared.task_error.TaskError.TheVariants.{NotPatch, NoValue, BadPlace, NotThere, BadPatch, TooDeep, NotInPlace, NotLocated, LineBreak, NotJson, Memory, Read, Write}
+use Rattle.jptr_tasks.specs.declared.task_error.TaskError.TheVariants.{NotPatch, Resolve, Assign, NotThere, PatchFailed, TooDeep, NotInPlace, NotLocated, LineBreak, NotJson, Memory, Read, Write}
 use Rattle.jptr_tasks.specs.declared.layout.Layout.{Layout}
 use Rattle.jptr_tasks.specs.declared.layout.Layout.TheVariants.{Kept}
 use Rattle.jptr_tasks.specs.declared.task.Task.{Task}
@@ -73,29 +73,29 @@ module _
 
   get_json : (f : TaskError) → (StopsRun f → ⊥) → read text ≡ None → FailsToGet text ts fallback f → NotJson ≡ f
   get_json NotJson going none h = refl
-  get_json (NoValue e) going none h = absurd (is_json text h.1.0 h.1.1 none)
+  get_json (Resolve e) going none h = absurd (is_json text h.1.0 h.1.1 none)
   get_json NotLocated going none h = absurd (is_json text h.1.0 h.1.1 none)
   get_json (Memory e) going none h = absurd (going tt)
   get_json f going none h = absurd h
 
-  get_value : (e : resolve.Error) (f : TaskError) → (StopsRun f → ⊥) → RefusesInText text ts e → FailsToGet text ts fallback f → NoValue e ≡ f
+  get_value : (e : resolve.Error) (f : TaskError) → (StopsRun f → ⊥) → RefusesInText text ts e → FailsToGet text ts fallback f → Resolve e ≡ f
   get_value e NotJson going refused h = absurd (is_json text refused.0 refused.1 h)
-  get_value e (NoValue g) going refused h =
-      ap NoValue (one (nodes h.1.0) ts e g (subst (λ (d : Data). Refuses (nodes d) ts e) (one_read text refused.0 h.1.0 refused.1 h.1.1) refused.2) h.1.2)
+  get_value e (Resolve g) going refused h =
+      ap Resolve (one (nodes h.1.0) ts e g (subst (λ (d : Data). Refuses (nodes d) ts e) (one_read text refused.0 h.1.0 refused.1 h.1.1) refused.2) h.1.2)
   get_value e NotLocated going refused h = absurd (found_refused h.0 e h.1 refused)
   get_value e (Memory g) going refused h = absurd (going tt)
   get_value e f going refused h = absurd h
 
   get_located : (v : Data) (f : TaskError) → (StopsRun f → ⊥) → FindsInText text ts v → FailsToGet text ts fallback f → NotLocated ≡ f
   get_located v NotJson going found h = absurd (is_json text found.0 found.1 h)
-  get_located v (NoValue g) going found h = absurd (found_refused v g found h.1)
+  get_located v (Resolve g) going found h = absurd (found_refused v g found h.1)
   get_located v NotLocated going found h = refl
   get_located v (Memory g) going found h = absurd (going tt)
   get_located v f going found h = absurd h
 
   get_one : (e f : TaskError) → (StopsRun e → ⊥) → (StopsRun f → ⊥) → FailsToGet text ts fallback e → FailsToGet text ts fallback f → e ≡ f
   get_one NotJson f going on h k = get_json f on h k
-  get_one (NoValue e) f going on h k = get_value e f on h.1 k
+  get_one (Resolve e) f going on h k = get_value e f on h.1 k
   get_one NotLocated f going on h k = get_located h.0 f on h.1 k
   get_one (Memory e) f going on h k = absurd (going tt)
   get_one e f going on h k = absurd h
@@ -113,7 +113,7 @@ module _
 
   get_not_both : (layout : Layout) (out : Text) (e : TaskError) → Gets text ts fallback layout out → FailsToGet text ts fallback e → StopsRun e ⊎ (e ≡ NotLocated)
   get_not_both layout out NotJson got h = absurd (got_read layout out got h)
-  get_not_both layout out (NoValue e) got h = absurd (got_value layout out e got h.0 h.1)
+  get_not_both layout out (Resolve e) got h = absurd (got_value layout out e got h.0 h.1)
   get_not_both layout out NotLocated got h = inr refl
   get_not_both layout out (Memory e) got h = inl tt
   get_not_both layout out e got h = absurd h
@@ -148,16 +148,16 @@ module _
 
   set_json : (f : TaskError) → (StopsRun f → ⊥) → read text ≡ None → FailsToSet text ts v layout f → NotJson ≡ f
   set_json NotJson going none h = refl
-  set_json (BadPlace e) going none h = absurd (is_json text h.0 h.1 none)
+  set_json (Assign e) going none h = absurd (is_json text h.0 h.1 none)
   set_json TooDeep going none h = absurd (is_json text h.0 h.3 none)
   set_json NotInPlace going none h = absurd (is_json text h.1.1.0 h.1.1.2 none)
   set_json (Memory e) going none h = absurd (going tt)
   set_json f going none h = absurd h
 
-  set_place : (e : assign.Error) (f : TaskError) → (StopsRun f → ⊥) → Misplaced e → FailsToSet text ts v layout f → BadPlace e ≡ f
+  set_place : (e : assign.Error) (f : TaskError) → (StopsRun f → ⊥) → Misplaced e → FailsToSet text ts v layout f → Assign e ≡ f
   set_place e NotJson going at h = absurd (is_json text at.0 at.1 h)
-  set_place e (BadPlace g) going at h =
-      ap BadPlace (one (nodes h.0) ts e g (subst (λ (d : Data). RefusesAssign (nodes d) ts e) (one_read text at.0 h.0 at.1 h.1) at.2) h.2)
+  set_place e (Assign g) going at h =
+      ap Assign (one (nodes h.0) ts e g (subst (λ (d : Data). RefusesAssign (nodes d) ts e) (one_read text at.0 h.0 at.1 h.1) at.2) h.2)
   set_place e TooDeep going at h = absurd (place_deep e at h)
   set_place e NotInPlace going at h = absurd (place_assigned e h.1.0 at h.1.1)
   set_place e (Memory g) going at h = absurd (going tt)
@@ -165,7 +165,7 @@ module _
 
   set_deep : (f : TaskError) → (StopsRun f → ⊥) → IsDeep → FailsToSet text ts v layout f → TooDeep ≡ f
   set_deep NotJson going deep h = absurd (is_json text deep.0 deep.3 h)
-  set_deep (BadPlace g) going deep h = absurd (place_deep g h deep)
+  set_deep (Assign g) going deep h = absurd (place_deep g h deep)
   set_deep TooDeep going deep h = refl
   set_deep NotInPlace going deep h = absurd (deep_assigned h.1.0 deep h.1.1)
   set_deep (Memory g) going deep h = absurd (going tt)
@@ -173,7 +173,7 @@ module _
 
   set_done : (new : Text) (f : TaskError) → Assigned new → FailsToSet text ts v layout f → StopsRun f ⊎ ((layout ≡ Kept) × (f ≡ NotInPlace))
   set_done new NotJson done h = absurd (is_json text done.0 done.2 h)
-  set_done new (BadPlace g) done h = absurd (place_assigned g new h done)
+  set_done new (Assign g) done h = absurd (place_assigned g new h done)
   set_done new TooDeep done h = absurd (deep_assigned new h done)
   set_done new NotInPlace done h = inr (h.0, refl)
   set_done new (Memory g) done h = inl tt
@@ -185,7 +185,7 @@ module _
 
   set_one : (e f : TaskError) → (StopsRun e → ⊥) → (StopsRun f → ⊥) → FailsToSet text ts v layout e → FailsToSet text ts v layout f → e ≡ f
   set_one NotJson f going on h k = set_json f on h k
-  set_one (BadPlace e) f going on h k = set_place e f on h k
+  set_one (Assign e) f going on h k = set_place e f on h k
   set_one TooDeep f going on h k = set_deep f on h k
   set_one NotInPlace f going on h k = set_in_place f on (set_done h.1.0 f h.1.1 k)
   set_one (Memory e) f going on h k = absurd (going tt)
@@ -244,7 +244,7 @@ module _
   Stuck e = (os : List Operation) × (d : Data) × IsPatch patch os × (read text ≡ Some d) × RefusesPatchBy Numeric (nodes d) os e
 
   abbrev IsDeepPatch : Type 0
-  IsDeepPatch = (os : List Operation) × IsPatch patch os × IsPatchFault text os edit.TooDeep
+  IsDeepPatch = (os : List Operation) × IsPatch patch os × IsPatchError text os edit.TooDeep
 
   again_refused : (os ps : List Operation) (d c : Data) (e : PatchError) → IsPatch patch os → IsPatch patch ps → read text ≡ Some d → read text ≡ Some c → RefusesPatchBy Numeric (nodes d) os e → RefusesPatchBy Numeric (nodes c) ps e
   again_refused os ps d c e is also reads again h =
@@ -270,7 +270,7 @@ module _
   patch_not : (e : PatchDocumentError) (f : TaskError) → (StopsRun f → ⊥) → IsNoPatch patch e → FailsToPatch text patch layout f → NotPatch e ≡ f
   patch_not e (NotPatch g) going bad h = ap NotPatch (one_no patch e g bad h)
   patch_not e NotJson going bad h = absurd (no_both patch h.0.0 e h.0.1 bad)
-  patch_not e (BadPatch g) going bad h = absurd (no_both patch h.0 e h.2 bad)
+  patch_not e (PatchFailed g) going bad h = absurd (no_both patch h.0 e h.2 bad)
   patch_not e TooDeep going bad h = absurd (no_both patch h.0 e h.1 bad)
   patch_not e NotInPlace going bad h = absurd (no_both patch h.1.0 e h.1.2 bad)
   patch_not e (Memory g) going bad h = absurd (going tt)
@@ -279,17 +279,17 @@ module _
   patch_json : (os : List Operation) (f : TaskError) → (StopsRun f → ⊥) → IsPatch patch os → read text ≡ None → FailsToPatch text patch layout f → NotJson ≡ f
   patch_json os (NotPatch g) going is none h = absurd (no_both patch os g is h)
   patch_json os NotJson going is none h = refl
-  patch_json os (BadPatch g) going is none h = absurd (is_json text h.1 h.3 none)
+  patch_json os (PatchFailed g) going is none h = absurd (is_json text h.1 h.3 none)
   patch_json os TooDeep going is none h = absurd (is_json text h.2.0 h.2.2 none)
   patch_json os NotInPlace going is none h = absurd (is_json text h.1.3.0 h.1.3.2 none)
   patch_json os (Memory g) going is none h = absurd (going tt)
   patch_json os f going is none h = absurd h
 
-  patch_stuck : (e : PatchError) (f : TaskError) → (StopsRun f → ⊥) → Stuck e → FailsToPatch text patch layout f → BadPatch e ≡ f
+  patch_stuck : (e : PatchError) (f : TaskError) → (StopsRun f → ⊥) → Stuck e → FailsToPatch text patch layout f → PatchFailed e ≡ f
   patch_stuck e (NotPatch g) going at h = absurd (no_both patch at.0 g at.2 h)
   patch_stuck e NotJson going at h = absurd (is_json text at.1 at.3 h.1)
-  patch_stuck e (BadPatch g) going at h =
-      ap BadPatch (one (nodes h.1) h.0 e g (is_document h.1) (again_refused at.0 h.0 at.1 h.1 e at.2 h.2 at.3 h.3 at.4) h.4)
+  patch_stuck e (PatchFailed g) going at h =
+      ap PatchFailed (one (nodes h.1) h.0 e g (is_document h.1) (again_refused at.0 h.0 at.1 h.1 e at.2 h.2 at.3 h.3 at.4) h.4)
   patch_stuck e TooDeep going at h = absurd (stuck_deep e at h)
   patch_stuck e NotInPlace going at h = absurd (stuck_patched e h.1.0 h.1.1 at h.1.2 h.1.3)
   patch_stuck e (Memory g) going at h = absurd (going tt)
@@ -298,7 +298,7 @@ module _
   patch_deep : (f : TaskError) → (StopsRun f → ⊥) → IsDeepPatch → FailsToPatch text patch layout f → TooDeep ≡ f
   patch_deep (NotPatch g) going deep h = absurd (no_both patch deep.0 g deep.1 h)
   patch_deep NotJson going deep h = absurd (is_json text deep.2.0 deep.2.2 h.1)
-  patch_deep (BadPatch g) going deep h = absurd (stuck_deep g h deep)
+  patch_deep (PatchFailed g) going deep h = absurd (stuck_deep g h deep)
   patch_deep TooDeep going deep h = refl
   patch_deep NotInPlace going deep h = absurd (deep_patched h.1.0 h.1.1 deep h.1.2 h.1.3)
   patch_deep (Memory g) going deep h = absurd (going tt)
@@ -307,7 +307,7 @@ module _
   patch_done : (ps : List Operation) (new : Text) (f : TaskError) → IsPatch patch ps → PatchesInText text ps new → FailsToPatch text patch layout f → StopsRun f ⊎ ((layout ≡ Kept) × (f ≡ NotInPlace))
   patch_done ps new (NotPatch g) is done h = absurd (no_both patch ps g is h)
   patch_done ps new NotJson is done h = absurd (is_json text done.0 done.2 h.1)
-  patch_done ps new (BadPatch g) is done h = absurd (stuck_patched g ps new h is done)
+  patch_done ps new (PatchFailed g) is done h = absurd (stuck_patched g ps new h is done)
   patch_done ps new TooDeep is done h = absurd (deep_patched ps new h is done)
   patch_done ps new NotInPlace is done h = inr (h.0, refl)
   patch_done ps new (Memory g) is done h = inl tt
@@ -320,7 +320,7 @@ module _
   patch_one : (e f : TaskError) → (StopsRun e → ⊥) → (StopsRun f → ⊥) → FailsToPatch text patch layout e → FailsToPatch text patch layout f → e ≡ f
   patch_one (NotPatch e) f going on h k = patch_not e f on h k
   patch_one NotJson f going on h k = patch_json h.0.0 f on h.0.1 h.1 k
-  patch_one (BadPatch e) f going on h k = patch_stuck e f on h k
+  patch_one (PatchFailed e) f going on h k = patch_stuck e f on h k
   patch_one TooDeep f going on h k = patch_deep f on h k
   patch_one NotInPlace f going on h k = patch_in_place f on (patch_done h.1.0 h.1.1 f h.1.2 h.1.3 k)
   patch_one (Memory e) f going on h k = absurd (going tt)

@@ -17,6 +17,7 @@ use Rattle.json.specs.Print.{print}
 use Rattle.serde_json.specs.View.{view}
 use Rattle.serde_json.specs.declared.value.Value.{Value}
 use Rattle.jsonptr.specs.Pointer.{tokens}
+use Rattle.jsonptr_edit_in_text.specs.declared.edited.EditError.{EditError}
 use Rattle.jsonptr_edit_in_text.specs.declared.edited.EditError.TheVariants as edit
 use Rattle.jsonptr_edit_in_text.specs.declared.in_place.InPlaceError.{InPlaceError}
 use Rattle.jsonptr_edit_in_text.specs.declared.in_place.InPlaceError.TheVariants as in_place
@@ -40,7 +41,7 @@ use Rattle.jptr_tasks.specs.PrivateResults.{Remakes, FailsToApply, IsLayoutError
 use Rattle.jptr_tasks.specs.LineResults.{YieldsLine, IsLineFault, IsReport, StopsRun, fallback_line}
 use Rattle.jptr_tasks.specs.PrivateLineResults.{Known, OrMemory, IsNoMemory, IsPut, StopsPut}
 use Rattle.jptr_tasks.specs.declared.task_error.TaskError.{TaskError}
-use Rattle.jptr_tasks.specs.declared.task_error.TaskError.TheVariants.{NotPatch, BadPatch, TooDeep, NotInPlace, NotJson, Memory, Write}
+use Rattle.jptr_tasks.specs.declared.task_error.TaskError.TheVariants.{NotPatch, PatchFailed, TooDeep, NotInPlace, NotJson, Memory, Write}
 use Rattle.jptr_tasks.specs.declared.layout.Layout.{Layout}
 use Rattle.jptr_tasks.specs.declared.layout.Layout.TheVariants.{Kept, Compact, Pretty, Sorted, SortedPretty, Raw}
 use Rattle.jptr_tasks.specs.declared.line.LineTask.{LineTask}
@@ -88,7 +89,7 @@ patched_by text patch os (Err f) is h = tt
 
 -- ---- edits that are not made
 
-pub set_fails : (text : Text) (ts : List Text) (v : Data) (e : InPlaceError assign.Error)
+pub set_fails : (text : Text) (ts : List Text) (v : Data) (e : InPlaceError (EditError assign.Error))
     → IsInPlaceError (AssignsInText text ts (nodes v)) (IsAssignError text ts v) e → FailsToSet text ts v Kept (of_strict_assign_error e)
 set_fails text ts v in_place.NotInPlace h = (refl, h)
 set_fails text ts v (in_place.Failed edit.NotJson) h = h
@@ -108,7 +109,7 @@ relaid_fails text patch layout new other h r = absurd r
 -- what fails in another layout than the one that is kept fails in each
 pub fails_anew : (text : Text) (patch : Data) (layout : Layout) (e : TaskError) → FailsToPatch text patch Compact e → FailsToPatch text patch layout e
 fails_anew text patch layout (NotPatch f) h = h
-fails_anew text patch layout (BadPatch f) h = h
+fails_anew text patch layout (PatchFailed f) h = h
 fails_anew text patch layout TooDeep h = h
 fails_anew text patch layout NotInPlace h =
     let other : Compact ≡ Kept = h.0 in
@@ -119,7 +120,7 @@ fails_anew text patch layout (Memory f) h = tt
 fails_anew text patch layout other h = absurd h
 
 patch_fails : (text : Text) (patch : Data) (os : List Operation) (layout : Layout) (e : TaskError) → IsPatch patch os → FailsToApply text os layout e → FailsToPatch text patch layout e
-patch_fails text patch os layout (BadPatch f) is h = (os, h.0, is, h.1, h.2)
+patch_fails text patch os layout (PatchFailed f) is h = (os, h.0, is, h.1, h.2)
 patch_fails text patch os layout TooDeep is h = (os, is, h)
 patch_fails text patch os layout NotInPlace is h = (h.0, (os, h.1.0, is, h.1.1))
 patch_fails text patch os layout NotJson is h = ((os, is), h)

@@ -7,14 +7,14 @@ use Rattle.jsonptr_patch.specs.Patching.{Patches}
 use Rattle.jsonptr_patch.specs.declared.operation.Operation.{Operation}
 use Rattle.jsonptr_patch_document.specs.Writing.{document_of}
 use Rattle.jptr_tasks.specs.Layouts.{ShowsInLayout}
-use Rattle.jptr_tasks.specs.declared.difference.Difference.{Difference}
+use Rattle.jptr_tasks.specs.declared.difference.PatchText.{PatchText}
 use Rattle.jptr_tasks.specs.declared.task_error.TaskError.{TaskError}
 use Rattle.jptr_tasks.specs.declared.task_error.TaskError.TheVariants.{PatchTooDeep, Memory}
 use Rattle.jptr_tasks.specs.declared.layout.Layout.{Layout}
 
 -- `IsDifference n m layout d`: the text of `d` is the patch document of operations that turn `n` into `m`, and is read as it.
 -- `is_empty` says whether there are none
-abbrev pub IsDifference : NodeMap → NodeMap → Layout → Difference → Type 0
+abbrev pub IsDifference : NodeMap → NodeMap → Layout → PatchText → Type 0
 IsDifference n m layout d =
     (os : List Operation)
     × Patches n os m
@@ -29,5 +29,5 @@ FailsToDiffer n m (Memory f) = ⊤
 FailsToDiffer n m e = ⊥
 
 -- `IsNoneIfSame n m d`: if `n` and `m` are the same, `d` has no operation
-abbrev pub IsNoneIfSame : NodeMap → NodeMap → Difference → Type 0
+abbrev pub IsNoneIfSame : NodeMap → NodeMap → PatchText → Type 0
 IsNoneIfSame n m d = n ≡ m → d.is_empty ≡ true

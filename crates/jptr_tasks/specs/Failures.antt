@@ -1,10 +1,12 @@
 -- The errors of a command: how those of the calls below become them, and the exit status of each.
-use Rattle.std.specs.Prelude.{ℕ}
+use Rattle.std.specs.Prelude.{ℕ, alloc_error}
 use Rattle.std.specs.declared.convert.Infallible.{Infallible}
 use Rattle.jsonptr.specs.declared.assign.Error as assign
 use Rattle.jsonptr_patch.specs.declared.operation.PatchError.{PatchError}
 use Rattle.jsonptr_io.specs.declared.input.InputError.{InputError}
 use Rattle.jsonptr_io.specs.declared.input.InputError.TheVariants as input
+use Rattle.jsonptr_value.specs.declared.from_text.ReadError.{ReadError}
+use Rattle.jsonptr_value.specs.declared.from_text.ReadError.TheVariants as unread
 use Rattle.jsonptr_in_text.specs.declared.resolve.InTextError.{InTextError}
 use Rattle.jsonptr_in_text.specs.declared.resolve.InTextError.TheVariants as in_text
 use Rattle.jsonptr_edit_in_text.specs.declared.edited.EditError.{EditError}
@@ -16,7 +18,7 @@ use Rattle.jsonptr_paths.specs.declared.reading.LineError.TheVariants as line
 use Rattle.jsonptr_paths.specs.declared.reading.BuildError.{BuildError}
 use Rattle.jsonptr_paths.specs.declared.reading.BuildError.TheVariants as build
 use Rattle.jptr_tasks.specs.declared.task_error.TaskError.{TaskError}
-use Rattle.jptr_tasks.specs.declared.task_error.TaskError.TheVariants.{NotPatch, NoValue, BadPlace, NotThere, BadPatch, TooDeep, NotInPlace, NotLocated, PatchTooDeep, LineBreak, BadLine, NotUtf8, NotJson, Memory, Read, Write}
+use Rattle.jptr_tasks.specs.declared.task_error.TaskError.TheVariants.{NotPatch, Resolve, Assign, NotThere, PatchFailed, TooDeep, NotInPlace, NotLocated, PatchTooDeep, LineBreak, BadLine, NotUtf8, NotJson, Memory, Read, Write}
 
 -- `status_of_line e`: the exit status if a line adds no value, for the reason `e`
 abbrev pub status_of_line : LineError → ℕ
@@ -24,15 +26,15 @@ status_of_line line.NoTab = 3
 status_of_line line.NotPointer = 3
 status_of_line line.TooDeep = 1
 status_of_line line.NotJson = 3
-status_of_line (line.BadPlace e) = 1
+status_of_line (line.Assign e) = 1
 
 -- `status_of_task e`: the exit status of the program after the error `e`
 abbrev pub status_of_task : TaskError → ℕ
 status_of_task (NotPatch e) = 1
-status_of_task (NoValue e) = 1
-status_of_task (BadPlace e) = 1
+status_of_task (Resolve e) = 1
+status_of_task (Assign e) = 1
 status_of_task NotThere = 1
-status_of_task (BadPatch e) = 1
+status_of_task (PatchFailed e) = 1
 status_of_task TooDeep = 1
 status_of_task NotInPlace = 1
 status_of_task NotLocated = 1
@@ -50,16 +52,21 @@ abbrev pub of_input_error : InputError → TaskError
 of_input_error (input.Memory e) = Memory e
 of_input_error input.Read = Read
 
+-- `of_read_error e`: the error of the command if a text is not read
+abbrev pub of_read_error : ReadError → TaskError
+of_read_error unread.NotJson = NotJson
+of_read_error unread.Memory = Memory alloc_error
+
 -- `error_of_resolving e`: the error of the command if a pointer does not resolve in a text
 abbrev pub error_of_resolving : InTextError → TaskError
 error_of_resolving in_text.NotJson = NotJson
-error_of_resolving (in_text.Resolve e) = NoValue e
+error_of_resolving (in_text.Resolve e) = Resolve e
 error_of_resolving (in_text.Memory e) = Memory e
 
 -- `of_assign_error e`: the error of the command if a value cannot be assigned in a text
 abbrev pub of_assign_error : EditError assign.Error → TaskError
 of_assign_error edit.NotJson = NotJson
-of_assign_error (edit.Refused e) = BadPlace e
+of_assign_error (edit.Refused e) = Assign e
 of_assign_error edit.TooDeep = TooDeep
 of_assign_error (edit.Memory e) = Memory e
 
@@ -73,17 +80,17 @@ of_delete_error (edit.Memory e) = Memory e
 -- `of_patch_error e`: the error of the command if a patch is not applied in a text
 abbrev pub of_patch_error : EditError PatchError → TaskError
 of_patch_error edit.NotJson = NotJson
-of_patch_error (edit.Refused e) = BadPatch e
+of_patch_error (edit.Refused e) = PatchFailed e
 of_patch_error edit.TooDeep = TooDeep
 of_patch_error (edit.Memory e) = Memory e
 
 -- `of_strict_assign_error e`, `of_strict_delete_error e`: the same of edits that are made in place
 -- or not at all
-abbrev pub of_strict_assign_error : InPlaceError assign.Error → TaskError
+abbrev pub of_strict_assign_error : InPlaceError (EditError assign.Error) → TaskError
 of_strict_assign_error in_place.NotInPlace = NotInPlace
 of_strict_assign_error (in_place.Failed e) = of_assign_error e
 
-abbrev pub of_strict_delete_error : InPlaceError Infallible → TaskError
+abbrev pub of_strict_delete_error : InPlaceError (EditError Infallible) → TaskError
 of_strict_delete_error in_place.NotInPlace = NotInPlace
 of_strict_delete_error (in_place.Failed e) = of_delete_error e
 

@@ -11,14 +11,14 @@ use Rattle.jsonptr_patch.specs.declared.operation.Operation.{Operation}
 use Rattle.jsonptr_patch_document.specs.Document.{IsPatch, IsNoPatch}
 use Rattle.jsonptr_patch_document.specs.Writing.{document_of}
 use Rattle.jptr_tasks.specs.Differences.{IsDifference}
-use Rattle.jptr_tasks.specs.declared.difference.Difference.{Difference}
+use Rattle.jptr_tasks.specs.declared.difference.PatchText.{PatchText}
 use Rattle.jptr_tasks.specs.declared.task_error.TaskError.{TaskError}
-use Rattle.jptr_tasks.specs.declared.task_error.TaskError.TheVariants.{NotPatch, BadPatch, PatchTooDeep, NotJson, Memory}
+use Rattle.jptr_tasks.specs.declared.task_error.TaskError.TheVariants.{NotPatch, PatchFailed, PatchTooDeep, NotJson, Memory}
 use Rattle.jptr_tasks.specs.declared.layout.Layout.{Layout}
 
 -- `IsInverse text patch layout u`: `u` turns the document of `text` after the operations that the document `patch` is into
 -- the document of `text`
-abbrev pub IsInverse : Text → Data → Layout → Difference → Type 0
+abbrev pub IsInverse : Text → Data → Layout → PatchText → Type 0
 IsInverse text patch layout u =
     (d : Data) × (os : List Operation) × (m : NodeMap)
     × (read text ≡ Some d) × IsPatch patch os × PatchesBy Numeric (nodes d) os m
@@ -29,7 +29,7 @@ IsInverse text patch layout u =
 abbrev pub FailsToInvert : Text → Data → TaskError → Type 0
 FailsToInvert text patch (NotPatch f) = IsNoPatch patch f
 FailsToInvert text patch NotJson = ((os : List Operation) × IsPatch patch os) × (read text ≡ None)
-FailsToInvert text patch (BadPatch f) =
+FailsToInvert text patch (PatchFailed f) =
     (os : List Operation) × (d : Data)
     × IsPatch patch os × (read text ≡ Some d) × RefusesPatchBy Numeric (nodes d) os f
 FailsToInvert text patch PatchTooDeep =

@@ -15,7 +15,7 @@ use Rattle.jsonptr_patch.specs.Testing.{IsEqualBy}
 use Rattle.jsonptr_patch.specs.declared.comparison.Comparison.TheVariants.{Numeric}
 use Rattle.jsonptr_edit_in_text.specs.Locating.{IsLocated}
 use Rattle.jptr_tasks.specs.declared.task_error.TaskError.{TaskError}
-use Rattle.jptr_tasks.specs.declared.task_error.TaskError.TheVariants.{NotJson, NoValue, NotLocated, Memory}
+use Rattle.jptr_tasks.specs.declared.task_error.TaskError.TheVariants.{NotJson, Resolve, NotLocated, Memory}
 use Rattle.jptr_tasks.specs.declared.node.NodeType.{NodeType}
 use Rattle.jptr_tasks.specs.declared.node.NodeType.TheVariants as variant
 
@@ -85,7 +85,7 @@ Tests text ts v b = (d : Data) × FindsInText text ts d × (IsTrue b ↔ IsEqual
 -- `FailsToFind text ts e`: `e` is why no value is found, if it is not for memory
 abbrev pub FailsToFind : Text → List Text → TaskError → Type 0
 FailsToFind text ts NotJson = read text ≡ None
-FailsToFind text ts (NoValue f) = RefusesInText text ts f
+FailsToFind text ts (Resolve f) = RefusesInText text ts f
 FailsToFind text ts (Memory f) = ⊤
 FailsToFind text ts e = ⊥
 

@@ -11,12 +11,12 @@ use Rattle.jsonptr_patch.specs.declared.comparison.Comparison.TheVariants.{Numer
 use Rattle.jsonptr_patch.specs.declared.operation.Operation.{Operation}
 use Rattle.jsonptr_patch_document.specs.Document.{IsPatch, IsNoPatch}
 use Rattle.jsonptr_patch_document.specs.Writing.{document_of}
-use Rattle.jsonptr_edit_in_text.specs.PatchInText.{PatchesInText, IsPatchFault}
+use Rattle.jsonptr_edit_in_text.specs.PatchInText.{PatchesInText, IsPatchError}
 use Rattle.jsonptr_edit_in_text.specs.declared.edited.EditError.TheVariants as edit
 use Rattle.jsonptr_relayout.specs.Relaying.{ReadsAs}
 use Rattle.jptr_tasks.specs.Layouts.{Lays}
 use Rattle.jptr_tasks.specs.declared.task_error.TaskError.{TaskError}
-use Rattle.jptr_tasks.specs.declared.task_error.TaskError.TheVariants.{NotPatch, BadPatch, TooDeep, NotInPlace, PatchTooDeep, NotJson, Memory}
+use Rattle.jptr_tasks.specs.declared.task_error.TaskError.TheVariants.{NotPatch, PatchFailed, TooDeep, NotInPlace, PatchTooDeep, NotJson, Memory}
 use Rattle.jptr_tasks.specs.declared.layout.Layout.{Layout}
 use Rattle.jptr_tasks.specs.declared.layout.Layout.TheVariants.{Kept}
 
@@ -48,8 +48,8 @@ IsNotPatch patch e = ⊥
 -- apply, but not in place
 abbrev pub FailsToApply : Text → List Operation → Layout → TaskError → Type 0
 FailsToApply text os layout NotJson = read text ≡ None
-FailsToApply text os layout (BadPatch f) = (d : Data) × (read text ≡ Some d) × RefusesPatchBy Numeric (nodes d) os f
-FailsToApply text os layout TooDeep = IsPatchFault text os edit.TooDeep
+FailsToApply text os layout (PatchFailed f) = (d : Data) × (read text ≡ Some d) × RefusesPatchBy Numeric (nodes d) os f
+FailsToApply text os layout TooDeep = IsPatchError text os edit.TooDeep
 FailsToApply text os layout NotInPlace = (layout ≡ Kept) × ((new : Text) × PatchesInText text os new)
 FailsToApply text os layout (Memory f) = ⊤
 FailsToApply text os layout e = ⊥
@@ -62,6 +62,6 @@ IsPatchTextFault os e = ⊥
 
 -- `IsApplyFault n os e`: `e` is why the operations `os` are not applied to `n`, if it is not for memory
 abbrev pub IsApplyFault : NodeMap → List Operation → TaskError → Type 0
-IsApplyFault n os (BadPatch f) = RefusesPatchBy Numeric n os f
+IsApplyFault n os (PatchFailed f) = RefusesPatchBy Numeric n os f
 IsApplyFault n os (Memory f) = ⊤
 IsApplyFault n os e = ⊥

@@ -18,13 +18,13 @@ use Rattle.jsonptr_edit_in_text.specs.Carrying.{value_of_raw, Carries}
 use Rattle.jsonptr_edit_in_text.specs.InPlace.{StaysOneLine}
 use Rattle.jsonptr_edit_in_text.specs.Locating.{IsLocated}
 use Rattle.jsonptr_edit_in_text.specs.EditInText.{AssignsInText, IsAssignError, DeletesInText, LacksInText}
-use Rattle.jsonptr_edit_in_text.specs.PatchInText.{PatchesInText, PatchBytes, IsPatchFault}
+use Rattle.jsonptr_edit_in_text.specs.PatchInText.{PatchesInText, PatchBytes, IsPatchError}
 use Rattle.jsonptr_edit_in_text.specs.RawPatching.{RawPatchBytes}
 use Rattle.jsonptr_edit_in_text.specs.declared.edited.EditError.TheVariants as edit
 use Rattle.jsonptr_edit_in_text.specs.declared.raw_value.RawValue.{RawValue}
 use Rattle.jptr_tasks.specs.Layouts.{ShowsInLayout, Lays}
 use Rattle.jptr_tasks.specs.declared.task_error.TaskError.{TaskError}
-use Rattle.jptr_tasks.specs.declared.task_error.TaskError.TheVariants.{NotPatch, NoValue, BadPlace, NotThere, BadPatch, TooDeep, NotInPlace, NotLocated, NotJson, Memory}
+use Rattle.jptr_tasks.specs.declared.task_error.TaskError.TheVariants.{NotPatch, Resolve, Assign, NotThere, PatchFailed, TooDeep, NotInPlace, NotLocated, NotJson, Memory}
 use Rattle.jptr_tasks.specs.declared.layout.Layout.{Layout}
 use Rattle.jptr_tasks.specs.declared.layout.Layout.TheVariants.{Kept}
 use Rattle.jptr_tasks.specs.declared.raw_patch.RawPatch.{RawPatch}
@@ -87,7 +87,7 @@ Yields (Patch p) layout text out = PatchesRawInLayout text p layout out
 -- `FailsToGet text ts fallback e`: `e` is why no value is found, if it is not for memory. With `NotLocated` the value is there
 abbrev pub FailsToGet : Text → List Text → Option Value → TaskError → Type 0
 FailsToGet text ts fallback NotJson = read text ≡ None
-FailsToGet text ts fallback (NoValue f) = (fallback ≡ None) × RefusesInText text ts f
+FailsToGet text ts fallback (Resolve f) = (fallback ≡ None) × RefusesInText text ts f
 FailsToGet text ts fallback NotLocated = (v : Data) × FindsInText text ts v
 FailsToGet text ts fallback (Memory f) = ⊤
 FailsToGet text ts fallback e = ⊥
@@ -96,7 +96,7 @@ FailsToGet text ts fallback e = ⊥
 -- assignment is possible, but not in place
 abbrev pub FailsToSet : Text → List Text → Data → Layout → TaskError → Type 0
 FailsToSet text ts v layout NotJson = read text ≡ None
-FailsToSet text ts v layout (BadPlace f) = IsAssignError text ts v (edit.Refused f)
+FailsToSet text ts v layout (Assign f) = IsAssignError text ts v (edit.Refused f)
 FailsToSet text ts v layout TooDeep = IsAssignError text ts v edit.TooDeep
 FailsToSet text ts v layout NotInPlace = (layout ≡ Kept) × ((new : Text) × AssignsInText text ts (nodes v) new)
 FailsToSet text ts v layout (Memory f) = ⊤
@@ -116,11 +116,11 @@ FailsToDelete text ts layout e = ⊥
 abbrev pub FailsToPatch : Text → Data → Layout → TaskError → Type 0
 FailsToPatch text patch layout (NotPatch f) = IsNoPatch patch f
 FailsToPatch text patch layout NotJson = ((os : List Operation) × IsPatch patch os) × (read text ≡ None)
-FailsToPatch text patch layout (BadPatch f) =
+FailsToPatch text patch layout (PatchFailed f) =
     (os : List Operation) × (d : Data)
     × IsPatch patch os × (read text ≡ Some d) × RefusesPatchBy Numeric (nodes d) os f
 FailsToPatch text patch layout TooDeep =
-    (os : List Operation) × IsPatch patch os × IsPatchFault text os edit.TooDeep
+    (os : List Operation) × IsPatch patch os × IsPatchError text os edit.TooDeep
 FailsToPatch text patch layout NotInPlace =
     (layout ≡ Kept) × ((os : List Operation) × (new : Text) × IsPatch patch os × PatchesInText text os new)
 FailsToPatch text patch layout (Memory f) = ⊤

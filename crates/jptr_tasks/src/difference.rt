@@ -19,7 +19,7 @@ use std::alloc::Global;
 
 /// The difference of two documents.
 #[derive(Debug, Drop)]
-pub struct Difference {
+pub struct PatchText {
     /// The JSON text of the patch document (RFC 6902), with no line break after it.
     pub text: String,
     /// Whether the patch has no operation.
@@ -54,7 +54,7 @@ pub fn difference_of(
     old: &Value,
     new: &Value,
     layout: Layout,
-) -> Result<Difference, TaskError>
+) -> Result<PatchText, TaskError>
     ensures patch { IfOk result
         (IsDifference (nodes (view old.now)) (nodes (view new.now)) layout) }
     ensures same { IfOk result
@@ -64,7 +64,7 @@ pub fn difference_of(
     let patch = diff(alloc, old, new)?;
     let text = patch_text(alloc, &patch, layout)?;
     let is_empty = patch.is_empty();
-    Ok(Difference { text, is_empty })
+    Ok(PatchText { text, is_empty })
 }
 
 /// Returns the text of the patch document of the operations.

@@ -5,7 +5,7 @@ pub const NOT_APPLIED: u8 = 1;
 /// The command line is wrong.
 pub const USAGE: u8 = 2;
 /// A text is not JSON or TOML, a number loses digits, or two documents have no patch that can be read.
-pub const NOT_JSON: u8 = 3;
+pub const BAD_INPUT: u8 = 3;
 /// An allocation failed.
 pub const MEMORY: u8 = 4;
 /// A read or a write failed.

@@ -7,8 +7,8 @@ ghost use Rattle.jsonptr_patch.specs.declared.comparison.Comparison.TheVariants.
 ghost use Rattle.jptr_tasks.specs.Inverting.{IsInverse, FailsToInvert};
 ghost use Rattle.jptr_tasks.specs.PrivateResults.{IsApplyFault};
 
-use crate::difference::{Difference, patch_text};
-use crate::layout::{Layout, read_text};
+use crate::difference::{PatchText, patch_text};
+use crate::layout::{Layout, read_document};
 use crate::patching::operations_of;
 use crate::task_error::TaskError;
 use jsonptr::Fault;
@@ -24,7 +24,7 @@ use std::alloc::Global;
 ///
 /// # Errors
 ///
-/// - [`TaskError::NotPatch`] if the patch document is not a patch, and [`TaskError::BadPatch`] if an
+/// - [`TaskError::NotPatch`] if the patch document is not a patch, and [`TaskError::PatchFailed`] if an
 ///   operation fails.
 /// - [`TaskError::NotJson`] if the text is not JSON.
 /// - [`TaskError::PatchTooDeep`] if the inverse nests deeper than 127. A value of the document is two
@@ -44,23 +44,23 @@ pub fn inverse_of(
     text: &str,
     patch: &Value,
     layout: Layout,
-) -> Result<Difference, TaskError>
+) -> Result<PatchText, TaskError>
     ensures inverse { IfOk result (IsInverse text.now (view patch.now) layout) }
     ensures refused { IfErr result (FailsToInvert text.now (view patch.now)) }
 {
     let operations = operations_of(alloc, patch)?;
-    let mut document = read_text(alloc, text)?;
+    let mut document = read_document(alloc, text)?;
     let inverse = apply_with_inverse(alloc, &mut document, operations)?;
     let text = patch_text(alloc, &inverse, layout)?;
     let is_empty = inverse.is_empty();
-    Ok(Difference { text, is_empty })
+    Ok(PatchText { text, is_empty })
 }
 
 /// Applies the operations, and returns their inverse.
 ///
 /// # Errors
 ///
-/// [`TaskError::BadPatch`] if an operation fails, and [`TaskError::Memory`] if an allocation fails.
+/// [`TaskError::PatchFailed`] if an operation fails, and [`TaskError::Memory`] if an allocation fails.
 fn apply_with_inverse(
     alloc: Global,
     document: &mut Value,
@@ -75,7 +75,7 @@ fn apply_with_inverse(
 {
     match apply_comparing_with_inverse(alloc, document, operations, Comparison::Numeric) {
         Ok(inverse) => Ok(inverse),
-        Err(Fault::Refused(error)) => Err(TaskError::BadPatch(error)),
+        Err(Fault::Refused(error)) => Err(TaskError::PatchFailed(error)),
         Err(Fault::Memory(error)) => Err(TaskError::Memory(error)),
     }
 }

@@ -22,7 +22,7 @@ ghost use Rattle.jptr_tasks.specs.Inverting.{IsInverse};
 ghost use Rattle.jptr_tasks.specs.Layouts.{ShowsInLayout, ReadsBack};
 ghost use Rattle.jptr_tasks.specs.Paths.{ListsText, BuildsText, FailsToBuild};
 ghost use Rattle.jptr_tasks.specs.Results.{PatchesByInLayout, FailsToPatch};
-ghost use Rattle.jptr_tasks.specs.declared.difference.Difference.{Difference};
+ghost use Rattle.jptr_tasks.specs.declared.difference.PatchText.{PatchText};
 ghost use Rattle.jptr_tasks.specs.declared.task_error.TaskError.{TaskError};
 ghost use Rattle.jptr_tasks.specs.declared.task_error.TaskError.TheVariants.{BadLine, NotInPlace, NotJson, Memory};
 ghost use Rattle.jptr_tasks.specs.declared.layout.Layout.{Layout};
@@ -64,13 +64,13 @@ pub fn paths_law()
 /// failed allocation, and [`TaskError::NotInPlace`](crate::task_error::TaskError::NotInPlace) in the layout
 /// [`Layout::Kept`](crate::layout::Layout::Kept).
 pub fn difference_law()
-    ensures applied { (a b out : Text) (n m p : Data) (style layout : Layout) (d : Difference)
+    ensures applied { (a b out : Text) (n m p : Data) (style layout : Layout) (d : PatchText)
         → read a ≡ Some n → read b ≡ Some m
         → IsDifference (nodes n) (nodes m) style d
         → read (string_bytes d.text) ≡ Some p
         → PatchesByInLayout a p layout out
         → ReadsBack layout m out }
-    ensures never_refused { (a b : Text) (n m p : Data) (style layout : Layout) (d : Difference) (e : TaskError)
+    ensures never_refused { (a b : Text) (n m p : Data) (style layout : Layout) (d : PatchText) (e : TaskError)
         → read a ≡ Some n → read b ≡ Some m
         → IsDifference (nodes n) (nodes m) style d
         → read (string_bytes d.text) ≡ Some p
@@ -92,13 +92,13 @@ pub fn difference_law()
 /// [`Layout::Kept`](crate::layout::Layout::Kept). The first of the two does not print in the layout
 /// [`Layout::Raw`](crate::layout::Layout::Raw), since a string is not JSON without its quotes.
 pub fn inverse_law()
-    ensures undone { (a b out : Text) (d patch back : Data) (style first layout : Layout) (u : Difference)
+    ensures undone { (a b out : Text) (d patch back : Data) (style first layout : Layout) (u : PatchText)
         → read a ≡ Some d
         → PatchesByInLayout a patch first b → first ≢ Raw
         → IsInverse a patch style u → read (string_bytes u.text) ≡ Some back
         → PatchesByInLayout b back layout out
         → ReadsBack layout d out }
-    ensures never_refused { (a b : Text) (d patch back : Data) (style first layout : Layout) (u : Difference) (e : TaskError)
+    ensures never_refused { (a b : Text) (d patch back : Data) (style first layout : Layout) (u : PatchText) (e : TaskError)
         → read a ≡ Some d
         → PatchesByInLayout a patch first b → first ≢ Raw
         → IsInverse a patch style u → read (string_bytes u.text) ≡ Some back

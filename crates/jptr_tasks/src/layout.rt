@@ -7,8 +7,7 @@ ghost use Rattle.jptr_tasks.specs.Layouts.{ShowsInLayout, Lays};
 ghost use Rattle.jptr_tasks.specs.PrivateResults.{IsLayoutError};
 
 use crate::task_error::TaskError;
-use jsonptr_in_text::{Format, InTextError, Scratch, format_text};
-use jsonptr_value::ReadError;
+use jsonptr_in_text::{Format, Scratch, format_text};
 use serde_json::Value;
 use std::alloc::{AllocError, Global};
 
@@ -84,15 +83,15 @@ pub(crate) fn lay_out(
         Layout::Compact => formatted(alloc, scratch, text, Format::Compact),
         Layout::Pretty => formatted(alloc, scratch, text, Format::Pretty),
         Layout::Sorted => {
-            let value = read_text(alloc, text)?;
+            let value = read_document(alloc, text)?;
             Ok(value.to_string(alloc)?)
         }
         Layout::SortedPretty => {
-            let value = read_text(alloc, text)?;
+            let value = read_document(alloc, text)?;
             Ok(value.to_string_pretty(alloc)?)
         }
         Layout::Raw => {
-            let value = read_text(alloc, text)?;
+            let value = read_document(alloc, text)?;
             Ok(String::from_str(alloc, value.as_str().unwrap_or(text))?)
         }
     }
@@ -108,11 +107,7 @@ fn formatted(
     ensures laid_out { IfOk result (λ s. IsFormatted format text.now (string_bytes s)) }
     ensures refused { IfErr result (IsLayoutError text.now) }
 {
-    match format_text(alloc, scratch, text, format) {
-        Ok(new) => Ok(new),
-        Err(InTextError::Memory(error)) => Err(TaskError::Memory(error)),
-        Err(InTextError::NotJson | InTextError::Resolve(_)) => Err(TaskError::NotJson),
-    }
+    Ok(format_text(alloc, scratch, text, format)?)
 }
 
 /// Reads the document that the text is.
@@ -120,13 +115,9 @@ fn formatted(
 /// # Errors
 ///
 /// [`TaskError::NotJson`] if the text is not JSON, and [`TaskError::Memory`] if an allocation fails.
-pub fn read_text(alloc: Global, text: &str) -> Result<Value, TaskError>
+pub fn read_document(alloc: Global, text: &str) -> Result<Value, TaskError>
     ensures read { IfOk result (λ v. read text.now ≡ Some (view v)) }
     ensures refused { IfErr result (IsLayoutError text.now) }
 {
-    match jsonptr_value::read(alloc, text) {
-        Ok(value) => Ok(value),
-        Err(ReadError::Memory) => Err(TaskError::Memory(AllocError)),
-        Err(ReadError::NotJson) => Err(TaskError::NotJson),
-    }
+    Ok(jsonptr_value::read(alloc, text)?)
 }

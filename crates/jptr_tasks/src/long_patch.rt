@@ -7,12 +7,12 @@ ghost use Rattle.jsonptr_edit_in_text.specs.InPlace.{StaysOneLine};
 ghost use Rattle.jptr_tasks.specs.Results.{PatchesInLayout, FailsToPatch};
 ghost use Rattle.jptr_tasks.specs.PrivateResults.{PatchedBy, Remakes, ReadsSame};
 
-use crate::layout::{Layout, lay_out, read_text};
+use crate::layout::{Layout, lay_out, read_document};
 use crate::patching::print_anew;
 use crate::task_error::TaskError;
 use jsonptr_edit_in_text::stays_one_line;
 use jsonptr_in_text::Scratch;
-use jsonptr_relayout::{Relaid, RelayoutError, relayout_with};
+use jsonptr_relayout::{Relaid, RelayoutError, relayout_with_texts};
 use serde_json::Value;
 use std::alloc::{AllocError, Global};
 
@@ -20,7 +20,7 @@ use std::alloc::{AllocError, Global};
 /// text of the patch document.
 ///
 /// The operations are applied to the document that the text is, and the new document is laid out as the
-/// text is, as [`relayout_with`] does it. So the time is in proportion to the text and the patch, and
+/// text is, as [`relayout_with_texts`] does it. So the time is in proportion to the text and the patch, and
 /// not to their product as for [`patch`](crate::patching::patch), which edits the text once for each
 /// operation. Of the bytes nothing is promised, except that with [`Layout::Kept`] a text of one line
 /// stays one line.
@@ -102,7 +102,7 @@ fn patched(alloc: Global, text: &str, patch: &Value, given: &str) -> Result<Rela
     let relaid = relaid(alloc, text, printed.as_str(), given)?;
     match relaid {
         Some(new) => Ok(Relaid::Kept(new)),
-        None => Ok(Relaid::Printed(printed)),
+        None => Ok(Relaid::Rewritten(printed)),
     }
 }
 
@@ -119,7 +119,7 @@ fn relaid(
 ) -> Result<Option<String>, AllocError>
     ensures { IfOk result (λ new. IfSome new (λ s. ReadsSame printed.now (string_bytes s))) }
 {
-    match read_text(alloc, printed) {
+    match read_document(alloc, printed) {
         Ok(document) => relaid_document(alloc, text, &document, given),
         Err(TaskError::Memory(error)) => Err(error),
         Err(_) => Ok(None),
@@ -139,9 +139,9 @@ fn relaid_document(
 ) -> Result<Option<String>, AllocError>
     ensures { IfOk result (λ new. IfSome new (λ s. ReadsAs (string_bytes s) (nodes (view document.now)))) }
 {
-    match relayout_with(alloc, text, document, &[given, text]) {
+    match relayout_with_texts(alloc, text, document, &[given, text]) {
         Ok(Relaid::Kept(new)) => Ok(Some(new)),
-        Ok(Relaid::Printed(_)) => Ok(None),
+        Ok(Relaid::Rewritten(_)) => Ok(None),
         Err(RelayoutError::Memory(error)) => Err(error),
         Err(_) => Ok(None),
     }

@@ -62,7 +62,7 @@ impl NodeType {
 /// # Errors
 ///
 /// - [`TaskError::NotJson`] if the text is not JSON.
-/// - [`TaskError::NoValue`] if the pointer does not resolve to a value.
+/// - [`TaskError::Resolve`] if the pointer does not resolve to a value.
 /// - [`TaskError::Memory`] if an allocation fails.
 ///
 /// # Examples
@@ -146,7 +146,7 @@ pub fn keys_in_text(
             Err(ReadError::Memory) => Err(TaskError::Memory(AllocError)),
         },
         Err(LocateError::NotLocated) => Err(TaskError::NotLocated),
-        Err(LocateError::Failed(InTextError::Resolve(error))) => Err(TaskError::NoValue(error)),
+        Err(LocateError::Failed(InTextError::Resolve(error))) => Err(TaskError::Resolve(error)),
         Err(LocateError::Failed(InTextError::NotJson)) => Err(TaskError::NotJson),
         Err(LocateError::Failed(InTextError::Memory(error))) => Err(TaskError::Memory(error)),
     }
@@ -187,7 +187,7 @@ pub fn equals_in_text(
 ///
 /// # Errors
 ///
-/// Those of [`type_in_text`], for the parent of the pointer. With [`TaskError::NoValue`] containers would
+/// Those of [`type_in_text`], for the parent of the pointer. With [`TaskError::Resolve`] containers would
 /// be created.
 ///
 /// # Examples
@@ -197,7 +197,7 @@ pub fn equals_in_text(
 /// assert_eq!(rt; scalar_above(alloc, text, Pointer::parse("/b")?)?, None);
 /// assert_eq!(rt; scalar_above(alloc, text, Pointer::parse("/a/b")?)?, Some(NodeType::String));
 /// let missing = scalar_above(alloc, text, Pointer::parse("/b/c")?);
-/// assert!(rt; matches!(missing, Err(TaskError::NoValue(_))));
+/// assert!(rt; matches!(missing, Err(TaskError::Resolve(_))));
 /// ```
 pub fn scalar_above(
     alloc: Global,
@@ -234,7 +234,7 @@ fn found_value(alloc: Global, text: &str, pointer: Pointer<'_>) -> Result<Value,
     match resolve_in_text(alloc, text, pointer) {
         Ok(value) => Ok(value),
         Err(InTextError::NotJson) => Err(TaskError::NotJson),
-        Err(InTextError::Resolve(error)) => Err(TaskError::NoValue(error)),
+        Err(InTextError::Resolve(error)) => Err(TaskError::Resolve(error)),
         Err(InTextError::Memory(error)) => Err(TaskError::Memory(error)),
     }
 }

@@ -7,13 +7,13 @@ use crate::layout::{Layout, show};
 use crate::task_error::TaskError;
 use jsonptr_paths::listing::Listed;
 use jsonptr_paths::reading::build;
-use jsonptr_paths::text_listing::list_text;
+use jsonptr_paths::text_listing::list_in_text;
 use jsonptr_value::ReadError;
 use simdutf8::basic::from_utf8;
 use std::alloc::{AllocError, Global};
 use std::io;
 
-/// Returns the lines for the nodes of the document that the bytes are, as `list_text` of
+/// Returns the lines for the nodes of the document that the bytes are, as `list_in_text` of
 /// `jsonptr_paths` does.
 ///
 /// # Errors
@@ -33,7 +33,7 @@ pub fn listed_text(alloc: Global, bytes: &[u8], which: Listed) -> Result<String,
     let Ok(text) = from_utf8(bytes) else {
         return Err(TaskError::NotJson);
     };
-    match list_text(alloc, text, which) {
+    match list_in_text(alloc, text, which) {
         Ok(lines) => Ok(lines),
         Err(ReadError::NotJson) => Err(TaskError::NotJson),
         Err(ReadError::Memory) => Err(TaskError::Memory(AllocError)),
@@ -71,7 +71,7 @@ pub fn built_text(alloc: Global, bytes: &[u8], layout: Layout) -> Result<String,
 /// Reads the input to its end, and writes the lines for the nodes of its document.
 ///
 /// The bytes of the input are left in `bytes`, so that the caller can say more about an error. What
-/// `bytes` had before is removed.
+/// `bytes` had before is removed. All memory is that of the allocator of `bytes`.
 ///
 /// # Errors
 ///
@@ -84,11 +84,10 @@ pub fn built_text(alloc: Global, bytes: &[u8], layout: Layout) -> Result<String,
 /// let mut input = b"[true]".as_slice();
 /// let mut output = Vec::new(alloc);
 /// let mut bytes = Vec::new(alloc);
-/// run_list(alloc, Listed::AllNodes, &mut input, &mut bytes, &mut output)?;
+/// run_list(Listed::AllNodes, &mut input, &mut bytes, &mut output)?;
 /// assert_eq!(rt; output.as_slice(), b"\t[]\n/0\ttrue\n".as_slice());
 /// ```
 pub fn run_list<R: io::Read, W: io::Write>(
-    alloc: Global,
     which: Listed,
     input: &mut R,
     bytes: &mut Vec<u8>,
@@ -100,7 +99,7 @@ pub fn run_list<R: io::Read, W: io::Write>(
         (W.contents output.old) (W.contents output.new)) }
 {
     read_into(input, bytes)?;
-    let lines = listed_text(alloc, bytes, which)?;
+    let lines = listed_text(*bytes.allocator(), bytes, which)?;
     put_all(output, lines.as_str())
 }
 

@@ -24,9 +24,9 @@ use std::alloc::Global;
 /// # Errors
 ///
 /// - [`TaskError::NotJson`] if the text is not JSON.
-/// - [`TaskError::NoValue`], [`TaskError::BadPlace`] and [`TaskError::NotThere`] if the pointer does not
+/// - [`TaskError::Resolve`], [`TaskError::Assign`] and [`TaskError::NotThere`] if the pointer does not
 ///   apply.
-/// - [`TaskError::NotPatch`] if the patch document is not a patch, and [`TaskError::BadPatch`] if an
+/// - [`TaskError::NotPatch`] if the patch document is not a patch, and [`TaskError::PatchFailed`] if an
 ///   operation fails.
 /// - [`TaskError::TooDeep`] if the new document nests deeper than 127.
 /// - [`TaskError::NotInPlace`] if the edit is possible, but not in place. In a layout other than
@@ -132,7 +132,7 @@ fn get(
         Err(LocateError::NotLocated) => Err(TaskError::NotLocated),
         Err(LocateError::Failed(InTextError::Resolve(error))) => match fallback {
             Some(value) => Ok(show(alloc, value, layout)?),
-            None => Err(TaskError::NoValue(error)),
+            None => Err(TaskError::Resolve(error)),
         },
         Err(LocateError::Failed(InTextError::NotJson)) => Err(TaskError::NotJson),
         Err(LocateError::Failed(InTextError::Memory(error))) => Err(TaskError::Memory(error)),

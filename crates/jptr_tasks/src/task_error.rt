@@ -1,9 +1,9 @@
 //! The errors of a command, and its exit status.
 ghost use Rattle.std.specs.Prelude.{◌≡◌};
-ghost use Rattle.jptr_tasks.specs.Failures.{error_of_resolving, of_assign_error, of_delete_error, of_patch_error, of_strict_assign_error, of_strict_delete_error, of_build_error, of_input_error, status_of_task, status_of_line};
+ghost use Rattle.jptr_tasks.specs.Failures.{of_read_error, error_of_resolving, of_assign_error, of_delete_error, of_patch_error, of_strict_assign_error, of_strict_delete_error, of_build_error, of_input_error, status_of_task, status_of_line};
 ghost use Rattle.jptr_tasks.specs.declared.task_error.TaskError.TheVariants.{Memory, Write};
 
-use crate::exit_status::{FILE, MEMORY, NOT_APPLIED, NOT_JSON};
+use crate::exit_status::{BAD_INPUT, FILE, MEMORY, NOT_APPLIED};
 use jsonptr::{assign, resolve};
 use jsonptr_edit_in_text::{EditError, InPlaceError};
 use jsonptr_in_text::InTextError;
@@ -12,7 +12,7 @@ use jsonptr_io::write::WriteError;
 use jsonptr_patch::PatchError;
 use jsonptr_patch_document::PatchDocumentError;
 use jsonptr_paths::reading::{BuildError, LineError};
-use jsonptr_value::MAX_DEPTH;
+use jsonptr_value::{MAX_DEPTH, ReadError};
 use std::alloc::AllocError;
 use std::convert::Infallible;
 use thiserror::Error;
@@ -25,16 +25,16 @@ pub enum TaskError {
     NotPatch(PatchDocumentError),
     /// The pointer does not resolve to a value.
     #[error(transparent)]
-    NoValue(resolve::Error),
+    Resolve(resolve::Error),
     /// No value can be assigned at the pointer.
     #[error(transparent)]
-    BadPlace(assign::Error),
+    Assign(assign::Error),
     /// The pointer of the value to delete does not resolve.
     #[error("delete failed: json pointer does not resolve")]
     NotThere,
     /// An operation of the patch fails.
     #[error(transparent)]
-    BadPatch(PatchError),
+    PatchFailed(PatchError),
     /// The new document nests deeper than 127.
     #[error("document would nest deeper than {}", MAX_DEPTH)]
     TooDeep,
@@ -77,16 +77,16 @@ impl TaskError {
     {
         match self {
             TaskError::NotPatch(_)
-            | TaskError::NoValue(_)
-            | TaskError::BadPlace(_)
+            | TaskError::Resolve(_)
+            | TaskError::Assign(_)
             | TaskError::NotThere
-            | TaskError::BadPatch(_)
+            | TaskError::PatchFailed(_)
             | TaskError::TooDeep
             | TaskError::NotInPlace
             | TaskError::NotLocated
             | TaskError::LineBreak => NOT_APPLIED,
             TaskError::BadLine(_, error) => line_status(error),
-            TaskError::PatchTooDeep | TaskError::NotUtf8 | TaskError::NotJson => NOT_JSON,
+            TaskError::PatchTooDeep | TaskError::NotUtf8 | TaskError::NotJson => BAD_INPUT,
             TaskError::Memory(_) => MEMORY,
             TaskError::Read | TaskError::Write => FILE,
         }
@@ -98,8 +98,8 @@ fn line_status(error: &LineError) -> u8
     ensures { result ≡ status_of_line error.now }
 {
     match error {
-        LineError::NoTab | LineError::NotPointer | LineError::NotJson => NOT_JSON,
-        LineError::TooDeep | LineError::BadPlace(_) => NOT_APPLIED,
+        LineError::NoTab | LineError::NotPointer | LineError::NotJson => BAD_INPUT,
+        LineError::TooDeep | LineError::Assign(_) => NOT_APPLIED,
     }
 }
 
@@ -141,13 +141,24 @@ impl From<WriteError> for TaskError {
     }
 }
 
+impl From<ReadError> for TaskError {
+    ghost from_gives = { λ error failure. failure ≡ of_read_error error };
+
+    fn from(error: ReadError) -> TaskError {
+        match error {
+            ReadError::NotJson => TaskError::NotJson,
+            ReadError::Memory => TaskError::Memory(AllocError),
+        }
+    }
+}
+
 impl From<InTextError> for TaskError {
     ghost from_gives = { λ error failure. failure ≡ error_of_resolving error };
 
     fn from(error: InTextError) -> TaskError {
         match error {
             InTextError::NotJson => TaskError::NotJson,
-            InTextError::Resolve(error) => TaskError::NoValue(error),
+            InTextError::Resolve(error) => TaskError::Resolve(error),
             InTextError::Memory(error) => TaskError::Memory(error),
         }
     }
@@ -159,7 +170,7 @@ impl From<EditError<assign::Error>> for TaskError {
     fn from(error: EditError<assign::Error>) -> TaskError {
         match error {
             EditError::NotJson => TaskError::NotJson,
-            EditError::Refused(error) => TaskError::BadPlace(error),
+            EditError::Refused(error) => TaskError::Assign(error),
             EditError::TooDeep => TaskError::TooDeep,
             EditError::Memory(error) => TaskError::Memory(error),
         }
@@ -185,17 +196,17 @@ impl From<EditError<PatchError>> for TaskError {
     fn from(error: EditError<PatchError>) -> TaskError {
         match error {
             EditError::NotJson => TaskError::NotJson,
-            EditError::Refused(error) => TaskError::BadPatch(error),
+            EditError::Refused(error) => TaskError::PatchFailed(error),
             EditError::TooDeep => TaskError::TooDeep,
             EditError::Memory(error) => TaskError::Memory(error),
         }
     }
 }
 
-impl From<InPlaceError<assign::Error>> for TaskError {
+impl From<InPlaceError<EditError<assign::Error>>> for TaskError {
     ghost from_gives = { λ error failure. failure ≡ of_strict_assign_error error };
 
-    fn from(error: InPlaceError<assign::Error>) -> TaskError {
+    fn from(error: InPlaceError<EditError<assign::Error>>) -> TaskError {
         match error {
             InPlaceError::NotInPlace => TaskError::NotInPlace,
             InPlaceError::Failed(error) => TaskError::from(error),
@@ -203,10 +214,10 @@ impl From<InPlaceError<assign::Error>> for TaskError {
     }
 }
 
-impl From<InPlaceError<Infallible>> for TaskError {
+impl From<InPlaceError<EditError<Infallible>>> for TaskError {
     ghost from_gives = { λ error failure. failure ≡ of_strict_delete_error error };
 
-    fn from(error: InPlaceError<Infallible>) -> TaskError {
+    fn from(error: InPlaceError<EditError<Infallible>>) -> TaskError {
         match error {
             InPlaceError::NotInPlace => TaskError::NotInPlace,
             InPlaceError::Failed(error) => TaskError::from(error),

@@ -16,7 +16,7 @@ ghost use Rattle.jsonptr_c_calls.specs.Nodes.{FindsNode};
 ghost use Rattle.jsonptr_c_calls.specs.Outcomes.{IsLengthOf, Reports};
 ghost use Rattle.jsonptr_c_calls.specs.Patches.{AppliesText, AppliesWithBack, IsDiffText, IsNotApplied, IsNotAppliedWithBack, IsNotCompared, IsNotPatchText};
 ghost use Rattle.jsonptr_c_calls.specs.ErrorNumbers.{no_error};
-ghost use Rattle.jsonptr_c_calls.specs.Values.{Changes, FindsTextOf, FindsString, HoldsWith, ReadsInto, layout_of};
+ghost use Rattle.jsonptr_c_calls.specs.Values.{Changes, FindsTextOf, FindsString, HoldsWith, ReadsInto, format_of};
 ghost use Rattle.jsonptr_c_calls.specs.declared.call_error.CallError.{CallError};
 
 use jsonptr_c_calls::documents::{
@@ -27,18 +27,18 @@ use jsonptr_c_calls::error_numbers::ErrorRecord;
 use jsonptr_c_calls::node::NodeInfo;
 use jsonptr_c_calls::outcome::{fail, fail_with_length, succeed};
 use jsonptr_c_calls::texts::{lost_number_in, print_in};
-use jsonptr_c_calls::values::TextLayout;
 use jsonptr_c_handle::handle::Handle;
+use jsonptr_in_text::Format;
 use std::alloc::Global;
 
-/// Returns the layout of a text.
-fn layout(is_pretty: bool) -> TextLayout
-    ensures { result ≡ layout_of is_pretty }
+/// Returns the format that a flag asks for.
+fn format_for(is_pretty: bool) -> Format
+    ensures { result ≡ format_of is_pretty }
 {
     if is_pretty {
-        TextLayout::Pretty
+        Format::Pretty
     } else {
-        TextLayout::Compact
+        Format::Compact
     }
 }
 
@@ -113,15 +113,15 @@ pub extern "C" fn jsonptrcore_document_print(
 ) -> u32
     ensures success { result ≡ 0 → error.new ≡ no_error }
     ensures printed { result ≡ 0 → HoldsWith document.old
-        (λ v. FindsTextOf (layout_of is_pretty) (view v) pointer.now (take length.new out.new)) }
+        (λ v. FindsTextOf (format_of is_pretty) (view v) pointer.now (take length.new out.new)) }
     ensures refused { result ≢ 0 → (e : CallError) × Reports e pointer.now result error.new
         × FailsOnHandle document.old
-        (λ v. IsNotPrinted (layout_of is_pretty) (view v) pointer.now (list_length out.old) e) e }
+        (λ v. IsNotPrinted (format_of is_pretty) (view v) pointer.now (list_length out.old) e) e }
     ensures unchanged { result ≢ 0 → out.new ≡ out.old }
     ensures length { result ≢ 0 → IsLengthOf error.new length.old length.new }
     ensures value_unchanged { Keeps document.old document.new }
 {
-    match print_at(alloc, document, pointer, layout(is_pretty), out) {
+    match print_at(alloc, document, pointer, format_for(is_pretty), out) {
         Ok(copied) => {
             *length = copied;
             succeed(error)
@@ -272,18 +272,18 @@ pub extern "C" fn jsonptrcore_document_patch_with_inverse(
 ) -> u32
     ensures success { result ≡ 0 → error.new ≡ no_error }
     ensures applied { result ≡ 0 → Changes document.old (λ d n.
-        AppliesWithBack (layout_of is_pretty) text.now d n (take length.new out.new))
+        AppliesWithBack (format_of is_pretty) text.now d n (take length.new out.new))
         document.new }
     ensures bounded { result ≡ 0
         → Changes document.old (λ d n. IsBounded d → IsBounded n) document.new }
     ensures refused { result ≢ 0 → (e : CallError) × Reports e [] result error.new
-        × (IsNotPatchText text.now e ⊎ IsNotAppliedWithBack (layout_of is_pretty) text.now
+        × (IsNotPatchText text.now e ⊎ IsNotAppliedWithBack (format_of is_pretty) text.now
         document.old (list_length out.old) e) }
     ensures unchanged { result ≢ 0 → out.new ≡ out.old }
     ensures length { result ≢ 0 → IsLengthOf error.new length.old length.new }
     ensures value_unchanged { result ≢ 0 → Keeps document.old document.new }
 {
-    match patch_with_inverse(alloc, document, text, layout(is_pretty), out) {
+    match patch_with_inverse(alloc, document, text, format_for(is_pretty), out) {
         Ok(copied) => {
             *length = copied;
             succeed(error)
@@ -305,16 +305,16 @@ pub extern "C" fn jsonptrcore_document_diff(
 ) -> u32
     ensures success { result ≡ 0 → error.new ≡ no_error }
     ensures differing { result ≡ 0 → HoldsWith old.old (λ v. HoldsWith new.old
-        (λ w. IsDiffText (layout_of is_pretty) (view v) (view w) (take length.new out.new))) }
+        (λ w. IsDiffText (format_of is_pretty) (view v) (view w) (take length.new out.new))) }
     ensures refused { result ≢ 0 → (e : CallError) × Reports e [] result error.new
         × FailsOnHandle old.old (λ v. FailsOnHandle new.old
-        (λ w. IsNotCompared (layout_of is_pretty) (view v) (view w) (list_length out.old) e) e) e }
+        (λ w. IsNotCompared (format_of is_pretty) (view v) (view w) (list_length out.old) e) e) e }
     ensures unchanged { result ≢ 0 → out.new ≡ out.old }
     ensures length { result ≢ 0 → IsLengthOf error.new length.old length.new }
     ensures old_kept { Keeps old.old old.new }
     ensures new_kept { Keeps new.old new.new }
 {
-    match diff(alloc, old, new, layout(is_pretty), out) {
+    match diff(alloc, old, new, format_for(is_pretty), out) {
         Ok(copied) => {
             *length = copied;
             succeed(error)
@@ -336,13 +336,13 @@ pub extern "C" fn jsonptrcore_text_print(
 ) -> u32
     ensures success { result ≡ 0 → error.new ≡ no_error }
     ensures printed { result ≡ 0
-        → FindsTextIn (layout_of is_pretty) text.now pointer.now (take length.new out.new) }
+        → FindsTextIn (format_of is_pretty) text.now pointer.now (take length.new out.new) }
     ensures refused { result ≢ 0 → (e : CallError) × Reports e pointer.now result error.new
-        × IsNotPrintedFrom (layout_of is_pretty) text.now pointer.now (list_length out.old) e }
+        × IsNotPrintedFrom (format_of is_pretty) text.now pointer.now (list_length out.old) e }
     ensures unchanged { result ≢ 0 → out.new ≡ out.old }
     ensures length { result ≢ 0 → IsLengthOf error.new length.old length.new }
 {
-    match print_in(alloc, text, pointer, layout(is_pretty), out) {
+    match print_in(alloc, text, pointer, format_for(is_pretty), out) {
         Ok(copied) => {
             *length = copied;
             succeed(error)

@@ -34,8 +34,8 @@ use Rattle.jsonptr_c_calls.specs.Values.{FindsAtPointer}
 use Rattle.jsonptr_c_calls.specs.declared.call_error.Argument.{Argument}
 use Rattle.jsonptr_c_calls.specs.declared.call_error.Argument.TheVariants as argument
 use Rattle.jsonptr_c_calls.specs.declared.call_error.CallError.{CallError}
-use Rattle.jsonptr_c_calls.specs.declared.call_error.CallError.TheVariants.{NoRoom, NoDocument, NotUtf8, NotJson, NotExact, NotPointer, NoToken, NotFound, NotLocated, OtherKind, NotAssigned, NotPatch, PatchFailed, TooDeep, DeepInverse}
-use Rattle.jsonptr_c_calls.specs.declared.values.TextLayout.{TextLayout}
+use Rattle.jsonptr_c_calls.specs.declared.call_error.CallError.TheVariants.{NoRoom, NoDocument, NotUtf8, NotJson, NotExact, NotPointer, NoToken, Resolve, NotLocated, OtherKind, Assign, NotPatch, PatchFailed, TooDeep, DeepInverse}
+use Rattle.jsonptr_in_text.specs.declared.format.Format.{Format}
 use Rattle.jsonptr_c_calls.specs.Depths.{max_levels, StaysShallow}
 use Rattle.jsonptr_c_calls.proofs.SourceLemmas.{is_document}
 
@@ -168,7 +168,7 @@ module _ (not_both : (s : Text) (e : ParseError) → IsPointer s → IsParseErro
   unfound d bytes e f (inl h) (inl k) = no_pointers bytes e f h k
   unfound d bytes e f (inl h) (inr (inr k)) = absurd (no_pointer-parses bytes k.0 e h k.2)
   unfound d bytes e f (inr (inr h)) (inl k) = absurd (no_pointer-parses bytes h.0 f k h.2)
-  unfound d bytes e f (inr (inr h)) (inr (inr k)) = same e f (NotFound h.1) (NotFound k.1) h.4 k.4 refl
+  unfound d bytes e f (inr (inr h)) (inr (inr k)) = same e f (Resolve h.1) (Resolve k.1) h.4 k.4 refl
 
   -- a value that is found
   found : (d v : Data) (bytes : List ℕ) (e f : CallError) → Unfound d bytes e → IsUtf8 bytes → FindsAtPointer d bytes v → SameStatus e f
@@ -178,14 +178,14 @@ module _ (not_both : (s : Text) (e : ParseError) → IsPointer s → IsParseErro
       let there : FindsValue d h.0 v = subst (λ (ts : List Text). FindsValue d ts v) (tokens_one bytes at.0 h.0 (u, at.1) h.2) at.2 in
       absurd (Refuses-NamesNothing (nodes d) h.0 h.1 h.3 there.path there.named)
 
-  pub not_printed : (layout : TextLayout) (d : Data) (bytes : List ℕ) (room : ℕ) (e f : CallError) → IsNotPrinted layout d bytes room e → IsNotPrinted layout d bytes room f → SameStatus e f
-  not_printed layout d bytes room e f (inl h) (inl k) = unfound d bytes e f h k
-  not_printed layout d bytes room e f (inl h) (inr k) = found d k.0 bytes e f h k.2 k.3
-  not_printed layout d bytes room e f (inr h) (inl k) = turned f e (found d h.0 bytes f e k h.2 h.3)
-  not_printed layout d bytes room e f (inr h) (inr k) = rooms e f _ _ room h.5 k.5
+  pub not_printed : (format : Format) (d : Data) (bytes : List ℕ) (room : ℕ) (e f : CallError) → IsNotPrinted format d bytes room e → IsNotPrinted format d bytes room f → SameStatus e f
+  not_printed format d bytes room e f (inl h) (inl k) = unfound d bytes e f h k
+  not_printed format d bytes room e f (inl h) (inr k) = found d k.0 bytes e f h k.2 k.3
+  not_printed format d bytes room e f (inr h) (inl k) = turned f e (found d h.0 bytes f e k h.2 h.3)
+  not_printed format d bytes room e f (inr h) (inr k) = rooms e f _ _ room h.5 k.5
 
-  pub not_printed_in : (d : Handle) (layout : TextLayout) (bytes : List ℕ) (room : ℕ) (e f : CallError) → FailsOnHandle d (λ v. IsNotPrinted layout (view v) bytes room e) e → FailsOnHandle d (λ v. IsNotPrinted layout (view v) bytes room f) f → SameStatus e f
-  not_printed_in d layout bytes room e f = on_document d (λ v x. IsNotPrinted layout (view v) bytes room x) e f (λ v. not_printed layout (view v) bytes room e f)
+  pub not_printed_in : (d : Handle) (format : Format) (bytes : List ℕ) (room : ℕ) (e f : CallError) → FailsOnHandle d (λ v. IsNotPrinted format (view v) bytes room e) e → FailsOnHandle d (λ v. IsNotPrinted format (view v) bytes room f) f → SameStatus e f
+  not_printed_in d format bytes room e f = on_document d (λ v x. IsNotPrinted format (view v) bytes room x) e f (λ v. not_printed format (view v) bytes room e f)
 
   strings : (v w : Data) (room : ℕ) (e f : CallError) → v ≡ w → LacksString v room e → LacksString w room f → SameStatus e f
   strings v w room e f is (inl h) (inl k) = same e f OtherKind OtherKind h.1 k.1 refl
@@ -213,7 +213,7 @@ module _ (not_both : (s : Text) (e : ParseError) → IsPointer s → IsParseErro
   refused_at d ts e f (inl h) (inl k) = same e f TooDeep TooDeep h.1 k.1 refl
   refused_at d ts e f (inl h) (inr k) = absurd (let short : length ts ≤ max_levels = k.1 in omega (arith, h.0, short))
   refused_at d ts e f (inr h) (inl k) = absurd (let short : length ts ≤ max_levels = h.1 in omega (arith, k.0, short))
-  refused_at d ts e f (inr h) (inr k) = same e f (NotAssigned h.0) (NotAssigned k.0) h.3 k.3 refl
+  refused_at d ts e f (inr h) (inr k) = same e f (Assign h.0) (Assign k.0) h.3 k.3 refl
 
   not_assigned : (d : Data) (bytes : List ℕ) (e f : CallError) → IsNotAssigned d bytes e → IsNotAssigned d bytes f → SameStatus e f
   not_assigned d bytes e f (inr (inl h)) k = inl h
@@ -270,7 +270,7 @@ module _ (not_both : (s : Text) (e : ParseError) → IsPointer s → IsParseErro
   lacks_value t ts e f (inl h) (inl k) = same e f (NotJson h.0) (NotJson k.0) h.2 k.2 refl
   lacks_value t ts e f (inl h) (inr k) = absurd (let no : None ≡ Some k.1.0 = sym h.1 ∙ k.1.1 in cc)
   lacks_value t ts e f (inr h) (inl k) = absurd (let no : None ≡ Some h.1.0 = sym k.1 ∙ h.1.1 in cc)
-  lacks_value t ts e f (inr h) (inr k) = same e f (NotFound h.0) (NotFound k.0) h.2 k.2 refl
+  lacks_value t ts e f (inr h) (inr k) = same e f (Resolve h.0) (Resolve k.0) h.2 k.2 refl
 
   -- the errors of a text in which these tokens are looked for
   abbrev InText : List ℕ → List Text → CallError → Type 0
@@ -308,15 +308,15 @@ module _ (not_both : (s : Text) (e : ParseError) → IsPointer s → IsParseErro
       let tokens : h.0 ≡ there.0 = tokens_one bytes h.0 there.0 h.1 (u, there.1) in
       in_text-found t there.0 there.2.0 (view v) e f (subst (λ (ts : List Text). InText t ts e) tokens h.2) w there.2.1 there.2.2
 
-  pub not_printed_from : (layout : TextLayout) (t bytes : List ℕ) (room : ℕ) (e f : CallError) → IsNotPrintedFrom layout t bytes room e → IsNotPrintedFrom layout t bytes room f → SameStatus e f
-  not_printed_from layout t bytes room e f (inr (inl h)) k = inl h
-  not_printed_from layout t bytes room e f (inl h) (inr (inl k)) = inr (inl k)
-  not_printed_from layout t bytes room e f (inr (inr h)) (inr (inl k)) = inr (inl k)
-  not_printed_from layout t bytes room e f (inl h) (inl k) = not_in_text t bytes e f h k
-  not_printed_from layout t bytes room e f (inl h) (inr (inr k)) = found_in_text t bytes k.3.0 e f h k.1 k.2 k.3.1
-  not_printed_from layout t bytes room e f (inr (inr h)) (inl k) =
+  pub not_printed_from : (format : Format) (t bytes : List ℕ) (room : ℕ) (e f : CallError) → IsNotPrintedFrom format t bytes room e → IsNotPrintedFrom format t bytes room f → SameStatus e f
+  not_printed_from format t bytes room e f (inr (inl h)) k = inl h
+  not_printed_from format t bytes room e f (inl h) (inr (inl k)) = inr (inl k)
+  not_printed_from format t bytes room e f (inr (inr h)) (inr (inl k)) = inr (inl k)
+  not_printed_from format t bytes room e f (inl h) (inl k) = not_in_text t bytes e f h k
+  not_printed_from format t bytes room e f (inl h) (inr (inr k)) = found_in_text t bytes k.3.0 e f h k.1 k.2 k.3.1
+  not_printed_from format t bytes room e f (inr (inr h)) (inl k) =
       turned f e (found_in_text t bytes h.3.0 f e k h.1 h.2 h.3.1)
-  not_printed_from layout t bytes room e f (inr (inr h)) (inr (inr k)) = rooms e f _ _ room h.4 k.4
+  not_printed_from format t bytes room e f (inr (inr h)) (inr (inr k)) = rooms e f _ _ room h.4 k.4
 
   -- a value that is found has no error
   value-found : (t : List ℕ) (ts : List Text) (v : Data) (e : CallError) → LacksValue t ts e → FindsInText t ts v → ⊥

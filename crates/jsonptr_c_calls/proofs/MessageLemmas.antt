@@ -9,7 +9,7 @@ use Rattle.jsonptr_patch_document.specs.declared.error.PatchDocumentError.TheVar
 use Rattle.jsonptr_c_calls.specs.Messages.{failure_message, message_of}
 use Rattle.jsonptr_c_calls.specs.ErrorNumbers.{record_of}
 use Rattle.jsonptr_c_calls.specs.declared.call_error.CallError.{CallError}
-use Rattle.jsonptr_c_calls.specs.declared.call_error.CallError.TheVariants.{Memory, NoRoom, NoDocument, NotUtf8, NotJson, NotExact, NotPointer, NoToken, NotFound, NotLocated, NoValue, OtherKind, NotAssigned, NotPatch, PatchFailed, TooDeep, DeepInverse}
+use Rattle.jsonptr_c_calls.specs.declared.call_error.CallError.TheVariants.{Memory, NoRoom, NoDocument, NotUtf8, NotJson, NotExact, NotPointer, NoToken, Resolve, NotLocated, NoValue, OtherKind, Assign, NotPatch, PatchFailed, TooDeep, DeepInverse}
 
 pub message_one : (e : CallError) (bytes : List ℕ) → message_of (record_of e bytes) ≡ failure_message e
 message_one (Memory e) bytes = refl
@@ -21,15 +21,15 @@ message_one (NotExact l) bytes = refl
 message_one (NotPointer parse_error.NoLeadingSlash) bytes = refl
 message_one (NotPointer (parse_error.InvalidEncoding offset source)) bytes = refl
 message_one NoToken bytes = refl
-message_one (NotFound (resolve_error.FailedToParseIndex position offset source)) bytes = refl
-message_one (NotFound (resolve_error.OutOfBounds position offset source)) bytes = refl
-message_one (NotFound (resolve_error.NotFound position offset)) bytes = refl
-message_one (NotFound (resolve_error.Unreachable position offset)) bytes = refl
+message_one (Resolve (resolve_error.FailedToParseIndex position offset source)) bytes = refl
+message_one (Resolve (resolve_error.OutOfBounds position offset source)) bytes = refl
+message_one (Resolve (resolve_error.NotFound position offset)) bytes = refl
+message_one (Resolve (resolve_error.Unreachable position offset)) bytes = refl
 message_one NotLocated bytes = refl
 message_one (NoValue offset) bytes = refl
 message_one OtherKind bytes = refl
-message_one (NotAssigned (assign_error.FailedToParseIndex position offset source)) bytes = refl
-message_one (NotAssigned (assign_error.OutOfBounds position offset source)) bytes = refl
+message_one (Assign (assign_error.FailedToParseIndex position offset source)) bytes = refl
+message_one (Assign (assign_error.OutOfBounds position offset source)) bytes = refl
 message_one (NotPatch document_error.NotArray) bytes = refl
 message_one (NotPatch (document_error.NotObject i)) bytes = refl
 message_one (NotPatch (document_error.MissingMember i member.Op)) bytes = refl

@@ -15,7 +15,7 @@ use Rattle.jsonptr_c_calls.specs.Depths.{HasFewTokens, max_levels}
 use Rattle.jsonptr_c_calls.specs.Failures.{FailsOnHandle, IsNoPointer, IsNotParsed, IsOutOfMemory}
 use Rattle.jsonptr_c_calls.specs.Pointers.{HasTokens, ParsesTo}
 use Rattle.jsonptr_c_calls.specs.declared.call_error.CallError.{CallError}
-use Rattle.jsonptr_c_calls.specs.declared.call_error.CallError.TheVariants.{NotAssigned, TooDeep}
+use Rattle.jsonptr_c_calls.specs.declared.call_error.CallError.TheVariants.{Assign, TooDeep}
 
 -- `AssignsAtPointer d bytes v n`: assigning the value `v` at the pointer `bytes` turns the document `d` into `n`. The pointer has
 -- at most 10,000 tokens
@@ -28,7 +28,7 @@ AssignsAtPointer d bytes v n = (tokens : List Text) × (replaced : Option Value)
 abbrev pub RefusesAt : Data → List Text → CallError → Type 0
 RefusesAt d tokens e =
     ((max_levels < length tokens) × (e ≡ TooDeep))
-    ⊎ ((error : assign.Error) × HasFewTokens tokens × RefusesAssign (nodes d) tokens error × (e ≡ NotAssigned error))
+    ⊎ ((error : assign.Error) × HasFewTokens tokens × RefusesAssign (nodes d) tokens error × (e ≡ Assign error))
 
 -- `IsNotAssigned d bytes e`: nothing is assigned at the pointer `bytes` in the document `d`, and `e` reports why
 abbrev pub IsNotAssigned : Data → List ℕ → CallError → Type 0

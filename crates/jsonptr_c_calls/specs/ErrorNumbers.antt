@@ -19,7 +19,7 @@ use Rattle.jsonptr_c_calls.specs.declared.error_numbers.TheConstants as number
 use Rattle.jsonptr_c_calls.specs.declared.call_error.Argument.{Argument}
 use Rattle.jsonptr_c_calls.specs.declared.call_error.Argument.TheVariants as argument
 use Rattle.jsonptr_c_calls.specs.declared.call_error.CallError.{CallError}
-use Rattle.jsonptr_c_calls.specs.declared.call_error.CallError.TheVariants.{Memory, NoRoom, NoDocument, NotUtf8, NotJson, NotExact, NotPointer, NoToken, NotFound, NotLocated, NoValue, OtherKind, NotAssigned, NotPatch, PatchFailed, TooDeep, DeepInverse}
+use Rattle.jsonptr_c_calls.specs.declared.call_error.CallError.TheVariants.{Memory, NoRoom, NoDocument, NotUtf8, NotJson, NotExact, NotPointer, NoToken, Resolve, NotLocated, NoValue, OtherKind, Assign, NotPatch, PatchFailed, TooDeep, DeepInverse}
 use Rattle.jsonptr_c_calls.specs.declared.error_numbers.ErrorRecord.{ErrorRecord}
 
 -- `row status kind member operation position slash offset length`: the record with these numbers
@@ -147,11 +147,11 @@ status_number (NotJson offset) = number.NOT_JSON
 status_number (NotExact l) = number.NOT_EXACT
 status_number (NotPointer e) = number.NOT_POINTER
 status_number NoToken = number.NO_TOKEN
-status_number (NotFound e) = number.NOT_FOUND
+status_number (Resolve e) = number.NOT_FOUND
 status_number NotLocated = number.NOT_LOCATED
 status_number (NoValue offset) = number.NO_VALUE
 status_number OtherKind = number.OTHER_KIND
-status_number (NotAssigned e) = number.NOT_ASSIGNED
+status_number (Assign e) = number.NOT_ASSIGNED
 status_number (NotPatch e) = number.NOT_PATCH
 status_number (PatchFailed e m) = number.PATCH_FAILED
 status_number TooDeep = number.TOO_DEEP
@@ -167,11 +167,11 @@ fields_of (NotJson offset) bytes = row 0 0 0 0 0 0 offset 0
 fields_of (NotExact l) bytes = row 0 0 0 0 0 0 (unwrap_or l.offset 0) l.length
 fields_of (NotPointer e) bytes = pointer_row e bytes
 fields_of NoToken bytes = no_error
-fields_of (NotFound e) bytes = with_length (token_length bytes (resolve_offset_of e)) (resolve_row e)
+fields_of (Resolve e) bytes = with_length (token_length bytes (resolve_offset_of e)) (resolve_row e)
 fields_of NotLocated bytes = no_error
 fields_of (NoValue offset) bytes = row 0 0 0 0 0 0 offset 0
 fields_of OtherKind bytes = no_error
-fields_of (NotAssigned e) bytes = with_length (token_length bytes (assign_offset_of e)) (assign_row e)
+fields_of (Assign e) bytes = with_length (token_length bytes (assign_offset_of e)) (assign_row e)
 fields_of (NotPatch e) bytes = patch_document_row e
 fields_of (PatchFailed e m) bytes = patch_row e (fault_number m)
 fields_of TooDeep bytes = no_error

@@ -16,11 +16,11 @@ use Rattle.jsonptr_c_handle.specs.declared.handle.Handle.{Handle}
 use Rattle.jsonptr_c_calls.specs.Pointers.{ParsesTo}
 use Rattle.jsonptr_c_calls.specs.ErrorNumbers.{status_number}
 use Rattle.jsonptr_c_calls.specs.Values.{FindsAtPointer, IsJsonText}
-use Rattle.jsonptr_c_calls.specs.declared.values.TextLayout.{TextLayout}
+use Rattle.jsonptr_in_text.specs.declared.format.Format.{Format}
 use Rattle.jsonptr_c_calls.specs.declared.call_error.Argument.{Argument}
 use Rattle.jsonptr_c_calls.specs.declared.call_error.Argument.TheVariants as argument
 use Rattle.jsonptr_c_calls.specs.declared.call_error.CallError.{CallError}
-use Rattle.jsonptr_c_calls.specs.declared.call_error.CallError.TheVariants.{Memory, NoRoom, NoDocument, NotUtf8, NotJson, NotPointer, NoToken, NotFound, OtherKind}
+use Rattle.jsonptr_c_calls.specs.declared.call_error.CallError.TheVariants.{Memory, NoRoom, NoDocument, NotUtf8, NotJson, NotPointer, NoToken, Resolve, OtherKind}
 
 -- `IsOutOfMemory e`: an allocation failed
 abbrev pub IsOutOfMemory : CallError → Type 0
@@ -95,14 +95,14 @@ Unfound d bytes e =
     IsNoPointer bytes e
     ⊎ (IsOutOfMemory e
     ⊎ ((tokens : List Text) × (error : resolve.Error) × ParsesTo bytes tokens × Refuses (nodes d) tokens error
-    × (e ≡ NotFound error)))
+    × (e ≡ Resolve error)))
 
--- `IsNotPrinted layout d bytes room e`: the text of the value that the pointer `bytes` resolves to does not come to
+-- `IsNotPrinted format d bytes room e`: the text of the value that the pointer `bytes` resolves to does not come to
 -- `room` bytes, and `e` reports why
-abbrev pub IsNotPrinted : TextLayout → Data → List ℕ → ℕ → CallError → Type 0
-IsNotPrinted layout d bytes room e =
+abbrev pub IsNotPrinted : Format → Data → List ℕ → ℕ → CallError → Type 0
+IsNotPrinted format d bytes room e =
     Unfound d bytes e
-    ⊎ ((v : Data) × (out : List ℕ) × IsUtf8 bytes × FindsAtPointer d bytes v × IsJsonText layout v out
+    ⊎ ((v : Data) × (out : List ℕ) × IsUtf8 bytes × FindsAtPointer d bytes v × IsJsonText format v out
     × LacksRoom (length out) room e)
 
 -- `LacksString v room e`: the value `v` is not a string, or one longer than `room` bytes, and `e` reports that

@@ -9,24 +9,24 @@ use Rattle.jsonptr.specs.declared.resolve.Error as resolve
 use Rattle.jsonptr_c_calls.specs.Failures.{IsNoPointer, IsNotUtf8, IsOutOfMemory, LacksRoom}
 use Rattle.jsonptr_c_calls.specs.Pointers.{HasTokens, ParsesTo}
 use Rattle.jsonptr_c_calls.specs.Values.{IsJsonText}
-use Rattle.jsonptr_c_calls.specs.declared.values.TextLayout.{TextLayout}
+use Rattle.jsonptr_in_text.specs.declared.format.Format.{Format}
 use Rattle.jsonptr_c_calls.specs.declared.call_error.Argument.TheVariants as argument
 use Rattle.jsonptr_c_calls.specs.declared.call_error.CallError.{CallError}
-use Rattle.jsonptr_c_calls.specs.declared.call_error.CallError.TheVariants.{NotJson, NotFound}
+use Rattle.jsonptr_c_calls.specs.declared.call_error.CallError.TheVariants.{NotJson, Resolve}
 
 -- `FindsAtPointerInText text bytes v`: the pointer `bytes` resolves to the value `v` in the document that `text` is
 abbrev pub FindsAtPointerInText : List ℕ → List ℕ → Value → Type 0
 FindsAtPointerInText text bytes v = (tokens : List Text) × HasTokens bytes tokens × FindsInText text tokens (view v)
 
--- `FindsTextIn layout text bytes out`: `out` is the JSON text of that value in this layout
-abbrev pub FindsTextIn : TextLayout → List ℕ → List ℕ → List ℕ → Type 0
-FindsTextIn layout text bytes out = (v : Value) × FindsAtPointerInText text bytes v × IsJsonText layout (view v) out
+-- `FindsTextIn format text bytes out`: `out` is the JSON text of that value in this format
+abbrev pub FindsTextIn : Format → List ℕ → List ℕ → List ℕ → Type 0
+FindsTextIn format text bytes out = (v : Value) × FindsAtPointerInText text bytes v × IsJsonText format (view v) out
 
 -- `LacksValue text tokens e`: `text` is not JSON, or the tokens identify no value in it, and `e` reports why
 abbrev pub LacksValue : List ℕ → List Text → CallError → Type 0
 LacksValue text tokens e =
     ((offset : ℕ) × (read text ≡ None) × (e ≡ NotJson offset))
-    ⊎ ((error : resolve.Error) × RefusesInText text tokens error × (e ≡ NotFound error))
+    ⊎ ((error : resolve.Error) × RefusesInText text tokens error × (e ≡ Resolve error))
 
 -- `IsNotInText text bytes e`: the pointer `bytes` does not resolve to a value in `text`, and `e` reports why
 abbrev pub IsNotInText : List ℕ → List ℕ → CallError → Type 0
@@ -35,10 +35,10 @@ IsNotInText text bytes e =
     ⊎ ((tokens : List Text) × ParsesTo bytes tokens
     × (IsNotUtf8 argument.Text text e ⊎ (IsOutOfMemory e ⊎ (IsUtf8 text × LacksValue text tokens e))))
 
--- `IsNotPrintedFrom layout text bytes room e`: the text of the value does not come to `room` bytes, and `e` reports why
-abbrev pub IsNotPrintedFrom : TextLayout → List ℕ → List ℕ → ℕ → CallError → Type 0
-IsNotPrintedFrom layout text bytes room e =
+-- `IsNotPrintedFrom format text bytes room e`: the text of the value does not come to `room` bytes, and `e` reports why
+abbrev pub IsNotPrintedFrom : Format → List ℕ → List ℕ → ℕ → CallError → Type 0
+IsNotPrintedFrom format text bytes room e =
     IsNotInText text bytes e
     ⊎ (IsOutOfMemory e
-    ⊎ ((out : List ℕ) × IsUtf8 bytes × IsUtf8 text × FindsTextIn layout text bytes out
+    ⊎ ((out : List ℕ) × IsUtf8 bytes × IsUtf8 text × FindsTextIn format text bytes out
     × LacksRoom (length out) room e))

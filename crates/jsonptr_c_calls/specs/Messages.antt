@@ -11,7 +11,7 @@ use Rattle.jsonptr_patch_document.specs.declared.error.PatchDocumentError.{Patch
 use Rattle.jsonptr_patch_document.specs.declared.error.PatchDocumentError.TheVariants as document_error
 use Rattle.jsonptr_c_calls.specs.declared.error_numbers.TheConstants as number
 use Rattle.jsonptr_c_calls.specs.declared.call_error.CallError.{CallError}
-use Rattle.jsonptr_c_calls.specs.declared.call_error.CallError.TheVariants.{Memory, NoRoom, NoDocument, NotUtf8, NotJson, NotExact, NotPointer, NoToken, NotFound, NotLocated, NoValue, OtherKind, NotAssigned, NotPatch, PatchFailed, TooDeep, DeepInverse}
+use Rattle.jsonptr_c_calls.specs.declared.call_error.CallError.TheVariants.{Memory, NoRoom, NoDocument, NotUtf8, NotJson, NotExact, NotPointer, NoToken, Resolve, NotLocated, NoValue, OtherKind, Assign, NotPatch, PatchFailed, TooDeep, DeepInverse}
 use Rattle.jsonptr_c_calls.specs.declared.error_numbers.ErrorRecord.{ErrorRecord}
 
 -- `patch_message e`: the message of an operation that fails
@@ -56,11 +56,11 @@ failure_message (NotExact l) =
     codes "the number at offset " ++ decimal (unwrap_or l.offset 0) ++ codes " loses digits"
 failure_message (NotPointer e) = parse_message e
 failure_message NoToken = codes "the pointer has no such token"
-failure_message (NotFound e) = resolve_message e
+failure_message (Resolve e) = resolve_message e
 failure_message NotLocated = codes "value cannot be located in the text"
 failure_message (NoValue offset) = codes "no value is at offset " ++ decimal offset
 failure_message OtherKind = codes "the value is of another kind"
-failure_message (NotAssigned e) = assign_message e
+failure_message (Assign e) = assign_message e
 failure_message (NotPatch e) = patch_document_message e
 failure_message (PatchFailed e m) = patch_message e
 failure_message TooDeep = codes "the document would nest deeper than 10,127"

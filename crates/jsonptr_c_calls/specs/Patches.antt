@@ -20,7 +20,7 @@ use Rattle.jsonptr_c_calls.specs.Depths.{StaysShallow}
 use Rattle.jsonptr_c_calls.specs.Failures.{FailsOnHandle, IsNotParsed, IsOutOfMemory, LacksRoom}
 use Rattle.jsonptr_c_calls.specs.Sources.{IsFaultOf, source_at}
 use Rattle.jsonptr_c_calls.specs.Values.{IsJsonText}
-use Rattle.jsonptr_c_calls.specs.declared.values.TextLayout.{TextLayout}
+use Rattle.jsonptr_in_text.specs.declared.format.Format.{Format}
 use Rattle.jsonptr_c_calls.specs.declared.call_error.CallError.{CallError}
 use Rattle.jsonptr_c_calls.specs.declared.call_error.CallError.TheVariants.{NotPatch, PatchFailed, TooDeep, DeepInverse}
 
@@ -72,27 +72,27 @@ abbrev pub IsNotApplied : List ℕ → Handle → CallError → Type 0
 IsNotApplied text d e = (os : List Operation) × IsUtf8 text × IsPatchText text os
     × FailsOnHandle d (λ v. IsNotAppliedList (view v) text os e) e
 
--- `IsDiffText layout d n text`: `text` is that of a patch document whose operations turn the document `d` into `n`, in
--- this layout
-abbrev pub IsDiffText : TextLayout → Data → Data → List ℕ → Type 0
-IsDiffText layout d n text =
-    (os : List Operation) × Patches (nodes d) os (nodes n) × IsJsonText layout (document_of os) text
+-- `IsDiffText format d n text`: `text` is that of a patch document whose operations turn the document `d` into `n`, in
+-- this format
+abbrev pub IsDiffText : Format → Data → Data → List ℕ → Type 0
+IsDiffText format d n text =
+    (os : List Operation) × Patches (nodes d) os (nodes n) × IsJsonText format (document_of os) text
 
--- `IsNotCompared layout d n room e`: the text of such a patch document does not come to `room` bytes, and `e` reports why
-abbrev pub IsNotCompared : TextLayout → Data → Data → ℕ → CallError → Type 0
-IsNotCompared layout d n room e =
-    IsOutOfMemory e ⊎ ((text : List ℕ) × IsDiffText layout d n text × LacksRoom (length text) room e)
+-- `IsNotCompared format d n room e`: the text of such a patch document does not come to `room` bytes, and `e` reports why
+abbrev pub IsNotCompared : Format → Data → Data → ℕ → CallError → Type 0
+IsNotCompared format d n room e =
+    IsOutOfMemory e ⊎ ((text : List ℕ) × IsDiffText format d n text × LacksRoom (length text) room e)
 
--- `IsBackText layout n d text`: `text` reads as a patch document whose operations turn the document `n` back into `d`. It is
--- the text of their document, in this layout
-abbrev pub IsBackText : TextLayout → Data → Data → List ℕ → Type 0
-IsBackText layout n d text = (back : List Operation) × IsPatchText text back × Patches (nodes n) back (nodes d)
-    × IsJsonText layout (document_of back) text
+-- `IsBackText format n d text`: `text` reads as a patch document whose operations turn the document `n` back into `d`. It is
+-- the text of their document, in this format
+abbrev pub IsBackText : Format → Data → Data → List ℕ → Type 0
+IsBackText format n d text = (back : List Operation) × IsPatchText text back × Patches (nodes n) back (nodes d)
+    × IsJsonText format (document_of back) text
 
--- `AppliesWithBack layout text d n out`: the operations of the patch document `text` turn the document `d` into `n`, and `out`
+-- `AppliesWithBack format text d n out`: the operations of the patch document `text` turn the document `d` into `n`, and `out`
 -- is the text of a patch document that takes them back
-abbrev pub AppliesWithBack : TextLayout → List ℕ → Data → Data → List ℕ → Type 0
-AppliesWithBack layout text d n out = AppliesText text d n × IsBackText layout n d out
+abbrev pub AppliesWithBack : Format → List ℕ → Data → Data → List ℕ → Type 0
+AppliesWithBack format text d n out = AppliesText text d n × IsBackText format n d out
 
 -- `LacksBack d n e`: operations that turn the document `n` back into `d` nest so deep that their text would not be read, and
 -- `e` reports that
@@ -107,15 +107,15 @@ IsNotPatched d text os e =
     IsNotAppliedList d text os e
     ⊎ ((n : Data) × StaysShallow d os × PatchesBy Numeric (nodes d) os (nodes n) × LacksBack d n e)
 
--- `IsNotTakenBack layout d text os room e`: those operations are not applied, or the text of what takes them back does not
+-- `IsNotTakenBack format d text os room e`: those operations are not applied, or the text of what takes them back does not
 -- come to `room` bytes, and `e` reports why
-abbrev pub IsNotTakenBack : TextLayout → Data → List ℕ → List Operation → ℕ → CallError → Type 0
-IsNotTakenBack layout d text os room e =
+abbrev pub IsNotTakenBack : Format → Data → List ℕ → List Operation → ℕ → CallError → Type 0
+IsNotTakenBack format d text os room e =
     IsNotPatched d text os e
-    ⊎ ((n : Data) × (out : List ℕ) × StaysShallow d os × PatchesBy Numeric (nodes d) os (nodes n) × IsBackText layout n d out
+    ⊎ ((n : Data) × (out : List ℕ) × StaysShallow d os × PatchesBy Numeric (nodes d) os (nodes n) × IsBackText format n d out
     × LacksRoom (length out) room e)
 
--- `IsNotAppliedWithBack layout text d room e`: the same of the document in the handle `d`
-abbrev pub IsNotAppliedWithBack : TextLayout → List ℕ → Handle → ℕ → CallError → Type 0
-IsNotAppliedWithBack layout text d room e = (os : List Operation) × IsUtf8 text × IsPatchText text os
-    × FailsOnHandle d (λ v. IsNotTakenBack layout (view v) text os room e) e
+-- `IsNotAppliedWithBack format text d room e`: the same of the document in the handle `d`
+abbrev pub IsNotAppliedWithBack : Format → List ℕ → Handle → ℕ → CallError → Type 0
+IsNotAppliedWithBack format text d room e = (os : List Operation) × IsUtf8 text × IsPatchText text os
+    × FailsOnHandle d (λ v. IsNotTakenBack format (view v) text os room e) e

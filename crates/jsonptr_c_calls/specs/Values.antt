@@ -10,26 +10,26 @@ use Rattle.jsonptr_value.specs.JsonText.{IsCompact, IsPretty}
 use Rattle.jsonptr_c_handle.specs.Handle.{Holds}
 use Rattle.jsonptr_c_handle.specs.declared.handle.Handle.{Handle}
 use Rattle.jsonptr_c_calls.specs.Pointers.{HasTokens}
-use Rattle.jsonptr_c_calls.specs.declared.values.TextLayout.{TextLayout}
-use Rattle.jsonptr_c_calls.specs.declared.values.TextLayout.TheVariants.{Compact, Pretty}
+use Rattle.jsonptr_in_text.specs.declared.format.Format.{Format}
+use Rattle.jsonptr_in_text.specs.declared.format.Format.TheVariants.{Compact, Pretty}
 
 -- `FindsAtPointer d bytes e`: the pointer `bytes` resolves to the value `e` of the document `d`
 abbrev pub FindsAtPointer : Data → List ℕ → Data → Type 0
 FindsAtPointer d bytes e = (tokens : List Text) × HasTokens bytes tokens × FindsValue d tokens e
 
--- `layout_of is_pretty`: the layout that a flag asks for
-abbrev pub layout_of : Bool → TextLayout
-layout_of true = Pretty
-layout_of false = Compact
+-- `format_of is_pretty`: the format that a flag asks for
+abbrev pub format_of : Bool → Format
+format_of true = Pretty
+format_of false = Compact
 
--- `IsJsonText layout d text`: `text` is the JSON text of the value `d` in this layout
-abbrev pub IsJsonText : TextLayout → Data → List ℕ → Type 0
+-- `IsJsonText format d text`: `text` is the JSON text of the value `d` in this format
+abbrev pub IsJsonText : Format → Data → List ℕ → Type 0
 IsJsonText Compact d text = IsCompact d text
 IsJsonText Pretty d text = IsPretty d text
 
--- `FindsTextOf layout d bytes text`: `text` is that of the value that the pointer `bytes` resolves to
-abbrev pub FindsTextOf : TextLayout → Data → List ℕ → List ℕ → Type 0
-FindsTextOf layout d bytes text = (e : Data) × FindsAtPointer d bytes e × IsJsonText layout e text
+-- `FindsTextOf format d bytes text`: `text` is that of the value that the pointer `bytes` resolves to
+abbrev pub FindsTextOf : Format → Data → List ℕ → List ℕ → Type 0
+FindsTextOf format d bytes text = (e : Data) × FindsAtPointer d bytes e × IsJsonText format e text
 
 -- `FindsString d bytes s`: the pointer `bytes` resolves to the string `s`
 abbrev pub FindsString : Data → List ℕ → List ℕ → Type 0

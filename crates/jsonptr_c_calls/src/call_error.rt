@@ -40,7 +40,7 @@ pub enum CallError {
     },
     /// A text is not JSON.
     NotJson {
-        /// The offset at which reading stopped.
+        /// The offset at which reading stopped, or 0 if an allocation failed when it was looked for.
         offset: usize,
     },
     /// A number of a text loses digits.
@@ -50,7 +50,7 @@ pub enum CallError {
     /// A pointer has no token at a position.
     NoToken,
     /// A pointer does not resolve to a value.
-    NotFound(resolve::Error),
+    Resolve(resolve::Error),
     /// The value is in the text, but its bytes are not found.
     NotLocated,
     /// No value of the text is at an offset.
@@ -65,7 +65,7 @@ pub enum CallError {
     /// The patch document that takes a patch back would nest deeper than 127.
     DeepInverse,
     /// A value cannot be assigned at a pointer.
-    NotAssigned(assign::Error),
+    Assign(assign::Error),
     /// A document is not a patch.
     NotPatch(PatchDocumentError),
     /// An operation of a patch fails.

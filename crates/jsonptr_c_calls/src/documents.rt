@@ -17,9 +17,9 @@ use crate::call_error::CallError;
 use crate::node::NodeInfo;
 use crate::patches::Patched;
 use crate::reading::{read, read_exactly};
-use crate::values::{self, TextLayout};
-use crate::{editing, patches};
+use crate::{editing, patches, values};
 use jsonptr_c_handle::handle::Handle;
+use jsonptr_in_text::Format;
 use serde_json::Value;
 use std::alloc::{AllocError, Global};
 
@@ -87,20 +87,20 @@ pub fn print_at(
     alloc: Global,
     document: &mut Handle,
     pointer: &[u8],
-    layout: TextLayout,
+    format: Format,
     out: &mut [u8],
 ) -> Result<usize, CallError>
     ensures printed { IfOk result (λ n.
-        HoldsWith document.old (λ v. FindsTextOf layout (view v) pointer.now (take n out.new))) }
+        HoldsWith document.old (λ v. FindsTextOf format (view v) pointer.now (take n out.new))) }
     ensures refused { IfErr result (λ e.
-        FailsOnHandle document.old (λ v. IsNotPrinted layout (view v) pointer.now (length out.old) e) e) }
+        FailsOnHandle document.old (λ v. IsNotPrinted format (view v) pointer.now (length out.old) e) e) }
     ensures unchanged { OnErr result (out.new ≡ out.old) }
     ensures value_unchanged { Keeps document.old document.new }
 {
     let Some(value) = document.take(alloc) else {
         return Err(CallError::NoDocument);
     };
-    let printed = values::print_at(alloc, &value, pointer, layout, out);
+    let printed = values::print_at(alloc, &value, pointer, format, out);
     document.put(value);
     printed
 }
@@ -209,7 +209,7 @@ pub fn delete(alloc: Global, document: &mut Handle, pointer: &[u8]) -> Result<bo
 ///
 /// # Errors
 ///
-/// - Those of [`patches::read_text`], for the text, which is read first.
+/// - Those of [`patches::read_patch_text`], for the text, which is read first.
 /// - [`CallError::NoDocument`], and those of [`patches::apply_all`].
 ///
 /// The document is unchanged.
@@ -222,7 +222,7 @@ pub fn patch(alloc: Global, document: &mut Handle, text: &[u8]) -> Result<(), Ca
         IsNotPatchText text.now e ⊎ IsNotApplied text.now document.old e) }
     ensures value_unchanged { OnErr result (Keeps document.old document.new) }
 {
-    let operations = patches::read_text(alloc, text)?;
+    let operations = patches::read_patch_text(alloc, text)?;
     let Some(mut value) = document.take(alloc) else {
         return Err(CallError::NoDocument);
     };
@@ -249,23 +249,23 @@ pub fn patch_with_inverse(
     alloc: Global,
     document: &mut Handle,
     text: &[u8],
-    layout: TextLayout,
+    format: Format,
     out: &mut [u8],
 ) -> Result<usize, CallError>
     ensures applied { IfOk result (λ n. Changes document.old
-        (λ d m. AppliesWithBack layout text.now d m (take n out.new)) document.new) }
+        (λ d m. AppliesWithBack format text.now d m (take n out.new)) document.new) }
     ensures bounded { IfOk result (λ _.
         Changes document.old (λ d n. IsBounded d → IsBounded n) document.new) }
     ensures refused { IfErr result (λ e. IsNotPatchText text.now e
-        ⊎ IsNotAppliedWithBack layout text.now document.old (length out.old) e) }
+        ⊎ IsNotAppliedWithBack format text.now document.old (length out.old) e) }
     ensures unchanged { OnErr result (out.new ≡ out.old) }
     ensures value_unchanged { OnErr result (Keeps document.old document.new) }
 {
-    let operations = patches::read_text(alloc, text)?;
+    let operations = patches::read_patch_text(alloc, text)?;
     let Some(mut value) = document.take(alloc) else {
         return Err(CallError::NoDocument);
     };
-    match patches::patched_copy(alloc, &mut value, text, operations, layout) {
+    match patches::patched_copy(alloc, &mut value, text, operations, format) {
         Ok(made) => put_patched(document, value, made, out),
         Err(failure) => {
             document.put(value);
@@ -313,14 +313,14 @@ pub fn diff(
     alloc: Global,
     old: &mut Handle,
     new: &mut Handle,
-    layout: TextLayout,
+    format: Format,
     out: &mut [u8],
 ) -> Result<usize, CallError>
     ensures differing { IfOk result (λ n. HoldsWith old.old (λ v.
-        HoldsWith new.old (λ w. IsDiffText layout (view v) (view w) (take n out.new)))) }
+        HoldsWith new.old (λ w. IsDiffText format (view v) (view w) (take n out.new)))) }
     ensures refused { IfErr result (λ e. FailsOnHandle old.old
         (λ v. FailsOnHandle new.old
-        (λ w. IsNotCompared layout (view v) (view w) (length out.old) e) e) e) }
+        (λ w. IsNotCompared format (view v) (view w) (length out.old) e) e) e) }
     ensures unchanged { OnErr result (out.new ≡ out.old) }
     ensures old_kept { Keeps old.old old.new }
     ensures new_kept { Keeps new.old new.new }
@@ -328,7 +328,7 @@ pub fn diff(
     let Some(value) = old.take(alloc) else {
         return Err(CallError::NoDocument);
     };
-    let written = diff_with(alloc, &value, new, layout, out);
+    let written = diff_with(alloc, &value, new, format, out);
     old.put(value);
     written
 }
@@ -343,21 +343,21 @@ fn diff_with(
     alloc: Global,
     old: &Value,
     new: &mut Handle,
-    layout: TextLayout,
+    format: Format,
     out: &mut [u8],
 ) -> Result<usize, CallError>
     ensures differing { IfOk result (λ n.
-        HoldsWith new.old (λ w. IsDiffText layout (view old.now) (view w) (take n out.new))) }
+        HoldsWith new.old (λ w. IsDiffText format (view old.now) (view w) (take n out.new))) }
     ensures refused { IfErr result (λ e.
         FailsOnHandle new.old
-        (λ w. IsNotCompared layout (view old.now) (view w) (length out.old) e) e) }
+        (λ w. IsNotCompared format (view old.now) (view w) (length out.old) e) e) }
     ensures unchanged { OnErr result (out.new ≡ out.old) }
     ensures value_unchanged { Keeps new.old new.new }
 {
     let Some(value) = new.take(alloc) else {
         return Err(CallError::NoDocument);
     };
-    let written = patches::diff_text(alloc, old, &value, layout, out);
+    let written = patches::diff_text(alloc, old, &value, format, out);
     new.put(value);
     written
 }

@@ -18,7 +18,7 @@ use std::alloc::Global;
 ///
 /// - Those of [`parse`].
 /// - [`CallError::TooDeep`] if the pointer has more than 10,000 tokens.
-/// - [`CallError::NotAssigned`] if the pointer leads to an array that has no such index.
+/// - [`CallError::Assign`] if the pointer leads to an array that has no such index.
 /// - [`CallError::Memory`] if an allocation fails.
 ///
 /// The document is unchanged.
@@ -41,7 +41,7 @@ pub fn assign(
     }
     match pointer.assign(alloc, document, value) {
         Ok(_replaced) => Ok(()),
-        Err(Fault::Refused(error)) => Err(CallError::NotAssigned(error)),
+        Err(Fault::Refused(error)) => Err(CallError::Assign(error)),
         Err(Fault::Memory(error)) => Err(CallError::Memory(error)),
     }
 }

@@ -170,11 +170,11 @@ fn status_number(failure: &CallError) -> u32
         CallError::NotExact(_) => NOT_EXACT,
         CallError::NotPointer(_) => NOT_POINTER,
         CallError::NoToken => NO_TOKEN,
-        CallError::NotFound(_) => NOT_FOUND,
+        CallError::Resolve(_) => NOT_FOUND,
         CallError::NotLocated => NOT_LOCATED,
         CallError::NoValue { .. } => NO_VALUE,
         CallError::OtherKind => OTHER_KIND,
-        CallError::NotAssigned(_) => NOT_ASSIGNED,
+        CallError::Assign(_) => NOT_ASSIGNED,
         CallError::NotPatch(_) => NOT_PATCH,
         CallError::PatchFailed { .. } => PATCH_FAILED,
         CallError::TooDeep | CallError::DeepInverse => TOO_DEEP,
@@ -200,11 +200,11 @@ fn fields_of(failure: &CallError, pointer: &[u8]) -> ErrorRecord
             ..at_offset(lost.offset.unwrap_or(0))
         },
         CallError::NotPointer(error) => pointer_row(error, pointer),
-        CallError::NotFound(error) => ErrorRecord {
+        CallError::Resolve(error) => ErrorRecord {
             length: token_length(pointer, error.offset()) as u64,
             ..resolve_row(error)
         },
-        CallError::NotAssigned(error) => ErrorRecord {
+        CallError::Assign(error) => ErrorRecord {
             length: token_length(pointer, error.offset()) as u64,
             ..assign_row(error)
         },

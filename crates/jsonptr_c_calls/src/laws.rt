@@ -16,7 +16,7 @@ ghost use Rattle.jsonptr_c_calls.specs.Patches.{IsNotAppliedList, IsNotPatched, 
 ghost use Rattle.jsonptr_c_calls.specs.ErrorNumbers.{record_of};
 ghost use Rattle.jsonptr_c_calls.specs.declared.call_error.CallError.{CallError};
 ghost use Rattle.jsonptr_c_calls.specs.declared.error_numbers.ErrorRecord.{ErrorRecord};
-ghost use Rattle.jsonptr_c_calls.specs.declared.values.TextLayout.{TextLayout};
+ghost use Rattle.jsonptr_in_text.specs.declared.format.Format.{Format};
 
 use jsonptr::laws::parse_law;
 use jsonptr_patch::laws::patch::comparing_patch_law;
@@ -48,9 +48,9 @@ pub fn one_error_law()
         → IsNotParsedExactly text e → IsNotParsedExactly text f → SameStatus e f }
     ensures lost_number { (lost : Lost) (room : ℕ) (e f : CallError)
         → LacksPointerOfNumber lost room e → LacksPointerOfNumber lost room f → SameStatus e f }
-    ensures print { (d : Handle) (layout : TextLayout) (bytes : List ℕ) (room : ℕ) (e f : CallError)
-        → FailsOnHandle d (λ v. IsNotPrinted layout (view v) bytes room e) e
-        → FailsOnHandle d (λ v. IsNotPrinted layout (view v) bytes room f) f → SameStatus e f }
+    ensures print { (d : Handle) (format : Format) (bytes : List ℕ) (room : ℕ) (e f : CallError)
+        → FailsOnHandle d (λ v. IsNotPrinted format (view v) bytes room e) e
+        → FailsOnHandle d (λ v. IsNotPrinted format (view v) bytes room f) f → SameStatus e f }
     ensures string { (d : Handle) (bytes : List ℕ) (room : ℕ) (e f : CallError)
         → FailsOnHandle d (λ v. IsNotRead (view v) bytes room e) e
         → FailsOnHandle d (λ v. IsNotRead (view v) bytes room f) f → SameStatus e f }
@@ -69,8 +69,8 @@ pub fn one_error_law()
         → IsNotAppliedList d text os e → IsNotAppliedList d text os f → SameStatus e f }
     ensures take_back { (d : Data) (text : List ℕ) (os : List Operation) (e f : CallError)
         → IsNotPatched d text os e → IsNotPatched d text os f → SameStatus e f }
-    ensures print_in { (layout : TextLayout) (text bytes : List ℕ) (room : ℕ) (e f : CallError)
-        → IsNotPrintedFrom layout text bytes room e → IsNotPrintedFrom layout text bytes room f
+    ensures print_in { (format : Format) (text bytes : List ℕ) (room : ℕ) (e f : CallError)
+        → IsNotPrintedFrom format text bytes room e → IsNotPrintedFrom format text bytes room f
         → SameStatus e f }
     ensures locate { (text bytes : List ℕ) (e f : CallError)
         → IsNotLocated text bytes e → IsNotLocated text bytes f → SameStatus e f }

@@ -29,7 +29,7 @@ pub struct TextSpan {
 /// - Those of [`parse`], for the pointer.
 /// - [`CallError::NotUtf8`] and [`CallError::NotJson`], for the text. It is read again to find where
 ///   reading stops.
-/// - [`CallError::NotFound`] if the pointer does not resolve to a value.
+/// - [`CallError::Resolve`] if the pointer does not resolve to a value.
 /// - [`CallError::NotLocated`] if the check of the offsets fails.
 /// - [`CallError::Memory`] if an allocation fails.
 pub fn locate_in(alloc: Global, text: &[u8], pointer: &[u8]) -> Result<TextSpan, CallError>
@@ -87,7 +87,7 @@ fn failure_of(alloc: Global, text: &[u8], error: LocateError) -> CallError
         LocateError::Failed(InTextError::NotJson) => CallError::NotJson {
             offset: stop(alloc, text),
         },
-        LocateError::Failed(InTextError::Resolve(error)) => CallError::NotFound(error),
+        LocateError::Failed(InTextError::Resolve(error)) => CallError::Resolve(error),
         LocateError::Failed(InTextError::Memory(error)) => CallError::Memory(error),
     }
 }

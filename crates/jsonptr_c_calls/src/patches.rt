@@ -19,9 +19,10 @@ use crate::call_error::CallError;
 use crate::depths::stays_shallow;
 use crate::reading::read;
 use crate::sources::failure_of;
-use crate::values::{TextLayout, json_text};
+use crate::values::json_text;
 use jsonptr::Fault;
 use jsonptr_diff::diff;
+use jsonptr_in_text::Format;
 use jsonptr_patch::{Comparison, Operation, apply_comparing, apply_comparing_with_inverse};
 use jsonptr_patch_document::laws::{patch_document_law, writing_law};
 use jsonptr_patch_document::{read_patch, write_patch};
@@ -36,7 +37,7 @@ use std::alloc::{AllocError, Global};
 /// - [`CallError::NotUtf8`] and [`CallError::NotJson`].
 /// - [`CallError::NotPatch`] if the document is not a patch.
 /// - [`CallError::Memory`] if an allocation fails.
-pub fn read_text(alloc: Global, text: &[u8]) -> Result<Vec<Operation>, CallError>
+pub fn read_patch_text(alloc: Global, text: &[u8]) -> Result<Vec<Operation>, CallError>
     ensures read { IfOk result (λ patch. IsPatchText text.now patch.items) }
     ensures parsed { IfOk result (λ patch. All AddsParsed patch.items) }
     ensures utf8 { OnOk result (IsUtf8 text.now) }
@@ -101,7 +102,7 @@ pub struct Patched {
 }
 
 /// Returns the document after the operations of the patch document, and the text of a patch document
-/// that takes them back, in this layout. The document itself is copied, and unchanged.
+/// that takes them back, in this format. The document itself is copied, and unchanged.
 ///
 /// # Errors
 ///
@@ -117,7 +118,7 @@ pub fn patched_copy(
     document: &mut Value,
     text: &[u8],
     patch: Vec<Operation>,
-    layout: TextLayout,
+    format: Format,
 ) -> Result<Patched, CallError>
     requires utf8 { IsUtf8 text.now }
     requires read { IsPatchText text.now patch.items }
@@ -127,7 +128,7 @@ pub fn patched_copy(
     ensures sorted { IfOk result (λ made. All OperationHasSortedKeys patch.items
         → HasSortedKeys (view document.old) → HasSortedKeys (view made.document)) }
     ensures inverse { IfOk result (λ made.
-        IsBackText layout (view made.document) (view document.old) made.inverse.items) }
+        IsBackText format (view made.document) (view document.old) made.inverse.items) }
     ensures refused { IfErr result (IsNotPatched (view document.old) text.now patch.items) }
     ensures unchanged { view document.new ≡ view document.old }
 {
@@ -137,7 +138,7 @@ pub fn patched_copy(
     let mut changed = copy(alloc, document)?;
     match apply_comparing_with_inverse(alloc, &mut changed, patch, Comparison::Numeric) {
         Ok(inverse) => Ok(Patched {
-            inverse: inverse_text(alloc, &inverse, layout)?,
+            inverse: inverse_text(alloc, &inverse, format)?,
             document: changed,
         }),
         Err(fault) => Err(failure_of(alloc, document, text, fault)),
@@ -172,10 +173,10 @@ pub fn keep(document: &mut Value, made: Patched, out: &mut [u8]) -> Result<usize
 fn inverse_text(
     alloc: Global,
     inverse: &Vec<Operation>,
-    layout: TextLayout,
+    format: Format,
 ) -> Result<Vec<u8>, CallError>
     ensures text { IfOk result (λ text. IsPatchText text.items inverse.now.items
-        × IsJsonText layout (document_of inverse.now.items) text.items) }
+        × IsJsonText format (document_of inverse.now.items) text.items) }
     ensures refused { IfErr result (λ e. IsOutOfMemory e
         ⊎ ((max_depth < depth (document_of inverse.now.items)) × (e ≡ DeepInverse))) }
 {
@@ -184,7 +185,7 @@ fn inverse_text(
     if !nests_within(&document, MAX_DEPTH) {
         return Err(CallError::DeepInverse);
     }
-    Ok(json_text(alloc, &document, layout)?)
+    Ok(json_text(alloc, &document, format)?)
 }
 
 /// Copies the text of a patch document that turns the document `old` into `new` to the buffer, and
@@ -198,31 +199,26 @@ pub fn diff_text(
     alloc: Global,
     old: &Value,
     new: &Value,
-    layout: TextLayout,
+    format: Format,
     out: &mut [u8],
 ) -> Result<usize, CallError>
     ensures differing { IfOk result (λ n.
-        IsDiffText layout (view old.now) (view new.now) (take n out.new)) }
+        IsDiffText format (view old.now) (view new.now) (take n out.new)) }
     ensures refused { IfErr result
-        (IsNotCompared layout (view old.now) (view new.now) (length out.old)) }
+        (IsNotCompared format (view old.now) (view new.now) (length out.old)) }
     ensures unchanged { OnErr result (out.new ≡ out.old) }
 {
-    match diff_of(alloc, old, new, layout) {
+    match diff_of(alloc, old, new, format) {
         Ok(text) => copy_to(&text, out),
         Err(error) => Err(CallError::Memory(error)),
     }
 }
 
 /// Returns the text of a patch document that turns the document `old` into `new`.
-fn diff_of(
-    alloc: Global,
-    old: &Value,
-    new: &Value,
-    layout: TextLayout,
-) -> Result<Vec<u8>, AllocError>
+fn diff_of(alloc: Global, old: &Value, new: &Value, format: Format) -> Result<Vec<u8>, AllocError>
     ensures { IfOk result (λ text.
-        IsDiffText layout (view old.now) (view new.now) text.items) }
+        IsDiffText format (view old.now) (view new.now) text.items) }
 {
     let document = write_patch(alloc, &diff(alloc, old, new)?)?;
-    json_text(alloc, &document, layout)
+    json_text(alloc, &document, format)
 }

@@ -87,7 +87,8 @@ fn error_offset(bytes: &[u8], error: &Error) -> usize {
     }
 }
 
-/// Returns the offset at which reading the bytes stops, or 0 if they are the text of a document.
+/// Returns the offset at which reading the bytes stops. Returns 0 if they are the text of a document or
+/// not UTF-8, or if an allocation fails.
 pub fn stop(alloc: Global, bytes: &[u8]) -> usize {
     match read(alloc, bytes) {
         Err(CallError::NotJson { offset }) => offset,

@@ -24,7 +24,7 @@ ghost use Rattle.jsonptr_c_calls.specs.PrivateSources.{member_of_error};
 ghost use Rattle.jsonptr_c_calls.specs.declared.call_error.CallError.TheVariants.{PatchFailed};
 
 use crate::call_error::CallError;
-use crate::patches::read_text;
+use crate::patches::read_patch_text;
 use jsonptr::{Fault, PointerBuf, Token};
 use jsonptr_patch::laws::operation::comparing_operation_law;
 use jsonptr_patch::{Comparison, Operation, PatchError, apply_comparing};
@@ -112,7 +112,7 @@ fn pointer_at_fault(
     ensures unchanged { view document.new ≡ view document.old }
 {
     patch_document_law();
-    let mut operations = read_text(alloc, text)?;
+    let mut operations = read_patch_text(alloc, text)?;
     match source_at(&operations, number)? {
         Some(from) => {
             operations.truncate(number);

@@ -10,8 +10,8 @@ use crate::buffer::copy_to;
 use crate::call_error::{Argument, CallError};
 use crate::pointers::{parse, text_of};
 use crate::reading::{lost_of, read, stop};
-use crate::values::{TextLayout, json_text};
-use jsonptr_in_text::{InTextError, resolve_in_text};
+use crate::values::json_text;
+use jsonptr_in_text::{Format, InTextError, resolve_in_text};
 use jsonptr_numbers::Lost;
 use serde_json::Value;
 use std::alloc::Global;
@@ -23,7 +23,7 @@ use std::alloc::Global;
 /// - Those of [`parse`], for the pointer.
 /// - [`CallError::NotUtf8`] and [`CallError::NotJson`], for the text. It is read again to find where
 ///   reading stops.
-/// - [`CallError::NotFound`] if the pointer does not resolve to a value.
+/// - [`CallError::Resolve`] if the pointer does not resolve to a value.
 /// - [`CallError::Memory`] if an allocation fails.
 fn find_in(alloc: Global, text: &[u8], pointer: &[u8]) -> Result<Value, CallError>
     ensures found { IfOk result (FindsAtPointerInText text.now pointer.now) }
@@ -37,7 +37,7 @@ fn find_in(alloc: Global, text: &[u8], pointer: &[u8]) -> Result<Value, CallErro
         Err(InTextError::NotJson) => Err(CallError::NotJson {
             offset: stop(alloc, text),
         }),
-        Err(InTextError::Resolve(error)) => Err(CallError::NotFound(error)),
+        Err(InTextError::Resolve(error)) => Err(CallError::Resolve(error)),
         Err(InTextError::Memory(error)) => Err(CallError::Memory(error)),
     }
 }
@@ -50,7 +50,7 @@ fn find_in(alloc: Global, text: &[u8], pointer: &[u8]) -> Result<Value, CallErro
 /// - [`CallError::NotUtf8`] and [`CallError::NotPointer`], for the pointer.
 /// - [`CallError::NotUtf8`] and [`CallError::NotJson`], for the text. It is read again to find where
 ///   reading stops.
-/// - [`CallError::NotFound`] if the pointer does not resolve to a value.
+/// - [`CallError::Resolve`] if the pointer does not resolve to a value.
 /// - [`CallError::NoRoom`] if the buffer is shorter than the text of the value.
 /// - [`CallError::Memory`] if an allocation fails.
 ///
@@ -59,15 +59,15 @@ pub fn print_in(
     alloc: Global,
     text: &[u8],
     pointer: &[u8],
-    layout: TextLayout,
+    format: Format,
     out: &mut [u8],
 ) -> Result<usize, CallError>
-    ensures printed { IfOk result (λ n. FindsTextIn layout text.now pointer.now (take n out.new)) }
-    ensures refused { IfErr result (IsNotPrintedFrom layout text.now pointer.now (length out.old)) }
+    ensures printed { IfOk result (λ n. FindsTextIn format text.now pointer.now (take n out.new)) }
+    ensures refused { IfErr result (IsNotPrintedFrom format text.now pointer.now (length out.old)) }
     ensures unchanged { OnErr result (out.new ≡ out.old) }
 {
     match find_in(alloc, text, pointer) {
-        Ok(value) => copy_to(&json_text(alloc, &value, layout)?, out),
+        Ok(value) => copy_to(&json_text(alloc, &value, format)?, out),
         Err(failure) => Err(failure),
     }
 }

@@ -8,6 +8,7 @@ use crate::buffer::copy_to;
 use crate::call_error::CallError;
 use crate::pointers::parse;
 use jsonptr::Fault;
+use jsonptr_in_text::Format;
 use serde_json::Value;
 use std::alloc::{AllocError, Global};
 
@@ -16,7 +17,7 @@ use std::alloc::{AllocError, Global};
 /// # Errors
 ///
 /// - Those of [`parse`].
-/// - [`CallError::NotFound`] if the pointer does not resolve to a value.
+/// - [`CallError::Resolve`] if the pointer does not resolve to a value.
 /// - [`CallError::Memory`] if an allocation fails. Only a token that contains `~` needs one.
 pub fn find<'v>(alloc: Global, document: &'v Value, pointer: &[u8]) -> Result<&'v Value, CallError>
     ensures found { IfOk result (λ v. FindsAtPointer (view document.now) pointer.now (view v.now)) }
@@ -25,18 +26,9 @@ pub fn find<'v>(alloc: Global, document: &'v Value, pointer: &[u8]) -> Result<&'
 {
     match parse(pointer)?.resolve(alloc, document) {
         Ok(value) => Ok(value),
-        Err(Fault::Refused(error)) => Err(CallError::NotFound(error)),
+        Err(Fault::Refused(error)) => Err(CallError::Resolve(error)),
         Err(Fault::Memory(error)) => Err(CallError::Memory(error)),
     }
-}
-
-/// How a JSON text is laid out.
-#[derive(Clone, Copy)]
-pub enum TextLayout {
-    /// Without spaces.
-    Compact,
-    /// On lines that are indented by two spaces.
-    Pretty,
 }
 
 /// Returns the JSON text of the value.
@@ -44,12 +36,12 @@ pub enum TextLayout {
 /// # Errors
 ///
 /// [`AllocError`] if an allocation fails.
-pub fn json_text(alloc: Global, value: &Value, layout: TextLayout) -> Result<Vec<u8>, AllocError>
-    ensures { IfOk result (λ text. IsJsonText layout (view value.now) text.items) }
+pub fn json_text(alloc: Global, value: &Value, format: Format) -> Result<Vec<u8>, AllocError>
+    ensures { IfOk result (λ text. IsJsonText format (view value.now) text.items) }
 {
-    match layout {
-        TextLayout::Compact => value.to_vec(alloc),
-        TextLayout::Pretty => value.to_vec_pretty(alloc),
+    match format {
+        Format::Compact => value.to_vec(alloc),
+        Format::Pretty => value.to_vec_pretty(alloc),
     }
 }
 
@@ -64,17 +56,17 @@ pub fn print_at(
     alloc: Global,
     document: &Value,
     pointer: &[u8],
-    layout: TextLayout,
+    format: Format,
     out: &mut [u8],
 ) -> Result<usize, CallError>
     ensures printed { IfOk result (λ n.
-        FindsTextOf layout (view document.now) pointer.now (take n out.new)) }
+        FindsTextOf format (view document.now) pointer.now (take n out.new)) }
     ensures refused { IfErr result
-        (IsNotPrinted layout (view document.now) pointer.now (length out.old)) }
+        (IsNotPrinted format (view document.now) pointer.now (length out.old)) }
     ensures unchanged { OnErr result (out.new ≡ out.old) }
 {
     let value = find(alloc, document, pointer)?;
-    let text = json_text(alloc, value, layout)?;
+    let text = json_text(alloc, value, format)?;
     copy_to(&text, out)
 }
 

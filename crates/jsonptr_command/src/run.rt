@@ -95,8 +95,8 @@ pub fn run_program<R: Read, W: Write>(
     ensures front { IsErrOf result RunFault.Write
         → ForLine (map string_bytes words.now) (R.remaining input.old)
         (AppendsPrefix (W.contents output.old) (W.contents output.new)) }
-    ensures unwritten { IfErr result (λ e. e ≢ RunFault.Write → output.new ≡ output.old) }
-    ensures unread { NeedNoInput (map string_bytes words.now) → input.new ≡ input.old }
+    ensures output_unchanged { IfErr result (λ e. e ≢ RunFault.Write → output.new ≡ output.old) }
+    ensures input_unchanged { NeedNoInput (map string_bytes words.now) → input.new ≡ input.old }
     ensures at_end { NeedInput (map string_bytes words.now)
         → IsPastInput result
         → IsAtEnd (R.remaining input.new) }
@@ -137,8 +137,8 @@ pub fn run_program_into<R: Read, W: Write>(
     ensures front { IsErrOf result RunFault.Write
         → ForLine (map string_bytes words.now) (R.remaining input.old)
         (AppendsPrefix (W.contents output.old) (W.contents output.new)) }
-    ensures unwritten { IfErr result (λ e. e ≢ RunFault.Write → output.new ≡ output.old) }
-    ensures unread { NeedNoInput (map string_bytes words.now) → input.new ≡ input.old }
+    ensures output_unchanged { IfErr result (λ e. e ≢ RunFault.Write → output.new ≡ output.old) }
+    ensures input_unchanged { NeedNoInput (map string_bytes words.now) → input.new ≡ input.old }
     ensures at_end { NeedInput (map string_bytes words.now)
         → IsPastInput result
         → IsAtEnd (R.remaining input.new) }
@@ -259,7 +259,7 @@ fn line_of<R: Read>(
         (λ bytes. IsLineOf (Outcome (request_of request.entry) bytes) (string_bytes line))) }
     ensures refused { IfErr result
         (IsRequestFault (request_of request.entry) (R.remaining input.old)) }
-    ensures unread { (NeedsInput (request_of request.entry) → ⊥) → input.new ≡ input.old }
+    ensures input_unchanged { (NeedsInput (request_of request.entry) → ⊥) → input.new ≡ input.old }
     ensures at_end { NeedsInput (request_of request.entry)
         → IsPastInput result
         → IsAtEnd (R.remaining input.new) }

@@ -2,6 +2,8 @@ pub mod ScanningLemmas
 pub mod PieceLemmas
 pub mod DoneLemmas
 pub mod StepLemmas
+pub mod BackLemmas
+pub mod ReadLemmas
 pub mod FirstLemmas
 pub mod UnchangedLemmas
 pub mod TwiceLemmas

@@ -6,7 +6,6 @@ use Rattle.std.proofs.lemmas.Str.{IsCharBoundary-before_ascii, IsCharBoundary-af
 use Rattle.json.specs.Word.{is_space}
 use Rattle.jsonptr_comments.specs.Comments.{Piece, string, comment, other, spelled, IsWhole, Pieces, IsLineEnd, IsUnterminated, value_after, closes, without, blank, is_break}
 use Rattle.jsonptr_comments.specs.PrivateScanning.{after_string, after_line, after_block, Done, blanked_comma}
-use Rattle.jsonptr_comments.specs.PrivateStepping.{IsSpace, IsPlain}
 use Rattle.jsonptr_comments.proofs.ScanningLemmas.{after_string-is, after_line-is, after_block-some, after_block-none}
 use Rattle.jsonptr_comments.proofs.PieceLemmas.{same_length}
 use Rattle.jsonptr_comments.proofs.DoneLemmas.{done_kept, done_blank, done_comma, done_closing, utf8_replaced, blanks_ascii}
@@ -51,13 +50,13 @@ closing_at all t i v comma x l e (inl f) d =
 closing_at all t i v comma x l e (inr f) d =
     done_closing all t i v comma d 125 (drop (i + 1) t) (first_byte t i 125 l (e ∙ f)) (λ g. omega (arith, g), λ g. absurd (omega (arith, g))) (λ c. refl) (λ c. refl) refl
 
-which : (x : ℕ) → ((x == 93) || (x == 125)) ≡ true → (x ≡ 93) ⊎ (x ≡ 125)
+pub which : (x : ℕ) → ((x == 93) || (x == 125)) ≡ true → (x ≡ 93) ⊎ (x ≡ 125)
 which x h = elim (or_cases (x == 93) (x == 125) h) [ inl e ↦ inl (eqb-true x 93 e) | inr e ↦ inr (eqb-true x 125 e) ]
 
 pub done_bracket : (all t : List ℕ) (i : ℕ) (v : Bool) (comma : Option ℕ) → i < length t → ((get_or t i 0 == 93) || (get_or t i 0 == 125)) ≡ true → Done all t i v comma → Done all (blanked_comma comma t) (i + 1) true None
 done_bracket all t i v comma l h d = closing_at all t i v comma (get_or t i 0) l refl (which (get_or t i 0) h) d
 
-space_at : (all t : List ℕ) (i : ℕ) (v : Bool) (comma : Option ℕ) (x : ℕ) → i < length t → get_or t i 0 ≡ x → x ≢ 34 → x ≢ 47 → x ≢ 44 → is_space x ≡ true → Done all t i v comma → Done all t (i + 1) v comma
+pub space_at : (all t : List ℕ) (i : ℕ) (v : Bool) (comma : Option ℕ) (x : ℕ) → i < length t → get_or t i 0 ≡ x → x ≢ 34 → x ≢ 47 → x ≢ 44 → is_space x ≡ true → Done all t i v comma → Done all t (i + 1) v comma
 space_at all t i v comma x l e q s c b d =
     let no = ne_eqb x 44 c in
     let keeps : (a : Bool) → without v (other x) a ≡ x ∷ [] = λ a. rw no refl in
@@ -67,14 +66,11 @@ space_at all t i v comma x l e q s c b d =
     done_blank all t i v comma d (other x) (drop (i + 1) t) (x ∷ []) is (q, λ f. absurd (s f)) passes keeps refl
     t (sym (ap (λ r. take i t ++ r) (sym is) ∙ take-append-drop i t)) d.utf8 (i + 1) refl same
 
-pub done_space : (all t : List ℕ) (i : ℕ) (v : Bool) (comma : Option ℕ) → i < length t → IsSpace (get_or t i 0) → Done all t i v comma → Done all t (i + 1) v comma
-done_space all t i v comma l s d = space_at all t i v comma (get_or t i 0) l refl s.no_quote s.no_slash s.no_comma s.space d
-
-not_not : (b : Bool) → not (not b) ≡ b
+pub not_not : (b : Bool) → not (not b) ≡ b
 not_not true = refl
 not_not false = refl
 
-plain_at : (all t : List ℕ) (i : ℕ) (v : Bool) (comma : Option ℕ) (x : ℕ) (w : Bool) → i < length t → get_or t i 0 ≡ x → x ≢ 34 → x ≢ 44 → is_space x ≡ false → ((x == 93) || (x == 125)) ≡ false → ((x == 58) || (x == 91) || (x == 123)) ≡ not w
+pub plain_at : (all t : List ℕ) (i : ℕ) (v : Bool) (comma : Option ℕ) (x : ℕ) (w : Bool) → i < length t → get_or t i 0 ≡ x → x ≢ 34 → x ≢ 44 → is_space x ≡ false → ((x == 93) || (x == 125)) ≡ false → ((x == 58) || (x == 91) || (x == 123)) ≡ not w
     → (x ≡ 47 → (slice_index (drop (i + 1) t) 0 ≢ 47) × (slice_index (drop (i + 1) t) 0 ≢ 42)) → Done all t i v comma → Done all t (i + 1) w None
 plain_at all t i v comma x w l e q c space closing opens s d =
     let no = ne_eqb x 44 c in
@@ -82,10 +78,6 @@ plain_at all t i v comma x w l e q c space closing opens s d =
     let stops : (a : Bool) → closes (other x ∷ []) a ≡ false = λ a. rw (space, closing) refl in
     let value : w ≡ value_after v (other x) = rw (space, no, opens) (sym (not_not w)) in
     done_kept all t i v comma d (other x) (drop (i + 1) t) (first_byte t i x l e) (q, s) stops keeps (i + 1) refl w value
-
-pub done_plain : (all t : List ℕ) (i : ℕ) (v : Bool) (comma : Option ℕ) (w : Bool) → i < length t → IsPlain (get_or t i 0) w → Done all t i v comma → Done all t (i + 1) w None
-done_plain all t i v comma w l p d =
-    plain_at all t i v comma (get_or t i 0) w l refl p.no_quote p.no_comma p.no_space p.no_closing p.opens (λ e. absurd (p.no_slash e)) d
 
 pub next_byte : (t : List ℕ) (i : ℕ) → slice_index (drop (i + 1) t) 0 ≡ get_or t (i + 1) 0
 next_byte t i = get_or-drop (i + 1) t 0 0 ∙ ap (λ n. get_or t n 0) (add-zero (i + 1))

@@ -1,36 +1,35 @@
--- Words of private clauses: from one state to the next.
-use Rattle.std.specs.Prelude.{◌≡◌, ◌≢◌, ◌==◌, ◌||◌, ℕ, List, Bool, true, false, not}
+-- Words of private clauses: a text that is read up to an offset, and the comma that is found by looking back from there.
+use Rattle.std.specs.Prelude.{◌≡◌, ◌==◌, ◌||◌, ◌+◌, ◌-◌, ◌<◌, ◌≤◌, ℕ, zero, suc, List, length, slice_index, Bool, true, false, not, Option, Some, None}
 use Rattle.json.specs.Word.{is_space}
-use Rattle.jsonptr_comments.specs.declared.kind.Kind.{Kind}
-use Rattle.jsonptr_comments.specs.declared.kind.Kind.TheVariants.{Quote, Slash, Comma, Space, Closing, Opening, Plain}
-use Rattle.jsonptr_comments.specs.declared.step.State.{State}
 use Rattle.jsonptr_comments.specs.PrivateScanning.{Done}
 
--- `Goes old s new n`: what is known of the text `old` at the state s is known of the text `new` at the state n
-abbrev pub Goes : List ℕ → State → List ℕ → State → Type 0
-Goes old s new n = (all : List ℕ) → Done all old s.at s.value s.comma → Done all new n.at n.value n.comma
+-- `IsSolidEnd text i k`: k is the offset after the last byte before i that is not white space, and 0 if there is none
+pub record IsSolidEnd (text : List ℕ) (i k : ℕ) : Type 0 where
+  pub within : k ≤ i
+  pub white : (n : ℕ) → k ≤ n → n < i → is_space (slice_index text n) ≡ true
+  pub solid : 0 < k → is_space (slice_index text (k - 1)) ≡ false
 
--- white space
-pub record IsSpace (x : ℕ) : Type 0 where
-  pub no_quote : x ≢ 34
-  pub no_slash : x ≢ 47
-  pub no_comma : x ≢ 44
-  pub space : is_space x ≡ true
+-- `may_end text k`: whether a value may end with the byte before the offset k
+abbrev pub may_end : List ℕ → ℕ → Bool
+may_end text zero = false
+may_end text (suc k) = not ((slice_index text k == 44) || (slice_index text k == 58) || (slice_index text k == 91) || (slice_index text k == 123))
 
--- a byte that is neither white space nor a comma nor a closing bracket, and w says whether a value may have ended after it
-pub record IsPlain (x : ℕ) (w : Bool) : Type 0 where
-  pub no_quote : x ≢ 34
-  pub no_slash : x ≢ 47
-  pub no_comma : x ≢ 44
-  pub no_space : is_space x ≡ false
-  pub no_closing : ((x == 93) || (x == 125)) ≡ false
-  pub opens : ((x == 58) || (x == 91) || (x == 123)) ≡ not w
+-- `Trails text k comma`: `comma` is the offset of the byte before k, if that is a comma with a value before it
+abbrev pub Trails : List ℕ → ℕ → Option ℕ → Type 0
+Trails text k None = (n m : ℕ) → k ≡ n + 1 → slice_index text n ≡ 44 → IsSolidEnd text n m → may_end text m ≡ false
+Trails text k (Some n) = (k ≡ n + 1) × (slice_index text n ≡ 44) × ((m : ℕ) → IsSolidEnd text n m → may_end text m ≡ true)
 
-abbrev pub IsKind : ℕ → Kind → Type 0
-IsKind x Quote = x ≡ 34
-IsKind x Slash = x ≡ 47
-IsKind x Comma = x ≡ 44
-IsKind x Space = IsSpace x
-IsKind x Closing = ((x == 93) || (x == 125)) ≡ true
-IsKind x Opening = IsPlain x false
-IsKind x Plain = IsPlain x true
+-- `Back text i value comma`: what the last byte before i that is not white space says
+abbrev pub Back : List ℕ → ℕ → Bool → Option ℕ → Type 0
+Back text i value comma = (k : ℕ) → IsSolidEnd text i k → (value ≡ may_end text k) × Trails text k comma
+
+-- `Read all text i`: up to the offset i the text is what is left of `all`
+pub record Read (all text : List ℕ) (i : ℕ) : Type 0 where
+  pub value : Bool
+  pub comma : Option ℕ
+  pub done : Done all text i value comma
+  pub back : i < length text → Back text i value comma
+
+-- `Goes old i new j`: if the text `old` is read up to i, the text `new` is read up to j
+abbrev pub Goes : List ℕ → ℕ → List ℕ → ℕ → Type 0
+Goes old i new j = (all : List ℕ) → Read all old i → Read all new j

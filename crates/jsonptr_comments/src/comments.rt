@@ -2,12 +2,12 @@
 ghost use Rattle.std.specs.Prelude.{◌≡◌, ◌↔◌, ◌≤◌, ◌<◌, length, IsOk, IfOk, IfErr, OnOk, IsUtf8, string_bytes};
 ghost use Rattle.std.specs.Cow.{cow_str_bytes, IsBorrowedStr};
 ghost use Rattle.jsonptr_comments.specs.Comments.{IsPlain, IsWithoutComments, IsUnterminated};
-ghost use Rattle.jsonptr_comments.specs.PrivateScanning.{Done};
+ghost use Rattle.jsonptr_comments.specs.PrivateStepping.{Read};
 ghost use Rattle.jsonptr_comments.specs.Faults.{IsCommentFault};
 
 use crate::error::CommentError;
 use crate::laws::unchanged_law;
-use crate::step::{State, plain_step, step};
+use crate::step::{plain_step, step};
 use jsonptr_base::fault::Fault;
 use std::alloc::Global;
 use std::borrow::CowStr;
@@ -48,68 +48,65 @@ pub fn without_comments(alloc: Global, text: &str) -> Result<CowStr<'_>, Fault<C
     ensures no_memory { IsPlain text.now → IsOk result }
     ensures refused { IfErr result (IsCommentFault text.now) }
 {
-    let state = plain_part(text.as_bytes());
-    if state.at == text.len() {
+    let at = plain_end(text.as_bytes());
+    if at == text.len() {
         return Ok(CowStr::Borrowed(text));
     }
-    let new = blanked_copy(alloc, text, state)?;
+    let new = blanked_copy(alloc, text, at)?;
     unchanged_law();
     Ok(CowStr::Owned(new))
 }
 
-/// Passes over the text up to the first comment, the first trailing comma, or its end.
-fn plain_part(text: &[u8]) -> State
+/// Returns the offset of the first comment, of the first closing bracket after a trailing comma, or of
+/// the end of the text.
+fn plain_end(text: &[u8]) -> usize
     requires { IsUtf8 text.now }
-    ensures done { Done text.now text.now result.at result.value result.comma }
-    ensures within { result.at ≤ length text.now }
-    ensures stops { result.at < length text.now → IsPlain text.now → ⊥ }
+    ensures read { Read text.now text.now result }
+    ensures within { result ≤ length text.now }
+    ensures stops { result < length text.now → IsPlain text.now → ⊥ }
 {
-    let mut state = State {
-        at: 0,
-        value: false,
-        comma: None,
-    };
-    while state.at < text.len() {
-        match plain_step(text, state) {
-            Some(next) => state = next,
-            None => return state,
+    let mut at = 0;
+    while at < text.len() {
+        match plain_step(text, at) {
+            Some(next) => at = next,
+            None => return at,
         }
     }
-    state
+    at
 }
 
-/// Returns the new text in memory of its own, where nothing becomes a space before the state.
+/// Returns the new text in memory of its own, where nothing becomes a space before the offset.
 ///
 /// # Errors
 ///
 /// Those of [`without_comments`].
-fn blanked_copy(alloc: Global, text: &str, state: State) -> Result<String, Fault<CommentError>>
-    requires done { Done text.now text.now state.at state.value state.comma }
-    requires within { state.at ≤ length text.now }
+fn blanked_copy(alloc: Global, text: &str, from: usize) -> Result<String, Fault<CommentError>>
+    requires read { Read text.now text.now from }
+    requires within { from ≤ length text.now }
     ensures without { IfOk result (λ new. IsWithoutComments text.now (string_bytes new)) }
     ensures refused { IfErr result (IsCommentFault text.now) }
 {
     let mut new = Vec::from_slice(alloc, text.as_bytes())?;
-    blank_comments(new.as_mut_slice(), state)?;
+    blank_comments(new.as_mut_slice(), from)?;
     // SAFETY: whole characters are replaced by ASCII. The prover checks this.
     Ok(unsafe { String::from_utf8_unchecked(new) })
 }
 
-/// Writes spaces over the comments and trailing commas of the text, from the state on.
+/// Writes spaces over the comments and trailing commas of the text, from the offset on.
 ///
 /// # Errors
 ///
 /// [`CommentError`] if a block comment has no end.
-fn blank_comments(text: &mut [u8], state: State) -> Result<(), CommentError>
-    requires done { Done text.old text.old state.at state.value state.comma }
-    requires within { state.at ≤ length text.old }
+fn blank_comments(text: &mut [u8], from: usize) -> Result<(), CommentError>
+    requires read { Read text.old text.old from }
+    requires within { from ≤ length text.old }
     ensures without { OnOk result (IsWithoutComments text.old text.new) }
     ensures utf8 { OnOk result (IsUtf8 text.new) }
     ensures refused { IfErr result (λ error. IsUnterminated text.old error.offset) }
 {
-    let mut state = state;
-    while state.at < text.len() {
-        state = step(text, state)?;
+    let mut at = from;
+    while at < text.len() {
+        at = step(text, at)?;
     }
     Ok(())
 }

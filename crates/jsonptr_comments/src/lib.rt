@@ -13,9 +13,9 @@
 //! `rt.alloc()`, the allocator.
 #![tactic(auto)]
 
+mod back;
 mod comments;
 mod error;
-mod kind;
 pub mod laws;
 mod scan;
 mod step;

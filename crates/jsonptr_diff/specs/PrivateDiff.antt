@@ -21,10 +21,10 @@ use Rattle.jsonptr_patch.specs.declared.operation.Operation.{Operation}
 use Rattle.jsonptr_patch.specs.declared.operation.Operation.TheVariants.{Add, Remove, Replace}
 use Rattle.jsonptr_diff.specs.Differing.{IsChange}
 use Rattle.jsonptr_diff.specs.declared.align.Gap.{Gap}
-use Rattle.jsonptr_diff.specs.declared.location.Location.{Location, Root, Member', Element'}
+use Rattle.jsonptr_diff.specs.declared.trail.Trail.{Trail, Root, Member', Element'}
 
 -- `tokens_of l`: the tokens of the pointer to the location `l`.
-abbrev pub tokens_of : Location → List Text
+abbrev pub tokens_of : Trail → List Text
 tokens_of Root = []
 tokens_of (Member' p parent k) = tokens_of parent ++ k.now ∷ []
 tokens_of (Element' p parent i) = tokens_of parent ++ dec i ∷ []

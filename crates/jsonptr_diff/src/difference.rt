@@ -13,9 +13,9 @@ ghost use Rattle.jsonptr_diff.specs.PrivateSame.{AreSameFrom};
 use crate::align::next_gap;
 use crate::elements::{IndexRange, add_elements, remove_elements};
 use crate::laws::difference_law;
-use crate::location::Location;
 use crate::members::add_members;
 use crate::same::{is_same, is_small_same, same_suffix};
+use crate::trail::Trail;
 use crate::write::{remove, replace};
 use jsonptr::Fault;
 use jsonptr_patch::{Operation, apply};
@@ -83,7 +83,7 @@ pub fn diff(alloc: Global, old: &Value, new: &Value) -> Result<Vec<Operation>, A
     if is_same(old, new) {
         return Ok(patch);
     }
-    diff_at(alloc, old, new, &Location::Root, &mut patch)?;
+    diff_at(alloc, old, new, &Trail::Root, &mut patch)?;
     Ok(patch)
 }
 
@@ -133,7 +133,7 @@ fn diff_at(
     alloc: Global,
     old: &Value,
     new: &Value,
-    at: &Location<'_>,
+    at: &Trail<'_>,
     patch: &mut Vec<Operation>,
 ) -> Result<(), AllocError>
     ensures turns { IfOk result (λ _. Turns (view new.now) patch.old.items patch.new.items
@@ -164,7 +164,7 @@ fn diff_members(
     alloc: Global,
     old: &Map<String, Value>,
     new: &Map<String, Value>,
-    at: &Location<'_>,
+    at: &Trail<'_>,
     patch: &mut Vec<Operation>,
 ) -> Result<(), AllocError>
     ensures turns { IfOk result (λ _. Turns (view (an_object new.now))
@@ -187,7 +187,7 @@ fn follow_members<'a>(
     alloc: Global,
     old: &'a Map<String, Value>,
     new: &Map<String, Value>,
-    at: &'a Location<'a>,
+    at: &'a Trail<'a>,
     patch: &mut Vec<Operation>,
 ) -> Result<(), AllocError>
     ensures turns { IfOk result (λ _. Turns (view (an_object new.now))
@@ -197,7 +197,7 @@ fn follow_members<'a>(
         (object_map old.now) (object_map new.now) patch.old.items patch.new.items) }
 {
     for (key, member) in old.iter() {
-        let below = Location::Member(at, key.as_str());
+        let below = Trail::Member(at, key.as_str());
         match new.get(key.as_str()) {
             Some(other) => diff_at(alloc, member, other, &below, patch)?,
             None => remove(alloc, &below, patch)?,
@@ -216,7 +216,7 @@ fn diff_elements(
     alloc: Global,
     old: &Vec<Value>,
     new: &Vec<Value>,
-    at: &Location<'_>,
+    at: &Trail<'_>,
     patch: &mut Vec<Operation>,
 ) -> Result<(), AllocError>
     ensures turns { IfOk result (λ _. Turns (view (an_array new.now))
@@ -298,7 +298,7 @@ fn diff_gap(
     alloc: Global,
     old: &Vec<Value>,
     gap: Stretch<'_>,
-    at: &Location<'_>,
+    at: &Trail<'_>,
     patch: &mut Vec<Operation>,
 ) -> Result<(), AllocError>
     requires old { gap.from + gap.removed ≤ length old.now.items }
@@ -353,7 +353,7 @@ fn follow_elements(
     alloc: Global,
     old: &Vec<Value>,
     pairs: Pairs<'_>,
-    at: &Location<'_>,
+    at: &Trail<'_>,
     patch: &mut Vec<Operation>,
 ) -> Result<(), AllocError>
     requires old { pairs.from + pairs.count ≤ length old.now.items }
@@ -376,7 +376,7 @@ fn follow_elements(
             alloc,
             &old[from],
             &pairs.new[to],
-            &Location::Element(&*at, to),
+            &Trail::Element(&*at, to),
             patch,
         )?;
     }
@@ -392,7 +392,7 @@ fn replace_other(
     alloc: Global,
     value: &Value,
     new: &Value,
-    at: &Location<'_>,
+    at: &Trail<'_>,
     patch: &mut Vec<Operation>,
 ) -> Result<(), AllocError>
     ensures turns { IfOk result (λ _. Turns (view new.now) patch.old.items patch.new.items

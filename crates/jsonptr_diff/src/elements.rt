@@ -7,7 +7,7 @@ ghost use Rattle.jsonptr.specs.Node.{NodeMap};
 ghost use Rattle.jsonptr_patch.specs.declared.operation.Operation.{Operation as an_operation};
 ghost use Rattle.jsonptr_diff.specs.PrivateDiff.{tokens_of, AppendsParts, IsArray, Splices, array_map};
 
-use crate::location::Location;
+use crate::trail::Trail;
 use crate::write::{add, remove};
 use jsonptr_patch::Operation;
 use serde_json::Value;
@@ -22,7 +22,7 @@ pub fn remove_elements(
     alloc: Global,
     index: usize,
     count: usize,
-    at: &Location<'_>,
+    at: &Trail<'_>,
     patch: &mut Vec<Operation>,
 ) -> Result<(), AllocError>
     ensures splices { IfOk result (λ _.
@@ -35,7 +35,7 @@ pub fn remove_elements(
     ensures unchanged { IfOk result (λ _. count ≡ 0 → patch.new.items ≡ patch.old.items) }
 {
     for _done in 0..count {
-        remove(alloc, &Location::Element(&*at, index), patch)?;
+        remove(alloc, &Trail::Element(&*at, index), patch)?;
     }
     Ok(())
 }
@@ -59,7 +59,7 @@ pub fn add_elements(
     alloc: Global,
     new: &Vec<Value>,
     range: IndexRange,
-    at: &Location<'_>,
+    at: &Trail<'_>,
     patch: &mut Vec<Operation>,
 ) -> Result<(), AllocError>
     requires order { range.from ≤ range.to }
@@ -75,7 +75,7 @@ pub fn add_elements(
         range.from ≡ range.to → patch.new.items ≡ patch.old.items) }
 {
     for index in range.from..range.to {
-        add(alloc, &new[index], &Location::Element(&*at, index), patch)?;
+        add(alloc, &new[index], &Trail::Element(&*at, index), patch)?;
     }
     Ok(())
 }

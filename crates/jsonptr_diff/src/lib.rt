@@ -27,9 +27,9 @@ mod difference;
 mod elements;
 pub mod laws;
 mod likeness;
-mod location;
 mod members;
 mod same;
+mod trail;
 mod write;
 
 pub use difference::{change, diff};

@@ -4,7 +4,7 @@ ghost use Rattle.serde_json.specs.View.{view};
 ghost use Rattle.serde_json.specs.declared.value.Value.{Object as an_object};
 ghost use Rattle.jsonptr_diff.specs.PrivateDiff.{tokens_of, Turns, AppendsChanges, object_map, mixed};
 
-use crate::location::Location;
+use crate::trail::Trail;
 use crate::write::add;
 use jsonptr_patch::Operation;
 use serde_json::{Map, Value};
@@ -19,7 +19,7 @@ pub fn add_members<'a>(
     alloc: Global,
     old: &Map<String, Value>,
     new: &'a Map<String, Value>,
-    at: &'a Location<'a>,
+    at: &'a Trail<'a>,
     patch: &mut Vec<Operation>,
 ) -> Result<(), AllocError>
     ensures turns { IfOk result (λ _. Turns (view (an_object new.now))
@@ -30,7 +30,7 @@ pub fn add_members<'a>(
 {
     for (key, member) in new.iter() {
         if !old.contains_key(key.as_str()) {
-            add(alloc, member, &Location::Member(at, key.as_str()), patch)?;
+            add(alloc, member, &Trail::Member(at, key.as_str()), patch)?;
         }
     }
     Ok(())

@@ -3,7 +3,7 @@ ghost use Rattle.std.specs.Prelude.{◌≡◌, IfOk};
 ghost use Rattle.serde_json.specs.View.{view};
 ghost use Rattle.jsonptr_diff.specs.PrivateDiff.{tokens_of, AppendsReplace, AppendsRemove, AppendsAdd};
 
-use crate::location::{Location, to_pointer};
+use crate::trail::{Trail, to_pointer};
 use jsonptr_patch::Operation;
 use serde_json::Value;
 use std::alloc::{AllocError, Global};
@@ -16,7 +16,7 @@ use std::alloc::{AllocError, Global};
 pub fn replace(
     alloc: Global,
     value: &Value,
-    at: &Location<'_>,
+    at: &Trail<'_>,
     patch: &mut Vec<Operation>,
 ) -> Result<(), AllocError>
     ensures { IfOk result (λ _. AppendsReplace patch.old.items patch.new.items (tokens_of at.now)
@@ -33,11 +33,7 @@ pub fn replace(
 /// # Errors
 ///
 /// [`AllocError`] if an allocation fails.
-pub fn remove(
-    alloc: Global,
-    at: &Location<'_>,
-    patch: &mut Vec<Operation>,
-) -> Result<(), AllocError>
+pub fn remove(alloc: Global, at: &Trail<'_>, patch: &mut Vec<Operation>) -> Result<(), AllocError>
     ensures { IfOk result (λ _. AppendsRemove patch.old.items patch.new.items (tokens_of at.now)) }
 {
     let path = to_pointer(alloc, at)?;
@@ -53,7 +49,7 @@ pub fn remove(
 pub fn add(
     alloc: Global,
     value: &Value,
-    at: &Location<'_>,
+    at: &Trail<'_>,
     patch: &mut Vec<Operation>,
 ) -> Result<(), AllocError>
     ensures { IfOk result (λ _. AppendsAdd patch.old.items patch.new.items (tokens_of at.now)

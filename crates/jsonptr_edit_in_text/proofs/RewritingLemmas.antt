@@ -26,8 +26,8 @@ use Rattle.jsonptr_patch.specs.declared.operation.Operation.{Operation}
 use Rattle.jsonptr_patch.specs.declared.operation.PatchError.{PatchError}
 use Rattle.jsonptr_patch.specs.declared.comparison.Comparison.TheVariants.{Numeric}
 use Rattle.jsonptr_edit_in_text.specs.EditInText.{AssignsInText, IsAssignError}
-use Rattle.jsonptr_edit_in_text.specs.PatchInText.{PatchesInText, IsPatchFault}
-use Rattle.jsonptr_edit_in_text.specs.PrivateRewriting.{IsShortened, IsPrintFault}
+use Rattle.jsonptr_edit_in_text.specs.PatchInText.{PatchesInText, IsPatchError}
+use Rattle.jsonptr_edit_in_text.specs.PrivateRewriting.{IsShortened, IsPrintError}
 use Rattle.jsonptr_edit_in_text.specs.declared.edited.EditError.{EditError}
 use Rattle.jsonptr_edit_in_text.specs.declared.edited.EditError.TheVariants.{NotJson, Refused, TooDeep, Memory}
 
@@ -199,13 +199,13 @@ pub assigned_then : (old : Text) (tokens front : List Text) (d d2 v : Data) (r :
 assigned_then old tokens front d d2 v r (Ok s) reads short made h = assigned_whole old (string_bytes s) tokens front d d2 v r reads short made h
 assigned_then old tokens front d d2 v r (Err e) reads short made h = tt
 
-assign_fault : (old : Text) (tokens front : List Text) (d d2 v : Data) (r : Option NodeMap) (e : EditError Error) → read old ≡ Some d → IsShortened tokens front → Assigns (nodes d) front (nodes v) (nodes d2) r → (HasSortedKeys v → HasSortedKeys d2) → IsPrintFault d2 e → IsAssignError old tokens v e
+assign_fault : (old : Text) (tokens front : List Text) (d d2 v : Data) (r : Option NodeMap) (e : EditError Error) → read old ≡ Some d → IsShortened tokens front → Assigns (nodes d) front (nodes v) (nodes d2) r → (HasSortedKeys v → HasSortedKeys d2) → IsPrintError d2 e → IsAssignError old tokens v e
 assign_fault old tokens front d d2 v r NotJson reads short made sorted h = absurd h
 assign_fault old tokens front d d2 v r (Refused e) reads short made sorted h = absurd h
 assign_fault old tokens front d d2 v r TooDeep reads short made sorted h = too_deep_whole old tokens front d d2 v r reads short made sorted h
 assign_fault old tokens front d d2 v r (Memory e) reads short made sorted h = tt
 
-pub assign_fails_then : (old : Text) (tokens front : List Text) (d d2 v : Data) (r : Option NodeMap) (out : Result (String Global) (EditError Error)) → read old ≡ Some d → IsShortened tokens front → Assigns (nodes d) front (nodes v) (nodes d2) r → (HasSortedKeys v → HasSortedKeys d2) → IfErr out (IsPrintFault d2) → IfErr out (IsAssignError old tokens v)
+pub assign_fails_then : (old : Text) (tokens front : List Text) (d d2 v : Data) (r : Option NodeMap) (out : Result (String Global) (EditError Error)) → read old ≡ Some d → IsShortened tokens front → Assigns (nodes d) front (nodes v) (nodes d2) r → (HasSortedKeys v → HasSortedKeys d2) → IfErr out (IsPrintError d2) → IfErr out (IsAssignError old tokens v)
 assign_fails_then old tokens front d d2 v r (Ok s) reads short made sorted h = tt
 assign_fails_then old tokens front d d2 v r (Err e) reads short made sorted h = assign_fault old tokens front d d2 v r e reads short made sorted h
 
@@ -215,13 +215,13 @@ pub patched_then : (old : Text) (os : List Operation) (d d2 : Data) (out : Resul
 patched_then old os d d2 (Ok s) reads made h = (d, d2, reads, h, made)
 patched_then old os d d2 (Err e) reads made h = tt
 
-patch_fault : (old : Text) (os : List Operation) (d d2 : Data) (e : EditError PatchError) → read old ≡ Some d → PatchesBy Numeric (nodes d) os (nodes d2) → (All OperationHasSortedKeys os → HasSortedKeys d2) → IsPrintFault d2 e → IsPatchFault old os e
+patch_fault : (old : Text) (os : List Operation) (d d2 : Data) (e : EditError PatchError) → read old ≡ Some d → PatchesBy Numeric (nodes d) os (nodes d2) → (All OperationHasSortedKeys os → HasSortedKeys d2) → IsPrintError d2 e → IsPatchError old os e
 patch_fault old os d d2 NotJson reads made sorted h = absurd h
 patch_fault old os d d2 (Refused e) reads made sorted h = absurd h
 patch_fault old os d d2 TooDeep reads made sorted h =
     (d, nodes d2, reads, made, λ s within. let le : depth d2 ≤ max_depth = depth-within d2 max_depth (sorted s) within in omega (arith, le, h))
 patch_fault old os d d2 (Memory e) reads made sorted h = tt
 
-pub patch_fails_then : (old : Text) (os : List Operation) (d d2 : Data) (out : Result (String Global) (EditError PatchError)) → read old ≡ Some d → PatchesBy Numeric (nodes d) os (nodes d2) → (All OperationHasSortedKeys os → HasSortedKeys d2) → IfErr out (IsPrintFault d2) → IfErr out (IsPatchFault old os)
+pub patch_fails_then : (old : Text) (os : List Operation) (d d2 : Data) (out : Result (String Global) (EditError PatchError)) → read old ≡ Some d → PatchesBy Numeric (nodes d) os (nodes d2) → (All OperationHasSortedKeys os → HasSortedKeys d2) → IfErr out (IsPrintError d2) → IfErr out (IsPatchError old os)
 patch_fails_then old os d d2 (Ok s) reads made sorted h = tt
 patch_fails_then old os d d2 (Err e) reads made sorted h = patch_fault old os d d2 e reads made sorted h

@@ -1,13 +1,12 @@
 -- Edits of a text that are made in place or not at all.
 use Rattle.jsonptr.specs.Text.{Text}
 use Rattle.jsonptr_io.specs.Lines.{IsOneLine}
-use Rattle.jsonptr_edit_in_text.specs.declared.edited.EditError.{EditError}
 use Rattle.jsonptr_edit_in_text.specs.declared.in_place.InPlaceError.{InPlaceError}
 use Rattle.jsonptr_edit_in_text.specs.declared.in_place.InPlaceError.TheVariants.{NotInPlace, Failed}
 
 -- `IsInPlaceError P Q e`: `e` is why an edit is not made in place. Some text meets `P`, so the edit is possible, or it fails for
 -- an error that meets `Q`
-abbrev pub IsInPlaceError : {E : Type 0} → (Text → Type 0) → (EditError E → Type 0) → InPlaceError E → Type 0
+abbrev pub IsInPlaceError : {E : Type 0} → (Text → Type 0) → (E → Type 0) → InPlaceError E → Type 0
 IsInPlaceError P Q NotInPlace = (new : Text) × P new
 IsInPlaceError P Q (Failed e) = Q e
 

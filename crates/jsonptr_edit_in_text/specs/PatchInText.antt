@@ -62,12 +62,12 @@ abbrev pub PatchBytes : Text → List Operation → Text → Type 0
 PatchBytes old [] new = new ≡ old
 PatchBytes old (o ∷ os) new = (mid : Text) × OperationBytes old o mid × PatchBytes mid os new
 
--- `IsPatchFault text os e`: `e` is why applying the operations `os` in the text fails, if it is not for memory. `TooDeep` says
+-- `IsPatchError text os e`: `e` is why applying the operations `os` in the text fails, if it is not for memory. `TooDeep` says
 -- that the new document is too deep, if the keys of their values are sorted
-abbrev pub IsPatchFault : Text → List Operation → EditError PatchError → Type 0
-IsPatchFault text os NotJson = read text ≡ None
-IsPatchFault text os (Refused e) = (d : Data) × (read text ≡ Some d) × RefusesPatchBy Numeric (nodes d) os e
-IsPatchFault text os TooDeep =
+abbrev pub IsPatchError : Text → List Operation → EditError PatchError → Type 0
+IsPatchError text os NotJson = read text ≡ None
+IsPatchError text os (Refused e) = (d : Data) × (read text ≡ Some d) × RefusesPatchBy Numeric (nodes d) os e
+IsPatchError text os TooDeep =
     (d : Data) × (m : NodeMap)
     × (read text ≡ Some d) × PatchesBy Numeric (nodes d) os m × (All OperationHasSortedKeys os → IsTooDeep m)
-IsPatchFault text os (Memory e) = ⊤
+IsPatchError text os (Memory e) = ⊤

@@ -12,9 +12,9 @@ IsShortened tokens front =
     (front ≡ tokens)
     ⊎ ((rest : List Text) × (tokens ≡ front ++ rest) × (max_depth < length front))
 
--- `IsPrintFault d e`: `e` is why the document `d` is not printed, if it is not for memory
-abbrev pub IsPrintFault : {E : Type 0} → Data → EditError E → Type 0
-IsPrintFault d NotJson = ⊥
-IsPrintFault d (Refused e) = ⊥
-IsPrintFault d TooDeep = max_depth < depth d
-IsPrintFault d (Memory e) = ⊤
+-- `IsPrintError d e`: `e` is why the document `d` is not printed, if it is not for memory
+abbrev pub IsPrintError : {E : Type 0} → Data → EditError E → Type 0
+IsPrintError d NotJson = ⊥
+IsPrintError d (Refused e) = ⊥
+IsPrintError d TooDeep = max_depth < depth d
+IsPrintError d (Memory e) = ⊤

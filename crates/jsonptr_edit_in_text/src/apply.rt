@@ -4,18 +4,19 @@ ghost use Rattle.serde_json.specs.Data.{Data};
 ghost use Rattle.serde_json.specs.Read.{read};
 ghost use Rattle.jsonptr_edit_in_text.specs.Bytes.{KeepsBytes};
 ghost use Rattle.jsonptr_edit_in_text.specs.EditInText.{edited_text};
-ghost use Rattle.jsonptr_edit_in_text.specs.PatchInText.{PatchesInText, PatchBytes, IsPatchFault};
+ghost use Rattle.jsonptr_edit_in_text.specs.PatchInText.{PatchesInText, PatchBytes, IsPatchError};
 ghost use Rattle.jsonptr_edit_in_text.specs.RawPatching.{operations_in, RawPatchBytes};
 
 use crate::edited::{EditError, Edited};
 use crate::operate::operate;
 use crate::raw_operation::RawOperation;
-use crate::raw_patch::{plain, without_texts};
+use crate::raw_patch::{plain, printed_operations};
 use crate::rewrite::apply_and_print;
 use jsonptr::Pointer;
-use jsonptr_in_text::{InTextError, exists_in_text_with};
+use jsonptr_in_text::exists_in_text_with;
 use jsonptr_json_edits::buffers::Buffers;
 use jsonptr_patch::{Operation, PatchError};
+use jsonptr_value::ReadError;
 use std::alloc::{AllocError, Global};
 
 /// Applies the operations of a patch in order to the document that the text contains, all of them or
@@ -59,7 +60,7 @@ pub fn apply_in_text(
     ensures applied { IfOk result
         (λ e. PatchesInText text.now operations.items (edited_text e)) }
     ensures bytes { IfOk result (KeepsBytes (PatchBytes text.now operations.items)) }
-    ensures refused { IfErr result (IsPatchFault text.now operations.items) }
+    ensures refused { IfErr result (IsPatchError text.now operations.items) }
 {
     let mut buffers = Buffers::new(alloc);
     apply_in_text_with(alloc, &mut buffers, text, operations)
@@ -91,9 +92,9 @@ pub fn apply_in_text_with(
     ensures applied { IfOk result
         (λ e. PatchesInText text.now operations.items (edited_text e)) }
     ensures bytes { IfOk result (KeepsBytes (PatchBytes text.now operations.items)) }
-    ensures refused { IfErr result (IsPatchFault text.now operations.items) }
+    ensures refused { IfErr result (IsPatchError text.now operations.items) }
 {
-    let raws = without_texts(alloc, operations)?;
+    let raws = printed_operations(alloc, operations)?;
     apply_raw_in_text_with(alloc, buffers, text, raws)
 }
 
@@ -132,7 +133,7 @@ pub fn apply_raw_in_text_with(
     ensures applied { IfOk result
         (λ e. PatchesInText text.now (operations_in operations.items) (edited_text e)) }
     ensures bytes { IfOk result (KeepsBytes (RawPatchBytes text.now operations.items)) }
-    ensures refused { IfErr result (IsPatchFault text.now (operations_in operations.items)) }
+    ensures refused { IfErr result (IsPatchError text.now (operations_in operations.items)) }
 {
     if let Some(new) = try_apply_raw(alloc, buffers, text, &operations)? {
         return Ok(Edited::InPlace(new));
@@ -149,7 +150,7 @@ fn apply_plain(
 ) -> Result<String, EditError<PatchError>>
     ensures applied { IfOk result
         (λ s. PatchesInText text.now (operations_in raws.items) (string_bytes s)) }
-    ensures refused { IfErr result (IsPatchFault text.now (operations_in raws.items)) }
+    ensures refused { IfErr result (IsPatchError text.now (operations_in raws.items)) }
 {
     let operations = plain(alloc, raws)?;
     apply_and_print(alloc, text, operations)
@@ -237,8 +238,7 @@ fn is_document(alloc: Global, buffers: &mut Buffers, text: &str) -> Result<bool,
 {
     match exists_in_text_with(alloc, &mut buffers.old, text, Pointer::root()) {
         Ok(exists) => Ok(exists),
-        Err(InTextError::Memory(error)) => Err(error),
-        Err(InTextError::NotJson) => Ok(false),
-        Err(InTextError::Resolve(_error)) => Ok(false),
+        Err(ReadError::Memory) => Err(AllocError),
+        Err(ReadError::NotJson) => Ok(false),
     }
 }

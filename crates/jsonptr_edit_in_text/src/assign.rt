@@ -25,7 +25,7 @@ use std::alloc::{AllocError, Global};
 /// Assigns the value at the pointer in the document that the text contains, as
 /// [`Assign::assign`](jsonptr::assign::Assign) does.
 ///
-/// Only one piece of the text changes. A value that is there is replaced, byte for byte. A new
+/// In place, one piece of the text changes. A value that is there is replaced, byte for byte. A new
 /// member or element is put after the last one, with the white space that its siblings have. Of
 /// members with the same key the last one counts, and the others stay.
 ///

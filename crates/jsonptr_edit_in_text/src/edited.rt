@@ -13,7 +13,8 @@ use thiserror::Error;
 pub enum Edited {
     /// The old text with the bytes at the location of the edit changed. All others are unchanged.
     InPlace(String),
-    /// The whole document, printed anew without white space.
+    /// The whole document, printed anew: JSON without white space, TOML without its comments and its
+    /// layout.
     Rewritten(String),
 }
 

@@ -6,7 +6,7 @@ ghost use Rattle.jsonptr.specs.Json.{nodes};
 ghost use Rattle.jsonptr_edit_in_text.specs.Bytes.{AssignsBytes, DeletesBytes};
 ghost use Rattle.jsonptr_edit_in_text.specs.Carrying.{value_of_raw, Carries};
 ghost use Rattle.jsonptr_edit_in_text.specs.EditInText.{AssignsInText, DeletesInText, LacksInText, IsAssignError, IsEditReadError};
-ghost use Rattle.jsonptr_edit_in_text.specs.PatchInText.{PatchesInText, PatchBytes, IsPatchFault};
+ghost use Rattle.jsonptr_edit_in_text.specs.PatchInText.{PatchesInText, PatchBytes, IsPatchError};
 ghost use Rattle.jsonptr_edit_in_text.specs.RawPatching.{operations_in, RawPatchBytes};
 ghost use Rattle.jsonptr_edit_in_text.specs.InPlace.{IsInPlaceError, StaysOneLine};
 ghost use Rattle.jsonptr_edit_in_text.specs.declared.edited.Edited.TheVariants.{InPlace};
@@ -27,17 +27,17 @@ use std::convert::Infallible;
 use std::fmt::Display;
 use thiserror::Error;
 
-/// Why an edit that is to be made in place fails. `E` is the error of the call on the document.
+/// Why an edit that is to be made in place fails. `E` is the error of the edit.
 #[derive(Debug, Drop, Error)]
 #[error_bound(E: Display)]
 pub enum InPlaceError<E> {
-    /// The edit is possible, but the document would have to be printed anew, or a text of one line
-    /// would have more lines.
+    /// The edit is possible, but the document would have to be printed anew, or a JSON text of one
+    /// line would have more lines.
     #[error("document cannot be edited in place")]
     NotInPlace,
     /// The edit is not possible.
     #[error("{0}")]
-    Failed(EditError<E>),
+    Failed(E),
 }
 
 /// Assigns as [`assign_in_text_with`] does, and never prints the document anew.
@@ -52,7 +52,7 @@ pub fn assign_in_place(
     text: &str,
     pointer: Pointer<'_>,
     value: Value,
-) -> Result<String, InPlaceError<assign::Error>>
+) -> Result<String, InPlaceError<EditError<assign::Error>>>
     ensures assigned { IfOk result (λ s. AssignsInText text.now (tokens pointer.entry)
         (nodes (view value)) (string_bytes s)) }
     ensures bytes { IfOk result (λ s.
@@ -92,7 +92,7 @@ pub fn assign_raw_in_place(
     text: &str,
     pointer: Pointer<'_>,
     value: &RawValue,
-) -> Result<String, InPlaceError<assign::Error>>
+) -> Result<String, InPlaceError<EditError<assign::Error>>>
     ensures assigned { IfOk result (λ s. AssignsInText text.now (tokens pointer.entry)
         (nodes (value_of_raw value.now)) (string_bytes s)) }
     ensures bytes { IfOk result (λ s.
@@ -121,7 +121,7 @@ pub fn delete_in_place(
     buffers: &mut Buffers,
     text: &str,
     pointer: Pointer<'_>,
-) -> Result<Option<String>, InPlaceError<Infallible>>
+) -> Result<Option<String>, InPlaceError<EditError<Infallible>>>
     ensures deleted { IfOk result (λ o. MatchOption o (LacksInText text.now (tokens pointer.entry))
         (λ s. DeletesInText text.now (tokens pointer.entry) (string_bytes s))) }
     ensures bytes { IfOk result (λ o. IfSome o (λ s.
@@ -151,13 +151,13 @@ pub fn apply_in_place(
     buffers: &mut Buffers,
     text: &str,
     operations: Vec<Operation>,
-) -> Result<String, InPlaceError<PatchError>>
+) -> Result<String, InPlaceError<EditError<PatchError>>>
     ensures applied { IfOk result
         (λ s. PatchesInText text.now operations.items (string_bytes s)) }
     ensures bytes { IfOk result (λ s. PatchBytes text.now operations.items (string_bytes s)) }
     ensures one_line { IfOk result (λ s. StaysOneLine text.now (string_bytes s)) }
     ensures refused { IfErr result (IsInPlaceError
-        (PatchesInText text.now operations.items) (IsPatchFault text.now operations.items)) }
+        (PatchesInText text.now operations.items) (IsPatchError text.now operations.items)) }
 {
     match apply_in_text_with(alloc, buffers, text, operations) {
         Ok(edited) => kept_in_place(text, edited).ok_or(InPlaceError::NotInPlace),
@@ -187,14 +187,14 @@ pub fn apply_raw_in_place(
     buffers: &mut Buffers,
     text: &str,
     operations: Vec<RawOperation>,
-) -> Result<String, InPlaceError<PatchError>>
+) -> Result<String, InPlaceError<EditError<PatchError>>>
     ensures applied { IfOk result
         (λ s. PatchesInText text.now (operations_in operations.items) (string_bytes s)) }
     ensures bytes { IfOk result (λ s. RawPatchBytes text.now operations.items (string_bytes s)) }
     ensures one_line { IfOk result (λ s. StaysOneLine text.now (string_bytes s)) }
     ensures refused { IfErr result (IsInPlaceError
         (PatchesInText text.now (operations_in operations.items))
-        (IsPatchFault text.now (operations_in operations.items))) }
+        (IsPatchError text.now (operations_in operations.items))) }
 {
     match apply_raw_in_text_with(alloc, buffers, text, operations) {
         Ok(edited) => kept_in_place(text, edited).ok_or(InPlaceError::NotInPlace),

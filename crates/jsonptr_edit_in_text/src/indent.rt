@@ -3,9 +3,10 @@ ghost use Rattle.std.specs.Prelude.{◌≡◌, IfOk, IfErr, IfSome, string_bytes
 ghost use Rattle.json.specs.Lex.{tokens as lexed};
 ghost use Rattle.jsonptr_edit_in_text.specs.Indenting.{IsIndented, IsIndentError};
 
-use jsonptr_in_text::{Format, InTextError, format_text};
+use jsonptr_in_text::{Format, format_text};
 use jsonptr_json_edits::buffers::Buffers;
 use jsonptr_json_edits::child::is_value_of;
+use jsonptr_value::ReadError;
 use std::alloc::{AllocError, Global};
 use thiserror::Error;
 
@@ -19,7 +20,7 @@ pub enum IndentError {
     #[error("indentation is not white space")]
     NotWhiteSpace,
     /// An allocation failed.
-    #[error("{0}")]
+    #[error("out of memory")]
     Memory(AllocError),
 }
 
@@ -52,9 +53,8 @@ pub fn indent_text(
 {
     let lines = match format_text(alloc, &mut buffers.old, text, Format::Pretty) {
         Ok(lines) => lines,
-        Err(InTextError::Memory(error)) => return Err(IndentError::Memory(error)),
-        Err(InTextError::NotJson) => return Err(IndentError::NotJson),
-        Err(InTextError::Resolve(_error)) => return Err(IndentError::NotJson),
+        Err(ReadError::Memory) => return Err(IndentError::Memory(AllocError)),
+        Err(ReadError::NotJson) => return Err(IndentError::NotJson),
     };
     match reindented(alloc, buffers, lines.as_str(), indent) {
         Ok(Some(new)) => Ok(new),

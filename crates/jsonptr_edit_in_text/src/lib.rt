@@ -21,7 +21,7 @@
 //! changes exactly its own bytes, a child that is added replaces none but white space, and a child
 //! that is removed takes at most one comma and the white space beside it along.
 //!
-//! To edit many texts keep one [`Buffers`], and pass it to the calls that end in `_with`: it keeps its
+//! To edit many texts keep one [`Buffers`], and pass it to each call that takes one: it keeps its
 //! memory from text to text.
 //!
 //! In the examples `rt` is the runtime that `main` and each test receive, and `alloc` is
@@ -69,6 +69,6 @@ pub use jsonptr_json_edits::buffers::Buffers;
 pub use locate::{LocateError, Located, locate_in_text, locate_in_text_with};
 pub use one_line::stays_one_line;
 pub use raw_operation::RawOperation;
-pub use raw_patch::{raw_operations, without_texts};
+pub use raw_patch::{printed_operations, raw_operations};
 pub use raw_value::RawValue;
 pub use rewrite::apply_and_print;

@@ -8,7 +8,7 @@ use jsonptr_in_text::selectors::selectors_of;
 use jsonptr_in_text::{InTextError, resolve_in_text_with};
 use jsonptr_json_edits::buffers::Buffers;
 use jsonptr_json_edits::cut::{Cut, cut_at};
-use jsonptr_json_edits::lead::{Target, leads_to};
+use jsonptr_json_edits::lead::{Route, leads_to};
 use jsonptr_json_edits::locate::place_of;
 use jsonptr_json_edits::spacing::is_trimmed;
 use std::alloc::{AllocError, Global};
@@ -144,7 +144,7 @@ fn cut_around<'t>(
     let Some(cut) = cut_at(text, place.value.from, place.value.to) else {
         return Ok(None);
     };
-    let target = Target {
+    let target = Route {
         selectors: &selectors,
         positions: &place.positions,
         value: cut.was,

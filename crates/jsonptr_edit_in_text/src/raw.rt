@@ -15,9 +15,9 @@ use crate::as_written::as_written;
 use crate::raw_value::RawValue;
 use crate::wrap::expanded;
 use jsonptr::Pointer;
-use jsonptr_in_text::{Format, InTextError, Scratch, format_text};
+use jsonptr_in_text::{Format, Scratch, format_text};
 use jsonptr_json_edits::layout::{ValueText, text_of_value};
-use jsonptr_value::{MAX_DEPTH, nests_within};
+use jsonptr_value::{MAX_DEPTH, ReadError, nests_within};
 use serde_json::Value;
 use std::alloc::{AllocError, Global};
 
@@ -29,8 +29,8 @@ impl RawValue {
     ///
     /// # Errors
     ///
-    /// - [`InTextError::NotJson`] if `serde_json` does not read the text.
-    /// - [`InTextError::Memory`] if an allocation fails.
+    /// - [`ReadError::NotJson`] if `serde_json` does not read the text.
+    /// - [`ReadError::Memory`] if an allocation fails.
     ///
     /// # Examples
     ///
@@ -40,7 +40,7 @@ impl RawValue {
     /// let name = RawValue::parse(alloc, "\"caf\\u00e9\"")?;
     /// assert_eq!(rt; name.text.flat.as_str(), "\"caf\\u00e9\"");
     /// ```
-    pub fn parse(alloc: Global, text: &str) -> Result<RawValue, InTextError>
+    pub fn parse(alloc: Global, text: &str) -> Result<RawValue, ReadError>
         ensures value { IfOk result (λ r. read text.now ≡ Some (value_of_raw r)) }
         ensures same { IfOk result (λ r. lexed (string_bytes r.text.flat) ≡ lexed text.now) }
         ensures refused { IfErr result (IsReadError text.now) }
@@ -153,8 +153,7 @@ fn lay_out(
             let own = as_written(alloc, ValueText { flat, lines }, written)?;
             Ok(Some(own))
         }
-        Err(InTextError::Memory(error)) => Err(error),
-        Err(InTextError::NotJson) => Ok(None),
-        Err(InTextError::Resolve(_error)) => Ok(None),
+        Err(ReadError::Memory) => Err(AllocError),
+        Err(ReadError::NotJson) => Ok(None),
     }
 }

@@ -9,7 +9,6 @@ ghost use Rattle.jsonptr_edit_in_text.specs.declared.raw_value.RawValue.{RawValu
 
 use crate::raw_operation::RawOperation;
 use crate::raw_value::RawValue;
-use jsonptr_in_text::InTextError;
 use jsonptr_json_edits::buffers::Buffers;
 use jsonptr_json_edits::cut::cut_at;
 use jsonptr_json_edits::layout::slice;
@@ -17,6 +16,7 @@ use jsonptr_json_edits::locate::{Extent, Span, children_of, place_of};
 use jsonptr_json_edits::spacing::is_trimmed;
 use jsonptr_json_search::selector::Selector;
 use jsonptr_patch::Operation;
+use jsonptr_value::ReadError;
 use serde_json::Value;
 use std::alloc::{AllocError, Global};
 
@@ -169,9 +169,8 @@ fn own_text(
     }
     match RawValue::parse(alloc, cut.was) {
         Ok(raw) => Ok(Some(raw)),
-        Err(InTextError::Memory(error)) => Err(error),
-        Err(InTextError::NotJson) => Ok(None),
-        Err(InTextError::Resolve(_error)) => Ok(None),
+        Err(ReadError::Memory) => Err(AllocError),
+        Err(ReadError::NotJson) => Ok(None),
     }
 }
 
@@ -185,10 +184,10 @@ fn own_text(
 ///
 /// ```rust
 /// let remove = Operation::Remove { path: PointerBuf::from_text(alloc, "/a")? };
-/// let raws = without_texts(alloc, vec![in alloc; remove]?)?;
+/// let raws = printed_operations(alloc, vec![in alloc; remove]?)?;
 /// assert!(rt; raws.len() == 1 && raws[0].text.is_none());
 /// ```
-pub fn without_texts(
+pub fn printed_operations(
     alloc: Global,
     operations: Vec<Operation>,
 ) -> Result<Vec<RawOperation>, AllocError>

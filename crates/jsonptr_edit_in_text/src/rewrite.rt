@@ -5,8 +5,8 @@ ghost use Rattle.serde_json.specs.View.{view};
 ghost use Rattle.jsonptr.specs.Pointer.{tokens};
 ghost use Rattle.jsonptr.specs.Json.{nodes};
 ghost use Rattle.jsonptr_edit_in_text.specs.EditInText.{AssignsInText, DeletesInText, LacksInText, IsAssignError, IsEditReadError};
-ghost use Rattle.jsonptr_edit_in_text.specs.PrivateRewriting.{IsShortened, IsPrintFault};
-ghost use Rattle.jsonptr_edit_in_text.specs.PatchInText.{PatchesInText, IsPatchFault};
+ghost use Rattle.jsonptr_edit_in_text.specs.PrivateRewriting.{IsShortened, IsPrintError};
+ghost use Rattle.jsonptr_edit_in_text.specs.PatchInText.{PatchesInText, IsPatchError};
 
 use crate::edited::EditError;
 use jsonptr::{Assign, Delete, Fault, Pointer, assign};
@@ -52,7 +52,7 @@ pub fn apply_and_print(
 ) -> Result<String, EditError<PatchError>>
     ensures applied { IfOk result
         (λ s. PatchesInText text.now operations.items (string_bytes s)) }
-    ensures refused { IfErr result (IsPatchFault text.now operations.items) }
+    ensures refused { IfErr result (IsPatchError text.now operations.items) }
 {
     let mut document = read_document(alloc, text)?;
     match apply_comparing(alloc, &mut document, operations, Comparison::Numeric) {
@@ -111,7 +111,7 @@ fn shortened<'a>(pointer: Pointer<'a>) -> Pointer<'a>
 /// fails.
 fn print_document<E>(alloc: Global, document: Value) -> Result<String, EditError<E>>
     ensures printed { IfOk result (λ s. read (string_bytes s) ≡ Some (view document)) }
-    ensures refused { IfErr result (IsPrintFault (view document)) }
+    ensures refused { IfErr result (IsPrintError (view document)) }
 {
     if nests_within(&document, MAX_DEPTH) {
         return Ok(document.to_string(alloc)?);

@@ -7,7 +7,7 @@ use jsonptr::Pointer;
 use jsonptr_in_text::selectors::selectors_of;
 use jsonptr_json_edits::buffers::Buffers;
 use jsonptr_json_edits::layout::{ValueText, text_at};
-use jsonptr_json_edits::lead::{Target, leads_to};
+use jsonptr_json_edits::lead::{Route, leads_to};
 use jsonptr_json_edits::locate::place_of;
 use std::alloc::{AllocError, Global};
 
@@ -34,7 +34,7 @@ pub fn value_at(
         return Ok(None);
     }
     let value = text_at(alloc, text, place.value)?;
-    let target = Target {
+    let target = Route {
         selectors: &selectors,
         positions: &place.positions,
         value: value.flat.as_str(),

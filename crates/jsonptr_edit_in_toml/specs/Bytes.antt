@@ -7,13 +7,7 @@ use Rattle.jsonptr.specs.Node.{NodeMap}
 use Rattle.jsonptr.specs.TomlValue.{nodes}
 use Rattle.jsonptr.specs.Assigning.{Assigns}
 use Rattle.jsonptr_in_toml.specs.InToml.{ReadsAsToml, FindsInToml}
-
--- `SplicesToml old new was piece`: the text `new` is `old` with `piece` instead of `was`
-pub record SplicesToml (old new was piece : Text) : Type 0 where
-  pub before : Text
-  pub after : Text
-  pub old_is : old ≡ before ++ (was ++ after)
-  pub new_is : new ≡ before ++ (piece ++ after)
+use Rattle.jsonptr_json_edits.specs.Spacing.{Splices}
 
 -- `IsFiller t`: the text `t` is white space, line breaks and comments alone: it reads, alone, as an empty document
 abbrev pub IsFiller : Text → Type 0
@@ -71,7 +65,7 @@ AddsTomlChild ts v was piece = IsOneTomlChild ts v piece × ((lead rest : Text) 
 pub record AssignsTomlBytes (old : Text) (ts : List Text) (v : Data) (new : Text) : Type 0 where
   pub was : Text
   pub piece : Text
-  pub splices : SplicesToml old new was piece
+  pub splices : Splices old new was piece
   pub made : ReplacesToml old ts v was piece ⊎ AddsTomlChild ts v was piece
 
 -- `IsEmptyToml v`: `v` is a table without members, or an array without elements
@@ -90,7 +84,7 @@ pub record DeletesTomlBytes (old : Text) (ts : List Text) (new : Text) : Type 0 
   pub was : Text
   pub piece : Text
   pub v : Data
-  pub splices : SplicesToml old new was piece
+  pub splices : Splices old new was piece
   pub found : FindsInToml old ts v
   pub whole : IsOneTomlChild ts v was
   pub left : (piece ≡ []) ⊎ Empties ts piece

@@ -7,32 +7,22 @@ use Rattle.jsonptr.specs.TomlValue.{nodes, FindsValue}
 use Rattle.jsonptr.specs.Assigning.{Assigns}
 use Rattle.jsonptr.specs.Removing.{Deletes}
 use Rattle.jsonptr_in_toml.specs.InToml.{ReadsAsToml}
-use Rattle.jsonptr_edit_in_toml.specs.declared.edited.Edited.{Edited}
-use Rattle.jsonptr_edit_in_toml.specs.declared.edited.Edited.TheVariants.{InPlace, Rewritten}
+use Rattle.jsonptr_edit_in_text.specs.declared.edited.Edited.{Edited}
+use Rattle.jsonptr_edit_in_text.specs.declared.edited.Edited.TheVariants.{InPlace, Rewritten}
 
--- `toml_text_of e`: the text of the edited document
-abbrev pub toml_text_of : Edited → Text
-toml_text_of (InPlace s) = string_bytes s
-toml_text_of (Rewritten s) = string_bytes s
-
--- `AssignsInTomlText old ts v new`: the texts read as documents, and assigning `v` at the tokens turns the first into the
+-- `AssignsInToml old ts v new`: the texts read as documents, and assigning `v` at the tokens turns the first into the
 -- second
-abbrev pub AssignsInTomlText : Text → List Text → Data → Text → Type 0
-AssignsInTomlText old ts v new =
+abbrev pub AssignsInToml : Text → List Text → Data → Text → Type 0
+AssignsInToml old ts v new =
     (d d2 : Data) × ReadsAsToml old d × ReadsAsToml new d2
     × ((replaced : Option NodeMap) × Assigns (nodes d) ts (nodes v) (nodes d2) replaced)
 
--- `DeletesInTomlText old ts new`: the texts read as documents, the tokens identify a value of the first, and deleting it turns
+-- `DeletesInToml old ts new`: the texts read as documents, the tokens identify a value of the first, and deleting it turns
 -- the first into the second. Deleting the root leaves an empty table
-abbrev pub DeletesInTomlText : Text → List Text → Text → Type 0
-DeletesInTomlText old ts new =
+abbrev pub DeletesInToml : Text → List Text → Text → Type 0
+DeletesInToml old ts new =
     (d d2 : Data) × ReadsAsToml old d × ReadsAsToml new d2
     × ((v : Data) × FindsValue d ts v) × Deletes (nodes d) ts (nodes (table no_members)) (nodes d2)
-
--- `KeepsTomlBytes P e`: if `e` was edited in place, its text meets P
-abbrev pub KeepsTomlBytes : (Text → Type 0) → Edited → Type 0
-KeepsTomlBytes P (InPlace s) = P (string_bytes s)
-KeepsTomlBytes P (Rewritten s) = ⊤
 
 -- `IsPrinted P e`: if `e` was printed anew, its text meets P
 abbrev pub IsPrinted : (Text → Type 0) → Edited → Type 0

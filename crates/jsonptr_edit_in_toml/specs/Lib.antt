@@ -2,4 +2,3 @@
 pub mod Bytes
 pub mod EditInToml
 pub mod Failing
-pub mod InPlace

@@ -1,10 +1,10 @@
 //! Where a member or an element is put in. These are hints: no contract says that they are right.
-use crate::items::{Item, ItemKind};
+use crate::inline_child::add_child;
+use crate::items::{ItemKind, TomlItem};
 use crate::keys::{key_text, push_keys, push_token};
 use crate::outline::{Outline, Role, indent_of, outline_of};
-use crate::part::add_part;
 use crate::piece::{has_headers, section_text};
-use crate::plan::{Addition, Keys, TomlChild};
+use crate::plan::{AdditionPlan, Keys, TomlChild};
 use crate::span::{
     ByteSpan, comments_above, is_blank_line, is_tight, line_start, newline_of, skip_blank_lines,
     skip_comment_lines, skip_own_comments, slice, text_start,
@@ -21,7 +21,7 @@ pub fn plan_addition(
     pointer: Pointer<'_>,
     document: &Value,
     value: &Value,
-) -> Result<Option<Addition>, AllocError> {
+) -> Result<Option<AdditionPlan>, AllocError> {
     let outline = outline_of(alloc, text, pointer)?;
     let (count, above) = resolved(document, &outline.route.tokens);
     let is_table = match above {
@@ -30,7 +30,7 @@ pub fn plan_addition(
         _ => return Ok(None),
     };
     if outline.first_with(Role::Through).is_some() {
-        return add_part(alloc, text, &outline, count, value);
+        return add_child(alloc, text, &outline, count, value);
     }
     if is_table {
         add_member(alloc, text, &outline, count, value)
@@ -77,7 +77,7 @@ fn add_member(
     outline: &Outline,
     count: usize,
     value: &Value,
-) -> Result<Option<Addition>, AllocError> {
+) -> Result<Option<AdditionPlan>, AllocError> {
     let is_deep = count.saturating_add(1) < outline.count();
     let is_home = count == 0 || outline.has_header(count);
     let is_section = (is_deep || has_headers(value)) && prefers_headers(text, outline, count);
@@ -120,7 +120,7 @@ fn prefers_headers(text: &str, outline: &Outline, count: usize) -> bool {
 }
 
 /// Returns whether the key of the item has a dot.
-fn is_dotted_key(text: &str, item: &Item) -> bool {
+fn is_dotted_key(text: &str, item: &TomlItem) -> bool {
     slice(text, item.key).contains('.')
 }
 
@@ -162,7 +162,7 @@ fn add_line(
     outline: &Outline,
     line: &Line,
     value: &Value,
-) -> Result<Option<Addition>, AllocError> {
+) -> Result<Option<AdditionPlan>, AllocError> {
     let sibling = line.sibling.and_then(|index| outline.items.get(index));
     let at = match sibling {
         Some(item) => item.end,
@@ -254,7 +254,7 @@ fn is_spread(text: &str, outline: &Outline, line: &Line) -> bool {
 }
 
 /// Returns the equals sign of the item, with the white space that is usual there.
-fn equals_of(text: &str, sibling: Option<&Item>) -> &'static str {
+fn equals_of(text: &str, sibling: Option<&TomlItem>) -> &'static str {
     match sibling {
         Some(item) if item.kind == ItemKind::Pair && is_tight(text, item.key, item.value) => "=",
         _ => " = ",
@@ -285,7 +285,7 @@ fn add_section(
     gap: Gap,
     keys: PointerBuf,
     value: &Value,
-) -> Result<Option<Addition>, AllocError> {
+) -> Result<Option<AdditionPlan>, AllocError> {
     let Gap { at, is_spaced } = gap;
     let newline = newline_of(text);
     let Some(section) = section_text(alloc, keys.as_ptr(), value, newline)? else {
@@ -344,7 +344,7 @@ fn whole_lines(
     at: usize,
     lines: String,
     keys: PointerBuf,
-) -> Result<Addition, AllocError> {
+) -> Result<AdditionPlan, AllocError> {
     let is_broken = at > text_start(text) && byte_at(text, at.saturating_sub(1)) != b'\n';
     let rest = if is_broken {
         let mut rest = String::from_str(alloc, newline_of(text))?;
@@ -361,7 +361,7 @@ fn whole_lines(
         },
         keys: Keys::Some(keys),
     };
-    Ok(Addition {
+    Ok(AdditionPlan {
         span: ByteSpan { from: at, to: at },
         lead: String::new(alloc),
         rest,

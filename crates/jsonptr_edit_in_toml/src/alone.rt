@@ -6,9 +6,9 @@ ghost use Rattle.jsonptr.specs.Pointer.{tokens};
 ghost use Rattle.jsonptr_edit_in_toml.specs.Bytes.{IsFiller, IsComma, HaveOneTomlComma, EndsAs, HoldsAlone, IsAlone, IsOneTomlChild};
 
 use crate::check::{is_document_of, is_text_of};
-use crate::cut::cut_at;
 use crate::plan::{Keys, TomlChild};
 use jsonptr::{Assign, Fault, Pointer};
+use jsonptr_json_edits::cut::cut_at;
 use std::alloc::{AllocError, Global};
 use toml::{Table, Value};
 use toml_parser::text::skip_blank;

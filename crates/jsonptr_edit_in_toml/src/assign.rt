@@ -4,22 +4,24 @@ ghost use Rattle.toml.specs.Data.{Data};
 ghost use Rattle.toml.specs.View.{view};
 ghost use Rattle.jsonptr.specs.Pointer.{tokens};
 ghost use Rattle.jsonptr.specs.TomlValue.{FindsValue};
-ghost use Rattle.jsonptr_in_toml.specs.InToml.{ReadsAsToml, AssignsInToml, PrintsAs};
-ghost use Rattle.jsonptr_edit_in_toml.specs.EditInToml.{toml_text_of, AssignsInTomlText, KeepsTomlBytes, IsPrinted};
+ghost use Rattle.jsonptr_in_toml.specs.InToml.{ReadsAsToml, AssignsAndPrintsToml, PrintsAs};
+ghost use Rattle.jsonptr_edit_in_text.specs.Bytes.{KeepsBytes};
+ghost use Rattle.jsonptr_edit_in_text.specs.EditInText.{edited_text};
+ghost use Rattle.jsonptr_edit_in_toml.specs.EditInToml.{AssignsInToml, IsPrinted};
 ghost use Rattle.jsonptr_edit_in_toml.specs.Bytes.{AssignsTomlBytes, IsAlone};
-ghost use Rattle.jsonptr_edit_in_toml.specs.Failing.{FailsToAssignInText, IsEditFault};
+ghost use Rattle.jsonptr_edit_in_toml.specs.Failing.{FailsToAssignInToml, IsTomlEditError};
 
 use crate::add::plan_addition;
 use crate::alone::{is_alone, is_filler, is_one_toml_child};
 use crate::check::{has_deep_values, is_document_of};
-use crate::cut::{cut_at, splice};
-use crate::edited::Edited;
-use crate::plan::{Addition, Replacement};
+use crate::plan::{AdditionPlan, ReplacementPlan};
 use crate::replace::plan_replacement;
 use jsonptr::{Assign, Fault, Pointer, Resolve};
+use jsonptr_edit_in_text::Edited;
 use jsonptr_in_toml::InTomlError;
-use jsonptr_in_toml::depth::{MAX_TOML_DEPTH, is_long, value_within};
+use jsonptr_in_toml::depth::{MAX_TOML_DEPTH, has_too_many_tokens, toml_nests_within};
 use jsonptr_in_toml::document::{print_toml, read_toml};
+use jsonptr_json_edits::cut::{cut_at, splice};
 use jsonptr_value::discard;
 use std::alloc::{AllocError, Global};
 use toml::Value;
@@ -37,7 +39,7 @@ use toml::Value;
 /// - [`InTomlError::NotToml`] if the text is not TOML.
 /// - [`InTomlError::DocumentTooDeep`] if the values of the document nest deeper than 80.
 /// - [`InTomlError::TooDeep`] if the pointer has more than 81 tokens.
-/// - [`InTomlError::BadPlace`] if no value can be assigned at the pointer.
+/// - [`InTomlError::Assign`] if no value can be assigned at the pointer.
 /// - [`InTomlError::TooDeep`] if the values of the new document nest deeper than 80.
 /// - [`InTomlError::NoText`] if the new document is not a table, or has a date-time that TOML has no
 ///   text for.
@@ -48,32 +50,32 @@ use toml::Value;
 /// ```rust
 /// let text = "[server]\nport = 80 # as ever\n";
 /// let port = Pointer::parse("/server/port")?;
-/// let edited = assign_in_toml_text(alloc, text, port, 8080.into())?;
+/// let edited = assign_in_toml(alloc, text, port, 8080.into())?;
 /// assert_eq!(rt; edited.as_str(), "[server]\nport = 8080 # as ever\n");
 /// ```
-pub fn assign_in_toml_text(
+pub fn assign_in_toml(
     alloc: Global,
     text: &str,
     pointer: Pointer<'_>,
     value: Value,
 ) -> Result<Edited, InTomlError>
-    ensures assigned { IfOk result (λ e. AssignsInTomlText text.now (tokens pointer.entry) (view value)
-        (toml_text_of e)) }
-    ensures bytes { IfOk result (KeepsTomlBytes
+    ensures assigned { IfOk result (λ e. AssignsInToml text.now (tokens pointer.entry) (view value)
+        (edited_text e)) }
+    ensures bytes { IfOk result (KeepsBytes
         (AssignsTomlBytes text.now (tokens pointer.entry) (view value))) }
     ensures printed { IfOk result (IsPrinted
-        (AssignsInToml text.now (tokens pointer.entry) (view value))) }
+        (AssignsAndPrintsToml text.now (tokens pointer.entry) (view value))) }
     ensures refused { IfErr result
-        (FailsToAssignInText text.now (tokens pointer.entry) (view value)) }
+        (FailsToAssignInToml text.now (tokens pointer.entry) (view value)) }
 {
     let mut document = read_toml(alloc, text)?;
-    if is_long(pointer) {
+    if has_too_many_tokens(pointer) {
         return Err(InTomlError::TooDeep);
     }
     let candidate = candidate_of(alloc, text, pointer, &document, &value)?;
     match document.assign(alloc, pointer, value) {
         Ok(_) => choose(alloc, candidate, document),
-        Err(Fault::Refused(error)) => Err(InTomlError::BadPlace(error)),
+        Err(Fault::Refused(error)) => Err(InTomlError::Assign(error)),
         Err(Fault::Memory(error)) => Err(InTomlError::Memory(error)),
     }
 }
@@ -85,11 +87,11 @@ pub fn choose(
     candidate: Option<String>,
     document: Value,
 ) -> Result<Edited, InTomlError>
-    ensures document { IfOk result (λ e. ReadsAsToml (toml_text_of e) (view document)) }
-    ensures place { IfOk result (KeepsTomlBytes (λ s. IfSome candidate (λ c. s ≡ string_bytes c))) }
-    ensures there { IfOk result (KeepsTomlBytes (λ s. IsSome candidate)) }
+    ensures document { IfOk result (λ e. ReadsAsToml (edited_text e) (view document)) }
+    ensures place { IfOk result (KeepsBytes (λ s. IfSome candidate (λ c. s ≡ string_bytes c))) }
+    ensures there { IfOk result (KeepsBytes (λ s. IsSome candidate)) }
     ensures printed { IfOk result (IsPrinted (PrintsAs (view document))) }
-    ensures refused { IfErr result (IsEditFault (view document)) }
+    ensures refused { IfErr result (IsTomlEditError (view document)) }
 {
     if has_deep_values(&document) {
         discard(document);
@@ -115,7 +117,7 @@ fn candidate_of(
         (λ s. AssignsTomlBytes text.now (tokens pointer.entry) (view value.now) (string_bytes s))) }
 {
     // a deeper value makes the document too deep
-    if !value_within(value, MAX_TOML_DEPTH) {
+    if !toml_nests_within(value, MAX_TOML_DEPTH) {
         return Ok(None);
     }
     match document.resolve(alloc, pointer) {
@@ -142,7 +144,7 @@ fn replaced(
     text: &str,
     pointer: Pointer<'_>,
     found: &Value,
-    plan: &Replacement,
+    plan: &ReplacementPlan,
 ) -> Result<Option<String>, AllocError>
     ensures { (d v : Data) → ReadsAsToml text.now d → FindsValue d (tokens pointer.entry) (view found.now)
         → IsAlone (tokens pointer.entry) v (string_bytes plan.now.piece)
@@ -164,7 +166,7 @@ fn added(
     text: &str,
     pointer: Pointer<'_>,
     value: &Value,
-    plan: &Addition,
+    plan: &AdditionPlan,
 ) -> Result<Option<String>, AllocError>
     ensures { IfOk result (λ new. IfSome new
         (λ s. AssignsTomlBytes text.now (tokens pointer.entry) (view value.now) (string_bytes s))) }

@@ -6,7 +6,7 @@ ghost use Rattle.jsonptr_in_toml.specs.InToml.{ReadsAsToml, HasDeepValues};
 
 use crate::same::is_same;
 use jsonptr_in_toml::InTomlError;
-use jsonptr_in_toml::depth::{MAX_TOML_DEPTH, table_within};
+use jsonptr_in_toml::depth::{MAX_TOML_DEPTH, table_nests_within};
 use jsonptr_in_toml::document::read_toml;
 use std::alloc::{AllocError, Global};
 use toml::Value;
@@ -38,7 +38,7 @@ pub fn has_deep_values(value: &Value) -> bool
     ensures { IsTrue result ↔ HasDeepValues (view value.now) }
 {
     match value {
-        Value::Table(table) => !table_within(table, MAX_TOML_DEPTH),
+        Value::Table(table) => !table_nests_within(table, MAX_TOML_DEPTH),
         _ => false,
     }
 }

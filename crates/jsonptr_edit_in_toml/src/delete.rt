@@ -1,28 +1,31 @@
 //! Deleting in a text.
-ghost use Rattle.std.specs.Prelude.{◌≡◌, [], ◌⊎◌, IsTrue, IfOk, IfErr, IfSome, string_bytes};
+ghost use Rattle.std.specs.Prelude.{◌≡◌, [], ◌⊎◌, IsTrue, IfOk, IfErr, IfSome, MatchOption, string_bytes};
 ghost use Rattle.toml.specs.Data.{Data};
 ghost use Rattle.toml.specs.View.{view};
 ghost use Rattle.jsonptr.specs.Pointer.{tokens};
 ghost use Rattle.jsonptr.specs.TomlValue.{FindsValue};
-ghost use Rattle.jsonptr_in_toml.specs.InToml.{ReadsAsToml, DeletesInToml};
-ghost use Rattle.jsonptr_edit_in_toml.specs.EditInToml.{toml_text_of, DeletesInTomlText, KeepsTomlBytes, IsPrinted};
+ghost use Rattle.jsonptr_in_toml.specs.InToml.{ReadsAsToml, DeletesAndPrintsToml, LacksInToml};
+ghost use Rattle.jsonptr_edit_in_text.specs.Bytes.{KeepsBytes};
+ghost use Rattle.jsonptr_edit_in_text.specs.EditInText.{edited_text};
+ghost use Rattle.jsonptr_edit_in_toml.specs.EditInToml.{DeletesInToml, IsPrinted};
 ghost use Rattle.jsonptr_edit_in_toml.specs.Bytes.{DeletesTomlBytes, IsEmptyToml, Empties};
-ghost use Rattle.jsonptr_edit_in_toml.specs.Failing.{FailsToDeleteInText};
+ghost use Rattle.jsonptr_edit_in_toml.specs.Failing.{FailsToDeleteInToml};
 
 use crate::alone::{empty_table, is_alone, is_one_toml_child};
 use crate::assign::choose;
-use crate::cut::{cut_at, splice};
-use crate::edited::Edited;
-use crate::plan::{Left, Removal};
+use crate::plan::{EmptiedParent, RemovalPlan};
 use crate::remove::plan_removal;
 use jsonptr::{Delete, Fault, Pointer, Resolve};
+use jsonptr_edit_in_text::Edited;
 use jsonptr_in_toml::InTomlError;
 use jsonptr_in_toml::document::read_toml;
+use jsonptr_json_edits::cut::{cut_at, splice};
 use std::alloc::{AllocError, Global};
 use toml::Value;
 
 /// Deletes the value that the pointer resolves to in the document that the text contains, as
-/// [`Delete::delete`](jsonptr::delete::Delete) does. Deleting the root leaves an empty document.
+/// [`Delete::delete`](jsonptr::delete::Delete) does. Returns `None` if it resolves to nothing. Deleting
+/// the root leaves an empty document.
 ///
 /// A key goes with its line and the comment on it, a table with its header and its lines, and an
 /// element with its comma. All other bytes stay. If that is not possible, the document is printed anew.
@@ -33,31 +36,36 @@ use toml::Value;
 ///
 /// - [`InTomlError::NotToml`] if the text is not TOML.
 /// - [`InTomlError::DocumentTooDeep`] if the values of the document nest deeper than 80.
-/// - [`InTomlError::NotThere`] if the pointer does not resolve to a value.
 /// - [`InTomlError::Memory`] if an allocation fails.
+///
+/// The clause also allows [`InTomlError::TooDeep`] and [`InTomlError::NoText`], as for
+/// [`assign_in_toml`](crate::assign_in_toml). No document is known that has them.
 ///
 /// # Examples
 ///
 /// ```rust
 /// let text = "# The server\nport = 80 # as ever\nname = 'a'\n";
-/// let edited = delete_in_toml_text(alloc, text, Pointer::parse("/port")?)?;
-/// assert_eq!(rt; edited.as_str(), "# The server\nname = 'a'\n");
+/// let edited = delete_in_toml(alloc, text, Pointer::parse("/port")?)?;
+/// assert_eq!(rt; edited.ok_or("a value")?.as_str(), "# The server\nname = 'a'\n");
 /// ```
-pub fn delete_in_toml_text(
+pub fn delete_in_toml(
     alloc: Global,
     text: &str,
     pointer: Pointer<'_>,
-) -> Result<Edited, InTomlError>
-    ensures deleted { IfOk result (λ e. DeletesInTomlText text.now (tokens pointer.entry) (toml_text_of e)) }
-    ensures bytes { IfOk result (KeepsTomlBytes (DeletesTomlBytes text.now (tokens pointer.entry))) }
-    ensures printed { IfOk result (IsPrinted (DeletesInToml text.now (tokens pointer.entry))) }
-    ensures refused { IfErr result (FailsToDeleteInText text.now (tokens pointer.entry)) }
+) -> Result<Option<Edited>, InTomlError>
+    ensures deleted { IfOk result (λ o. MatchOption o (LacksInToml text.now (tokens pointer.entry))
+        (λ e. DeletesInToml text.now (tokens pointer.entry) (edited_text e))) }
+    ensures bytes { IfOk result (λ o. IfSome o
+        (KeepsBytes (DeletesTomlBytes text.now (tokens pointer.entry)))) }
+    ensures printed { IfOk result (λ o. IfSome o
+        (IsPrinted (DeletesAndPrintsToml text.now (tokens pointer.entry)))) }
+    ensures refused { IfErr result (FailsToDeleteInToml text.now (tokens pointer.entry)) }
 {
     let mut document = read_toml(alloc, text)?;
     let candidate = candidate_of(alloc, text, pointer, &document)?;
     match document.delete(alloc, pointer)? {
-        Some(_) => choose(alloc, candidate, document),
-        None => Err(InTomlError::NotThere),
+        Some(_) => Ok(Some(choose(alloc, candidate, document)?)),
+        None => Ok(None),
     }
 }
 
@@ -87,7 +95,7 @@ fn removed(
     text: &str,
     pointer: Pointer<'_>,
     found: &Value,
-    plan: &Removal,
+    plan: &RemovalPlan,
 ) -> Result<Option<String>, AllocError>
     ensures { (d : Data) → ReadsAsToml text.now d → FindsValue d (tokens pointer.entry) (view found.now)
         → IfOk result (λ new. IfSome new
@@ -109,7 +117,7 @@ fn removed(
 }
 
 /// Returns whether the text is that of an empty table or array above the value.
-fn is_left(alloc: Global, pointer: Pointer<'_>, left: &Left) -> Result<bool, AllocError>
+fn is_left(alloc: Global, pointer: Pointer<'_>, left: &EmptiedParent) -> Result<bool, AllocError>
     ensures { IfOk result (λ is. IsTrue is
         → Empties (tokens pointer.entry) (string_bytes left.now.piece)) }
 {

@@ -8,7 +8,7 @@ use toml_parser::text::byte_at;
 
 /// An element of an array, or a member of an inline table.
 #[derive(Clone, Copy, Debug)]
-pub struct Part {
+pub struct InlineChild {
     /// Its number.
     pub index: usize,
     /// All of it.
@@ -23,48 +23,48 @@ pub struct Part {
 
 /// An array or an inline table that tokens lead to.
 #[derive(Debug, Drop)]
-pub struct Container {
+pub struct InlineContainer {
     /// Its text.
     pub span: ByteSpan,
-    /// Its parts.
-    pub parts: Vec<Part>,
+    /// Its children.
+    pub children: Vec<InlineChild>,
     /// How many tokens lead to it.
     pub count: usize,
-    /// The part that the tokens lead to, if they lead to one.
-    pub found: Option<FoundPart>,
+    /// The child that the tokens lead to, if they lead to one.
+    pub found: Option<FoundChild>,
 }
 
-/// A part that tokens lead to.
+/// A child that tokens lead to.
 #[derive(Clone, Copy, Debug)]
-pub struct FoundPart {
-    /// The part.
-    pub part: Part,
+pub struct FoundChild {
+    /// The child.
+    pub child: InlineChild,
     /// How many tokens lead to it.
     pub count: usize,
 }
 
-/// Returns the parts of the array or inline table at the span.
-fn parts_of(alloc: Global, text: &str, span: ByteSpan) -> Result<Vec<Part>, AllocError> {
+/// Returns the children of the array or inline table at the span.
+fn children_of(alloc: Global, text: &str, span: ByteSpan) -> Result<Vec<InlineChild>, AllocError> {
     let is_table = byte_at(text, span.from) == b'{';
-    let mut parts = Vec::new(alloc);
+    let mut children = Vec::new(alloc);
     let mut at = span.from.saturating_add(1);
-    for _part in span.from..span.to {
+    for _child in span.from..span.to {
         at = skip_filler(text, at);
         if at.saturating_add(1) >= span.to {
             break;
         }
-        let part = part_at(text, at, is_table, parts.len());
-        at = part.comma.unwrap_or(part.whole.to);
-        parts.push(part)?;
-        if part.comma.is_none() {
+        let child = child_at(text, at, is_table, children.len());
+        at = child.comma.unwrap_or(child.whole.to);
+        children.push(child)?;
+        if child.comma.is_none() {
             break;
         }
     }
-    Ok(parts)
+    Ok(children)
 }
 
-/// Returns the part that begins at the offset.
-fn part_at(text: &str, at: usize, is_member: bool, index: usize) -> Part {
+/// Returns the child that begins at the offset.
+fn child_at(text: &str, at: usize, is_member: bool, index: usize) -> InlineChild {
     let to = if is_member { keys_end(text, at) } else { at };
     let from = if is_member {
         skip_blanks(text, skip_blanks(text, to).saturating_add(1))
@@ -78,7 +78,7 @@ fn part_at(text: &str, at: usize, is_member: bool, index: usize) -> Part {
     } else {
         None
     };
-    Part {
+    InlineChild {
         index,
         whole: ByteSpan { from: at, to: end },
         key: ByteSpan { from: at, to },
@@ -87,37 +87,40 @@ fn part_at(text: &str, at: usize, is_member: bool, index: usize) -> Part {
     }
 }
 
-/// Returns the part that the next tokens lead to.
-fn find_part(
+/// Returns the child that the next tokens lead to.
+fn find_child(
     alloc: Global,
     text: &str,
-    parts: &Vec<Part>,
+    children: &Vec<InlineChild>,
     route: &Route,
     count: usize,
-) -> Result<Option<FoundPart>, AllocError> {
-    for part in parts.iter() {
-        if let Some(count) = follow_part(alloc, text, part, route, count)? {
-            return Ok(Some(FoundPart { part: *part, count }));
+) -> Result<Option<FoundChild>, AllocError> {
+    for child in children.iter() {
+        if let Some(count) = follow_child(alloc, text, child, route, count)? {
+            return Ok(Some(FoundChild {
+                child: *child,
+                count,
+            }));
         }
     }
     Ok(None)
 }
 
-/// Returns how many tokens lead to the part, if they lead there.
-fn follow_part(
+/// Returns how many tokens lead to the child, if they lead there.
+fn follow_child(
     alloc: Global,
     text: &str,
-    part: &Part,
+    child: &InlineChild,
     route: &Route,
     count: usize,
 ) -> Result<Option<usize>, AllocError> {
-    if part.key.from == part.key.to {
+    if child.key.from == child.key.to {
         return Ok(match route.tokens.get(count) {
-            Some(token) if is_index(token.as_str(), part.index) => Some(count.saturating_add(1)),
+            Some(token) if is_index(token.as_str(), child.index) => Some(count.saturating_add(1)),
             _ => None,
         });
     }
-    let reach = follow(alloc, text, part.key, route, count)?;
+    let reach = follow(alloc, text, child.key, route, count)?;
     Ok(if reach.ending == KeyEnd::Whole {
         Some(reach.count)
     } else {
@@ -132,12 +135,12 @@ fn container_at(
     span: ByteSpan,
     route: &Route,
     count: usize,
-) -> Result<Container, AllocError> {
-    let parts = parts_of(alloc, text, span)?;
-    let found = find_part(alloc, text, &parts, route, count)?;
-    Ok(Container {
+) -> Result<InlineContainer, AllocError> {
+    let children = children_of(alloc, text, span)?;
+    let found = find_child(alloc, text, &children, route, count)?;
+    Ok(InlineContainer {
         span,
-        parts,
+        children,
         count,
         found,
     })
@@ -151,7 +154,7 @@ pub fn container_of(
     value: ByteSpan,
     route: &Route,
     count: usize,
-) -> Result<Option<Container>, AllocError> {
+) -> Result<Option<InlineContainer>, AllocError> {
     let mut here = None;
     let mut span = value;
     let mut reached = count;
@@ -165,7 +168,7 @@ pub fn container_of(
         here = Some(container);
         match found {
             Some(found) if found.count < route.tokens.len() => {
-                span = found.part.value;
+                span = found.child.value;
                 reached = found.count;
             }
             _ => break,

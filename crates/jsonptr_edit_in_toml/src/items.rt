@@ -17,7 +17,7 @@ pub enum ItemKind {
 
 /// A header, or a pair that has a line of its own.
 #[derive(Clone, Copy, Debug)]
-pub struct Item {
+pub struct TomlItem {
     /// What it is.
     pub kind: ItemKind,
     /// The offset at which its line begins.
@@ -31,7 +31,7 @@ pub struct Item {
 }
 
 /// Returns the headers and the pairs of the text, in order.
-pub fn items_of(alloc: Global, text: &str) -> Result<Vec<Item>, AllocError> {
+pub fn items_of(alloc: Global, text: &str) -> Result<Vec<TomlItem>, AllocError> {
     let mut items = Vec::new(alloc);
     let mut at = text_start(text);
     for _item in 0..text.len() {
@@ -47,7 +47,7 @@ pub fn items_of(alloc: Global, text: &str) -> Result<Vec<Item>, AllocError> {
 }
 
 /// Returns the item that begins at the offset.
-fn item_at(text: &str, at: usize) -> Item {
+fn item_at(text: &str, at: usize) -> TomlItem {
     let line = line_start(text, at);
     let second = at.saturating_add(1);
     if byte_at(text, at) != b'[' {
@@ -60,10 +60,10 @@ fn item_at(text: &str, at: usize) -> Item {
 }
 
 /// Returns the header whose key begins at the offset, after white space.
-fn header_at(text: &str, line: usize, kind: ItemKind, at: usize) -> Item {
+fn header_at(text: &str, line: usize, kind: ItemKind, at: usize) -> TomlItem {
     let from = skip_blanks(text, at);
     let to = keys_end(text, from);
-    Item {
+    TomlItem {
         kind,
         line,
         key: ByteSpan { from, to },
@@ -73,7 +73,7 @@ fn header_at(text: &str, line: usize, kind: ItemKind, at: usize) -> Item {
 }
 
 /// Returns the pair that begins at the offset.
-fn pair_at(text: &str, line: usize, at: usize) -> Item {
+fn pair_at(text: &str, line: usize, at: usize) -> TomlItem {
     let to = keys_end(text, at);
     let equals = skip_blanks(text, to);
     let from = skip_blanks(text, equals.saturating_add(1));
@@ -81,7 +81,7 @@ fn pair_at(text: &str, line: usize, at: usize) -> Item {
         from,
         to: value_end(text, from),
     };
-    Item {
+    TomlItem {
         kind: ItemKind::Pair,
         line,
         key: ByteSpan { from: at, to },

@@ -2,13 +2,13 @@
 //!
 //! ```rust
 //! let text = "# The size\nsize = 3 # as ever\n";
-//! let edited = assign_in_toml_text(alloc, text, Pointer::parse("/size")?, 5.into())?;
+//! let edited = assign_in_toml(alloc, text, Pointer::parse("/size")?, 5.into())?;
 //! assert_eq!(rt; edited.as_str(), "# The size\nsize = 5 # as ever\n");
 //! ```
 //!
-//! - [`assign_in_toml_text`] and [`delete_in_toml_text`] edit at a pointer, as `assign` and `delete` do.
+//! - [`assign_in_toml`] and [`delete_in_toml`] edit at a pointer, as `assign` and `delete` do.
 //!   A document that cannot be edited in place is printed anew.
-//! - [`assign_in_place`] and [`delete_in_place`] do the same, in place or not at all.
+//! - [`assign_in_toml_in_place`] and [`delete_in_toml_in_place`] do the same, in place or not at all.
 //!
 //! Each call makes two promises. *Meaning*: the new text reads as the document that the call on
 //! documents makes of the document that the old text reads as. *Bytes*: one piece of the text
@@ -22,16 +22,14 @@ mod add;
 mod alone;
 mod assign;
 mod check;
-mod cut;
 mod delete;
-mod edited;
 mod in_place;
 mod inline;
+mod inline_child;
 mod items;
 mod keys;
 pub mod laws;
 mod outline;
-mod part;
 mod piece;
 mod plan;
 mod remove;
@@ -40,7 +38,7 @@ mod same;
 mod skip;
 mod span;
 
-pub use assign::assign_in_toml_text;
-pub use delete::delete_in_toml_text;
-pub use edited::Edited;
-pub use in_place::{InPlaceError, assign_in_place, delete_in_place};
+pub use assign::assign_in_toml;
+pub use delete::delete_in_toml;
+pub use in_place::{assign_in_toml_in_place, delete_in_toml_in_place};
+pub use jsonptr_edit_in_text::{Edited, InPlaceError};

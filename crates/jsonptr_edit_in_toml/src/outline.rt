@@ -1,6 +1,6 @@
 //! How the headers and pairs of a text lie beside the tokens of a pointer. These are hints: no contract
 //! says that they are right.
-use crate::items::{Item, ItemKind, items_of};
+use crate::items::{ItemKind, TomlItem, items_of};
 use crate::keys::{KeyEnd, Route, enter_element, follow, pointer_of, push_token, route_of};
 use crate::span::{ByteSpan, skip_blanks, slice};
 use jsonptr::{Pointer, PointerBuf};
@@ -38,7 +38,7 @@ pub struct Outline {
     /// The tokens.
     pub route: Route,
     /// The items.
-    pub items: Vec<Item>,
+    pub items: Vec<TomlItem>,
     /// How each of them lies.
     pub traces: Vec<Trace>,
 }
@@ -73,7 +73,7 @@ pub fn outline_of(alloc: Global, text: &str, pointer: Pointer<'_>) -> Result<Out
 fn trace_pair(
     alloc: Global,
     text: &str,
-    item: &Item,
+    item: &TomlItem,
     route: &Route,
     header: Trace,
 ) -> Result<Trace, AllocError> {
@@ -98,7 +98,7 @@ fn trace_pair(
 fn trace_header(
     alloc: Global,
     text: &str,
-    item: &Item,
+    item: &TomlItem,
     route: &mut Route,
 ) -> Result<Trace, AllocError> {
     let mut reach = follow(alloc, text, item.key, route, 0)?;
@@ -219,7 +219,7 @@ impl Outline {
 }
 
 /// Returns the white space before an item on its line.
-pub fn indent_of<'t>(text: &'t str, item: &Item) -> &'t str {
+pub fn indent_of<'t>(text: &'t str, item: &TomlItem) -> &'t str {
     let indent = ByteSpan {
         from: item.line,
         to: skip_blanks(text, item.line),

@@ -22,7 +22,7 @@ pub struct TomlChild {
 
 /// The text of a value that is replaced.
 #[derive(Debug, Drop)]
-pub struct Replacement {
+pub struct ReplacementPlan {
     /// What is replaced.
     pub span: ByteSpan,
     /// The keys of the old value.
@@ -35,7 +35,7 @@ pub struct Replacement {
 
 /// The text of a member or an element that is added.
 #[derive(Debug, Drop)]
-pub struct Addition {
+pub struct AdditionPlan {
     /// White space and comments that stay, and come between the parts of the new text.
     pub span: ByteSpan,
     /// The first part of the new text.
@@ -48,18 +48,18 @@ pub struct Addition {
 
 /// The text of a member or an element that is cut out.
 #[derive(Debug, Drop)]
-pub struct Removal {
+pub struct RemovalPlan {
     /// What is cut out.
     pub span: ByteSpan,
     /// The child in it.
     pub child: TomlChild,
     /// The text of the table or array that is left, if nothing else mentions it.
-    pub left: Option<Left>,
+    pub left: Option<EmptiedParent>,
 }
 
 /// The text of a table or array that becomes empty.
 #[derive(Debug, Drop)]
-pub struct Left {
+pub struct EmptiedParent {
     /// The text.
     pub piece: String,
     /// The keys that it is at.

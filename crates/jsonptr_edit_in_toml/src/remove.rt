@@ -1,9 +1,9 @@
 //! What is cut out to delete a value. These are hints: no contract says that they are right.
-use crate::inline::{Container, Part, container_of};
+use crate::inline::{InlineChild, InlineContainer, container_of};
 use crate::items::ItemKind;
 use crate::keys::{push_keys, push_pointer};
 use crate::outline::{Outline, Role, indent_of, outline_of};
-use crate::plan::{Keys, Left, Removal, TomlChild};
+use crate::plan::{EmptiedParent, Keys, RemovalPlan, TomlChild};
 use crate::span::{
     ByteSpan, blank_lines_above, comments_above, ends_line, line_start, newline_of, next_line,
     skip_blank_lines, skip_blanks, skip_own_comments, text_start,
@@ -17,7 +17,7 @@ pub fn plan_removal(
     alloc: Global,
     text: &str,
     pointer: Pointer<'_>,
-) -> Result<Option<Removal>, AllocError> {
+) -> Result<Option<RemovalPlan>, AllocError> {
     let outline = outline_of(alloc, text, pointer)?;
     if outline.count() == 0 {
         return Ok(None);
@@ -26,7 +26,7 @@ pub fn plan_removal(
         return remove_pair(alloc, text, &outline, index);
     }
     if let Some(index) = outline.first_with(Role::Through) {
-        return remove_part(alloc, text, &outline, index);
+        return remove_child(alloc, text, &outline, index);
     }
     match outline.run() {
         Some(run) => remove_run(alloc, text, &outline, run),
@@ -35,7 +35,7 @@ pub fn plan_removal(
 }
 
 /// Returns the removal of whole lines.
-fn lines(span: ByteSpan, keys: PointerBuf, left: Option<Left>) -> Removal {
+fn lines(span: ByteSpan, keys: PointerBuf, left: Option<EmptiedParent>) -> RemovalPlan {
     let child = TomlChild {
         span: ByteSpan {
             from: 0,
@@ -43,7 +43,7 @@ fn lines(span: ByteSpan, keys: PointerBuf, left: Option<Left>) -> Removal {
         },
         keys: Keys::Some(keys),
     };
-    Removal { span, child, left }
+    RemovalPlan { span, child, left }
 }
 
 /// Returns the removal of a pair, with its line.
@@ -52,7 +52,7 @@ fn remove_pair(
     text: &str,
     outline: &Outline,
     index: usize,
-) -> Result<Option<Removal>, AllocError> {
+) -> Result<Option<RemovalPlan>, AllocError> {
     let Some(item) = outline.items.get(index) else {
         return Ok(None);
     };
@@ -94,7 +94,7 @@ fn left_pair(
     outline: &Outline,
     from: usize,
     index: usize,
-) -> Result<Left, AllocError> {
+) -> Result<EmptiedParent, AllocError> {
     let count = outline.count().saturating_sub(1);
     let is_array = outline.is_element(count);
     let mut piece = String::new(alloc);
@@ -104,7 +104,7 @@ fn left_pair(
     push_keys(alloc, &mut piece, &outline.route.tokens, from, count)?;
     piece.push_str(if is_array { " = []" } else { " = {}" })?;
     piece.push_str(newline_of(text))?;
-    Ok(Left {
+    Ok(EmptiedParent {
         piece,
         keys: Keys::Some(outline.keys_between(alloc, from, count)?),
         is_array,
@@ -117,7 +117,7 @@ fn left_header(
     text: &str,
     outline: &Outline,
     index: usize,
-) -> Result<Left, AllocError> {
+) -> Result<EmptiedParent, AllocError> {
     let count = outline.count().saturating_sub(1);
     let mut piece = String::new(alloc);
     if let Some(item) = outline.items.get(index) {
@@ -128,7 +128,7 @@ fn left_header(
     push_pointer(alloc, &mut piece, keys.as_ptr())?;
     piece.push(']')?;
     piece.push_str(newline_of(text))?;
-    Ok(Left {
+    Ok(EmptiedParent {
         piece,
         keys: Keys::Some(keys),
         is_array: false,
@@ -141,7 +141,7 @@ fn remove_run(
     text: &str,
     outline: &Outline,
     run: ByteSpan,
-) -> Result<Option<Removal>, AllocError> {
+) -> Result<Option<RemovalPlan>, AllocError> {
     let (Some(first), Some(last)) = (outline.items.get(run.from), outline.items.get(run.to)) else {
         return Ok(None);
     };
@@ -195,12 +195,12 @@ fn section(text: &str, line: usize, end: usize) -> ByteSpan {
 }
 
 /// Returns the removal of an element of an array or a member of an inline table.
-fn remove_part(
+fn remove_child(
     alloc: Global,
     text: &str,
     outline: &Outline,
     index: usize,
-) -> Result<Option<Removal>, AllocError> {
+) -> Result<Option<RemovalPlan>, AllocError> {
     let (Some(item), Some(trace)) = (outline.items.get(index), outline.traces.get(index)) else {
         return Ok(None);
     };
@@ -214,12 +214,12 @@ fn remove_part(
     if found.count != outline.count() {
         return Ok(None);
     }
-    let span = part_span(text, &container, &found.part);
-    let is_element = found.part.key.from == found.part.key.to;
+    let span = child_span(text, &container, &found.child);
+    let is_element = found.child.key.from == found.child.key.to;
     let child = TomlChild {
         span: ByteSpan {
-            from: found.part.whole.from.saturating_sub(span.from),
-            to: found.part.whole.to.saturating_sub(span.from),
+            from: found.child.whole.from.saturating_sub(span.from),
+            to: found.child.whole.to.saturating_sub(span.from),
         },
         keys: if is_element {
             Keys::None
@@ -227,18 +227,18 @@ fn remove_part(
             Keys::Some(outline.last_keys(alloc, container.count)?)
         },
     };
-    Ok(Some(Removal {
+    Ok(Some(RemovalPlan {
         span,
         child,
         left: None,
     }))
 }
 
-/// Returns what is cut out with a part: its line, if it has one of its own, or its comma.
-fn part_span(text: &str, container: &Container, part: &Part) -> ByteSpan {
-    let whole = part.whole;
+/// Returns what is cut out with a child: its line, if it has one of its own, or its comma.
+fn child_span(text: &str, container: &InlineContainer, child: &InlineChild) -> ByteSpan {
+    let whole = child.whole;
     let line = line_start(text, whole.from);
-    let after = part.comma.unwrap_or(whole.to);
+    let after = child.comma.unwrap_or(whole.to);
     let is_own_line = line > container.span.from && skip_blanks(text, line) == whole.from;
     if is_own_line && ends_line(text, after) {
         let span = ByteSpan {
@@ -247,13 +247,13 @@ fn part_span(text: &str, container: &Container, part: &Part) -> ByteSpan {
         };
         return with_comment(text, span);
     }
-    match container.parts.get(part.index.saturating_add(1)) {
+    match container.children.get(child.index.saturating_add(1)) {
         Some(next) => ByteSpan {
             from: whole.from,
             to: after.max(skip_blanks(text, after).min(next.whole.from)),
         },
-        None => match container.parts.get(part.index.saturating_sub(1)) {
-            Some(last) if part.index > 0 => ByteSpan {
+        None => match container.children.get(child.index.saturating_sub(1)) {
+            Some(last) if child.index > 0 => ByteSpan {
                 from: last.whole.to,
                 to: whole.to,
             },

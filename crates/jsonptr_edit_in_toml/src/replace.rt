@@ -1,11 +1,11 @@
 //! Where the text of a value is, to replace it. These are hints: no contract says that they are right.
 use crate::alone::{empty_table, holds};
 use crate::inline::container_of;
-use crate::items::{Item, ItemKind};
+use crate::items::{ItemKind, TomlItem};
 use crate::keys::{push_keys, push_pointer};
 use crate::outline::{Outline, Role, indent_of, outline_of};
 use crate::piece::{has_headers, section_text};
-use crate::plan::{Keys, Replacement};
+use crate::plan::{Keys, ReplacementPlan};
 use crate::span::{ByteSpan, newline_of, slice};
 use jsonptr::{Pointer, PointerBuf};
 use std::alloc::{AllocError, Global};
@@ -17,13 +17,13 @@ pub fn plan_replacement(
     text: &str,
     pointer: Pointer<'_>,
     value: &Value,
-) -> Result<Option<Replacement>, AllocError> {
+) -> Result<Option<ReplacementPlan>, AllocError> {
     let outline = outline_of(alloc, text, pointer)?;
     if outline.count() == 0 {
         return Ok(None);
     }
     if let Some(span) = value_span(alloc, text, &outline)? {
-        return Ok(Some(Replacement {
+        return Ok(Some(ReplacementPlan {
             span,
             keys: Keys::None,
             piece: value.to_string(alloc)?,
@@ -56,7 +56,7 @@ fn value_span(
         return Ok(None);
     };
     match container.found {
-        Some(found) if found.count == outline.count() => Ok(Some(found.part.value)),
+        Some(found) if found.count == outline.count() => Ok(Some(found.child.value)),
         _ => Ok(None),
     }
 }
@@ -68,7 +68,7 @@ fn replace_run(
     outline: &Outline,
     run: ByteSpan,
     value: &Value,
-) -> Result<Option<Replacement>, AllocError> {
+) -> Result<Option<ReplacementPlan>, AllocError> {
     let (Some(first), Some(last)) = (outline.items.get(run.from), outline.items.get(run.to)) else {
         return Ok(None);
     };
@@ -94,7 +94,7 @@ fn replace_run(
         piece,
     } = written;
     let is_last = !slice(text, span).ends_with('\n');
-    Ok(Some(Replacement {
+    Ok(Some(ReplacementPlan {
         span,
         keys: Keys::Some(keys),
         piece: ended(alloc, piece, is_last)?,
@@ -121,7 +121,7 @@ fn section_of(
     alloc: Global,
     text: &str,
     outline: &Outline,
-    first: &Item,
+    first: &TomlItem,
     value: &Value,
 ) -> Result<Option<Written>, AllocError> {
     let keys = outline.header_keys(alloc, outline.count())?;

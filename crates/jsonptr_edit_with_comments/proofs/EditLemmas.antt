@@ -30,10 +30,10 @@ deleted text old new made ts w h a = (old, h.0, w, h.1, (a.0, a.1, a.2, read_sam
 pub edits_as : (P : Text → Text → Type 0) (text old new made : Text) → IsWithoutComments text old → IsLaidOut new made → P old new → EditsAs P text made
 edits_as P text old new made w h p = (old, new, w, h, p)
 
-refused_by : {E : Type 0} (P : Text → Text → Type 0) (Q : Text → EditError E → Type 0) (text old : Text) (e : InPlaceError E) → IsWithoutComments text old → IsInPlaceError (P old) (Q old) e → IsWithCommentsError P Q text (with_comments e)
+refused_by : {E : Type 0} (P : Text → Text → Type 0) (Q : Text → EditError E → Type 0) (text old : Text) (e : InPlaceError (EditError E)) → IsWithoutComments text old → IsInPlaceError (P old) (Q old) e → IsWithCommentsError P Q text (with_comments e)
 refused_by P Q text old NotInPlace w h = (old, h.0, w, h.1)
 refused_by P Q text old (Failed e) w h = (old, w, h)
 
-pub refused : {E : Type 0} (P : Text → Text → Type 0) (Q : Text → EditError E → Type 0) (text old : Text) (e : InPlaceError E) (f : WithCommentsError E) → f ≡ with_comments e → IsWithoutComments text old → IsInPlaceError (P old) (Q old) e
+pub refused : {E : Type 0} (P : Text → Text → Type 0) (Q : Text → EditError E → Type 0) (text old : Text) (e : InPlaceError (EditError E)) (f : WithCommentsError E) → f ≡ with_comments e → IsWithoutComments text old → IsInPlaceError (P old) (Q old) e
     → IsWithCommentsError P Q text f
 refused {E} P Q text old e f is w h = subst (λ (x : WithCommentsError E). IsWithCommentsError P Q text x) (sym is) (refused_by P Q text old e w h)

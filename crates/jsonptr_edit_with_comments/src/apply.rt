@@ -1,6 +1,6 @@
 //! Applying a patch in a text with comments (RFC 6902).
 ghost use Rattle.std.specs.Prelude.{IfOk, IfErr, IfSome, string_bytes};
-ghost use Rattle.jsonptr_edit_in_text.specs.PatchInText.{PatchesInText, PatchBytes, IsPatchFault};
+ghost use Rattle.jsonptr_edit_in_text.specs.PatchInText.{PatchesInText, PatchBytes, IsPatchError};
 ghost use Rattle.jsonptr_edit_in_text.specs.RawPatching.{operations_in, RawPatchBytes};
 ghost use Rattle.jsonptr_edit_with_comments.specs.EditWithComments.{Becomes, EditsAs, IsWithCommentsError};
 ghost use Rattle.jsonptr_edit_with_comments.specs.Edits.{IsLaidOut};
@@ -11,7 +11,7 @@ use crate::error::{WithCommentsError, failed, read_past};
 use crate::operate::{bare, operate};
 use crate::same::is_laid_out;
 use jsonptr_edit_in_text::laws::raw_patch_law;
-use jsonptr_edit_in_text::{RawOperation, apply_raw_in_place, try_apply_raw, without_texts};
+use jsonptr_edit_in_text::{RawOperation, apply_raw_in_place, printed_operations, try_apply_raw};
 use jsonptr_json_edits::buffers::Buffers;
 use jsonptr_patch::{Operation, PatchError};
 use std::alloc::{AllocError, Global};
@@ -57,15 +57,15 @@ pub fn apply_with_comments(
 ) -> Result<String, WithCommentsError<PatchError>>
     ensures applied { IfOk result (λ s. Becomes
         (λ old new. PatchesInText old operations.items new) text.now (string_bytes s)) }
-    ensures edits { IfOk result (λ s. EditsAs
+    ensures bytes { IfOk result (λ s. EditsAs
         (λ old new. PatchBytes old operations.items new) text.now (string_bytes s)) }
-    ensures bytes { IfOk result (λ s. PatchEdits text.now operations.items (string_bytes s)) }
+    ensures pieces { IfOk result (λ s. PatchEdits text.now operations.items (string_bytes s)) }
     ensures refused { IfErr result (IsWithCommentsError
         (λ old new. PatchesInText old operations.items new)
-        (λ old e. IsPatchFault old operations.items e) text.now) }
+        (λ old e. IsPatchError old operations.items e) text.now) }
 {
     raw_patch_law();
-    let raws = without_texts(alloc, operations)?;
+    let raws = printed_operations(alloc, operations)?;
     apply_raw_with_comments(alloc, buffers, text, raws)
 }
 
@@ -98,13 +98,13 @@ pub fn apply_raw_with_comments(
 ) -> Result<String, WithCommentsError<PatchError>>
     ensures applied { IfOk result (λ s. Becomes
         (λ old new. PatchesInText old (operations_in operations.items) new) text.now (string_bytes s)) }
-    ensures edits { IfOk result (λ s. EditsAs
+    ensures bytes { IfOk result (λ s. EditsAs
         (λ old new. RawPatchBytes old operations.items new) text.now (string_bytes s)) }
-    ensures bytes { IfOk result (λ s.
+    ensures pieces { IfOk result (λ s.
         PatchEdits text.now (operations_in operations.items) (string_bytes s)) }
     ensures refused { IfErr result (IsWithCommentsError
         (λ old new. PatchesInText old (operations_in operations.items) new)
-        (λ old e. IsPatchFault old (operations_in operations.items) e) text.now) }
+        (λ old e. IsPatchError old (operations_in operations.items) e) text.now) }
 {
     if let Some(new) = try_apply_raw_with_comments(alloc, buffers, text, operations.as_slice())? {
         return Ok(new);
@@ -121,7 +121,7 @@ fn patch_error(
 ) -> WithCommentsError<PatchError>
     ensures { IsWithCommentsError
         (λ old new. PatchesInText old (operations_in operations.items) new)
-        (λ old e. IsPatchFault old (operations_in operations.items) e) text.now result }
+        (λ old e. IsPatchError old (operations_in operations.items) e) text.now result }
 {
     match read_past(alloc, text) {
         Ok(bare) => match apply_raw_in_place(alloc, buffers, bare.as_str(), operations) {
@@ -157,9 +157,9 @@ pub fn try_apply_raw_with_comments(
 ) -> Result<Option<String>, AllocError>
     ensures applied { IfOk result (λ made. IfSome made (λ s. Becomes
         (λ old new. PatchesInText old (operations_in operations.now) new) text.now (string_bytes s))) }
-    ensures edits { IfOk result (λ made. IfSome made (λ s. EditsAs
+    ensures bytes { IfOk result (λ made. IfSome made (λ s. EditsAs
         (λ old new. RawPatchBytes old operations.now new) text.now (string_bytes s))) }
-    ensures bytes { IfOk result (λ made. IfSome made
+    ensures pieces { IfOk result (λ made. IfSome made
         (λ s. PatchEdits text.now (operations_in operations.now) (string_bytes s))) }
 {
     let Some(bare) = bare(alloc, text)? else {
@@ -191,7 +191,7 @@ fn edit_in_turn(
 ) -> Result<Option<String>, AllocError>
     ensures laid_out { IfOk result
         (λ made. IfSome made (λ s. IsLaidOut texts.entry.new.now (string_bytes s))) }
-    ensures bytes { IfOk result (λ made. IfSome made
+    ensures pieces { IfOk result (λ made. IfSome made
         (λ s. PatchEdits texts.entry.text.now (operations_in operations.now) (string_bytes s))) }
 {
     let Some(made) = all_edits(alloc, buffers, texts.text, operations)? else {

@@ -58,9 +58,9 @@ pub fn assign_with_comments(
 ) -> Result<String, WithCommentsError<assign::Error>>
     ensures assigned { IfOk result (λ s. Becomes
         (λ old new. AssignsInText old (tokens pointer.entry) (nodes (view value)) new) text.now (string_bytes s)) }
-    ensures edits { IfOk result (λ s. EditsAs
+    ensures bytes { IfOk result (λ s. EditsAs
         (λ old new. AssignsBytes old (tokens pointer.entry) (view value) new) text.now (string_bytes s)) }
-    ensures bytes { IfOk result (λ s. IsOneEdit text.now (string_bytes s)) }
+    ensures pieces { IfOk result (λ s. IsOneEdit text.now (string_bytes s)) }
     ensures refused { IfErr result (IsWithCommentsError
         (λ old new. AssignsInText old (tokens pointer.entry) (nodes (view value)) new)
         (λ old e. IsAssignError old (tokens pointer.entry) (view value) e) text.now) }
@@ -109,10 +109,10 @@ pub fn assign_raw_with_comments(
 ) -> Result<String, WithCommentsError<assign::Error>>
     ensures assigned { IfOk result (λ s. Becomes
         (λ old new. AssignsInText old (tokens pointer.entry) (nodes (value_of_raw value.now)) new) text.now (string_bytes s)) }
-    ensures edits { IfOk result (λ s. EditsAs
+    ensures bytes { IfOk result (λ s. EditsAs
         (λ old new. AssignsBytes old (tokens pointer.entry) (value_of_raw value.now) new
         × Carries (string_bytes value.now.text.flat) new) text.now (string_bytes s)) }
-    ensures bytes { IfOk result (λ s. IsOneEdit text.now (string_bytes s)) }
+    ensures pieces { IfOk result (λ s. IsOneEdit text.now (string_bytes s)) }
     ensures refused { IfErr result (IsWithCommentsError
         (λ old new. AssignsInText old (tokens pointer.entry) (nodes (value_of_raw value.now)) new)
         (λ old e. IsAssignError old (tokens pointer.entry) (value_of_raw value.now) e) text.now) }

@@ -48,9 +48,9 @@ pub fn delete_with_comments(
 ) -> Result<Option<String>, WithCommentsError<Infallible>>
     ensures deleted { IfOk result (λ o. MatchOption o (Lacks text.now (tokens pointer.entry))
         (λ s. Becomes (λ old new. DeletesInText old (tokens pointer.entry) new) text.now (string_bytes s))) }
-    ensures edits { IfOk result (λ o. IfSome o (λ s. EditsAs
+    ensures bytes { IfOk result (λ o. IfSome o (λ s. EditsAs
         (λ old new. DeletesBytes old (tokens pointer.entry) new) text.now (string_bytes s))) }
-    ensures bytes { IfOk result (λ o. IfSome o (λ s. IsOneEdit text.now (string_bytes s))) }
+    ensures pieces { IfOk result (λ o. IfSome o (λ s. IsOneEdit text.now (string_bytes s))) }
     ensures refused { IfErr result (IsWithCommentsError
         (λ old new. DeletesInText old (tokens pointer.entry) new) (λ old e. IsEditReadError old e) text.now) }
 {

@@ -71,7 +71,7 @@ pub(crate) fn read_past<E>(alloc: Global, text: &str) -> Result<CowStr<'_>, With
 }
 
 /// Returns the error of an edit, of which this is the error of the edit of the text without comments.
-pub(crate) fn failed<E>(error: InPlaceError<E>) -> WithCommentsError<E>
+pub(crate) fn failed<E>(error: InPlaceError<EditError<E>>) -> WithCommentsError<E>
     ensures { result ≡ with_comments error }
 {
     match error {

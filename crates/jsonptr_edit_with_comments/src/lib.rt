@@ -16,8 +16,8 @@
 //! Each call makes two promises. *Meaning*: without its comments, the new text reads as the document
 //! that the call on documents makes. *Bytes*: one piece of the text is replaced, at most one comma is put
 //! in or taken out before it, and all other bytes stay. The piece is white space, or it is one value or
-//! one child with the comments in it and beside it on its line. A patch does that once for each operation,
-//! and twice for a `move`.
+//! one child with the comments in it and beside it on its line. A patch does that once for each operation
+//! except a `test`, and twice for a `move`.
 //!
 //! In the examples `rt` is the runtime that `main` and each test receive, and `alloc` is
 //! `rt.alloc()`, the allocator.

@@ -15,6 +15,7 @@ use jsonptr_edit_in_text::{
 use jsonptr_in_text::{Format, InTextError, Scratch, format_text};
 use jsonptr_json_edits::buffers::Buffers;
 use jsonptr_patch::Operation;
+use jsonptr_value::ReadError;
 use std::alloc::{AllocError, Global};
 use std::borrow::CowStr;
 use std::slice;
@@ -173,12 +174,12 @@ fn addition_of(
     let Some(bare) = bare(alloc, text)? else {
         return Ok(None);
     };
-    let own = match locate_in_text_with(alloc, buffers, bare.as_str(), from) {
-        Ok(located) => own_value(alloc, text, located),
-        Err(LocateError::Failed(error)) => Err(error),
-        Err(LocateError::NotLocated) => return Ok(None),
+    let located = match locate_in_text_with(alloc, buffers, bare.as_str(), from) {
+        Ok(located) => located,
+        Err(LocateError::Failed(InTextError::Memory(error))) => return Err(error),
+        Err(_error) => return Ok(None),
     };
-    match own {
+    match own_value(alloc, text, located) {
         Ok(own) => {
             let add = Operation::Add {
                 path: path.to_buf(alloc)?,
@@ -186,15 +187,14 @@ fn addition_of(
             };
             RawOperation::with_text(alloc, add, own)
         }
-        Err(InTextError::Memory(error)) => Err(error),
-        Err(InTextError::NotJson) => Ok(None),
-        Err(InTextError::Resolve(_error)) => Ok(None),
+        Err(ReadError::Memory) => Err(AllocError),
+        Err(ReadError::NotJson) => Ok(None),
     }
 }
 
 /// Returns the value with its own text: as it is written, or without white space if it has comments in
 /// the text.
-fn own_value(alloc: Global, text: &str, located: Located<'_>) -> Result<RawValue, InTextError> {
+fn own_value(alloc: Global, text: &str, located: Located<'_>) -> Result<RawValue, ReadError> {
     let from = located.before.len();
     let to = from.saturating_add(located.value.len());
     match text.get(from..to) {

@@ -26,7 +26,7 @@ pub fn put_edit(
 ) -> Result<Option<String>, AllocError>
     ensures laid_out { IfOk result
         (λ made. IfSome made (λ s. IsLaidOut texts.entry.new.now (string_bytes s))) }
-    ensures bytes { IfOk result
+    ensures pieces { IfOk result
         (λ made. IfSome made (λ s. IsOneEdit texts.entry.text.now (string_bytes s))) }
 {
     let Some(effect) = effect_of(alloc, buffers, texts, pointer)? else {

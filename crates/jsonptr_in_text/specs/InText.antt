@@ -7,6 +7,8 @@ use Rattle.jsonptr.specs.Text.{Text}
 use Rattle.jsonptr.specs.Json.{nodes, FindsValue}
 use Rattle.jsonptr.specs.Resolve.{Refuses}
 use Rattle.jsonptr.specs.declared.resolve.Error.{Error}
+use Rattle.jsonptr_value.specs.declared.from_text.ReadError.{ReadError}
+use Rattle.jsonptr_value.specs.declared.from_text.ReadError.TheVariants as unread
 use Rattle.jsonptr_in_text.specs.declared.resolve.InTextError.{InTextError}
 use Rattle.jsonptr_in_text.specs.declared.resolve.InTextError.TheVariants.{NotJson, Resolve, Memory}
 
@@ -31,7 +33,6 @@ IsInSliceError bytes tokens (Resolve e) = IsUtf8 bytes × RefusesInText bytes to
 IsInSliceError bytes tokens (Memory e) = ⊤
 
 -- `IsReadError text e`: `e` is why `text` is not read, if it is not for memory
-abbrev pub IsReadError : Text → InTextError → Type 0
-IsReadError text NotJson = read text ≡ None
-IsReadError text (Resolve e) = ⊥
-IsReadError text (Memory e) = ⊤
+abbrev pub IsReadError : Text → ReadError → Type 0
+IsReadError text unread.NotJson = read text ≡ None
+IsReadError text unread.Memory = ⊤

@@ -9,9 +9,10 @@ ghost use Rattle.jsonptr_in_text.specs.Format.{IsFormatted, laid_out};
 ghost use Rattle.jsonptr_in_text.specs.InText.{IsReadError};
 ghost use Rattle.jsonptr_in_text.specs.PrivateFormat.{HasBad, IsWritten};
 
-use crate::resolve::{InTextError, exists_in_text_with};
+use crate::resolve::exists_in_text_with;
 use json::{Pretty, Reader, Scratch, Token, Writer};
 use jsonptr::Pointer;
+use jsonptr_value::ReadError;
 use std::alloc::{AllocError, Global};
 
 /// How the tokens of a text are laid out.
@@ -33,8 +34,8 @@ pub enum Format {
 ///
 /// # Errors
 ///
-/// - [`InTextError::NotJson`] if the text is not JSON.
-/// - [`InTextError::Memory`] if an allocation fails.
+/// - [`ReadError::NotJson`] if the text is not JSON.
+/// - [`ReadError::Memory`] if an allocation fails.
 ///
 /// # Examples
 ///
@@ -51,14 +52,14 @@ pub fn format_text(
     scratch: &mut Scratch,
     text: &str,
     format: Format,
-) -> Result<String, InTextError>
+) -> Result<String, ReadError>
     ensures formatted { IfOk result (λ s. IsFormatted format text.now (string_bytes s)) }
     ensures refused { IfErr result (IsReadError text.now) }
 {
     exists_in_text_with(alloc, scratch, text, Pointer::root())?;
     match lay_out(alloc, scratch, text, format)? {
         Some(text) => Ok(text),
-        None => Err(InTextError::NotJson),
+        None => Err(ReadError::NotJson),
     }
 }
 

@@ -42,6 +42,7 @@ pub mod selectors;
 
 pub use format::{Format, format_text};
 pub use json::Scratch;
+pub use jsonptr_value::ReadError;
 pub use resolve::{
     InTextError, exists_in_text, exists_in_text_with, resolve_in_slice, resolve_in_slice_with,
     resolve_in_text, resolve_in_text_with,

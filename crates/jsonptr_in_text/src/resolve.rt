@@ -208,8 +208,8 @@ pub fn resolve_in_slice_with(
 ///
 /// # Errors
 ///
-/// - [`InTextError::NotJson`] if `serde_json` does not read the text.
-/// - [`InTextError::Memory`] if an allocation fails.
+/// - [`ReadError::NotJson`] if `serde_json` does not read the text.
+/// - [`ReadError::Memory`] if an allocation fails.
 ///
 /// # Examples
 ///
@@ -218,7 +218,7 @@ pub fn resolve_in_slice_with(
 /// assert_eq!(rt; exists_in_text(alloc, text, Pointer::parse("/sizes/1")?)?, true);
 /// assert_eq!(rt; exists_in_text(alloc, text, Pointer::parse("/sizes/2")?)?, false);
 /// ```
-pub fn exists_in_text(alloc: Global, text: &str, pointer: Pointer<'_>) -> Result<bool, InTextError>
+pub fn exists_in_text(alloc: Global, text: &str, pointer: Pointer<'_>) -> Result<bool, ReadError>
     ensures exists { IfOk result (λ found. MatchBool found
         ((d : Data) × FindsInText text.now (tokens pointer.entry) d)
         ((e : Error) × RefusesInText text.now (tokens pointer.entry) e)) }
@@ -249,20 +249,18 @@ pub fn exists_in_text_with(
     scratch: &mut Scratch,
     text: &str,
     pointer: Pointer<'_>,
-) -> Result<bool, InTextError>
+) -> Result<bool, ReadError>
     ensures exists { IfOk result (λ found. MatchBool found
         ((d : Data) × FindsInText text.now (tokens pointer.entry) d)
         ((e : Error) × RefusesInText text.now (tokens pointer.entry) e)) }
     ensures refused { IfErr result (IsReadError text.now) }
 {
     let selectors = selectors_with_child(alloc, pointer)?;
-    match find_in_text_with(alloc, scratch, text, &selectors) {
-        Ok(Outcome::Found(_value)) => Ok(true),
-        Ok(Outcome::Stopped { left, kind }) => match error_above_child(pointer, left, kind) {
+    match find_in_text_with(alloc, scratch, text, &selectors)? {
+        Outcome::Found(_value) => Ok(true),
+        Outcome::Stopped { left, kind } => match error_above_child(pointer, left, kind) {
             None => Ok(true),
             Some(_error) => Ok(false),
         },
-        Err(ReadError::NotJson) => Err(InTextError::NotJson),
-        Err(ReadError::Memory) => Err(InTextError::Memory(AllocError)),
     }
 }

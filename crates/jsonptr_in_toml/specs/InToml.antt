@@ -14,7 +14,7 @@ use Rattle.jsonptr.specs.Assign.{RefusesAssign}
 use Rattle.jsonptr_paths.specs.TomlListing.{ListsToml}
 use Rattle.jsonptr_paths.specs.declared.listing.Listed.{Listed}
 use Rattle.jsonptr_in_toml.specs.declared.error.InTomlError.{InTomlError}
-use Rattle.jsonptr_in_toml.specs.declared.error.InTomlError.TheVariants.{NotToml, DocumentTooDeep, NoValue, BadPlace, NotThere, TooDeep, NoText, Memory}
+use Rattle.jsonptr_in_toml.specs.declared.error.InTomlError.TheVariants.{NotToml, DocumentTooDeep, Resolve, Assign, TooDeep, NoText, Memory}
 
 -- `ReadsAsToml text d`: the document that `text` contains is the table `d`, whose values nest at most 80 deep
 abbrev pub ReadsAsToml : Text → Data → Type 0
@@ -53,14 +53,18 @@ DeletesTo text ts d2 =
 abbrev pub FindsInToml : Text → List Text → Data → Type 0
 FindsInToml text ts v = (d : Data) × ReadsAsToml text d × FindsValue d ts v
 
--- `AssignsInToml text ts v new`: assigning `v` at the tokens turns the document of `text` into that of `new`
-abbrev pub AssignsInToml : Text → List Text → Data → Text → Type 0
-AssignsInToml text ts v new = (d2 : Data) × AssignsTo text ts v d2 × PrintsAs d2 new
+-- `AssignsAndPrintsToml text ts v new`: assigning `v` at the tokens turns the document of `text` into that of `new`
+abbrev pub AssignsAndPrintsToml : Text → List Text → Data → Text → Type 0
+AssignsAndPrintsToml text ts v new = (d2 : Data) × AssignsTo text ts v d2 × PrintsAs d2 new
 
--- `DeletesInToml text ts new`: deleting the value that the tokens identify turns the document of `text` into that of
+-- `DeletesAndPrintsToml text ts new`: deleting the value that the tokens identify turns the document of `text` into that of
 -- `new`
-abbrev pub DeletesInToml : Text → List Text → Text → Type 0
-DeletesInToml text ts new = (d2 : Data) × DeletesTo text ts d2 × PrintsAs d2 new
+abbrev pub DeletesAndPrintsToml : Text → List Text → Text → Type 0
+DeletesAndPrintsToml text ts new = (d2 : Data) × DeletesTo text ts d2 × PrintsAs d2 new
+
+-- `LacksInToml text ts`: the tokens identify no value in the document of `text`
+abbrev pub LacksInToml : Text → List Text → Type 0
+LacksInToml text ts = (d : Data) × ReadsAsToml text d × ((w : Path) → Names (nodes d) ts w → ⊥)
 
 -- `ListsInToml which text out`: `out` lists the nodes, or the leaves, of the document of `text`
 abbrev pub ListsInToml : Listed → Text → Text → Type 0
@@ -70,32 +74,31 @@ ListsInToml which text out = (d : Data) × ReadsAsToml text d × ListsToml which
 abbrev pub FailsToFindInToml : Text → List Text → InTomlError → Type 0
 FailsToFindInToml text ts NotToml = parse_document text ≡ None
 FailsToFindInToml text ts DocumentTooDeep = IsDeep text
-FailsToFindInToml text ts (NoValue f) = (d : Data) × ReadsAsToml text d × Refuses (nodes d) ts f
+FailsToFindInToml text ts (Resolve f) = (d : Data) × ReadsAsToml text d × Refuses (nodes d) ts f
 FailsToFindInToml text ts (Memory f) = ⊤
 FailsToFindInToml text ts e = ⊥
 
--- `FailsToAssign text ts v e`: `e` is why `v` is not assigned at the tokens, if it is not for memory
-abbrev pub FailsToAssign : Text → List Text → Data → InTomlError → Type 0
-FailsToAssign text ts v NotToml = parse_document text ≡ None
-FailsToAssign text ts v DocumentTooDeep = IsDeep text
-FailsToAssign text ts v (BadPlace f) =
+-- `FailsToAssignAndPrint text ts v e`: `e` is why `v` is not assigned at the tokens, if it is not for memory
+abbrev pub FailsToAssignAndPrint : Text → List Text → Data → InTomlError → Type 0
+FailsToAssignAndPrint text ts v NotToml = parse_document text ≡ None
+FailsToAssignAndPrint text ts v DocumentTooDeep = IsDeep text
+FailsToAssignAndPrint text ts v (Assign f) =
     (d : Data) × ReadsAsToml text d × (length ts ≤ suc max_depth) × RefusesAssign (nodes d) ts f
-FailsToAssign text ts v TooDeep =
+FailsToAssignAndPrint text ts v TooDeep =
     (((d : Data) × ReadsAsToml text d) × (suc max_depth < length ts))
     ⊎ ((d2 : Data) × AssignsTo text ts v d2 × HasDeepValues d2)
-FailsToAssign text ts v NoText = (d2 : Data) × AssignsTo text ts v d2 × HasNoText d2
-FailsToAssign text ts v (Memory f) = ⊤
-FailsToAssign text ts v e = ⊥
+FailsToAssignAndPrint text ts v NoText = (d2 : Data) × AssignsTo text ts v d2 × HasNoText d2
+FailsToAssignAndPrint text ts v (Memory f) = ⊤
+FailsToAssignAndPrint text ts v e = ⊥
 
--- `FailsToDeleteInToml text ts e`: `e` is why nothing is deleted, if it is not for memory
-abbrev pub FailsToDeleteInToml : Text → List Text → InTomlError → Type 0
-FailsToDeleteInToml text ts NotToml = parse_document text ≡ None
-FailsToDeleteInToml text ts DocumentTooDeep = IsDeep text
-FailsToDeleteInToml text ts NotThere = (d : Data) × ReadsAsToml text d × ((w : Path) → Names (nodes d) ts w → ⊥)
-FailsToDeleteInToml text ts TooDeep = (d2 : Data) × DeletesTo text ts d2 × HasDeepValues d2
-FailsToDeleteInToml text ts NoText = (d2 : Data) × DeletesTo text ts d2 × HasNoText d2
-FailsToDeleteInToml text ts (Memory f) = ⊤
-FailsToDeleteInToml text ts e = ⊥
+-- `FailsToDeleteAndPrint text ts e`: `e` is why nothing is deleted, if it is not for memory
+abbrev pub FailsToDeleteAndPrint : Text → List Text → InTomlError → Type 0
+FailsToDeleteAndPrint text ts NotToml = parse_document text ≡ None
+FailsToDeleteAndPrint text ts DocumentTooDeep = IsDeep text
+FailsToDeleteAndPrint text ts TooDeep = (d2 : Data) × DeletesTo text ts d2 × HasDeepValues d2
+FailsToDeleteAndPrint text ts NoText = (d2 : Data) × DeletesTo text ts d2 × HasNoText d2
+FailsToDeleteAndPrint text ts (Memory f) = ⊤
+FailsToDeleteAndPrint text ts e = ⊥
 
 -- `FailsToListToml text e`: `e` is why nothing is listed, if it is not for memory
 abbrev pub FailsToListToml : Text → InTomlError → Type 0
@@ -111,9 +114,9 @@ IsTomlReadError text DocumentTooDeep = IsDeep text
 IsTomlReadError text (Memory f) = ⊤
 IsTomlReadError text e = ⊥
 
--- `IsPrintFault d e`: `e` is why the value `d` is not printed as a document
-abbrev pub IsPrintFault : Data → InTomlError → Type 0
-IsPrintFault d TooDeep = HasDeepValues d
-IsPrintFault d NoText = HasNoText d
-IsPrintFault d (Memory f) = ⊤
-IsPrintFault d e = ⊥
+-- `IsTomlPrintError d e`: `e` is why the value `d` is not printed as a document
+abbrev pub IsTomlPrintError : Data → InTomlError → Type 0
+IsTomlPrintError d TooDeep = HasDeepValues d
+IsTomlPrintError d NoText = HasNoText d
+IsTomlPrintError d (Memory f) = ⊤
+IsTomlPrintError d e = ⊥

@@ -1,10 +1,10 @@
 //! Finding, assigning and deleting in a TOML text.
-ghost use Rattle.std.specs.Prelude.{IfOk, IfErr, string_bytes};
+ghost use Rattle.std.specs.Prelude.{IfOk, IfErr, MatchOption, string_bytes};
 ghost use Rattle.toml.specs.View.{view};
 ghost use Rattle.jsonptr.specs.Pointer.{tokens};
-ghost use Rattle.jsonptr_in_toml.specs.InToml.{FindsInToml, AssignsInToml, DeletesInToml, FailsToFindInToml, FailsToAssign, FailsToDeleteInToml};
+ghost use Rattle.jsonptr_in_toml.specs.InToml.{FindsInToml, AssignsAndPrintsToml, DeletesAndPrintsToml, LacksInToml, FailsToFindInToml, FailsToAssignAndPrint, FailsToDeleteAndPrint};
 
-use crate::depth::is_long;
+use crate::depth::has_too_many_tokens;
 use crate::document::{print_toml, read_toml};
 use crate::error::InTomlError;
 use jsonptr::{Assign, Delete, Fault, Pointer, Resolve};
@@ -17,24 +17,28 @@ use toml::Value;
 ///
 /// - [`InTomlError::NotToml`] if the text is not TOML.
 /// - [`InTomlError::DocumentTooDeep`] if the values of the document nest deeper than 80.
-/// - [`InTomlError::NoValue`] if the pointer does not resolve to a value.
+/// - [`InTomlError::Resolve`] if the pointer does not resolve to a value.
 /// - [`InTomlError::Memory`] if an allocation fails.
 ///
 /// # Examples
 ///
 /// ```rust
 /// let port = Pointer::parse("/server/port")?;
-/// let value = find_in_toml(alloc, "[server]\nport = 80\n", port)?;
+/// let value = resolve_in_toml(alloc, "[server]\nport = 80\n", port)?;
 /// assert_eq!(rt; value.as_integer(), Some(80));
 /// ```
-pub fn find_in_toml(alloc: Global, text: &str, pointer: Pointer<'_>) -> Result<Value, InTomlError>
+pub fn resolve_in_toml(
+    alloc: Global,
+    text: &str,
+    pointer: Pointer<'_>,
+) -> Result<Value, InTomlError>
     ensures found { IfOk result (λ v. FindsInToml text.now (tokens pointer.entry) (view v)) }
     ensures refused { IfErr result (FailsToFindInToml text.now (tokens pointer.entry)) }
 {
     let document = read_toml(alloc, text)?;
     match document.resolve(alloc, pointer) {
         Ok(found) => Ok(found.clone()?),
-        Err(Fault::Refused(error)) => Err(InTomlError::NoValue(error)),
+        Err(Fault::Refused(error)) => Err(InTomlError::Resolve(error)),
         Err(Fault::Memory(error)) => Err(InTomlError::Memory(error)),
     }
 }
@@ -46,7 +50,7 @@ pub fn find_in_toml(alloc: Global, text: &str, pointer: Pointer<'_>) -> Result<V
 /// - [`InTomlError::NotToml`] if the text is not TOML.
 /// - [`InTomlError::DocumentTooDeep`] if the values of the document nest deeper than 80.
 /// - [`InTomlError::TooDeep`] if the pointer has more than 81 tokens.
-/// - [`InTomlError::BadPlace`] if no value can be assigned at the pointer.
+/// - [`InTomlError::Assign`] if no value can be assigned at the pointer.
 /// - [`InTomlError::TooDeep`] if the values of the new document nest deeper than 80.
 /// - [`InTomlError::NoText`] if the new document is not a table, or has a date-time that TOML has no
 ///   text for.
@@ -56,60 +60,61 @@ pub fn find_in_toml(alloc: Global, text: &str, pointer: Pointer<'_>) -> Result<V
 ///
 /// ```rust
 /// let port = Pointer::parse("/port")?;
-/// let new = assign_in_toml(alloc, "port = 80 # as ever\n", port, 8080.into())?;
+/// let new = assign_and_print_toml(alloc, "port = 80 # as ever\n", port, 8080.into())?;
 /// assert_eq!(rt; new.as_str(), "port = 8080\n");
 /// ```
-pub fn assign_in_toml(
+pub fn assign_and_print_toml(
     alloc: Global,
     text: &str,
     pointer: Pointer<'_>,
     value: Value,
 ) -> Result<String, InTomlError>
-    ensures assigned { IfOk result (λ s. AssignsInToml text.now (tokens pointer.entry) (view value)
+    ensures assigned { IfOk result (λ s. AssignsAndPrintsToml text.now (tokens pointer.entry) (view value)
         (string_bytes s)) }
-    ensures refused { IfErr result (FailsToAssign text.now (tokens pointer.entry) (view value)) }
+    ensures refused { IfErr result (FailsToAssignAndPrint text.now (tokens pointer.entry) (view value)) }
 {
     let mut document = read_toml(alloc, text)?;
-    if is_long(pointer) {
+    if has_too_many_tokens(pointer) {
         return Err(InTomlError::TooDeep);
     }
     match document.assign(alloc, pointer, value) {
         Ok(_) => print_toml(alloc, document),
-        Err(Fault::Refused(error)) => Err(InTomlError::BadPlace(error)),
+        Err(Fault::Refused(error)) => Err(InTomlError::Assign(error)),
         Err(Fault::Memory(error)) => Err(InTomlError::Memory(error)),
     }
 }
 
-/// Deletes the value that the pointer resolves to, and returns the text of the new document. Deleting
-/// the root leaves an empty document.
+/// Deletes the value that the pointer resolves to, and returns the text of the new document. Returns
+/// `None` if it resolves to nothing. Deleting the root leaves an empty document.
 ///
 /// # Errors
 ///
 /// - [`InTomlError::NotToml`] if the text is not TOML.
 /// - [`InTomlError::DocumentTooDeep`] if the values of the document nest deeper than 80.
-/// - [`InTomlError::NotThere`] if the pointer does not resolve to a value.
-/// - [`InTomlError::TooDeep`] if the values of the new document nest deeper than 80.
 /// - [`InTomlError::Memory`] if an allocation fails.
+///
+/// The clause also allows [`InTomlError::TooDeep`] and [`InTomlError::NoText`], as for
+/// [`assign_and_print_toml`]. No document is known that has them.
 ///
 /// # Examples
 ///
 /// ```rust
 /// let port = Pointer::parse("/port")?;
-/// let new = delete_in_toml(alloc, "port = 80\nname = 'a'\n", port)?;
-/// assert_eq!(rt; new.as_str(), "name = \"a\"\n");
+/// let new = delete_and_print_toml(alloc, "port = 80\nname = 'a'\n", port)?;
+/// assert_eq!(rt; new.ok_or("a value")?.as_str(), "name = \"a\"\n");
 /// ```
-pub fn delete_in_toml(
+pub fn delete_and_print_toml(
     alloc: Global,
     text: &str,
     pointer: Pointer<'_>,
-) -> Result<String, InTomlError>
-    ensures deleted { IfOk result
-        (λ s. DeletesInToml text.now (tokens pointer.entry) (string_bytes s)) }
-    ensures refused { IfErr result (FailsToDeleteInToml text.now (tokens pointer.entry)) }
+) -> Result<Option<String>, InTomlError>
+    ensures deleted { IfOk result (λ o. MatchOption o (LacksInToml text.now (tokens pointer.entry))
+        (λ s. DeletesAndPrintsToml text.now (tokens pointer.entry) (string_bytes s))) }
+    ensures refused { IfErr result (FailsToDeleteAndPrint text.now (tokens pointer.entry)) }
 {
     let mut document = read_toml(alloc, text)?;
     match document.delete(alloc, pointer)? {
-        Some(_) => print_toml(alloc, document),
-        None => Err(InTomlError::NotThere),
+        Some(_) => Ok(Some(print_toml(alloc, document)?)),
+        None => Ok(None),
     }
 }

@@ -16,23 +16,23 @@ pub const MAX_TOML_DEPTH: usize = 80;
 ///
 /// Time is linear in the value. The stack is in proportion to the smaller of its depth and `levels`.
 #[cycle(nests)]
-pub fn value_within(value: &Value, levels: usize) -> bool
+pub fn toml_nests_within(value: &Value, levels: usize) -> bool
     ensures { IsTrue result ↔ (depth (view value.now) ≤ levels) }
 {
     match value {
-        Value::Array(elements) => levels > 0 && elements_within(elements, levels - 1),
-        Value::Table(members) => levels > 0 && table_within(members, levels - 1),
+        Value::Array(elements) => levels > 0 && elements_nest_within(elements, levels - 1),
+        Value::Table(members) => levels > 0 && table_nests_within(members, levels - 1),
         _ => true,
     }
 }
 
 /// Returns whether all elements nest at most so many levels deep.
 #[cycle(nests)]
-fn elements_within(elements: &Vec<Value>, levels: usize) -> bool
+fn elements_nest_within(elements: &Vec<Value>, levels: usize) -> bool
     ensures { IsTrue result ↔ (items_depth (items_view elements.now.items) ≤ levels) }
 {
     for element in elements {
-        if !value_within(element, levels) {
+        if !toml_nests_within(element, levels) {
             return false;
         }
     }
@@ -43,11 +43,11 @@ fn elements_within(elements: &Vec<Value>, levels: usize) -> bool
 ///
 /// Time is linear in the table. The stack is in proportion to the smaller of its depth and `levels`.
 #[cycle(nests)]
-pub fn table_within(table: &Table, levels: usize) -> bool
+pub fn table_nests_within(table: &Table, levels: usize) -> bool
     ensures { IsTrue result ↔ (members_depth (table_view table.now) ≤ levels) }
 {
     for (_key, member) in table.iter() {
-        if !value_within(member, levels) {
+        if !toml_nests_within(member, levels) {
             return false;
         }
     }
@@ -56,7 +56,7 @@ pub fn table_within(table: &Table, levels: usize) -> bool
 
 /// Returns whether the pointer has more than 81 tokens: no value at it is in a table whose values nest
 /// at most 80 deep.
-pub fn is_long(pointer: Pointer<'_>) -> bool
+pub fn has_too_many_tokens(pointer: Pointer<'_>) -> bool
     ensures { IsTrue result ↔ (suc max_depth < length (tokens pointer.entry)) }
 {
     pointer.count() > MAX_TOML_DEPTH + 1

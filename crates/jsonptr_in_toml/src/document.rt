@@ -4,9 +4,9 @@ ghost use Rattle.toml.specs.Data.{members_depth, table as a_table};
 ghost use Rattle.toml.specs.View.{view, table_view};
 ghost use Rattle.toml_parser.specs.Strings.{recursion_limit as max_depth};
 ghost use Rattle.jsonptr_in_toml.specs.declared.error.InTomlError.TheVariants.{DocumentTooDeep};
-ghost use Rattle.jsonptr_in_toml.specs.InToml.{ReadsAsToml, PrintsAs, IsTomlReadError, IsPrintFault};
+ghost use Rattle.jsonptr_in_toml.specs.InToml.{ReadsAsToml, PrintsAs, IsTomlReadError, IsTomlPrintError};
 
-use crate::depth::{MAX_TOML_DEPTH, table_within};
+use crate::depth::{MAX_TOML_DEPTH, table_nests_within};
 use crate::error::InTomlError;
 use jsonptr_value::discard;
 use std::alloc::{AllocError, Global};
@@ -51,7 +51,7 @@ fn shallow(table: Table) -> Result<Value, InTomlError>
     ensures refused { IfErr result
         (λ e. (e ≡ DocumentTooDeep) × (max_depth < members_depth (table_view table))) }
 {
-    let is_shallow = table_within(&table, MAX_TOML_DEPTH);
+    let is_shallow = table_nests_within(&table, MAX_TOML_DEPTH);
     let value = Value::Table(table);
     if is_shallow {
         return Ok(value);
@@ -78,7 +78,7 @@ fn shallow(table: Table) -> Result<Value, InTomlError>
 /// ```
 pub fn print_toml(alloc: Global, value: Value) -> Result<String, InTomlError>
     ensures printed { IfOk result (λ s. PrintsAs (view value) (string_bytes s)) }
-    ensures refused { IfErr result (IsPrintFault (view value)) }
+    ensures refused { IfErr result (IsTomlPrintError (view value)) }
 {
     match value {
         Value::Table(table) => print_table(alloc, table),
@@ -89,9 +89,9 @@ pub fn print_toml(alloc: Global, value: Value) -> Result<String, InTomlError>
 /// Prints the table as a document, and drops it.
 fn print_table(alloc: Global, table: Table) -> Result<String, InTomlError>
     ensures printed { IfOk result (λ s. PrintsAs (a_table (table_view table)) (string_bytes s)) }
-    ensures refused { IfErr result (IsPrintFault (a_table (table_view table))) }
+    ensures refused { IfErr result (IsTomlPrintError (a_table (table_view table))) }
 {
-    if !table_within(&table, MAX_TOML_DEPTH) {
+    if !table_nests_within(&table, MAX_TOML_DEPTH) {
         discard(Value::Table(table));
         return Err(InTomlError::TooDeep);
     }

@@ -18,13 +18,10 @@ pub enum InTomlError {
     DocumentTooDeep,
     /// The pointer does not resolve to a value.
     #[error(transparent)]
-    NoValue(resolve::Error),
+    Resolve(resolve::Error),
     /// No value can be assigned at the pointer.
     #[error(transparent)]
-    BadPlace(assign::Error),
-    /// The pointer of the value to delete does not resolve.
-    #[error("delete failed: json pointer does not resolve")]
-    NotThere,
+    Assign(assign::Error),
     /// The values of the new document nest deeper than 80, so that its text could not be read.
     #[error("values of the document would nest deeper than {}", MAX_TOML_DEPTH)]
     TooDeep,

@@ -4,8 +4,8 @@
 //! ```rust
 //! let text = "# The size\nsize = 3\n";
 //! let size = Pointer::parse("/size")?;
-//! assert_eq!(rt; find_in_toml(alloc, text, size)?.as_integer(), Some(3));
-//! let new = assign_in_toml(alloc, text, size, 5.into())?;
+//! assert_eq!(rt; resolve_in_toml(alloc, text, size)?.as_integer(), Some(3));
+//! let new = assign_and_print_toml(alloc, text, size, 5.into())?;
 //! assert_eq!(rt; new.as_str(), "size = 5\n");
 //! let lines = list_in_toml(alloc, text, Listed::Leaves)?;
 //! assert_eq!(rt; lines.as_str(), "/size\t3\n");
@@ -21,6 +21,6 @@ pub mod document;
 mod error;
 mod listing;
 
-pub use change::{assign_in_toml, delete_in_toml, find_in_toml};
+pub use change::{assign_and_print_toml, delete_and_print_toml, resolve_in_toml};
 pub use error::InTomlError;
 pub use listing::list_in_toml;

@@ -12,10 +12,10 @@ use Rattle.jsonptr_document.specs.ChildRef.{IsIndexIn}
 use Rattle.jsonptr_journal.specs.Location.{part_step}
 use Rattle.jsonptr_journal.specs.Locating.{Locates}
 use Rattle.jsonptr_journal.specs.declared.locate.Child.{Child}
-use Rattle.jsonptr_journal.specs.declared.locate.Located.{Located}
+use Rattle.jsonptr_journal.specs.declared.locate.LocatedNode.{LocatedNode}
 
 -- `IsLocated d tokens r`: `r` is the node of the document `d` that `tokens` name, or `None` if they name none
-abbrev pub IsLocated : Data → List Text → Option Located → Type 0
+abbrev pub IsLocated : Data → List Text → Option LocatedNode → Type 0
 IsLocated d tokens r = MatchOption r (NamesNothing (nodes d) tokens) (Locates d tokens)
 
 -- `Selects n stands x c`: the token `x` names the child `c` of the root of the map `n`. `stands w e` says that the

@@ -116,7 +116,7 @@ pub fn replace_at<D: NodeMut>(
     ensures replaced { IfOk result (λ old. AtNamed path.now
         (ReplacesContent (contents_of old) (contents_of value))
         (D.contents document.old) (D.contents document.new)) }
-    ensures missing { OnErr result (NamesNothing (map_of (D.contents document.old)) path.now) }
+    ensures refused { OnErr result (NamesNothing (map_of (D.contents document.old)) path.now) }
     ensures unchanged { OnErr result (D.contents document.new ≡ D.contents document.old) }
     ensures returned { IfErr result (λ v. v ≡ value) }
 {

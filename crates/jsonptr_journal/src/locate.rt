@@ -18,7 +18,7 @@ use std::alloc::{AllocError, Global};
 
 /// A node of a document and its location.
 #[derive(Drop)]
-pub struct Located<'v> {
+pub struct LocatedNode<'v> {
     /// The location.
     pub location: Location,
     /// The node.
@@ -47,7 +47,7 @@ pub fn locate<'v>(
     alloc: Global,
     document: &'v Value,
     pointer: Pointer<'_>,
-) -> Result<Located<'v>, Fault<resolve::Error>>
+) -> Result<LocatedNode<'v>, Fault<resolve::Error>>
     ensures located { IfOk result (Locates (view document.now) (tokens pointer.entry)) }
     ensures refused { IfRefused result (Refuses (nodes (view document.now)) (tokens pointer.entry)) }
 {
@@ -67,7 +67,7 @@ fn find<'v>(
     alloc: Global,
     document: &'v Value,
     pointer: Pointer<'_>,
-) -> Result<Option<Located<'v>>, AllocError>
+) -> Result<Option<LocatedNode<'v>>, AllocError>
     ensures { IfOk result (IsLocated (view document.now) (tokens pointer.entry)) }
 {
     let mut parts = Vec::with_capacity(alloc, pointer.count())?;
@@ -81,7 +81,7 @@ fn find<'v>(
         node = child.node;
         rest = after;
     }
-    Ok(Some(Located {
+    Ok(Some(LocatedNode {
         location: Location { parts },
         node,
     }))

@@ -108,7 +108,7 @@ pub(crate) fn insert(
 pub(crate) fn remove(members: &mut Map<String, Value>, key: &str) -> Value
     requires { IsSome (get_member key.now (members_of members.old)) }
     ensures found { get_member key.now (members_of members.old) ≡ Some (contents_of result) }
-    ensures left { members_of members.new ≡ without_member key.now (members_of members.old) }
+    ensures removed { members_of members.new ≡ without_member key.now (members_of members.old) }
     ensures rise { KeysRise (members_of members.old) }
 {
     let _len = members.len();

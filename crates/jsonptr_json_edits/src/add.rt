@@ -8,7 +8,7 @@ ghost use Rattle.jsonptr_json_edits.specs.Editing.{AddsElement, AddsChosenMember
 ghost use Rattle.jsonptr_json_edits.specs.PrivateEditing.{AddsItemIf, AddsMemberIf};
 
 use crate::check_error::CheckError;
-use crate::decide::{Found, Wanted, is_at, is_either, is_text, may_follow};
+use crate::decide::{FoundMember, Wanted, is_at, is_either, is_text, may_follow};
 use crate::edit::Child;
 use crate::same::{Readers, same, same_key, same_text, same_token};
 use json::{Scratch, Token};
@@ -172,7 +172,7 @@ fn add_member(
         if !may_follow(is_done, wanted, named) {
             return Err(CheckError::Mismatch);
         }
-        let found = Found {
+        let found = FoundMember {
             name,
             wanted,
             named,
@@ -197,7 +197,7 @@ fn visit_member(
     scratch: &mut Scratch,
     readers: &mut Readers<'_>,
     depth: usize,
-    found: Found<'_>,
+    found: FoundMember<'_>,
     value: &str,
 ) -> Result<(), CheckError>
     ensures passed { OnOk result ((d : Data) × ReadsTokens depth readers.old.two d readers.new.two

@@ -16,7 +16,7 @@ pub struct Wanted<'a> {
 
 /// A member that was found.
 #[derive(Clone, Copy, Debug)]
-pub struct Found<'a> {
+pub struct FoundMember<'a> {
     /// Its name.
     pub name: &'a str,
     /// Whether it is the wanted one.

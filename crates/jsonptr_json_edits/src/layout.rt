@@ -6,7 +6,7 @@ ghost use Rattle.serde_json.specs.Read.{read, max_depth};
 ghost use Rattle.serde_json.specs.View.{view};
 
 use crate::locate::{Extent, Place, Span, trimmed_end};
-use crate::spread::{Line, Lines, on_line, spread};
+use crate::spread::{Lines, OneLine, on_line, spread};
 use crate::style::{
     Flat, indent_of, is_filled, is_own_line, line_before, margin_of, newline_of, row_above, unit_of,
 };
@@ -118,7 +118,7 @@ pub fn replacement(
     }
     let around = slice(text, place.container.from, place.container.to);
     let line_flat = Flat::before(line).or(Flat::of(text));
-    let at = Line {
+    let at = OneLine {
         flat: Flat::of(old).or(Flat::of(around).inside(line_flat)),
         is_over_lines: line.starts_with('\n'),
     };
@@ -204,10 +204,10 @@ impl<'t> Container<'t> {
     }
 
     /// Returns what is around the tokens of the container if it is on one line.
-    fn line(&self) -> Line<'t> {
+    fn line(&self) -> OneLine<'t> {
         let inner = slice(self.text, self.span.from, self.span.to);
         let line = line_before(self.text, self.span.from);
-        Line {
+        OneLine {
             flat: Flat::of(inner).inside(Flat::before(line).or(Flat::of(self.text))),
             is_over_lines: line.starts_with('\n'),
         }
@@ -228,7 +228,7 @@ impl<'t> Container<'t> {
             return on_line(alloc, self.line(), printed);
         }
         if let Some(row) = self.like_row(position, printed) {
-            let at = Line {
+            let at = OneLine {
                 flat: Flat::of(row).or(self.line().flat),
                 is_over_lines: true,
             };

@@ -17,9 +17,9 @@ use jsonptr_json_search::skip::skip;
 use jsonptr_value::MAX_DEPTH;
 use std::alloc::AllocError;
 
-/// A value, and the way to it.
+/// The way to a value in a text, and a text of the value.
 #[derive(Clone, Copy, Debug)]
-pub struct Target<'a> {
+pub struct Route<'a> {
     /// The selectors that lead to the value.
     pub selectors: &'a [Selector],
     /// The position, among all children, of each child on the way. Of members with the same key it
@@ -37,7 +37,7 @@ pub struct Target<'a> {
 /// # Errors
 ///
 /// [`AllocError`] if there is no memory for the unescaped strings of a text.
-pub fn leads_to(buffers: &mut Buffers, text: &str, target: Target<'_>) -> Result<bool, AllocError>
+pub fn leads_to(buffers: &mut Buffers, text: &str, target: Route<'_>) -> Result<bool, AllocError>
     ensures { IfOk result (λ b. IsTrue b
         → LeadsInText text.now (choices target.entry.selectors.now) target.entry.value.now) }
 {
@@ -53,7 +53,7 @@ pub fn leads_to(buffers: &mut Buffers, text: &str, target: Target<'_>) -> Result
 /// # Errors
 ///
 /// [`CheckError::Mismatch`] if they do not, and [`CheckError::Memory`] if an allocation fails.
-fn check(buffers: &mut Buffers, text: &str, target: Target<'_>) -> Result<(), CheckError>
+fn check(buffers: &mut Buffers, text: &str, target: Route<'_>) -> Result<(), CheckError>
     ensures { OnOk result (LeadsInText text.now (choices target.entry.selectors.now) target.entry.value.now) }
 {
     let mut reader = Reader::new(text, &mut buffers.old)?;
@@ -74,7 +74,7 @@ fn pass(
     scratch: &mut Scratch,
     reader: &mut Reader<'_>,
     depth: usize,
-    target: Target<'_>,
+    target: Route<'_>,
 ) -> Result<(), CheckError>
     ensures passed { OnOk result ((d : Data) × ReadsTokens depth reader.old d reader.new
         × LeadsToText (choices target.entry.selectors.now) target.entry.value.now d) }
@@ -87,7 +87,7 @@ fn pass(
     let Some((position, positions)) = target.positions.split_first() else {
         return Err(CheckError::Mismatch);
     };
-    let rest = Target {
+    let rest = Route {
         selectors,
         positions,
         value: target.value,
@@ -128,7 +128,7 @@ fn pass_element(
     reader: &mut Reader<'_>,
     depth: usize,
     index: usize,
-    target: Target<'_>,
+    target: Route<'_>,
 ) -> Result<(), CheckError>
     ensures passed { OnOk result ((ds : Items) × ReadsItems depth reader.old ds reader.new
         × ChildLeads (get_item index ds) (choices target.entry.selectors.now) target.entry.value.now) }
@@ -163,7 +163,7 @@ fn pass_member(
     reader: &mut Reader<'_>,
     depth: usize,
     member: Wanted<'_>,
-    target: Target<'_>,
+    target: Route<'_>,
 ) -> Result<(), CheckError>
     ensures passed { OnOk result ((ms : Members) × ReadsMembers depth reader.old ms reader.new
         × ChildLeads (get_member member.entry.key.now ms) (choices target.entry.selectors.now)
@@ -199,7 +199,7 @@ fn visit(
     reader: &mut Reader<'_>,
     depth: usize,
     wanted: bool,
-    target: Target<'_>,
+    target: Route<'_>,
 ) -> Result<(), CheckError>
     ensures passed { OnOk result ((d : Data) × ReadsTokens depth reader.old d reader.new
         × LeadsIf wanted (choices target.entry.selectors.now) target.entry.value.now d) }

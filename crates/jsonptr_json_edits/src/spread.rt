@@ -19,7 +19,7 @@ pub struct Lines<'t> {
 
 /// Where a value comes that is on one line.
 #[derive(Clone, Copy, Debug)]
-pub struct Line<'t> {
+pub struct OneLine<'t> {
     /// What is around the tokens of the nearest containers.
     pub flat: Flat<'t>,
     /// Whether the text is over lines.
@@ -83,7 +83,7 @@ fn own_unit(lines: &str) -> &str {
 /// # Errors
 ///
 /// [`AllocError`] if an allocation fails.
-pub fn on_line(alloc: Global, at: Line<'_>, printed: &ValueText) -> Result<String, AllocError> {
+pub fn on_line(alloc: Global, at: OneLine<'_>, printed: &ValueText) -> Result<String, AllocError> {
     if !printed.lines.as_str().contains('\n') {
         return printed.flat.clone();
     }

@@ -13,7 +13,7 @@ use Rattle.jsonptr.proofs.Calling.{text_one}
 use Rattle.jsonptr_io.proofs.LineLemmas.{one_lines}
 use Rattle.jsonptr_paths.specs.Reading.{CutsAt, ReadsField, ReadsLine, FitsDepth, AssignsLine, AssignsLines, Builds, IsLineError, StopsBuilding}
 use Rattle.jsonptr_paths.specs.declared.reading.LineError.{LineError}
-use Rattle.jsonptr_paths.specs.declared.reading.LineError.TheVariants.{NoTab, NotPointer, NotJson, TooDeep, BadPlace}
+use Rattle.jsonptr_paths.specs.declared.reading.LineError.TheVariants.{NoTab, NotPointer, NotJson, TooDeep, Assign}
 use Rattle.jsonptr_paths.specs.declared.reading.BuildError.TheVariants.{Line}
 use Rattle.jsonptr_paths.proofs.PlainLemmas.{read_pointer}
 use Rattle.jsonptr_paths.proofs.RowLemmas.{cut_one, tab_there}
@@ -64,7 +64,7 @@ tab_first n l NoTab h k = refl
 tab_first n l NotPointer h k = absurd (no_cut l k.0 k.1 h k.2)
 tab_first n l NotJson h k = absurd (no_cut l k.0 k.1 h k.3)
 tab_first n l TooDeep h k = absurd (no_cut l k.2.0 k.2.1 h k.2.2)
-tab_first n l (BadPlace e) h k = absurd (no_cut l k.2.0 k.2.1 h k.2.2)
+tab_first n l (Assign e) h k = absurd (no_cut l k.2.0 k.2.1 h k.2.2)
 
 other_field : (l f b g d : Text) (ts : List Text) → CutsAt 9 l f b → ((us : List Text) → ReadsField f us → ⊥) → CutsAt 9 l g d → ReadsField g ts → ⊥
 other_field l f b g d ts cut none other reads = none ts (subst (λ (x : Text). ReadsField x ts) (sym (cuts_one l f b g d cut other).0) reads)
@@ -74,7 +74,7 @@ pointer_first n l f b NoTab cut none k = absurd (no_cut l f b k cut)
 pointer_first n l f b NotPointer cut none k = refl
 pointer_first n l f b NotJson cut none k = absurd (other_field l f b k.0 k.1 k.2 cut none k.3 k.4)
 pointer_first n l f b TooDeep cut none k = absurd (other_field l f b k.2.0 k.2.1 k.0 cut none k.2.2 k.2.3)
-pointer_first n l f b (BadPlace e) cut none k = absurd (other_field l f b k.2.0 k.2.1 k.0 cut none k.2.2 k.2.3)
+pointer_first n l f b (Assign e) cut none k = absurd (other_field l f b k.2.0 k.2.1 k.0 cut none k.2.2 k.2.3)
 
 other_json : (l f b : Text) (us : List Text) (v : Data) → CutsAt 9 l f b → read b ≡ None → ReadsLine l us v → ⊥
 other_json l f b us v cut none k = reads_none k.1 v k.4 (ap read (sym (cuts_one l f b k.0 k.1 cut k.2).1) ∙ none)
@@ -84,18 +84,18 @@ json_first n l f b ts NoTab cut field none k = absurd (no_cut l f b k cut)
 json_first n l f b ts NotPointer cut field none k = absurd (other_field l k.0 k.1 f b ts k.2 k.3 cut field)
 json_first n l f b ts NotJson cut field none k = refl
 json_first n l f b ts TooDeep cut field none k = absurd (other_json l f b k.0 k.1 cut none k.2)
-json_first n l f b ts (BadPlace e) cut field none k = absurd (other_json l f b k.0 k.1 cut none k.2)
+json_first n l f b ts (Assign e) cut field none k = absurd (other_json l f b k.0 k.1 cut none k.2)
 
 -- a line that is read has no error of its text
 read_first : (n : NodeMap) (l : Text) (ts : List Text) (v : Data) (e f : LineError) → ReadsLine l ts v → IsLineError n l e
     → ((us : List Text) (w : Data) → ReadsLine l us w → (FitsDepth us w → ⊥) → f ≡ TooDeep)
-    → ((us : List Text) (w : Data) (x : Error) → ReadsLine l us w → FitsDepth us w → RefusesAssign n us x → f ≡ BadPlace x)
+    → ((us : List Text) (w : Data) (x : Error) → ReadsLine l us w → FitsDepth us w → RefusesAssign n us x → f ≡ Assign x)
     → f ≡ e
 read_first n l ts v NoTab f r k deep place = absurd (no_cut l r.0 r.1 k r.2)
 read_first n l ts v NotPointer f r k deep place = absurd (other_field l k.0 k.1 r.0 r.1 ts k.2 k.3 r.2 r.3)
 read_first n l ts v NotJson f r k deep place = absurd (other_json l k.0 k.1 ts v k.3 k.5 r)
 read_first n l ts v TooDeep f r k deep place = deep k.0 k.1 k.2 k.3
-read_first n l ts v (BadPlace x) f r k deep place = place k.0 k.1 x k.2 k.3 k.4
+read_first n l ts v (Assign x) f r k deep place = place k.0 k.1 x k.2 k.3 k.4
 
 deep_first : (n : NodeMap) (l : Text) (ts : List Text) (v : Data) (e : LineError) → ReadsLine l ts v → (FitsDepth ts v → ⊥) → IsLineError n l e → TooDeep ≡ e
 deep_first n l ts v e r deep k = read_first n l ts v e TooDeep r k
@@ -106,17 +106,17 @@ module _
     (not_both : (n : NodeMap) (ts : List Text) (v m : NodeMap) (old : Option NodeMap) (e : Error) → Assigns n ts v m old → RefusesAssign n ts e → ⊥)
     (one_made : (n : NodeMap) (ts : List Text) (v m k : NodeMap) (old was : Option NodeMap) → Assigns n ts v m old → Assigns n ts v k was → (m ≡ k) × (old ≡ was))
     (one : (n : NodeMap) (ts : List Text) (e f : Error) → RefusesAssign n ts e → RefusesAssign n ts f → e ≡ f) where
-  place_first : (n : NodeMap) (l : Text) (ts : List Text) (v : Data) (x : Error) (e : LineError) → ReadsLine l ts v → FitsDepth ts v → RefusesAssign n ts x → IsLineError n l e → BadPlace x ≡ e
-  place_first n l ts v x e r fits refused k = read_first n l ts v e (BadPlace x) r k
+  place_first : (n : NodeMap) (l : Text) (ts : List Text) (v : Data) (x : Error) (e : LineError) → ReadsLine l ts v → FitsDepth ts v → RefusesAssign n ts x → IsLineError n l e → Assign x ≡ e
+  place_first n l ts v x e r fits refused k = read_first n l ts v e (Assign x) r k
       (λ us w s d. absurd (d (fits_same ts us v w (line_one l ts us v w r s) fits)))
-      (λ us w y s f q. ap BadPlace (one n us x y (subst (λ (xs : List Text). RefusesAssign n xs x) (line_one l ts us v w r s).0 refused) q))
+      (λ us w y s f q. ap Assign (one n us x y (subst (λ (xs : List Text). RefusesAssign n xs x) (line_one l ts us v w r s).0 refused) q))
 
   pub one_line_error : (n : NodeMap) (l : Text) (e f : LineError) → IsLineError n l e → IsLineError n l f → e ≡ f
   one_line_error n l NoTab f h k = tab_first n l f h k
   one_line_error n l NotPointer f h k = pointer_first n l h.0 h.1 f h.2 h.3 k
   one_line_error n l NotJson f h k = json_first n l h.0 h.1 h.2 f h.3 h.4 h.5 k
   one_line_error n l TooDeep f h k = deep_first n l h.0 h.1 f h.2 h.3 k
-  one_line_error n l (BadPlace x) f h k = place_first n l h.0 h.1 x f h.2 h.3 h.4 k
+  one_line_error n l (Assign x) f h k = place_first n l h.0 h.1 x f h.2 h.3 h.4 k
 
   -- a line adds its value or has an error
   pub line_not_both : (n m : NodeMap) (l : Text) (e : LineError) → AssignsLine n l m → IsLineError n l e → ⊥
@@ -124,7 +124,7 @@ module _
   line_not_both n m l NotPointer a k = other_field l k.0 k.1 a.3.0 a.3.1 a.0 k.2 k.3 a.3.2 a.3.3
   line_not_both n m l NotJson a k = other_json l k.0 k.1 a.0 a.1 k.3 k.5 a.3
   line_not_both n m l TooDeep a k = k.3 (fits_same a.0 k.0 a.1 k.1 (line_one l a.0 k.0 a.1 k.1 a.3 k.2) a.4)
-  line_not_both n m l (BadPlace x) a k =
+  line_not_both n m l (Assign x) a k =
       not_both n k.0 (nodes a.1) m a.2 x (subst (λ (xs : List Text). Assigns n xs (nodes a.1) m a.2) (line_one l a.0 k.0 a.1 k.1 a.3 k.2).0 a.5) k.4
 
   -- and it makes one map

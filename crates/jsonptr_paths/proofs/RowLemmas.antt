@@ -26,7 +26,7 @@ use Rattle.jsonptr_paths.specs.Reading.{CutsAt, ReadsField, ReadsLine, FitsDepth
 use Rattle.jsonptr_paths.specs.PrivateRebuilding.{IsPart, IsNext, IsEmptied, Named, IsRow, AreRows}
 use Rattle.jsonptr_paths.specs.declared.listing.Listed.TheVariants.{AllNodes}
 use Rattle.jsonptr_paths.specs.declared.reading.LineError.{LineError}
-use Rattle.jsonptr_paths.specs.declared.reading.LineError.TheVariants.{NoTab, NotPointer, NotJson, TooDeep, BadPlace}
+use Rattle.jsonptr_paths.specs.declared.reading.LineError.TheVariants.{NoTab, NotPointer, NotJson, TooDeep, Assign}
 use Rattle.jsonptr_paths.specs.declared.reading.BuildError.TheVariants.{Line}
 use Rattle.jsonptr_paths.proofs.OrderLemmas.{next_of, first_of_walk, no_walk, part_same, named_more, more_named, all_named}
 use Rattle.jsonptr_paths.proofs.RebuildingLemmas.{part_lands, assigned_next, assigned_root, whole_part}
@@ -286,7 +286,7 @@ row_error d ts l m p TooDeep shallow row lands h =
     let fits : length ts + depth (emptied row.0) ≤ depth d = row_fits d ts l row in
     let all : FitsDepth ts (emptied row.0) = omega (arith, fits, shallow) in
     h.3 (subst (λ (us : List Text). FitsDepth us h.1) (sym one.0) (subst (FitsDepth ts) (sym one.1) all))
-row_error d ts l m p (BadPlace e) shallow row lands h =
+row_error d ts l m p (Assign e) shallow row lands h =
     let same = (row_value d ts h.0 l h.1 row h.2).0 in
     let nowhere : LandsNowhere m ts (assign_position_of e) (assign_offset_of e) h.4.len h.4.token = subst (λ (us : List Text). LandsNowhere m us (assign_position_of e) (assign_offset_of e) h.4.len h.4.token) same h.4.nowhere in
     Lands-LandsNowhere m ts (assign_position_of e) (assign_offset_of e) h.4.len h.4.token p [] lands nowhere

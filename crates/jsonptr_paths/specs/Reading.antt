@@ -9,7 +9,7 @@ use Rattle.jsonptr.specs.Assigning.{Assigns}
 use Rattle.jsonptr.specs.Assign.{RefusesAssign}
 use Rattle.jsonptr_io.specs.Lines.{AreLines}
 use Rattle.jsonptr_paths.specs.declared.reading.LineError.{LineError}
-use Rattle.jsonptr_paths.specs.declared.reading.LineError.TheVariants.{NoTab, NotPointer, NotJson, TooDeep, BadPlace}
+use Rattle.jsonptr_paths.specs.declared.reading.LineError.TheVariants.{NoTab, NotPointer, NotJson, TooDeep, Assign}
 use Rattle.jsonptr_paths.specs.declared.reading.BuildError.{BuildError}
 use Rattle.jsonptr_paths.specs.declared.reading.BuildError.TheVariants.{Line, Memory}
 
@@ -55,7 +55,7 @@ IsLineError n line NotPointer =
 IsLineError n line NotJson =
     (field json : Text) × (ts : List Text) × CutsAt 9 line field json × ReadsField field ts × (read json ≡ None)
 IsLineError n line TooDeep = (ts : List Text) × (v : Data) × ReadsLine line ts v × (FitsDepth ts v → ⊥)
-IsLineError n line (BadPlace e) =
+IsLineError n line (Assign e) =
     (ts : List Text) × (v : Data) × ReadsLine line ts v × FitsDepth ts v × RefusesAssign n ts e
 
 -- `StopsBuilding text e`: `e` is why the lines of `text` build no document, if it is not for memory. The line with this

@@ -38,7 +38,7 @@ pub enum LineError {
     TooDeep,
     /// No value can be assigned at the pointer.
     #[error(transparent)]
-    BadPlace(assign::Error),
+    Assign(assign::Error),
 }
 
 /// Why lines build no document. Its text is one line.
@@ -151,7 +151,7 @@ fn assign_line(alloc: Global, document: &mut Value, line: &str) -> Result<(), Fa
     }
     match pointer.as_ptr().assign(alloc, document, value) {
         Ok(_) => Ok(()),
-        Err(Fault::Refused(error)) => Err(Fault::Refused(LineError::BadPlace(error))),
+        Err(Fault::Refused(error)) => Err(Fault::Refused(LineError::Assign(error))),
         Err(Fault::Memory(error)) => Err(Fault::Memory(error)),
     }
 }

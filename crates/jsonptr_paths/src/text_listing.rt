@@ -34,10 +34,10 @@ use std::alloc::{AllocError, Global};
 /// # Examples
 ///
 /// ```rust
-/// let lines = list_text(alloc, "[{\"a\": 1}, []]", Listed::Leaves)?;
+/// let lines = list_in_text(alloc, "[{\"a\": 1}, []]", Listed::Leaves)?;
 /// assert_eq!(rt; lines.as_str(), "/0/a\t1\n/1\t[]\n");
 /// ```
-pub fn list_text(alloc: Global, text: &str, which: Listed) -> Result<String, ReadError>
+pub fn list_in_text(alloc: Global, text: &str, which: Listed) -> Result<String, ReadError>
     ensures listed { IfOk result (λ s. (d : Data) × (spec_read text.now ≡ Some d)
         × Lists which d (string_bytes s)) }
     ensures refused { result ≡ Err NotJson → spec_read text.now ≡ None }

@@ -1,7 +1,7 @@
 //! Which children of an old array or object become which children of a new one.
 
 use crate::hash::by_key;
-use crate::tree::{Child, NodeKind, TreeNode};
+use crate::tree::{NodeKind, TreeChild, TreeNode};
 use std::alloc::{AllocError, Global};
 use std::collections::BTreeSet;
 
@@ -36,7 +36,11 @@ pub fn align(alloc: Global, old: &TreeNode, new: &TreeNode) -> Result<Vec<Step>,
 
 /// Members keep their order, and new ones come at the end. Of members with one key the last one
 /// counts.
-fn align_members(alloc: Global, old: &[Child], new: &[Child]) -> Result<Vec<Step>, AllocError> {
+fn align_members(
+    alloc: Global,
+    old: &[TreeChild],
+    new: &[TreeChild],
+) -> Result<Vec<Step>, AllocError> {
     let known = by_key(alloc, old)?;
     let named = by_key(alloc, new)?;
     let mut steps = Vec::new(alloc);
@@ -58,7 +62,11 @@ fn align_members(alloc: Global, old: &[Child], new: &[Child]) -> Result<Vec<Step
 }
 
 /// Elements that are the same belong together, and those between them one by one.
-fn align_elements(alloc: Global, old: &[Child], new: &[Child]) -> Result<Vec<Step>, AllocError> {
+fn align_elements(
+    alloc: Global,
+    old: &[TreeChild],
+    new: &[TreeChild],
+) -> Result<Vec<Step>, AllocError> {
     let olds = hashes(alloc, old)?;
     let news = hashes(alloc, new)?;
     let mut steps = Vec::new(alloc);
@@ -110,7 +118,7 @@ enum Choice {
 
 /// Returns what to do with the first elements. `known` says whether the old one is in the new array,
 /// and the new one in the old array.
-fn choose(old: &[Child], new: &[Child], known: (bool, bool)) -> Choice {
+fn choose(old: &[TreeChild], new: &[TreeChild], known: (bool, bool)) -> Choice {
     if is_same(old, 0, new, 0) {
         return Choice::Keep;
     }
@@ -131,7 +139,7 @@ fn choose(old: &[Child], new: &[Child], known: (bool, bool)) -> Choice {
 }
 
 /// Returns what to do if both elements are in the other array: what brings the nearer one.
-fn nearest(old: &[Child], new: &[Child]) -> Choice {
+fn nearest(old: &[TreeChild], new: &[TreeChild]) -> Choice {
     for ahead in 1..LOOKAHEAD {
         if is_same(old, ahead, new, 0) {
             return Choice::Remove;
@@ -144,7 +152,7 @@ fn nearest(old: &[Child], new: &[Child]) -> Choice {
 }
 
 /// Returns whether both lists have these elements, and they are the same.
-fn is_same(old: &[Child], position: usize, new: &[Child], other: usize) -> bool {
+fn is_same(old: &[TreeChild], position: usize, new: &[TreeChild], other: usize) -> bool {
     match (old.get(position), new.get(other)) {
         (Some(left), Some(right)) => left.node.hash == right.node.hash,
         _ => false,
@@ -153,7 +161,7 @@ fn is_same(old: &[Child], position: usize, new: &[Child], other: usize) -> bool 
 
 /// Returns whether both lists have these elements, and they are objects of which half of the members
 /// are the same.
-fn is_alike(old: &[Child], position: usize, new: &[Child], other: usize) -> bool {
+fn is_alike(old: &[TreeChild], position: usize, new: &[TreeChild], other: usize) -> bool {
     match (old.get(position), new.get(other)) {
         (Some(left), Some(right)) => {
             let (members, others) = (&left.node.children, &right.node.children);
@@ -169,7 +177,7 @@ fn is_alike(old: &[Child], position: usize, new: &[Child], other: usize) -> bool
 }
 
 /// Returns how many members of the first object are members of the other one too.
-fn shared(members: &[Child], others: &[Child]) -> usize {
+fn shared(members: &[TreeChild], others: &[TreeChild]) -> usize {
     members
         .iter()
         .filter(|member| has_member(others, member))
@@ -177,12 +185,12 @@ fn shared(members: &[Child], others: &[Child]) -> usize {
 }
 
 /// Returns whether one of the members has this key and this value.
-fn has_member(others: &[Child], member: &Child) -> bool {
+fn has_member(others: &[TreeChild], member: &TreeChild) -> bool {
     others.iter().any(|other| other.key == member.key && other.node.hash == member.node.hash)
 }
 
 /// Returns the hashes of the elements.
-fn hashes(alloc: Global, elements: &[Child]) -> Result<BTreeSet<u64>, AllocError> {
+fn hashes(alloc: Global, elements: &[TreeChild]) -> Result<BTreeSet<u64>, AllocError> {
     let mut hashes = BTreeSet::new(alloc);
     for element in elements {
         hashes.insert(element.node.hash)?;

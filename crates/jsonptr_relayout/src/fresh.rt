@@ -1,9 +1,9 @@
 //! Laying out a value that the old document does not have.
 
 use crate::gaps::{Gaps, key_of};
-use crate::given::Piece;
+use crate::given::GivenValue;
 use crate::lay::{At, Layer, closing, opening};
-use crate::tree::{Child, NodeKind, TreeNode};
+use crate::tree::{NodeKind, TreeChild, TreeNode};
 use jsonptr_json_edits::layout::slice;
 use std::alloc::AllocError;
 
@@ -16,7 +16,7 @@ impl<'t> Layer<'t> {
     #[cycle(fresh)]
     pub fn fresh(
         &mut self,
-        new: Piece<'_>,
+        new: GivenValue<'_>,
         model: Option<&TreeNode>,
         at: At<'_>,
         depth: usize,
@@ -43,7 +43,7 @@ impl<'t> Layer<'t> {
     #[cycle(fresh)]
     fn fresh_lines(
         &mut self,
-        new: Piece<'_>,
+        new: GivenValue<'_>,
         model: Option<&TreeNode>,
         at: At<'_>,
         depth: usize,
@@ -63,7 +63,7 @@ impl<'t> Layer<'t> {
             self.out.push_str(at.style.newline)?;
             self.out.push_str(inner.indent)?;
             self.push_key(new.text, child, at.style.colon)?;
-            let part = Piece {
+            let part = GivenValue {
                 text: new.text,
                 node: &child.node,
             };
@@ -79,7 +79,7 @@ impl<'t> Layer<'t> {
     #[cycle(fresh)]
     fn fresh_line(
         &mut self,
-        new: Piece<'_>,
+        new: GivenValue<'_>,
         model: Option<&TreeNode>,
         at: At<'_>,
         depth: usize,
@@ -97,7 +97,7 @@ impl<'t> Layer<'t> {
                 self.out.push_str(at.style.comma)?;
             }
             self.push_key(new.text, child, at.style.colon)?;
-            let part = Piece {
+            let part = GivenValue {
                 text: new.text,
                 node: &child.node,
             };
@@ -109,7 +109,7 @@ impl<'t> Layer<'t> {
     }
 
     /// Appends a value without children.
-    fn push_leaf(&mut self, new: Piece<'_>) -> Result<(), AllocError> {
+    fn push_leaf(&mut self, new: GivenValue<'_>) -> Result<(), AllocError> {
         match new.node.kind {
             NodeKind::Scalar => {
                 let span = new.node.span;
@@ -121,7 +121,12 @@ impl<'t> Layer<'t> {
     }
 
     /// Appends the key of a member and what is after it, or nothing for an element.
-    pub fn push_key(&mut self, text: &str, child: &Child, colon: &str) -> Result<(), AllocError> {
+    pub fn push_key(
+        &mut self,
+        text: &str,
+        child: &TreeChild,
+        colon: &str,
+    ) -> Result<(), AllocError> {
         let key = key_of(text, child);
         if key.is_empty() {
             return Ok(());
@@ -150,7 +155,7 @@ impl<'a> At<'a> {
 
 /// Returns the child of a model that shows how the child of a new value is laid out: the member with
 /// its key, or the first element. Returns `None` if there is none of its kind with children.
-fn child_of_model<'m>(model: Option<&'m TreeNode>, child: &Child) -> Option<&'m TreeNode> {
+fn child_of_model<'m>(model: Option<&'m TreeNode>, child: &TreeChild) -> Option<&'m TreeNode> {
     let members = model?.children.iter().take(MOST_MEMBERS);
     for member in members {
         let node = &member.node;

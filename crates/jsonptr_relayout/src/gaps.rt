@@ -1,6 +1,6 @@
 //! What is around the children of an array or an object.
 
-use crate::tree::{Child, TreeNode};
+use crate::tree::{TreeChild, TreeNode};
 use jsonptr_json_edits::layout::slice;
 
 /// The text around the children of an array or an object that has some.
@@ -38,7 +38,7 @@ impl<'t> Gaps<'t> {
 
 /// Returns what is between two children: the last two, or the two before if there are fewer line
 /// breaks.
-fn between<'t>(text: &'t str, children: &[Child]) -> Option<&'t str> {
+fn between<'t>(text: &'t str, children: &[TreeChild]) -> Option<&'t str> {
     let count = children.len();
     let last = before(text, children, count.checked_sub(1)?)?;
     match before(text, children, count.saturating_sub(2)) {
@@ -49,7 +49,7 @@ fn between<'t>(text: &'t str, children: &[Child]) -> Option<&'t str> {
 
 /// Returns what is between the child at the position and the one before it, or `None` if it is the
 /// first one.
-pub fn before<'t>(text: &'t str, children: &[Child], position: usize) -> Option<&'t str> {
+pub fn before<'t>(text: &'t str, children: &[TreeChild], position: usize) -> Option<&'t str> {
     let other = children.get(position.checked_sub(1)?)?;
     let child = children.get(position)?;
     Some(slice(text, other.node.span.to, child.from))
@@ -80,7 +80,7 @@ pub fn colon_of<'t>(text: &'t str, node: &TreeNode) -> Option<&'t str> {
 }
 
 /// Returns the key of a member, with its quotation marks, or an empty text for an element.
-pub fn key_of<'t>(text: &'t str, child: &Child) -> &'t str {
+pub fn key_of<'t>(text: &'t str, child: &TreeChild) -> &'t str {
     let field = slice(text, child.from, child.node.span.from);
     match field.rfind('"') {
         Some(at) => field.get(..at.saturating_add(1)).unwrap_or(""),

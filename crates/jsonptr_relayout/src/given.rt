@@ -7,7 +7,7 @@ use std::collections::BTreeMap;
 
 /// A value, and the text that it is in.
 #[derive(Clone, Copy, Debug)]
-pub struct Piece<'t> {
+pub struct GivenValue<'t> {
     /// The text.
     pub text: &'t str,
     /// The value.
@@ -15,7 +15,7 @@ pub struct Piece<'t> {
 }
 
 /// Values by their hashes.
-pub type Given<'t> = BTreeMap<u64, Piece<'t>>;
+pub type Given<'t> = BTreeMap<u64, GivenValue<'t>>;
 
 /// Returns the values of the texts, and all values in them. Each text has its tree at the same position,
 /// unless it is not JSON.
@@ -31,14 +31,18 @@ pub fn given_values<'t>(
     let mut given = BTreeMap::new(alloc);
     for (text, tree) in texts.iter().zip(trees.iter()) {
         if let Some(node) = tree {
-            gather(&mut given, Piece { text: *text, node }, MAX_DEPTH)?;
+            gather(&mut given, GivenValue { text: *text, node }, MAX_DEPTH)?;
         }
     }
     Ok(given)
 }
 
 /// Adds a value, and all values in it down to this depth.
-fn gather<'t>(given: &mut Given<'t>, piece: Piece<'t>, depth: usize) -> Result<(), AllocError> {
+fn gather<'t>(
+    given: &mut Given<'t>,
+    piece: GivenValue<'t>,
+    depth: usize,
+) -> Result<(), AllocError> {
     given.insert(piece.node.hash, piece)?;
     if depth == 0 {
         return Ok(());
@@ -47,7 +51,7 @@ fn gather<'t>(given: &mut Given<'t>, piece: Piece<'t>, depth: usize) -> Result<(
         let node = &child.node;
         gather(
             given,
-            Piece {
+            GivenValue {
                 text: piece.text,
                 node,
             },

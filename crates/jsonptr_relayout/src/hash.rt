@@ -3,7 +3,7 @@
 //! Two values that differ have the same hash with a chance of 1 in 2^64. No contract rests on that,
 //! since the text that is made by the hashes is read again.
 
-use crate::tree::Child;
+use crate::tree::TreeChild;
 use fast_float::Numeral;
 use json::Token;
 use std::alloc::{AllocError, Global};
@@ -58,7 +58,7 @@ fn write_float(hasher: &mut DefaultHasher, float: f64) {
 }
 
 /// Returns the hash of an array with these elements.
-pub fn of_array(elements: &[Child]) -> u64 {
+pub fn of_array(elements: &[TreeChild]) -> u64 {
     let mut hasher = DefaultHasher::new();
     hasher.write_u8(b'[');
     for element in elements {
@@ -72,7 +72,7 @@ pub fn of_array(elements: &[Child]) -> u64 {
 /// # Errors
 ///
 /// [`AllocError`] if an allocation fails.
-pub fn of_object(alloc: Global, members: &[Child]) -> Result<u64, AllocError> {
+pub fn of_object(alloc: Global, members: &[TreeChild]) -> Result<u64, AllocError> {
     let mut hasher = DefaultHasher::new();
     hasher.write_u8(b'{');
     let last = by_key(alloc, members)?;
@@ -90,7 +90,7 @@ pub fn of_object(alloc: Global, members: &[Child]) -> Result<u64, AllocError> {
 /// # Errors
 ///
 /// [`AllocError`] if an allocation fails.
-pub fn by_key(alloc: Global, members: &[Child]) -> Result<BTreeMap<u64, usize>, AllocError> {
+pub fn by_key(alloc: Global, members: &[TreeChild]) -> Result<BTreeMap<u64, usize>, AllocError> {
     let mut last = BTreeMap::new(alloc);
     for (index, member) in members.iter().enumerate() {
         last.insert(member.key, index)?;

@@ -2,7 +2,7 @@
 
 use crate::align::{Step, align};
 use crate::gaps::{Gaps, before, indent_after};
-use crate::given::{Given, Piece};
+use crate::given::{Given, GivenValue};
 use crate::style::Style;
 use crate::tree::{NodeKind, TreeNode};
 use jsonptr_json_edits::layout::slice;
@@ -40,7 +40,7 @@ pub struct At<'a> {
 struct Frame<'a> {
     text: &'a str,
     old: &'a TreeNode,
-    new: Piece<'a>,
+    new: GivenValue<'a>,
     gaps: Gaps<'a>,
     at: At<'a>,
 }
@@ -67,7 +67,7 @@ impl<'t> Layer<'t> {
     pub fn lay(
         &mut self,
         old: &TreeNode,
-        new: Piece<'_>,
+        new: GivenValue<'_>,
         at: At<'_>,
         depth: usize,
     ) -> Result<(), AllocError> {
@@ -90,7 +90,7 @@ impl<'t> Layer<'t> {
     fn lay_children(
         &mut self,
         old: &TreeNode,
-        new: Piece<'_>,
+        new: GivenValue<'_>,
         at: At<'_>,
         depth: usize,
     ) -> Result<(), AllocError> {
@@ -159,7 +159,7 @@ impl<'t> Layer<'t> {
         self.out.push_str(lead.comma)?;
         self.out.push_str(lead.gap)?;
         self.out.push_str(field)?;
-        let piece = Piece {
+        let piece = GivenValue {
             text: frame.new.text,
             node: &other.node,
         };
@@ -180,7 +180,7 @@ impl<'t> Layer<'t> {
         let lead = row.next(frame, None);
         self.out.push_str(lead.comma)?;
         self.out.push_str(lead.gap)?;
-        let piece = Piece {
+        let piece = GivenValue {
             text: frame.new.text,
             node: &child.node,
         };

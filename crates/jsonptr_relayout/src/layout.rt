@@ -6,7 +6,7 @@ ghost use Rattle.serde_json.specs.View.{view};
 ghost use Rattle.jsonptr_tree.specs.Json.{nodes};
 ghost use Rattle.jsonptr_relayout.specs.Relaying.{text_of_relaid, ReadsAs, KeepsLayout, FailsToRelay, FailsToRelayText};
 
-use crate::given::{Piece, given_values};
+use crate::given::{GivenValue, given_values};
 use crate::lay::{At, Layer};
 use crate::relaid::{Relaid, RelayoutError};
 use crate::style::Style;
@@ -41,7 +41,7 @@ pub fn relayout(alloc: Global, old: &str, new: &Value) -> Result<Relaid, Relayou
     ensures kept { ReadsAs old.now (nodes (view new.now)) → IfOk result (KeepsLayout old.now) }
     ensures refused { IfErr result (FailsToRelay old.now (view new.now)) }
 {
-    relayout_with(alloc, old, new, &[])
+    relayout_with_texts(alloc, old, new, &[])
 }
 
 /// Returns the text of the document `new` in the layout of the text `old`, as [`relayout`] does. A value
@@ -58,10 +58,10 @@ pub fn relayout(alloc: Global, old: &str, new: &Value) -> Result<Relaid, Relayou
 ///
 /// ```rust
 /// let new = json!(in alloc; {"price": 1.1})?;
-/// let relaid = relayout_with(alloc, "{}", &new, &["1.10"])?;
+/// let relaid = relayout_with_texts(alloc, "{}", &new, &["1.10"])?;
 /// assert_eq!(rt; relaid.as_str(), r#"{"price": 1.10}"#);
 /// ```
-pub fn relayout_with(
+pub fn relayout_with_texts(
     alloc: Global,
     old: &str,
     new: &Value,
@@ -83,7 +83,7 @@ pub fn relayout_with(
     let printed = new.to_string(alloc)?;
     match laid_out(alloc, old, printed.as_str(), given, new)? {
         Some(text) => Ok(Relaid::Kept(text)),
-        None => Ok(Relaid::Printed(printed)),
+        None => Ok(Relaid::Rewritten(printed)),
     }
 }
 
@@ -118,7 +118,7 @@ pub fn relayout_text(alloc: Global, old: &str, new: &str) -> Result<Relaid, Rela
     }
     match laid_out(alloc, old, new, &[], &value)? {
         Some(text) => Ok(Relaid::Kept(text)),
-        None => Ok(Relaid::Printed(String::from_str(alloc, new)?)),
+        None => Ok(Relaid::Rewritten(String::from_str(alloc, new)?)),
     }
 }
 
@@ -223,7 +223,7 @@ fn relaid_text<'t>(
         style: Style::of(old),
         is_spread: old.trim_end().contains('\n'),
     };
-    let to = Piece {
+    let to = GivenValue {
         text: new,
         node: &trees.to,
     };

@@ -10,7 +10,7 @@
 //!
 //! - [`relayout`] takes the new document as a value, [`relayout_text`] as a text, whose numbers and
 //!   strings stay as they are written.
-//! - [`relayout_with`] takes a value, and texts of values that are new in it.
+//! - [`relayout_with_texts`] takes a value, and texts of values that are new in it.
 //!
 //! A value that is the same in both documents keeps its bytes. An array or an object that changed
 //! keeps what is around its children: a child that is gone takes its comma and its line along, and a
@@ -34,5 +34,5 @@ mod relaid;
 mod style;
 mod tree;
 
-pub use layout::{relayout, relayout_text, relayout_with};
+pub use layout::{relayout, relayout_text, relayout_with_texts};
 pub use relaid::{Relaid, RelayoutError};

@@ -13,7 +13,7 @@ pub enum Relaid {
     /// In the layout of the old text.
     Kept(String),
     /// Without it, since no text in that layout was found.
-    Printed(String),
+    Rewritten(String),
 }
 
 impl Relaid {
@@ -23,7 +23,7 @@ impl Relaid {
     {
         match self {
             Relaid::Kept(text) => text.as_str(),
-            Relaid::Printed(text) => text.as_str(),
+            Relaid::Rewritten(text) => text.as_str(),
         }
     }
 
@@ -33,7 +33,7 @@ impl Relaid {
     {
         match self {
             Relaid::Kept(text) => text,
-            Relaid::Printed(text) => text,
+            Relaid::Rewritten(text) => text,
         }
     }
 }

@@ -29,13 +29,13 @@ pub struct TreeNode {
     /// Its hash.
     pub hash: u64,
     /// Its elements or members, in the order of the text.
-    pub children: Vec<Child>,
+    pub children: Vec<TreeChild>,
 }
 
 /// An element or a member.
 #[cycle(tree)]
 #[derive(Debug, Drop)]
-pub struct Child {
+pub struct TreeChild {
     /// The hash of the key of a member, and 0 for an element.
     pub key: u64,
     /// Where the child begins: a member with its key.
@@ -49,7 +49,7 @@ pub struct Child {
 struct Parts {
     kind: NodeKind,
     hash: u64,
-    children: Vec<Child>,
+    children: Vec<TreeChild>,
 }
 
 /// Reads the text of a document.
@@ -143,14 +143,14 @@ fn read_elements(
     text: &str,
     reader: &mut Reader<'_>,
     depth: usize,
-) -> Result<Vec<Child>, ReadError>
+) -> Result<Vec<TreeChild>, ReadError>
     ensures shorter { OnOk result (length reader.new ≤ length reader.old) }
 {
     let mut children = Vec::new(alloc);
     'elements: while !reader.take_end_array() {
         let node = read_node(alloc, text, reader, depth)?;
         let from = node.span.from;
-        children.push(Child { key: 0, from, node })?;
+        children.push(TreeChild { key: 0, from, node })?;
     }
     Ok(children)
 }
@@ -162,7 +162,7 @@ fn read_members(
     text: &str,
     reader: &mut Reader<'_>,
     depth: usize,
-) -> Result<Vec<Child>, ReadError>
+) -> Result<Vec<TreeChild>, ReadError>
     ensures shorter { OnOk result (length reader.new ≤ length reader.old) }
 {
     let mut children = Vec::new(alloc);
@@ -170,7 +170,7 @@ fn read_members(
     'members: while let Some(name) = reader.next_key()? {
         let key = hash::of_text(name);
         let node = read_node(alloc, text, reader, depth)?;
-        children.push(Child { key, from, node })?;
+        children.push(TreeChild { key, from, node })?;
         from = reader.offset();
     }
     Ok(children)

@@ -12,7 +12,7 @@ pub fn request(out: &mut Out<'_>, mut words: Words<'_>) {
             out.field("kind", "kept");
             out.field("detail", text)
         }
-        Ok(Relaid::Printed(text)) => {
+        Ok(Relaid::Rewritten(text)) => {
             out.field("kind", "printed");
             out.field("detail", text)
         }

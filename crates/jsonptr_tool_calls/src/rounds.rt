@@ -39,7 +39,7 @@ fn len(out: &mut Out<'_>, buffers: &mut Buffers, way: &str, request: Request<'_>
             let mut buffers = Buffers::new(out.alloc());
             Some(edit(out, &mut buffers, request)?.len())
         }
-        "toml" => Some(toml_edits::edit(out, request)?.ok()?.as_str().len()),
+        "toml" => Some(toml_edits::edit(out, request)?.ok()??.as_str().len()),
         "document" => Some(change(out, request)?.to_string(out.alloc()).ok()?.len()),
         _ => match Value::from_str(out.alloc(), request.text).ok()? {
             Value::Array(_) | Value::Object(_) => Some(1),

@@ -3,7 +3,7 @@ use crate::out::Out;
 use crate::text_edits::Request;
 use crate::words::Words;
 use jsonptr::Pointer;
-use jsonptr_edit_in_toml::{Edited, assign_in_toml_text, delete_in_toml_text};
+use jsonptr_edit_in_toml::{Edited, assign_in_toml, delete_in_toml};
 use jsonptr_in_toml::InTomlError;
 use toml::Value;
 
@@ -16,11 +16,14 @@ pub fn run(out: &mut Out<'_>, group: &str, mut words: Words<'_>) {
     match (group, pointer, value) {
         ("delete in toml", Ok(pointer), _) => {
             out.begin();
-            said(out, delete_in_toml_text(out.alloc(), text, pointer))
+            match delete_in_toml(out.alloc(), text, pointer).transpose() {
+                Some(made) => said(out, made),
+                None => out.nothing(),
+            }
         }
         (_, Ok(pointer), Ok(value)) => {
             out.begin();
-            said(out, assign_in_toml_text(out.alloc(), text, pointer, value))
+            said(out, assign_in_toml(out.alloc(), text, pointer, value))
         }
         _ => out.unknown(),
     }
@@ -53,14 +56,15 @@ pub fn request(out: &mut Out<'_>, mut words: Words<'_>) {
         argument: words.next(),
     };
     match edit(out, request) {
-        Some(Ok(Edited::InPlace(text))) => {
+        Some(Ok(Some(Edited::InPlace(text)))) => {
             out.field("kind", "in place");
             out.field("detail", text)
         }
-        Some(Ok(Edited::Rewritten(text))) => {
+        Some(Ok(Some(Edited::Rewritten(text)))) => {
             out.field("kind", "rewritten");
             out.field("detail", text)
         }
+        Some(Ok(None)) => out.field("kind", "none"),
         Some(Err(error)) => {
             out.field("kind", "refused");
             out.field("detail", error)
@@ -70,12 +74,15 @@ pub fn request(out: &mut Out<'_>, mut words: Words<'_>) {
 }
 
 /// Makes an edit in a text. Returns `None` if the pointer or the value is none.
-pub fn edit(out: &mut Out<'_>, request: Request<'_>) -> Option<Result<Edited, InTomlError>> {
+pub fn edit(
+    out: &mut Out<'_>,
+    request: Request<'_>,
+) -> Option<Result<Option<Edited>, InTomlError>> {
     let alloc = out.alloc();
     let pointer = Pointer::parse(request.pointer).ok()?;
     if request.command == "delete" {
-        return Some(delete_in_toml_text(alloc, request.text, pointer));
+        return Some(delete_in_toml(alloc, request.text, pointer));
     }
     let value = Value::from_str(alloc, request.argument).ok()?;
-    Some(assign_in_toml_text(alloc, request.text, pointer, value))
+    Some(assign_in_toml(alloc, request.text, pointer, value).map(Some))
 }

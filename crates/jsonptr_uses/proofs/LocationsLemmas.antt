@@ -10,7 +10,7 @@ use Rattle.jsonptr_c_calls.specs.Locations.{IsNotPointedAt, LocatesInText}
 use Rattle.jsonptr_c_calls.specs.Pointers.{HasTokens}
 use Rattle.jsonptr_c_calls.specs.declared.call_error.Argument.TheVariants as argument
 use Rattle.jsonptr_c_calls.specs.declared.call_error.CallError.{CallError}
-use Rattle.jsonptr_c_calls.specs.declared.call_error.CallError.TheVariants.{NoRoom, NotUtf8, NotJson, NotFound, NotLocated, NoValue}
+use Rattle.jsonptr_c_calls.specs.declared.call_error.CallError.TheVariants.{NoRoom, NotUtf8, NotJson, Resolve, NotLocated, NoValue}
 
 -- the bytes of a value are bytes of the text
 pub ends_in : (t bytes : List ℕ) (start end : ℕ) → LocatesInText t bytes start end → (start ≤ end) × (end ≤ length t)
@@ -33,7 +33,7 @@ pub outside : (t : List ℕ) (k j room : ℕ) → IsNotPointedAt t k room (NoVal
 outside t k j room (inl h) = absurd (let no : NoValue j ≡ NotUtf8 argument.Text _ = h.1 in cc)
 outside t k j room (inr (u, inl (inl h))) = absurd h
 outside t k j room (inr (u, inl (inr (inl (inl h))))) = absurd (let no : NoValue j ≡ NotJson h.0 = h.2 in cc)
-outside t k j room (inr (u, inl (inr (inl (inr h))))) = absurd (let no : NoValue j ≡ NotFound h.0 = h.2 in cc)
+outside t k j room (inr (u, inl (inr (inl (inr h))))) = absurd (let no : NoValue j ≡ Resolve h.0 = h.2 in cc)
 outside t k j room (inr (u, inl (inr (inr h)))) = absurd (let no : NoValue j ≡ NotLocated = h.2 in cc)
 outside t k j room (inr (u, inr (inl h))) = h.0
 outside t k j room (inr (u, inr (inr h))) = absurd (let no : NoValue j ≡ NoRoom _ = h.5.1 in cc)

@@ -6,7 +6,7 @@ use Rattle.jsonptr_comments.specs.Comments.{IsWithoutComments, IsUnterminated}
 use Rattle.jsonptr_in_text.specs.InText.{FindsInText, IsInTextError}
 use Rattle.jsonptr_patch.specs.declared.operation.Operation.{Operation}
 use Rattle.jsonptr_patch.specs.declared.operation.PatchError.TheVariants.{TestFailed}
-use Rattle.jsonptr_edit_in_text.specs.PatchInText.{IsPatchFault}
+use Rattle.jsonptr_edit_in_text.specs.PatchInText.{IsPatchError}
 use Rattle.jsonptr_edit_in_text.specs.declared.edited.EditError.TheVariants.{Refused}
 use Rattle.jsonptr_uses.specs.declared.commented.SettingError.{SettingError}
 use Rattle.jsonptr_uses.specs.declared.commented.SettingError.TheVariants.{Comment, InText, Memory}
@@ -23,4 +23,4 @@ IsSettingError text tokens (Memory e) = ⊤
 
 -- `FailsTest text os`: one of the operations `os` is a test that fails, in the document of the text without its comments
 abbrev pub FailsTest : Text → List Operation → Type 0
-FailsTest text os = (json : Text) × (k : ℕ) × IsWithoutComments text json × IsPatchFault json os (Refused (TestFailed k))
+FailsTest text os = (json : Text) × (k : ℕ) × IsWithoutComments text json × IsPatchError json os (Refused (TestFailed k))

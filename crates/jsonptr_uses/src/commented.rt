@@ -2,7 +2,7 @@
 ghost use Rattle.std.specs.Prelude.{IfOk, IfErr, MatchOption, string_bytes};
 ghost use Rattle.serde_json.specs.View.{view};
 ghost use Rattle.jsonptr.specs.Pointer.{tokens};
-ghost use Rattle.jsonptr_edit_in_text.specs.PatchInText.{PatchesInText, IsPatchFault};
+ghost use Rattle.jsonptr_edit_in_text.specs.PatchInText.{PatchesInText, IsPatchError};
 ghost use Rattle.jsonptr_edit_with_comments.specs.EditWithComments.{Becomes, IsWithCommentsError};
 ghost use Rattle.jsonptr_edit_with_comments.specs.Patches.{PatchEdits};
 ghost use Rattle.jsonptr_uses.specs.Commented.{HasSetting, IsSettingError, FailsTest};
@@ -63,7 +63,7 @@ pub fn upgraded(
         × PatchEdits text.now upgrade.items (string_bytes s))) }
     ensures refused { IfErr result (IsWithCommentsError
         (λ old new. PatchesInText old upgrade.items new)
-        (λ old e. IsPatchFault old upgrade.items e) text.now) }
+        (λ old e. IsPatchError old upgrade.items e) text.now) }
 {
     let mut buffers = Buffers::new(alloc);
     match apply_with_comments(alloc, &mut buffers, text, upgrade) {

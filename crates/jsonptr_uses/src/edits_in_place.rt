@@ -8,7 +8,7 @@ ghost use Rattle.jsonptr.specs.declared.resolve.Error.{Error};
 ghost use Rattle.jsonptr_in_text.specs.InText.{FindsInText, RefusesInText};
 ghost use Rattle.jsonptr_edit_in_text.specs.Bytes.{AssignsBytes, DeletesBytes};
 ghost use Rattle.jsonptr_edit_in_text.specs.EditInText.{AssignsInText, DeletesInText, LacksInText, IsAssignError, IsEditReadError};
-ghost use Rattle.jsonptr_edit_in_text.specs.PatchInText.{PatchesInText, MovesBytes, IsPatchFault};
+ghost use Rattle.jsonptr_edit_in_text.specs.PatchInText.{PatchesInText, MovesBytes, IsPatchError};
 ghost use Rattle.jsonptr_edit_in_text.specs.InPlace.{IsInPlaceError, StaysOneLine};
 ghost use Rattle.jsonptr_edit_in_text.specs.declared.edited.EditError.TheVariants.{Refused};
 ghost use Rattle.jsonptr_patch.specs.declared.operation.Operation.TheVariants.{Move};
@@ -19,8 +19,9 @@ use jsonptr_edit_in_text::{
     Buffers, EditError, InPlaceError, apply_in_place, apply_in_text, assign_in_place,
     delete_in_place, delete_in_text,
 };
-use jsonptr_in_text::{InTextError, exists_in_text};
+use jsonptr_in_text::exists_in_text;
 use jsonptr_patch::{Operation, PatchError};
+use jsonptr_value::ReadError;
 use serde_json::Value;
 use std::alloc::{AllocError, Global};
 use std::convert::Infallible;
@@ -36,7 +37,7 @@ pub fn set_existing(
     text: &str,
     pointer: Pointer<'_>,
     value: Value,
-) -> Result<Option<String>, InPlaceError<assign::Error>>
+) -> Result<Option<String>, InPlaceError<EditError<assign::Error>>>
     ensures set { IfOk result (λ o. MatchOption o
         ((e : Error) × RefusesInText text.now (tokens pointer.entry) e)
         (λ s. ((d : Data) × FindsInText text.now (tokens pointer.entry) d)
@@ -54,9 +55,8 @@ pub fn set_existing(
             Ok(Some(new))
         }
         Ok(false) => Ok(None),
-        Err(InTextError::NotJson) => Err(InPlaceError::Failed(EditError::NotJson)),
-        Err(InTextError::Resolve(_error)) => Ok(None),
-        Err(InTextError::Memory(error)) => Err(InPlaceError::Failed(EditError::Memory(error))),
+        Err(ReadError::NotJson) => Err(InPlaceError::Failed(EditError::NotJson)),
+        Err(ReadError::Memory) => Err(InPlaceError::Failed(EditError::Memory(AllocError))),
     }
 }
 
@@ -70,7 +70,7 @@ pub fn without(
     alloc: Global,
     text: &str,
     pointer: Pointer<'_>,
-) -> Result<String, InPlaceError<Infallible>>
+) -> Result<String, InPlaceError<EditError<Infallible>>>
     ensures deleted { IfOk result (λ s.
         (DeletesInText text.now (tokens pointer.entry) (string_bytes s)
         × DeletesBytes text.now (tokens pointer.entry) (string_bytes s))
@@ -99,12 +99,12 @@ pub fn moved(
     text: &str,
     from: PointerBuf,
     path: PointerBuf,
-) -> Result<String, InPlaceError<PatchError>>
+) -> Result<String, InPlaceError<EditError<PatchError>>>
     ensures moved { IfOk result (λ s. PatchesInText text.now (Move from path ∷ []) (string_bytes s)) }
     ensures bytes { IfOk result (λ s. MovesBytes text.now from path (string_bytes s)) }
     ensures refused { IfErr result (IsInPlaceError
         (PatchesInText text.now (Move from path ∷ []))
-        (IsPatchFault text.now (Move from path ∷ []))) }
+        (IsPatchError text.now (Move from path ∷ []))) }
 {
     let mut buffers = Buffers::new(alloc);
     match patch_of_move(alloc, from, path) {
@@ -136,9 +136,9 @@ pub fn migrated(
     operations: Vec<Operation>,
 ) -> Result<Option<String>, EditError<PatchError>>
     ensures migrated { IfOk result (λ o. MatchOption o
-        ((e : a_patch_error) × IsPatchFault text.now operations.items (Refused e))
+        ((e : a_patch_error) × IsPatchError text.now operations.items (Refused e))
         (λ s. PatchesInText text.now operations.items (string_bytes s))) }
-    ensures refused { IfErr result (IsPatchFault text.now operations.items) }
+    ensures refused { IfErr result (IsPatchError text.now operations.items) }
     ensures not_refused { IfErr result (λ e. (f : a_patch_error) → e ≡ Refused f → ⊥) }
 {
     match apply_in_text(alloc, text, operations) {

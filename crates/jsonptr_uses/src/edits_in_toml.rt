@@ -1,20 +1,21 @@
 //! Two edits in a TOML text that keep its comments, as in a manifest that people keep by hand.
-ghost use Rattle.std.specs.Prelude.{IfOk, string_bytes};
+ghost use Rattle.std.specs.Prelude.{IfOk, MatchOption, string_bytes};
 ghost use Rattle.toml.specs.View.{view};
 ghost use Rattle.jsonptr.specs.Pointer.{tokens};
-ghost use Rattle.jsonptr_uses.specs.EditsInToml.{AssignsAndDeletes};
+ghost use Rattle.jsonptr_uses.specs.EditsInToml.{AssignsAndDeletes, AssignsAndLacks};
 
 use jsonptr::Pointer;
-use jsonptr_edit_in_toml::{InPlaceError, assign_in_place, delete_in_place};
+use jsonptr_edit_in_toml::{InPlaceError, assign_in_toml_in_place, delete_in_toml_in_place};
+use jsonptr_in_toml::InTomlError;
 use std::alloc::Global;
 use toml::Value;
 
 /// Assigns a value at one pointer and deletes the one at another, in place or not at all: a key that
-/// is renamed, or an option that another one replaces.
+/// is renamed, or an option that another one replaces. Returns `None` if there is nothing to delete.
 ///
 /// # Errors
 ///
-/// Those of [`assign_in_place`], and then those of [`delete_in_place`]. The text is borrowed, so
+/// Those of [`assign_in_toml_in_place`], and then those of [`delete_in_toml_in_place`]. The text is borrowed, so
 /// nothing is changed by half.
 pub fn replace_in_toml(
     alloc: Global,
@@ -22,10 +23,12 @@ pub fn replace_in_toml(
     new: Pointer<'_>,
     value: Value,
     old: Pointer<'_>,
-) -> Result<String, InPlaceError>
-    ensures { IfOk result (λ s. AssignsAndDeletes text.now (tokens new.entry) (view value)
-        (tokens old.entry) (string_bytes s)) }
+) -> Result<Option<String>, InPlaceError<InTomlError>>
+    ensures { IfOk result (λ o. MatchOption o
+        (AssignsAndLacks text.now (tokens new.entry) (view value) (tokens old.entry))
+        (λ s. AssignsAndDeletes text.now (tokens new.entry) (view value)
+        (tokens old.entry) (string_bytes s))) }
 {
-    let both = assign_in_place(alloc, text, new, value)?;
-    delete_in_place(alloc, both.as_str(), old)
+    let both = assign_in_toml_in_place(alloc, text, new, value)?;
+    delete_in_toml_in_place(alloc, both.as_str(), old)
 }

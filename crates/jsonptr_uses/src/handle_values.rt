@@ -14,16 +14,16 @@ ghost use Rattle.jsonptr_c_calls.specs.Locations.{IsNotLocated, IsNotPointedAt, 
 ghost use Rattle.jsonptr_c_calls.specs.Patches.{IsDiffText};
 ghost use Rattle.jsonptr_c_calls.specs.Pointers.{HasTokens};
 ghost use Rattle.jsonptr_c_calls.specs.Values.{FindsAtPointer, FindsString, HoldsWith};
-ghost use Rattle.jsonptr_c_calls.specs.declared.call_error.CallError.TheVariants.{NotFound};
-ghost use Rattle.jsonptr_c_calls.specs.declared.values.TextLayout.TheVariants.{Compact};
+ghost use Rattle.jsonptr_c_calls.specs.declared.call_error.CallError.TheVariants.{Resolve};
+ghost use Rattle.jsonptr_in_text.specs.declared.format.Format.TheVariants.{Compact};
 
 use jsonptr_c_calls::call_error::CallError;
 use jsonptr_c_calls::documents::{diff, free, node_at, parse, string_at};
 use jsonptr_c_calls::kind::STRING;
 use jsonptr_c_calls::locations::{locate_in, pointer_at_in};
 use jsonptr_c_calls::texts::print_in;
-use jsonptr_c_calls::values::TextLayout;
 use jsonptr_c_handle::handle::Handle;
+use jsonptr_in_text::Format;
 use std::alloc::Global;
 
 /// Copies the string that the pointer resolves to in a JSON text to the buffer, and returns its
@@ -102,7 +102,7 @@ fn changes_to(
         × IsDiffText Compact (view v) m (take n out.new))) }
 {
     parse(alloc, second, text)?;
-    diff(alloc, first, second, TextLayout::Compact, out)
+    diff(alloc, first, second, Format::Compact, out)
 }
 
 /// Copies the JSON text of the value that the pointer resolves to in a text to the buffer, and returns
@@ -110,7 +110,7 @@ fn changes_to(
 ///
 /// # Errors
 ///
-/// Those of `print_in`, except [`CallError::NotFound`].
+/// Those of `print_in`, except [`CallError::Resolve`].
 pub fn field_in(
     alloc: Global,
     text: &[u8],
@@ -118,14 +118,14 @@ pub fn field_in(
     out: &mut [u8],
 ) -> Result<Option<usize>, CallError>
     ensures found { IfOk result (λ found. MatchOption found
-        ((e : Error) × IsNotPrintedFrom Compact text.now pointer.now (length out.old) (NotFound e))
+        ((e : Error) × IsNotPrintedFrom Compact text.now pointer.now (length out.old) (Resolve e))
         (λ n. FindsTextIn Compact text.now pointer.now (take n out.new))) }
     ensures refused { IfErr result
         (IsNotPrintedFrom Compact text.now pointer.now (length out.old)) }
 {
-    match print_in(alloc, text, pointer, TextLayout::Compact, out) {
+    match print_in(alloc, text, pointer, Format::Compact, out) {
         Ok(copied) => Ok(Some(copied)),
-        Err(CallError::NotFound(_error)) => Ok(None),
+        Err(CallError::Resolve(_error)) => Ok(None),
         Err(failure) => Err(failure),
     }
 }

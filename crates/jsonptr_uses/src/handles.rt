@@ -4,13 +4,13 @@ ghost use Rattle.serde_json.specs.Data.{Data};
 ghost use Rattle.serde_json.specs.Read.{read};
 ghost use Rattle.serde_json.specs.View.{view};
 ghost use Rattle.jsonptr_c_calls.specs.Patches.{AppliesText};
-ghost use Rattle.jsonptr_c_calls.specs.declared.values.TextLayout.TheVariants.{Compact};
+ghost use Rattle.jsonptr_in_text.specs.declared.format.Format.TheVariants.{Compact};
 ghost use Rattle.jsonptr_c_calls.specs.Values.{HoldsWith, FindsTextOf};
 
 use jsonptr_c_calls::call_error::CallError;
 use jsonptr_c_calls::documents::{free, parse, patch, print_at};
-use jsonptr_c_calls::values::TextLayout;
 use jsonptr_c_handle::handle::Handle;
+use jsonptr_in_text::Format;
 use std::alloc::Global;
 
 /// Applies a patch document to a JSON text, copies the value that the pointer resolves to in the new
@@ -53,5 +53,5 @@ fn patched_value(
         × AppliesText operations.now (view v) m × FindsTextOf Compact m pointer.now (take n out.new))) }
 {
     patch(alloc, document, operations)?;
-    print_at(alloc, document, pointer, TextLayout::Compact, out)
+    print_at(alloc, document, pointer, Format::Compact, out)
 }

@@ -29,7 +29,7 @@ pub fn number_in_text(
 ) -> Result<Option<u64>, TextError>
     ensures number { IfOk result (λ n. (d : Data) × (read text.now ≡ Some d)
         × IsNumberAt d (tokens pointer.entry) n) }
-    ensures unread { result ≡ Err NotJson → read text.now ≡ None }
+    ensures not_json { result ≡ Err NotJson → read text.now ≡ None }
 {
     match resolve_in_text(alloc, text, pointer) {
         Ok(value) => Ok(value.as_u64()),

@@ -27,7 +27,7 @@ use jptr_tasks::task_error::TaskError;
 use jsonptr::Pointer;
 use jsonptr_edit_in_text::RawValue;
 use jsonptr_paths::listing::Listed;
-use jsonptr_paths::text_listing::list_text;
+use jsonptr_paths::text_listing::list_in_text;
 use jsonptr_value::ReadError;
 use std::alloc::Global;
 use std::io;
@@ -95,7 +95,7 @@ pub fn copy_through_lines<R: io::Read, W: io::Write>(
     paths_law();
     let mut bytes = Vec::new(alloc);
     let mut lines = Vec::new(alloc);
-    run_list(alloc, Listed::AllNodes, input, &mut bytes, &mut lines)?;
+    run_list(Listed::AllNodes, input, &mut bytes, &mut lines)?;
     let mut stored = lines.as_slice();
     run_build(alloc, Layout::Compact, &mut stored, output)
 }
@@ -105,11 +105,11 @@ pub fn copy_through_lines<R: io::Read, W: io::Write>(
 ///
 /// # Errors
 ///
-/// Those of [`list_text`].
+/// Those of [`list_in_text`].
 pub fn has_leaves(alloc: Global, text: &str, lines: &str) -> Result<bool, ReadError>
     ensures leaves { IfOk result (λ same. IsTrue same
         → (d : Data) × (read text.now ≡ Some d) × Lists Leaves d lines.now) }
 {
-    let listed = list_text(alloc, text, Listed::Leaves)?;
+    let listed = list_in_text(alloc, text, Listed::Leaves)?;
     Ok(listed.as_str() == lines)
 }

@@ -21,6 +21,6 @@ pub fn restored(alloc: Global, file: &str, printed: &str) -> Result<String, Rela
 {
     match relayout_text(alloc, file, printed)? {
         Relaid::Kept(text) => Ok(text),
-        Relaid::Printed(text) => Ok(text),
+        Relaid::Rewritten(text) => Ok(text),
     }
 }

@@ -3,12 +3,13 @@ ghost use Rattle.std.specs.Prelude.{◌≡◌, ◌⊎◌, IfOk, IfErr, IsTrue, M
 ghost use Rattle.toml.specs.Data.{Data};
 ghost use Rattle.toml.specs.View.{view};
 ghost use Rattle.jsonptr.specs.Pointer.{tokens};
-ghost use Rattle.jsonptr_in_toml.specs.InToml.{FindsInToml, AssignsInToml, DeletesInToml, ListsInToml, FailsToFindInToml, FailsToAssign, FailsToDeleteInToml, FailsToListToml};
-ghost use Rattle.jsonptr_in_toml.specs.declared.error.InTomlError.TheVariants.{NotThere};
+ghost use Rattle.jsonptr_in_toml.specs.InToml.{FindsInToml, AssignsAndPrintsToml, DeletesAndPrintsToml, LacksInToml, ListsInToml, FailsToFindInToml, FailsToAssignAndPrint, FailsToDeleteAndPrint, FailsToListToml};
 ghost use Rattle.jsonptr_paths.specs.declared.listing.Listed.TheVariants.{Leaves};
 
 use jsonptr::Pointer;
-use jsonptr_in_toml::{InTomlError, assign_in_toml, delete_in_toml, find_in_toml, list_in_toml};
+use jsonptr_in_toml::{
+    InTomlError, assign_and_print_toml, delete_and_print_toml, list_in_toml, resolve_in_toml,
+};
 use jsonptr_paths::listing::Listed;
 use std::alloc::Global;
 use toml::Value;
@@ -18,7 +19,7 @@ use toml::Value;
 ///
 /// # Errors
 ///
-/// Those of [`find_in_toml`], except that there is no value, and those of [`assign_in_toml`].
+/// Those of [`resolve_in_toml`], except that there is no value, and those of [`assign_and_print_toml`].
 pub fn with_default(
     alloc: Global,
     text: &str,
@@ -27,14 +28,14 @@ pub fn with_default(
 ) -> Result<Option<String>, InTomlError>
     ensures assigned { IfOk result (λ o. MatchOption o
         ((v : Data) × FindsInToml text.now (tokens pointer.entry) v)
-        (λ s. AssignsInToml text.now (tokens pointer.entry) (view value) (string_bytes s))) }
+        (λ s. AssignsAndPrintsToml text.now (tokens pointer.entry) (view value) (string_bytes s))) }
     ensures refused { IfErr result (λ e. FailsToFindInToml text.now (tokens pointer.entry) e
-        ⊎ FailsToAssign text.now (tokens pointer.entry) (view value) e) }
+        ⊎ FailsToAssignAndPrint text.now (tokens pointer.entry) (view value) e) }
 {
-    match find_in_toml(alloc, text, pointer) {
+    match resolve_in_toml(alloc, text, pointer) {
         Ok(_found) => Ok(None),
-        Err(InTomlError::NoValue(_error)) => {
-            let new = assign_in_toml(alloc, text, pointer, value)?;
+        Err(InTomlError::Resolve(_error)) => {
+            let new = assign_and_print_toml(alloc, text, pointer, value)?;
             Ok(Some(new))
         }
         Err(error) => Err(error),
@@ -45,21 +46,19 @@ pub fn with_default(
 ///
 /// # Errors
 ///
-/// Those of [`delete_in_toml`], except that there is no value.
+/// Those of [`delete_and_print_toml`].
 pub fn without_setting(
     alloc: Global,
     text: &str,
     pointer: Pointer<'_>,
 ) -> Result<String, InTomlError>
-    ensures deleted { IfOk result (λ s. DeletesInToml text.now (tokens pointer.entry) (string_bytes s)
-        ⊎ (FailsToDeleteInToml text.now (tokens pointer.entry) NotThere × (string_bytes s ≡ text.now))) }
-    ensures refused { IfErr result (FailsToDeleteInToml text.now (tokens pointer.entry)) }
-    ensures found { result ≡ Err NotThere → ⊥ }
+    ensures deleted { IfOk result (λ s. DeletesAndPrintsToml text.now (tokens pointer.entry) (string_bytes s)
+        ⊎ (LacksInToml text.now (tokens pointer.entry) × (string_bytes s ≡ text.now))) }
+    ensures refused { IfErr result (FailsToDeleteAndPrint text.now (tokens pointer.entry)) }
 {
-    match delete_in_toml(alloc, text, pointer) {
-        Ok(new) => Ok(new),
-        Err(InTomlError::NotThere) => Ok(String::from_str(alloc, text)?),
-        Err(error) => Err(error),
+    match delete_and_print_toml(alloc, text, pointer)? {
+        Some(new) => Ok(new),
+        None => Ok(String::from_str(alloc, text)?),
     }
 }
 

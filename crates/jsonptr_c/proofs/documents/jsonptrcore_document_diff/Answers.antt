@@ -2,12 +2,12 @@ use Rattle.std.proofs.Common.{length, subst}
 use Rattle.serde_json.specs.View.{view}
 use Rattle.jsonptr_c_calls.specs.Failures.{FailsOnHandle}
 use Rattle.jsonptr_c_calls.specs.Patches.{IsNotCompared}
-use Rattle.jsonptr_c_calls.specs.declared.values.TextLayout.{TextLayout}
+use Rattle.jsonptr_in_text.specs.declared.format.Format.{Format}
 use Rattle.jsonptr_c.proofs.documents.jsonptrcore_document_diff.Goals as goal
 
 pub returns-in-Err-clause-refused : goal.returns-in-Err-clause-refused
 returns-in-Err-clause-refused c = λ failed. (
   c.in-Err.failure,
   c.fail_with_length.ensures.reported,
-  subst (λ (l : TextLayout). FailsOnHandle c.args.old.now (λ v. FailsOnHandle c.args.new.now (λ w. IsNotCompared l (view v) (view w) (length c.args.out.now) c.in-Err.failure) c.in-Err.failure) c.in-Err.failure) c.layout.ensures c.in-Err.ensures.refused,
+  subst (λ (l : Format). FailsOnHandle c.args.old.now (λ v. FailsOnHandle c.args.new.now (λ w. IsNotCompared l (view v) (view w) (length c.args.out.now) c.in-Err.failure) c.in-Err.failure) c.in-Err.failure) c.format_for.ensures c.in-Err.ensures.refused,
 )

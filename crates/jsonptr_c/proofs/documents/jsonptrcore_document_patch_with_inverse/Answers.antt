@@ -1,11 +1,11 @@
 use Rattle.std.proofs.Common.{◌⊎◌, length, subst}
 use Rattle.jsonptr_c_calls.specs.Patches.{IsNotAppliedWithBack, IsNotPatchText}
-use Rattle.jsonptr_c_calls.specs.declared.values.TextLayout.{TextLayout}
+use Rattle.jsonptr_in_text.specs.declared.format.Format.{Format}
 use Rattle.jsonptr_c.proofs.documents.jsonptrcore_document_patch_with_inverse.Goals as goal
 
 pub returns-in-Err-clause-refused : goal.returns-in-Err-clause-refused
 returns-in-Err-clause-refused c = λ failed. (
   c.in-Err.failure,
   c.fail_with_length.ensures.reported,
-  subst (λ (l : TextLayout). IsNotPatchText c.args.text.now c.in-Err.failure ⊎ IsNotAppliedWithBack l c.args.text.now c.args.document.now (length c.args.out.now) c.in-Err.failure) c.layout.ensures c.in-Err.ensures.refused,
+  subst (λ (l : Format). IsNotPatchText c.args.text.now c.in-Err.failure ⊎ IsNotAppliedWithBack l c.args.text.now c.args.document.now (length c.args.out.now) c.in-Err.failure) c.format_for.ensures c.in-Err.ensures.refused,
 )

@@ -19,7 +19,7 @@ returns-in-Ok-clause-applied c =
       kept,
       (
         (c.in_ok-operations.operations.items, c.in_ok-operations.ensures.read, c.in-Ok.ensures.shallow, c.in-Ok.ensures.applied),
-        subst (λ (out : List ℕ). IsBackText c.args.layout (view made.document) (view value) out) (sym copied) c.in-Ok.ensures.inverse,
+        subst (λ (out : List ℕ). IsBackText c.args.format (view made.document) (view value) out) (sym copied) c.in-Ok.ensures.inverse,
       ),
     ))
     c.put_patched.ensures.copied c.put_patched.ensures.held

@@ -1,12 +1,12 @@
 use Rattle.std.proofs.Common.{◌-◌, ◌≤◌, length}
-use Rattle.jsonptr_comments.specs.PrivateScanning.{Done}
+use Rattle.jsonptr_comments.specs.PrivateStepping.{Read}
 use Rattle.jsonptr_comments.proofs.comments.blank_comments.Given as goal
 
-abbrev pub invariant-loop-state : goal.invariant-loop-state
-invariant-loop-state l = record {
-  done : Done l.fn.text l.text l.state.at l.state.value l.state.comma;
-  within : l.state.at ≤ length l.text;
+abbrev pub invariant-loop-at : goal.invariant-loop-at
+invariant-loop-at l = record {
+  read : Read l.fn.text l.text l.at;
+  within : l.at ≤ length l.text;
 }
 
-abbrev pub decreases-loop-state : goal.decreases-loop-state
-decreases-loop-state l = length l.text - l.state.at
+abbrev pub decreases-loop-at : goal.decreases-loop-at
+decreases-loop-at l = length l.text - l.at

@@ -7,5 +7,5 @@ returns-clause-borrowed c = (
   λ b. absurd b,
   λ e.
       let plain = (c.unchanged_law.ensures c.args.text.now _ c.in_ok-new.ensures.without).0 e in
-      absurd (c.plain_part-state.ensures.stops (omega arith) (subst IsPlain (sym c.as_bytes.ensures.value) plain)),
+      absurd (c.plain_end-at.ensures.stops (omega arith) (subst IsPlain (sym c.as_bytes.ensures.value) plain)),
 )

@@ -1,15 +1,11 @@
-use Rattle.std.proofs.Common.{true, false}
-use Rattle.jsonptr_comments.proofs.StepLemmas.{done_space, done_plain}
+use Rattle.std.proofs.Common.{sym, ◌∙◌, arith}
+use Rattle.jsonptr_comments.proofs.ReadLemmas.{read_string, read_other}
 use Rattle.jsonptr_comments.proofs.step.plain_step.Goals as goal
 
-pub returns-in-Space-clause-goes : goal.returns-in-Space-clause-goes
-returns-in-Space-clause-goes c = λ all d.
-    done_space all c.args.text.now c.args.state.at c.args.state.value c.args.state.comma c.requires c.in-Space.ensures d
+pub returns-then-byte-eq34-clause-goes : goal.returns-then-byte-eq34-clause-goes
+returns-then-byte-eq34-clause-goes c = λ all r.
+    read_string all c.args.text.now c.args.at c.string_end.result c.requires c.if-byte-eq34.true c.string_end.ensures.after (omega (arith, c.string_end.ensures.forward)) c.string_end.ensures.within r
 
-pub returns-in-Opening-clause-goes : goal.returns-in-Opening-clause-goes
-returns-in-Opening-clause-goes c = λ all d.
-    done_plain all c.args.text.now c.args.state.at c.args.state.value c.args.state.comma false c.requires c.in-Opening.ensures d
-
-pub returns-in-Plain-clause-goes : goal.returns-in-Plain-clause-goes
-returns-in-Plain-clause-goes c = λ all d.
-    done_plain all c.args.text.now c.args.state.at c.args.state.value c.args.state.comma true c.requires c.in-Plain.ensures d
+pub returns-else-is_closing-clause-goes : goal.returns-else-is_closing-clause-goes
+returns-else-is_closing-clause-goes c = λ all r.
+    read_other all c.args.text.now c.args.at c.requires c.if-byte-eq34.false c.if-byte-eq47.false (sym c.is_closing.ensures ∙ c.if-is_closing.false) r

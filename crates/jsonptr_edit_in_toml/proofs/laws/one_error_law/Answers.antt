@@ -1,4 +1,4 @@
-use Rattle.jsonptr_edit_in_toml.proofs.FailingLemmas.{one_assign_error, one_delete_error}
+use Rattle.jsonptr_edit_in_toml.proofs.FailingLemmas.{one_assign_error, one_delete_error, lacking_error, lacking_or_deleted}
 use Rattle.jsonptr_edit_in_toml.proofs.laws.one_error_law.Goals as goal
 
 pub returns-clause-assign : goal.returns-clause-assign
@@ -6,3 +6,9 @@ returns-clause-assign c = one_assign_error c.assign_law.ensures.not_both c.assig
 
 pub returns-clause-delete : goal.returns-clause-delete
 returns-clause-delete c = one_delete_error
+
+pub returns-clause-lacking : goal.returns-clause-lacking
+returns-clause-lacking c = lacking_error
+
+pub returns-clause-not_both : goal.returns-clause-not_both
+returns-clause-not_both c = lacking_or_deleted

@@ -20,8 +20,8 @@ returns-clause-applied c =
     (subst (λ (t : Text). PatchesInText old os t) (sym c.as_str.ensures.value) made)
     c.edit_in_turn.ensures.laid_out
 
-pub returns-clause-edits : goal.returns-clause-edits
-returns-clause-edits c =
+pub returns-clause-bytes : goal.returns-clause-bytes
+returns-clause-bytes c =
     let text = c.args.text.now in
     let old = c.as_str-old.result.now in
     let new = c.as_str.result.now in

@@ -5,7 +5,7 @@ use Rattle.jsonptr_journal.proofs.addition.restore.Goals as goal
 pub unreachable-requires : goal.unreachable-requires
 unreachable-requires g c =
     let r = c.requires.replaced in
-    replaced_leads c.args.path.now (contents_of c.args.old) r.1 r.0 (g.D.NodeMut.contents c.args.document.now) r.2 c.in-Err.ensures.missing
+    replaced_leads c.args.path.now (contents_of c.args.old) r.1 r.0 (g.D.NodeMut.contents c.args.document.now) r.2 c.in-Err.ensures.refused
 
 pub returns : goal.returns
 returns g c = λ was v h.

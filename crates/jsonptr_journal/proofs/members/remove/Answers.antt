@@ -10,8 +10,8 @@ unreachable-requires c = not_lacking (get_member c.args.key.now (members_of c.ar
 pub returns-clause-found : goal.returns-clause-found
 returns-clause-found c = map_finds c.args.members.now c.args.key.now c.in-Some.value (sym c.in-Some.ensures.value)
 
-pub returns-clause-left : goal.returns-clause-left
-returns-clause-left c = ap members_in c.in-Some.ensures.entries ∙ members-remove c.args.key.now c.args.members.now.entries
+pub returns-clause-removed : goal.returns-clause-removed
+returns-clause-removed c = ap members_in c.in-Some.ensures.entries ∙ members-remove c.args.key.now c.args.members.now.entries
 
 pub returns-clause-rise : goal.returns-clause-rise
 returns-clause-rise c = map_rises c.args.members.now c.len-len.ensures.ordered

@@ -18,5 +18,5 @@ returns-clause-undone g c =
       new = object_of n;
       there = c.in-Some.ensures.value;
       made = (rw c.in-Some.is at (c.object_mut.follows.holds n)) refl;
-      related = leaves_room (string_bytes c.args.key) c.as_str.result.now (members_of c.in_ok-room.room) (contents_of c.remove-value.result) (members_of m) (members_of n) c.as_str.ensures.value c.remove-value.ensures.found c.remove-value.ensures.left c.in_ok-room.ensures;
+      related = leaves_room (string_bytes c.args.key) c.as_str.result.now (members_of c.in_ok-room.room) (contents_of c.remove-value.result) (members_of m) (members_of n) c.as_str.ensures.value c.remove-value.ensures.found c.remove-value.ensures.removed c.in_ok-room.ensures;
     }

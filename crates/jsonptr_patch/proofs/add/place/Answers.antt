@@ -1,12 +1,12 @@
 use Rattle.std.proofs.Common.{inl, refl, ap, sym, ◌∙◌, length, option_map}
 use Rattle.jsonptr.specs.Content.{label_of}
 use Rattle.jsonptr_journal.specs.declared.addition.Target.{Target}
-use Rattle.jsonptr_journal.specs.declared.locate.Located.{Located}
+use Rattle.jsonptr_journal.specs.declared.locate.LocatedNode.{LocatedNode}
 use Rattle.jsonptr_patch.proofs.AddingLemmas.{scalar_lacks, parent_refused}
 use Rattle.jsonptr_patch.proofs.add.place.Goals as goal
 
 pub returns-in-Err-clause-refused : goal.returns-in-Err-clause-refused
-returns-in-Err-clause-refused c = rw c.no_target.ensures (parent_refused Located Target _ _ c.in-Err.fault _ _ _ c.in-Some.ensures c.in-Err.ensures.refused)
+returns-in-Err-clause-refused c = rw c.no_target.ensures (parent_refused LocatedNode Target _ _ c.in-Err.fault _ _ _ c.in-Some.ensures c.in-Err.ensures.refused)
 
 pub returns-clause-refused : goal.returns-clause-refused
 returns-clause-refused c =

@@ -3,7 +3,7 @@ use Rattle.std.specs.declared.alloc.Global.{Global}
 use Rattle.jsonptr_patch.specs.declared.operation.Operation.{Operation}
 use Rattle.jsonptr_patch.specs.declared.operation.Operation.TheVariants.{Move}
 use Rattle.jsonptr_edit_in_text.specs.InPlace.{IsInPlaceError}
-use Rattle.jsonptr_edit_in_text.specs.PatchInText.{PatchesInText, PatchBytes, MovesBytes, IsPatchFault}
+use Rattle.jsonptr_edit_in_text.specs.PatchInText.{PatchesInText, PatchBytes, MovesBytes, IsPatchError}
 use Rattle.jsonptr_uses.proofs.edits_in_place.moved.Goals as goal
 
 -- the bytes of a patch of one move are those of the move
@@ -20,5 +20,5 @@ returns-in-Ok-clause-bytes c =
 
 pub returns-in-Ok-clause-refused : goal.returns-in-Ok-clause-refused
 returns-in-Ok-clause-refused c =
-    subst (λ (ps : List Operation). IfErr c.apply_in_place.result (IsInPlaceError (PatchesInText c.args.text.now ps) (IsPatchFault c.args.text.now ps))) c.in-Ok.ensures
+    subst (λ (ps : List Operation). IfErr c.apply_in_place.result (IsInPlaceError (PatchesInText c.args.text.now ps) (IsPatchError c.args.text.now ps))) c.in-Ok.ensures
     c.apply_in_place.ensures.refused

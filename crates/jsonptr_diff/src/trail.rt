@@ -10,13 +10,13 @@ use std::borrow::CowStr;
 ///
 /// A location borrows that of its parent, so a step needs no allocation.
 #[derive(Clone, Copy)]
-pub enum Location<'a> {
+pub enum Trail<'a> {
     /// The root.
     Root,
     /// The member of the object at this location that has this key.
-    Member(&'a Location<'a>, &'a str),
+    Member(&'a Trail<'a>, &'a str),
     /// The element of the array at this location that has this index.
-    Element(&'a Location<'a>, usize),
+    Element(&'a Trail<'a>, usize),
 }
 
 /// Returns the pointer to a location.
@@ -24,17 +24,17 @@ pub enum Location<'a> {
 /// # Errors
 ///
 /// [`AllocError`] if an allocation fails.
-pub fn to_pointer(alloc: Global, at: &Location<'_>) -> Result<PointerBuf, AllocError>
+pub fn to_pointer(alloc: Global, at: &Trail<'_>) -> Result<PointerBuf, AllocError>
     ensures { IfOk result (λ path. path ≡ tokens_of at.now) }
 {
     match at {
-        Location::Root => Ok(PointerBuf::new(alloc)),
-        Location::Member(parent, key) => {
+        Trail::Root => Ok(PointerBuf::new(alloc)),
+        Trail::Member(parent, key) => {
             let mut path = to_pointer(alloc, parent)?;
             path.push_back(Token::new(alloc, CowStr::Borrowed(key))?)?;
             Ok(path)
         }
-        Location::Element(parent, index) => {
+        Trail::Element(parent, index) => {
             let mut path = to_pointer(alloc, parent)?;
             path.push_back(Token::from_number(alloc, *index)?)?;
             Ok(path)

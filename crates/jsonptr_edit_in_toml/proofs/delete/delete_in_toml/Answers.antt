@@ -1,32 +1,34 @@
+use Rattle.std.proofs.lemmas.Result.{err_from_is_err_and}
 use Rattle.toml.specs.View.{view}
 use Rattle.jsonptr.specs.Pointer.{tokens}
 use Rattle.jsonptr.specs.TomlValue.{HasSortedKeys}
 use Rattle.jsonptr_in_toml.specs.InToml.{DeletesTo}
 use Rattle.jsonptr_edit_in_toml.specs.Failing.{DeletesInOrder}
-use Rattle.jsonptr_edit_in_toml.proofs.ChangingLemmas.{reads_in_order, deletes_then, deleted_print, delete_fails_then}
-use Rattle.jsonptr_edit_in_toml.proofs.delete.delete_in_toml_text.Goals as goal
+use Rattle.jsonptr_edit_in_toml.proofs.ChangingLemmas.{reads_in_order, deletes_then, deleted_print, delete_fault}
+use Rattle.jsonptr_edit_in_toml.proofs.delete.delete_in_toml.Goals as goal
 
-pub returns-in-Some-clause-deleted : goal.returns-in-Some-clause-deleted
-returns-in-Some-clause-deleted c =
+pub returns-in_ok-choose-in-Some-clause-deleted : goal.returns-in_ok-choose-in-Some-clause-deleted
+returns-in_ok-choose-in-Some-clause-deleted c =
     let found = rw c.in-Some.is at c.in_ok-delete.ensures.found in
     let made : DeletesTo c.args.text.now (tokens c.args.pointer) (view c.delete.new.self) = (view c.in_ok-document.document, c.in_ok-document.ensures.document, (view c.in-Some.field-0, found), c.in_ok-delete.ensures.deleted) in
-    deletes_then c.args.text.now (tokens c.args.pointer) (view c.delete.new.self) c.choose.result made c.choose.ensures.document
+    deletes_then c.args.text.now (tokens c.args.pointer) (view c.delete.new.self) c.in_ok-choose-in-Some.field-0 made c.in_ok-choose-in-Some.ensures.document
 
-pub returns-in-Some-clause-printed : goal.returns-in-Some-clause-printed
-returns-in-Some-clause-printed c =
+pub returns-in_ok-choose-in-Some-clause-printed : goal.returns-in_ok-choose-in-Some-clause-printed
+returns-in_ok-choose-in-Some-clause-printed c =
     let found = rw c.in-Some.is at c.in_ok-delete.ensures.found in
     let made : DeletesTo c.args.text.now (tokens c.args.pointer) (view c.delete.new.self) = (view c.in_ok-document.document, c.in_ok-document.ensures.document, (view c.in-Some.field-0, found), c.in_ok-delete.ensures.deleted) in
-    deleted_print c.args.text.now (tokens c.args.pointer) (view c.delete.new.self) c.choose.result made c.choose.ensures.printed
+    deleted_print c.args.text.now (tokens c.args.pointer) (view c.delete.new.self) c.in_ok-choose-in-Some.field-0 made c.in_ok-choose-in-Some.ensures.printed
 
-pub returns-in-Some-clause-refused : goal.returns-in-Some-clause-refused
-returns-in-Some-clause-refused c =
+pub returns-in_err-choose-in-Some-clause-refused : goal.returns-in_err-choose-in-Some-clause-refused
+returns-in_err-choose-in-Some-clause-refused c =
+    let p = err_from_is_err_and c.from_residual-in_err-choose-in-Some.result c.from_residual-in_err-choose-in-Some.ensures.1 in
     let found = rw c.in-Some.is at c.in_ok-delete.ensures.found in
     let reads = c.in_ok-document.ensures.document in
     let old : HasSortedKeys (view c.in_ok-document.document) = reads_in_order c.args.text.now (view c.in_ok-document.document) reads in
     let made : DeletesInOrder c.args.text.now (tokens c.args.pointer) (view c.delete.new.self) = ((view c.in_ok-document.document, reads, (view c.in-Some.field-0, found), c.in_ok-delete.ensures.deleted), c.in_ok-delete.ensures.sorted old) in
-    delete_fails_then c.args.text.now (tokens c.args.pointer) (view c.delete.new.self) c.choose.result made c.choose.ensures.refused
+    rw (p.1, p.2) (delete_fault c.args.text.now (tokens c.args.pointer) (view c.delete.new.self) _ made c.in_err-choose-in-Some.ensures.refused)
 
-pub returns-in-None-clause-refused : goal.returns-in-None-clause-refused
-returns-in-None-clause-refused c =
+pub returns-in-None-clause-deleted : goal.returns-in-None-clause-deleted
+returns-in-None-clause-deleted c =
     let none = rw c.in-None.is at c.in_ok-delete.ensures.found in
     (view c.in_ok-document.document, c.in_ok-document.ensures.document, none.0)

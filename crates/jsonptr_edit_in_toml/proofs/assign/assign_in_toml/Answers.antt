@@ -6,10 +6,10 @@ use Rattle.jsonptr.specs.TomlValue.{HasSortedKeys}
 use Rattle.jsonptr_in_toml.specs.InToml.{AssignsTo}
 use Rattle.jsonptr_edit_in_toml.specs.Failing.{AssignsInOrder}
 use Rattle.jsonptr_edit_in_toml.proofs.ChangingLemmas.{reads_in_order, refuted, not_more, assigned_print, assign_fails_then}
-use Rattle.jsonptr_edit_in_toml.proofs.assign.assign_in_toml_text.Goals as goal
+use Rattle.jsonptr_edit_in_toml.proofs.assign.assign_in_toml.Goals as goal
 
-pub returns-then-is_long-clause-refused : goal.returns-then-is_long-clause-refused
-returns-then-is_long-clause-refused c = inl ((view c.in_ok-document.document, c.in_ok-document.ensures.document), c.is_long.ensures.0 c.if-is_long.true)
+pub returns-then-has_too_many_tokens-clause-refused : goal.returns-then-has_too_many_tokens-clause-refused
+returns-then-has_too_many_tokens-clause-refused c = inl ((view c.in_ok-document.document, c.in_ok-document.ensures.document), c.has_too_many_tokens.ensures.0 c.if-has_too_many_tokens.true)
 
 pub returns-in-Ok-clause-printed : goal.returns-in-Ok-clause-printed
 returns-in-Ok-clause-printed c =
@@ -21,5 +21,5 @@ returns-in-Ok-clause-refused c =
     let reads = c.in_ok-document.ensures.document in
     let old : HasSortedKeys (view c.in_ok-document.document) = reads_in_order c.args.text.now (view c.in_ok-document.document) reads in
     let made : AssignsInOrder c.args.text.now (tokens c.args.pointer) (view c.args.value) (view c.assign.new.self) = ((view c.in_ok-document.document, reads, (_, c.in-Ok.ensures.assigned.assigned)), λ sorted. c.in-Ok.ensures.sorted sorted old) in
-    let short : length (tokens c.args.pointer) ≤ suc max_depth = not_more (suc max_depth) (length (tokens c.args.pointer)) (refuted _ _ c.is_long.ensures.1 c.if-is_long.false) in
+    let short : length (tokens c.args.pointer) ≤ suc max_depth = not_more (suc max_depth) (length (tokens c.args.pointer)) (refuted _ _ c.has_too_many_tokens.ensures.1 c.if-has_too_many_tokens.false) in
     assign_fails_then c.args.text.now (tokens c.args.pointer) (view c.args.value) (view c.assign.new.self) c.choose.result short made c.choose.ensures.refused

@@ -1,9 +1,9 @@
 //! Where an element of an array or a member of an inline table is put in. These are hints: no contract
 //! says that they are right.
-use crate::inline::{Container, Part, container_of};
+use crate::inline::{InlineChild, InlineContainer, container_of};
 use crate::keys::push_keys;
 use crate::outline::{Outline, Role};
-use crate::plan::{Addition, Keys, TomlChild};
+use crate::plan::{AdditionPlan, Keys, TomlChild};
 use crate::span::{
     ByteSpan, ends_line, is_comment_line, is_tight, line_end, line_start, newline_of, skip_blanks,
     slice,
@@ -12,27 +12,27 @@ use std::alloc::{AllocError, Global};
 use toml::Value;
 use toml_parser::text::byte_at;
 
-/// A part that is added. It owns the texts.
+/// A child that is added. It owns the texts.
 #[derive(Debug, Drop)]
 struct Added {
     /// What stays between the two texts.
     span: ByteSpan,
     /// The text before that.
     lead: String,
-    /// The text after that, up to the part.
+    /// The text after that, up to the child.
     gap: String,
-    /// The text after the part.
+    /// The text after the child.
     tail: &'static str,
 }
 
-/// Returns how a part is added to the array or inline table that so many tokens lead to.
-pub fn add_part(
+/// Returns how a child is added to the array or inline table that so many tokens lead to.
+pub fn add_child(
     alloc: Global,
     text: &str,
     outline: &Outline,
     count: usize,
     value: &Value,
-) -> Result<Option<Addition>, AllocError> {
+) -> Result<Option<AdditionPlan>, AllocError> {
     let Some(container) = innermost(alloc, text, outline)? else {
         return Ok(None);
     };
@@ -41,30 +41,30 @@ pub fn add_part(
     if container.found.is_some() || !(is_member || is_element) {
         return Ok(None);
     }
-    let mut part = String::new(alloc);
+    let mut child = String::new(alloc);
     let mut keys = Keys::None;
     if is_member {
         push_keys(
             alloc,
-            &mut part,
+            &mut child,
             &outline.route.tokens,
             container.count,
             outline.count(),
         )?;
-        part.push_str(equals_in(text, &container))?;
+        child.push_str(equals_in(text, &container))?;
         keys = Keys::Some(outline.last_keys(alloc, container.count)?);
     }
-    part.push_str(value.to_string(alloc)?.as_str())?;
-    let added = match container.parts.last() {
-        Some(last) => after_part(alloc, text, &container, last)?,
-        None => first_part(alloc, text, container.span, is_member)?,
+    child.push_str(value.to_string(alloc)?.as_str())?;
+    let added = match container.children.last() {
+        Some(last) => after_child(alloc, text, &container, last)?,
+        None => first_child(alloc, text, container.span, is_member)?,
     };
-    Ok(Some(addition_of(added, part.as_str(), keys)?))
+    Ok(Some(addition_of(added, child.as_str(), keys)?))
 }
 
 /// Returns the equals sign of the last member, with the white space that is usual there.
-fn equals_in(text: &str, container: &Container) -> &'static str {
-    match container.parts.last() {
+fn equals_in(text: &str, container: &InlineContainer) -> &'static str {
+    match container.children.last() {
         Some(last) if is_tight(text, last.key, last.value) => "=",
         _ => " = ",
     }
@@ -75,7 +75,7 @@ fn innermost(
     alloc: Global,
     text: &str,
     outline: &Outline,
-) -> Result<Option<Container>, AllocError> {
+) -> Result<Option<InlineContainer>, AllocError> {
     let Some(index) = outline.first_with(Role::Through) else {
         return Ok(None);
     };
@@ -87,31 +87,31 @@ fn innermost(
     }
 }
 
-/// Returns the addition of the part, at the keys.
-fn addition_of(added: Added, part: &str, keys: Keys) -> Result<Addition, AllocError> {
+/// Returns the addition of the child, at the keys.
+fn addition_of(added: Added, child: &str, keys: Keys) -> Result<AdditionPlan, AllocError> {
     let kept = added.span.to.saturating_sub(added.span.from);
     let before = added.lead.len().saturating_add(kept);
     let from = before.saturating_add(added.gap.len());
     let mut rest = added.gap;
-    rest.push_str(part)?;
+    rest.push_str(child)?;
     rest.push_str(added.tail)?;
-    Ok(Addition {
+    Ok(AdditionPlan {
         span: added.span,
         lead: added.lead,
         rest,
         child: TomlChild {
             span: ByteSpan {
                 from,
-                to: from.saturating_add(part.len()),
+                to: from.saturating_add(child.len()),
             },
             keys,
         },
     })
 }
 
-/// Returns the first part of an array or inline table: on a line of its own, if the brackets are on
+/// Returns the first child of an array or inline table: on a line of its own, if the brackets are on
 /// several lines.
-fn first_part(
+fn first_child(
     alloc: Global,
     text: &str,
     container: ByteSpan,
@@ -148,18 +148,18 @@ fn first_part(
     })
 }
 
-/// Returns a part after another one: on a line of its own, if that has one, or on the same line.
-fn after_part(
+/// Returns a child after another one: on a line of its own, if that has one, or on the same line.
+fn after_child(
     alloc: Global,
     text: &str,
-    container: &Container,
-    last: &Part,
+    container: &InlineContainer,
+    last: &InlineChild,
 ) -> Result<Added, AllocError> {
     let line = line_start(text, last.whole.from);
     let after = last.comma.unwrap_or(last.whole.to);
     let is_own_line = line > container.span.from && skip_blanks(text, line) == last.whole.from;
     if !is_own_line || !ends_line(text, after) {
-        return beside_part(alloc, text, container, last);
+        return beside_child(alloc, text, container, last);
     }
     let mut gap = String::from_str(alloc, newline_of(text))?;
     let indent = ByteSpan {
@@ -183,12 +183,12 @@ fn after_part(
     })
 }
 
-/// Returns a part on the line of another one.
-fn beside_part(
+/// Returns a child on the line of another one.
+fn beside_child(
     alloc: Global,
     text: &str,
-    container: &Container,
-    last: &Part,
+    container: &InlineContainer,
+    last: &InlineChild,
 ) -> Result<Added, AllocError> {
     let at = last.comma.unwrap_or(last.whole.to);
     let mut gap = String::from_str(alloc, if last.comma.is_some() { "" } else { "," })?;
@@ -201,18 +201,18 @@ fn beside_part(
     })
 }
 
-/// Returns the white space before the part, after a comma on the same line. Returns a space where no comma
-/// is there.
-fn space_before<'t>(text: &'t str, container: &Container, part: &Part) -> &'t str {
-    let Some(before) = part.index.checked_sub(1) else {
+/// Returns the white space before the child, after a comma on the same line. Returns a space where no
+/// comma is there.
+fn space_before<'t>(text: &'t str, container: &InlineContainer, child: &InlineChild) -> &'t str {
+    let Some(before) = child.index.checked_sub(1) else {
         return " ";
     };
-    match container.parts.get(before).and_then(|it| it.comma) {
-        Some(comma) if skip_blanks(text, comma) == part.whole.from => slice(
+    match container.children.get(before).and_then(|it| it.comma) {
+        Some(comma) if skip_blanks(text, comma) == child.whole.from => slice(
             text,
             ByteSpan {
                 from: comma,
-                to: part.whole.from,
+                to: child.whole.from,
             },
         ),
         _ => " ",

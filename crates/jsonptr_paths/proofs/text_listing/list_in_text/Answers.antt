@@ -6,7 +6,7 @@ use Rattle.serde_json.specs.Data.{array}
 use Rattle.jsonptr_json_search.specs.Reading.{ReadsItems}
 use Rattle.jsonptr_json_search.proofs.ReadingLemmas.{reads_array, unreadable_array, whole_read, whole_and_more, whole_unreadable}
 use Rattle.jsonptr_json_search.proofs.TokenCount.{tokens_few}
-use Rattle.jsonptr_paths.proofs.text_listing.list_text.Goals as goal
+use Rattle.jsonptr_paths.proofs.text_listing.list_in_text.Goals as goal
 
 pub list_elements-requires : goal.list_elements-requires
 list_elements-requires c =

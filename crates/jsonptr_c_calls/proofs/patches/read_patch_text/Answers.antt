@@ -1,6 +1,6 @@
 use Rattle.serde_json.specs.View.{view}
 use Rattle.jsonptr_c_calls.proofs.NestingLemmas.{patch_parsed}
-use Rattle.jsonptr_c_calls.proofs.patches.read_text.Goals as goal
+use Rattle.jsonptr_c_calls.proofs.patches.read_patch_text.Goals as goal
 
 pub returns-in-Ok-clause-parsed : goal.returns-in-Ok-clause-parsed
 returns-in-Ok-clause-parsed c =
