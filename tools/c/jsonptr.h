@@ -101,7 +101,7 @@
  *    strangers. Each byte of them deepens a document by at most one level.
  *
  * The functions fit any program for Linux on x86-64 processors with SSE4.2. The
- * numbers of statuses, kinds and members never change.
+ * numbers of statuses, kinds, types and members never change.
  */
 #ifndef JSONPTR_H
 #define JSONPTR_H
@@ -150,7 +150,7 @@ typedef uint32_t jsonptr_status;
 #define JSONPTR_NOT_POINTER   7u  /* a text is not a JSON Pointer */
 #define JSONPTR_NO_TOKEN      8u  /* the pointer has no token at this position */
 #define JSONPTR_NOT_FOUND     9u  /* the pointer does not resolve to a value */
-#define JSONPTR_OTHER_KIND   10u  /* the value is not of the kind that the call reads */
+#define JSONPTR_OTHER_TYPE   10u  /* the value is not of the type that the call reads */
 #define JSONPTR_NOT_ASSIGNED 11u  /* the pointer leads to an array that has no such index */
 #define JSONPTR_NOT_PATCH    12u  /* the document is not a JSON Patch */
 #define JSONPTR_PATCH_FAILED 13u  /* an operation of the patch fails */
@@ -185,7 +185,7 @@ typedef uint32_t jsonptr_status;
 #define JSONPTR_KIND_NOT_A_STRING      15u  /* a member is not a string */
 #define JSONPTR_KIND_UNKNOWN_OP        16u  /* `op` is not the name of an operation */
 /* JSONPTR_TOO_DEEP of jsonptr_document_patch_with_inverse */
-#define JSONPTR_KIND_DEEP_INVERSE      17u  /* the text that takes the patch back would nest deeper than 127 */
+#define JSONPTR_KIND_INVERSE_TOO_DEEP  17u  /* the text that takes the patch back would nest deeper than 127 */
 
 /* A member of an operation, or an argument of the call: jsonptr_error.member. */
 #define JSONPTR_MEMBER_NONE      0u
@@ -219,7 +219,7 @@ typedef uint32_t jsonptr_status;
  *                   NOT_ASSIGNED                  offset
  *                   MOVE_INTO_SELF, TEST_FLOAT,
  *                   TEST_FAILED                   kind, operation
- *     TOO_DEEP      0, DEEP_INVERSE               kind
+ *     TOO_DEEP      0, INVERSE_TOO_DEEP           kind
  *     NOT_EXACT     0                             offset, length
  *     NO_VALUE      0                             offset, which was passed
  *     others        0                             none
@@ -251,7 +251,6 @@ typedef uint32_t jsonptr_status;
  *     a string, number or word is malformed    its first byte, of a string the quote
  *     the text ends too early                  the length of the text
  *     a number is too large for a double       in the number, or after it
- *     an allocation fails when it is sought    0
  *     anything else                            the fault, or just after it
  *
  * So ["abc\ud800"] and [truex] have offset 1, [1, has 3, [1e999, 2] has 8. */
@@ -435,7 +434,7 @@ jsonptr_status jsonptr_document_get(jsonptr_document *document,
 
 /* Copies the string that a pointer resolves to, without quotes and escapes.
  *
- * Returns   as jsonptr_document_get, and JSONPTR_OTHER_KIND if the value is not
+ * Returns   as jsonptr_document_get, and JSONPTR_OTHER_TYPE if the value is not
  *           a string, before JSONPTR_NO_ROOM.
  * length    may be NULL, and so may `error`.
  * Cost      linear in the pointer and in the string. */
@@ -445,7 +444,7 @@ jsonptr_status jsonptr_document_string(jsonptr_document *document,
                                        char *out, size_t capacity, size_t *length,
                                        jsonptr_error *error);
 
-/* The kind of a value: jsonptr_node.kind. */
+/* The type of a value: jsonptr_node.type. */
 #define JSONPTR_NULL    0u
 #define JSONPTR_BOOLEAN 1u
 #define JSONPTR_NUMBER  2u
@@ -455,26 +454,28 @@ jsonptr_status jsonptr_document_string(jsonptr_document *document,
 
 /* What a value is. */
 typedef struct jsonptr_node {
-    uint32_t kind;      /* JSONPTR_NULL .. JSONPTR_OBJECT */
+    uint32_t type;      /* JSONPTR_NULL .. JSONPTR_OBJECT */
     bool has_integer;   /* the value is a number, and `integer` is it */
     bool has_natural;   /* the value is a number, and `natural` is it */
     bool is_true;       /* the value is true */
     int64_t integer;    /* or 0 */
     uint64_t natural;   /* or 0 */
     double number;      /* of a number the nearest double, else 0 */
-    size_t length;      /* elements, members, or bytes of a string; else 0 */
+    size_t length;      /* elements, members, or characters of a string; else 0 */
+    size_t byte_length; /* bytes of a string, as jsonptr_document_string copies it; else 0 */
     uint64_t reserved;  /* 0: a later version may use it */
-    uint64_t reserved_2; /* 0 */
 } jsonptr_node;
 
-/* Says what the value is that a pointer resolves to: its kind, its length, its
- * number.
+/* Says what the value is that a pointer resolves to: its type, its length, its
+ * number. The characters of a string are Unicode scalar values: "n\u00e9" has a
+ * `length` of 2 and a `byte_length` of 3.
  *
  * Returns   JSONPTR_OK, JSONPTR_NO_DOCUMENT, those of jsonptr_pointer_count,
  *           JSONPTR_NOT_FOUND with kind, position, slash, offset and length,
  *           JSONPTR_NO_MEMORY. An error leaves `*node`.
  * error     may be NULL.
- * Cost      linear in the pointer. Allocates only for a token with a '~'. */
+ * Cost      linear in the pointer and in a string. Allocates only for a token
+ *           with a '~'. */
 JSONPTR_API JSONPTR_NODISCARD
 jsonptr_status jsonptr_document_node(jsonptr_document *document,
                                      const char *pointer, size_t pointer_length,
@@ -563,7 +564,7 @@ jsonptr_status jsonptr_document_patch(jsonptr_document *document,
  *     [{"op":"replace","path":"/a","value":1}]
  *
  * That text is always read again: JSONPTR_TOO_DEEP comes also, with the kind
- * JSONPTR_KIND_DEEP_INVERSE, if it would nest deeper than 127. It nests two
+ * JSONPTR_KIND_INVERSE_TOO_DEEP, if it would nest deeper than 127. It nests two
  * levels deeper than the values in it, which are those that the operations
  * remove or replace.
  *

@@ -61,7 +61,7 @@ __all__ = ["Document", "JsonPointerError", "JsonPatchError", "NotExact", "NotFou
 
 Text = Union[str, bytes]
 
-OK, NO_MEMORY, NO_ROOM, BAD_ARGUMENT, NO_DOCUMENT, NOT_UTF8, NOT_JSON, NOT_POINTER, NO_TOKEN, NOT_FOUND, OTHER_KIND, \
+OK, NO_MEMORY, NO_ROOM, BAD_ARGUMENT, NO_DOCUMENT, NOT_UTF8, NOT_JSON, NOT_POINTER, NO_TOKEN, NOT_FOUND, OTHER_TYPE, \
     NOT_ASSIGNED, NOT_PATCH, PATCH_FAILED, TOO_DEEP, NOT_EXACT, NOT_LOCATED, NO_VALUE = range(18)
 MEMBERS = [None, "op", "path", "from", "value", "pointer", "token", "text"]
 

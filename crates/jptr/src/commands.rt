@@ -216,11 +216,11 @@ fn diff(rt: &HostRuntime, matches: &ArgMatches<'_>) -> Result<u8, ProgramError> 
 
 /// Fails if a number of one of the documents loses digits, unless their bytes are the same.
 fn check_sides(alloc: Global, before: &Source<'_>, after: &Source<'_>) -> Result<(), ProgramError> {
-    if before.bytes.as_slice() == after.bytes.as_slice() {
+    if before.as_bytes() == after.as_bytes() {
         return Ok(());
     }
-    check_bytes(alloc, before.name, &before.bytes)?;
-    check_bytes(alloc, after.name, &after.bytes)
+    check_bytes(alloc, before.name, before.as_bytes())?;
+    check_bytes(alloc, after.name, after.as_bytes())
 }
 
 /// Prints a line for each change of the document by the patch with this text.

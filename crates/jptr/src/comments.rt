@@ -1,7 +1,7 @@
 //! JSON with comments and trailing commas: what is read past, and edits that keep the comments.
 
 use crate::program_error::ProgramError;
-use jptr_tasks::document::document_result;
+use jptr_tasks::document::text_result;
 use jptr_tasks::exit_status::NOT_APPLIED;
 use jptr_tasks::layout::Layout;
 use jptr_tasks::raw_patch::RawPatch;
@@ -9,7 +9,7 @@ use jptr_tasks::task::Task;
 use jptr_tasks::task_error::TaskError;
 use jsonptr::{Fault, Pointer};
 use jsonptr_comments::without_comments;
-use jsonptr_edit_in_text::{Buffers, EditError, InPlaceError};
+use jsonptr_edit_in_text::Buffers;
 use jsonptr_edit_with_comments::{
     WithCommentsError, assign_raw_with_comments, delete_with_comments, try_apply_raw_with_comments,
 };
@@ -55,7 +55,7 @@ pub fn edited_with_comments(
         Task::Set(pointer, value) => {
             match assign_raw_with_comments(alloc, &mut buffers, text, *pointer, value) {
                 Ok(new) => Ok(new),
-                Err(error) => Err(TaskError::from(in_place_error(error))),
+                Err(error) => Err(TaskError::Assign(refusal(error)?)),
             }
         }
         Task::Delete(pointer) => deleted(alloc, &mut buffers, text, *pointer),
@@ -66,13 +66,13 @@ pub fn edited_with_comments(
 /// Returns what is printed for a value that is found in the text without comments. A value that is
 /// neither an array nor an object has no comments in it.
 fn found(alloc: Global, task: &Task<'_>, text: &str, bare: &str) -> Result<String, TaskError> {
-    let value = document_result(alloc, bare.as_bytes(), task, Layout::Kept)?;
+    let value = text_result(alloc, bare, task, Layout::Kept)?;
     let written = value.as_str().trim_end().as_bytes();
     let is_scalar = !written.starts_with(b"[") && !written.starts_with(b"{");
     if is_scalar || memmem::find(text.as_bytes(), written).is_some() {
         Ok(value)
     } else {
-        document_result(alloc, bare.as_bytes(), task, Layout::Pretty)
+        text_result(alloc, bare, task, Layout::Pretty)
     }
 }
 
@@ -86,7 +86,7 @@ fn deleted(
     match delete_with_comments(alloc, buffers, text, pointer) {
         Ok(Some(new)) => Ok(new),
         Ok(None) => Err(TaskError::NotThere),
-        Err(error) => Err(TaskError::from(in_place_error(error))),
+        Err(error) => match refusal(error)? {},
     }
 }
 
@@ -103,18 +103,24 @@ fn patched(
     if let Some(new) = try_apply_raw_with_comments(alloc, &mut buffers, text, operations)? {
         return Ok(new);
     }
-    match document_result(alloc, bare.as_bytes(), task, Layout::Kept) {
+    match text_result(alloc, bare, task, Layout::Kept) {
         Ok(_new) => Err(TaskError::NotInPlace),
         Err(error) => Err(error),
     }
 }
 
-/// Returns the error of an edit of a text whose comments are closed.
-fn in_place_error<E>(error: WithCommentsError<E>) -> InPlaceError<EditError<E>> {
+/// Returns the error of the call on the document, if that is why an edit of a text whose comments are
+/// closed is not made.
+///
+/// # Errors
+///
+/// The error of the task for any other reason.
+fn refusal<E>(error: WithCommentsError<E>) -> Result<E, TaskError> {
     match error {
-        WithCommentsError::Comment(_error) => InPlaceError::Failed(EditError::NotJson),
-        WithCommentsError::NotInPlace => InPlaceError::NotInPlace,
-        WithCommentsError::Failed(error) => InPlaceError::Failed(error),
-        WithCommentsError::Memory(error) => InPlaceError::Failed(EditError::Memory(error)),
+        WithCommentsError::Comment(_) | WithCommentsError::NotJson => Err(TaskError::NotJson),
+        WithCommentsError::Refused(refused) => Ok(refused),
+        WithCommentsError::TooDeep => Err(TaskError::TooDeep),
+        WithCommentsError::NotInPlace => Err(TaskError::NotInPlace),
+        WithCommentsError::Memory(error) => Err(TaskError::Memory(error)),
     }
 }

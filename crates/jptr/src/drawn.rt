@@ -10,7 +10,7 @@ use jsonptr::diagnostic::Diagnostic;
 use jsonptr::{Fault, Pointer, assign, resolve};
 use jsonptr_in_text::{InTextError, resolve_in_text};
 use jsonptr_patch::{Comparison, Operation, PatchError, apply_comparing};
-use jsonptr_value::ReadError;
+use jsonptr_value::if_json;
 use serde_json::Value;
 use simdutf8::basic::from_utf8;
 use std::alloc::{AllocError, Global};
@@ -84,10 +84,8 @@ fn fault_of_operation(
     let Ok(text) = from_utf8(bytes) else {
         return Ok(None);
     };
-    let mut document = match jsonptr_value::read(alloc, text) {
-        Ok(document) => document,
-        Err(ReadError::Memory) => return Err(AllocError),
-        Err(ReadError::NotJson) => return Ok(None),
+    let Some(mut document) = if_json(jsonptr_value::read(alloc, text))? else {
+        return Ok(None);
     };
     match apply_comparing(alloc, &mut document, before, Comparison::Numeric) {
         Ok(()) => fault_of(alloc, &mut document, &operation),

@@ -65,6 +65,6 @@ pub fn check_toml_expansion(
             source.name,
             NO_TABLE,
         )),
-        Err(error) => Err(toml_file::toml_error(alloc, source, above, error)),
+        Err(error) => Err(toml_file::resolve_error(alloc, source, above, error)),
     }
 }

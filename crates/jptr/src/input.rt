@@ -2,7 +2,7 @@
 
 use crate::program_error::ProgramError;
 use jptr_tasks::exit_status::FILE;
-use jsonptr_value::ReadError;
+use jsonptr_value::if_json;
 use serde_json::Value;
 use simdutf8::basic::from_utf8;
 use std::alloc::Global;
@@ -80,10 +80,9 @@ pub fn text_in<'a>(alloc: Global, name: &str, bytes: &'a [u8]) -> Result<&'a str
 
 /// Returns the value that the bytes of a JSON document are.
 pub fn value_in(alloc: Global, name: &str, bytes: &[u8]) -> Result<Value, ProgramError> {
-    match jsonptr_value::read(alloc, text_in(alloc, name, bytes)?) {
-        Ok(value) => Ok(value),
-        Err(ReadError::Memory) => Err(ProgramError::Memory),
-        Err(ReadError::NotJson) => Err(ProgramError::of_bytes(alloc, name, bytes)),
+    match if_json(jsonptr_value::read(alloc, text_in(alloc, name, bytes)?))? {
+        Some(value) => Ok(value),
+        None => Err(ProgramError::of_bytes(alloc, name, bytes)),
     }
 }
 

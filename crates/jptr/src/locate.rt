@@ -86,11 +86,7 @@ fn locate_error(
     pointer: Pointer<'_>,
     error: LocateError,
 ) -> ProgramError {
-    let error = match error {
-        LocateError::NotLocated => TaskError::NotLocated,
-        LocateError::Failed(error) => TaskError::from(error),
-    };
-    source.error(alloc, pointer.as_str(), error)
+    source.error(alloc, pointer.as_str(), TaskError::from(error))
 }
 
 /// Returns the error of a place that has no value.

@@ -30,10 +30,10 @@ pub fn patch_long(
     if is_check {
         style.layout = Layout::Compact;
     }
-    if source.commented.is_some() {
+    if source.has_comments() {
         return one_by_one(rt, style, is_check, &source, patch);
     }
-    match new_text(alloc, style, &source.bytes, &patch) {
+    match new_text(alloc, style, source.as_bytes(), &patch) {
         Ok(Some(_)) if is_check => Ok(0),
         Ok(Some(new)) => {
             source.put(rt, new.as_str())?;
@@ -51,7 +51,7 @@ fn new_text(
     bytes: &[u8],
     patch: &PatchFile<'_>,
 ) -> Result<Option<String>, TaskError> {
-    let (Ok(text), Ok(given)) = (from_utf8(bytes), from_utf8(&patch.source.bytes)) else {
+    let (Ok(text), Ok(given)) = (from_utf8(bytes), from_utf8(patch.source.as_bytes())) else {
         return Ok(None);
     };
     if loses_digits(alloc, text)? || loses_digits(alloc, given)? {

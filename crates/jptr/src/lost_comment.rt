@@ -7,7 +7,6 @@ use jptr_tasks::task::Task;
 use jsonptr::Pointer;
 use jsonptr_edit_in_text::{Buffers, LocateError, Located, locate_in_text};
 use jsonptr_edit_with_comments::{WithCommentsError, delete_with_comments};
-use jsonptr_in_text::InTextError;
 use jsonptr_patch::Operation;
 use std::alloc::{AllocError, Global};
 
@@ -108,7 +107,7 @@ fn comment_of(
 ) -> Result<Option<usize>, AllocError> {
     match locate_in_text(alloc, commented.bare, pointer) {
         Ok(located) => Ok(comment_after(commented, located)),
-        Err(LocateError::Failed(InTextError::Memory(error))) => Err(error),
+        Err(LocateError::Memory(error)) => Err(error),
         Err(_) => Ok(None),
     }
 }

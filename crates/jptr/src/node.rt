@@ -9,11 +9,11 @@ use crate::value_argument::ValueArgument;
 use clap::ArgMatches;
 use jptr_tasks::exit_status::NOT_APPLIED;
 use jptr_tasks::layout::{Layout, show};
-use jptr_tasks::node::{NodeType, equals_in_text, keys_in_text, length_in_text, type_in_text};
+use jptr_tasks::node::{equals_in_text, keys_in_text, length_in_text, type_in_text};
 use jptr_tasks::task_error::TaskError;
 use jsonptr::Pointer;
 use jsonptr_in_text::exists_in_text;
-use jsonptr_value::ReadError;
+use jsonptr_value::{NodeType, ReadError};
 use serde_json::{Map, Value};
 use std::alloc::{AllocError, Global};
 use std::fs;
@@ -108,11 +108,7 @@ fn is_file(rt: &HostRuntime, matches: &ArgMatches<'_>, word: Option<&str>) -> bo
 
 /// Returns whether the text is not JSON, as far as there is memory to read it.
 fn is_not_json(alloc: Global, text: &str) -> bool {
-    match jsonptr_value::read(alloc, text) {
-        Err(ReadError::NotJson) => true,
-        Err(ReadError::Memory) => false,
-        Ok(_value) => false,
-    }
+    matches!(jsonptr_value::read(alloc, text), Err(ReadError::NotJson))
 }
 
 /// Returns whether the pointer resolves to the value in the text, or to any if there is none.

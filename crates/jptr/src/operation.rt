@@ -8,7 +8,7 @@ use crate::task::{run_task, tried};
 use crate::value_argument::ValueArgument;
 use clap::ArgMatches;
 use jptr_tasks::exit_status::{NOT_APPLIED, USAGE};
-use jptr_tasks::node::{NodeType, type_in_text};
+use jptr_tasks::node::type_in_text;
 use jptr_tasks::patching::raw_patch;
 use jptr_tasks::raw_patch::RawPatch;
 use jptr_tasks::task::Task;
@@ -16,7 +16,7 @@ use jptr_tasks::task_error::TaskError;
 use jsonptr::{Pointer, PointerBuf, Token};
 use jsonptr_in_text::exists_in_text;
 use jsonptr_patch::PatchError;
-use jsonptr_value::ReadError;
+use jsonptr_value::{NodeType, if_json};
 use serde_json::Value;
 use std::alloc::{AllocError, Global};
 use std::borrow::CowStr;
@@ -157,13 +157,9 @@ fn run(
 
 /// Returns the patch with this text.
 fn patch_of(alloc: Global, patch: &str) -> Result<RawPatch, ProgramError> {
-    let document = match jsonptr_value::read(alloc, patch) {
-        Ok(document) => document,
-        Err(ReadError::Memory) => return Err(ProgramError::Memory),
+    let Some(document) = if_json(jsonptr_value::read(alloc, patch))? else {
         // The value is JSON, but the patch with it nests two levels deeper.
-        Err(ReadError::NotJson) => {
-            return Err(ProgramError::of_error(alloc, "JSON", "", TaskError::PatchTooDeep));
-        }
+        return Err(ProgramError::of_error(alloc, "JSON", "", TaskError::PatchTooDeep));
     };
     match raw_patch(alloc, document, patch) {
         Ok(raw) => Ok(raw),
@@ -214,10 +210,8 @@ fn pointer_at_fault<'a>(
     let Some(from) = operation.from else {
         return Ok(operation.path);
     };
-    match exists_in_text(alloc, source.text(alloc)?, from) {
-        Ok(true) => Ok(operation.path),
-        Ok(false) => Ok(from),
-        Err(ReadError::Memory) => Err(ProgramError::Memory),
-        Err(ReadError::NotJson) => Ok(operation.path),
+    match if_json(exists_in_text(alloc, source.text(alloc)?, from))? {
+        Some(false) => Ok(from),
+        Some(true) | None => Ok(operation.path),
     }
 }

@@ -46,10 +46,10 @@ fn lines_of(
     is_lossy: bool,
     source: &Source<'_>,
 ) -> Result<String, ProgramError> {
-    match listed_text(alloc, &source.bytes, which) {
+    match listed_text(alloc, source.as_bytes(), which) {
         Ok(lines) => {
             if !is_lossy {
-                check_bytes(alloc, source.name, &source.bytes)?;
+                check_bytes(alloc, source.name, source.as_bytes())?;
             }
             Ok(lines)
         }
@@ -64,9 +64,9 @@ pub fn from_paths(rt: &HostRuntime, matches: &ArgMatches<'_>) -> Result<u8, Prog
     if matches.get_flag("fill") {
         return from_filled(rt, matches, &lines);
     }
-    match built_text(alloc, &lines.bytes, layout_of(matches)) {
+    match built_text(alloc, lines.as_bytes(), layout_of(matches)) {
         Ok(text) => {
-            check_gaps(alloc, lines.name, from_utf8(&lines.bytes).unwrap_or(""))?;
+            check_gaps(alloc, lines.name, from_utf8(lines.as_bytes()).unwrap_or(""))?;
             put_built(rt, matches, &lines, text.as_str())
         }
         Err(error) => Err(build_error(alloc, &lines, error)),
@@ -76,7 +76,7 @@ pub fn from_paths(rt: &HostRuntime, matches: &ArgMatches<'_>) -> Result<u8, Prog
 /// Returns the error of lines that build no document. If elements of an array are missing, it names the
 /// flag that adds them.
 fn build_error(alloc: Global, lines: &Source<'_>, error: TaskError) -> ProgramError {
-    match missing_message(alloc, &lines.bytes, &error) {
+    match missing_message(alloc, lines.as_bytes(), &error) {
         Ok(Some(message)) => ProgramError::new(alloc, NOT_APPLIED, lines.name, message.as_str()),
         Ok(None) => lines.error(alloc, "", error),
         Err(_) => ProgramError::Memory,
@@ -108,7 +108,7 @@ fn from_filled(
     lines: &Source<'_>,
 ) -> Result<u8, ProgramError> {
     let alloc = rt.alloc();
-    let Ok(text) = from_utf8(&lines.bytes) else {
+    let Ok(text) = from_utf8(lines.as_bytes()) else {
         return Err(lines.error(alloc, "", TaskError::NotUtf8));
     };
     let filled = fill_gaps(alloc, lines.name, text)?;
@@ -130,7 +130,7 @@ fn put_built(
     text: &str,
 ) -> Result<u8, ProgramError> {
     if !is_lossy(matches) {
-        check_lines(rt.alloc(), lines.name, &lines.bytes)?;
+        check_lines(rt.alloc(), lines.name, lines.as_bytes())?;
     }
     print_text(rt, text)?;
     Ok(0)

@@ -7,7 +7,7 @@ use crate::program_error::ProgramError;
 use crate::source::Source;
 use clap::ArgMatches;
 use jptr_tasks::exit_status::{NOT_APPLIED, USAGE};
-use jsonptr_relayout::{Relaid, RelayoutError, relayout_text};
+use jsonptr_relayout::{Relaid, RelayoutTextError, relayout_text};
 use std::alloc::Global;
 
 /// Why a document is not printed.
@@ -52,13 +52,15 @@ fn relaid(
             }
             text
         }
-        Err(RelayoutError::NotJson) => return Err(ProgramError::of_bytes(
-            alloc, old.name, &old.bytes,
+        Err(RelayoutTextError::OldNotJson) => return Err(ProgramError::of_bytes(
+            alloc,
+            old.name,
+            old.as_bytes(),
         )),
-        Err(RelayoutError::NewNotJson | RelayoutError::TooDeep) => {
-            return Err(ProgramError::of_bytes(alloc, new.name, &new.bytes));
+        Err(RelayoutTextError::NewNotJson) => {
+            return Err(ProgramError::of_bytes(alloc, new.name, new.as_bytes()));
         }
-        Err(RelayoutError::Memory(_)) => return Err(ProgramError::Memory),
+        Err(RelayoutTextError::Memory(_)) => return Err(ProgramError::Memory),
     };
     if !is_lossy(matches) && old_text != new_text {
         check_text(alloc, old.name, old_text)?;

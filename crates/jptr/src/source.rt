@@ -5,6 +5,7 @@ use crate::comments::{bare, other_layout};
 use crate::drawn::fault_of_patch;
 use crate::in_place::{EditedFile, open_file, replace_text};
 use crate::input::{is_standard, name_of, read_input, text_in, value_in};
+use crate::lost_comment::CommentedText;
 use crate::operands::{check_json, file_of, is_commented_name, is_toml_name};
 use crate::output::print_text;
 use crate::program_error::ProgramError;
@@ -58,11 +59,10 @@ pub struct Source<'a> {
     pub name: &'a str,
     /// Its format.
     pub format: FileFormat,
-    /// Its bytes, without a byte order mark at their start. In JSON there are spaces instead of comments
-    /// and trailing commas.
-    pub bytes: Vec<u8>,
-    /// Its bytes with its comments and trailing commas, if it has some.
-    pub commented: Option<Vec<u8>>,
+    /// Its bytes, without a byte order mark at their start. They are empty if it has comments.
+    bytes: Vec<u8>,
+    /// Its texts, if it has comments or trailing commas.
+    commented: Option<CommentedSource>,
     /// Whether it starts with a byte order mark.
     pub has_mark: bool,
     /// Its file, if that is changed in place.
@@ -71,6 +71,15 @@ pub struct Source<'a> {
     pub missing: Option<Missing>,
     /// Whether what is printed of it has colours, if that is JSON.
     is_colored: bool,
+}
+
+/// The texts of a document with comments or trailing commas.
+#[derive(Drop)]
+struct CommentedSource {
+    /// The text of the document.
+    whole: String,
+    /// The text with spaces instead of them.
+    bare: String,
 }
 
 /// What happens to a document whose file is missing.
@@ -166,11 +175,12 @@ impl<'a> Source<'a> {
 
     /// Replaces its comments and trailing commas by spaces, and keeps the text that has them.
     fn set_comments_aside(&mut self, alloc: Global) -> Result<(), ProgramError> {
-        let Ok(text) = from_utf8(&self.bytes) else {
-            return Ok(());
-        };
-        if let Some(bare) = bare(alloc, self.name, text)? {
-            self.commented = Some(mem::replace(&mut self.bytes, bare.into_bytes()));
+        match String::from_utf8(mem::replace(&mut self.bytes, Vec::new(alloc))) {
+            Ok(whole) => match bare(alloc, self.name, whole.as_str())? {
+                Some(bare) => self.commented = Some(CommentedSource { whole, bare }),
+                None => self.bytes = whole.into_bytes(),
+            },
+            Err(error) => self.bytes = error.into_bytes(),
         }
         Ok(())
     }
@@ -199,24 +209,43 @@ impl<'a> Source<'a> {
         }
     }
 
-    /// Returns its text with its comments and trailing commas, if it has some.
-    pub fn commented_text(&self) -> Option<&str> {
+    /// Returns whether it has comments or trailing commas.
+    pub fn has_comments(&self) -> bool {
+        self.commented.is_some()
+    }
+
+    /// Returns its texts, if it has comments or trailing commas.
+    pub fn commented_text(&self) -> Option<CommentedText<'_>> {
         match &self.commented {
-            Some(bytes) => from_utf8(bytes).ok(),
+            Some(CommentedSource { whole, bare }) => Some(CommentedText {
+                text: whole.as_str(),
+                bare: bare.as_str(),
+            }),
             None => None,
+        }
+    }
+
+    /// Returns its bytes, which in JSON have spaces instead of comments and trailing commas.
+    pub fn as_bytes(&self) -> &[u8] {
+        match &self.commented {
+            Some(commented) => commented.bare.as_bytes(),
+            None => &self.bytes,
         }
     }
 
     /// Returns its text, with its comments.
     pub fn whole_text(&self, alloc: Global) -> Result<String, ProgramError> {
-        match self.commented_text() {
-            Some(text) => Ok(String::from_str(alloc, text)?),
+        match &self.commented {
+            Some(commented) => Ok(commented.whole.clone()?),
             None => Ok(String::from_str(alloc, self.text(alloc)?)?),
         }
     }
 
     /// Returns its text, which in JSON has spaces instead of comments.
     pub fn text(&self, alloc: Global) -> Result<&str, ProgramError> {
+        if let Some(commented) = &self.commented {
+            return Ok(commented.bare.as_str());
+        }
         match self.format {
             FileFormat::Json | FileFormat::Commented => text_in(alloc, self.name, &self.bytes),
             FileFormat::Toml => match from_utf8(&self.bytes) {
@@ -228,17 +257,17 @@ impl<'a> Source<'a> {
 
     /// Returns the JSON value that it is.
     pub fn value(&self, alloc: Global) -> Result<Value, ProgramError> {
-        value_in(alloc, self.name, &self.bytes)
+        value_in(alloc, self.name, self.as_bytes())
     }
 
     /// Returns the error of a task that failed on it, at this pointer.
     pub fn error(&self, alloc: Global, pointer: &str, error: TaskError) -> ProgramError {
-        document_error(alloc, self.name, &self.bytes, pointer, error)
+        document_error(alloc, self.name, self.as_bytes(), pointer, error)
     }
 
     /// Returns the error of a patch document that failed on it, with what is at fault.
     pub fn patch_error(&self, alloc: Global, patch: &Value, error: TaskError) -> ProgramError {
-        let drawing = fault_of_patch(alloc, &self.bytes, patch, &error);
+        let drawing = fault_of_patch(alloc, self.as_bytes(), patch, &error);
         self.error(alloc, "", error).with_drawing(drawing)
     }
 
@@ -257,7 +286,7 @@ impl<'a> Source<'a> {
     fn is_its_text(&self, text: &str) -> bool {
         let text = if self.has_mark { past_mark(text) } else { text };
         match &self.commented {
-            Some(own) => text.as_bytes() == own.as_slice(),
+            Some(commented) => text == commented.whole.as_str(),
             None => text.as_bytes() == self.bytes.as_slice(),
         }
     }

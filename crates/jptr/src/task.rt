@@ -6,7 +6,7 @@ use crate::digits::{check_result, is_checked};
 use crate::drawn::fault_of_task;
 use crate::exact_lines::{ExactTask, run_exact_lines};
 use crate::input::{name_of, open};
-use crate::lost_comment::{CommentedText, not_in_place};
+use crate::lost_comment::not_in_place;
 use crate::operands::file_of;
 use crate::output::{Output, print_text};
 use crate::program_error::ProgramError;
@@ -66,11 +66,11 @@ fn is_read_first(matches: &ArgMatches<'_>, task: &Task<'_>, style: OutputStyle) 
 
 /// Runs the task on a document that is read, and prints nothing.
 pub fn checked(alloc: Global, task: &Task<'_>, source: &Source<'_>) -> Result<u8, ProgramError> {
-    match document_result(alloc, &source.bytes, task, Layout::Kept) {
+    match document_result(alloc, source.as_bytes(), task, Layout::Kept) {
         Ok(_new) => Ok(0),
         // The operations apply, but not in place.
         Err(TaskError::NotInPlace) => Ok(0),
-        Err(error) => Err(task_error(alloc, task, source.name, &source.bytes, error)),
+        Err(error) => Err(task_error(alloc, task, source.name, source.as_bytes(), error)),
     }
 }
 
@@ -99,7 +99,7 @@ fn on_document(
             if source.has_mark {
                 return on_source(rt, task, style, &source);
             }
-            Err(task_error(alloc, task, source.name, &source.bytes, error))
+            Err(task_error(alloc, task, source.name, source.as_bytes(), error))
         }
     }
 }
@@ -130,7 +130,7 @@ pub fn source_result(
 ) -> Result<String, ProgramError> {
     match tried(alloc, task, style, source)? {
         Ok(new) => Ok(new),
-        Err(error) => Err(task_error(alloc, task, source.name, &source.bytes, error)),
+        Err(error) => Err(task_error(alloc, task, source.name, source.as_bytes(), error)),
     }
 }
 
@@ -143,14 +143,10 @@ pub fn tried(
     source: &Source<'_>,
 ) -> Result<Result<String, TaskError>, ProgramError> {
     match source.commented_text() {
-        Some(text) if keeps_comments(task, style, source) => {
+        Some(commented) if keeps_comments(task, style, source) => {
             if style.layout != Layout::Kept {
                 return Err(other_layout(alloc, source.name));
             }
-            let commented = CommentedText {
-                text,
-                bare: source.text(alloc)?,
-            };
             match edited_with_comments(alloc, task, commented.text, commented.bare) {
                 Err(TaskError::NotInPlace) => Err(not_in_place(
                     alloc,
@@ -163,8 +159,8 @@ pub fn tried(
             }
         }
         _ => {
-            check_result(alloc, task, style, source.name, &source.bytes)?;
-            Ok(edited(alloc, task, style, &source.bytes))
+            check_result(alloc, task, style, source.name, source.as_bytes())?;
+            Ok(edited(alloc, task, style, source.as_bytes()))
         }
     }
 }
@@ -279,7 +275,7 @@ fn on_lines(
         Ok(Ended::Faults | Ended::Stopped) => Ok(NOT_APPLIED),
         Err(TaskError::Read) => Err(input.get_ref().read_error(alloc, name_of(file))),
         Err(TaskError::Write) => Err(output.get_ref().error(alloc)),
-        Err(_) => Err(ProgramError::Memory),
+        Err(error) => Err(ProgramError::of_error(alloc, name_of(file), "", error)),
     }
 }
 

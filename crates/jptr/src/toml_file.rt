@@ -12,7 +12,9 @@ use jptr_tasks::exit_status::{BAD_INPUT, NOT_APPLIED, USAGE};
 use jptr_tasks::task_error::TaskError;
 use jsonptr::Pointer;
 use jsonptr_edit_in_toml::{Edited, assign_in_toml, delete_in_toml};
-use jsonptr_in_toml::{InTomlError, list_in_toml, resolve_in_toml};
+use jsonptr_in_toml::{
+    EditTomlError, InTomlError, PrintTomlError, ReadTomlError, list_in_toml, resolve_in_toml,
+};
 use jsonptr_paths::listing::Listed;
 use simdutf8::basic::from_utf8;
 use std::alloc::{AllocError, Global};
@@ -31,9 +33,9 @@ pub fn get(
         Ok(value) => value,
         Err(InTomlError::Resolve(error)) => match toml_default(alloc, matches)? {
             Some(other) => other,
-            None => return Err(toml_error(alloc, &source, pointer, InTomlError::Resolve(error))),
+            None => return Err(source.error(alloc, pointer.as_str(), TaskError::Resolve(error))),
         },
-        Err(error) => return Err(toml_error(alloc, &source, pointer, error)),
+        Err(error) => return Err(resolve_error(alloc, &source, pointer, error)),
     };
     match value.as_str() {
         Some(string) if matches.get_flag("raw") => print_line(rt, string),
@@ -54,8 +56,13 @@ pub fn set(
     if matches.get_flag("no-expand") {
         check_toml_expansion(alloc, &source, pointer)?;
     }
-    let edited = assign_in_toml(alloc, source.text(alloc)?, pointer, value);
-    put(rt, matches, &source, pointer, edited)
+    match assign_in_toml(alloc, source.text(alloc)?, pointer, value) {
+        Ok(edited) => put(rt, matches, &source, pointer, edited),
+        Err(error) => {
+            let refused = refusal(alloc, &source, error)?;
+            Err(source.error(alloc, pointer.as_str(), TaskError::Assign(refused)))
+        }
+    }
 }
 
 /// Deletes a value.
@@ -67,9 +74,10 @@ pub fn delete(
     let alloc = rt.alloc();
     check_no_lines(alloc, matches)?;
     let source = Source::open(rt, matches)?;
-    match delete_in_toml(alloc, source.text(alloc)?, pointer).transpose() {
-        Some(edited) => put(rt, matches, &source, pointer, edited),
-        None => Err(source.error(alloc, pointer.as_str(), TaskError::NotThere)),
+    match delete_in_toml(alloc, source.text(alloc)?, pointer) {
+        Ok(Some(edited)) => put(rt, matches, &source, pointer, edited),
+        Ok(None) => Err(source.error(alloc, pointer.as_str(), TaskError::NotThere)),
+        Err(error) => match refusal(alloc, &source, error)? {},
     }
 }
 
@@ -77,7 +85,7 @@ pub fn delete(
 pub fn lines_of(alloc: Global, which: Listed, source: &Source<'_>) -> Result<String, ProgramError> {
     match list_in_toml(alloc, source.text(alloc)?, which) {
         Ok(lines) => Ok(lines),
-        Err(error) => Err(toml_error(alloc, source, Pointer::root(), error)),
+        Err(error) => Err(read_error(alloc, source, error)),
     }
 }
 
@@ -88,12 +96,8 @@ fn put(
     matches: &ArgMatches<'_>,
     source: &Source<'_>,
     pointer: Pointer<'_>,
-    edited: Result<Edited, InTomlError>,
+    edited: Edited,
 ) -> Result<u8, ProgramError> {
-    let edited = match edited {
-        Ok(edited) => edited,
-        Err(error) => return Err(toml_error(rt.alloc(), source, pointer, error)),
-    };
     if let Edited::Rewritten(_) = &edited {
         if source.target.is_some() && !matches.get_flag("reformat") {
             return Err(source.error(rt.alloc(), pointer.as_str(), TaskError::NotInPlace));
@@ -113,34 +117,63 @@ fn check_no_lines(alloc: Global, matches: &ArgMatches<'_>) -> Result<(), Program
     Ok(())
 }
 
-/// Returns the error, with the pointer below it if that is at fault.
-pub fn toml_error(
+/// Returns the error of a text that is not read.
+fn read_error(alloc: Global, source: &Source<'_>, error: ReadTomlError) -> ProgramError {
+    let message = match error {
+        ReadTomlError::NotToml => not_toml(alloc, from_utf8(source.as_bytes()).unwrap_or("")),
+        ReadTomlError::DocumentTooDeep => error.to_string(alloc),
+        ReadTomlError::Memory(_) => return ProgramError::Memory,
+    };
+    ProgramError::of_message(alloc, BAD_INPUT, source.name, message)
+}
+
+/// Returns the error of a new document that is not printed.
+fn print_error(alloc: Global, source: &Source<'_>, error: PrintTomlError) -> ProgramError {
+    match error {
+        PrintTomlError::TooDeep | PrintTomlError::NoText => {
+            ProgramError::of_message(alloc, NOT_APPLIED, source.name, error.to_string(alloc))
+        }
+        PrintTomlError::Memory(_) => ProgramError::Memory,
+    }
+}
+
+/// Returns the error of a pointer that is not resolved. If the pointer is at fault, it is below it.
+pub fn resolve_error(
     alloc: Global,
     source: &Source<'_>,
     pointer: Pointer<'_>,
     error: InTomlError,
 ) -> ProgramError {
-    let error = match error {
-        InTomlError::Resolve(error) => TaskError::Resolve(error),
-        InTomlError::Assign(error) => TaskError::Assign(error),
-        InTomlError::Memory(_) => return ProgramError::Memory,
-        InTomlError::NotToml => {
-            let message = not_toml(alloc, from_utf8(&source.bytes).unwrap_or(""));
-            return ProgramError::of_message(alloc, BAD_INPUT, source.name, message);
+    match error {
+        InTomlError::NotToml => read_error(alloc, source, ReadTomlError::NotToml),
+        InTomlError::DocumentTooDeep => read_error(alloc, source, ReadTomlError::DocumentTooDeep),
+        InTomlError::Resolve(error) => {
+            source.error(alloc, pointer.as_str(), TaskError::Resolve(error))
         }
-        InTomlError::DocumentTooDeep => {
-            return ProgramError::of_message(alloc, BAD_INPUT, source.name, error.to_string(alloc));
+        InTomlError::Memory(_) => ProgramError::Memory,
+    }
+}
+
+/// Returns the error of the call on the document, if that is why an edit is not made.
+///
+/// # Errors
+///
+/// The error of the program for any other reason.
+fn refusal<E>(
+    alloc: Global,
+    source: &Source<'_>,
+    error: EditTomlError<E>,
+) -> Result<E, ProgramError> {
+    match error {
+        EditTomlError::NotToml => Err(read_error(alloc, source, ReadTomlError::NotToml)),
+        EditTomlError::DocumentTooDeep => {
+            Err(read_error(alloc, source, ReadTomlError::DocumentTooDeep))
         }
-        InTomlError::TooDeep | InTomlError::NoText => {
-            return ProgramError::of_message(
-                alloc,
-                NOT_APPLIED,
-                source.name,
-                error.to_string(alloc),
-            );
-        }
-    };
-    source.error(alloc, pointer.as_str(), error)
+        EditTomlError::Refused(refused) => Ok(refused),
+        EditTomlError::TooDeep => Err(print_error(alloc, source, PrintTomlError::TooDeep)),
+        EditTomlError::NoText => Err(print_error(alloc, source, PrintTomlError::NoText)),
+        EditTomlError::Memory(_) => Err(ProgramError::Memory),
+    }
 }
 
 /// Returns why the text is not TOML, with the line and the column.

@@ -8,7 +8,7 @@ use crate::source::past_mark;
 use clap::ArgMatches;
 use jptr_tasks::exit_status::{BAD_INPUT, USAGE};
 use jsonptr_edit_in_text::RawValue;
-use jsonptr_value::ReadError;
+use jsonptr_value::if_json;
 use serde_json::Value;
 use simdutf8::basic::from_utf8;
 use std::alloc::Global;
@@ -122,20 +122,12 @@ fn is_file_name(rt: &HostRuntime, matches: &ArgMatches<'_>, argument: &str) -> b
 
 /// Returns the JSON value with this text, or `None` if it is not JSON.
 fn read(alloc: Global, text: &str) -> Result<Option<Value>, ProgramError> {
-    match jsonptr_value::read(alloc, text) {
-        Ok(value) => Ok(Some(value)),
-        Err(ReadError::Memory) => Err(ProgramError::Memory),
-        Err(ReadError::NotJson) => Ok(None),
-    }
+    Ok(if_json(jsonptr_value::read(alloc, text))?)
 }
 
 /// Returns the JSON value with its text, or `None` if it is not JSON.
 fn read_raw(alloc: Global, text: &str) -> Result<Option<RawValue>, ProgramError> {
-    match RawValue::parse(alloc, text) {
-        Ok(value) => Ok(Some(value)),
-        Err(ReadError::Memory) => Err(ProgramError::Memory),
-        Err(ReadError::NotJson) => Ok(None),
-    }
+    Ok(if_json(RawValue::parse(alloc, text))?)
 }
 
 /// Returns the error of a command that has the name of a file where a value is wanted.

@@ -35,7 +35,7 @@ use Rattle.jsonptr_edit_in_text.specs.declared.raw_value.RawValue.{RawValue}
 use Rattle.jsonptr_edit_in_text.proofs.RawLemmas.{patch_bytes}
 use Rattle.jsonptr_value.specs.JsonText.{IsCompact}
 use Rattle.jptr_tasks.specs.Layouts.{Lays, CanBreak}
-use Rattle.jptr_tasks.specs.Failures.{of_strict_assign_error}
+use Rattle.jptr_tasks.specs.Failures.{of_in_place_assign_error}
 use Rattle.jptr_tasks.specs.Results.{Gets, Sets, DeletesInLayout, PatchesRawInLayout, Yields, FailsToGet, FailsToSet, FailsToPatch}
 use Rattle.jptr_tasks.specs.PrivateResults.{Remakes, FailsToApply, IsLayoutError, PatchedBy}
 use Rattle.jptr_tasks.specs.LineResults.{YieldsLine, IsLineFault, IsReport, StopsRun, fallback_line}
@@ -90,12 +90,12 @@ patched_by text patch os (Err f) is h = tt
 -- ---- edits that are not made
 
 pub set_fails : (text : Text) (ts : List Text) (v : Data) (e : InPlaceError (EditError assign.Error))
-    → IsInPlaceError (AssignsInText text ts (nodes v)) (IsAssignError text ts v) e → FailsToSet text ts v Kept (of_strict_assign_error e)
+    → IsInPlaceError (AssignsInText text ts (nodes v)) (IsAssignError text ts v) e → FailsToSet text ts v Kept (of_in_place_assign_error e)
 set_fails text ts v in_place.NotInPlace h = (refl, h)
-set_fails text ts v (in_place.Failed edit.NotJson) h = h
-set_fails text ts v (in_place.Failed (edit.Refused f)) h = h
-set_fails text ts v (in_place.Failed edit.TooDeep) h = h
-set_fails text ts v (in_place.Failed (edit.Memory f)) h = tt
+set_fails text ts v (in_place.Edit edit.NotJson) h = h
+set_fails text ts v (in_place.Edit (edit.Refused f)) h = h
+set_fails text ts v (in_place.Edit edit.TooDeep) h = h
+set_fails text ts v (in_place.Edit (edit.Memory f)) h = tt
 
 -- the document of a patch that applies is read, so only memory can lack
 pub relaid_fails : (text : Text) (patch : Data) (layout : Layout) (new : Text) (e : TaskError) → PatchedBy text patch new → IsLayoutError new e → FailsToPatch text patch layout e

@@ -1,6 +1,5 @@
 -- The errors of a command: how those of the calls below become them, and the exit status of each.
-use Rattle.std.specs.Prelude.{ℕ, alloc_error}
-use Rattle.std.specs.declared.convert.Infallible.{Infallible}
+use Rattle.std.specs.Prelude.{ℕ}
 use Rattle.jsonptr.specs.declared.assign.Error as assign
 use Rattle.jsonptr_patch.specs.declared.operation.PatchError.{PatchError}
 use Rattle.jsonptr_io.specs.declared.input.InputError.{InputError}
@@ -9,6 +8,8 @@ use Rattle.jsonptr_value.specs.declared.from_text.ReadError.{ReadError}
 use Rattle.jsonptr_value.specs.declared.from_text.ReadError.TheVariants as unread
 use Rattle.jsonptr_in_text.specs.declared.resolve.InTextError.{InTextError}
 use Rattle.jsonptr_in_text.specs.declared.resolve.InTextError.TheVariants as in_text
+use Rattle.jsonptr_edit_in_text.specs.declared.locate.LocateError.{LocateError}
+use Rattle.jsonptr_edit_in_text.specs.declared.locate.LocateError.TheVariants as locate
 use Rattle.jsonptr_edit_in_text.specs.declared.edited.EditError.{EditError}
 use Rattle.jsonptr_edit_in_text.specs.declared.edited.EditError.TheVariants as edit
 use Rattle.jsonptr_edit_in_text.specs.declared.in_place.InPlaceError.{InPlaceError}
@@ -55,13 +56,20 @@ of_input_error input.Read = Read
 -- `of_read_error e`: the error of the command if a text is not read
 abbrev pub of_read_error : ReadError → TaskError
 of_read_error unread.NotJson = NotJson
-of_read_error unread.Memory = Memory alloc_error
+of_read_error (unread.Memory e) = Memory e
 
 -- `error_of_resolving e`: the error of the command if a pointer does not resolve in a text
 abbrev pub error_of_resolving : InTextError → TaskError
 error_of_resolving in_text.NotJson = NotJson
 error_of_resolving (in_text.Resolve e) = Resolve e
 error_of_resolving (in_text.Memory e) = Memory e
+
+-- `of_locate_error e`: the error of the command if a value is not located in a text
+abbrev pub of_locate_error : LocateError → TaskError
+of_locate_error locate.NotJson = NotJson
+of_locate_error (locate.Resolve e) = Resolve e
+of_locate_error locate.NotLocated = NotLocated
+of_locate_error (locate.Memory e) = Memory e
 
 -- `of_assign_error e`: the error of the command if a value cannot be assigned in a text
 abbrev pub of_assign_error : EditError assign.Error → TaskError
@@ -70,13 +78,6 @@ of_assign_error (edit.Refused e) = Assign e
 of_assign_error edit.TooDeep = TooDeep
 of_assign_error (edit.Memory e) = Memory e
 
--- `of_delete_error e`: the error of the command if a text cannot be searched for a value to delete
-abbrev pub of_delete_error : EditError Infallible → TaskError
-of_delete_error edit.NotJson = NotJson
-of_delete_error (edit.Refused e) = elim e [ ]
-of_delete_error edit.TooDeep = TooDeep
-of_delete_error (edit.Memory e) = Memory e
-
 -- `of_patch_error e`: the error of the command if a patch is not applied in a text
 abbrev pub of_patch_error : EditError PatchError → TaskError
 of_patch_error edit.NotJson = NotJson
@@ -84,15 +85,15 @@ of_patch_error (edit.Refused e) = PatchFailed e
 of_patch_error edit.TooDeep = TooDeep
 of_patch_error (edit.Memory e) = Memory e
 
--- `of_strict_assign_error e`, `of_strict_delete_error e`: the same of edits that are made in place
+-- `of_in_place_assign_error e`, `of_in_place_delete_error e`: the same of edits that are made in place
 -- or not at all
-abbrev pub of_strict_assign_error : InPlaceError (EditError assign.Error) → TaskError
-of_strict_assign_error in_place.NotInPlace = NotInPlace
-of_strict_assign_error (in_place.Failed e) = of_assign_error e
+abbrev pub of_in_place_assign_error : InPlaceError (EditError assign.Error) → TaskError
+of_in_place_assign_error in_place.NotInPlace = NotInPlace
+of_in_place_assign_error (in_place.Edit e) = of_assign_error e
 
-abbrev pub of_strict_delete_error : InPlaceError (EditError Infallible) → TaskError
-of_strict_delete_error in_place.NotInPlace = NotInPlace
-of_strict_delete_error (in_place.Failed e) = of_delete_error e
+abbrev pub of_in_place_delete_error : InPlaceError ReadError → TaskError
+of_in_place_delete_error in_place.NotInPlace = NotInPlace
+of_in_place_delete_error (in_place.Edit e) = of_read_error e
 
 -- `of_build_error e`: the error of the command if lines build no document
 abbrev pub of_build_error : BuildError → TaskError

@@ -19,4 +19,3 @@ pub mod PrivateResults
 pub mod PrivateLineResults
 pub mod PrivatePatches
 pub mod PrivateRuns
-pub mod PrivateDocuments

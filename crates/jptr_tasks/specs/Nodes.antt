@@ -16,35 +16,9 @@ use Rattle.jsonptr_patch.specs.declared.comparison.Comparison.TheVariants.{Numer
 use Rattle.jsonptr_edit_in_text.specs.Locating.{IsLocated}
 use Rattle.jptr_tasks.specs.declared.task_error.TaskError.{TaskError}
 use Rattle.jptr_tasks.specs.declared.task_error.TaskError.TheVariants.{NotJson, Resolve, NotLocated, Memory}
-use Rattle.jptr_tasks.specs.declared.node.NodeType.{NodeType}
-use Rattle.jptr_tasks.specs.declared.node.NodeType.TheVariants as variant
-
--- `type_of d`: the type of the value `d`
-abbrev pub type_of : Data → NodeType
-type_of null = variant.Null
-type_of (boolean b) = variant.Boolean
-type_of (number n) = variant.Number
-type_of (string s) = variant.String
-type_of (array ds) = variant.Array
-type_of (object ms) = variant.Object
-
--- `type_name t`: the name of the type `t`
-abbrev pub type_name : NodeType → Text
-type_name variant.Null = codes "null"
-type_name variant.Boolean = codes "boolean"
-type_name variant.Number = codes "number"
-type_name variant.String = codes "string"
-type_name variant.Array = codes "array"
-type_name variant.Object = codes "object"
-
--- `length_of_value d`: the number of elements or members of the value `d`, or of the characters of a string. No other value has one
-abbrev pub length_of_value : Data → Option ℕ
-length_of_value null = None
-length_of_value (boolean b) = None
-length_of_value (number n) = None
-length_of_value (string s) = Some (length (chars s))
-length_of_value (array ds) = Some (items_len ds)
-length_of_value (object ms) = Some (members_len ms)
+use Rattle.jsonptr_value.specs.NodeTypes.{type_of, length_of}
+use Rattle.jsonptr_value.specs.declared.types.NodeType.{NodeType}
+use Rattle.jsonptr_value.specs.declared.types.NodeType.TheVariants as variant
 
 -- `HasType text ts t`: the value that the tokens `ts` identify in the document of `text` has the type `t`
 abbrev pub HasType : Text → List Text → NodeType → Type 0
@@ -52,7 +26,7 @@ HasType text ts t = (d : Data) × FindsInText text ts d × (t ≡ type_of d)
 
 -- `ValueHasLength text ts n`: that value has the length `n`, or there is none
 abbrev pub ValueHasLength : Text → List Text → Option ℕ → Type 0
-ValueHasLength text ts n = (d : Data) × FindsInText text ts d × (n ≡ length_of_value d)
+ValueHasLength text ts n = (d : Data) × FindsInText text ts d × (n ≡ length_of d)
 
 -- `AreMembers ts ks rest`: the tokens `ts` are members with the keys `ks`, in this order, and then `rest`
 abbrev pub AreMembers : List Token → List Text → List Token → Type 0

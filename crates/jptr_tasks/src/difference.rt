@@ -31,7 +31,7 @@ pub struct PatchText {
 /// It has no operation if both are the same, floats by their bits.
 ///
 /// Its text reads as the patch document, so [`Task::Patch`](crate::task::Task::Patch) applies it to
-/// `old`, and the result is `new` ([`difference_law`](crate::laws::difference_law)).
+/// `old`, and the result is `new` ([`printed_difference_law`](crate::laws::printed_difference_law)).
 ///
 /// # Errors
 ///

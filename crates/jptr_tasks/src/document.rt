@@ -3,16 +3,16 @@ ghost use Rattle.std.specs.Prelude.{◌≡◌, ◌↔◌, IfOk, IfErr, IfSome, I
 ghost use Rattle.std.specs.Io.KnownBytes.{Appends};
 ghost use Rattle.jsonptr_io.specs.Streams.{AppendsPrefix};
 ghost use Rattle.jptr_tasks.specs.Documents.{Prints, TaskFailsOn, PutsDocument, StopsDocument, EndsInBreak};
-ghost use Rattle.jptr_tasks.specs.PrivateDocuments.{IsReadFailure};
 ghost use Rattle.jptr_tasks.specs.declared.task_error.TaskError.TheVariants.{Write};
 
 use crate::layout::Layout;
 use crate::result::result_in_text;
 use crate::task::Task;
 use crate::task_error::TaskError;
+use jsonptr_io::input::read_into;
 use jsonptr_io::write::write_and_flush;
 use simdutf8::basic::from_utf8;
-use std::alloc::{AllocError, Global};
+use std::alloc::Global;
 use std::io;
 
 /// Returns what is printed for the task on the bytes of a document.
@@ -42,9 +42,34 @@ pub fn document_result(
     ensures yielded { IfOk result (λ s. Prints task.now layout bytes.now (string_bytes s)) }
     ensures refused { IfErr result (TaskFailsOn task.now layout bytes.now) }
 {
-    let Ok(text) = from_utf8(bytes) else {
-        return Err(TaskError::NotJson);
-    };
+    match from_utf8(bytes) {
+        Ok(text) => text_result(alloc, text, task, layout),
+        Err(_) => Err(TaskError::NotJson),
+    }
+}
+
+/// Returns what is printed for the task on the text of a document, as [`document_result`] does.
+///
+/// # Errors
+///
+/// Those of [`result_in_text`].
+///
+/// # Examples
+///
+/// ```rust
+/// let task = Task::Get(Pointer::parse("/a")?, None);
+/// let value = text_result(alloc, "{\"a\": [1, 2]}", &task, Layout::Kept)?;
+/// assert_eq!(rt; value.as_str(), "[1, 2]\n");
+/// ```
+pub fn text_result(
+    alloc: Global,
+    text: &str,
+    task: &Task<'_>,
+    layout: Layout,
+) -> Result<String, TaskError>
+    ensures yielded { IfOk result (λ s. Prints task.now layout text.now (string_bytes s)) }
+    ensures refused { IfErr result (TaskFailsOn task.now layout text.now) }
+{
     let mut new = result_in_text(alloc, text, task, layout)?;
     if ends_in_break(task, layout) {
         new.push('\n')?;
@@ -97,21 +122,6 @@ pub fn run_document<R: io::Read, W: io::Write>(
     read_into(input, bytes)?;
     let new = document_result(*bytes.allocator(), bytes, task, layout)?;
     put_all(output, new.as_str())
-}
-
-/// Reads all of the input into `bytes`. What `bytes` had before is removed, and its memory is used again.
-pub(crate) fn read_into<R: io::Read>(input: &mut R, bytes: &mut Vec<u8>) -> Result<(), TaskError>
-    ensures read { OnOk result (IfSome (R.remaining input.old) (λ xs. bytes.new.items ≡ xs)) }
-    ensures refused { IfErr result IsReadFailure }
-{
-    bytes.clear();
-    match input.read_to_end(bytes) {
-        Ok(_) => Ok(()),
-        Err(error) if error.kind() == io::ErrorKind::OutOfMemory => Err(TaskError::Memory(
-            AllocError,
-        )),
-        Err(_) => Err(TaskError::Read),
-    }
 }
 
 /// Writes all of the text, and flushes.

@@ -20,7 +20,7 @@ use std::alloc::Global;
 /// the document of the text.
 ///
 /// [`Task::Patch`](crate::task::Task::Patch) applies both, and after both what is printed is read as
-/// the document of the text ([`inverse_law`](crate::laws::inverse_law)).
+/// the document of the text ([`printed_inverse_law`](crate::laws::printed_inverse_law)).
 ///
 /// # Errors
 ///

@@ -34,7 +34,7 @@ ghost use Rattle.jptr_tasks.specs.declared.layout.Layout.TheVariants.{Kept, Raw}
 
 pub mod one_error;
 
-use jsonptr_patch::laws::comparison::comparison_law;
+use jsonptr_patch::laws::comparison::test_comparison_law;
 use jsonptr_patch::laws::patch::comparing_patch_law;
 use jsonptr_patch_document::laws::{patch_document_law, writing_law};
 use jsonptr_paths::laws::round_trip_law;
@@ -63,7 +63,7 @@ pub fn paths_law()
 /// the text that is printed reads as the document of `b`, in each layout. There is no error but a
 /// failed allocation, and [`TaskError::NotInPlace`](crate::task_error::TaskError::NotInPlace) in the layout
 /// [`Layout::Kept`](crate::layout::Layout::Kept).
-pub fn difference_law()
+pub fn printed_difference_law()
     ensures applied { (a b out : Text) (n m p : Data) (style layout : Layout) (d : PatchText)
         → read a ≡ Some n → read b ≡ Some m
         → IsDifference (nodes n) (nodes m) style d
@@ -80,7 +80,7 @@ pub fn difference_law()
     patch_document_law();
     writing_law();
     jsonptr_diff::laws::difference_law();
-    comparison_law();
+    test_comparison_law();
     comparing_patch_law();
 }
 
@@ -91,7 +91,7 @@ pub fn difference_law()
 /// failed allocation, and [`TaskError::NotInPlace`](crate::task_error::TaskError::NotInPlace) in the layout
 /// [`Layout::Kept`](crate::layout::Layout::Kept). The first of the two does not print in the layout
 /// [`Layout::Raw`](crate::layout::Layout::Raw), since a string is not JSON without its quotes.
-pub fn inverse_law()
+pub fn printed_inverse_law()
     ensures undone { (a b out : Text) (d patch back : Data) (style first layout : Layout) (u : PatchText)
         → read a ≡ Some d
         → PatchesByInLayout a patch first b → first ≢ Raw
@@ -107,7 +107,7 @@ pub fn inverse_law()
 {
     patch_document_law();
     comparing_patch_law();
-    difference_law();
+    printed_difference_law();
 }
 
 /// States that an input may be cut after a line feed, and each part be run by itself.

@@ -4,58 +4,19 @@ ghost use Rattle.std.specs.Prelude.{◌≡◌, map, length, MatchOption, IfOk, I
 ghost use Rattle.serde_json.specs.View.{view};
 ghost use Rattle.jsonptr.specs.Pointer.{tokens};
 ghost use Rattle.jsonptr_in_text.specs.InText.{FindsInText};
-ghost use Rattle.jptr_tasks.specs.Nodes.{type_of, type_name, length_of_value, HasType, ValueHasLength, HasKeysAt, ListsKeys, IsNoObject, Tests, FailsToFind, FailsToListKeys, scalar_type, HasAbove, FailsAbove};
+ghost use Rattle.jptr_tasks.specs.Nodes.{HasType, ValueHasLength, HasKeysAt, ListsKeys, IsNoObject, Tests, FailsToFind, FailsToListKeys, scalar_type, HasAbove, FailsAbove};
 ghost use Rattle.jptr_tasks.specs.PrivateNodes.{ListsRest};
 
 use crate::task_error::TaskError;
 use json::{Reader, Scratch, Token};
 use jsonptr::Pointer;
-use jsonptr_edit_in_text::{LocateError, locate_in_text};
-use jsonptr_in_text::{InTextError, resolve_in_text};
+use jsonptr_edit_in_text::locate_in_text;
+use jsonptr_in_text::resolve_in_text;
 use jsonptr_json_search::skip::skip;
 use jsonptr_patch::{Comparison, is_equal};
-use jsonptr_value::{MAX_DEPTH, ReadError};
+use jsonptr_value::{MAX_DEPTH, NodeType, ReadError, if_json, length, node_type};
 use serde_json::Value;
 use std::alloc::{AllocError, Global};
-
-/// The type of a JSON value (RFC 8259, section 3).
-#[derive(Clone, Copy, Debug, PartialEq, Eq)]
-pub enum NodeType {
-    /// `null`.
-    Null,
-    /// `true` or `false`.
-    Boolean,
-    /// A number.
-    Number,
-    /// A string.
-    String,
-    /// An array.
-    Array,
-    /// An object.
-    Object,
-}
-
-impl NodeType {
-    /// Returns the name of the type, in lower case.
-    ///
-    /// # Examples
-    ///
-    /// ```rust
-    /// assert_eq!(rt; NodeType::Boolean.name(), "boolean");
-    /// ```
-    pub fn name(self) -> &'static str
-        ensures { result.now ≡ type_name self }
-    {
-        match self {
-            NodeType::Null => "null",
-            NodeType::Boolean => "boolean",
-            NodeType::Number => "number",
-            NodeType::String => "string",
-            NodeType::Array => "array",
-            NodeType::Object => "object",
-        }
-    }
-}
 
 /// Returns the type of the value that the pointer resolves to in the text of a document.
 ///
@@ -75,10 +36,8 @@ pub fn type_in_text(alloc: Global, text: &str, pointer: Pointer<'_>) -> Result<N
     ensures found { IfOk result (HasType text.now (tokens pointer.entry)) }
     ensures refused { IfErr result (FailsToFind text.now (tokens pointer.entry)) }
 {
-    match found_value(alloc, text, pointer) {
-        Ok(value) => Ok(node_type(&value)),
-        Err(failure) => Err(failure),
-    }
+    let value = found_value(alloc, text, pointer)?;
+    Ok(node_type(&value))
 }
 
 /// Returns the length of the value that the pointer resolves to in the text of a document: the number
@@ -106,10 +65,8 @@ pub fn length_in_text(
     ensures found { IfOk result (ValueHasLength text.now (tokens pointer.entry)) }
     ensures refused { IfErr result (FailsToFind text.now (tokens pointer.entry)) }
 {
-    match found_value(alloc, text, pointer) {
-        Ok(value) => Ok(length_if_any(&value)),
-        Err(failure) => Err(failure),
-    }
+    let value = found_value(alloc, text, pointer)?;
+    Ok(length(&value))
 }
 
 /// Returns the keys of the object that the pointer resolves to in the text of a document, one for each
@@ -139,16 +96,10 @@ pub fn keys_in_text(
     ensures found { IfOk result (HasKeysAt text.now (tokens pointer.entry)) }
     ensures refused { IfErr result (FailsToListKeys text.now (tokens pointer.entry)) }
 {
-    match locate_in_text(alloc, text, pointer) {
-        Ok(located) => match keys_of(alloc, located.value) {
-            Ok(keys) => Ok(keys),
-            Err(ReadError::NotJson) => Err(TaskError::NotLocated),
-            Err(ReadError::Memory) => Err(TaskError::Memory(AllocError)),
-        },
-        Err(LocateError::NotLocated) => Err(TaskError::NotLocated),
-        Err(LocateError::Failed(InTextError::Resolve(error))) => Err(TaskError::Resolve(error)),
-        Err(LocateError::Failed(InTextError::NotJson)) => Err(TaskError::NotJson),
-        Err(LocateError::Failed(InTextError::Memory(error))) => Err(TaskError::Memory(error)),
+    let located = locate_in_text(alloc, text, pointer)?;
+    match if_json(keys_of(alloc, located.value))? {
+        Some(keys) => Ok(keys),
+        None => Err(TaskError::NotLocated),
     }
 }
 
@@ -210,10 +161,8 @@ pub fn scalar_above(
     let Some(above) = pointer.parent() else {
         return Ok(None);
     };
-    match type_in_text(alloc, text, above) {
-        Ok(found) => Ok(scalar_type(found)),
-        Err(failure) => Err(failure),
-    }
+    let found = type_in_text(alloc, text, above)?;
+    Ok(scalar_type(found))
 }
 
 /// Returns the type again if it is that of a scalar.
@@ -231,45 +180,7 @@ fn found_value(alloc: Global, text: &str, pointer: Pointer<'_>) -> Result<Value,
     ensures found { IfOk result (λ v. FindsInText text.now (tokens pointer.entry) (view v)) }
     ensures refused { IfErr result (FailsToFind text.now (tokens pointer.entry)) }
 {
-    match resolve_in_text(alloc, text, pointer) {
-        Ok(value) => Ok(value),
-        Err(InTextError::NotJson) => Err(TaskError::NotJson),
-        Err(InTextError::Resolve(error)) => Err(TaskError::Resolve(error)),
-        Err(InTextError::Memory(error)) => Err(TaskError::Memory(error)),
-    }
-}
-
-/// Returns the type of the value.
-fn node_type(value: &Value) -> NodeType
-    ensures { result ≡ type_of (view value.now) }
-{
-    match value {
-        Value::Null => NodeType::Null,
-        Value::Bool(_) => NodeType::Boolean,
-        Value::Number(_) => NodeType::Number,
-        Value::String(_) => NodeType::String,
-        Value::Array(_) => NodeType::Array,
-        Value::Object(_) => NodeType::Object,
-    }
-}
-
-/// Returns the length of the value, if it has one.
-fn length_if_any(value: &Value) -> Option<usize>
-    ensures { result ≡ length_of_value (view value.now) }
-{
-    match value {
-        Value::Null | Value::Bool(_) | Value::Number(_) => None,
-        Value::String(text) => Some(characters(text.as_str())),
-        Value::Array(elements) => Some(elements.len()),
-        Value::Object(members) => Some(members.len()),
-    }
-}
-
-/// Returns the number of characters of the text.
-fn characters(text: &str) -> usize
-    ensures { result ≡ length (chars text.now) }
-{
-    text.chars().count()
+    Ok(resolve_in_text(alloc, text, pointer)?)
 }
 
 /// Returns the keys of the members of the object that the text is, or `None` if it is no object.

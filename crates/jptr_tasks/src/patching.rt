@@ -13,7 +13,7 @@ use crate::raw_patch::RawPatch;
 use crate::task_error::TaskError;
 use jsonptr::Fault;
 use jsonptr_edit_in_text::{
-    Buffers, RawOperation, apply_and_print, raw_operations, stays_one_line, try_apply_raw,
+    Buffers, RawOperation, apply_and_print, raw_operations, stays_one_line, try_apply_raw_in_place,
 };
 use jsonptr_patch::Operation;
 use jsonptr_patch_document::read_patch;
@@ -149,7 +149,7 @@ fn try_in_place(
     ensures one_line { IfOk result (λ new. IfSome new (λ s.
         StaysOneLine text.now (string_bytes s))) }
 {
-    let Some(new) = try_apply_raw(alloc, buffers, text, operations)? else {
+    let Some(new) = try_apply_raw_in_place(alloc, buffers, text, operations)? else {
         return Ok(None);
     };
     if stays_one_line(text, new.as_str()) {
@@ -199,7 +199,7 @@ fn patched(
         (λ s. PatchedBy text.now (view patch.now.document) (string_bytes s)) }
     ensures refused { IfErr result (FailsToPatch text.now (view patch.now.document) Layout.Compact) }
 {
-    let made = try_apply_raw(alloc, buffers, text, patch.operations.as_slice())?;
+    let made = try_apply_raw_in_place(alloc, buffers, text, patch.operations.as_slice())?;
     match made {
         Some(new) => Ok(new),
         None => print_anew(alloc, text, &patch.document),

@@ -2,15 +2,15 @@
 ghost use Rattle.std.specs.Prelude.{IfOk, IfErr, string_bytes};
 ghost use Rattle.jptr_tasks.specs.Paths.{ListsText, FailsToList, BuildsText, FailsToBuild, PutsText, StopsText};
 
-use crate::document::{put_all, read_into};
+use crate::document::put_all;
 use crate::layout::{Layout, show};
 use crate::task_error::TaskError;
+use jsonptr_io::input::read_into;
 use jsonptr_paths::listing::Listed;
 use jsonptr_paths::reading::build;
 use jsonptr_paths::text_listing::list_in_text;
-use jsonptr_value::ReadError;
 use simdutf8::basic::from_utf8;
-use std::alloc::{AllocError, Global};
+use std::alloc::Global;
 use std::io;
 
 /// Returns the lines for the nodes of the document that the bytes are, as `list_in_text` of
@@ -33,11 +33,7 @@ pub fn listed_text(alloc: Global, bytes: &[u8], which: Listed) -> Result<String,
     let Ok(text) = from_utf8(bytes) else {
         return Err(TaskError::NotJson);
     };
-    match list_in_text(alloc, text, which) {
-        Ok(lines) => Ok(lines),
-        Err(ReadError::NotJson) => Err(TaskError::NotJson),
-        Err(ReadError::Memory) => Err(TaskError::Memory(AllocError)),
-    }
+    Ok(list_in_text(alloc, text, which)?)
 }
 
 /// Returns the text of the document that the lines build, in this layout and with a line break at

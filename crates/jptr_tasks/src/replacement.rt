@@ -120,7 +120,7 @@ pub fn replace<S: FileSystem>(system: &mut S) -> Result<Replaced<S::Error>, S::E
 fn fill<S: FileSystem>(system: &mut S) -> Result<(), S::Error>
     requires { S.events system.old ≡ event.Create true ∷ [] }
     ensures filled { OnOk result (S.events system.new ≡ all_calls) }
-    ensures refused { OnErr result (IsSafe (S.events system.new)) }
+    ensures safe { OnErr result (IsSafe (S.events system.new)) }
 {
     system.write()?;
     system.take_rights()?;

@@ -10,7 +10,6 @@ use crate::task::Task;
 use crate::task_error::TaskError;
 use jsonptr::Pointer;
 use jsonptr_edit_in_text::{Buffers, LocateError, locate_in_text_with};
-use jsonptr_in_text::InTextError;
 use serde_json::Value;
 use std::alloc::Global;
 
@@ -130,11 +129,11 @@ fn get(
     match locate_in_text_with(alloc, buffers, lookup.text, lookup.pointer) {
         Ok(located) => lay_out(alloc, &mut buffers.old, located.value, layout),
         Err(LocateError::NotLocated) => Err(TaskError::NotLocated),
-        Err(LocateError::Failed(InTextError::Resolve(error))) => match fallback {
+        Err(LocateError::Resolve(error)) => match fallback {
             Some(value) => Ok(show(alloc, value, layout)?),
             None => Err(TaskError::Resolve(error)),
         },
-        Err(LocateError::Failed(InTextError::NotJson)) => Err(TaskError::NotJson),
-        Err(LocateError::Failed(InTextError::Memory(error))) => Err(TaskError::Memory(error)),
+        Err(LocateError::NotJson) => Err(TaskError::NotJson),
+        Err(LocateError::Memory(error)) => Err(TaskError::Memory(error)),
     }
 }

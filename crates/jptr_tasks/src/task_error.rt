@@ -1,11 +1,11 @@
 //! The errors of a command, and its exit status.
 ghost use Rattle.std.specs.Prelude.{◌≡◌};
-ghost use Rattle.jptr_tasks.specs.Failures.{of_read_error, error_of_resolving, of_assign_error, of_delete_error, of_patch_error, of_strict_assign_error, of_strict_delete_error, of_build_error, of_input_error, status_of_task, status_of_line};
+ghost use Rattle.jptr_tasks.specs.Failures.{of_read_error, error_of_resolving, of_locate_error, of_assign_error, of_patch_error, of_in_place_assign_error, of_in_place_delete_error, of_build_error, of_input_error, status_of_task, status_of_line};
 ghost use Rattle.jptr_tasks.specs.declared.task_error.TaskError.TheVariants.{Memory, Write};
 
 use crate::exit_status::{BAD_INPUT, FILE, MEMORY, NOT_APPLIED};
 use jsonptr::{assign, resolve};
-use jsonptr_edit_in_text::{EditError, InPlaceError};
+use jsonptr_edit_in_text::{EditError, InPlaceError, LocateError};
 use jsonptr_in_text::InTextError;
 use jsonptr_io::input::InputError;
 use jsonptr_io::write::WriteError;
@@ -14,7 +14,6 @@ use jsonptr_patch_document::PatchDocumentError;
 use jsonptr_paths::reading::{BuildError, LineError};
 use jsonptr_value::{MAX_DEPTH, ReadError};
 use std::alloc::AllocError;
-use std::convert::Infallible;
 use thiserror::Error;
 
 /// An error of a command. Its text is one line.
@@ -147,7 +146,20 @@ impl From<ReadError> for TaskError {
     fn from(error: ReadError) -> TaskError {
         match error {
             ReadError::NotJson => TaskError::NotJson,
-            ReadError::Memory => TaskError::Memory(AllocError),
+            ReadError::Memory(error) => TaskError::Memory(error),
+        }
+    }
+}
+
+impl From<LocateError> for TaskError {
+    ghost from_gives = { λ error failure. failure ≡ of_locate_error error };
+
+    fn from(error: LocateError) -> TaskError {
+        match error {
+            LocateError::NotJson => TaskError::NotJson,
+            LocateError::Resolve(error) => TaskError::Resolve(error),
+            LocateError::NotLocated => TaskError::NotLocated,
+            LocateError::Memory(error) => TaskError::Memory(error),
         }
     }
 }
@@ -177,19 +189,6 @@ impl From<EditError<assign::Error>> for TaskError {
     }
 }
 
-impl From<EditError<Infallible>> for TaskError {
-    ghost from_gives = { λ error failure. failure ≡ of_delete_error error };
-
-    fn from(error: EditError<Infallible>) -> TaskError {
-        match error {
-            EditError::NotJson => TaskError::NotJson,
-            EditError::Refused(never) => match never {},
-            EditError::TooDeep => TaskError::TooDeep,
-            EditError::Memory(error) => TaskError::Memory(error),
-        }
-    }
-}
-
 impl From<EditError<PatchError>> for TaskError {
     ghost from_gives = { λ error failure. failure ≡ of_patch_error error };
 
@@ -204,23 +203,23 @@ impl From<EditError<PatchError>> for TaskError {
 }
 
 impl From<InPlaceError<EditError<assign::Error>>> for TaskError {
-    ghost from_gives = { λ error failure. failure ≡ of_strict_assign_error error };
+    ghost from_gives = { λ error failure. failure ≡ of_in_place_assign_error error };
 
     fn from(error: InPlaceError<EditError<assign::Error>>) -> TaskError {
         match error {
             InPlaceError::NotInPlace => TaskError::NotInPlace,
-            InPlaceError::Failed(error) => TaskError::from(error),
+            InPlaceError::Edit(error) => TaskError::from(error),
         }
     }
 }
 
-impl From<InPlaceError<EditError<Infallible>>> for TaskError {
-    ghost from_gives = { λ error failure. failure ≡ of_strict_delete_error error };
+impl From<InPlaceError<ReadError>> for TaskError {
+    ghost from_gives = { λ error failure. failure ≡ of_in_place_delete_error error };
 
-    fn from(error: InPlaceError<EditError<Infallible>>) -> TaskError {
+    fn from(error: InPlaceError<ReadError>) -> TaskError {
         match error {
             InPlaceError::NotInPlace => TaskError::NotInPlace,
-            InPlaceError::Failed(error) => TaskError::from(error),
+            InPlaceError::Edit(error) => TaskError::from(error),
         }
     }
 }

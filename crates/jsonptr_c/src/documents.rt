@@ -51,7 +51,7 @@ pub extern "C" fn jsonptrcore_document_parse(
     error: &mut ErrorRecord,
 ) -> u32
     ensures success { result ≡ 0 → error.new ≡ no_error }
-    ensures parsed { result ≡ 0 → ReadsInto text.now document.new }
+    ensures read { result ≡ 0 → ReadsInto text.now document.new }
     ensures bounded { result ≡ 0 → HoldsWith document.new (λ v. IsBounded (view v)) }
     ensures refused { result ≢ 0 → (e : CallError) × Reports e [] result error.new
         × IsNotParsed text.now e }
@@ -73,7 +73,7 @@ pub extern "C" fn jsonptrcore_document_parse_with(
     error: &mut ErrorRecord,
 ) -> u32
     ensures success { result ≡ 0 → error.new ≡ no_error }
-    ensures parsed { result ≡ 0 → ReadsInto text.now document.new }
+    ensures read { result ≡ 0 → ReadsInto text.now document.new }
     ensures digits { result ≡ 0 → IsTrue is_exact → KeepsDigits text.now }
     ensures bounded { result ≡ 0 → HoldsWith document.new (λ v. IsBounded (view v)) }
     ensures refused { result ≢ 0 → (e : CallError) × Reports e [] result error.new
@@ -117,9 +117,9 @@ pub extern "C" fn jsonptrcore_document_print(
     ensures refused { result ≢ 0 → (e : CallError) × Reports e pointer.now result error.new
         × FailsOnHandle document.old
         (λ v. IsNotPrinted (format_of is_pretty) (view v) pointer.now (list_length out.old) e) e }
-    ensures unchanged { result ≢ 0 → out.new ≡ out.old }
+    ensures output_unchanged { result ≢ 0 → out.new ≡ out.old }
     ensures length { result ≢ 0 → IsLengthOf error.new length.old length.new }
-    ensures value_unchanged { Keeps document.old document.new }
+    ensures unchanged { Keeps document.old document.new }
 {
     match print_at(alloc, document, pointer, format_for(is_pretty), out) {
         Ok(copied) => {
@@ -146,9 +146,9 @@ pub extern "C" fn jsonptrcore_document_string(
     ensures refused { result ≢ 0 → (e : CallError) × Reports e pointer.now result error.new
         × FailsOnHandle document.old
         (λ v. IsNotRead (view v) pointer.now (list_length out.old) e) e }
-    ensures unchanged { result ≢ 0 → out.new ≡ out.old }
+    ensures output_unchanged { result ≢ 0 → out.new ≡ out.old }
     ensures length { result ≢ 0 → IsLengthOf error.new length.old length.new }
-    ensures value_unchanged { Keeps document.old document.new }
+    ensures unchanged { Keeps document.old document.new }
 {
     match string_at(alloc, document, pointer, out) {
         Ok(copied) => {
@@ -173,7 +173,7 @@ pub extern "C" fn jsonptrcore_document_node(
         (λ v. FindsNode (view v) pointer.now node.new) }
     ensures refused { result ≢ 0 → (e : CallError) × Reports e pointer.now result error.new
         × FailsOnHandle document.old (λ v. Unfound (view v) pointer.now e) e }
-    ensures value_unchanged { Keeps document.old document.new }
+    ensures unchanged { Keeps document.old document.new }
 {
     match node_at(alloc, document, pointer) {
         Ok(found) => {
@@ -200,7 +200,7 @@ pub extern "C" fn jsonptrcore_document_assign(
         → Changes document.old (λ d n. IsBounded d → IsBounded n) document.new }
     ensures refused { result ≢ 0 → (e : CallError) × Reports e pointer.now result error.new
         × IsTextNotAssigned text.now document.old pointer.now e }
-    ensures value_unchanged { result ≢ 0 → Keeps document.old document.new }
+    ensures unchanged { result ≢ 0 → Keeps document.old document.new }
 {
     match assign(alloc, document, pointer, text) {
         Ok(()) => succeed(error),
@@ -224,7 +224,7 @@ pub extern "C" fn jsonptrcore_document_delete(
         → Changes document.old (λ d n. IsBounded d → IsBounded n) document.new }
     ensures refused { result ≢ 0 → (e : CallError) × Reports e pointer.now result error.new
         × FailsOnHandle document.old (λ v. IsNotDeleted pointer.now e) e }
-    ensures value_unchanged { result ≢ 0 → Keeps document.old document.new }
+    ensures unchanged { result ≢ 0 → Keeps document.old document.new }
 {
     match delete(alloc, document, pointer) {
         Ok(deleted) => {
@@ -250,7 +250,7 @@ pub extern "C" fn jsonptrcore_document_patch(
         → Changes document.old (λ d n. IsBounded d → IsBounded n) document.new }
     ensures refused { result ≢ 0 → (e : CallError) × Reports e [] result error.new
         × (IsNotPatchText text.now e ⊎ IsNotApplied text.now document.old e) }
-    ensures value_unchanged { result ≢ 0 → Keeps document.old document.new }
+    ensures unchanged { result ≢ 0 → Keeps document.old document.new }
 {
     match patch(alloc, document, text) {
         Ok(()) => succeed(error),
@@ -279,9 +279,9 @@ pub extern "C" fn jsonptrcore_document_patch_with_inverse(
     ensures refused { result ≢ 0 → (e : CallError) × Reports e [] result error.new
         × (IsNotPatchText text.now e ⊎ IsNotAppliedWithBack (format_of is_pretty) text.now
         document.old (list_length out.old) e) }
-    ensures unchanged { result ≢ 0 → out.new ≡ out.old }
+    ensures output_unchanged { result ≢ 0 → out.new ≡ out.old }
     ensures length { result ≢ 0 → IsLengthOf error.new length.old length.new }
-    ensures value_unchanged { result ≢ 0 → Keeps document.old document.new }
+    ensures unchanged { result ≢ 0 → Keeps document.old document.new }
 {
     match patch_with_inverse(alloc, document, text, format_for(is_pretty), out) {
         Ok(copied) => {
@@ -309,10 +309,10 @@ pub extern "C" fn jsonptrcore_document_diff(
     ensures refused { result ≢ 0 → (e : CallError) × Reports e [] result error.new
         × FailsOnHandle old.old (λ v. FailsOnHandle new.old
         (λ w. IsNotCompared (format_of is_pretty) (view v) (view w) (list_length out.old) e) e) e }
-    ensures unchanged { result ≢ 0 → out.new ≡ out.old }
+    ensures output_unchanged { result ≢ 0 → out.new ≡ out.old }
     ensures length { result ≢ 0 → IsLengthOf error.new length.old length.new }
-    ensures old_kept { Keeps old.old old.new }
-    ensures new_kept { Keeps new.old new.new }
+    ensures old_unchanged { Keeps old.old old.new }
+    ensures new_unchanged { Keeps new.old new.new }
 {
     match diff(alloc, old, new, format_for(is_pretty), out) {
         Ok(copied) => {
@@ -339,7 +339,7 @@ pub extern "C" fn jsonptrcore_text_print(
         → FindsTextIn (format_of is_pretty) text.now pointer.now (take length.new out.new) }
     ensures refused { result ≢ 0 → (e : CallError) × Reports e pointer.now result error.new
         × IsNotPrintedFrom (format_of is_pretty) text.now pointer.now (list_length out.old) e }
-    ensures unchanged { result ≢ 0 → out.new ≡ out.old }
+    ensures output_unchanged { result ≢ 0 → out.new ≡ out.old }
     ensures length { result ≢ 0 → IsLengthOf error.new length.old length.new }
 {
     match print_in(alloc, text, pointer, format_for(is_pretty), out) {
@@ -368,9 +368,9 @@ pub extern "C" fn jsonptrcore_text_lost_number(
     ensures none { result ≡ 0 → IsFalse found.new → KeepsDigits text.now }
     ensures refused { result ≢ 0 → (e : CallError) × Reports e [] result error.new
         × IsNotPointedTo text.now (list_length out.old) e }
-    ensures unchanged { result ≢ 0 → out.new ≡ out.old }
+    ensures output_unchanged { result ≢ 0 → out.new ≡ out.old }
     ensures length { result ≢ 0 → IsLengthOf error.new length.old length.new }
-    ensures same_found { result ≢ 0 → found.new ≡ found.old }
+    ensures found_unchanged { result ≢ 0 → found.new ≡ found.old }
 {
     match lost_number_in(alloc, text, out) {
         Ok(Some(copied)) => {

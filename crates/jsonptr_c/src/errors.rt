@@ -25,7 +25,7 @@ pub extern "C" fn jsonptrcore_error_message(
     ensures refused { result ≢ 0 → (e : CallError) × (result ≡ status_number e)
         × IsNotWritten (message_of error.now) (list_length out.old) e
         × ReportsLength e length.old length.new }
-    ensures unchanged { result ≢ 0 → out.new ≡ out.old }
+    ensures output_unchanged { result ≢ 0 → out.new ≡ out.old }
 {
     match message(alloc, error, out) {
         Ok(copied) => {

@@ -25,7 +25,7 @@ pub extern "C" fn jsonptrcore_text_locate(
     ensures located { result ≡ 0 → LocatesInText text.now pointer.now start.new end.new }
     ensures refused { result ≢ 0 → (e : CallError) × Reports e pointer.now result error.new
         × IsNotLocated text.now pointer.now e }
-    ensures unchanged { result ≢ 0 → (start.new ≡ start.old) × (end.new ≡ end.old) }
+    ensures output_unchanged { result ≢ 0 → (start.new ≡ start.old) × (end.new ≡ end.old) }
 {
     match locate_in(alloc, text, pointer) {
         Ok(span) => {
@@ -51,7 +51,7 @@ pub extern "C" fn jsonptrcore_text_pointer_at(
     ensures pointed { result ≡ 0 → PointsAt text.now offset (take length.new out.new) }
     ensures refused { result ≢ 0 → (e : CallError) × Reports e [] result error.new
         × IsNotPointedAt text.now offset (list_length out.old) e }
-    ensures unchanged { result ≢ 0 → out.new ≡ out.old }
+    ensures output_unchanged { result ≢ 0 → out.new ≡ out.old }
     ensures length { result ≢ 0 → IsLengthOf error.new length.old length.new }
 {
     match pointer_at_in(alloc, text, offset, out) {

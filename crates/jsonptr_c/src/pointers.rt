@@ -47,7 +47,7 @@ pub extern "C" fn jsonptrcore_pointer_token(
     ensures token { result ≡ 0 → HasToken pointer.now position (take length.new out.new) }
     ensures refused { result ≢ 0 → (e : CallError) × Reports e pointer.now result error.new
         × IsNoToken pointer.now position (list_length out.old) e }
-    ensures unchanged { result ≢ 0 → out.new ≡ out.old }
+    ensures output_unchanged { result ≢ 0 → out.new ≡ out.old }
     ensures length { result ≢ 0 → IsLengthOf error.new length.old length.new }
 {
     match token(alloc, pointer, position, out) {
@@ -72,7 +72,7 @@ pub extern "C" fn jsonptrcore_pointer_escape(
     ensures escaped { result ≡ 0 → take length.new out.new ≡ esc text.now }
     ensures refused { result ≢ 0 → (e : CallError) × Reports e [] result error.new
         × IsNotEscaped text.now (list_length out.old) e }
-    ensures unchanged { result ≢ 0 → out.new ≡ out.old }
+    ensures output_unchanged { result ≢ 0 → out.new ≡ out.old }
     ensures length { result ≢ 0 → IsLengthOf error.new length.old length.new }
 {
     match escape(alloc, text, out) {
@@ -101,7 +101,7 @@ pub extern "C" fn jsonptrcore_pointer_push(
         × Reports e (take length.old buffer.old) result error.new
         × IsNotPushed length.old buffer.old text.now e }
     ensures unchanged { result ≢ 0 → buffer.new ≡ buffer.old }
-    ensures same_length { result ≢ 0 → length.new ≡ length.old }
+    ensures length_unchanged { result ≢ 0 → length.new ≡ length.old }
 {
     match push(alloc, buffer, *length, text) {
         Ok(longer) => {
@@ -126,7 +126,7 @@ pub extern "C" fn jsonptrcore_pointer_pop(
     ensures popped { result ≡ 0 → Shortens pointer.now length.new }
     ensures refused { result ≢ 0 → (e : CallError) × Reports e pointer.now result error.new
         × IsNotPopped pointer.now e }
-    ensures same_length { result ≢ 0 → length.new ≡ length.old }
+    ensures length_unchanged { result ≢ 0 → length.new ≡ length.old }
 {
     match pop(pointer) {
         Ok(shorter) => {

@@ -104,7 +104,7 @@ fixed_short status =
     (either 200 (status == number.NOT_UTF8) _ _ (lit≤ tt)
     (either 200 (status == number.NOT_JSON) _ _ (lit≤ tt)
     (either 200 (status == number.NO_TOKEN) _ _ (lit≤ tt)
-    (either 200 (status == number.OTHER_KIND) _ _ (lit≤ tt)
+    (either 200 (status == number.OTHER_TYPE) _ _ (lit≤ tt)
     (either 200 (status == number.NOT_LOCATED) _ _ (lit≤ tt)
     (either 200 (status == number.TOO_DEEP) _ _ (lit≤ tt) (lit≤ tt)))))))))))
 
@@ -125,4 +125,4 @@ message_short r fits =
     (either 200 (r.status == number.PATCH_FAILED) _ _ (before 200 (codes "patch failed at operation " ++ decimal r.operation ++ codes ": ") (fault_message r.kind r.slash) (omega (arith, place, cause)))
     (either 200 (r.status == number.NOT_EXACT) _ _ (around 200 (codes "the number at offset ") (codes " loses digits") r.offset fits.2 (lit≤ tt))
     (either 200 (r.status == number.NO_VALUE) _ _ (before 200 (codes "no value is at offset ") (decimal r.offset) (omega (arith, at, offset)))
-    (either 200 ((r.status == number.TOO_DEEP) && (r.kind == number.KIND_DEEP_INVERSE)) _ _ (lit≤ tt) (fixed_short r.status))))))
+    (either 200 ((r.status == number.TOO_DEEP) && (r.kind == number.KIND_INVERSE_TOO_DEEP)) _ _ (lit≤ tt) (fixed_short r.status))))))

@@ -34,7 +34,7 @@ use Rattle.jsonptr_c_calls.specs.Values.{FindsAtPointer}
 use Rattle.jsonptr_c_calls.specs.declared.call_error.Argument.{Argument}
 use Rattle.jsonptr_c_calls.specs.declared.call_error.Argument.TheVariants as argument
 use Rattle.jsonptr_c_calls.specs.declared.call_error.CallError.{CallError}
-use Rattle.jsonptr_c_calls.specs.declared.call_error.CallError.TheVariants.{NoRoom, NoDocument, NotUtf8, NotJson, NotExact, NotPointer, NoToken, Resolve, NotLocated, OtherKind, Assign, NotPatch, PatchFailed, TooDeep, DeepInverse}
+use Rattle.jsonptr_c_calls.specs.declared.call_error.CallError.TheVariants.{NoRoom, NoDocument, NotUtf8, NotJson, NotExact, NotPointer, NoToken, Resolve, NotLocated, OtherType, Assign, NotPatch, PatchFailed, TooDeep, InverseTooDeep}
 use Rattle.jsonptr_in_text.specs.declared.format.Format.{Format}
 use Rattle.jsonptr_c_calls.specs.Depths.{max_levels, StaysShallow}
 use Rattle.jsonptr_c_calls.proofs.SourceLemmas.{is_document}
@@ -188,7 +188,7 @@ module _ (not_both : (s : Text) (e : ParseError) → IsPointer s → IsParseErro
   not_printed_in d format bytes room e f = on_document d (λ v x. IsNotPrinted format (view v) bytes room x) e f (λ v. not_printed format (view v) bytes room e f)
 
   strings : (v w : Data) (room : ℕ) (e f : CallError) → v ≡ w → LacksString v room e → LacksString w room f → SameStatus e f
-  strings v w room e f is (inl h) (inl k) = same e f OtherKind OtherKind h.1 k.1 refl
+  strings v w room e f is (inl h) (inl k) = same e f OtherType OtherType h.1 k.1 refl
   strings v w room e f is (inl h) (inr k) =
       absurd (let no : None ≡ Some k.0 = sym h.0 ∙ ap as_str (is ∙ k.1) in cc)
   strings v w room e f is (inr h) (inl k) =
@@ -264,7 +264,7 @@ module _ (not_both : (s : Text) (e : ParseError) → IsPointer s → IsParseErro
   not_patched apart d t os e f (inl h) (inl k) = not_applied d t os e f h k
   not_patched apart d t os e f (inl h) (inr k) = no_back apart d t os e f h k
   not_patched apart d t os e f (inr h) (inl k) = turned f e (no_back apart d t os f e k h)
-  not_patched apart d t os e f (inr h) (inr k) = same e f DeepInverse DeepInverse h.3.3 k.3.3 refl
+  not_patched apart d t os e f (inr h) (inr k) = same e f InverseTooDeep InverseTooDeep h.3.3 k.3.3 refl
 
   lacks_value : (t : List ℕ) (ts : List Text) (e f : CallError) → LacksValue t ts e → LacksValue t ts f → SameStatus e f
   lacks_value t ts e f (inl h) (inl k) = same e f (NotJson h.0) (NotJson k.0) h.2 k.2 refl

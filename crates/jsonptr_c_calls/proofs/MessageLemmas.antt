@@ -9,7 +9,7 @@ use Rattle.jsonptr_patch_document.specs.declared.error.PatchDocumentError.TheVar
 use Rattle.jsonptr_c_calls.specs.Messages.{failure_message, message_of}
 use Rattle.jsonptr_c_calls.specs.ErrorNumbers.{record_of}
 use Rattle.jsonptr_c_calls.specs.declared.call_error.CallError.{CallError}
-use Rattle.jsonptr_c_calls.specs.declared.call_error.CallError.TheVariants.{Memory, NoRoom, NoDocument, NotUtf8, NotJson, NotExact, NotPointer, NoToken, Resolve, NotLocated, NoValue, OtherKind, Assign, NotPatch, PatchFailed, TooDeep, DeepInverse}
+use Rattle.jsonptr_c_calls.specs.declared.call_error.CallError.TheVariants.{Memory, NoRoom, NoDocument, NotUtf8, NotJson, NotExact, NotPointer, NoToken, Resolve, NotLocated, NoValue, OtherType, Assign, NotPatch, PatchFailed, TooDeep, InverseTooDeep}
 
 pub message_one : (e : CallError) (bytes : List ℕ) → message_of (record_of e bytes) ≡ failure_message e
 message_one (Memory e) bytes = refl
@@ -27,7 +27,7 @@ message_one (Resolve (resolve_error.NotFound position offset)) bytes = refl
 message_one (Resolve (resolve_error.Unreachable position offset)) bytes = refl
 message_one NotLocated bytes = refl
 message_one (NoValue offset) bytes = refl
-message_one OtherKind bytes = refl
+message_one OtherType bytes = refl
 message_one (Assign (assign_error.FailedToParseIndex position offset source)) bytes = refl
 message_one (Assign (assign_error.OutOfBounds position offset source)) bytes = refl
 message_one (NotPatch document_error.NotArray) bytes = refl
@@ -59,4 +59,4 @@ message_one (PatchFailed (patch_error.MoveIntoSelf i) m) bytes = refl
 message_one (PatchFailed (patch_error.TestFloat i) m) bytes = refl
 message_one (PatchFailed (patch_error.TestFailed i) m) bytes = refl
 message_one TooDeep bytes = refl
-message_one DeepInverse bytes = refl
+message_one InverseTooDeep bytes = refl

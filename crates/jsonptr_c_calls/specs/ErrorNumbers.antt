@@ -19,7 +19,7 @@ use Rattle.jsonptr_c_calls.specs.declared.error_numbers.TheConstants as number
 use Rattle.jsonptr_c_calls.specs.declared.call_error.Argument.{Argument}
 use Rattle.jsonptr_c_calls.specs.declared.call_error.Argument.TheVariants as argument
 use Rattle.jsonptr_c_calls.specs.declared.call_error.CallError.{CallError}
-use Rattle.jsonptr_c_calls.specs.declared.call_error.CallError.TheVariants.{Memory, NoRoom, NoDocument, NotUtf8, NotJson, NotExact, NotPointer, NoToken, Resolve, NotLocated, NoValue, OtherKind, Assign, NotPatch, PatchFailed, TooDeep, DeepInverse}
+use Rattle.jsonptr_c_calls.specs.declared.call_error.CallError.TheVariants.{Memory, NoRoom, NoDocument, NotUtf8, NotJson, NotExact, NotPointer, NoToken, Resolve, NotLocated, NoValue, OtherType, Assign, NotPatch, PatchFailed, TooDeep, InverseTooDeep}
 use Rattle.jsonptr_c_calls.specs.declared.error_numbers.ErrorRecord.{ErrorRecord}
 
 -- `row status kind member operation position slash offset length`: the record with these numbers
@@ -150,12 +150,12 @@ status_number NoToken = number.NO_TOKEN
 status_number (Resolve e) = number.NOT_FOUND
 status_number NotLocated = number.NOT_LOCATED
 status_number (NoValue offset) = number.NO_VALUE
-status_number OtherKind = number.OTHER_KIND
+status_number OtherType = number.OTHER_TYPE
 status_number (Assign e) = number.NOT_ASSIGNED
 status_number (NotPatch e) = number.NOT_PATCH
 status_number (PatchFailed e m) = number.PATCH_FAILED
 status_number TooDeep = number.TOO_DEEP
-status_number DeepInverse = number.TOO_DEEP
+status_number InverseTooDeep = number.TOO_DEEP
 
 -- `fields_of e bytes`: the record of the error `e` of a call with the pointer `bytes`, without its status
 abbrev pub fields_of : CallError → List ℕ → ErrorRecord
@@ -170,12 +170,12 @@ fields_of NoToken bytes = no_error
 fields_of (Resolve e) bytes = with_length (token_length bytes (resolve_offset_of e)) (resolve_row e)
 fields_of NotLocated bytes = no_error
 fields_of (NoValue offset) bytes = row 0 0 0 0 0 0 offset 0
-fields_of OtherKind bytes = no_error
+fields_of OtherType bytes = no_error
 fields_of (Assign e) bytes = with_length (token_length bytes (assign_offset_of e)) (assign_row e)
 fields_of (NotPatch e) bytes = patch_document_row e
 fields_of (PatchFailed e m) bytes = patch_row e (fault_number m)
 fields_of TooDeep bytes = no_error
-fields_of DeepInverse bytes = of_kind number.KIND_DEEP_INVERSE
+fields_of InverseTooDeep bytes = of_kind number.KIND_INVERSE_TOO_DEEP
 
 -- `with_status s r`: the record `r` with the status `s`
 abbrev pub with_status : ℕ → ErrorRecord → ErrorRecord

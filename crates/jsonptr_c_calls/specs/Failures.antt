@@ -20,7 +20,7 @@ use Rattle.jsonptr_in_text.specs.declared.format.Format.{Format}
 use Rattle.jsonptr_c_calls.specs.declared.call_error.Argument.{Argument}
 use Rattle.jsonptr_c_calls.specs.declared.call_error.Argument.TheVariants as argument
 use Rattle.jsonptr_c_calls.specs.declared.call_error.CallError.{CallError}
-use Rattle.jsonptr_c_calls.specs.declared.call_error.CallError.TheVariants.{Memory, NoRoom, NoDocument, NotUtf8, NotJson, NotPointer, NoToken, Resolve, OtherKind}
+use Rattle.jsonptr_c_calls.specs.declared.call_error.CallError.TheVariants.{Memory, NoRoom, NoDocument, NotUtf8, NotJson, NotPointer, NoToken, Resolve, OtherType}
 
 -- `IsOutOfMemory e`: an allocation failed
 abbrev pub IsOutOfMemory : CallError → Type 0
@@ -108,7 +108,7 @@ IsNotPrinted format d bytes room e =
 -- `LacksString v room e`: the value `v` is not a string, or one longer than `room` bytes, and `e` reports that
 abbrev pub LacksString : Data → ℕ → CallError → Type 0
 LacksString v room e =
-    ((as_str v ≡ None) × (e ≡ OtherKind)) ⊎ ((s : List ℕ) × (v ≡ string s) × LacksRoom (length s) room e)
+    ((as_str v ≡ None) × (e ≡ OtherType)) ⊎ ((s : List ℕ) × (v ≡ string s) × LacksRoom (length s) room e)
 
 -- `IsNotRead d bytes room e`: the string that the pointer `bytes` resolves to does not come to `room` bytes, and `e`
 -- reports why: there is no value, or it is not a string, or it is longer

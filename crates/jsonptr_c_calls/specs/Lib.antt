@@ -3,7 +3,7 @@ pub mod Pointers
 pub mod Depths
 pub mod Failures
 pub mod Values
-pub mod Kinds
+pub mod NodeTypes
 pub mod Nodes
 pub mod Editing
 pub mod InTexts

@@ -11,7 +11,7 @@ use Rattle.jsonptr_patch_document.specs.declared.error.PatchDocumentError.{Patch
 use Rattle.jsonptr_patch_document.specs.declared.error.PatchDocumentError.TheVariants as document_error
 use Rattle.jsonptr_c_calls.specs.declared.error_numbers.TheConstants as number
 use Rattle.jsonptr_c_calls.specs.declared.call_error.CallError.{CallError}
-use Rattle.jsonptr_c_calls.specs.declared.call_error.CallError.TheVariants.{Memory, NoRoom, NoDocument, NotUtf8, NotJson, NotExact, NotPointer, NoToken, Resolve, NotLocated, NoValue, OtherKind, Assign, NotPatch, PatchFailed, TooDeep, DeepInverse}
+use Rattle.jsonptr_c_calls.specs.declared.call_error.CallError.TheVariants.{Memory, NoRoom, NoDocument, NotUtf8, NotJson, NotExact, NotPointer, NoToken, Resolve, NotLocated, NoValue, OtherType, Assign, NotPatch, PatchFailed, TooDeep, InverseTooDeep}
 use Rattle.jsonptr_c_calls.specs.declared.error_numbers.ErrorRecord.{ErrorRecord}
 
 -- `patch_message e`: the message of an operation that fails
@@ -59,12 +59,12 @@ failure_message NoToken = codes "the pointer has no such token"
 failure_message (Resolve e) = resolve_message e
 failure_message NotLocated = codes "value cannot be located in the text"
 failure_message (NoValue offset) = codes "no value is at offset " ++ decimal offset
-failure_message OtherKind = codes "the value is of another kind"
+failure_message OtherType = codes "the value is of another type"
 failure_message (Assign e) = assign_message e
 failure_message (NotPatch e) = patch_document_message e
 failure_message (PatchFailed e m) = patch_message e
 failure_message TooDeep = codes "the document would nest deeper than 10,127"
-failure_message DeepInverse = codes "the inverse of the patch would nest deeper than 127"
+failure_message InverseTooDeep = codes "the inverse of the patch would nest deeper than 127"
 
 -- ---- The same by the numbers of a record
 
@@ -79,7 +79,7 @@ fixed_message status =
     else if status == number.NOT_UTF8 then codes "text is not UTF-8"
     else if status == number.NOT_JSON then codes "text is not JSON"
     else if status == number.NO_TOKEN then codes "the pointer has no such token"
-    else if status == number.OTHER_KIND then codes "the value is of another kind"
+    else if status == number.OTHER_TYPE then codes "the value is of another type"
     else if status == number.NOT_LOCATED then codes "value cannot be located in the text"
     else if status == number.TOO_DEEP then codes "the document would nest deeper than 10,127"
     else codes "unknown status"
@@ -148,7 +148,7 @@ message_of r =
     else if r.status == number.NOT_EXACT
     then codes "the number at offset " ++ decimal r.offset ++ codes " loses digits"
     else if r.status == number.NO_VALUE then codes "no value is at offset " ++ decimal r.offset
-    else if (r.status == number.TOO_DEEP) && (r.kind == number.KIND_DEEP_INVERSE)
+    else if (r.status == number.TOO_DEEP) && (r.kind == number.KIND_INVERSE_TOO_DEEP)
     then codes "the inverse of the patch would nest deeper than 127"
     else fixed_message r.status
 

@@ -22,7 +22,7 @@ use Rattle.jsonptr_c_calls.specs.Sources.{IsFaultOf, source_at}
 use Rattle.jsonptr_c_calls.specs.Values.{IsJsonText}
 use Rattle.jsonptr_in_text.specs.declared.format.Format.{Format}
 use Rattle.jsonptr_c_calls.specs.declared.call_error.CallError.{CallError}
-use Rattle.jsonptr_c_calls.specs.declared.call_error.CallError.TheVariants.{NotPatch, PatchFailed, TooDeep, DeepInverse}
+use Rattle.jsonptr_c_calls.specs.declared.call_error.CallError.TheVariants.{NotPatch, PatchFailed, TooDeep, InverseTooDeep}
 
 -- `IsPatchText text os`: `text` is a patch document with the operations `os`
 abbrev pub IsPatchText : List ℕ → List Operation → Type 0
@@ -98,7 +98,7 @@ AppliesWithBack format text d n out = AppliesText text d n × IsBackText format 
 -- `e` reports that
 abbrev pub LacksBack : Data → Data → CallError → Type 0
 LacksBack d n e = (back : List Operation) × Patches (nodes n) back (nodes d) × (max_depth < depth (document_of back))
-    × (e ≡ DeepInverse)
+    × (e ≡ InverseTooDeep)
 
 -- `IsNotPatched d text os e`: the operations `os` of the patch document `text` are not applied to the document `d`, or what
 -- takes them back would not be read, and `e` reports why

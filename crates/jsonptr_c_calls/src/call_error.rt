@@ -40,7 +40,7 @@ pub enum CallError {
     },
     /// A text is not JSON.
     NotJson {
-        /// The offset at which reading stopped, or 0 if an allocation failed when it was looked for.
+        /// The offset at which reading stops.
         offset: usize,
     },
     /// A number of a text loses digits.
@@ -58,12 +58,12 @@ pub enum CallError {
         /// The offset.
         offset: usize,
     },
-    /// A value is of another kind than the call reads.
-    OtherKind,
+    /// A value is of another type than the call reads.
+    OtherType,
     /// The document would nest deeper than 10,127.
     TooDeep,
     /// The patch document that takes a patch back would nest deeper than 127.
-    DeepInverse,
+    InverseTooDeep,
     /// A value cannot be assigned at a pointer.
     Assign(assign::Error),
     /// A document is not a patch.

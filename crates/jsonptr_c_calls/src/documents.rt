@@ -31,8 +31,18 @@ use std::alloc::{AllocError, Global};
 /// - [`CallError::Memory`] if an allocation fails.
 ///
 /// The handle is unchanged.
+///
+/// # Examples
+///
+/// ```rust
+/// let mut document = Handle::empty();
+/// assert!(rt; documents::parse(alloc, &mut document, b"[1, 2]").is_ok());
+/// let node = node_at(alloc, &mut document, b"").ok().ok_or("a value")?;
+/// assert_eq!(rt; (node.node_type, node.length), (ARRAY, 2));
+/// free(alloc, &mut document);
+/// ```
 pub fn parse(alloc: Global, document: &mut Handle, text: &[u8]) -> Result<(), CallError>
-    ensures parsed { IfOk result (λ _. ReadsInto text.now document.new) }
+    ensures read { IfOk result (λ _. ReadsInto text.now document.new) }
     ensures bounded { IfOk result (λ _. HoldsWith document.new (λ v. IsBounded (view v))) }
     ensures refused { IfErr result (IsNotParsed text.now) }
     ensures unchanged { OnErr result (document.new ≡ document.old) }
@@ -55,8 +65,18 @@ pub fn parse(alloc: Global, document: &mut Handle, text: &[u8]) -> Result<(), Ca
 /// - [`CallError::Memory`] if an allocation fails.
 ///
 /// The handle is unchanged.
+///
+/// # Examples
+///
+/// ```rust
+/// let mut document = Handle::empty();
+/// let lost = parse_exactly(alloc, &mut document, b"[1e-400]");
+/// assert!(rt; matches!(lost, Err(CallError::NotExact(_))));
+/// assert!(rt; parse_exactly(alloc, &mut document, b"[1.10]").is_ok());
+/// free(alloc, &mut document);
+/// ```
 pub fn parse_exactly(alloc: Global, document: &mut Handle, text: &[u8]) -> Result<(), CallError>
-    ensures parsed { IfOk result (λ _. ReadsInto text.now document.new) }
+    ensures read { IfOk result (λ _. ReadsInto text.now document.new) }
     ensures digits { OnOk result (KeepsDigits text.now) }
     ensures bounded { IfOk result (λ _. HoldsWith document.new (λ v. IsBounded (view v))) }
     ensures refused { IfErr result (IsNotParsedExactly text.now) }
@@ -83,6 +103,18 @@ pub fn free(alloc: Global, document: &mut Handle)
 /// # Errors
 ///
 /// [`CallError::NoDocument`], and those of [`values::print_at`]. The buffer is unchanged.
+///
+/// # Examples
+///
+/// ```rust
+/// let mut document = Handle::empty();
+/// assert!(rt; documents::parse(alloc, &mut document, b"{\"a\": [1, 2]}").is_ok());
+/// let mut out = [0u8; 8];
+/// let printed = documents::print_at(alloc, &mut document, b"/a", Format::Compact, &mut out);
+/// assert_eq!(rt; printed.ok(), Some(5));
+/// assert!(rt; out.starts_with(b"[1,2]"));
+/// free(alloc, &mut document);
+/// ```
 pub fn print_at(
     alloc: Global,
     document: &mut Handle,
@@ -94,8 +126,8 @@ pub fn print_at(
         HoldsWith document.old (λ v. FindsTextOf format (view v) pointer.now (take n out.new))) }
     ensures refused { IfErr result (λ e.
         FailsOnHandle document.old (λ v. IsNotPrinted format (view v) pointer.now (length out.old) e) e) }
-    ensures unchanged { OnErr result (out.new ≡ out.old) }
-    ensures value_unchanged { Keeps document.old document.new }
+    ensures output_unchanged { OnErr result (out.new ≡ out.old) }
+    ensures unchanged { Keeps document.old document.new }
 {
     let Some(value) = document.take(alloc) else {
         return Err(CallError::NoDocument);
@@ -110,6 +142,18 @@ pub fn print_at(
 /// # Errors
 ///
 /// [`CallError::NoDocument`], and those of [`values::string_at`]. The buffer is unchanged.
+///
+/// # Examples
+///
+/// ```rust
+/// let mut document = Handle::empty();
+/// assert!(rt; documents::parse(alloc, &mut document, b"[\"n\\u00e9\"]").is_ok());
+/// let mut out = [0u8; 8];
+/// assert_eq!(rt; documents::string_at(alloc, &mut document, b"/0", &mut out).ok(), Some(3));
+/// let array = documents::string_at(alloc, &mut document, b"", &mut out);
+/// assert!(rt; matches!(array, Err(CallError::OtherType)));
+/// free(alloc, &mut document);
+/// ```
 pub fn string_at(
     alloc: Global,
     document: &mut Handle,
@@ -120,8 +164,8 @@ pub fn string_at(
         HoldsWith document.old (λ v. FindsString (view v) pointer.now (take n out.new))) }
     ensures refused { IfErr result (λ e.
         FailsOnHandle document.old (λ v. IsNotRead (view v) pointer.now (length out.old) e) e) }
-    ensures unchanged { OnErr result (out.new ≡ out.old) }
-    ensures value_unchanged { Keeps document.old document.new }
+    ensures output_unchanged { OnErr result (out.new ≡ out.old) }
+    ensures unchanged { Keeps document.old document.new }
 {
     let Some(value) = document.take(alloc) else {
         return Err(CallError::NoDocument);
@@ -136,12 +180,23 @@ pub fn string_at(
 /// # Errors
 ///
 /// [`CallError::NoDocument`], and those of [`values::find`].
+///
+/// # Examples
+///
+/// ```rust
+/// let mut document = Handle::empty();
+/// assert!(rt; documents::parse(alloc, &mut document, b"[-7]").is_ok());
+/// let node = node_at(alloc, &mut document, b"/0").ok().ok_or("a value")?;
+/// assert_eq!(rt; (node.node_type, node.integer), (NUMBER, -7));
+/// assert!(rt; node_at(alloc, &mut document, b"/1").is_err());
+/// free(alloc, &mut document);
+/// ```
 pub fn node_at(alloc: Global, document: &mut Handle, pointer: &[u8]) -> Result<NodeInfo, CallError>
     ensures described { IfOk result (λ node.
         HoldsWith document.old (λ v. FindsNode (view v) pointer.now node)) }
     ensures refused { IfErr result (λ e.
         FailsOnHandle document.old (λ v. Unfound (view v) pointer.now e) e) }
-    ensures value_unchanged { Keeps document.old document.new }
+    ensures unchanged { Keeps document.old document.new }
 {
     let Some(value) = document.take(alloc) else {
         return Err(CallError::NoDocument);
@@ -160,6 +215,19 @@ pub fn node_at(alloc: Global, document: &mut Handle, pointer: &[u8]) -> Result<N
 /// - [`CallError::NoDocument`], and those of [`editing::assign`].
 ///
 /// The document is unchanged.
+///
+/// # Examples
+///
+/// ```rust
+/// let mut document = Handle::empty();
+/// assert!(rt; documents::parse(alloc, &mut document, b"{}").is_ok());
+/// assert!(rt; documents::assign(alloc, &mut document, b"/a/0", b"5").is_ok());
+/// let mut out = [0u8; 9];
+/// let printed = documents::print_at(alloc, &mut document, b"", Format::Compact, &mut out);
+/// assert_eq!(rt; printed.ok(), Some(9));
+/// assert_eq!(rt; out, *b"{\"a\":[5]}");
+/// free(alloc, &mut document);
+/// ```
 pub fn assign(
     alloc: Global,
     document: &mut Handle,
@@ -171,7 +239,7 @@ pub fn assign(
     ensures bounded { IfOk result (λ _.
         Changes document.old (λ d n. IsBounded d → IsBounded n) document.new) }
     ensures refused { IfErr result (IsTextNotAssigned text.now document.old pointer.now) }
-    ensures value_unchanged { OnErr result (Keeps document.old document.new) }
+    ensures unchanged { OnErr result (Keeps document.old document.new) }
 {
     let assigned = read(alloc, text)?;
     let Some(mut value) = document.take(alloc) else {
@@ -188,6 +256,16 @@ pub fn assign(
 /// # Errors
 ///
 /// [`CallError::NoDocument`], and those of [`editing::delete`]. The document is unchanged.
+///
+/// # Examples
+///
+/// ```rust
+/// let mut document = Handle::empty();
+/// assert!(rt; documents::parse(alloc, &mut document, b"[1, 2]").is_ok());
+/// assert_eq!(rt; documents::delete(alloc, &mut document, b"/1").ok(), Some(true));
+/// assert_eq!(rt; documents::delete(alloc, &mut document, b"/1").ok(), Some(false));
+/// free(alloc, &mut document);
+/// ```
 pub fn delete(alloc: Global, document: &mut Handle, pointer: &[u8]) -> Result<bool, CallError>
     ensures deleted { IfOk result (λ found.
         Changes document.old (λ d n. DeletesAtPointer d pointer.now found n) document.new) }
@@ -195,7 +273,7 @@ pub fn delete(alloc: Global, document: &mut Handle, pointer: &[u8]) -> Result<bo
         Changes document.old (λ d n. IsBounded d → IsBounded n) document.new) }
     ensures refused { IfErr result (λ e.
         FailsOnHandle document.old (λ v. IsNotDeleted pointer.now e) e) }
-    ensures value_unchanged { OnErr result (Keeps document.old document.new) }
+    ensures unchanged { OnErr result (Keeps document.old document.new) }
 {
     let Some(mut value) = document.take(alloc) else {
         return Err(CallError::NoDocument);
@@ -213,6 +291,19 @@ pub fn delete(alloc: Global, document: &mut Handle, pointer: &[u8]) -> Result<bo
 /// - [`CallError::NoDocument`], and those of [`patches::apply_all`].
 ///
 /// The document is unchanged.
+///
+/// # Examples
+///
+/// ```rust
+/// let mut document = Handle::empty();
+/// assert!(rt; documents::parse(alloc, &mut document, b"[1, 2]").is_ok());
+/// let text = b"[{\"op\": \"remove\", \"path\": \"/0\"}]";
+/// assert!(rt; documents::patch(alloc, &mut document, text).is_ok());
+/// let mut out = [0u8; 3];
+/// let printed = documents::print_at(alloc, &mut document, b"", Format::Compact, &mut out);
+/// assert_eq!(rt; (printed.ok(), out), (Some(3), *b"[2]"));
+/// free(alloc, &mut document);
+/// ```
 pub fn patch(alloc: Global, document: &mut Handle, text: &[u8]) -> Result<(), CallError>
     ensures applied { IfOk result (λ _.
         Changes document.old (λ d n. AppliesText text.now d n) document.new) }
@@ -220,7 +311,7 @@ pub fn patch(alloc: Global, document: &mut Handle, text: &[u8]) -> Result<(), Ca
         Changes document.old (λ d n. IsBounded d → IsBounded n) document.new) }
     ensures refused { IfErr result (λ e.
         IsNotPatchText text.now e ⊎ IsNotApplied text.now document.old e) }
-    ensures value_unchanged { OnErr result (Keeps document.old document.new) }
+    ensures unchanged { OnErr result (Keeps document.old document.new) }
 {
     let operations = patches::read_patch_text(alloc, text)?;
     let Some(mut value) = document.take(alloc) else {
@@ -241,10 +332,22 @@ pub fn patch(alloc: Global, document: &mut Handle, text: &[u8]) -> Result<(), Ca
 /// # Errors
 ///
 /// - Those of [`patch`].
-/// - [`CallError::DeepInverse`] if the patch document that takes it back nests deeper than 127.
+/// - [`CallError::InverseTooDeep`] if the patch document that takes it back nests deeper than 127.
 /// - [`CallError::NoRoom`] if the buffer is shorter than its text.
 ///
 /// The document and the buffer are unchanged.
+///
+/// # Examples
+///
+/// ```rust
+/// let mut document = Handle::empty();
+/// assert!(rt; documents::parse(alloc, &mut document, b"[1, 2]").is_ok());
+/// let (text, mut out) = (b"[{\"op\": \"remove\", \"path\": \"/0\"}]", [0u8; 64]);
+/// let copied = patch_with_inverse(alloc, &mut document, text, Format::Compact, &mut out);
+/// let back = out.get(..copied.ok().ok_or("a patch")?).unwrap_or(b"");
+/// assert!(rt; documents::patch(alloc, &mut document, back).is_ok());
+/// free(alloc, &mut document);
+/// ```
 pub fn patch_with_inverse(
     alloc: Global,
     document: &mut Handle,
@@ -258,8 +361,8 @@ pub fn patch_with_inverse(
         Changes document.old (λ d n. IsBounded d → IsBounded n) document.new) }
     ensures refused { IfErr result (λ e. IsNotPatchText text.now e
         ⊎ IsNotAppliedWithBack format text.now document.old (length out.old) e) }
-    ensures unchanged { OnErr result (out.new ≡ out.old) }
-    ensures value_unchanged { OnErr result (Keeps document.old document.new) }
+    ensures output_unchanged { OnErr result (out.new ≡ out.old) }
+    ensures unchanged { OnErr result (Keeps document.old document.new) }
 {
     let operations = patches::read_patch_text(alloc, text)?;
     let Some(mut value) = document.take(alloc) else {
@@ -288,10 +391,10 @@ fn put_patched(
     out: &mut [u8],
 ) -> Result<usize, CallError>
     ensures copied { IfOk result (λ n. take n out.new ≡ made.inverse.items) }
-    ensures held { OnOk result (Holds document.new made.document) }
+    ensures replaced { OnOk result (Holds document.new made.document) }
     ensures refused { IfErr result (LacksRoom (length made.inverse.items) (length out.old)) }
-    ensures unchanged { OnErr result (out.new ≡ out.old) }
-    ensures value_unchanged { OnErr result (Holds document.new old.value) }
+    ensures output_unchanged { OnErr result (out.new ≡ out.old) }
+    ensures unchanged { OnErr result (Holds document.new old.value) }
 {
     let mut value = old;
     let outcome = patches::keep(&mut value, made, out);
@@ -309,6 +412,19 @@ fn put_patched(
 /// - [`CallError::Memory`] if an allocation fails.
 ///
 /// The buffer is unchanged.
+///
+/// # Examples
+///
+/// ```rust
+/// let (mut old, mut new) = (Handle::empty(), Handle::empty());
+/// assert!(rt; documents::parse(alloc, &mut old, b"[1]").is_ok());
+/// assert!(rt; documents::parse(alloc, &mut new, b"[1, 2]").is_ok());
+/// let mut out = [0u8; 64];
+/// assert!(rt; documents::diff(alloc, &mut old, &mut new, Format::Compact, &mut out).is_ok());
+/// assert!(rt; out.starts_with(b"[{\"op\":\"add\""));
+/// free(alloc, &mut old);
+/// free(alloc, &mut new);
+/// ```
 pub fn diff(
     alloc: Global,
     old: &mut Handle,
@@ -321,9 +437,9 @@ pub fn diff(
     ensures refused { IfErr result (λ e. FailsOnHandle old.old
         (λ v. FailsOnHandle new.old
         (λ w. IsNotCompared format (view v) (view w) (length out.old) e) e) e) }
-    ensures unchanged { OnErr result (out.new ≡ out.old) }
-    ensures old_kept { Keeps old.old old.new }
-    ensures new_kept { Keeps new.old new.new }
+    ensures output_unchanged { OnErr result (out.new ≡ out.old) }
+    ensures old_unchanged { Keeps old.old old.new }
+    ensures new_unchanged { Keeps new.old new.new }
 {
     let Some(value) = old.take(alloc) else {
         return Err(CallError::NoDocument);
@@ -351,8 +467,8 @@ fn diff_with(
     ensures refused { IfErr result (λ e.
         FailsOnHandle new.old
         (λ w. IsNotCompared format (view old.now) (view w) (length out.old) e) e) }
-    ensures unchanged { OnErr result (out.new ≡ out.old) }
-    ensures value_unchanged { Keeps new.old new.new }
+    ensures output_unchanged { OnErr result (out.new ≡ out.old) }
+    ensures new_unchanged { Keeps new.old new.new }
 {
     let Some(value) = new.take(alloc) else {
         return Err(CallError::NoDocument);

@@ -29,8 +29,8 @@ pub const NOT_POINTER: u32 = 7;
 pub const NO_TOKEN: u32 = 8;
 /// The pointer does not resolve to a value.
 pub const NOT_FOUND: u32 = 9;
-/// The value is not of the kind that the call reads.
-pub const OTHER_KIND: u32 = 10;
+/// The value is not of the type that the call reads.
+pub const OTHER_TYPE: u32 = 10;
 /// The pointer leads to an array that has no such index.
 pub const NOT_ASSIGNED: u32 = 11;
 /// The document is not a patch.
@@ -79,7 +79,7 @@ pub const KIND_NOT_A_STRING: u32 = 15;
 /// `op` is not the name of an operation.
 pub const KIND_UNKNOWN_OP: u32 = 16;
 /// The patch that takes a patch back would nest deeper than a text that is read.
-pub const KIND_DEEP_INVERSE: u32 = 17;
+pub const KIND_INVERSE_TOO_DEEP: u32 = 17;
 
 /// The member `op` of an operation.
 pub const MEMBER_OP: u32 = 1;
@@ -173,11 +173,11 @@ fn status_number(failure: &CallError) -> u32
         CallError::Resolve(_) => NOT_FOUND,
         CallError::NotLocated => NOT_LOCATED,
         CallError::NoValue { .. } => NO_VALUE,
-        CallError::OtherKind => OTHER_KIND,
+        CallError::OtherType => OTHER_TYPE,
         CallError::Assign(_) => NOT_ASSIGNED,
         CallError::NotPatch(_) => NOT_PATCH,
         CallError::PatchFailed { .. } => PATCH_FAILED,
-        CallError::TooDeep | CallError::DeepInverse => TOO_DEEP,
+        CallError::TooDeep | CallError::InverseTooDeep => TOO_DEEP,
     }
 }
 
@@ -210,12 +210,12 @@ fn fields_of(failure: &CallError, pointer: &[u8]) -> ErrorRecord
         },
         CallError::NotPatch(error) => patch_document_row(error),
         CallError::PatchFailed { error, member } => patch_row(error, fault_number(*member)),
-        CallError::DeepInverse => of_kind(KIND_DEEP_INVERSE),
+        CallError::InverseTooDeep => of_kind(KIND_INVERSE_TOO_DEEP),
         CallError::Memory(_)
         | CallError::NoDocument
         | CallError::NoToken
         | CallError::NotLocated
-        | CallError::OtherKind
+        | CallError::OtherType
         | CallError::TooDeep => ErrorRecord::none(),
     }
 }

@@ -2,6 +2,9 @@
 //!
 //! `jsonptr_c` exports them. A text comes in as bytes, which need not be UTF-8, and a result is
 //! written to a buffer of the caller, with the length that it needs.
+//!
+//! In the examples `rt` is the runtime that `main` and each test receive, and `alloc` is
+//! `rt.alloc()`, the allocator.
 #![tactic(auto)]
 
 pub mod buffer;
@@ -10,11 +13,11 @@ pub mod depths;
 pub mod documents;
 pub mod editing;
 pub mod error_numbers;
-pub mod kind;
 pub mod laws;
 pub mod locations;
 pub mod message;
 pub mod node;
+pub mod node_type;
 pub mod outcome;
 pub mod patches;
 pub mod pointers;

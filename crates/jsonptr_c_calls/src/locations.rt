@@ -9,7 +9,6 @@ use crate::call_error::{Argument, CallError};
 use crate::pointers::{parse, text_of};
 use crate::reading::stop;
 use jsonptr_edit_in_text::{LocateError, locate_in_text, pointer_at};
-use jsonptr_in_text::InTextError;
 use std::alloc::Global;
 
 /// The bytes of a value in a JSON text.
@@ -32,12 +31,20 @@ pub struct TextSpan {
 /// - [`CallError::Resolve`] if the pointer does not resolve to a value.
 /// - [`CallError::NotLocated`] if the check of the offsets fails.
 /// - [`CallError::Memory`] if an allocation fails.
+///
+/// # Examples
+///
+/// ```rust
+/// let span = locate_in(alloc, b"{\"a\": [1.0, 2]}", b"/a/0").ok().ok_or("a value")?;
+/// assert_eq!(rt; (span.start, span.end), (7, 10));
+/// ```
 pub fn locate_in(alloc: Global, text: &[u8], pointer: &[u8]) -> Result<TextSpan, CallError>
     ensures located { IfOk result (λ s. LocatesInText text.now pointer.now s.start s.end) }
     ensures refused { IfErr result (IsNotLocated text.now pointer.now) }
 {
     let pointer = parse(pointer)?;
-    match locate_in_text(alloc, text_of(Argument::Text, text)?, pointer) {
+    let text = text_of(Argument::Text, text)?;
+    match locate_in_text(alloc, text, pointer) {
         Ok(located) => Ok(TextSpan {
             start: located.before.len(),
             end: text.len() - located.after.len(),
@@ -60,6 +67,14 @@ pub fn locate_in(alloc: Global, text: &[u8], pointer: &[u8]) -> Result<TextSpan,
 /// - [`CallError::Memory`] if an allocation fails.
 ///
 /// The buffer is unchanged.
+///
+/// # Examples
+///
+/// ```rust
+/// let mut out = [0u8; 8];
+/// assert_eq!(rt; pointer_at_in(alloc, b"{\"a\": [1.0, 2]}", 8, &mut out).ok(), Some(4));
+/// assert!(rt; out.starts_with(b"/a/0"));
+/// ```
 pub fn pointer_at_in(
     alloc: Global,
     text: &[u8],
@@ -68,9 +83,10 @@ pub fn pointer_at_in(
 ) -> Result<usize, CallError>
     ensures pointed { IfOk result (λ n. PointsAt text.now offset (take n out.new)) }
     ensures refused { IfErr result (IsNotPointedAt text.now offset (length out.old)) }
-    ensures unchanged { OnErr result (out.new ≡ out.old) }
+    ensures output_unchanged { OnErr result (out.new ≡ out.old) }
 {
-    match pointer_at(alloc, text_of(Argument::Text, text)?, offset) {
+    let text = text_of(Argument::Text, text)?;
+    match pointer_at(alloc, text, offset) {
         Ok(Some(found)) => copy_to(found.pointer.as_ptr().as_str().as_bytes(), out),
         Ok(None) => Err(CallError::NoValue { offset }),
         Err(error) => Err(failure_of(alloc, text, error)),
@@ -78,16 +94,17 @@ pub fn pointer_at_in(
 }
 
 /// Returns the error of a call on the text in which a value is not located.
-fn failure_of(alloc: Global, text: &[u8], error: LocateError) -> CallError
+fn failure_of(alloc: Global, text: &str, error: LocateError) -> CallError
     ensures { (tokens : List Text) → IsLocateError text.now tokens error
         → LacksLocation text.now tokens result }
 {
     match error {
         LocateError::NotLocated => CallError::NotLocated,
-        LocateError::Failed(InTextError::NotJson) => CallError::NotJson {
-            offset: stop(alloc, text),
+        LocateError::NotJson => match stop(alloc, text) {
+            Ok(offset) => CallError::NotJson { offset },
+            Err(error) => CallError::Memory(error),
         },
-        LocateError::Failed(InTextError::Resolve(error)) => CallError::Resolve(error),
-        LocateError::Failed(InTextError::Memory(error)) => CallError::Memory(error),
+        LocateError::Resolve(error) => CallError::Resolve(error),
+        LocateError::Memory(error) => CallError::Memory(error),
     }
 }

@@ -17,12 +17,21 @@ use std::fmt;
 ///
 /// [`CallError::NoRoom`] if the buffer is shorter than the message, and [`CallError::Memory`] if an
 /// allocation fails. The buffer is unchanged.
+///
+/// # Examples
+///
+/// ```rust
+/// let error = ErrorRecord::of(&CallError::NoDocument, b"");
+/// let mut out = [0u8; 40];
+/// assert_eq!(rt; message::message(alloc, &error, &mut out).ok(), Some(28));
+/// assert!(rt; out.starts_with(b"the handle holds no document"));
+/// ```
 pub fn message(alloc: Global, error: &ErrorRecord, out: &mut [u8]) -> Result<usize, CallError>
     ensures message { IfOk result (λ n. take n out.new ≡ message_of error.now) }
     ensures length { IfOk result (λ n. n ≡ list_length (message_of error.now)) }
     ensures short { list_length (message_of error.now) ≤ message_room }
     ensures refused { IfErr result (IsNotWritten (message_of error.now) (list_length out.old)) }
-    ensures unchanged { OnErr result (out.new ≡ out.old) }
+    ensures output_unchanged { OnErr result (out.new ≡ out.old) }
 {
     message_law();
     let (_operation, _slash, _offset) = (error.operation, error.slash, error.offset);
@@ -48,7 +57,7 @@ impl fmt::Display for ErrorRecord {
                 let offset = self.offset;
                 write!(f, "no value is at offset {offset}")
             }
-            TOO_DEEP if self.kind == KIND_DEEP_INVERSE => {
+            TOO_DEEP if self.kind == KIND_INVERSE_TOO_DEEP => {
                 f.write_str("the inverse of the patch would nest deeper than 127")
             }
             status => f.write_str(fixed_message(status)),
@@ -70,7 +79,7 @@ fn fixed_message(status: u32) -> &'static str
         NOT_UTF8 => "text is not UTF-8",
         NOT_JSON => "text is not JSON",
         NO_TOKEN => "the pointer has no such token",
-        OTHER_KIND => "the value is of another kind",
+        OTHER_TYPE => "the value is of another type",
         NOT_LOCATED => "value cannot be located in the text",
         TOO_DEEP => "the document would nest deeper than 10,127",
         _ => "unknown status",

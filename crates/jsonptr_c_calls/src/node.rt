@@ -4,7 +4,7 @@ ghost use Rattle.serde_json.specs.View.{view};
 ghost use Rattle.jsonptr_c_calls.specs.Failures.{Unfound};
 
 use crate::call_error::CallError;
-use crate::kind::{kind, length};
+use crate::node_type::{byte_length, length, node_type};
 use crate::values::find;
 use serde_json::Value;
 use std::alloc::Global;
@@ -13,8 +13,8 @@ use std::alloc::Global;
 #[repr(C)]
 #[derive(Clone, Copy)]
 pub struct NodeInfo {
-    /// The kind of the value.
-    pub kind: u32,
+    /// The type of the value, by its number in [`crate::node_type`].
+    pub node_type: u32,
     /// Whether the value is a number that `integer` contains.
     pub has_integer: bool,
     /// Whether the value is a number that `natural` contains.
@@ -27,12 +27,12 @@ pub struct NodeInfo {
     pub natural: u64,
     /// The nearest number of this type, or 0 if the value is not a number.
     pub number: f64,
-    /// The number of elements or members, or of the bytes of a string; 0 for others.
+    /// The number of elements or members, or of the characters of a string; 0 for others.
     pub length: usize,
+    /// The number of bytes of a string; 0 for others.
+    pub byte_length: usize,
     /// Always 0.
     pub reserved: u64,
-    /// Always 0.
-    pub reserved_2: u64,
 }
 
 impl NodeInfo {
@@ -43,7 +43,7 @@ impl NodeInfo {
         ensures { Describes (view value.now) result }
     {
         NodeInfo {
-            kind: kind(value),
+            node_type: node_type(value),
             has_integer: value.as_i64().is_some(),
             has_natural: value.as_u64().is_some(),
             is_true: value.as_bool().unwrap_or(false),
@@ -51,8 +51,8 @@ impl NodeInfo {
             natural: value.as_u64().unwrap_or(0),
             number: value.as_f64().unwrap_or(0.0),
             length: length(value),
+            byte_length: byte_length(value),
             reserved: 0,
-            reserved_2: 0,
         }
     }
 

@@ -18,7 +18,7 @@ pub fn succeed(error: &mut ErrorRecord) -> u32
 /// Returns the status of a call with this pointer that fails, and writes the record of the error.
 pub fn fail(failure: &CallError, pointer: &[u8], error: &mut ErrorRecord) -> u32
     ensures reported { Reports failure.now pointer.now result error.new }
-    ensures refused { result ≢ 0 }
+    ensures status { result ≢ 0 }
 {
     *error = ErrorRecord::of(failure, pointer);
     error.status
@@ -32,9 +32,9 @@ pub fn fail_with_length(
     error: &mut ErrorRecord,
 ) -> u32
     ensures reported { Reports failure.now pointer.now result error.new }
-    ensures refused { result ≢ 0 }
-    ensures length { ReportsLength failure.now length.old length.new }
-    ensures same_length { IsLengthOf error.new length.old length.new }
+    ensures status { result ≢ 0 }
+    ensures reported_length { ReportsLength failure.now length.old length.new }
+    ensures length { IsLengthOf error.new length.old length.new }
 {
     if let CallError::NoRoom { needed } = failure {
         *length = *needed;

@@ -12,7 +12,7 @@ ghost use Rattle.jsonptr_patch_document.specs.Writing.{document_of};
 ghost use Rattle.jsonptr_c_calls.specs.Failures.{IsOutOfMemory, LacksRoom};
 ghost use Rattle.jsonptr_c_calls.specs.Patches.{IsPatchText, IsNotPatchText, IsNotAppliedList, IsNotCompared, IsNotPatched, IsBackText, IsDiffText};
 ghost use Rattle.jsonptr_c_calls.specs.Values.{IsJsonText};
-ghost use Rattle.jsonptr_c_calls.specs.declared.call_error.CallError.TheVariants.{DeepInverse};
+ghost use Rattle.jsonptr_c_calls.specs.declared.call_error.CallError.TheVariants.{InverseTooDeep};
 
 use crate::buffer::copy_to;
 use crate::call_error::CallError;
@@ -107,7 +107,7 @@ pub struct Patched {
 /// # Errors
 ///
 /// - Those of [`apply_all`].
-/// - [`CallError::DeepInverse`] if the patch document that takes them back nests deeper than 127, so
+/// - [`CallError::InverseTooDeep`] if the patch document that takes them back nests deeper than 127, so
 ///   that its text would not be read.
 ///
 /// # Conditions
@@ -155,8 +155,8 @@ pub fn keep(document: &mut Value, made: Patched, out: &mut [u8]) -> Result<usize
     ensures copied { IfOk result (λ n. take n out.new ≡ made.inverse.items) }
     ensures replaced { OnOk result (document.new ≡ made.document) }
     ensures refused { IfErr result (LacksRoom (length made.inverse.items) (length out.old)) }
-    ensures unchanged { OnErr result (out.new ≡ out.old) }
-    ensures document_unchanged { OnErr result (document.new ≡ document.old) }
+    ensures output_unchanged { OnErr result (out.new ≡ out.old) }
+    ensures unchanged { OnErr result (document.new ≡ document.old) }
 {
     let copied = copy_to(&made.inverse, out)?;
     *document = made.document;
@@ -167,7 +167,7 @@ pub fn keep(document: &mut Value, made: Patched, out: &mut [u8]) -> Result<usize
 ///
 /// # Errors
 ///
-/// - [`CallError::DeepInverse`] if the document nests deeper than 127, so that its text would not be
+/// - [`CallError::InverseTooDeep`] if the document nests deeper than 127, so that its text would not be
 ///   read.
 /// - [`CallError::Memory`] if an allocation fails.
 fn inverse_text(
@@ -178,12 +178,12 @@ fn inverse_text(
     ensures text { IfOk result (λ text. IsPatchText text.items inverse.now.items
         × IsJsonText format (document_of inverse.now.items) text.items) }
     ensures refused { IfErr result (λ e. IsOutOfMemory e
-        ⊎ ((max_depth < depth (document_of inverse.now.items)) × (e ≡ DeepInverse))) }
+        ⊎ ((max_depth < depth (document_of inverse.now.items)) × (e ≡ InverseTooDeep))) }
 {
     writing_law();
     let document = write_patch(alloc, inverse)?;
     if !nests_within(&document, MAX_DEPTH) {
-        return Err(CallError::DeepInverse);
+        return Err(CallError::InverseTooDeep);
     }
     Ok(json_text(alloc, &document, format)?)
 }
@@ -206,7 +206,7 @@ pub fn diff_text(
         IsDiffText format (view old.now) (view new.now) (take n out.new)) }
     ensures refused { IfErr result
         (IsNotCompared format (view old.now) (view new.now) (length out.old)) }
-    ensures unchanged { OnErr result (out.new ≡ out.old) }
+    ensures output_unchanged { OnErr result (out.new ≡ out.old) }
 {
     match diff_of(alloc, old, new, format) {
         Ok(text) => copy_to(&text, out),

@@ -36,6 +36,13 @@ pub fn text_of(argument: Argument, bytes: &[u8]) -> Result<&str, CallError>
 /// # Errors
 ///
 /// [`CallError::NotUtf8`] and [`CallError::NotPointer`].
+///
+/// # Examples
+///
+/// ```rust
+/// assert_eq!(rt; pointers::parse(b"/a~1b/0").ok().map(|pointer| pointer.count()), Some(2));
+/// assert!(rt; matches!(pointers::parse(b"a"), Err(CallError::NotPointer(_))));
+/// ```
 pub fn parse(bytes: &[u8]) -> Result<Pointer<'_>, CallError>
     ensures pointer { IfOk result (λ p. HasTokens bytes.now (tokens p)) }
     ensures utf8 { OnOk result (IsUtf8 bytes.now) }
@@ -52,6 +59,14 @@ pub fn parse(bytes: &[u8]) -> Result<Pointer<'_>, CallError>
 /// # Errors
 ///
 /// Those of [`parse`].
+///
+/// # Examples
+///
+/// ```rust
+/// assert_eq!(rt; count(b"").ok(), Some(0));
+/// assert_eq!(rt; count(b"/a~1b/0").ok(), Some(2));
+/// assert!(rt; matches!(count(b"/\xff"), Err(CallError::NotUtf8 { offset: 1, .. })));
+/// ```
 pub fn count(bytes: &[u8]) -> Result<usize, CallError>
     ensures count { IfOk result (λ n. HasCount bytes.now n) }
     ensures refused { IfErr result (IsNoPointer bytes.now) }
@@ -67,6 +82,15 @@ pub fn count(bytes: &[u8]) -> Result<usize, CallError>
 /// - [`CallError::NoToken`] if the pointer has no token there.
 /// - [`CallError::NoRoom`] if the buffer is shorter than the token.
 /// - [`CallError::Memory`] if an allocation fails. Only a token that contains `~` needs one.
+///
+/// # Examples
+///
+/// ```rust
+/// let mut out = [0u8; 8];
+/// assert_eq!(rt; token(alloc, b"/a~1b/0", 0, &mut out).ok(), Some(3));
+/// assert!(rt; out.starts_with(b"a/b"));
+/// assert!(rt; matches!(token(alloc, b"/a", 1, &mut out), Err(CallError::NoToken)));
+/// ```
 pub fn token(
     alloc: Global,
     bytes: &[u8],
@@ -75,7 +99,7 @@ pub fn token(
 ) -> Result<usize, CallError>
     ensures token { IfOk result (λ n. HasToken bytes.now position (take n out.new)) }
     ensures refused { IfErr result (IsNoToken bytes.now position (list_length out.old)) }
-    ensures unchanged { OnErr result (out.new ≡ out.old) }
+    ensures output_unchanged { OnErr result (out.new ≡ out.old) }
 {
     let Some(token) = parse(bytes)?.get(position) else {
         return Err(CallError::NoToken);
@@ -91,10 +115,18 @@ pub fn token(
 /// - [`CallError::NotUtf8`] if the bytes are not UTF-8.
 /// - [`CallError::NoRoom`] if the buffer is shorter than the escaped text.
 /// - [`CallError::Memory`] if an allocation fails. Only a token that contains `~` or `/` needs one.
+///
+/// # Examples
+///
+/// ```rust
+/// let mut out = [0u8; 8];
+/// assert_eq!(rt; escape(alloc, b"a/b", &mut out).ok(), Some(4));
+/// assert!(rt; out.starts_with(b"a~1b"));
+/// ```
 pub fn escape(alloc: Global, bytes: &[u8], out: &mut [u8]) -> Result<usize, CallError>
     ensures escaped { IfOk result (λ n. take n out.new ≡ esc bytes.now) }
     ensures refused { IfErr result (IsNotEscaped bytes.now (list_length out.old)) }
-    ensures unchanged { OnErr result (out.new ≡ out.old) }
+    ensures output_unchanged { OnErr result (out.new ≡ out.old) }
 {
     let token = Token::new(alloc, CowStr::Borrowed(text_of(Argument::Token, bytes)?))?;
     copy_to(token.encoded().as_bytes(), out)
@@ -108,6 +140,16 @@ pub fn escape(alloc: Global, bytes: &[u8], out: &mut [u8]) -> Result<usize, Call
 /// - Those of [`parse`], for the pointer and for the token, which must be UTF-8.
 /// - [`CallError::NoRoom`] if the buffer is shorter than the pointer or than the longer one.
 /// - [`CallError::Memory`] if an allocation fails.
+///
+/// # Examples
+///
+/// ```rust
+/// let mut buffer = *b"/a......";
+/// assert_eq!(rt; push(alloc, &mut buffer, 2, b"b/c").ok(), Some(7));
+/// assert!(rt; buffer.starts_with(b"/a/b~1c"));
+/// let full = push(alloc, &mut buffer, 7, b"d");
+/// assert!(rt; matches!(full, Err(CallError::NoRoom { needed: 9 })));
+/// ```
 pub fn push(
     alloc: Global,
     buffer: &mut [u8],
@@ -150,6 +192,13 @@ fn extended(alloc: Global, bytes: &[u8], token: &[u8]) -> Result<PointerBuf, Cal
 /// # Errors
 ///
 /// Those of [`parse`], and [`CallError::NoToken`] if the pointer is the root.
+///
+/// # Examples
+///
+/// ```rust
+/// assert_eq!(rt; pop(b"/a/b").ok(), Some(2));
+/// assert!(rt; matches!(pop(b""), Err(CallError::NoToken)));
+/// ```
 pub fn pop(bytes: &[u8]) -> Result<usize, CallError>
     ensures popped { IfOk result (Shortens bytes.now) }
     ensures refused { IfErr result (IsNotPopped bytes.now) }

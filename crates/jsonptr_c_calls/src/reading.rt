@@ -1,5 +1,6 @@
 //! JSON texts as bytes.
-ghost use Rattle.std.specs.Prelude.{◌≡◌, IfErr, IfOk, IsUtf8, MatchOption, OnOk, Some};
+ghost use Rattle.std.specs.Prelude.{◌≡◌, ◌≤◌, IfErr, IfOk, IsUtf8, MatchOption, OnOk, Some, length};
+ghost use Rattle.serde_json.specs.Data.{Data};
 ghost use Rattle.serde_json.specs.Read.{read as read_text};
 ghost use Rattle.serde_json.specs.View.{view};
 ghost use Rattle.jsonptr_c_calls.specs.Depths.{IsParsed};
@@ -20,6 +21,17 @@ use std::alloc::{AllocError, Global};
 ///
 /// - [`CallError::NotUtf8`] and [`CallError::NotJson`].
 /// - [`CallError::Memory`] if an allocation fails.
+///
+/// # Examples
+///
+/// ```rust
+/// let Ok(document) = reading::read(alloc, b"[1.0, 2]") else {
+///     return Err("a document".into());
+/// };
+/// assert_eq!(rt; document.to_string(alloc)?.as_str(), "[1.0,2]");
+/// let cut = reading::read(alloc, b"[1.0");
+/// assert!(rt; matches!(cut, Err(CallError::NotJson { offset: 4 })));
+/// ```
 pub fn read(alloc: Global, bytes: &[u8]) -> Result<Value, CallError>
     ensures read { IfOk result (λ v. read_text bytes.now ≡ Some (view v)) }
     ensures parsed { IfOk result (λ v. IsParsed (view v)) }
@@ -48,6 +60,14 @@ pub fn read(alloc: Global, bytes: &[u8]) -> Result<Value, CallError>
 /// - [`CallError::NotUtf8`] and [`CallError::NotJson`].
 /// - [`CallError::NotExact`] with the first number that loses digits.
 /// - [`CallError::Memory`] if an allocation fails.
+///
+/// # Examples
+///
+/// ```rust
+/// assert!(rt; reading::read_exactly(alloc, b"[1.10]").is_ok());
+/// let lost = reading::read_exactly(alloc, b"[1e-400]");
+/// assert!(rt; matches!(lost, Err(CallError::NotExact(_))));
+/// ```
 pub fn read_exactly(alloc: Global, bytes: &[u8]) -> Result<Value, CallError>
     ensures read { IfOk result (λ v. read_text bytes.now ≡ Some (view v)) }
     ensures parsed { IfOk result (λ v. IsParsed (view v)) }
@@ -79,7 +99,9 @@ pub(crate) fn lost_of(alloc: Global, bytes: &[u8]) -> Result<Option<Lost>, CallE
 }
 
 /// Returns the offset that the error reports.
-fn error_offset(bytes: &[u8], error: &Error) -> usize {
+fn error_offset(bytes: &[u8], error: &Error) -> usize
+    ensures { result ≤ length bytes.now }
+{
     if error.is_eof() {
         bytes.len()
     } else {
@@ -87,18 +109,44 @@ fn error_offset(bytes: &[u8], error: &Error) -> usize {
     }
 }
 
-/// Returns the offset at which reading the bytes stops. Returns 0 if they are the text of a document or
-/// not UTF-8, or if an allocation fails.
-pub fn stop(alloc: Global, bytes: &[u8]) -> usize {
-    match read(alloc, bytes) {
-        Err(CallError::NotJson { offset }) => offset,
-        _ => 0,
+/// Returns the offset at which reading the text stops: that of [`CallError::NotJson`], or the length of
+/// the text if it is a JSON text.
+///
+/// No clause says which offset it is in a text that is not JSON, only that it is at most the length. The
+/// contracts of `serde_json` do not define the offset of an error.
+///
+/// # Errors
+///
+/// If an allocation fails.
+///
+/// # Examples
+///
+/// ```rust
+/// assert_eq!(rt; stop(alloc, "[1, x]")?, 4);
+/// assert_eq!(rt; stop(alloc, "[1, ")?, 4);
+/// assert_eq!(rt; stop(alloc, "[1]")?, 3);
+/// ```
+pub fn stop(alloc: Global, text: &str) -> Result<usize, AllocError>
+    ensures within { IfOk result (λ offset. offset ≤ length text.now) }
+    ensures whole { (d : Data) → read_text text.now ≡ Some d → IfOk result (λ offset. offset ≡ length text.now) }
+{
+    match Value::from_str(alloc, text) {
+        Ok(_) => Ok(text.len()),
+        Err(error) => {
+            if error.is_memory() {
+                Err(AllocError)
+            } else {
+                Ok(error_offset(text.as_bytes(), &error))
+            }
+        }
     }
 }
 
 /// Returns the offset of a column of a line, both counted from 1, or the length of the text if it is
 /// shorter.
-fn offset_at(text: &[u8], line: usize, column: usize) -> usize {
+fn offset_at(text: &[u8], line: usize, column: usize) -> usize
+    ensures { result ≤ length text.now }
+{
     let mut start = 0usize;
     for _ in 1..line {
         let rest = text.get(start..).unwrap_or(b"");

@@ -72,7 +72,7 @@ fn at_fault(
     error: &PatchError,
 ) -> Result<Option<Member>, CallError>
     requires utf8 { IsUtf8 text.now }
-    requires refused { (operations : List SpecOperation) × IsPatchText text.now operations
+    requires fails { (operations : List SpecOperation) × IsPatchText text.now operations
         × RefusesPatchBy Numeric (nodes (view document.old)) operations error.now }
     ensures blamed { IfOk result (Blames text.now (nodes (view document.old)) error.now) }
     ensures refused { IfErr result IsOutOfMemory }

@@ -32,10 +32,11 @@ fn find_in(alloc: Global, text: &[u8], pointer: &[u8]) -> Result<Value, CallErro
     ensures refused { IfErr result (IsNotInText text.now pointer.now) }
 {
     let pointer = parse(pointer)?;
-    match resolve_in_text(alloc, text_of(Argument::Text, text)?, pointer) {
+    let text = text_of(Argument::Text, text)?;
+    match resolve_in_text(alloc, text, pointer) {
         Ok(value) => Ok(value),
         Err(InTextError::NotJson) => Err(CallError::NotJson {
-            offset: stop(alloc, text),
+            offset: stop(alloc, text)?,
         }),
         Err(InTextError::Resolve(error)) => Err(CallError::Resolve(error)),
         Err(InTextError::Memory(error)) => Err(CallError::Memory(error)),
@@ -55,6 +56,15 @@ fn find_in(alloc: Global, text: &[u8], pointer: &[u8]) -> Result<Value, CallErro
 /// - [`CallError::Memory`] if an allocation fails.
 ///
 /// The buffer is unchanged.
+///
+/// # Examples
+///
+/// ```rust
+/// let mut out = [0u8; 8];
+/// let printed = print_in(alloc, b"{\"a\": [1, 2]}", b"/a", Format::Compact, &mut out);
+/// assert_eq!(rt; printed.ok(), Some(5));
+/// assert!(rt; out.starts_with(b"[1,2]"));
+/// ```
 pub fn print_in(
     alloc: Global,
     text: &[u8],
@@ -64,7 +74,7 @@ pub fn print_in(
 ) -> Result<usize, CallError>
     ensures printed { IfOk result (λ n. FindsTextIn format text.now pointer.now (take n out.new)) }
     ensures refused { IfErr result (IsNotPrintedFrom format text.now pointer.now (length out.old)) }
-    ensures unchanged { OnErr result (out.new ≡ out.old) }
+    ensures output_unchanged { OnErr result (out.new ≡ out.old) }
 {
     match find_in(alloc, text, pointer) {
         Ok(value) => copy_to(&json_text(alloc, &value, format)?, out),
@@ -83,6 +93,16 @@ pub fn print_in(
 /// - [`CallError::Memory`] if an allocation fails.
 ///
 /// The buffer is unchanged.
+///
+/// # Examples
+///
+/// ```rust
+/// let mut out = [0u8; 8];
+/// let found = lost_number_in(alloc, b"{\"a\": [1.10, 1e-400]}", &mut out);
+/// assert_eq!(rt; found.ok(), Some(Some(4)));
+/// assert!(rt; out.starts_with(b"/a/1"));
+/// assert_eq!(rt; lost_number_in(alloc, b"[1.10]", &mut out).ok(), Some(None));
+/// ```
 pub fn lost_number_in(
     alloc: Global,
     text: &[u8],
@@ -92,7 +112,7 @@ pub fn lost_number_in(
         (λ n. (lost : SpecLost) × Loses text.now lost × PointsTo (take n out.new) lost)) }
     ensures utf8 { OnOk result (IsUtf8 text.now) }
     ensures refused { IfErr result (IsNotPointedTo text.now (length out.old)) }
-    ensures unchanged { OnErr result (out.new ≡ out.old) }
+    ensures output_unchanged { OnErr result (out.new ≡ out.old) }
 {
     let _document = read(alloc, text)?;
     match lost_of(alloc, text)? {
@@ -110,7 +130,7 @@ pub fn lost_number_in(
 fn copy_pointer(lost: Lost, out: &mut [u8]) -> Result<usize, CallError>
     ensures copied { IfOk result (λ n. PointsTo (take n out.new) lost) }
     ensures refused { IfErr result (LacksPointerOfNumber lost (length out.old)) }
-    ensures unchanged { OnErr result (out.new ≡ out.old) }
+    ensures output_unchanged { OnErr result (out.new ≡ out.old) }
 {
     if let Some(pointer) = &lost.pointer {
         return copy_to(pointer.as_ptr().as_str().as_bytes(), out);

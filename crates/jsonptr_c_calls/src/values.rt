@@ -63,7 +63,7 @@ pub fn print_at(
         FindsTextOf format (view document.now) pointer.now (take n out.new)) }
     ensures refused { IfErr result
         (IsNotPrinted format (view document.now) pointer.now (length out.old)) }
-    ensures unchanged { OnErr result (out.new ≡ out.old) }
+    ensures output_unchanged { OnErr result (out.new ≡ out.old) }
 {
     let value = find(alloc, document, pointer)?;
     let text = json_text(alloc, value, format)?;
@@ -75,7 +75,7 @@ pub fn print_at(
 /// # Errors
 ///
 /// - Those of [`find`].
-/// - [`CallError::OtherKind`] if the value is not a string.
+/// - [`CallError::OtherType`] if the value is not a string.
 /// - [`CallError::NoRoom`] if the buffer is shorter than the string.
 ///
 /// The buffer is unchanged.
@@ -88,10 +88,10 @@ pub fn string_at(
     ensures string { IfOk result (λ n.
         FindsString (view document.now) pointer.now (take n out.new)) }
     ensures refused { IfErr result (IsNotRead (view document.now) pointer.now (length out.old)) }
-    ensures unchanged { OnErr result (out.new ≡ out.old) }
+    ensures output_unchanged { OnErr result (out.new ≡ out.old) }
 {
     match find(alloc, document, pointer)?.as_str() {
         Some(text) => copy_to(text.as_bytes(), out),
-        None => Err(CallError::OtherKind),
+        None => Err(CallError::OtherType),
     }
 }

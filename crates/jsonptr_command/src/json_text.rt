@@ -59,7 +59,7 @@ pub fn read_json_input<R: Read>(alloc: Global, input: &mut R) -> Result<Value, R
         (λ v. ForInput (R.remaining input.old) (λ bytes. json_of bytes ≡ Some (view v))) }
     ensures depth { IfOk result (λ v. depth (view v) ≤ max_depth) }
     ensures refused { IfErr result (IsInputFault (R.remaining input.old)) }
-    ensures at_end { IsPastInput result → IsAtEnd (R.remaining input.new) }
+    ensures end { IsPastInput result → IsAtEnd (R.remaining input.new) }
 {
     let bytes = read_all(alloc, input)?;
     read_json(alloc, &bytes)?.ok_or(RunFault::InputNotJson)

@@ -21,7 +21,7 @@ use jsonptr_patch::laws::patch::patch_law;
 /// - A value has one line, except for the digits of its floats. Lists of texts contain no floats.
 /// - The keys of each parsed object are in ascending order, and an assignment, a deletion and a
 ///   patch keep them so. A map with such keys belongs to one value.
-pub fn run_law()
+pub fn program_law()
     ensures asks { (words : List Text) (r q : Result Request RunFault)
         → Asks words r
         → Asks words q

@@ -92,12 +92,12 @@ pub fn run_program<R: Read, W: Write>(
         (Appends (W.contents output.old) (W.contents output.new))) }
     ensures refused { IfErr result
         (IsRefusedSo (map string_bytes words.now) (R.remaining input.old)) }
-    ensures front { IsErrOf result RunFault.Write
+    ensures prefix { IsErrOf result RunFault.Write
         → ForLine (map string_bytes words.now) (R.remaining input.old)
         (AppendsPrefix (W.contents output.old) (W.contents output.new)) }
     ensures output_unchanged { IfErr result (λ e. e ≢ RunFault.Write → output.new ≡ output.old) }
     ensures input_unchanged { NeedNoInput (map string_bytes words.now) → input.new ≡ input.old }
-    ensures at_end { NeedInput (map string_bytes words.now)
+    ensures end { NeedInput (map string_bytes words.now)
         → IsPastInput result
         → IsAtEnd (R.remaining input.new) }
 {
@@ -134,12 +134,12 @@ pub fn run_program_into<R: Read, W: Write>(
         (Appends (W.contents output.old) (W.contents output.new))) }
     ensures refused { IfErr result
         (IsRefusedSo (map string_bytes words.now) (R.remaining input.old)) }
-    ensures front { IsErrOf result RunFault.Write
+    ensures prefix { IsErrOf result RunFault.Write
         → ForLine (map string_bytes words.now) (R.remaining input.old)
         (AppendsPrefix (W.contents output.old) (W.contents output.new)) }
     ensures output_unchanged { IfErr result (λ e. e ≢ RunFault.Write → output.new ≡ output.old) }
     ensures input_unchanged { NeedNoInput (map string_bytes words.now) → input.new ≡ input.old }
-    ensures at_end { NeedInput (map string_bytes words.now)
+    ensures end { NeedInput (map string_bytes words.now)
         → IsPastInput result
         → IsAtEnd (R.remaining input.new) }
     ensures value { NeedInput (map string_bytes words.now)
@@ -260,7 +260,7 @@ fn line_of<R: Read>(
     ensures refused { IfErr result
         (IsRequestFault (request_of request.entry) (R.remaining input.old)) }
     ensures input_unchanged { (NeedsInput (request_of request.entry) → ⊥) → input.new ≡ input.old }
-    ensures at_end { NeedsInput (request_of request.entry)
+    ensures end { NeedsInput (request_of request.entry)
         → IsPastInput result
         → IsAtEnd (R.remaining input.new) }
     ensures value { NeedsInput (request_of request.entry)
@@ -291,7 +291,7 @@ fn found_line<R: Read>(
         (λ bytes. IsLineOf (Outcome (resolving (tokens pointer.entry)) bytes) (string_bytes line))) }
     ensures refused { IfErr result
         (IsRequestFault (resolving (tokens pointer.entry)) (R.remaining input.old)) }
-    ensures at_end { IsPastInput result → IsAtEnd (R.remaining input.new) }
+    ensures end { IsPastInput result → IsAtEnd (R.remaining input.new) }
     ensures value { OnOk result (ForInput (R.remaining input.old)
         (λ bytes. HasValueOf (resolving (tokens pointer.entry)) bytes (option_map view value.new))) }
     ensures unchanged { OnErr result (value.new ≡ value.old) }
@@ -332,7 +332,7 @@ fn document_line<R: Read>(
     ensures line { IfOk result (λ line. ForInput (R.remaining input.old)
         (λ bytes. IsLineOf (Outcome (asked_by change.entry) bytes) (string_bytes line))) }
     ensures refused { IfErr result (IsRequestFault (asked_by change.entry) (R.remaining input.old)) }
-    ensures at_end { IsPastInput result → IsAtEnd (R.remaining input.new) }
+    ensures end { IsPastInput result → IsAtEnd (R.remaining input.new) }
     ensures value { OnOk result (ForInput (R.remaining input.old)
         (λ bytes. HasValueOf (asked_by change.entry) bytes (option_map view value.new))) }
     ensures restored { IfErr result (λ e. IsOperationFault e → ForInput (R.remaining input.old)

@@ -47,7 +47,7 @@ pub fn twice_law()
 
 /// States that a text which `json` or `serde_json` reads has no comment and no trailing comma, so that
 /// it is unchanged.
-pub fn json_law()
+pub fn json_text_law()
     ensures json { (text : List ℕ) (j : Json) → document text ≡ Some j → IsPlain text }
     ensures read { (text : List ℕ) (d : Data) → read text ≡ Some d → IsPlain text }
 {}

@@ -32,7 +32,7 @@ pub fn remove_elements(
         → Splices goal first patch.new.items (tokens_of at.now) c d index (k + count) left) }
     ensures parts { IfOk result (λ _.
         AppendsParts (tokens_of at.now) patch.old.items patch.new.items) }
-    ensures unchanged { IfOk result (λ _. count ≡ 0 → patch.new.items ≡ patch.old.items) }
+    ensures none { IfOk result (λ _. count ≡ 0 → patch.new.items ≡ patch.old.items) }
 {
     for _done in 0..count {
         remove(alloc, &Trail::Element(&*at, index), patch)?;
@@ -71,7 +71,7 @@ pub fn add_elements(
         c (array_map new.now) range.to k left) }
     ensures parts { IfOk result (λ _.
         AppendsParts (tokens_of at.now) patch.old.items patch.new.items) }
-    ensures unchanged { IfOk result (λ _.
+    ensures none { IfOk result (λ _.
         range.from ≡ range.to → patch.new.items ≡ patch.old.items) }
 {
     for index in range.from..range.to {

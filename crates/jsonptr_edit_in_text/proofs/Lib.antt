@@ -1,4 +1,5 @@
 mod BytesLaws
+mod DeletionLemmas
 mod OperatingLemmas
 mod RawListLemmas
 mod RewritingLemmas

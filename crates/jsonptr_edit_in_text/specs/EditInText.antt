@@ -8,6 +8,8 @@ use Rattle.jsonptr.specs.Json.{nodes, HasSortedKeys}
 use Rattle.jsonptr.specs.Assigning.{Assigns}
 use Rattle.jsonptr.specs.Removing.{Deletes}
 use Rattle.jsonptr_value.specs.Nesting.{NestsWithin}
+use Rattle.jsonptr_value.specs.declared.from_text.ReadError.{ReadError}
+use Rattle.jsonptr_value.specs.declared.from_text.ReadError.TheVariants as unread
 use Rattle.jsonptr.specs.Assign.{RefusesAssign}
 use Rattle.jsonptr.specs.declared.assign.Error.{Error as AssignError}
 use Rattle.jsonptr_edit_in_text.specs.declared.edited.Edited.{Edited}
@@ -52,9 +54,7 @@ DeletesInText old tokens new =
 abbrev pub LacksInText : Text → List Text → Type 0
 LacksInText old tokens = (d : Data) × (read old ≡ Some d) × ((w : Path) → Names (nodes d) tokens w → ⊥)
 
--- `IsEditReadError text e`: `e` is why the text is not read, if it is not for memory
-abbrev pub IsEditReadError : {E : Type 0} → Text → EditError E → Type 0
-IsEditReadError text NotJson = read text ≡ None
-IsEditReadError text (Refused e) = ⊥
-IsEditReadError text TooDeep = ⊥
-IsEditReadError text (Memory e) = ⊤
+-- `edit_of_read e`: the error of editing a text that is not read because of `e`
+abbrev pub edit_of_read : {E : Type 0} → ReadError → EditError E
+edit_of_read unread.NotJson = NotJson
+edit_of_read (unread.Memory e) = Memory e

@@ -4,6 +4,8 @@ use Rattle.json.specs.Lex.{tokens}
 use Rattle.serde_json.specs.Data.{Data}
 use Rattle.serde_json.specs.Read.{read}
 use Rattle.jsonptr.specs.Text.{Text}
+use Rattle.jsonptr_value.specs.declared.from_text.ReadError.{ReadError}
+use Rattle.jsonptr_value.specs.declared.from_text.ReadError.TheVariants as unread
 use Rattle.jsonptr_edit_in_text.specs.declared.indent.IndentError.{IndentError}
 use Rattle.jsonptr_edit_in_text.specs.declared.indent.IndentError.TheVariants.{NotJson, NotWhiteSpace, Memory}
 
@@ -20,3 +22,8 @@ abbrev pub IsIndentError : Text → IndentError → Type 0
 IsIndentError text NotJson = read text ≡ None
 IsIndentError text NotWhiteSpace = ⊤
 IsIndentError text (Memory e) = ⊤
+
+-- `indent_of_read e`: the error of indenting a text that is not read because of `e`
+abbrev pub indent_of_read : ReadError → IndentError
+indent_of_read unread.NotJson = NotJson
+indent_of_read (unread.Memory e) = Memory e

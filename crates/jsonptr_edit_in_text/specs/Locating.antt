@@ -1,11 +1,14 @@
 -- The bytes of a value in the text of a document.
-use Rattle.std.specs.Prelude.{◌≡◌, ◌≤◌, ◌<◌, ◌+◌, ℕ, List, [], ◌++◌, length}
+use Rattle.std.specs.Prelude.{◌≡◌, ◌≤◌, ◌<◌, ◌+◌, ℕ, List, [], ◌++◌, length, None, ⊤}
 use Rattle.serde_json.specs.Data.{Data}
+use Rattle.serde_json.specs.Read.{read}
 use Rattle.jsonptr.specs.Text.{Text}
-use Rattle.jsonptr_in_text.specs.InText.{FindsInText, IsInTextError}
+use Rattle.jsonptr_in_text.specs.InText.{FindsInText, RefusesInText}
+use Rattle.jsonptr_in_text.specs.declared.resolve.InTextError.{InTextError}
+use Rattle.jsonptr_in_text.specs.declared.resolve.InTextError.TheVariants as in_text
 use Rattle.jsonptr_json_edits.specs.Child.{IsValueText}
 use Rattle.jsonptr_edit_in_text.specs.declared.locate.LocateError.{LocateError}
-use Rattle.jsonptr_edit_in_text.specs.declared.locate.LocateError.TheVariants.{NotLocated, Failed}
+use Rattle.jsonptr_edit_in_text.specs.declared.locate.LocateError.TheVariants.{NotJson, Resolve, NotLocated, Memory}
 
 -- `IsLocated text tokens before piece after`: `text` is `before`, `piece` and `after`, and `piece` is a text of exactly the
 -- value that `tokens` identify in the document of `text`
@@ -31,5 +34,13 @@ IsOutside text k = (before piece after : Text) × IsLocated text [] before piece
 -- `IsLocateError text tokens e`: `e` is why the bytes of the value are not found, if it is not for memory. With `NotLocated`
 -- the value is there
 abbrev pub IsLocateError : Text → List Text → LocateError → Type 0
+IsLocateError text tokens NotJson = read text ≡ None
+IsLocateError text tokens (Resolve e) = RefusesInText text tokens e
 IsLocateError text tokens NotLocated = (value : Data) × FindsInText text tokens value
-IsLocateError text tokens (Failed e) = IsInTextError text tokens e
+IsLocateError text tokens (Memory e) = ⊤
+
+-- `locate_of_in_text e`: the error of locating a value that is not resolved because of `e`
+abbrev pub locate_of_in_text : InTextError → LocateError
+locate_of_in_text in_text.NotJson = NotJson
+locate_of_in_text (in_text.Resolve e) = Resolve e
+locate_of_in_text (in_text.Memory e) = Memory e

@@ -16,7 +16,7 @@ use jsonptr::Pointer;
 use jsonptr_in_text::exists_in_text_with;
 use jsonptr_json_edits::buffers::Buffers;
 use jsonptr_patch::{Operation, PatchError};
-use jsonptr_value::ReadError;
+use jsonptr_value::if_json;
 use std::alloc::{AllocError, Global};
 
 /// Applies the operations of a patch in order to the document that the text contains, all of them or
@@ -135,7 +135,7 @@ pub fn apply_raw_in_text_with(
     ensures bytes { IfOk result (KeepsBytes (RawPatchBytes text.now operations.items)) }
     ensures refused { IfErr result (IsPatchError text.now (operations_in operations.items)) }
 {
-    if let Some(new) = try_apply_raw(alloc, buffers, text, &operations)? {
+    if let Some(new) = try_apply_raw_in_place(alloc, buffers, text, &operations)? {
         return Ok(Edited::InPlace(new));
     }
     let new = apply_plain(alloc, text, operations)?;
@@ -171,11 +171,11 @@ fn apply_plain(
 /// let operation = Operation::Remove { path: PointerBuf::from_text(alloc, "/a")? };
 /// let patch = vec![in alloc; RawOperation::new(operation)]?;
 /// let mut buffers = Buffers::new(alloc);
-/// let first = try_apply_raw(alloc, &mut buffers, "{\"a\": 1, \"b\": 1.0}", &patch)?;
+/// let first = try_apply_raw_in_place(alloc, &mut buffers, "{\"a\": 1, \"b\": 1.0}", &patch)?;
 /// assert_eq!(rt; first.ok_or("a text")?.as_str(), "{\"b\": 1.0}");
-/// assert!(rt; try_apply_raw(alloc, &mut buffers, "{}", &patch)?.is_none());
+/// assert!(rt; try_apply_raw_in_place(alloc, &mut buffers, "{}", &patch)?.is_none());
 /// ```
-pub fn try_apply_raw(
+pub fn try_apply_raw_in_place(
     alloc: Global,
     buffers: &mut Buffers,
     text: &str,
@@ -236,9 +236,6 @@ fn apply_rest(
 fn is_document(alloc: Global, buffers: &mut Buffers, text: &str) -> Result<bool, AllocError>
     ensures { IfOk result (λ b. IsTrue b → (d : Data) × (read text.now ≡ Some d)) }
 {
-    match exists_in_text_with(alloc, &mut buffers.old, text, Pointer::root()) {
-        Ok(exists) => Ok(exists),
-        Err(ReadError::Memory) => Err(AllocError),
-        Err(ReadError::NotJson) => Ok(false),
-    }
+    let exists = exists_in_text_with(alloc, &mut buffers.old, text, Pointer::root());
+    Ok(if_json(exists)?.unwrap_or(false))
 }

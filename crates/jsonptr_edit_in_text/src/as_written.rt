@@ -17,9 +17,19 @@ use std::alloc::{AllocError, Global};
 pub fn as_written(alloc: Global, text: ValueText, written: &str) -> Result<ValueText, AllocError>
     ensures { IfOk result (λ t. lexed (string_bytes t.flat) ≡ lexed (string_bytes text.flat)) }
 {
-    if !has_escape(written) {
-        return Ok(text);
+    if has_escape(written) {
+        with_escapes(alloc, text, written)
+    } else {
+        Ok(text)
     }
+}
+
+/// Does what [`as_written`] does, for a text that may have escapes. Its buffers are large locals, which
+/// each call clears.
+#[inline(never)]
+fn with_escapes(alloc: Global, text: ValueText, written: &str) -> Result<ValueText, AllocError>
+    ensures { IfOk result (λ t. lexed (string_bytes t.flat) ≡ lexed (string_bytes text.flat)) }
+{
     let flat = with_strings(alloc, text.flat.as_str(), written)?;
     let mut buffers = Buffers::new(alloc);
     if is_value_of(&mut buffers, flat.as_str(), text.flat.as_str())? {

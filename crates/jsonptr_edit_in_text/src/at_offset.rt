@@ -5,7 +5,6 @@ ghost use Rattle.jsonptr_edit_in_text.specs.Locating.{IsLocatedAt, IsOutside, Co
 use crate::locate::{LocateError, Located, locate_in_text_with};
 use json::{Reader, Scratch};
 use jsonptr::{Pointer, PointerBuf};
-use jsonptr_in_text::InTextError;
 use jsonptr_in_text::path::Path;
 use jsonptr_json_edits::buffers::Buffers;
 use std::alloc::{AllocError, Global};
@@ -110,7 +109,7 @@ fn value_around<'t>(
         } else {
             Ok(None)
         },
-        Err(LocateError::Failed(InTextError::Memory(error))) => Err(error),
+        Err(LocateError::Memory(error)) => Err(error),
         Err(_) => Ok(None),
     }
 }

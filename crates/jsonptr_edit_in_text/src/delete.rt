@@ -2,10 +2,11 @@
 ghost use Rattle.std.specs.Prelude.{◌≡◌, [], IfOk, IfErr, IfSome, MatchOption, string_bytes};
 ghost use Rattle.serde_json.specs.Data.{null};
 ghost use Rattle.jsonptr.specs.Pointer.{tokens};
+ghost use Rattle.jsonptr_value.specs.Reading.{IsReadError};
 ghost use Rattle.jsonptr_edit_in_text.specs.Bytes.{KeepsBytes, DeletesBytes, ReplacesBytes};
-ghost use Rattle.jsonptr_edit_in_text.specs.EditInText.{edited_text, DeletesInText, LacksInText, IsEditReadError};
+ghost use Rattle.jsonptr_edit_in_text.specs.EditInText.{edited_text, DeletesInText, LacksInText};
 
-use crate::edited::{EditError, Edited};
+use crate::edited::Edited;
 use crate::place::Site;
 use crate::remove::cut_children;
 use crate::replace::replace_at;
@@ -14,10 +15,10 @@ use crate::value_text::value_text;
 use jsonptr::Pointer;
 use jsonptr_in_text::selectors::selectors_of;
 use jsonptr_json_edits::buffers::Buffers;
-use jsonptr_json_edits::locate::place_of;
+use jsonptr_json_edits::locate::place_at;
+use jsonptr_value::ReadError;
 use serde_json::Value;
 use std::alloc::{AllocError, Global};
-use std::convert::Infallible;
 
 /// Deletes the value that the pointer resolves to in the document that the text contains, as
 /// [`Delete::delete`](jsonptr::delete::Delete) does. Returns `None` if it resolves to nothing.
@@ -34,8 +35,8 @@ use std::convert::Infallible;
 ///
 /// # Errors
 ///
-/// - [`EditError::NotJson`] if `serde_json` does not read the text.
-/// - [`EditError::Memory`] if an allocation fails.
+/// - [`ReadError::NotJson`] if `serde_json` does not read the text.
+/// - [`ReadError::Memory`] if an allocation fails.
 ///
 /// # Examples
 ///
@@ -48,12 +49,12 @@ pub fn delete_in_text(
     alloc: Global,
     text: &str,
     pointer: Pointer<'_>,
-) -> Result<Option<Edited>, EditError<Infallible>>
+) -> Result<Option<Edited>, ReadError>
     ensures deleted { IfOk result (λ o. MatchOption o (LacksInText text.now (tokens pointer.entry))
         (λ e. DeletesInText text.now (tokens pointer.entry) (edited_text e))) }
     ensures bytes { IfOk result (λ o. IfSome o
         (KeepsBytes (DeletesBytes text.now (tokens pointer.entry)))) }
-    ensures refused { IfErr result (IsEditReadError text.now) }
+    ensures refused { IfErr result (IsReadError text.now) }
 {
     let mut buffers = Buffers::new(alloc);
     delete_in_text_with(alloc, &mut buffers, text, pointer)
@@ -81,12 +82,12 @@ pub fn delete_in_text_with(
     buffers: &mut Buffers,
     text: &str,
     pointer: Pointer<'_>,
-) -> Result<Option<Edited>, EditError<Infallible>>
+) -> Result<Option<Edited>, ReadError>
     ensures deleted { IfOk result (λ o. MatchOption o (LacksInText text.now (tokens pointer.entry))
         (λ e. DeletesInText text.now (tokens pointer.entry) (edited_text e))) }
     ensures bytes { IfOk result (λ o. IfSome o
         (KeepsBytes (DeletesBytes text.now (tokens pointer.entry)))) }
-    ensures refused { IfErr result (IsEditReadError text.now) }
+    ensures refused { IfErr result (IsReadError text.now) }
 {
     if let Some(new) = cut_out(alloc, buffers, text, pointer)? {
         return Ok(Some(Edited::InPlace(new)));
@@ -118,12 +119,9 @@ pub fn cut_out(
         None => delete_root(alloc, buffers, text, pointer),
         Some((front, last)) => {
             let selectors = selectors_of(alloc, pointer)?;
-            let Some(place) = place_of(alloc, buffers, text, &selectors)? else {
+            let Some(place) = place_at(alloc, buffers, text, &selectors)? else {
                 return Ok(None);
             };
-            if place.followed != selectors.len() {
-                return Ok(None);
-            }
             let site = Site {
                 text,
                 pointer: front,

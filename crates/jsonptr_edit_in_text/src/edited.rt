@@ -1,9 +1,9 @@
 //! What an edit in a text returns.
 ghost use Rattle.std.specs.Prelude.{◌≡◌, string_bytes};
-ghost use Rattle.jsonptr_edit_in_text.specs.EditInText.{edited_text};
+ghost use Rattle.jsonptr_edit_in_text.specs.EditInText.{edit_of_read, edited_text};
 ghost use Rattle.jsonptr_edit_in_text.specs.declared.edited.EditError.TheVariants.{Memory};
 
-use jsonptr_value::MAX_DEPTH;
+use jsonptr_value::{MAX_DEPTH, ReadError};
 use std::alloc::AllocError;
 use std::fmt::Display;
 use thiserror::Error;
@@ -40,7 +40,8 @@ impl Edited {
     }
 }
 
-/// Why an edit in a text fails. `E` is the error of the call on the document.
+/// Why an edit in a text fails. `E` is the error of the call on the document. A deletion has no such
+/// error: it fails with a [`ReadError`].
 ///
 /// # Examples
 ///
@@ -73,5 +74,16 @@ impl<E> From<AllocError> for EditError<E> {
 
     fn from(error: AllocError) -> EditError<E> {
         EditError::Memory(error)
+    }
+}
+
+impl<E> From<ReadError> for EditError<E> {
+    ghost from_gives = { λ error fault. fault ≡ edit_of_read error };
+
+    fn from(error: ReadError) -> EditError<E> {
+        match error {
+            ReadError::NotJson => EditError::NotJson,
+            ReadError::Memory(error) => EditError::Memory(error),
+        }
     }
 }

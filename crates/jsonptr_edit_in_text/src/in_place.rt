@@ -3,9 +3,10 @@ ghost use Rattle.std.specs.Prelude.{◌≡◌, IfOk, IfErr, IfSome, MatchOption,
 ghost use Rattle.serde_json.specs.View.{view};
 ghost use Rattle.jsonptr.specs.Pointer.{tokens};
 ghost use Rattle.jsonptr.specs.Json.{nodes};
+ghost use Rattle.jsonptr_value.specs.Reading.{IsReadError};
 ghost use Rattle.jsonptr_edit_in_text.specs.Bytes.{AssignsBytes, DeletesBytes};
 ghost use Rattle.jsonptr_edit_in_text.specs.Carrying.{value_of_raw, Carries};
-ghost use Rattle.jsonptr_edit_in_text.specs.EditInText.{AssignsInText, DeletesInText, LacksInText, IsAssignError, IsEditReadError};
+ghost use Rattle.jsonptr_edit_in_text.specs.EditInText.{AssignsInText, DeletesInText, LacksInText, IsAssignError};
 ghost use Rattle.jsonptr_edit_in_text.specs.PatchInText.{PatchesInText, PatchBytes, IsPatchError};
 ghost use Rattle.jsonptr_edit_in_text.specs.RawPatching.{operations_in, RawPatchBytes};
 ghost use Rattle.jsonptr_edit_in_text.specs.InPlace.{IsInPlaceError, StaysOneLine};
@@ -21,9 +22,9 @@ use crate::raw_value::RawValue;
 use jsonptr::{Pointer, assign};
 use jsonptr_json_edits::buffers::Buffers;
 use jsonptr_patch::{Operation, PatchError};
+use jsonptr_value::ReadError;
 use serde_json::Value;
 use std::alloc::Global;
-use std::convert::Infallible;
 use std::fmt::Display;
 use thiserror::Error;
 
@@ -37,7 +38,7 @@ pub enum InPlaceError<E> {
     NotInPlace,
     /// The edit is not possible.
     #[error("{0}")]
-    Failed(E),
+    Edit(E),
 }
 
 /// Assigns as [`assign_in_text_with`] does, and never prints the document anew.
@@ -45,7 +46,7 @@ pub enum InPlaceError<E> {
 /// # Errors
 ///
 /// [`InPlaceError::NotInPlace`] where [`assign_in_text_with`] prints the document anew or
-/// breaks a text of one line, and [`InPlaceError::Failed`] with its error.
+/// breaks a text of one line, and [`InPlaceError::Edit`] with its error.
 pub fn assign_in_place(
     alloc: Global,
     buffers: &mut Buffers,
@@ -65,7 +66,7 @@ pub fn assign_in_place(
 {
     match assign_in_text_with(alloc, buffers, text, pointer, value) {
         Ok(edited) => kept_in_place(text, edited).ok_or(InPlaceError::NotInPlace),
-        Err(error) => Err(InPlaceError::Failed(error)),
+        Err(error) => Err(InPlaceError::Edit(error)),
     }
 }
 
@@ -75,7 +76,7 @@ pub fn assign_in_place(
 /// # Errors
 ///
 /// [`InPlaceError::NotInPlace`] where `assign_raw_in_text_with` prints the document anew or
-/// breaks a text of one line, and [`InPlaceError::Failed`] with its error.
+/// breaks a text of one line, and [`InPlaceError::Edit`] with its error.
 ///
 /// # Examples
 ///
@@ -106,7 +107,7 @@ pub fn assign_raw_in_place(
 {
     match assign_raw_in_text_with(alloc, buffers, text, pointer, value) {
         Ok(edited) => kept_in_place(text, edited).ok_or(InPlaceError::NotInPlace),
-        Err(error) => Err(InPlaceError::Failed(error)),
+        Err(error) => Err(InPlaceError::Edit(error)),
     }
 }
 
@@ -115,20 +116,20 @@ pub fn assign_raw_in_place(
 /// # Errors
 ///
 /// [`InPlaceError::NotInPlace`] where [`delete_in_text_with`] prints the document anew or
-/// breaks a text of one line, and [`InPlaceError::Failed`] with its error.
+/// breaks a text of one line, and [`InPlaceError::Edit`] with its error.
 pub fn delete_in_place(
     alloc: Global,
     buffers: &mut Buffers,
     text: &str,
     pointer: Pointer<'_>,
-) -> Result<Option<String>, InPlaceError<EditError<Infallible>>>
+) -> Result<Option<String>, InPlaceError<ReadError>>
     ensures deleted { IfOk result (λ o. MatchOption o (LacksInText text.now (tokens pointer.entry))
         (λ s. DeletesInText text.now (tokens pointer.entry) (string_bytes s))) }
     ensures bytes { IfOk result (λ o. IfSome o (λ s.
         DeletesBytes text.now (tokens pointer.entry) (string_bytes s))) }
     ensures one_line { IfOk result (λ o. IfSome o (λ s. StaysOneLine text.now (string_bytes s))) }
     ensures refused { IfErr result (IsInPlaceError
-        (DeletesInText text.now (tokens pointer.entry)) (IsEditReadError text.now)) }
+        (DeletesInText text.now (tokens pointer.entry)) (IsReadError text.now)) }
 {
     match delete_in_text_with(alloc, buffers, text, pointer) {
         Ok(None) => Ok(None),
@@ -136,7 +137,7 @@ pub fn delete_in_place(
             Some(new) => Ok(Some(new)),
             None => Err(InPlaceError::NotInPlace),
         },
-        Err(error) => Err(InPlaceError::Failed(error)),
+        Err(error) => Err(InPlaceError::Edit(error)),
     }
 }
 
@@ -145,7 +146,7 @@ pub fn delete_in_place(
 /// # Errors
 ///
 /// [`InPlaceError::NotInPlace`] where [`apply_in_text_with`] prints the document anew or
-/// breaks a text of one line, and [`InPlaceError::Failed`] with its error.
+/// breaks a text of one line, and [`InPlaceError::Edit`] with its error.
 pub fn apply_in_place(
     alloc: Global,
     buffers: &mut Buffers,
@@ -161,7 +162,7 @@ pub fn apply_in_place(
 {
     match apply_in_text_with(alloc, buffers, text, operations) {
         Ok(edited) => kept_in_place(text, edited).ok_or(InPlaceError::NotInPlace),
-        Err(error) => Err(InPlaceError::Failed(error)),
+        Err(error) => Err(InPlaceError::Edit(error)),
     }
 }
 
@@ -170,7 +171,7 @@ pub fn apply_in_place(
 /// # Errors
 ///
 /// [`InPlaceError::NotInPlace`] where [`apply_raw_in_text_with`] prints the document anew or
-/// breaks a text of one line, and [`InPlaceError::Failed`] with its error.
+/// breaks a text of one line, and [`InPlaceError::Edit`] with its error.
 ///
 /// # Examples
 ///
@@ -198,7 +199,7 @@ pub fn apply_raw_in_place(
 {
     match apply_raw_in_text_with(alloc, buffers, text, operations) {
         Ok(edited) => kept_in_place(text, edited).ok_or(InPlaceError::NotInPlace),
-        Err(error) => Err(InPlaceError::Failed(error)),
+        Err(error) => Err(InPlaceError::Edit(error)),
     }
 }
 

@@ -1,7 +1,7 @@
 //! The tokens of a JSON text on lines, with an indentation of the caller's.
 ghost use Rattle.std.specs.Prelude.{◌≡◌, IfOk, IfErr, IfSome, string_bytes};
 ghost use Rattle.json.specs.Lex.{tokens as lexed};
-ghost use Rattle.jsonptr_edit_in_text.specs.Indenting.{IsIndented, IsIndentError};
+ghost use Rattle.jsonptr_edit_in_text.specs.Indenting.{IsIndented, IsIndentError, indent_of_read};
 
 use jsonptr_in_text::{Format, format_text};
 use jsonptr_json_edits::buffers::Buffers;
@@ -22,6 +22,17 @@ pub enum IndentError {
     /// An allocation failed.
     #[error("out of memory")]
     Memory(AllocError),
+}
+
+impl From<ReadError> for IndentError {
+    ghost from_gives = { λ error fault. fault ≡ indent_of_read error };
+
+    fn from(error: ReadError) -> IndentError {
+        match error {
+            ReadError::NotJson => IndentError::NotJson,
+            ReadError::Memory(error) => IndentError::Memory(error),
+        }
+    }
 }
 
 /// Returns the JSON text with a line for each member and element, indented by `indent` for each level.
@@ -51,11 +62,7 @@ pub fn indent_text(
     ensures indented { IfOk result (λ s. IsIndented text.now (string_bytes s)) }
     ensures refused { IfErr result (IsIndentError text.now) }
 {
-    let lines = match format_text(alloc, &mut buffers.old, text, Format::Pretty) {
-        Ok(lines) => lines,
-        Err(ReadError::Memory) => return Err(IndentError::Memory(AllocError)),
-        Err(ReadError::NotJson) => return Err(IndentError::NotJson),
-    };
+    let lines = format_text(alloc, &mut buffers.old, text, Format::Pretty)?;
     match reindented(alloc, buffers, lines.as_str(), indent) {
         Ok(Some(new)) => Ok(new),
         Ok(None) => Err(IndentError::NotWhiteSpace),

@@ -55,7 +55,9 @@ mod value_at;
 mod value_text;
 mod wrap;
 
-pub use apply::{apply_in_text, apply_in_text_with, apply_raw_in_text_with, try_apply_raw};
+pub use apply::{
+    apply_in_text, apply_in_text_with, apply_raw_in_text_with, try_apply_raw_in_place,
+};
 pub use assign::{assign_in_text, assign_in_text_with, assign_raw_in_text_with};
 pub use at_offset::{PointerAt, pointer_at};
 pub use delete::{delete_in_text, delete_in_text_with};
@@ -66,6 +68,7 @@ pub use in_place::{
 };
 pub use indent::{IndentError, indent_text};
 pub use jsonptr_json_edits::buffers::Buffers;
+pub use jsonptr_value::ReadError;
 pub use locate::{LocateError, Located, locate_in_text, locate_in_text_with};
 pub use one_line::stays_one_line;
 pub use raw_operation::RawOperation;

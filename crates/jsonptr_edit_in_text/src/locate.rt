@@ -1,15 +1,16 @@
 //! Where a value is in a text.
-ghost use Rattle.std.specs.Prelude.{IfOk, IfErr, IfSome};
+ghost use Rattle.std.specs.Prelude.{◌≡◌, IfOk, IfErr, IfSome};
 ghost use Rattle.jsonptr.specs.Pointer.{tokens};
-ghost use Rattle.jsonptr_edit_in_text.specs.Locating.{IsLocated, IsLocateError};
+ghost use Rattle.jsonptr_edit_in_text.specs.Locating.{IsLocated, IsLocateError, locate_of_in_text};
+ghost use Rattle.jsonptr_edit_in_text.specs.declared.locate.LocateError.TheVariants.{Memory};
 
-use jsonptr::Pointer;
+use jsonptr::{Pointer, resolve};
 use jsonptr_in_text::selectors::selectors_of;
 use jsonptr_in_text::{InTextError, resolve_in_text_with};
 use jsonptr_json_edits::buffers::Buffers;
 use jsonptr_json_edits::cut::{Cut, cut_at};
 use jsonptr_json_edits::lead::{Route, leads_to};
-use jsonptr_json_edits::locate::place_of;
+use jsonptr_json_edits::locate::place_at;
 use jsonptr_json_edits::spacing::is_trimmed;
 use std::alloc::{AllocError, Global};
 use thiserror::Error;
@@ -28,23 +29,37 @@ pub struct Located<'t> {
 /// Why the text of a value is not found.
 #[derive(Debug, Drop, Error)]
 pub enum LocateError {
+    /// `serde_json` does not read the text.
+    #[error("text is not JSON")]
+    NotJson,
+    /// The text is a document in which the pointer does not resolve to a value.
+    #[error(transparent)]
+    Resolve(resolve::Error),
     /// The value is there, but the check of its offsets failed. No text is known for which it does.
     #[error("value cannot be located in the text")]
     NotLocated,
-    /// The text is not JSON, the pointer does not resolve, or an allocation failed.
-    #[error("{0}")]
-    Failed(InTextError),
+    /// An allocation failed.
+    #[error("out of memory")]
+    Memory(AllocError),
+}
+
+impl From<InTextError> for LocateError {
+    ghost from_gives = { λ error fault. fault ≡ locate_of_in_text error };
+
+    fn from(error: InTextError) -> LocateError {
+        match error {
+            InTextError::NotJson => LocateError::NotJson,
+            InTextError::Resolve(error) => LocateError::Resolve(error),
+            InTextError::Memory(error) => LocateError::Memory(error),
+        }
+    }
 }
 
 impl From<AllocError> for LocateError {
-    ghost use Rattle.std.specs.Prelude.{◌≡◌};
-    ghost use Rattle.jsonptr_in_text.specs.declared.resolve.InTextError.TheVariants as in_text;
-    ghost use Rattle.jsonptr_edit_in_text.specs.declared.locate.LocateError.TheVariants as locate;
-
-    ghost from_gives = { λ error fault. fault ≡ locate.Failed (in_text.Memory error) };
+    ghost from_gives = { λ error fault. fault ≡ Memory error };
 
     fn from(error: AllocError) -> LocateError {
-        LocateError::Failed(InTextError::Memory(error))
+        LocateError::Memory(error)
     }
 }
 
@@ -59,9 +74,10 @@ impl From<AllocError> for LocateError {
 ///
 /// # Errors
 ///
-/// - [`LocateError::Failed`] with the error of
-///   [`resolve_in_text`](jsonptr_in_text::resolve_in_text).
+/// - [`LocateError::NotJson`] if `serde_json` does not read the text.
+/// - [`LocateError::Resolve`] if the pointer does not resolve to a value.
 /// - [`LocateError::NotLocated`] if the check of the offsets fails.
+/// - [`LocateError::Memory`] if an allocation fails.
 ///
 /// # Examples
 ///
@@ -118,9 +134,9 @@ pub fn locate_in_text_with<'t>(
         }),
         Ok(None) => match resolve_in_text_with(alloc, &mut buffers.old, text, pointer) {
             Ok(_value) => Err(LocateError::NotLocated),
-            Err(error) => Err(LocateError::Failed(error)),
+            Err(error) => Err(LocateError::from(error)),
         },
-        Err(error) => Err(LocateError::Failed(InTextError::Memory(error))),
+        Err(error) => Err(LocateError::Memory(error)),
     }
 }
 
@@ -135,12 +151,9 @@ fn cut_around<'t>(
         c.before.now c.was.now c.after.now)) }
 {
     let selectors = selectors_of(alloc, pointer)?;
-    let Some(place) = place_of(alloc, buffers, text, &selectors)? else {
+    let Some(place) = place_at(alloc, buffers, text, &selectors)? else {
         return Ok(None);
     };
-    if place.followed != selectors.len() {
-        return Ok(None);
-    }
     let Some(cut) = cut_at(text, place.value.from, place.value.to) else {
         return Ok(None);
     };

@@ -6,7 +6,7 @@ ghost use Rattle.serde_json.specs.Read.{read, max_depth};
 ghost use Rattle.serde_json.specs.View.{view};
 ghost use Rattle.jsonptr.specs.Pointer.{tokens};
 ghost use Rattle.jsonptr.specs.Json.{nodes};
-ghost use Rattle.jsonptr_in_text.specs.InText.{IsReadError};
+ghost use Rattle.jsonptr_value.specs.Reading.{IsReadError};
 ghost use Rattle.jsonptr_edit_in_text.specs.Carrying.{value_of_raw};
 ghost use Rattle.jsonptr_edit_in_text.specs.PrivateReaching.{IsExpanded};
 ghost use Rattle.jsonptr_edit_in_text.specs.PrivateWrapping.{wrapped};
@@ -153,7 +153,7 @@ fn lay_out(
             let own = as_written(alloc, ValueText { flat, lines }, written)?;
             Ok(Some(own))
         }
-        Err(ReadError::Memory) => Err(AllocError),
         Err(ReadError::NotJson) => Ok(None),
+        Err(ReadError::Memory(error)) => Err(error),
     }
 }

@@ -16,7 +16,7 @@ use jsonptr_json_edits::locate::{Extent, Span, children_of, place_of};
 use jsonptr_json_edits::spacing::is_trimmed;
 use jsonptr_json_search::selector::Selector;
 use jsonptr_patch::Operation;
-use jsonptr_value::ReadError;
+use jsonptr_value::if_json;
 use serde_json::Value;
 use std::alloc::{AllocError, Global};
 
@@ -167,11 +167,7 @@ fn own_text(
     if !is_trimmed(cut.was) {
         return Ok(None);
     }
-    match RawValue::parse(alloc, cut.was) {
-        Ok(raw) => Ok(Some(raw)),
-        Err(ReadError::Memory) => Err(AllocError),
-        Err(ReadError::NotJson) => Ok(None),
-    }
+    if_json(RawValue::parse(alloc, cut.was))
 }
 
 /// Returns the operations without texts, so that their values are printed.
@@ -201,6 +197,10 @@ pub fn printed_operations(
 }
 
 /// Returns the operations alone.
+///
+/// # Errors
+///
+/// [`AllocError`] if an allocation fails.
 pub fn plain(alloc: Global, raws: Vec<RawOperation>) -> Result<Vec<Operation>, AllocError>
     ensures { IfOk result (λ operations. operations.items ≡ operations_in raws.items) }
 {

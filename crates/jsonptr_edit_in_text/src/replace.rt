@@ -16,11 +16,11 @@ use jsonptr_json_edits::child::is_value_of;
 use jsonptr_json_edits::cut::{Cut, cut_at};
 use jsonptr_json_edits::edit::Edit;
 use jsonptr_json_edits::layout::{ValueText, replacement};
-use jsonptr_json_edits::locate::place_of;
+use jsonptr_json_edits::locate::place_at;
 use jsonptr_json_edits::spacing::is_trimmed;
 use jsonptr_json_search::find::find_in_text_with;
 use jsonptr_json_search::outcome::Outcome;
-use jsonptr_value::ReadError;
+use jsonptr_value::if_json;
 use serde_json::Value;
 use std::alloc::{AllocError, Global};
 
@@ -42,12 +42,9 @@ pub fn replace_at(
         (string_bytes s) (tokens pointer.entry) (string_bytes printed.now.flat))) }
 {
     let selectors = selectors_of(alloc, pointer)?;
-    let Some(place) = place_of(alloc, buffers, text, &selectors)? else {
+    let Some(place) = place_at(alloc, buffers, text, &selectors)? else {
         return Ok(None);
     };
-    if place.followed != selectors.len() {
-        return Ok(None);
-    }
     let site = Site {
         text,
         pointer,
@@ -97,7 +94,7 @@ pub fn replace_scalar(
     let Some(cut) = cut_at(site.text, site.place.value.from, site.place.value.to) else {
         return Ok(None);
     };
-    if !is_scalar(alloc, buffers, cut.was)? {
+    if !is_scalar_text(alloc, buffers, cut.was)? {
         return Ok(None);
     }
     trade(alloc, buffers, &cut, site, printed)
@@ -141,22 +138,20 @@ fn trade(
 }
 
 /// Returns whether the text is that of a scalar.
-fn is_scalar(alloc: Global, buffers: &mut Buffers, text: &str) -> Result<bool, AllocError>
+fn is_scalar_text(alloc: Global, buffers: &mut Buffers, text: &str) -> Result<bool, AllocError>
     ensures { IfOk result (λ b. IsTrue b → (d : Data) × (read text.now ≡ Some d) × IsScalar d) }
 {
     if text.starts_with('{') || text.starts_with('[') {
         return Ok(false);
     }
-    match find_in_text_with(alloc, &mut buffers.old, text, &[]) {
-        Ok(Outcome::Found(value)) => Ok(is_leaf(&value)),
-        Ok(Outcome::Stopped { left: _, kind: _ }) => Ok(false),
-        Err(ReadError::NotJson) => Ok(false),
-        Err(ReadError::Memory) => Err(AllocError),
+    match if_json(find_in_text_with(alloc, &mut buffers.old, text, &[]))? {
+        Some(Outcome::Found(value)) => Ok(is_scalar(&value)),
+        Some(Outcome::Stopped { left: _, kind: _ }) | None => Ok(false),
     }
 }
 
 /// Returns whether the value is neither an array nor an object.
-fn is_leaf(value: &Value) -> bool
+fn is_scalar(value: &Value) -> bool
     ensures { IsTrue result → IsScalar (view value.now) }
 {
     match value {

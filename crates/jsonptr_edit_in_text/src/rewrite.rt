@@ -4,7 +4,8 @@ ghost use Rattle.serde_json.specs.Read.{read};
 ghost use Rattle.serde_json.specs.View.{view};
 ghost use Rattle.jsonptr.specs.Pointer.{tokens};
 ghost use Rattle.jsonptr.specs.Json.{nodes};
-ghost use Rattle.jsonptr_edit_in_text.specs.EditInText.{AssignsInText, DeletesInText, LacksInText, IsAssignError, IsEditReadError};
+ghost use Rattle.jsonptr_value.specs.Reading.{IsReadError};
+ghost use Rattle.jsonptr_edit_in_text.specs.EditInText.{AssignsInText, DeletesInText, LacksInText, IsAssignError};
 ghost use Rattle.jsonptr_edit_in_text.specs.PrivateRewriting.{IsShortened, IsPrintError};
 ghost use Rattle.jsonptr_edit_in_text.specs.PatchInText.{PatchesInText, IsPatchError};
 
@@ -13,8 +14,7 @@ use jsonptr::{Assign, Delete, Fault, Pointer, assign};
 use jsonptr_patch::{Comparison, Operation, PatchError, apply_comparing};
 use jsonptr_value::{MAX_DEPTH, ReadError, discard, nests_within};
 use serde_json::Value;
-use std::alloc::{AllocError, Global};
-use std::convert::Infallible;
+use std::alloc::Global;
 
 /// Reads the text, assigns the value at the pointer, and prints the document.
 ///
@@ -32,7 +32,7 @@ pub fn assign_and_print(
     ensures refused { IfErr result (IsAssignError text.now (tokens pointer.entry)
         (view value)) }
 {
-    let mut document = read_document(alloc, text)?;
+    let mut document = jsonptr_value::read(alloc, text)?;
     match document.assign(alloc, shortened(pointer), value) {
         Ok(_) => print_document(alloc, document),
         Err(Fault::Refused(error)) => Err(EditError::Refused(error)),
@@ -54,7 +54,7 @@ pub fn apply_and_print(
         (λ s. PatchesInText text.now operations.items (string_bytes s)) }
     ensures refused { IfErr result (IsPatchError text.now operations.items) }
 {
-    let mut document = read_document(alloc, text)?;
+    let mut document = jsonptr_value::read(alloc, text)?;
     match apply_comparing(alloc, &mut document, operations, Comparison::Numeric) {
         Ok(()) => print_document(alloc, document),
         Err(Fault::Refused(error)) => Err(EditError::Refused(error)),
@@ -72,21 +72,16 @@ pub fn delete_and_print(
     alloc: Global,
     text: &str,
     pointer: Pointer<'_>,
-) -> Result<Option<String>, EditError<Infallible>>
+) -> Result<Option<String>, ReadError>
     ensures deleted { IfOk result (λ o. MatchOption o (LacksInText text.now (tokens pointer.entry))
         (λ s. DeletesInText text.now (tokens pointer.entry) (string_bytes s))) }
-    ensures refused { IfErr result (IsEditReadError text.now) }
+    ensures refused { IfErr result (IsReadError text.now) }
 {
-    let mut document = read_document(alloc, text)?;
+    let mut document = jsonptr_value::read(alloc, text)?;
     match document.delete(alloc, pointer)? {
         None => Ok(None),
-        Some(_) => {
-            // A deletion makes no document deeper.
-            if !nests_within(&document, MAX_DEPTH) {
-                return Err(EditError::Memory(AllocError));
-            }
-            Ok(Some(document.to_string(alloc)?))
-        }
+        // A deletion makes no document deeper, so its text is read again.
+        Some(_) => Ok(Some(document.to_string(alloc)?)),
     }
 }
 
@@ -118,21 +113,4 @@ fn print_document<E>(alloc: Global, document: Value) -> Result<String, EditError
     }
     discard(document);
     Err(EditError::TooDeep)
-}
-
-/// Reads the document that the text is.
-///
-/// # Errors
-///
-/// [`EditError::NotJson`] if `serde_json` does not read the text, and [`EditError::Memory`] if an
-/// allocation fails.
-fn read_document<E>(alloc: Global, text: &str) -> Result<Value, EditError<E>>
-    ensures document { IfOk result (λ v. read text.now ≡ Some (view v)) }
-    ensures refused { IfErr result (IsEditReadError text.now) }
-{
-    match jsonptr_value::read(alloc, text) {
-        Ok(value) => Ok(value),
-        Err(ReadError::Memory) => Err(EditError::Memory(AllocError)),
-        Err(ReadError::NotJson) => Err(EditError::NotJson),
-    }
 }

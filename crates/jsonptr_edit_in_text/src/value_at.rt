@@ -8,7 +8,7 @@ use jsonptr_in_text::selectors::selectors_of;
 use jsonptr_json_edits::buffers::Buffers;
 use jsonptr_json_edits::layout::{ValueText, text_at};
 use jsonptr_json_edits::lead::{Route, leads_to};
-use jsonptr_json_edits::locate::place_of;
+use jsonptr_json_edits::locate::place_at;
 use std::alloc::{AllocError, Global};
 
 /// Returns the text of the value that the pointer resolves to, with its numbers and strings as they
@@ -27,12 +27,9 @@ pub fn value_at(
         (λ t. FindsText text.now (tokens pointer.entry) (string_bytes t.flat))) }
 {
     let selectors = selectors_of(alloc, pointer)?;
-    let Some(place) = place_of(alloc, buffers, text, &selectors)? else {
+    let Some(place) = place_at(alloc, buffers, text, &selectors)? else {
         return Ok(None);
     };
-    if place.followed != selectors.len() {
-        return Ok(None);
-    }
     let value = text_at(alloc, text, place.value)?;
     let target = Route {
         selectors: &selectors,

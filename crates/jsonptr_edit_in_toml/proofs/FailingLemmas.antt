@@ -13,9 +13,10 @@ use Rattle.jsonptr.specs.declared.assign.Error.{Error}
 use Rattle.jsonptr.proofs.Calling.{Deletes_one, map_of-IsTree}
 use Rattle.jsonptr.proofs.TomlCalling.{nodes_one}
 use Rattle.jsonptr_in_toml.specs.InToml.{ReadsAsToml, IsDeep, HasDeepValues, AssignsTo, DeletesTo, LacksInToml}
-use Rattle.jsonptr_in_toml.specs.declared.error.InTomlError.{InTomlError}
-use Rattle.jsonptr_in_toml.specs.declared.error.InTomlError.TheVariants.{NotToml, DocumentTooDeep, Resolve, Assign, TooDeep, NoText, Memory}
-use Rattle.jsonptr_edit_in_toml.specs.Failing.{AssignsInOrder, DeletesInOrder, FailsToAssignInToml, FailsToDeleteInToml, IsForMemory, AreOneError}
+use Rattle.jsonptr_in_toml.specs.declared.error.EditTomlError.{EditTomlError}
+use Rattle.jsonptr_in_toml.specs.declared.error.EditTomlError.TheVariants.{NotToml, DocumentTooDeep, Refused, TooDeep, NoText, Memory}
+use Rattle.std.specs.declared.convert.Infallible.{Infallible}
+use Rattle.jsonptr_edit_in_toml.specs.Failing.{AssignsInOrder, DeletesInOrder, IsAssignInTomlError, IsDeleteInTomlError, IsForMemory, AreOneError}
 use Rattle.jsonptr_edit_in_toml.specs.EditInToml.{DeletesInToml}
 
 -- what the law of assigning says
@@ -56,7 +57,7 @@ deep_read text d deep reads =
 same_document : (text : Text) (d e : Data) → ReadsAsToml text d → ReadsAsToml text e → d ≡ e
 same_document text d e r s = r.2 ∙ ap table (one_read text r.0 s.0 r.1 s.1) ∙ sym s.2
 
-swap : (e f : InTomlError) → AreOneError e f → AreOneError f e
+swap : (e f : EditTomlError Error) → AreOneError e f → AreOneError f e
 swap e f (inl h) = inr (inl h)
 swap e f (inr (inl h)) = inl h
 swap e f (inr (inr h)) = inr (inr (sym h))
@@ -77,65 +78,59 @@ assigned_or_refused both text ts v d2 d e h reads refused =
     both (nodes d) ts (nodes v) (nodes d2) h.2.0 e there refused
 
 -- the text is read, if the pointer is at fault or the new document is
-too_deep_read : (text : Text) (ts : List Text) (v : Data) → FailsToAssignInToml text ts v TooDeep → (d : Data) × ReadsAsToml text d
+too_deep_read : (text : Text) (ts : List Text) (v : Data) → IsAssignInTomlError text ts v TooDeep → (d : Data) × ReadsAsToml text d
 too_deep_read text ts v (inl h) = h.0
 too_deep_read text ts v (inr h) = (h.1.0.0, h.1.0.1)
 
 -- an error beside that of a text that is not TOML, and so on
 
-beside_not_toml : (text : Text) (ts : List Text) (v : Data) (f : InTomlError) → parse_document text ≡ None → FailsToAssignInToml text ts v f → AreOneError NotToml f
+beside_not_toml : (text : Text) (ts : List Text) (v : Data) (f : EditTomlError Error) → parse_document text ≡ None → IsAssignInTomlError text ts v f → AreOneError NotToml f
 beside_not_toml text ts v NotToml h k = inr (inr refl)
 beside_not_toml text ts v DocumentTooDeep h k = absurd (not_toml_deep text h k)
-beside_not_toml text ts v (Resolve f) h k = absurd k
-beside_not_toml text ts v (Assign f) h k = absurd (not_toml_read text k.0 h k.1)
+beside_not_toml text ts v (Refused f) h k = absurd (not_toml_read text k.0 h k.1)
 beside_not_toml text ts v TooDeep h k = let r = too_deep_read text ts v k in absurd (not_toml_read text r.0 h r.1)
 beside_not_toml text ts v NoText h k = absurd (not_toml_read text k.1.1.0.0 h k.1.1.0.1)
 beside_not_toml text ts v (Memory f) h k = inr (inl tt)
 
-beside_deep : (text : Text) (ts : List Text) (v : Data) (f : InTomlError) → IsDeep text → FailsToAssignInToml text ts v f → AreOneError DocumentTooDeep f
+beside_deep : (text : Text) (ts : List Text) (v : Data) (f : EditTomlError Error) → IsDeep text → IsAssignInTomlError text ts v f → AreOneError DocumentTooDeep f
 beside_deep text ts v NotToml h k = absurd (not_toml_deep text k h)
 beside_deep text ts v DocumentTooDeep h k = inr (inr refl)
-beside_deep text ts v (Resolve f) h k = absurd k
-beside_deep text ts v (Assign f) h k = absurd (deep_read text k.0 h k.1)
+beside_deep text ts v (Refused f) h k = absurd (deep_read text k.0 h k.1)
 beside_deep text ts v TooDeep h k = let r = too_deep_read text ts v k in absurd (deep_read text r.0 h r.1)
 beside_deep text ts v NoText h k = absurd (deep_read text k.1.1.0.0 h k.1.1.0.1)
 beside_deep text ts v (Memory f) h k = inr (inl tt)
 
-place_or_deep : (both : NotBoth) (text : Text) (ts : List Text) (v : Data) (e : Error) → FailsToAssignInToml text ts v (Assign e) → FailsToAssignInToml text ts v TooDeep → ⊥
+place_or_deep : (both : NotBoth) (text : Text) (ts : List Text) (v : Data) (e : Error) → IsAssignInTomlError text ts v (Refused e) → IsAssignInTomlError text ts v TooDeep → ⊥
 place_or_deep both text ts v e h (inl k) = absurd (omega (arith, h.2, k.1))
 place_or_deep both text ts v e h (inr k) = assigned_or_refused both text ts v k.0 h.0 e k.1.0 h.1 h.3
 
-beside_bad_place : (both : NotBoth) (one : OneRefusal) (text : Text) (ts : List Text) (v : Data) (e : Error) (f : InTomlError) → FailsToAssignInToml text ts v (Assign e) → FailsToAssignInToml text ts v f → AreOneError (Assign e) f
-beside_bad_place both one text ts v e NotToml h k = swap NotToml (Assign e) (beside_not_toml text ts v (Assign e) k h)
-beside_bad_place both one text ts v e DocumentTooDeep h k = swap DocumentTooDeep (Assign e) (beside_deep text ts v (Assign e) k h)
-beside_bad_place both one text ts v e (Resolve f) h k = absurd k
-beside_bad_place both one text ts v e (Assign f) h k =
+beside_bad_place : (both : NotBoth) (one : OneRefusal) (text : Text) (ts : List Text) (v : Data) (e : Error) (f : EditTomlError Error) → IsAssignInTomlError text ts v (Refused e) → IsAssignInTomlError text ts v f → AreOneError (Refused e) f
+beside_bad_place both one text ts v e NotToml h k = swap NotToml (Refused e) (beside_not_toml text ts v (Refused e) k h)
+beside_bad_place both one text ts v e DocumentTooDeep h k = swap DocumentTooDeep (Refused e) (beside_deep text ts v (Refused e) k h)
+beside_bad_place both one text ts v e (Refused f) h k =
     let from : k.0 ≡ h.0 = same_document text k.0 h.0 k.1 h.1 in
-    inr (inr (ap Assign (one (nodes h.0) ts e f h.3 (subst (λ (d : Data). RefusesAssign (nodes d) ts f) from k.3))))
+    inr (inr (ap Refused (one (nodes h.0) ts e f h.3 (subst (λ (d : Data). RefusesAssign (nodes d) ts f) from k.3))))
 beside_bad_place both one text ts v e TooDeep h k = absurd (place_or_deep both text ts v e h k)
 beside_bad_place both one text ts v e NoText h k = absurd (assigned_or_refused both text ts v k.1.0 h.0 e k.1.1.0 h.1 h.3)
 beside_bad_place both one text ts v e (Memory f) h k = inr (inl tt)
 
-deep_or_no_text : (made : OneMade) (text : Text) (ts : List Text) (v : Data) → HasSortedKeys v → FailsToAssignInToml text ts v TooDeep → FailsToAssignInToml text ts v NoText → ⊥
+deep_or_no_text : (made : OneMade) (text : Text) (ts : List Text) (v : Data) → HasSortedKeys v → IsAssignInTomlError text ts v TooDeep → IsAssignInTomlError text ts v NoText → ⊥
 deep_or_no_text made text ts v sorted (inl h) k = absurd (omega (arith, h.1, k.0))
 deep_or_no_text made text ts v sorted (inr h) k = k.1.2.0 (subst HasDeepValues (same_assigned made text ts v h.0 k.1.0 sorted h.1 k.1.1) h.2)
 
-pub one_assign_error : NotBoth → OneMade → OneRefusal → (text : Text) (ts : List Text) (v : Data) (e f : InTomlError) → HasSortedKeys v → FailsToAssignInToml text ts v e → FailsToAssignInToml text ts v f → AreOneError e f
+pub one_assign_error : NotBoth → OneMade → OneRefusal → (text : Text) (ts : List Text) (v : Data) (e f : EditTomlError Error) → HasSortedKeys v → IsAssignInTomlError text ts v e → IsAssignInTomlError text ts v f → AreOneError e f
 one_assign_error both made one text ts v NotToml f sorted h k = beside_not_toml text ts v f h k
 one_assign_error both made one text ts v DocumentTooDeep f sorted h k = beside_deep text ts v f h k
-one_assign_error both made one text ts v (Resolve e) f sorted h k = absurd h
-one_assign_error both made one text ts v (Assign e) f sorted h k = beside_bad_place both one text ts v e f h k
+one_assign_error both made one text ts v (Refused e) f sorted h k = beside_bad_place both one text ts v e f h k
 one_assign_error both made one text ts v TooDeep NotToml sorted h k = swap NotToml TooDeep (beside_not_toml text ts v TooDeep k h)
 one_assign_error both made one text ts v TooDeep DocumentTooDeep sorted h k = swap DocumentTooDeep TooDeep (beside_deep text ts v TooDeep k h)
-one_assign_error both made one text ts v TooDeep (Resolve f) sorted h k = absurd k
-one_assign_error both made one text ts v TooDeep (Assign f) sorted h k = absurd (place_or_deep both text ts v f k h)
+one_assign_error both made one text ts v TooDeep (Refused f) sorted h k = absurd (place_or_deep both text ts v f k h)
 one_assign_error both made one text ts v TooDeep TooDeep sorted h k = inr (inr refl)
 one_assign_error both made one text ts v TooDeep NoText sorted h k = absurd (deep_or_no_text made text ts v sorted h k)
 one_assign_error both made one text ts v TooDeep (Memory f) sorted h k = inr (inl tt)
 one_assign_error both made one text ts v NoText NotToml sorted h k = swap NotToml NoText (beside_not_toml text ts v NoText k h)
 one_assign_error both made one text ts v NoText DocumentTooDeep sorted h k = swap DocumentTooDeep NoText (beside_deep text ts v NoText k h)
-one_assign_error both made one text ts v NoText (Resolve f) sorted h k = absurd k
-one_assign_error both made one text ts v NoText (Assign f) sorted h k = swap (Assign f) NoText (beside_bad_place both one text ts v f NoText k h)
+one_assign_error both made one text ts v NoText (Refused f) sorted h k = swap (Refused f) NoText (beside_bad_place both one text ts v f NoText k h)
 one_assign_error both made one text ts v NoText TooDeep sorted h k = absurd (deep_or_no_text made text ts v sorted k h)
 one_assign_error both made one text ts v NoText NoText sorted h k = inr (inr refl)
 one_assign_error both made one text ts v NoText (Memory f) sorted h k = inr (inl tt)
@@ -154,56 +149,49 @@ deleted_or_lacking text ts d2 h k =
     let found : FindsValue k.0 ts h.2.0 = subst (λ (d : Data). FindsValue d ts h.2.0) (same_document text h.0 k.0 h.1 k.1) h.2.1 in
     k.2 found.path found.named
 
-deep_or_unprinted : (text : Text) (ts : List Text) → FailsToDeleteInToml text ts TooDeep → FailsToDeleteInToml text ts NoText → ⊥
+deep_or_unprinted : (text : Text) (ts : List Text) → IsDeleteInTomlError text ts TooDeep → IsDeleteInTomlError text ts NoText → ⊥
 deep_or_unprinted text ts h k = k.2.0 (subst HasDeepValues (same_deleted text ts h.0 k.0 h.1 k.1) h.2)
 
 -- the text is read, if the error is one of these
-abbrev ReadFirst : InTomlError → Type 0
+abbrev ReadFirst : EditTomlError Infallible → Type 0
 ReadFirst NotToml = ⊥
 ReadFirst DocumentTooDeep = ⊥
-ReadFirst (Resolve f) = ⊥
-ReadFirst (Assign f) = ⊥
+ReadFirst (Refused f) = ⊥
 ReadFirst TooDeep = ⊤
 ReadFirst NoText = ⊤
 ReadFirst (Memory f) = ⊥
 
-read_first : (text : Text) (ts : List Text) (e : InTomlError) → ReadFirst e → FailsToDeleteInToml text ts e → (d : Data) × ReadsAsToml text d
+read_first : (text : Text) (ts : List Text) (e : EditTomlError Infallible) → ReadFirst e → IsDeleteInTomlError text ts e → (d : Data) × ReadsAsToml text d
 read_first text ts NotToml late h = absurd late
 read_first text ts DocumentTooDeep late h = absurd late
-read_first text ts (Resolve f) late h = absurd late
-read_first text ts (Assign f) late h = absurd late
+read_first text ts (Refused f) late h = absurd late
 read_first text ts TooDeep late h = (h.1.0.0, h.1.0.1)
 read_first text ts NoText late h = (h.1.0.0, h.1.0.1)
 read_first text ts (Memory f) late h = absurd late
 
-pub one_delete_error : (text : Text) (ts : List Text) (e f : InTomlError) → FailsToDeleteInToml text ts e → FailsToDeleteInToml text ts f → AreOneError e f
+pub one_delete_error : (text : Text) (ts : List Text) (e f : EditTomlError Infallible) → IsDeleteInTomlError text ts e → IsDeleteInTomlError text ts f → AreOneError e f
 one_delete_error text ts NotToml NotToml h k = inr (inr refl)
 one_delete_error text ts NotToml DocumentTooDeep h k = absurd (not_toml_deep text h k)
-one_delete_error text ts NotToml (Resolve f) h k = absurd k
-one_delete_error text ts NotToml (Assign f) h k = absurd k
+one_delete_error text ts NotToml (Refused f) h k = absurd k
 one_delete_error text ts NotToml TooDeep h k = let r = read_first text ts TooDeep tt k in absurd (not_toml_read text r.0 h r.1)
 one_delete_error text ts NotToml NoText h k = let r = read_first text ts NoText tt k in absurd (not_toml_read text r.0 h r.1)
 one_delete_error text ts NotToml (Memory f) h k = inr (inl tt)
 one_delete_error text ts DocumentTooDeep NotToml h k = absurd (not_toml_deep text k h)
 one_delete_error text ts DocumentTooDeep DocumentTooDeep h k = inr (inr refl)
-one_delete_error text ts DocumentTooDeep (Resolve f) h k = absurd k
-one_delete_error text ts DocumentTooDeep (Assign f) h k = absurd k
+one_delete_error text ts DocumentTooDeep (Refused f) h k = absurd k
 one_delete_error text ts DocumentTooDeep TooDeep h k = let r = read_first text ts TooDeep tt k in absurd (deep_read text r.0 h r.1)
 one_delete_error text ts DocumentTooDeep NoText h k = let r = read_first text ts NoText tt k in absurd (deep_read text r.0 h r.1)
 one_delete_error text ts DocumentTooDeep (Memory f) h k = inr (inl tt)
-one_delete_error text ts (Resolve e) f h k = absurd h
-one_delete_error text ts (Assign e) f h k = absurd h
+one_delete_error text ts (Refused e) f h k = absurd h
 one_delete_error text ts TooDeep NotToml h k = let r = read_first text ts TooDeep tt h in absurd (not_toml_read text r.0 k r.1)
 one_delete_error text ts TooDeep DocumentTooDeep h k = let r = read_first text ts TooDeep tt h in absurd (deep_read text r.0 k r.1)
-one_delete_error text ts TooDeep (Resolve f) h k = absurd k
-one_delete_error text ts TooDeep (Assign f) h k = absurd k
+one_delete_error text ts TooDeep (Refused f) h k = absurd k
 one_delete_error text ts TooDeep TooDeep h k = inr (inr refl)
 one_delete_error text ts TooDeep NoText h k = absurd (deep_or_unprinted text ts h k)
 one_delete_error text ts TooDeep (Memory f) h k = inr (inl tt)
 one_delete_error text ts NoText NotToml h k = let r = read_first text ts NoText tt h in absurd (not_toml_read text r.0 k r.1)
 one_delete_error text ts NoText DocumentTooDeep h k = let r = read_first text ts NoText tt h in absurd (deep_read text r.0 k r.1)
-one_delete_error text ts NoText (Resolve f) h k = absurd k
-one_delete_error text ts NoText (Assign f) h k = absurd k
+one_delete_error text ts NoText (Refused f) h k = absurd k
 one_delete_error text ts NoText TooDeep h k = absurd (deep_or_unprinted text ts k h)
 one_delete_error text ts NoText NoText h k = inr (inr refl)
 one_delete_error text ts NoText (Memory f) h k = inr (inl tt)
@@ -211,11 +199,10 @@ one_delete_error text ts (Memory e) f h k = inl tt
 
 -- ---- nothing to delete
 
-pub lacking_error : (text : Text) (ts : List Text) (e : InTomlError) → LacksInToml text ts → FailsToDeleteInToml text ts e → IsForMemory e
+pub lacking_error : (text : Text) (ts : List Text) (e : EditTomlError Infallible) → LacksInToml text ts → IsDeleteInTomlError text ts e → IsForMemory e
 lacking_error text ts NotToml l h = absurd (not_toml_read text l.0 h l.1)
 lacking_error text ts DocumentTooDeep l h = absurd (deep_read text l.0 h l.1)
-lacking_error text ts (Resolve f) l h = absurd h
-lacking_error text ts (Assign f) l h = absurd h
+lacking_error text ts (Refused f) l h = absurd h
 lacking_error text ts TooDeep l h = absurd (deleted_or_lacking text ts h.0 h.1.0 l)
 lacking_error text ts NoText l h = absurd (deleted_or_lacking text ts h.0 h.1.0 l)
 lacking_error text ts (Memory f) l h = tt

@@ -6,9 +6,12 @@ use Rattle.toml_parser.specs.Strings.{recursion_limit as max_depth}
 use Rattle.jsonptr.specs.Text.{Text}
 use Rattle.jsonptr.specs.TomlValue.{nodes, HasSortedKeys}
 use Rattle.jsonptr.specs.Assign.{RefusesAssign}
-use Rattle.jsonptr_in_toml.specs.InToml.{ReadsAsToml, IsDeep, HasDeepValues, HasNoText, AssignsTo, DeletesTo}
-use Rattle.jsonptr_in_toml.specs.declared.error.InTomlError.{InTomlError}
-use Rattle.jsonptr_in_toml.specs.declared.error.InTomlError.TheVariants.{NotToml, DocumentTooDeep, Assign, TooDeep, NoText, Memory}
+use Rattle.jsonptr.specs.declared.assign.Error.{Error as AssignError}
+use Rattle.std.specs.declared.convert.Infallible.{Infallible}
+use Rattle.jsonptr_in_toml.specs.InToml.{ReadsAsToml, IsDeep, IsTomlPrintError, AssignsTo, DeletesTo}
+use Rattle.jsonptr_in_toml.specs.declared.error.PrintTomlError.TheVariants as printing
+use Rattle.jsonptr_in_toml.specs.declared.error.EditTomlError.{EditTomlError}
+use Rattle.jsonptr_in_toml.specs.declared.error.EditTomlError.TheVariants.{NotToml, DocumentTooDeep, Refused, TooDeep, NoText, Memory}
 
 -- `AssignsInOrder text ts v d2`: assigning `v` at the tokens turns the document of `text` into `d2`, whose keys are
 -- sorted if those of `v` are
@@ -19,42 +22,33 @@ AssignsInOrder text ts v d2 = AssignsTo text ts v d2 × (HasSortedKeys v → Has
 abbrev pub DeletesInOrder : Text → List Text → Data → Type 0
 DeletesInOrder text ts d2 = DeletesTo text ts d2 × HasSortedKeys d2
 
--- `IsTomlEditError d e`: `e` is why the value `d` is not made a document, if it is not for memory. A value that nests too
--- deep is not looked at further
-abbrev pub IsTomlEditError : Data → InTomlError → Type 0
-IsTomlEditError d TooDeep = HasDeepValues d
-IsTomlEditError d NoText = (HasDeepValues d → ⊥) × HasNoText d
-IsTomlEditError d (Memory f) = ⊤
-IsTomlEditError d e = ⊥
-
--- `FailsToAssignInToml text ts v e`: `e` is why `v` is not assigned at the tokens in the text, if it is not for memory
-abbrev pub FailsToAssignInToml : Text → List Text → Data → InTomlError → Type 0
-FailsToAssignInToml text ts v NotToml = parse_document text ≡ None
-FailsToAssignInToml text ts v DocumentTooDeep = IsDeep text
-FailsToAssignInToml text ts v (Assign f) =
+-- `IsAssignInTomlError text ts v e`: `e` is why `v` is not assigned at the tokens in the text, if it is not for memory
+abbrev pub IsAssignInTomlError : Text → List Text → Data → EditTomlError AssignError → Type 0
+IsAssignInTomlError text ts v NotToml = parse_document text ≡ None
+IsAssignInTomlError text ts v DocumentTooDeep = IsDeep text
+IsAssignInTomlError text ts v (Refused f) =
     (d : Data) × ReadsAsToml text d × (length ts ≤ suc max_depth) × RefusesAssign (nodes d) ts f
-FailsToAssignInToml text ts v TooDeep =
+IsAssignInTomlError text ts v TooDeep =
     (((d : Data) × ReadsAsToml text d) × (suc max_depth < length ts))
-    ⊎ ((d2 : Data) × AssignsInOrder text ts v d2 × IsTomlEditError d2 TooDeep)
-FailsToAssignInToml text ts v NoText =
-    (length ts ≤ suc max_depth) × ((d2 : Data) × AssignsInOrder text ts v d2 × IsTomlEditError d2 NoText)
-FailsToAssignInToml text ts v (Memory f) = ⊤
-FailsToAssignInToml text ts v e = ⊥
+    ⊎ ((d2 : Data) × AssignsInOrder text ts v d2 × IsTomlPrintError d2 printing.TooDeep)
+IsAssignInTomlError text ts v NoText =
+    (length ts ≤ suc max_depth) × ((d2 : Data) × AssignsInOrder text ts v d2 × IsTomlPrintError d2 printing.NoText)
+IsAssignInTomlError text ts v (Memory f) = ⊤
 
--- `FailsToDeleteInToml text ts e`: `e` is why nothing is deleted in the text, if it is not for memory
-abbrev pub FailsToDeleteInToml : Text → List Text → InTomlError → Type 0
-FailsToDeleteInToml text ts NotToml = parse_document text ≡ None
-FailsToDeleteInToml text ts DocumentTooDeep = IsDeep text
-FailsToDeleteInToml text ts TooDeep = (d2 : Data) × DeletesInOrder text ts d2 × IsTomlEditError d2 TooDeep
-FailsToDeleteInToml text ts NoText = (d2 : Data) × DeletesInOrder text ts d2 × IsTomlEditError d2 NoText
-FailsToDeleteInToml text ts (Memory f) = ⊤
-FailsToDeleteInToml text ts e = ⊥
+-- `IsDeleteInTomlError text ts e`: `e` is why nothing is deleted in the text, if it is not for memory
+abbrev pub IsDeleteInTomlError : Text → List Text → EditTomlError Infallible → Type 0
+IsDeleteInTomlError text ts NotToml = parse_document text ≡ None
+IsDeleteInTomlError text ts DocumentTooDeep = IsDeep text
+IsDeleteInTomlError text ts (Refused f) = ⊥
+IsDeleteInTomlError text ts TooDeep = (d2 : Data) × DeletesInOrder text ts d2 × IsTomlPrintError d2 printing.TooDeep
+IsDeleteInTomlError text ts NoText = (d2 : Data) × DeletesInOrder text ts d2 × IsTomlPrintError d2 printing.NoText
+IsDeleteInTomlError text ts (Memory f) = ⊤
 
 -- `IsForMemory e`: an allocation failed
-abbrev pub IsForMemory : InTomlError → Type 0
+abbrev pub IsForMemory : {E : Type 0} → EditTomlError E → Type 0
 IsForMemory (Memory f) = ⊤
 IsForMemory e = ⊥
 
 -- `AreOneError e f`: `e` and `f` are equal, or an allocation failed
-abbrev pub AreOneError : InTomlError → InTomlError → Type 0
+abbrev pub AreOneError : {E : Type 0} → EditTomlError E → EditTomlError E → Type 0
 AreOneError e f = IsForMemory e ⊎ (IsForMemory f ⊎ (e ≡ f))

@@ -6,15 +6,20 @@ use crate::outline::{Outline, Role, indent_of, outline_of};
 use crate::piece::{has_headers, section_text};
 use crate::plan::{AdditionPlan, Keys, TomlChild};
 use crate::span::{
-    ByteSpan, comments_above, is_blank_line, is_tight, line_start, newline_of, skip_blank_lines,
+    comments_above, is_blank_line, is_tight, line_start, newline_of, skip_blank_lines,
     skip_comment_lines, skip_own_comments, slice, text_start,
 };
 use jsonptr::{Pointer, PointerBuf};
+use jsonptr_json_edits::locate::Span;
 use std::alloc::{AllocError, Global};
 use toml::Value;
 use toml_parser::text::byte_at;
 
 /// Returns how the value is put in at the pointer, which does not resolve.
+///
+/// # Errors
+///
+/// [`AllocError`] if an allocation fails.
 pub fn plan_addition(
     alloc: Global,
     text: &str,
@@ -355,14 +360,14 @@ fn whole_lines(
         lines
     };
     let child = TomlChild {
-        span: ByteSpan {
+        span: Span {
             from: 0,
             to: rest.len(),
         },
         keys: Keys::Some(keys),
     };
     Ok(AdditionPlan {
-        span: ByteSpan { from: at, to: at },
+        span: Span { from: at, to: at },
         lead: String::new(alloc),
         rest,
         child,

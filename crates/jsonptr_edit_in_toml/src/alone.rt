@@ -21,6 +21,10 @@ pub fn empty_table(alloc: Global) -> Value
 }
 
 /// Returns whether the text is white space, line breaks and comments alone.
+///
+/// # Errors
+///
+/// [`AllocError`] if an allocation fails.
 pub fn is_filler(alloc: Global, text: &str) -> Result<bool, AllocError>
     ensures { IfOk result (λ is. IsTrue is → IsFiller text.now) }
 {
@@ -66,6 +70,10 @@ fn ends_as(pointer: Pointer<'_>, keys: Pointer<'_>) -> bool
 }
 
 /// Returns whether the text holds the value at the keys, and nothing else.
+///
+/// # Errors
+///
+/// [`AllocError`] if an allocation fails.
 pub fn holds(
     alloc: Global,
     text: &str,
@@ -85,6 +93,10 @@ pub fn holds(
 
 /// Returns whether the text is one of the value, or, if there are keys, holds the value at them and
 /// nothing else.
+///
+/// # Errors
+///
+/// [`AllocError`] if an allocation fails.
 pub fn is_alone(
     alloc: Global,
     text: &str,
@@ -106,6 +118,10 @@ pub fn is_alone(
 
 /// Returns whether the text is one member or element with the value, with at most one comma and white
 /// space, line breaks and comments beside it.
+///
+/// # Errors
+///
+/// [`AllocError`] if an allocation fails.
 pub fn is_one_toml_child(
     alloc: Global,
     text: &str,

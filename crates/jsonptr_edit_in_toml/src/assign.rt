@@ -4,23 +4,23 @@ ghost use Rattle.toml.specs.Data.{Data};
 ghost use Rattle.toml.specs.View.{view};
 ghost use Rattle.jsonptr.specs.Pointer.{tokens};
 ghost use Rattle.jsonptr.specs.TomlValue.{FindsValue};
-ghost use Rattle.jsonptr_in_toml.specs.InToml.{ReadsAsToml, AssignsAndPrintsToml, PrintsAs};
+ghost use Rattle.jsonptr_in_toml.specs.InToml.{ReadsAsToml, AssignsAndPrintsToml, PrintsAs, IsTomlPrintError};
 ghost use Rattle.jsonptr_edit_in_text.specs.Bytes.{KeepsBytes};
 ghost use Rattle.jsonptr_edit_in_text.specs.EditInText.{edited_text};
 ghost use Rattle.jsonptr_edit_in_toml.specs.EditInToml.{AssignsInToml, IsPrinted};
 ghost use Rattle.jsonptr_edit_in_toml.specs.Bytes.{AssignsTomlBytes, IsAlone};
-ghost use Rattle.jsonptr_edit_in_toml.specs.Failing.{FailsToAssignInToml, IsTomlEditError};
+ghost use Rattle.jsonptr_edit_in_toml.specs.Failing.{IsAssignInTomlError};
 
 use crate::add::plan_addition;
 use crate::alone::{is_alone, is_filler, is_one_toml_child};
 use crate::check::{has_deep_values, is_document_of};
 use crate::plan::{AdditionPlan, ReplacementPlan};
 use crate::replace::plan_replacement;
-use jsonptr::{Assign, Fault, Pointer, Resolve};
+use jsonptr::{Assign, Fault, Pointer, Resolve, assign};
 use jsonptr_edit_in_text::Edited;
-use jsonptr_in_toml::InTomlError;
 use jsonptr_in_toml::depth::{MAX_TOML_DEPTH, has_too_many_tokens, toml_nests_within};
 use jsonptr_in_toml::document::{print_toml, read_toml};
+use jsonptr_in_toml::{EditTomlError, PrintTomlError};
 use jsonptr_json_edits::cut::{cut_at, splice};
 use jsonptr_value::discard;
 use std::alloc::{AllocError, Global};
@@ -36,14 +36,14 @@ use toml::Value;
 ///
 /// # Errors
 ///
-/// - [`InTomlError::NotToml`] if the text is not TOML.
-/// - [`InTomlError::DocumentTooDeep`] if the values of the document nest deeper than 80.
-/// - [`InTomlError::TooDeep`] if the pointer has more than 81 tokens.
-/// - [`InTomlError::Assign`] if no value can be assigned at the pointer.
-/// - [`InTomlError::TooDeep`] if the values of the new document nest deeper than 80.
-/// - [`InTomlError::NoText`] if the new document is not a table, or has a date-time that TOML has no
+/// - [`EditTomlError::NotToml`] if the text is not TOML.
+/// - [`EditTomlError::DocumentTooDeep`] if the values of the document nest deeper than 80.
+/// - [`EditTomlError::TooDeep`] if the pointer has more than 81 tokens.
+/// - [`EditTomlError::Refused`] if no value can be assigned at the pointer.
+/// - [`EditTomlError::TooDeep`] if the values of the new document nest deeper than 80.
+/// - [`EditTomlError::NoText`] if the new document is not a table, or has a date-time that TOML has no
 ///   text for.
-/// - [`InTomlError::Memory`] if an allocation fails.
+/// - [`EditTomlError::Memory`] if an allocation fails.
 ///
 /// # Examples
 ///
@@ -58,7 +58,7 @@ pub fn assign_in_toml(
     text: &str,
     pointer: Pointer<'_>,
     value: Value,
-) -> Result<Edited, InTomlError>
+) -> Result<Edited, EditTomlError<assign::Error>>
     ensures assigned { IfOk result (λ e. AssignsInToml text.now (tokens pointer.entry) (view value)
         (edited_text e)) }
     ensures bytes { IfOk result (KeepsBytes
@@ -66,36 +66,40 @@ pub fn assign_in_toml(
     ensures printed { IfOk result (IsPrinted
         (AssignsAndPrintsToml text.now (tokens pointer.entry) (view value))) }
     ensures refused { IfErr result
-        (FailsToAssignInToml text.now (tokens pointer.entry) (view value)) }
+        (IsAssignInTomlError text.now (tokens pointer.entry) (view value)) }
 {
     let mut document = read_toml(alloc, text)?;
     if has_too_many_tokens(pointer) {
-        return Err(InTomlError::TooDeep);
+        return Err(EditTomlError::TooDeep);
     }
     let candidate = candidate_of(alloc, text, pointer, &document, &value)?;
     match document.assign(alloc, pointer, value) {
-        Ok(_) => choose(alloc, candidate, document),
-        Err(Fault::Refused(error)) => Err(InTomlError::Assign(error)),
-        Err(Fault::Memory(error)) => Err(InTomlError::Memory(error)),
+        Ok(_) => Ok(choose(alloc, candidate, document)?),
+        Err(Fault::Refused(error)) => Err(EditTomlError::Refused(error)),
+        Err(Fault::Memory(error)) => Err(EditTomlError::Memory(error)),
     }
 }
 
 /// Returns the candidate if it is a text of the document, and the document printed anew if not. Drops
 /// the document.
+///
+/// # Errors
+///
+/// Those of [`print_toml`].
 pub fn choose(
     alloc: Global,
     candidate: Option<String>,
     document: Value,
-) -> Result<Edited, InTomlError>
+) -> Result<Edited, PrintTomlError>
     ensures document { IfOk result (λ e. ReadsAsToml (edited_text e) (view document)) }
     ensures place { IfOk result (KeepsBytes (λ s. IfSome candidate (λ c. s ≡ string_bytes c))) }
     ensures there { IfOk result (KeepsBytes (λ s. IsSome candidate)) }
     ensures printed { IfOk result (IsPrinted (PrintsAs (view document))) }
-    ensures refused { IfErr result (IsTomlEditError (view document)) }
+    ensures refused { IfErr result (IsTomlPrintError (view document)) }
 {
     if has_deep_values(&document) {
         discard(document);
-        return Err(InTomlError::TooDeep);
+        return Err(PrintTomlError::TooDeep);
     }
     if let Some(new) = candidate {
         if is_document_of(alloc, new.as_str(), &document)? {

@@ -5,24 +5,32 @@ ghost use Rattle.toml.specs.Parse.{parse_value};
 ghost use Rattle.jsonptr_in_toml.specs.InToml.{ReadsAsToml, HasDeepValues};
 
 use crate::same::is_same;
-use jsonptr_in_toml::InTomlError;
+use jsonptr_in_toml::ReadTomlError;
 use jsonptr_in_toml::depth::{MAX_TOML_DEPTH, table_nests_within};
 use jsonptr_in_toml::document::read_toml;
 use std::alloc::{AllocError, Global};
 use toml::Value;
 
 /// Returns whether the text is a document of the value.
+///
+/// # Errors
+///
+/// [`AllocError`] if an allocation fails.
 pub fn is_document_of(alloc: Global, text: &str, want: &Value) -> Result<bool, AllocError>
     ensures { IfOk result (λ holds. IsTrue holds → ReadsAsToml text.now (view want.now)) }
 {
     match read_toml(alloc, text) {
         Ok(value) => Ok(is_same(&value, want)),
-        Err(InTomlError::Memory(error)) => Err(error),
+        Err(ReadTomlError::Memory(error)) => Err(error),
         Err(_) => Ok(false),
     }
 }
 
 /// Returns whether the text is one of the value.
+///
+/// # Errors
+///
+/// [`AllocError`] if an allocation fails.
 pub fn is_text_of(alloc: Global, text: &str, want: &Value) -> Result<bool, AllocError>
     ensures { IfOk result (λ holds. IsTrue holds → parse_value text.now ≡ Some (view want.now)) }
 {

@@ -9,7 +9,7 @@ ghost use Rattle.jsonptr_edit_in_text.specs.Bytes.{KeepsBytes};
 ghost use Rattle.jsonptr_edit_in_text.specs.EditInText.{edited_text};
 ghost use Rattle.jsonptr_edit_in_toml.specs.EditInToml.{DeletesInToml, IsPrinted};
 ghost use Rattle.jsonptr_edit_in_toml.specs.Bytes.{DeletesTomlBytes, IsEmptyToml, Empties};
-ghost use Rattle.jsonptr_edit_in_toml.specs.Failing.{FailsToDeleteInToml};
+ghost use Rattle.jsonptr_edit_in_toml.specs.Failing.{IsDeleteInTomlError};
 
 use crate::alone::{empty_table, is_alone, is_one_toml_child};
 use crate::assign::choose;
@@ -17,10 +17,11 @@ use crate::plan::{EmptiedParent, RemovalPlan};
 use crate::remove::plan_removal;
 use jsonptr::{Delete, Fault, Pointer, Resolve};
 use jsonptr_edit_in_text::Edited;
-use jsonptr_in_toml::InTomlError;
+use jsonptr_in_toml::EditTomlError;
 use jsonptr_in_toml::document::read_toml;
 use jsonptr_json_edits::cut::{cut_at, splice};
 use std::alloc::{AllocError, Global};
+use std::convert::Infallible;
 use toml::Value;
 
 /// Deletes the value that the pointer resolves to in the document that the text contains, as
@@ -34,11 +35,11 @@ use toml::Value;
 ///
 /// # Errors
 ///
-/// - [`InTomlError::NotToml`] if the text is not TOML.
-/// - [`InTomlError::DocumentTooDeep`] if the values of the document nest deeper than 80.
-/// - [`InTomlError::Memory`] if an allocation fails.
+/// - [`EditTomlError::NotToml`] if the text is not TOML.
+/// - [`EditTomlError::DocumentTooDeep`] if the values of the document nest deeper than 80.
+/// - [`EditTomlError::Memory`] if an allocation fails.
 ///
-/// The clause also allows [`InTomlError::TooDeep`] and [`InTomlError::NoText`], as for
+/// The clause also allows [`EditTomlError::TooDeep`] and [`EditTomlError::NoText`], as for
 /// [`assign_in_toml`](crate::assign_in_toml). No document is known that has them.
 ///
 /// # Examples
@@ -52,14 +53,14 @@ pub fn delete_in_toml(
     alloc: Global,
     text: &str,
     pointer: Pointer<'_>,
-) -> Result<Option<Edited>, InTomlError>
+) -> Result<Option<Edited>, EditTomlError<Infallible>>
     ensures deleted { IfOk result (λ o. MatchOption o (LacksInToml text.now (tokens pointer.entry))
         (λ e. DeletesInToml text.now (tokens pointer.entry) (edited_text e))) }
     ensures bytes { IfOk result (λ o. IfSome o
         (KeepsBytes (DeletesTomlBytes text.now (tokens pointer.entry)))) }
     ensures printed { IfOk result (λ o. IfSome o
         (IsPrinted (DeletesAndPrintsToml text.now (tokens pointer.entry)))) }
-    ensures refused { IfErr result (FailsToDeleteInToml text.now (tokens pointer.entry)) }
+    ensures refused { IfErr result (IsDeleteInTomlError text.now (tokens pointer.entry)) }
 {
     let mut document = read_toml(alloc, text)?;
     let candidate = candidate_of(alloc, text, pointer, &document)?;

@@ -6,14 +6,15 @@ ghost use Rattle.jsonptr_in_toml.specs.InToml.{LacksInToml};
 ghost use Rattle.jsonptr_edit_in_text.specs.InPlace.{IsInPlaceError};
 ghost use Rattle.jsonptr_edit_in_toml.specs.EditInToml.{AssignsInToml, DeletesInToml};
 ghost use Rattle.jsonptr_edit_in_toml.specs.Bytes.{AssignsTomlBytes, DeletesTomlBytes};
-ghost use Rattle.jsonptr_edit_in_toml.specs.Failing.{FailsToAssignInToml, FailsToDeleteInToml};
+ghost use Rattle.jsonptr_edit_in_toml.specs.Failing.{IsAssignInTomlError, IsDeleteInTomlError};
 
 use crate::assign::assign_in_toml;
 use crate::delete::delete_in_toml;
-use jsonptr::Pointer;
+use jsonptr::{Pointer, assign};
 use jsonptr_edit_in_text::{Edited, InPlaceError};
-use jsonptr_in_toml::InTomlError;
+use jsonptr_in_toml::EditTomlError;
 use std::alloc::Global;
+use std::convert::Infallible;
 use toml::Value;
 
 /// Assigns as [`assign_in_toml`] does, and never prints the document anew.
@@ -21,7 +22,7 @@ use toml::Value;
 /// # Errors
 ///
 /// [`InPlaceError::NotInPlace`] where [`assign_in_toml`] prints the document anew, and
-/// [`InPlaceError::Failed`] with its error.
+/// [`InPlaceError::Edit`] with its error.
 ///
 /// # Examples
 ///
@@ -35,19 +36,19 @@ pub fn assign_in_toml_in_place(
     text: &str,
     pointer: Pointer<'_>,
     value: Value,
-) -> Result<String, InPlaceError<InTomlError>>
+) -> Result<String, InPlaceError<EditTomlError<assign::Error>>>
     ensures assigned { IfOk result (λ s. AssignsInToml text.now (tokens pointer.entry) (view value)
         (string_bytes s)) }
     ensures bytes { IfOk result (λ s.
         AssignsTomlBytes text.now (tokens pointer.entry) (view value) (string_bytes s)) }
     ensures refused { IfErr result (IsInPlaceError
         (AssignsInToml text.now (tokens pointer.entry) (view value))
-        (FailsToAssignInToml text.now (tokens pointer.entry) (view value))) }
+        (IsAssignInTomlError text.now (tokens pointer.entry) (view value))) }
 {
     match assign_in_toml(alloc, text, pointer, value) {
         Ok(Edited::InPlace(new)) => Ok(new),
         Ok(Edited::Rewritten(_new)) => Err(InPlaceError::NotInPlace),
-        Err(error) => Err(InPlaceError::Failed(error)),
+        Err(error) => Err(InPlaceError::Edit(error)),
     }
 }
 
@@ -56,7 +57,7 @@ pub fn assign_in_toml_in_place(
 /// # Errors
 ///
 /// [`InPlaceError::NotInPlace`] where [`delete_in_toml`] prints the document anew, and
-/// [`InPlaceError::Failed`] with its error.
+/// [`InPlaceError::Edit`] with its error.
 ///
 /// # Examples
 ///
@@ -68,19 +69,19 @@ pub fn delete_in_toml_in_place(
     alloc: Global,
     text: &str,
     pointer: Pointer<'_>,
-) -> Result<Option<String>, InPlaceError<InTomlError>>
+) -> Result<Option<String>, InPlaceError<EditTomlError<Infallible>>>
     ensures deleted { IfOk result (λ o. MatchOption o (LacksInToml text.now (tokens pointer.entry))
         (λ s. DeletesInToml text.now (tokens pointer.entry) (string_bytes s))) }
     ensures bytes { IfOk result (λ o. IfSome o
         (λ s. DeletesTomlBytes text.now (tokens pointer.entry) (string_bytes s))) }
     ensures refused { IfErr result (IsInPlaceError
         (DeletesInToml text.now (tokens pointer.entry))
-        (FailsToDeleteInToml text.now (tokens pointer.entry))) }
+        (IsDeleteInTomlError text.now (tokens pointer.entry))) }
 {
     match delete_in_toml(alloc, text, pointer) {
         Ok(None) => Ok(None),
         Ok(Some(Edited::InPlace(new))) => Ok(Some(new)),
         Ok(Some(Edited::Rewritten(_new))) => Err(InPlaceError::NotInPlace),
-        Err(error) => Err(InPlaceError::Failed(error)),
+        Err(error) => Err(InPlaceError::Edit(error)),
     }
 }

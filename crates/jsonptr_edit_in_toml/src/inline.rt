@@ -2,7 +2,8 @@
 //! are right.
 use crate::keys::{KeyEnd, Route, follow, is_index};
 use crate::skip::{keys_end, value_end};
-use crate::span::{ByteSpan, skip_blanks, skip_filler};
+use crate::span::{skip_blanks, skip_filler};
+use jsonptr_json_edits::locate::Span;
 use std::alloc::{AllocError, Global};
 use toml_parser::text::byte_at;
 
@@ -12,11 +13,11 @@ pub struct InlineChild {
     /// Its number.
     pub index: usize,
     /// All of it.
-    pub whole: ByteSpan,
+    pub whole: Span,
     /// Its dotted key, or an empty span.
-    pub key: ByteSpan,
+    pub key: Span,
     /// Its value.
-    pub value: ByteSpan,
+    pub value: Span,
     /// The offset after the comma that follows it.
     pub comma: Option<usize>,
 }
@@ -25,7 +26,7 @@ pub struct InlineChild {
 #[derive(Debug, Drop)]
 pub struct InlineContainer {
     /// Its text.
-    pub span: ByteSpan,
+    pub span: Span,
     /// Its children.
     pub children: Vec<InlineChild>,
     /// How many tokens lead to it.
@@ -44,7 +45,7 @@ pub struct FoundChild {
 }
 
 /// Returns the children of the array or inline table at the span.
-fn children_of(alloc: Global, text: &str, span: ByteSpan) -> Result<Vec<InlineChild>, AllocError> {
+fn children_of(alloc: Global, text: &str, span: Span) -> Result<Vec<InlineChild>, AllocError> {
     let is_table = byte_at(text, span.from) == b'{';
     let mut children = Vec::new(alloc);
     let mut at = span.from.saturating_add(1);
@@ -80,9 +81,9 @@ fn child_at(text: &str, at: usize, is_member: bool, index: usize) -> InlineChild
     };
     InlineChild {
         index,
-        whole: ByteSpan { from: at, to: end },
-        key: ByteSpan { from: at, to },
-        value: ByteSpan { from, to: end },
+        whole: Span { from: at, to: end },
+        key: Span { from: at, to },
+        value: Span { from, to: end },
         comma,
     }
 }
@@ -132,7 +133,7 @@ fn follow_child(
 fn container_at(
     alloc: Global,
     text: &str,
-    span: ByteSpan,
+    span: Span,
     route: &Route,
     count: usize,
 ) -> Result<InlineContainer, AllocError> {
@@ -148,10 +149,14 @@ fn container_at(
 
 /// Returns the innermost array or inline table that the tokens lead to in the value at the span, to
 /// which so many tokens lead. Returns `None` if the value is neither.
+///
+/// # Errors
+///
+/// [`AllocError`] if an allocation fails.
 pub fn container_of(
     alloc: Global,
     text: &str,
-    value: ByteSpan,
+    value: Span,
     route: &Route,
     count: usize,
 ) -> Result<Option<InlineContainer>, AllocError> {

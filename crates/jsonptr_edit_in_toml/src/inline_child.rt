@@ -5,9 +5,9 @@ use crate::keys::push_keys;
 use crate::outline::{Outline, Role};
 use crate::plan::{AdditionPlan, Keys, TomlChild};
 use crate::span::{
-    ByteSpan, ends_line, is_comment_line, is_tight, line_end, line_start, newline_of, skip_blanks,
-    slice,
+    ends_line, is_comment_line, is_tight, line_end, line_start, newline_of, skip_blanks, slice,
 };
+use jsonptr_json_edits::locate::Span;
 use std::alloc::{AllocError, Global};
 use toml::Value;
 use toml_parser::text::byte_at;
@@ -16,7 +16,7 @@ use toml_parser::text::byte_at;
 #[derive(Debug, Drop)]
 struct Added {
     /// What stays between the two texts.
-    span: ByteSpan,
+    span: Span,
     /// The text before that.
     lead: String,
     /// The text after that, up to the child.
@@ -26,6 +26,10 @@ struct Added {
 }
 
 /// Returns how a child is added to the array or inline table that so many tokens lead to.
+///
+/// # Errors
+///
+/// [`AllocError`] if an allocation fails.
 pub fn add_child(
     alloc: Global,
     text: &str,
@@ -100,7 +104,7 @@ fn addition_of(added: Added, child: &str, keys: Keys) -> Result<AdditionPlan, Al
         lead: added.lead,
         rest,
         child: TomlChild {
-            span: ByteSpan {
+            span: Span {
                 from,
                 to: from.saturating_add(child.len()),
             },
@@ -114,7 +118,7 @@ fn addition_of(added: Added, child: &str, keys: Keys) -> Result<AdditionPlan, Al
 fn first_child(
     alloc: Global,
     text: &str,
-    container: ByteSpan,
+    container: Span,
     is_member: bool,
 ) -> Result<Added, AllocError> {
     let after = container.from.saturating_add(1);
@@ -123,7 +127,7 @@ fn first_child(
     if !is_member && ends_line(text, after) {
         let at = line_end(text, after);
         let line = line_start(text, container.from);
-        let indent = ByteSpan {
+        let indent = Span {
             from: line,
             to: skip_blanks(text, line),
         };
@@ -131,14 +135,14 @@ fn first_child(
         gap.push_str(slice(text, indent))?;
         gap.push_str("    ")?;
         return Ok(Added {
-            span: ByteSpan { from: at, to: at },
+            span: Span { from: at, to: at },
             lead: String::new(alloc),
             gap,
             tail: ",",
         });
     }
     Ok(Added {
-        span: ByteSpan {
+        span: Span {
             from: after,
             to: after,
         },
@@ -162,7 +166,7 @@ fn after_child(
         return beside_child(alloc, text, container, last);
     }
     let mut gap = String::from_str(alloc, newline_of(text))?;
-    let indent = ByteSpan {
+    let indent = Span {
         from: line,
         to: last.whole.from,
     };
@@ -176,7 +180,7 @@ fn after_child(
         (after, after)
     };
     Ok(Added {
-        span: ByteSpan { from, to },
+        span: Span { from, to },
         lead: String::from_str(alloc, if last.comma.is_some() { "" } else { "," })?,
         gap,
         tail: if last.comma.is_some() { "," } else { "" },
@@ -194,7 +198,7 @@ fn beside_child(
     let mut gap = String::from_str(alloc, if last.comma.is_some() { "" } else { "," })?;
     gap.push_str(space_before(text, container, last))?;
     Ok(Added {
-        span: ByteSpan { from: at, to: at },
+        span: Span { from: at, to: at },
         lead: String::new(alloc),
         gap,
         tail: if last.comma.is_some() { "," } else { "" },
@@ -210,7 +214,7 @@ fn space_before<'t>(text: &'t str, container: &InlineContainer, child: &InlineCh
     match container.children.get(before).and_then(|it| it.comma) {
         Some(comma) if skip_blanks(text, comma) == child.whole.from => slice(
             text,
-            ByteSpan {
+            Span {
                 from: comma,
                 to: child.whole.from,
             },

@@ -1,6 +1,7 @@
 //! The headers and pairs of a text. These are hints: no contract says that they are right.
 use crate::skip::{keys_end, value_end};
-use crate::span::{ByteSpan, line_start, next_line, skip_blanks, skip_filler, text_start};
+use crate::span::{line_start, next_line, skip_blanks, skip_filler, text_start};
+use jsonptr_json_edits::locate::Span;
 use std::alloc::{AllocError, Global};
 use toml_parser::text::byte_at;
 
@@ -23,14 +24,18 @@ pub struct TomlItem {
     /// The offset at which its line begins.
     pub line: usize,
     /// Its dotted key.
-    pub key: ByteSpan,
+    pub key: Span,
     /// The value of a pair.
-    pub value: ByteSpan,
+    pub value: Span,
     /// The offset at which the line after it begins.
     pub end: usize,
 }
 
 /// Returns the headers and the pairs of the text, in order.
+///
+/// # Errors
+///
+/// [`AllocError`] if an allocation fails.
 pub fn items_of(alloc: Global, text: &str) -> Result<Vec<TomlItem>, AllocError> {
     let mut items = Vec::new(alloc);
     let mut at = text_start(text);
@@ -66,8 +71,8 @@ fn header_at(text: &str, line: usize, kind: ItemKind, at: usize) -> TomlItem {
     TomlItem {
         kind,
         line,
-        key: ByteSpan { from, to },
-        value: ByteSpan { from: to, to },
+        key: Span { from, to },
+        value: Span { from: to, to },
         end: next_line(text, to),
     }
 }
@@ -77,14 +82,14 @@ fn pair_at(text: &str, line: usize, at: usize) -> TomlItem {
     let to = keys_end(text, at);
     let equals = skip_blanks(text, to);
     let from = skip_blanks(text, equals.saturating_add(1));
-    let value = ByteSpan {
+    let value = Span {
         from,
         to: value_end(text, from),
     };
     TomlItem {
         kind: ItemKind::Pair,
         line,
-        key: ByteSpan { from: at, to },
+        key: Span { from: at, to },
         value,
         end: next_line(text, value.to),
     }

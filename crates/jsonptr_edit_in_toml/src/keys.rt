@@ -1,7 +1,8 @@
 //! How far keys of a text lead along tokens. These are hints: no contract says that they are right.
 use crate::skip::{after_dot, key_end};
-use crate::span::{ByteSpan, slice};
+use crate::span::slice;
 use jsonptr::{Pointer, PointerBuf, Token};
+use jsonptr_json_edits::locate::Span;
 use std::alloc::{AllocError, Global};
 use std::borrow::CowStr;
 use std::fmt::Formatter;
@@ -39,6 +40,10 @@ pub struct Reach {
 }
 
 /// Returns the route of the pointer.
+///
+/// # Errors
+///
+/// [`AllocError`] if an allocation fails.
 pub fn route_of(alloc: Global, pointer: Pointer<'_>) -> Result<Route, AllocError> {
     let mut tokens = Vec::new(alloc);
     let mut counts = Vec::new(alloc);
@@ -80,10 +85,14 @@ pub fn is_index(token: &str, index: usize) -> bool {
 }
 
 /// Returns how far the dotted key leads along the tokens, from the first ones on that lead to it.
+///
+/// # Errors
+///
+/// [`AllocError`] if an allocation fails.
 pub fn follow(
     alloc: Global,
     text: &str,
-    key: ByteSpan,
+    key: Span,
     route: &Route,
     from: usize,
 ) -> Result<Reach, AllocError> {
@@ -93,7 +102,7 @@ pub fn follow(
         let to = key_end(text, next);
         reach = step(
             alloc,
-            slice(text, ByteSpan { from: next, to }),
+            slice(text, Span { from: next, to }),
             route,
             reach.count,
         )?;
@@ -162,6 +171,10 @@ fn beside(count: usize) -> Reach {
 }
 
 /// Adds the TOML text of the tokens between the two numbers, as a dotted key.
+///
+/// # Errors
+///
+/// [`AllocError`] if an allocation fails.
 pub fn push_keys(
     alloc: Global,
     piece: &mut String,
@@ -182,6 +195,10 @@ pub fn push_keys(
 }
 
 /// Adds the TOML text of the tokens of the pointer, as a dotted key.
+///
+/// # Errors
+///
+/// [`AllocError`] if an allocation fails.
 pub fn push_pointer(
     alloc: Global,
     piece: &mut String,
@@ -200,6 +217,10 @@ pub fn push_pointer(
 }
 
 /// Returns the TOML text of the key.
+///
+/// # Errors
+///
+/// [`AllocError`] if an allocation fails.
 pub fn key_text(alloc: Global, key: &str) -> Result<String, AllocError> {
     let mut formatter = Formatter::new(String::new(alloc));
     match write_key(&mut formatter, key) {
@@ -209,6 +230,10 @@ pub fn key_text(alloc: Global, key: &str) -> Result<String, AllocError> {
 }
 
 /// Returns a pointer of the tokens between the two numbers.
+///
+/// # Errors
+///
+/// [`AllocError`] if an allocation fails.
 pub fn pointer_of(
     alloc: Global,
     tokens: &Vec<String>,
@@ -226,6 +251,10 @@ pub fn pointer_of(
 }
 
 /// Adds a token at the end of the pointer.
+///
+/// # Errors
+///
+/// [`AllocError`] if an allocation fails.
 pub fn push_token(alloc: Global, keys: &mut PointerBuf, token: &str) -> Result<(), AllocError> {
     keys.push_back(Token::new(alloc, CowStr::Borrowed(token))?)
 }

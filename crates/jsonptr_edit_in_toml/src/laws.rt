@@ -1,12 +1,14 @@
 //! Laws of edits in TOML text. Each law is the contract of a function that does nothing.
 ghost use Rattle.std.specs.Prelude.{List};
+ghost use Rattle.std.specs.declared.convert.Infallible.{Infallible};
 ghost use Rattle.toml.specs.Data.{Data};
 ghost use Rattle.jsonptr.specs.Text.{Text};
 ghost use Rattle.jsonptr.specs.TomlValue.{HasSortedKeys};
-ghost use Rattle.jsonptr_in_toml.specs.declared.error.InTomlError.{InTomlError};
+ghost use Rattle.jsonptr.specs.declared.assign.Error.{Error};
+ghost use Rattle.jsonptr_in_toml.specs.declared.error.EditTomlError.{EditTomlError};
 ghost use Rattle.jsonptr_in_toml.specs.InToml.{LacksInToml};
 ghost use Rattle.jsonptr_edit_in_toml.specs.EditInToml.{DeletesInToml};
-ghost use Rattle.jsonptr_edit_in_toml.specs.Failing.{FailsToAssignInToml, FailsToDeleteInToml, IsForMemory, AreOneError};
+ghost use Rattle.jsonptr_edit_in_toml.specs.Failing.{IsAssignInTomlError, IsDeleteInTomlError, IsForMemory, AreOneError};
 
 use jsonptr_laws::assign::assign_law;
 
@@ -18,13 +20,13 @@ use jsonptr_laws::assign::assign_law;
 ///
 /// The keys of the value are sorted, as those of each value that is read are.
 pub fn one_error_law()
-    ensures assign { (text : Text) (ts : List Text) (v : Data) (e f : InTomlError)
-        → HasSortedKeys v → FailsToAssignInToml text ts v e → FailsToAssignInToml text ts v f
+    ensures assign { (text : Text) (ts : List Text) (v : Data) (e f : EditTomlError Error)
+        → HasSortedKeys v → IsAssignInTomlError text ts v e → IsAssignInTomlError text ts v f
         → AreOneError e f }
-    ensures delete { (text : Text) (ts : List Text) (e f : InTomlError)
-        → FailsToDeleteInToml text ts e → FailsToDeleteInToml text ts f → AreOneError e f }
-    ensures lacking { (text : Text) (ts : List Text) (e : InTomlError)
-        → LacksInToml text ts → FailsToDeleteInToml text ts e → IsForMemory e }
+    ensures delete { (text : Text) (ts : List Text) (e f : EditTomlError Infallible)
+        → IsDeleteInTomlError text ts e → IsDeleteInTomlError text ts f → AreOneError e f }
+    ensures lacking { (text : Text) (ts : List Text) (e : EditTomlError Infallible)
+        → LacksInToml text ts → IsDeleteInTomlError text ts e → IsForMemory e }
     ensures not_both { (text new : Text) (ts : List Text)
         → LacksInToml text ts → DeletesInToml text ts new → ⊥ }
 {

@@ -2,8 +2,9 @@
 //! says that they are right.
 use crate::items::{ItemKind, TomlItem, items_of};
 use crate::keys::{KeyEnd, Route, enter_element, follow, pointer_of, push_token, route_of};
-use crate::span::{ByteSpan, skip_blanks, slice};
+use crate::span::{skip_blanks, slice};
 use jsonptr::{Pointer, PointerBuf};
+use jsonptr_json_edits::locate::Span;
 use std::alloc::{AllocError, Global};
 
 /// How an item lies beside the tokens.
@@ -44,6 +45,10 @@ pub struct Outline {
 }
 
 /// Returns the outline of the text for the pointer.
+///
+/// # Errors
+///
+/// [`AllocError`] if an allocation fails.
 pub fn outline_of(alloc: Global, text: &str, pointer: Pointer<'_>) -> Result<Outline, AllocError> {
     let mut route = route_of(alloc, pointer)?;
     let items = items_of(alloc, text)?;
@@ -143,7 +148,7 @@ impl Outline {
 
     /// Returns the numbers of the first and the last item in the value that the tokens lead to, if there
     /// are such items and no others are between them.
-    pub fn run(&self) -> Option<ByteSpan> {
+    pub fn run(&self) -> Option<Span> {
         let from = self.first_with(Role::Inside)?;
         let mut to = from;
         for (index, trace) in self.traces.iter().enumerate() {
@@ -154,7 +159,7 @@ impl Outline {
                 to = index;
             }
         }
-        Some(ByteSpan { from, to })
+        Some(Span { from, to })
     }
 
     /// Returns the last item that leads along at least so many tokens.
@@ -163,7 +168,7 @@ impl Outline {
     }
 
     /// Returns whether an item that is not between the two numbers leads along at least so many tokens.
-    pub fn is_mentioned(&self, count: usize, run: ByteSpan) -> bool {
+    pub fn is_mentioned(&self, count: usize, run: Span) -> bool {
         self.traces.iter().enumerate().any(|(index, trace)| {
             trace.shared >= count && (index < run.from || index > run.to)
         })
@@ -190,6 +195,10 @@ impl Outline {
 
     /// Returns the keys that lead along the first tokens in headers: an index of an array of tables is left out,
     /// and is `-` at the end.
+    ///
+    /// # Errors
+    ///
+    /// [`AllocError`] if an allocation fails.
     pub fn header_keys(&self, alloc: Global, count: usize) -> Result<PointerBuf, AllocError> {
         let mut keys = PointerBuf::new(alloc);
         for (index, token) in self.route.tokens.iter().take(count).enumerate() {
@@ -203,11 +212,19 @@ impl Outline {
     }
 
     /// Returns a pointer of the tokens from the number on.
+    ///
+    /// # Errors
+    ///
+    /// [`AllocError`] if an allocation fails.
     pub fn last_keys(&self, alloc: Global, from: usize) -> Result<PointerBuf, AllocError> {
         self.keys_between(alloc, from, self.count())
     }
 
     /// Returns a pointer of the tokens between the two numbers.
+    ///
+    /// # Errors
+    ///
+    /// [`AllocError`] if an allocation fails.
     pub fn keys_between(
         &self,
         alloc: Global,
@@ -220,7 +237,7 @@ impl Outline {
 
 /// Returns the white space before an item on its line.
 pub fn indent_of<'t>(text: &'t str, item: &TomlItem) -> &'t str {
-    let indent = ByteSpan {
+    let indent = Span {
         from: item.line,
         to: skip_blanks(text, item.line),
     };

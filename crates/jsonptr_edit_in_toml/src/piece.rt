@@ -6,6 +6,10 @@ use toml::ser::Error;
 use toml::{Value, table_to_string};
 
 /// Returns headers and pairs that hold the value at the keys, with the line break.
+///
+/// # Errors
+///
+/// [`AllocError`] if an allocation fails.
 pub fn section_text(
     alloc: Global,
     keys: Pointer<'_>,

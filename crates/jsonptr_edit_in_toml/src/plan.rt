@@ -1,6 +1,7 @@
 //! What an edit does to a text. These are hints: no contract says that they are right.
-use crate::span::ByteSpan;
+
 use jsonptr::PointerBuf;
+use jsonptr_json_edits::locate::Span;
 
 /// The keys at which a piece of a text holds a value.
 #[derive(Debug, Drop)]
@@ -15,7 +16,7 @@ pub enum Keys {
 #[derive(Debug, Drop)]
 pub struct TomlChild {
     /// Where it is in the piece, without the comma beside it.
-    pub span: ByteSpan,
+    pub span: Span,
     /// The keys that it is at.
     pub keys: Keys,
 }
@@ -24,7 +25,7 @@ pub struct TomlChild {
 #[derive(Debug, Drop)]
 pub struct ReplacementPlan {
     /// What is replaced.
-    pub span: ByteSpan,
+    pub span: Span,
     /// The keys of the old value.
     pub keys: Keys,
     /// The new text.
@@ -37,7 +38,7 @@ pub struct ReplacementPlan {
 #[derive(Debug, Drop)]
 pub struct AdditionPlan {
     /// White space and comments that stay, and come between the parts of the new text.
-    pub span: ByteSpan,
+    pub span: Span,
     /// The first part of the new text.
     pub lead: String,
     /// The second part of the new text.
@@ -50,7 +51,7 @@ pub struct AdditionPlan {
 #[derive(Debug, Drop)]
 pub struct RemovalPlan {
     /// What is cut out.
-    pub span: ByteSpan,
+    pub span: Span,
     /// The child in it.
     pub child: TomlChild,
     /// The text of the table or array that is left, if nothing else mentions it.

@@ -5,14 +5,19 @@ use crate::keys::{push_keys, push_pointer};
 use crate::outline::{Outline, Role, indent_of, outline_of};
 use crate::plan::{EmptiedParent, Keys, RemovalPlan, TomlChild};
 use crate::span::{
-    ByteSpan, blank_lines_above, comments_above, ends_line, line_start, newline_of, next_line,
+    blank_lines_above, comments_above, ends_line, line_start, newline_of, next_line,
     skip_blank_lines, skip_blanks, skip_own_comments, text_start,
 };
 use jsonptr::{Pointer, PointerBuf};
+use jsonptr_json_edits::locate::Span;
 use std::alloc::{AllocError, Global};
 use toml_parser::text::byte_at;
 
 /// Returns what is cut out to delete the value that the pointer resolves to.
+///
+/// # Errors
+///
+/// [`AllocError`] if an allocation fails.
 pub fn plan_removal(
     alloc: Global,
     text: &str,
@@ -35,9 +40,9 @@ pub fn plan_removal(
 }
 
 /// Returns the removal of whole lines.
-fn lines(span: ByteSpan, keys: PointerBuf, left: Option<EmptiedParent>) -> RemovalPlan {
+fn lines(span: Span, keys: PointerBuf, left: Option<EmptiedParent>) -> RemovalPlan {
     let child = TomlChild {
-        span: ByteSpan {
+        span: Span {
             from: 0,
             to: span.to.saturating_sub(span.from),
         },
@@ -58,11 +63,11 @@ fn remove_pair(
     };
     let from = outline.table_of(index);
     let keys = outline.last_keys(alloc, from)?;
-    let run = ByteSpan {
+    let run = Span {
         from: index,
         to: index,
     };
-    let span = ByteSpan {
+    let span = Span {
         from: item.line,
         to: item.end,
     };
@@ -77,9 +82,9 @@ fn remove_pair(
 
 /// Returns the lines with the comment directly above them, if no key follows it directly once they are
 /// cut out.
-fn with_comment(text: &str, span: ByteSpan) -> ByteSpan {
+fn with_comment(text: &str, span: Span) -> Span {
     match byte_at(text, skip_blanks(text, span.to)) {
-        0 | b'\n' | b'\r' | b'#' | b'[' | b']' | b'}' => ByteSpan {
+        0 | b'\n' | b'\r' | b'#' | b'[' | b']' | b'}' => Span {
             from: comments_above(text, span.from),
             to: span.to,
         },
@@ -140,7 +145,7 @@ fn remove_run(
     alloc: Global,
     text: &str,
     outline: &Outline,
-    run: ByteSpan,
+    run: Span,
 ) -> Result<Option<RemovalPlan>, AllocError> {
     let (Some(first), Some(last)) = (outline.items.get(run.from), outline.items.get(run.to)) else {
         return Ok(None);
@@ -167,7 +172,7 @@ fn remove_run(
     } else {
         left_header(alloc, text, outline, run.from)?
     };
-    let span = ByteSpan {
+    let span = Span {
         from: first.line,
         to: last.end,
     };
@@ -176,7 +181,7 @@ fn remove_run(
 
 /// Returns the lines of a section, with the comment above it, and the blank lines after it or, at the end
 /// of the text, before it. A comment at the start of the text is about the whole text, and stays.
-fn section(text: &str, line: usize, end: usize) -> ByteSpan {
+fn section(text: &str, line: usize, end: usize) -> Span {
     let above = comments_above(text, line);
     let from = if above <= text_start(text) {
         line
@@ -185,12 +190,12 @@ fn section(text: &str, line: usize, end: usize) -> ByteSpan {
     };
     let to = skip_blank_lines(text, skip_own_comments(text, end));
     if to >= text.len() {
-        ByteSpan {
+        Span {
             from: blank_lines_above(text, from),
             to,
         }
     } else {
-        ByteSpan { from, to }
+        Span { from, to }
     }
 }
 
@@ -217,7 +222,7 @@ fn remove_child(
     let span = child_span(text, &container, &found.child);
     let is_element = found.child.key.from == found.child.key.to;
     let child = TomlChild {
-        span: ByteSpan {
+        span: Span {
             from: found.child.whole.from.saturating_sub(span.from),
             to: found.child.whole.to.saturating_sub(span.from),
         },
@@ -235,29 +240,29 @@ fn remove_child(
 }
 
 /// Returns what is cut out with a child: its line, if it has one of its own, or its comma.
-fn child_span(text: &str, container: &InlineContainer, child: &InlineChild) -> ByteSpan {
+fn child_span(text: &str, container: &InlineContainer, child: &InlineChild) -> Span {
     let whole = child.whole;
     let line = line_start(text, whole.from);
     let after = child.comma.unwrap_or(whole.to);
     let is_own_line = line > container.span.from && skip_blanks(text, line) == whole.from;
     if is_own_line && ends_line(text, after) {
-        let span = ByteSpan {
+        let span = Span {
             from: line,
             to: next_line(text, after),
         };
         return with_comment(text, span);
     }
     match container.children.get(child.index.saturating_add(1)) {
-        Some(next) => ByteSpan {
+        Some(next) => Span {
             from: whole.from,
             to: after.max(skip_blanks(text, after).min(next.whole.from)),
         },
         None => match container.children.get(child.index.saturating_sub(1)) {
-            Some(last) if child.index > 0 => ByteSpan {
+            Some(last) if child.index > 0 => Span {
                 from: last.whole.to,
                 to: whole.to,
             },
-            _ => ByteSpan {
+            _ => Span {
                 from: whole.from,
                 to: skip_blanks(text, after),
             },

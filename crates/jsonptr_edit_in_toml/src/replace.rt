@@ -6,12 +6,17 @@ use crate::keys::{push_keys, push_pointer};
 use crate::outline::{Outline, Role, indent_of, outline_of};
 use crate::piece::{has_headers, section_text};
 use crate::plan::{Keys, ReplacementPlan};
-use crate::span::{ByteSpan, newline_of, slice};
+use crate::span::{newline_of, slice};
 use jsonptr::{Pointer, PointerBuf};
+use jsonptr_json_edits::locate::Span;
 use std::alloc::{AllocError, Global};
 use toml::Value;
 
 /// Returns how the text of the value that the pointer resolves to is replaced.
+///
+/// # Errors
+///
+/// [`AllocError`] if an allocation fails.
 pub fn plan_replacement(
     alloc: Global,
     text: &str,
@@ -37,11 +42,7 @@ pub fn plan_replacement(
 }
 
 /// Returns where the text of the value is, if it is written as a value.
-fn value_span(
-    alloc: Global,
-    text: &str,
-    outline: &Outline,
-) -> Result<Option<ByteSpan>, AllocError> {
+fn value_span(alloc: Global, text: &str, outline: &Outline) -> Result<Option<Span>, AllocError> {
     if let Some(index) = outline.first_with(Role::Exact) {
         return Ok(outline.items.get(index).map(|item| item.value));
     }
@@ -66,13 +67,13 @@ fn replace_run(
     alloc: Global,
     text: &str,
     outline: &Outline,
-    run: ByteSpan,
+    run: Span,
     value: &Value,
 ) -> Result<Option<ReplacementPlan>, AllocError> {
     let (Some(first), Some(last)) = (outline.items.get(run.from), outline.items.get(run.to)) else {
         return Ok(None);
     };
-    let span = ByteSpan {
+    let span = Span {
         from: first.line,
         to: last.end,
     };
@@ -128,7 +129,7 @@ fn section_of(
     let Some(section) = section_text(alloc, keys.as_ptr(), value, newline_of(text))? else {
         return Ok(None);
     };
-    let line = ByteSpan {
+    let line = Span {
         from: first.line,
         to: first.end,
     };

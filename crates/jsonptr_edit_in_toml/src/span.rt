@@ -1,30 +1,17 @@
 //! Offsets and lines of a text. These are hints: no contract says that they are right.
+use jsonptr_json_edits::layout;
+use jsonptr_json_edits::locate::Span;
 use toml_parser::text::byte_at;
-
-/// What is between two offsets.
-#[derive(Clone, Copy, Debug)]
-pub struct ByteSpan {
-    /// The first offset.
-    pub from: usize,
-    /// The second offset.
-    pub to: usize,
-}
 
 /// Returns the text between the offsets, or an empty text if they are not in order or not between
 /// characters.
-pub fn slice(text: &str, span: ByteSpan) -> &str {
-    match text.split_at_checked(span.to) {
-        Some((front, _)) => match front.split_at_checked(span.from) {
-            Some((_, inner)) => inner,
-            None => "",
-        },
-        None => "",
-    }
+pub fn slice(text: &str, span: Span) -> &str {
+    layout::slice(text, span.from, span.to)
 }
 
 /// Returns whether the equals sign between the key and the value has no white space beside it.
-pub fn is_tight(text: &str, key: ByteSpan, value: ByteSpan) -> bool {
-    let equals = ByteSpan {
+pub fn is_tight(text: &str, key: Span, value: Span) -> bool {
+    let equals = Span {
         from: key.to,
         to: value.from,
     };
@@ -96,7 +83,7 @@ pub fn next_line(text: &str, at: usize) -> usize {
 
 /// Returns the offset at which the line begins that the offset is in.
 pub fn line_start(text: &str, at: usize) -> usize {
-    match slice(text, ByteSpan { from: 0, to: at }).rfind('\n') {
+    match slice(text, Span { from: 0, to: at }).rfind('\n') {
         Some(index) => index.saturating_add(1),
         None => text_start(text).min(at),
     }

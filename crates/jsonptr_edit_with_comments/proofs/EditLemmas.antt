@@ -1,21 +1,23 @@
 -- What is known of a text with comments after an edit.
-use Rattle.std.proofs.Common.{◌≡◌, List, ap, ◌∙◌, sym, subst, option_and_then}
+use Rattle.std.proofs.Common.{◌≡◌, List, ap, ◌∙◌, option_and_then}
 use Rattle.json.specs.Json.{value, if_last}
 use Rattle.json.specs.Lex.{tokens}
 use Rattle.json.specs.Token.{Token}
 use Rattle.serde_json.specs.Read.{of_json, max_depth, read}
 use Rattle.jsonptr.specs.Text.{Text}
 use Rattle.jsonptr.specs.Node.{NodeMap}
+use Rattle.jsonptr_value.specs.declared.from_text.ReadError.{ReadError}
+use Rattle.jsonptr_value.specs.declared.from_text.ReadError.TheVariants as unread
+use Rattle.jsonptr_value.specs.Reading.{IsReadError}
 use Rattle.jsonptr_comments.specs.Comments.{IsWithoutComments}
 use Rattle.jsonptr_edit_in_text.specs.EditInText.{AssignsInText, DeletesInText}
 use Rattle.jsonptr_edit_in_text.specs.InPlace.{IsInPlaceError}
 use Rattle.jsonptr_edit_in_text.specs.declared.edited.EditError.{EditError}
+use Rattle.jsonptr_edit_in_text.specs.declared.edited.EditError.TheVariants as edit
 use Rattle.jsonptr_edit_in_text.specs.declared.in_place.InPlaceError.{InPlaceError}
-use Rattle.jsonptr_edit_in_text.specs.declared.in_place.InPlaceError.TheVariants.{NotInPlace, Failed}
+use Rattle.jsonptr_edit_in_text.specs.declared.in_place.InPlaceError.TheVariants.{NotInPlace, Edit}
 use Rattle.jsonptr_edit_with_comments.specs.Edits.{IsLaidOut}
-use Rattle.jsonptr_edit_with_comments.specs.EditWithComments.{Becomes, EditsAs, IsWithCommentsError}
-use Rattle.jsonptr_edit_with_comments.specs.PrivateErrors.{with_comments}
-use Rattle.jsonptr_edit_with_comments.specs.declared.error.WithCommentsError.{WithCommentsError}
+use Rattle.jsonptr_edit_with_comments.specs.EditWithComments.{Becomes, EditsAs, IsWithCommentsError, IsDeleteError, with_comments, with_comments_of_read}
 
 -- texts with the same tokens are read alike
 pub read_same : (t u : Text) → tokens t ≡ tokens u → read t ≡ read u
@@ -30,10 +32,14 @@ deleted text old new made ts w h a = (old, h.0, w, h.1, (a.0, a.1, a.2, read_sam
 pub edits_as : (P : Text → Text → Type 0) (text old new made : Text) → IsWithoutComments text old → IsLaidOut new made → P old new → EditsAs P text made
 edits_as P text old new made w h p = (old, new, w, h, p)
 
-refused_by : {E : Type 0} (P : Text → Text → Type 0) (Q : Text → EditError E → Type 0) (text old : Text) (e : InPlaceError (EditError E)) → IsWithoutComments text old → IsInPlaceError (P old) (Q old) e → IsWithCommentsError P Q text (with_comments e)
-refused_by P Q text old NotInPlace w h = (old, h.0, w, h.1)
-refused_by P Q text old (Failed e) w h = (old, w, h)
+pub refused : {E : Type 0} (P : Text → Text → Type 0) (Q : Text → EditError E → Type 0) (text old : Text) (e : InPlaceError (EditError E)) → IsWithoutComments text old → IsInPlaceError (P old) (Q old) e → IsWithCommentsError P Q text (with_comments e)
+refused P Q text old NotInPlace w h = (old, h.0, w, h.1)
+refused P Q text old (Edit edit.NotJson) w h = (old, w, h)
+refused P Q text old (Edit (edit.Refused e)) w h = (old, w, h)
+refused P Q text old (Edit edit.TooDeep) w h = (old, w, h)
+refused P Q text old (Edit (edit.Memory e)) w h = tt
 
-pub refused : {E : Type 0} (P : Text → Text → Type 0) (Q : Text → EditError E → Type 0) (text old : Text) (e : InPlaceError (EditError E)) (f : WithCommentsError E) → f ≡ with_comments e → IsWithoutComments text old → IsInPlaceError (P old) (Q old) e
-    → IsWithCommentsError P Q text f
-refused {E} P Q text old e f is w h = subst (λ (x : WithCommentsError E). IsWithCommentsError P Q text x) (sym is) (refused_by P Q text old e w h)
+pub not_deleted : (E : Type 0) (text old : Text) (ts : List Text) (e : InPlaceError ReadError) → IsWithoutComments text old → IsInPlaceError (DeletesInText old ts) (IsReadError old) e → IsDeleteError {E = E} text ts (with_comments_of_read e)
+not_deleted E text old ts NotInPlace w h = (old, h.0, w, h.1)
+not_deleted E text old ts (Edit unread.NotJson) w h = (old, w, h)
+not_deleted E text old ts (Edit (unread.Memory e)) w h = tt

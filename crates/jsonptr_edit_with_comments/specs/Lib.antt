@@ -1,4 +1,3 @@
 pub mod EditWithComments
 pub mod Edits
-pub mod PrivateErrors
 pub mod Patches

@@ -7,11 +7,13 @@ ghost use Rattle.jsonptr_edit_with_comments.specs.Edits.{IsLaidOut};
 ghost use Rattle.jsonptr_edit_with_comments.specs.Patches.{PatchEdits};
 
 use crate::effect::Texts;
-use crate::error::{WithCommentsError, failed, read_past};
+use crate::error::{WithCommentsError, read_past};
 use crate::operate::{bare, operate};
 use crate::same::is_laid_out;
 use jsonptr_edit_in_text::laws::raw_patch_law;
-use jsonptr_edit_in_text::{RawOperation, apply_raw_in_place, printed_operations, try_apply_raw};
+use jsonptr_edit_in_text::{
+    RawOperation, apply_raw_in_place, printed_operations, try_apply_raw_in_place,
+};
 use jsonptr_json_edits::buffers::Buffers;
 use jsonptr_patch::{Operation, PatchError};
 use std::alloc::{AllocError, Global};
@@ -32,10 +34,12 @@ use std::alloc::{AllocError, Global};
 /// # Errors
 ///
 /// - [`WithCommentsError::Comment`] if a block comment is not closed.
-/// - [`WithCommentsError::Failed`] with the error of the patch of the text without comments.
+/// - [`WithCommentsError::NotJson`] if `serde_json` does not read the text without comments.
+/// - [`WithCommentsError::Refused`] with the error of the patch.
+/// - [`WithCommentsError::TooDeep`] if the new document nests deeper than 127.
 /// - [`WithCommentsError::NotInPlace`] if the patch is possible, but one of its operations is not made in
 ///   the text with comments.
-/// - [`WithCommentsError::Memory`] if an allocation fails before or after that patch.
+/// - [`WithCommentsError::Memory`] if an allocation fails.
 ///
 /// # Examples
 ///
@@ -109,27 +113,9 @@ pub fn apply_raw_with_comments(
     if let Some(new) = try_apply_raw_with_comments(alloc, buffers, text, operations.as_slice())? {
         return Ok(new);
     }
-    Err(patch_error(alloc, buffers, text, operations))
-}
-
-/// Returns why the operations are not applied to the text with comments.
-fn patch_error(
-    alloc: Global,
-    buffers: &mut Buffers,
-    text: &str,
-    operations: Vec<RawOperation>,
-) -> WithCommentsError<PatchError>
-    ensures { IsWithCommentsError
-        (λ old new. PatchesInText old (operations_in operations.items) new)
-        (λ old e. IsPatchError old (operations_in operations.items) e) text.now result }
-{
-    match read_past(alloc, text) {
-        Ok(bare) => match apply_raw_in_place(alloc, buffers, bare.as_str(), operations) {
-            Ok(_new) => WithCommentsError::NotInPlace,
-            Err(error) => failed(error),
-        },
-        Err(error) => error,
-    }
+    let bare = read_past(alloc, text)?;
+    apply_raw_in_place(alloc, buffers, bare.as_str(), operations)?;
+    Err(WithCommentsError::NotInPlace)
 }
 
 /// Applies the operations in order, as [`apply_raw_with_comments`] does. Returns `None` for each of its
@@ -166,7 +152,7 @@ pub fn try_apply_raw_with_comments(
         return Ok(None);
     };
     let old = bare.as_str();
-    let Some(new) = try_apply_raw(alloc, buffers, old, operations)? else {
+    let Some(new) = try_apply_raw_in_place(alloc, buffers, old, operations)? else {
         return Ok(None);
     };
     let texts = Texts {

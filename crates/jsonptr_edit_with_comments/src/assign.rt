@@ -10,7 +10,7 @@ ghost use Rattle.jsonptr_edit_with_comments.specs.EditWithComments.{Becomes, Edi
 ghost use Rattle.jsonptr_edit_with_comments.specs.Edits.{IsOneEdit};
 
 use crate::effect::Texts;
-use crate::error::{WithCommentsError, failed, read_past};
+use crate::error::{WithCommentsError, read_past};
 use crate::put::put_edit;
 use jsonptr::{Pointer, assign};
 use jsonptr_edit_in_text::{RawValue, assign_in_place, assign_raw_in_place};
@@ -34,10 +34,12 @@ use std::alloc::Global;
 /// # Errors
 ///
 /// - [`WithCommentsError::Comment`] if a block comment is not closed.
-/// - [`WithCommentsError::Failed`] with the error of the edit of the text without comments.
+/// - [`WithCommentsError::NotJson`] if `serde_json` does not read the text without comments.
+/// - [`WithCommentsError::Refused`] with the error of `assign`, if no value can be assigned at the pointer.
+/// - [`WithCommentsError::TooDeep`] if the new document nests deeper than 127.
 /// - [`WithCommentsError::NotInPlace`] if the edit is possible, but is not made in one piece of the text
 ///   with comments.
-/// - [`WithCommentsError::Memory`] if an allocation fails before or after that edit.
+/// - [`WithCommentsError::Memory`] if an allocation fails.
 ///
 /// # Examples
 ///
@@ -67,19 +69,15 @@ pub fn assign_with_comments(
 {
     let bare = read_past(alloc, text)?;
     let old = bare.as_str();
-    match assign_in_place(alloc, buffers, old, pointer, value) {
-        Ok(new) => {
-            let texts = Texts {
-                text,
-                old,
-                new: new.as_str(),
-            };
-            match put_edit(alloc, buffers, texts, pointer)? {
-                Some(made) => Ok(made),
-                None => Err(WithCommentsError::NotInPlace),
-            }
-        }
-        Err(error) => Err(failed(error)),
+    let new = assign_in_place(alloc, buffers, old, pointer, value)?;
+    let texts = Texts {
+        text,
+        old,
+        new: new.as_str(),
+    };
+    match put_edit(alloc, buffers, texts, pointer)? {
+        Some(made) => Ok(made),
+        None => Err(WithCommentsError::NotInPlace),
     }
 }
 
@@ -119,18 +117,14 @@ pub fn assign_raw_with_comments(
 {
     let bare = read_past(alloc, text)?;
     let old = bare.as_str();
-    match assign_raw_in_place(alloc, buffers, old, pointer, value) {
-        Ok(new) => {
-            let texts = Texts {
-                text,
-                old,
-                new: new.as_str(),
-            };
-            match put_edit(alloc, buffers, texts, pointer)? {
-                Some(made) => Ok(made),
-                None => Err(WithCommentsError::NotInPlace),
-            }
-        }
-        Err(error) => Err(failed(error)),
+    let new = assign_raw_in_place(alloc, buffers, old, pointer, value)?;
+    let texts = Texts {
+        text,
+        old,
+        new: new.as_str(),
+    };
+    match put_edit(alloc, buffers, texts, pointer)? {
+        Some(made) => Ok(made),
+        None => Err(WithCommentsError::NotInPlace),
     }
 }

@@ -2,12 +2,12 @@
 ghost use Rattle.std.specs.Prelude.{IfOk, IfErr, IfSome, MatchOption, string_bytes};
 ghost use Rattle.jsonptr.specs.Pointer.{tokens};
 ghost use Rattle.jsonptr_edit_in_text.specs.Bytes.{DeletesBytes};
-ghost use Rattle.jsonptr_edit_in_text.specs.EditInText.{DeletesInText, IsEditReadError};
-ghost use Rattle.jsonptr_edit_with_comments.specs.EditWithComments.{Becomes, EditsAs, Lacks, IsWithCommentsError};
+ghost use Rattle.jsonptr_edit_in_text.specs.EditInText.{DeletesInText};
+ghost use Rattle.jsonptr_edit_with_comments.specs.EditWithComments.{Becomes, EditsAs, Lacks, IsDeleteError};
 ghost use Rattle.jsonptr_edit_with_comments.specs.Edits.{IsOneEdit};
 
 use crate::effect::Texts;
-use crate::error::{WithCommentsError, failed, read_past};
+use crate::error::{WithCommentsError, read_past};
 use crate::put::put_edit;
 use jsonptr::Pointer;
 use jsonptr_edit_in_text::delete_in_place;
@@ -26,10 +26,10 @@ use std::convert::Infallible;
 /// # Errors
 ///
 /// - [`WithCommentsError::Comment`] if a block comment is not closed.
-/// - [`WithCommentsError::Failed`] if `serde_json` does not read the text without comments.
+/// - [`WithCommentsError::NotJson`] if `serde_json` does not read the text without comments.
 /// - [`WithCommentsError::NotInPlace`] if the edit is possible, but is not made in one piece of the text
 ///   with comments, as for two members with the same key.
-/// - [`WithCommentsError::Memory`] if an allocation fails before or after that edit.
+/// - [`WithCommentsError::Memory`] if an allocation fails.
 ///
 /// # Examples
 ///
@@ -51,24 +51,20 @@ pub fn delete_with_comments(
     ensures bytes { IfOk result (λ o. IfSome o (λ s. EditsAs
         (λ old new. DeletesBytes old (tokens pointer.entry) new) text.now (string_bytes s))) }
     ensures pieces { IfOk result (λ o. IfSome o (λ s. IsOneEdit text.now (string_bytes s))) }
-    ensures refused { IfErr result (IsWithCommentsError
-        (λ old new. DeletesInText old (tokens pointer.entry) new) (λ old e. IsEditReadError old e) text.now) }
+    ensures refused { IfErr result (IsDeleteError text.now (tokens pointer.entry)) }
 {
     let bare = read_past(alloc, text)?;
     let old = bare.as_str();
-    match delete_in_place(alloc, buffers, old, pointer) {
-        Ok(None) => Ok(None),
-        Ok(Some(new)) => {
-            let texts = Texts {
-                text,
-                old,
-                new: new.as_str(),
-            };
-            match put_edit(alloc, buffers, texts, pointer)? {
-                Some(made) => Ok(Some(made)),
-                None => Err(WithCommentsError::NotInPlace),
-            }
-        }
-        Err(error) => Err(failed(error)),
+    let Some(new) = delete_in_place(alloc, buffers, old, pointer)? else {
+        return Ok(None);
+    };
+    let texts = Texts {
+        text,
+        old,
+        new: new.as_str(),
+    };
+    match put_edit(alloc, buffers, texts, pointer)? {
+        Some(made) => Ok(Some(made)),
+        None => Err(WithCommentsError::NotInPlace),
     }
 }

@@ -2,13 +2,13 @@
 ghost use Rattle.std.specs.Prelude.{◌≡◌, IfOk, IfErr};
 ghost use Rattle.std.specs.Cow.{cow_str_bytes};
 ghost use Rattle.jsonptr_comments.specs.Comments.{IsWithoutComments};
-ghost use Rattle.jsonptr_edit_with_comments.specs.EditWithComments.{IsReadPastError};
-ghost use Rattle.jsonptr_edit_with_comments.specs.PrivateErrors.{with_comments};
+ghost use Rattle.jsonptr_edit_with_comments.specs.EditWithComments.{IsReadPastError, with_comments, with_comments_of_read};
 ghost use Rattle.jsonptr_edit_with_comments.specs.declared.error.WithCommentsError.TheVariants.{Memory};
 
 use jsonptr::Fault;
 use jsonptr_comments::{CommentError, without_comments};
 use jsonptr_edit_in_text::{EditError, InPlaceError};
+use jsonptr_value::{MAX_DEPTH, ReadError};
 use std::alloc::{AllocError, Global};
 use std::borrow::CowStr;
 use std::fmt::Display;
@@ -33,14 +33,20 @@ pub enum WithCommentsError<E> {
     /// A block comment of the text is not closed.
     #[error("{0}")]
     Comment(CommentError),
+    /// `serde_json` does not read the text without comments.
+    #[error("text is not JSON")]
+    NotJson,
+    /// The text without comments is a document, and the call on it fails.
+    #[error("{0}")]
+    Refused(E),
+    /// The new document nests deeper than 127, so that its text could not be read.
+    #[error("document would nest deeper than {}", MAX_DEPTH)]
+    TooDeep,
     /// The edit is possible, but not with one piece replaced and all comments kept that are not beside
     /// it.
     #[error("document with comments cannot be edited in place")]
     NotInPlace,
-    /// The edit of the text without comments fails.
-    #[error("{0}")]
-    Failed(EditError<E>),
-    /// An allocation failed before or after that edit.
+    /// An allocation failed.
     #[error("out of memory")]
     Memory(AllocError),
 }
@@ -50,6 +56,32 @@ impl<E> From<AllocError> for WithCommentsError<E> {
 
     fn from(error: AllocError) -> WithCommentsError<E> {
         WithCommentsError::Memory(error)
+    }
+}
+
+impl<E> From<InPlaceError<EditError<E>>> for WithCommentsError<E> {
+    ghost from_gives = { λ error fault. fault ≡ with_comments error };
+
+    fn from(error: InPlaceError<EditError<E>>) -> WithCommentsError<E> {
+        match error {
+            InPlaceError::NotInPlace => WithCommentsError::NotInPlace,
+            InPlaceError::Edit(EditError::NotJson) => WithCommentsError::NotJson,
+            InPlaceError::Edit(EditError::Refused(error)) => WithCommentsError::Refused(error),
+            InPlaceError::Edit(EditError::TooDeep) => WithCommentsError::TooDeep,
+            InPlaceError::Edit(EditError::Memory(error)) => WithCommentsError::Memory(error),
+        }
+    }
+}
+
+impl<E> From<InPlaceError<ReadError>> for WithCommentsError<E> {
+    ghost from_gives = { λ error fault. fault ≡ with_comments_of_read error };
+
+    fn from(error: InPlaceError<ReadError>) -> WithCommentsError<E> {
+        match error {
+            InPlaceError::NotInPlace => WithCommentsError::NotInPlace,
+            InPlaceError::Edit(ReadError::NotJson) => WithCommentsError::NotJson,
+            InPlaceError::Edit(ReadError::Memory(error)) => WithCommentsError::Memory(error),
+        }
     }
 }
 
@@ -67,15 +99,5 @@ pub(crate) fn read_past<E>(alloc: Global, text: &str) -> Result<CowStr<'_>, With
         Ok(old) => Ok(old),
         Err(Fault::Refused(error)) => Err(WithCommentsError::Comment(error)),
         Err(Fault::Memory(error)) => Err(WithCommentsError::Memory(error)),
-    }
-}
-
-/// Returns the error of an edit, of which this is the error of the edit of the text without comments.
-pub(crate) fn failed<E>(error: InPlaceError<EditError<E>>) -> WithCommentsError<E>
-    ensures { result ≡ with_comments error }
-{
-    match error {
-        InPlaceError::NotInPlace => WithCommentsError::NotInPlace,
-        InPlaceError::Failed(error) => WithCommentsError::Failed(error),
     }
 }

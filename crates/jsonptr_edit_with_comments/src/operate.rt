@@ -10,12 +10,12 @@ use crate::put::put_edit;
 use jsonptr::{Fault, Pointer};
 use jsonptr_comments::without_comments;
 use jsonptr_edit_in_text::{
-    LocateError, Located, RawOperation, RawValue, locate_in_text_with, try_apply_raw,
+    LocateError, Located, RawOperation, RawValue, locate_in_text_with, try_apply_raw_in_place,
 };
-use jsonptr_in_text::{Format, InTextError, Scratch, format_text};
+use jsonptr_in_text::{Format, Scratch, format_text};
 use jsonptr_json_edits::buffers::Buffers;
 use jsonptr_patch::Operation;
-use jsonptr_value::ReadError;
+use jsonptr_value::{ReadError, if_json};
 use std::alloc::{AllocError, Global};
 use std::borrow::CowStr;
 use std::slice;
@@ -71,7 +71,7 @@ fn edit(
         return Ok(None);
     };
     let old = bare.as_str();
-    let Some(new) = try_apply_raw(alloc, buffers, old, slice::from_ref(operation))? else {
+    let Some(new) = try_apply_raw_in_place(alloc, buffers, old, slice::from_ref(operation))? else {
         return Ok(None);
     };
     let texts = Texts {
@@ -176,20 +176,17 @@ fn addition_of(
     };
     let located = match locate_in_text_with(alloc, buffers, bare.as_str(), from) {
         Ok(located) => located,
-        Err(LocateError::Failed(InTextError::Memory(error))) => return Err(error),
+        Err(LocateError::Memory(error)) => return Err(error),
         Err(_error) => return Ok(None),
     };
-    match own_value(alloc, text, located) {
-        Ok(own) => {
-            let add = Operation::Add {
-                path: path.to_buf(alloc)?,
-                value: own.to_value(alloc)?,
-            };
-            RawOperation::with_text(alloc, add, own)
-        }
-        Err(ReadError::Memory) => Err(AllocError),
-        Err(ReadError::NotJson) => Ok(None),
-    }
+    let Some(own) = if_json(own_value(alloc, text, located))? else {
+        return Ok(None);
+    };
+    let add = Operation::Add {
+        path: path.to_buf(alloc)?,
+        value: own.to_value(alloc)?,
+    };
+    RawOperation::with_text(alloc, add, own)
 }
 
 /// Returns the value with its own text: as it is written, or without white space if it has comments in

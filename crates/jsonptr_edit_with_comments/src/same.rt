@@ -1,13 +1,13 @@
 //! Texts with the same tokens.
 ghost use Rattle.std.specs.Prelude.{◌≡◌, IfOk, IsTrue};
 ghost use Rattle.json.specs.Lex.{tokens};
-ghost use Rattle.json.specs.Reads.{token_of};
 ghost use Rattle.jsonptr_edit_with_comments.specs.Edits.{IsLaidOut};
 
-use json::{Reader, Token};
+use json::Reader;
 use jsonptr::Fault;
 use jsonptr_comments::without_comments;
 use jsonptr_json_edits::buffers::Buffers;
+use jsonptr_json_edits::token::is_same;
 use std::alloc::{AllocError, Global};
 
 /// Returns whether the text without its comments has the tokens of `new`.
@@ -47,27 +47,9 @@ fn agree(one: &mut Reader<'_>, two: &mut Reader<'_>) -> bool
         let Some(twin) = two.next() else {
             return false;
         };
-        if !are_same(token, twin) {
+        if !is_same(token, twin) {
             return false;
         }
     }
     two.next().is_none()
-}
-
-/// Returns whether the tokens are equal.
-fn are_same(token: Token<'_>, twin: Token<'_>) -> bool
-    ensures { IsTrue result → token_of twin.entry ≡ token_of token.entry }
-{
-    match (token, twin) {
-        (Token::Key(text), Token::Key(other)) => text == other,
-        (Token::String(text), Token::String(other)) => text == other,
-        (Token::Number(text), Token::Number(other)) => text == other,
-        (Token::Bool(value), Token::Bool(other)) => value == other,
-        (Token::BeginObject, Token::BeginObject) => true,
-        (Token::EndObject, Token::EndObject) => true,
-        (Token::BeginArray, Token::BeginArray) => true,
-        (Token::EndArray, Token::EndArray) => true,
-        (Token::Null, Token::Null) => true,
-        _ => false,
-    }
 }

@@ -32,7 +32,7 @@ IsInSliceError bytes tokens NotJson = IsUtf8 bytes → read bytes ≡ None
 IsInSliceError bytes tokens (Resolve e) = IsUtf8 bytes × RefusesInText bytes tokens e
 IsInSliceError bytes tokens (Memory e) = ⊤
 
--- `IsReadError text e`: `e` is why `text` is not read, if it is not for memory
-abbrev pub IsReadError : Text → ReadError → Type 0
-IsReadError text unread.NotJson = read text ≡ None
-IsReadError text unread.Memory = ⊤
+-- `in_text_of_read e`: the error of resolving in a text that is not read because of `e`
+abbrev pub in_text_of_read : ReadError → InTextError
+in_text_of_read unread.NotJson = NotJson
+in_text_of_read (unread.Memory e) = Memory e

@@ -6,7 +6,7 @@ ghost use Rattle.json.specs.Reads.{token_of};
 ghost use Rattle.json.specs.Print.{print, IsPrintable};
 ghost use Rattle.json.specs.Layout.{pretty as pretty_text};
 ghost use Rattle.jsonptr_in_text.specs.Format.{IsFormatted, laid_out};
-ghost use Rattle.jsonptr_in_text.specs.InText.{IsReadError};
+ghost use Rattle.jsonptr_value.specs.Reading.{IsReadError};
 ghost use Rattle.jsonptr_in_text.specs.PrivateFormat.{HasBad, IsWritten};
 
 use crate::resolve::exists_in_text_with;

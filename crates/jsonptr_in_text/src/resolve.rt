@@ -6,7 +6,8 @@ ghost use Rattle.serde_json.specs.Data.{Data};
 ghost use Rattle.serde_json.specs.View.{view};
 ghost use Rattle.jsonptr.specs.Pointer.{tokens};
 ghost use Rattle.jsonptr.specs.declared.resolve.Error.{Error};
-ghost use Rattle.jsonptr_in_text.specs.InText.{FindsInText, RefusesInText, IsInTextError, IsInSliceError, IsReadError};
+ghost use Rattle.jsonptr_in_text.specs.InText.{FindsInText, RefusesInText, IsInTextError, IsInSliceError, in_text_of_read};
+ghost use Rattle.jsonptr_value.specs.Reading.{IsReadError};
 ghost use Rattle.jsonptr_in_text.specs.declared.resolve.InTextError.TheVariants.{Memory};
 
 use crate::child::{error_above_child, selectors_with_child};
@@ -51,6 +52,17 @@ impl From<AllocError> for InTextError {
 
     fn from(error: AllocError) -> InTextError {
         InTextError::Memory(error)
+    }
+}
+
+impl From<ReadError> for InTextError {
+    ghost from_gives = { λ error fault. fault ≡ in_text_of_read error };
+
+    fn from(error: ReadError) -> InTextError {
+        match error {
+            ReadError::NotJson => InTextError::NotJson,
+            ReadError::Memory(error) => InTextError::Memory(error),
+        }
     }
 }
 
@@ -130,8 +142,7 @@ pub fn resolve_in_text_with(
             let error = error_at(pointer, left, kind);
             Err(InTextError::Resolve(error))
         }
-        Err(ReadError::NotJson) => Err(InTextError::NotJson),
-        Err(ReadError::Memory) => Err(InTextError::Memory(AllocError)),
+        Err(error) => Err(InTextError::from(error)),
     }
 }
 

@@ -15,6 +15,14 @@ use std::alloc::{AllocError, Global};
 /// # Errors
 ///
 /// [`AllocError`] if an allocation fails.
+///
+/// # Examples
+///
+/// ```rust
+/// let selectors = selectors_of(alloc, Pointer::parse("/a~1b/0")?)?;
+/// assert_eq!(rt; (selectors[0].key.as_str(), selectors[0].index), ("a/b", None));
+/// assert_eq!(rt; (selectors[1].key.as_str(), selectors[1].index), ("0", Some(0)));
+/// ```
 #[tactic(auto, using(crate::proofs::SelectorLemmas::more_selectors))]
 pub fn selectors_of(alloc: Global, pointer: Pointer<'_>) -> Result<Vec<Selector>, AllocError>
     ensures { IfOk result (λ v. AreChoicesOf (tokens pointer.entry) (choices v.items)) }
@@ -32,6 +40,13 @@ pub fn selectors_of(alloc: Global, pointer: Pointer<'_>) -> Result<Vec<Selector>
 /// # Errors
 ///
 /// [`AllocError`] if the allocation for the key fails.
+///
+/// # Examples
+///
+/// ```rust
+/// let selector = selector_of(alloc, &Token::new(alloc, CowStr::Borrowed("~"))?)?;
+/// assert_eq!(rt; (selector.key.as_str(), selector.index), ("~", None));
+/// ```
 #[tactic(auto, using(crate::proofs::SelectorLemmas::choice_is))]
 pub fn selector_of(alloc: Global, token: &Token<'_>) -> Result<Selector, AllocError>
     ensures { IfOk result (λ s. IsChoiceOf token.now (choice_of s)) }

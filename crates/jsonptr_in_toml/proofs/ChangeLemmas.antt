@@ -1,34 +1,35 @@
--- From a change of a document to the text that is printed, and to the error if none is.
-use Rattle.std.proofs.Common.{◌⊎◌, inr, List, Result, Ok, Err, IfOk, IfErr, String, string_bytes}
-use Rattle.std.specs.declared.alloc.Global.{Global}
+-- From an error of reading or printing to that of the call.
+use Rattle.std.proofs.Common.{inr, List}
 use Rattle.toml.specs.Data.{Data}
 use Rattle.jsonptr.specs.Text.{Text}
-use Rattle.jsonptr_in_toml.specs.InToml.{AssignsTo, DeletesTo, PrintsAs, AssignsAndPrintsToml, DeletesAndPrintsToml, FailsToAssignAndPrint, FailsToDeleteAndPrint, IsTomlPrintError}
-use Rattle.jsonptr_in_toml.specs.declared.error.InTomlError.{InTomlError}
-use Rattle.jsonptr_in_toml.specs.declared.error.InTomlError.TheVariants.{NotToml, DocumentTooDeep, Resolve, Assign, TooDeep, NoText, Memory}
+use Rattle.jsonptr_in_toml.specs.InToml.{AssignsTo, DeletesTo, IsInTomlError, IsAssignAndPrintError, IsDeleteAndPrintError, IsTomlReadError, IsTomlPrintError}
+use Rattle.jsonptr_in_toml.specs.Errors.{in_toml_of_read, edit_toml_of_read, edit_toml_of_print}
+use Rattle.jsonptr_in_toml.specs.declared.error.ReadTomlError.{ReadTomlError}
+use Rattle.jsonptr_in_toml.specs.declared.error.ReadTomlError.TheVariants as reading
+use Rattle.jsonptr_in_toml.specs.declared.error.PrintTomlError.{PrintTomlError}
+use Rattle.jsonptr_in_toml.specs.declared.error.PrintTomlError.TheVariants as printing
 
-pub assigns_then : (text : Text) (ts : List Text) (v d2 : Data) (r : Result (String Global) InTomlError) → AssignsTo text ts v d2 → IfOk r (λ s. PrintsAs d2 (string_bytes s)) → IfOk r (λ s. AssignsAndPrintsToml text ts v (string_bytes s))
-assigns_then text ts v d2 (Ok s) made h = (d2, made, h)
-assigns_then text ts v d2 (Err e) made h = tt
+pub unread_to_find : (text : Text) (ts : List Text) (e : ReadTomlError) → IsTomlReadError text e → IsInTomlError text ts (in_toml_of_read e)
+unread_to_find text ts reading.NotToml h = h
+unread_to_find text ts reading.DocumentTooDeep h = h
+unread_to_find text ts (reading.Memory f) h = tt
 
-assign_fault : (text : Text) (ts : List Text) (v d2 : Data) (e : InTomlError) → AssignsTo text ts v d2 → IsTomlPrintError d2 e → FailsToAssignAndPrint text ts v e
-assign_fault text ts v d2 NotToml made h = absurd h
-assign_fault text ts v d2 DocumentTooDeep made h = absurd h
-assign_fault text ts v d2 (Resolve f) made h = absurd h
-assign_fault text ts v d2 (Assign f) made h = absurd h
-assign_fault text ts v d2 TooDeep made h = inr (d2, made, h)
-assign_fault text ts v d2 NoText made h = (d2, made, h)
-assign_fault text ts v d2 (Memory f) made h = tt
+pub unread_to_assign : (text : Text) (ts : List Text) (v : Data) (e : ReadTomlError) → IsTomlReadError text e → IsAssignAndPrintError text ts v (edit_toml_of_read e)
+unread_to_assign text ts v reading.NotToml h = h
+unread_to_assign text ts v reading.DocumentTooDeep h = h
+unread_to_assign text ts v (reading.Memory f) h = tt
 
-pub assign_fails_then : (text : Text) (ts : List Text) (v d2 : Data) (r : Result (String Global) InTomlError) → AssignsTo text ts v d2 → IfErr r (IsTomlPrintError d2) → IfErr r (FailsToAssignAndPrint text ts v)
-assign_fails_then text ts v d2 (Ok s) made h = tt
-assign_fails_then text ts v d2 (Err e) made h = assign_fault text ts v d2 e made h
+pub unprinted_after_assign : (text : Text) (ts : List Text) (v d2 : Data) (e : PrintTomlError) → AssignsTo text ts v d2 → IsTomlPrintError d2 e → IsAssignAndPrintError text ts v (edit_toml_of_print e)
+unprinted_after_assign text ts v d2 printing.TooDeep made h = inr (d2, made, h)
+unprinted_after_assign text ts v d2 printing.NoText made h = (d2, made, h)
+unprinted_after_assign text ts v d2 (printing.Memory f) made h = tt
 
-pub delete_fault : (text : Text) (ts : List Text) (d2 : Data) (e : InTomlError) → DeletesTo text ts d2 → IsTomlPrintError d2 e → FailsToDeleteAndPrint text ts e
-delete_fault text ts d2 NotToml made h = absurd h
-delete_fault text ts d2 DocumentTooDeep made h = absurd h
-delete_fault text ts d2 (Resolve f) made h = absurd h
-delete_fault text ts d2 (Assign f) made h = absurd h
-delete_fault text ts d2 TooDeep made h = (d2, made, h)
-delete_fault text ts d2 NoText made h = (d2, made, h)
-delete_fault text ts d2 (Memory f) made h = tt
+pub unread_to_delete : (text : Text) (ts : List Text) (e : ReadTomlError) → IsTomlReadError text e → IsDeleteAndPrintError text ts (edit_toml_of_read e)
+unread_to_delete text ts reading.NotToml h = h
+unread_to_delete text ts reading.DocumentTooDeep h = h
+unread_to_delete text ts (reading.Memory f) h = tt
+
+pub unprinted_after_delete : (text : Text) (ts : List Text) (d2 : Data) (e : PrintTomlError) → DeletesTo text ts d2 → IsTomlPrintError d2 e → IsDeleteAndPrintError text ts (edit_toml_of_print e)
+unprinted_after_delete text ts d2 printing.TooDeep made h = (d2, made, h)
+unprinted_after_delete text ts d2 printing.NoText made h = (d2, made, h)
+unprinted_after_delete text ts d2 (printing.Memory f) made h = tt

@@ -13,8 +13,16 @@ use Rattle.jsonptr.specs.Resolve.{Refuses}
 use Rattle.jsonptr.specs.Assign.{RefusesAssign}
 use Rattle.jsonptr_paths.specs.TomlListing.{ListsToml}
 use Rattle.jsonptr_paths.specs.declared.listing.Listed.{Listed}
+use Rattle.std.specs.declared.convert.Infallible.{Infallible}
+use Rattle.jsonptr.specs.declared.assign.Error.{Error as AssignError}
+use Rattle.jsonptr_in_toml.specs.declared.error.ReadTomlError.{ReadTomlError}
+use Rattle.jsonptr_in_toml.specs.declared.error.ReadTomlError.TheVariants as reading
+use Rattle.jsonptr_in_toml.specs.declared.error.PrintTomlError.{PrintTomlError}
+use Rattle.jsonptr_in_toml.specs.declared.error.PrintTomlError.TheVariants as printing
 use Rattle.jsonptr_in_toml.specs.declared.error.InTomlError.{InTomlError}
-use Rattle.jsonptr_in_toml.specs.declared.error.InTomlError.TheVariants.{NotToml, DocumentTooDeep, Resolve, Assign, TooDeep, NoText, Memory}
+use Rattle.jsonptr_in_toml.specs.declared.error.InTomlError.TheVariants as finding
+use Rattle.jsonptr_in_toml.specs.declared.error.EditTomlError.{EditTomlError}
+use Rattle.jsonptr_in_toml.specs.declared.error.EditTomlError.TheVariants as editing
 
 -- `ReadsAsToml text d`: the document that `text` contains is the table `d`, whose values nest at most 80 deep
 abbrev pub ReadsAsToml : Text → Data → Type 0
@@ -70,53 +78,44 @@ LacksInToml text ts = (d : Data) × ReadsAsToml text d × ((w : Path) → Names 
 abbrev pub ListsInToml : Listed → Text → Text → Type 0
 ListsInToml which text out = (d : Data) × ReadsAsToml text d × ListsToml which d out
 
--- `FailsToFindInToml text ts e`: `e` is why no value is found, if it is not for memory
-abbrev pub FailsToFindInToml : Text → List Text → InTomlError → Type 0
-FailsToFindInToml text ts NotToml = parse_document text ≡ None
-FailsToFindInToml text ts DocumentTooDeep = IsDeep text
-FailsToFindInToml text ts (Resolve f) = (d : Data) × ReadsAsToml text d × Refuses (nodes d) ts f
-FailsToFindInToml text ts (Memory f) = ⊤
-FailsToFindInToml text ts e = ⊥
-
--- `FailsToAssignAndPrint text ts v e`: `e` is why `v` is not assigned at the tokens, if it is not for memory
-abbrev pub FailsToAssignAndPrint : Text → List Text → Data → InTomlError → Type 0
-FailsToAssignAndPrint text ts v NotToml = parse_document text ≡ None
-FailsToAssignAndPrint text ts v DocumentTooDeep = IsDeep text
-FailsToAssignAndPrint text ts v (Assign f) =
-    (d : Data) × ReadsAsToml text d × (length ts ≤ suc max_depth) × RefusesAssign (nodes d) ts f
-FailsToAssignAndPrint text ts v TooDeep =
-    (((d : Data) × ReadsAsToml text d) × (suc max_depth < length ts))
-    ⊎ ((d2 : Data) × AssignsTo text ts v d2 × HasDeepValues d2)
-FailsToAssignAndPrint text ts v NoText = (d2 : Data) × AssignsTo text ts v d2 × HasNoText d2
-FailsToAssignAndPrint text ts v (Memory f) = ⊤
-FailsToAssignAndPrint text ts v e = ⊥
-
--- `FailsToDeleteAndPrint text ts e`: `e` is why nothing is deleted, if it is not for memory
-abbrev pub FailsToDeleteAndPrint : Text → List Text → InTomlError → Type 0
-FailsToDeleteAndPrint text ts NotToml = parse_document text ≡ None
-FailsToDeleteAndPrint text ts DocumentTooDeep = IsDeep text
-FailsToDeleteAndPrint text ts TooDeep = (d2 : Data) × DeletesTo text ts d2 × HasDeepValues d2
-FailsToDeleteAndPrint text ts NoText = (d2 : Data) × DeletesTo text ts d2 × HasNoText d2
-FailsToDeleteAndPrint text ts (Memory f) = ⊤
-FailsToDeleteAndPrint text ts e = ⊥
-
--- `FailsToListToml text e`: `e` is why nothing is listed, if it is not for memory
-abbrev pub FailsToListToml : Text → InTomlError → Type 0
-FailsToListToml text NotToml = parse_document text ≡ None
-FailsToListToml text DocumentTooDeep = IsDeep text
-FailsToListToml text (Memory f) = ⊤
-FailsToListToml text e = ⊥
-
 -- `IsTomlReadError text e`: `e` is why `text` is not read, if it is not for memory
-abbrev pub IsTomlReadError : Text → InTomlError → Type 0
-IsTomlReadError text NotToml = parse_document text ≡ None
-IsTomlReadError text DocumentTooDeep = IsDeep text
-IsTomlReadError text (Memory f) = ⊤
-IsTomlReadError text e = ⊥
+abbrev pub IsTomlReadError : Text → ReadTomlError → Type 0
+IsTomlReadError text reading.NotToml = parse_document text ≡ None
+IsTomlReadError text reading.DocumentTooDeep = IsDeep text
+IsTomlReadError text (reading.Memory f) = ⊤
 
--- `IsTomlPrintError d e`: `e` is why the value `d` is not printed as a document
-abbrev pub IsTomlPrintError : Data → InTomlError → Type 0
-IsTomlPrintError d TooDeep = HasDeepValues d
-IsTomlPrintError d NoText = HasNoText d
-IsTomlPrintError d (Memory f) = ⊤
-IsTomlPrintError d e = ⊥
+-- `IsTomlPrintError d e`: `e` is why the value `d` is not printed as a document, if it is not for memory. A value that nests
+-- too deep is not looked at further
+abbrev pub IsTomlPrintError : Data → PrintTomlError → Type 0
+IsTomlPrintError d printing.TooDeep = HasDeepValues d
+IsTomlPrintError d printing.NoText = (HasDeepValues d → ⊥) × HasNoText d
+IsTomlPrintError d (printing.Memory f) = ⊤
+
+-- `IsInTomlError text ts e`: `e` is why no value is found, if it is not for memory
+abbrev pub IsInTomlError : Text → List Text → InTomlError → Type 0
+IsInTomlError text ts finding.NotToml = parse_document text ≡ None
+IsInTomlError text ts finding.DocumentTooDeep = IsDeep text
+IsInTomlError text ts (finding.Resolve f) = (d : Data) × ReadsAsToml text d × Refuses (nodes d) ts f
+IsInTomlError text ts (finding.Memory f) = ⊤
+
+-- `IsAssignAndPrintError text ts v e`: `e` is why `v` is not assigned at the tokens, if it is not for memory
+abbrev pub IsAssignAndPrintError : Text → List Text → Data → EditTomlError AssignError → Type 0
+IsAssignAndPrintError text ts v editing.NotToml = parse_document text ≡ None
+IsAssignAndPrintError text ts v editing.DocumentTooDeep = IsDeep text
+IsAssignAndPrintError text ts v (editing.Refused f) =
+    (d : Data) × ReadsAsToml text d × (length ts ≤ suc max_depth) × RefusesAssign (nodes d) ts f
+IsAssignAndPrintError text ts v editing.TooDeep =
+    (((d : Data) × ReadsAsToml text d) × (suc max_depth < length ts))
+    ⊎ ((d2 : Data) × AssignsTo text ts v d2 × IsTomlPrintError d2 printing.TooDeep)
+IsAssignAndPrintError text ts v editing.NoText =
+    (d2 : Data) × AssignsTo text ts v d2 × IsTomlPrintError d2 printing.NoText
+IsAssignAndPrintError text ts v (editing.Memory f) = ⊤
+
+-- `IsDeleteAndPrintError text ts e`: `e` is why nothing is deleted, if it is not for memory
+abbrev pub IsDeleteAndPrintError : Text → List Text → EditTomlError Infallible → Type 0
+IsDeleteAndPrintError text ts editing.NotToml = parse_document text ≡ None
+IsDeleteAndPrintError text ts editing.DocumentTooDeep = IsDeep text
+IsDeleteAndPrintError text ts (editing.Refused f) = ⊥
+IsDeleteAndPrintError text ts editing.TooDeep = (d2 : Data) × DeletesTo text ts d2 × IsTomlPrintError d2 printing.TooDeep
+IsDeleteAndPrintError text ts editing.NoText = (d2 : Data) × DeletesTo text ts d2 × IsTomlPrintError d2 printing.NoText
+IsDeleteAndPrintError text ts (editing.Memory f) = ⊤

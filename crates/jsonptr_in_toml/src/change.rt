@@ -2,13 +2,14 @@
 ghost use Rattle.std.specs.Prelude.{IfOk, IfErr, MatchOption, string_bytes};
 ghost use Rattle.toml.specs.View.{view};
 ghost use Rattle.jsonptr.specs.Pointer.{tokens};
-ghost use Rattle.jsonptr_in_toml.specs.InToml.{FindsInToml, AssignsAndPrintsToml, DeletesAndPrintsToml, LacksInToml, FailsToFindInToml, FailsToAssignAndPrint, FailsToDeleteAndPrint};
+ghost use Rattle.jsonptr_in_toml.specs.InToml.{FindsInToml, AssignsAndPrintsToml, DeletesAndPrintsToml, LacksInToml, IsInTomlError, IsAssignAndPrintError, IsDeleteAndPrintError};
 
 use crate::depth::has_too_many_tokens;
 use crate::document::{print_toml, read_toml};
-use crate::error::InTomlError;
-use jsonptr::{Assign, Delete, Fault, Pointer, Resolve};
+use crate::error::{EditTomlError, InTomlError};
+use jsonptr::{Assign, Delete, Fault, Pointer, Resolve, assign};
 use std::alloc::Global;
+use std::convert::Infallible;
 use toml::Value;
 
 /// Returns the value that the pointer resolves to in the document that the text contains.
@@ -33,7 +34,7 @@ pub fn resolve_in_toml(
     pointer: Pointer<'_>,
 ) -> Result<Value, InTomlError>
     ensures found { IfOk result (λ v. FindsInToml text.now (tokens pointer.entry) (view v)) }
-    ensures refused { IfErr result (FailsToFindInToml text.now (tokens pointer.entry)) }
+    ensures refused { IfErr result (IsInTomlError text.now (tokens pointer.entry)) }
 {
     let document = read_toml(alloc, text)?;
     match document.resolve(alloc, pointer) {
@@ -47,14 +48,14 @@ pub fn resolve_in_toml(
 ///
 /// # Errors
 ///
-/// - [`InTomlError::NotToml`] if the text is not TOML.
-/// - [`InTomlError::DocumentTooDeep`] if the values of the document nest deeper than 80.
-/// - [`InTomlError::TooDeep`] if the pointer has more than 81 tokens.
-/// - [`InTomlError::Assign`] if no value can be assigned at the pointer.
-/// - [`InTomlError::TooDeep`] if the values of the new document nest deeper than 80.
-/// - [`InTomlError::NoText`] if the new document is not a table, or has a date-time that TOML has no
+/// - [`EditTomlError::NotToml`] if the text is not TOML.
+/// - [`EditTomlError::DocumentTooDeep`] if the values of the document nest deeper than 80.
+/// - [`EditTomlError::TooDeep`] if the pointer has more than 81 tokens.
+/// - [`EditTomlError::Refused`] if no value can be assigned at the pointer.
+/// - [`EditTomlError::TooDeep`] if the values of the new document nest deeper than 80.
+/// - [`EditTomlError::NoText`] if the new document is not a table, or has a date-time that TOML has no
 ///   text for.
-/// - [`InTomlError::Memory`] if an allocation fails.
+/// - [`EditTomlError::Memory`] if an allocation fails.
 ///
 /// # Examples
 ///
@@ -68,19 +69,19 @@ pub fn assign_and_print_toml(
     text: &str,
     pointer: Pointer<'_>,
     value: Value,
-) -> Result<String, InTomlError>
+) -> Result<String, EditTomlError<assign::Error>>
     ensures assigned { IfOk result (λ s. AssignsAndPrintsToml text.now (tokens pointer.entry) (view value)
         (string_bytes s)) }
-    ensures refused { IfErr result (FailsToAssignAndPrint text.now (tokens pointer.entry) (view value)) }
+    ensures refused { IfErr result (IsAssignAndPrintError text.now (tokens pointer.entry) (view value)) }
 {
     let mut document = read_toml(alloc, text)?;
     if has_too_many_tokens(pointer) {
-        return Err(InTomlError::TooDeep);
+        return Err(EditTomlError::TooDeep);
     }
     match document.assign(alloc, pointer, value) {
-        Ok(_) => print_toml(alloc, document),
-        Err(Fault::Refused(error)) => Err(InTomlError::Assign(error)),
-        Err(Fault::Memory(error)) => Err(InTomlError::Memory(error)),
+        Ok(_) => Ok(print_toml(alloc, document)?),
+        Err(Fault::Refused(error)) => Err(EditTomlError::Refused(error)),
+        Err(Fault::Memory(error)) => Err(EditTomlError::Memory(error)),
     }
 }
 
@@ -89,11 +90,11 @@ pub fn assign_and_print_toml(
 ///
 /// # Errors
 ///
-/// - [`InTomlError::NotToml`] if the text is not TOML.
-/// - [`InTomlError::DocumentTooDeep`] if the values of the document nest deeper than 80.
-/// - [`InTomlError::Memory`] if an allocation fails.
+/// - [`EditTomlError::NotToml`] if the text is not TOML.
+/// - [`EditTomlError::DocumentTooDeep`] if the values of the document nest deeper than 80.
+/// - [`EditTomlError::Memory`] if an allocation fails.
 ///
-/// The clause also allows [`InTomlError::TooDeep`] and [`InTomlError::NoText`], as for
+/// The clause also allows [`EditTomlError::TooDeep`] and [`EditTomlError::NoText`], as for
 /// [`assign_and_print_toml`]. No document is known that has them.
 ///
 /// # Examples
@@ -107,10 +108,10 @@ pub fn delete_and_print_toml(
     alloc: Global,
     text: &str,
     pointer: Pointer<'_>,
-) -> Result<Option<String>, InTomlError>
+) -> Result<Option<String>, EditTomlError<Infallible>>
     ensures deleted { IfOk result (λ o. MatchOption o (LacksInToml text.now (tokens pointer.entry))
         (λ s. DeletesAndPrintsToml text.now (tokens pointer.entry) (string_bytes s))) }
-    ensures refused { IfErr result (FailsToDeleteAndPrint text.now (tokens pointer.entry)) }
+    ensures refused { IfErr result (IsDeleteAndPrintError text.now (tokens pointer.entry)) }
 {
     let mut document = read_toml(alloc, text)?;
     match document.delete(alloc, pointer)? {

@@ -3,11 +3,11 @@ ghost use Rattle.std.specs.Prelude.{◌≡◌, ◌<◌, ◌≤◌, IfOk, IfErr, 
 ghost use Rattle.toml.specs.Data.{members_depth, table as a_table};
 ghost use Rattle.toml.specs.View.{view, table_view};
 ghost use Rattle.toml_parser.specs.Strings.{recursion_limit as max_depth};
-ghost use Rattle.jsonptr_in_toml.specs.declared.error.InTomlError.TheVariants.{DocumentTooDeep};
+ghost use Rattle.jsonptr_in_toml.specs.declared.error.ReadTomlError.TheVariants.{DocumentTooDeep};
 ghost use Rattle.jsonptr_in_toml.specs.InToml.{ReadsAsToml, PrintsAs, IsTomlReadError, IsTomlPrintError};
 
 use crate::depth::{MAX_TOML_DEPTH, table_nests_within};
-use crate::error::InTomlError;
+use crate::error::{PrintTomlError, ReadTomlError};
 use jsonptr_value::discard;
 use std::alloc::{AllocError, Global};
 use toml::ser::Error;
@@ -17,9 +17,9 @@ use toml::{Table, Value, table_from_str, table_to_string};
 ///
 /// # Errors
 ///
-/// - [`InTomlError::NotToml`] if the text is not TOML.
-/// - [`InTomlError::DocumentTooDeep`] if the values of the document nest deeper than 80.
-/// - [`InTomlError::Memory`] if an allocation fails.
+/// - [`ReadTomlError::NotToml`] if the text is not TOML.
+/// - [`ReadTomlError::DocumentTooDeep`] if the values of the document nest deeper than 80.
+/// - [`ReadTomlError::Memory`] if an allocation fails.
 ///
 /// # Examples
 ///
@@ -29,14 +29,14 @@ use toml::{Table, Value, table_from_str, table_to_string};
 /// let error = read_toml(alloc, "port = ").err().ok_or("an error")?;
 /// assert_eq!(rt; error.to_string(alloc)?.as_str(), "text is not TOML");
 /// ```
-pub fn read_toml(alloc: Global, text: &str) -> Result<Value, InTomlError>
+pub fn read_toml(alloc: Global, text: &str) -> Result<Value, ReadTomlError>
     ensures document { IfOk result (λ v. ReadsAsToml text.now (view v)) }
     ensures refused { IfErr result (IsTomlReadError text.now) }
 {
     match table_from_str(alloc, text) {
         Ok(table) => shallow(table),
-        Err(error) if error.is_memory() => Err(InTomlError::Memory(AllocError)),
-        Err(_) => Err(InTomlError::NotToml),
+        Err(error) if error.is_memory() => Err(ReadTomlError::Memory(AllocError)),
+        Err(_) => Err(ReadTomlError::NotToml),
     }
 }
 
@@ -44,8 +44,8 @@ pub fn read_toml(alloc: Global, text: &str) -> Result<Value, InTomlError>
 ///
 /// # Errors
 ///
-/// [`InTomlError::DocumentTooDeep`] if its values nest deeper than 80.
-fn shallow(table: Table) -> Result<Value, InTomlError>
+/// [`ReadTomlError::DocumentTooDeep`] if its values nest deeper than 80.
+fn shallow(table: Table) -> Result<Value, ReadTomlError>
     ensures document { IfOk result (λ v. (view v ≡ a_table (table_view table))
         × (members_depth (table_view table) ≤ max_depth)) }
     ensures refused { IfErr result
@@ -57,16 +57,16 @@ fn shallow(table: Table) -> Result<Value, InTomlError>
         return Ok(value);
     }
     discard(value);
-    Err(InTomlError::DocumentTooDeep)
+    Err(ReadTomlError::DocumentTooDeep)
 }
 
 /// Prints the value as a document, and drops it.
 ///
 /// # Errors
 ///
-/// - [`InTomlError::TooDeep`] if the values of the table nest deeper than 80.
-/// - [`InTomlError::NoText`] if the value is not a table, or has a date-time that TOML has no text for.
-/// - [`InTomlError::Memory`] if an allocation fails.
+/// - [`PrintTomlError::TooDeep`] if the values of the table nest deeper than 80.
+/// - [`PrintTomlError::NoText`] if the value is not a table, or has a date-time that TOML has no text for.
+/// - [`PrintTomlError::Memory`] if an allocation fails.
 ///
 /// # Examples
 ///
@@ -76,28 +76,28 @@ fn shallow(table: Table) -> Result<Value, InTomlError>
 /// assert_eq!(rt; text.as_str(), "[server]\nport = 80\n");
 /// assert!(rt; print_toml(alloc, 1.into()).is_err());
 /// ```
-pub fn print_toml(alloc: Global, value: Value) -> Result<String, InTomlError>
+pub fn print_toml(alloc: Global, value: Value) -> Result<String, PrintTomlError>
     ensures printed { IfOk result (λ s. PrintsAs (view value) (string_bytes s)) }
     ensures refused { IfErr result (IsTomlPrintError (view value)) }
 {
     match value {
         Value::Table(table) => print_table(alloc, table),
-        _ => Err(InTomlError::NoText),
+        _ => Err(PrintTomlError::NoText),
     }
 }
 
 /// Prints the table as a document, and drops it.
-fn print_table(alloc: Global, table: Table) -> Result<String, InTomlError>
+fn print_table(alloc: Global, table: Table) -> Result<String, PrintTomlError>
     ensures printed { IfOk result (λ s. PrintsAs (a_table (table_view table)) (string_bytes s)) }
     ensures refused { IfErr result (IsTomlPrintError (a_table (table_view table))) }
 {
     if !table_nests_within(&table, MAX_TOML_DEPTH) {
         discard(Value::Table(table));
-        return Err(InTomlError::TooDeep);
+        return Err(PrintTomlError::TooDeep);
     }
     match table_to_string(alloc, &table) {
         Ok(text) => Ok(text),
-        Err(Error::OutOfMemory) => Err(InTomlError::Memory(AllocError)),
-        Err(Error::DateInvalid) => Err(InTomlError::NoText),
+        Err(Error::OutOfMemory) => Err(PrintTomlError::Memory(AllocError)),
+        Err(Error::DateInvalid) => Err(PrintTomlError::NoText),
     }
 }

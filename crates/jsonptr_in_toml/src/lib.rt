@@ -22,5 +22,5 @@ mod error;
 mod listing;
 
 pub use change::{assign_and_print_toml, delete_and_print_toml, resolve_in_toml};
-pub use error::InTomlError;
+pub use error::{EditTomlError, InTomlError, PrintTomlError, ReadTomlError};
 pub use listing::list_in_toml;

@@ -1,9 +1,9 @@
 //! Listing the nodes of the document of a TOML text.
 ghost use Rattle.std.specs.Prelude.{IfOk, IfErr, string_bytes};
-ghost use Rattle.jsonptr_in_toml.specs.InToml.{ListsInToml, FailsToListToml};
+ghost use Rattle.jsonptr_in_toml.specs.InToml.{ListsInToml, IsTomlReadError};
 
 use crate::document::read_toml;
-use crate::error::InTomlError;
+use crate::error::ReadTomlError;
 use jsonptr_paths::listing::Listed;
 use jsonptr_paths::toml_listing::list_toml;
 use std::alloc::Global;
@@ -13,9 +13,9 @@ use std::alloc::Global;
 ///
 /// # Errors
 ///
-/// - [`InTomlError::NotToml`] if the text is not TOML.
-/// - [`InTomlError::DocumentTooDeep`] if the values of the document nest deeper than 80.
-/// - [`InTomlError::Memory`] if an allocation fails.
+/// - [`ReadTomlError::NotToml`] if the text is not TOML.
+/// - [`ReadTomlError::DocumentTooDeep`] if the values of the document nest deeper than 80.
+/// - [`ReadTomlError::Memory`] if an allocation fails.
 ///
 /// # Examples
 ///
@@ -23,9 +23,9 @@ use std::alloc::Global;
 /// let lines = list_in_toml(alloc, "[server]\nport = 80\n", Listed::AllNodes)?;
 /// assert_eq!(rt; lines.as_str(), "\t{}\n/server\t{}\n/server/port\t80\n");
 /// ```
-pub fn list_in_toml(alloc: Global, text: &str, which: Listed) -> Result<String, InTomlError>
+pub fn list_in_toml(alloc: Global, text: &str, which: Listed) -> Result<String, ReadTomlError>
     ensures listed { IfOk result (λ s. ListsInToml which text.now (string_bytes s)) }
-    ensures refused { IfErr result (FailsToListToml text.now) }
+    ensures refused { IfErr result (IsTomlReadError text.now) }
 {
     let document = read_toml(alloc, text)?;
     Ok(list_toml(alloc, &document, which)?)

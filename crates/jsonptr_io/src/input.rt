@@ -34,11 +34,12 @@ pub fn read_all<R: Read>(alloc: Global, input: &mut R) -> Result<Vec<u8>, InputE
         (λ v. Consumes (R.remaining input.old) (R.remaining input.new) v.items) }
     ensures all { IfOk result (λ v. IfSome (R.remaining input.old) (λ xs. v.items ≡ xs)) }
     ensures end { OnOk result (IsAtEnd (R.remaining input.new)) }
-    ensures refused { OnErr result (ReadsSome (R.remaining input.old) (R.remaining input.new)) }
+    ensures consumed { OnErr result (ReadsSome (R.remaining input.old) (R.remaining input.new)) }
     // No bytes need no allocation.
     ensures no_memory { IfErr result
         (λ e. e ≢ InputError.Read → R.remaining input.old ≢ Some []) }
 {
+    // `read_to_end` does not promise that no bytes need no allocation.
     let mut bytes = Vec::new(alloc);
     let mut chunk = [0u8; CHUNK_LEN];
     for _turn in 0..u64::MAX {
@@ -55,4 +56,32 @@ pub fn read_all<R: Read>(alloc: Global, input: &mut R) -> Result<Vec<u8>, InputE
         }
     }
     Err(InputError::Read)
+}
+
+/// Reads all bytes that are left into `bytes`. What it had before is removed, and its memory is used
+/// again.
+///
+/// # Errors
+///
+/// [`InputError::Read`] if a read fails, and [`InputError::Memory`] if the allocation for the bytes
+/// fails. Then `bytes` has those that were read before.
+///
+/// # Examples
+///
+/// ```rust
+/// let mut bytes = Vec::from_slice(alloc, b"old")?;
+/// read_into(&mut b"[1]".as_slice(), &mut bytes)?;
+/// assert_eq!(rt; bytes.as_slice(), b"[1]".as_slice());
+/// ```
+pub fn read_into<R: Read>(input: &mut R, bytes: &mut Vec<u8>) -> Result<(), InputError>
+    ensures bytes { Consumes (R.remaining input.old) (R.remaining input.new) bytes.new.items }
+    ensures all { OnOk result (IfSome (R.remaining input.old) (λ xs. bytes.new.items ≡ xs)) }
+    ensures end { OnOk result (IsAtEnd (R.remaining input.new)) }
+{
+    bytes.clear();
+    match input.read_to_end(bytes) {
+        Ok(_) => Ok(()),
+        Err(error) if error.kind() == ErrorKind::OutOfMemory => Err(InputError::Memory(AllocError)),
+        Err(_) => Err(InputError::Read),
+    }
 }

@@ -1,6 +1,7 @@
 //! The streams of programs: reading an input whole or line by line, and writing bytes to an output.
 //!
-//! - [`read_all`](input::read_all) reads an input to its end.
+//! - [`read_all`](input::read_all) reads an input to its end, [`read_into`](input::read_into) into memory of
+//!   the caller.
 //! - [`next_line`](read::next_line) reads the next line into a buffer, so the memory is that of the
 //!   longest line.
 //! - [`write_bytes`](write::write_bytes) writes all of some bytes, and

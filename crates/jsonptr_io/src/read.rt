@@ -42,7 +42,7 @@ pub enum Ending {
 pub fn next_line<R: BufRead>(input: &mut R, line: &mut Vec<u8>) -> Result<Ending, InputError>
     ensures line { IfOk result
         (IsNextLine (R.remaining input.old) (R.remaining input.new) line.new.items) }
-    ensures refused { OnErr result (ReadsSome (R.remaining input.old) (R.remaining input.new)) }
+    ensures consumed { OnErr result (ReadsSome (R.remaining input.old) (R.remaining input.new)) }
 {
     line.clear();
     match input.read_until(b'\n', line) {

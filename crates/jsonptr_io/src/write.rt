@@ -27,7 +27,7 @@ pub struct WriteError;
 pub fn write_bytes<W: Write>(output: &mut W, bytes: &[u8]) -> Result<(), WriteError>
     ensures written { OnOk result
         (Appends (W.contents output.old) (W.contents output.new) bytes.now) }
-    ensures refused { OnErr result
+    ensures prefix { OnErr result
         (AppendsPrefix (W.contents output.old) (W.contents output.new) bytes.now) }
 {
     let mut written = 0;
@@ -56,7 +56,7 @@ pub fn write_bytes<W: Write>(output: &mut W, bytes: &[u8]) -> Result<(), WriteEr
 pub fn write_and_flush<W: Write>(output: &mut W, bytes: &[u8]) -> Result<(), WriteError>
     ensures written { OnOk result
         (Appends (W.contents output.old) (W.contents output.new) bytes.now) }
-    ensures refused { OnErr result
+    ensures prefix { OnErr result
         (AppendsPrefix (W.contents output.old) (W.contents output.new) bytes.now) }
 {
     write_bytes(output, bytes)?;

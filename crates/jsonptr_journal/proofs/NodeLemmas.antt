@@ -1,5 +1,5 @@
 -- What a value that is an object or an array contains, before and after a change of its map or vector.
-use Rattle.std.proofs.Common.{◌≡◌, ℕ, zero, suc, ◌<◌, ◌≤◌, List, [], ◌∷◌, length, get_or, Option, Some, None, MatchOption, option_map, Result, Ok, Err, IfOk, OnErr, String, string_bytes, Vec, BTreeMap, Global, MutBor, refl, sym, ap, ◌∙◌, arith}
+use Rattle.std.proofs.Common.{◌≡◌, ℕ, zero, suc, ◌<◌, ◌≤◌, List, [], ◌∷◌, length, get_or, Option, Some, None, MatchOption, option_map, Result, Ok, Err, IfOk, OnErr, is_ok, if◌then◌else◌, String, string_bytes, Vec, BTreeMap, Global, MutBor, refl, sym, ap, ◌∙◌, arith}
 use Rattle.std.specs.List.{insert, remove}
 use Rattle.std.specs.Vec.{vec_capacity}
 use Rattle.serde_json.specs.Data as json
@@ -16,7 +16,7 @@ use Rattle.jsonptr_document.proofs.JsonLevel.{array_at, object_at}
 use Rattle.jsonptr_journal.specs.Location.{contents_of}
 use Rattle.jsonptr_journal.specs.Children.{items_in, members_in, array_of, object_of, insert_item, without_item, put_member, without_member, KeysRise}
 use Rattle.jsonptr_journal.specs.Writing.{write_at}
-use Rattle.jsonptr_journal.specs.Changes.{HasAt, IsObjectContent, IsArrayContent, HasAtLeast, HasElement, AddsMember, TakesMember, TakesElement}
+use Rattle.jsonptr_journal.specs.Changes.{HasAt, IsObjectContent, IsArrayContent, HasAtLeast, HasElement, AddsMember, TakesMember, PutsElement, TakesElement}
 use Rattle.jsonptr_journal.specs.Rooms.{LeavesElementRoom}
 use Rattle.jsonptr_journal.proofs.ThereLemmas.{here_has}
 
@@ -56,12 +56,12 @@ object_found p c node None there is = λ has.
     no_object_there (view node) h.0 is h.1
 object_found p c node (Some m) there is = there ∙ ap (λ (x : Content). Some x) (object_there node m.now is)
 
-pub adds_member : (r : Result (Option Value) Value) (k : Text) (v c d : Content) (ms ns : Members) → c ≡ object ms → d ≡ object ns → KeysRise ms
+pub adds_member : {E : Type 0} (r : Result (Option Value) E) (k : Text) (v c d : Content) (ms ns : Members) → c ≡ object ms → d ≡ object ns → KeysRise ms
     → IfOk r (λ _. ns ≡ put_member k v ms) → IfOk r (λ old. get_member k ms ≡ option_map contents_of old) → IfOk r (λ old. AddsMember k (option_map contents_of old) v c d)
 adds_member (Ok old) k v c d ms ns was is rise put found = record { puts = record { ms = ms; object_is = was; made = is ∙ ap object put; rise = rise }; old_is = found }
 adds_member (Err e) k v c d ms ns was is rise put found = tt
 
-pub unchanged_object : {T : Type 0} (r : Result T Value) (c d : Content) (ms ns : Members) → c ≡ object ms → d ≡ object ns → OnErr r (ns ≡ ms) → OnErr r (d ≡ c)
+pub unchanged_object : {T E : Type 0} (r : Result T E) (c d : Content) (ms ns : Members) → c ≡ object ms → d ≡ object ns → OnErr r (ns ≡ ms) → OnErr r (d ≡ c)
 unchanged_object (Ok t) c d ms ns was is same = tt
 unchanged_object (Err e) c d ms ns was is same = is ∙ ap object same ∙ sym was
 
@@ -140,6 +140,20 @@ takes_element vs ws i x within is left = record {
   found = items_in-get vs.items i x within is;
   made = ap array (ap items_in left ∙ items_in-remove vs.items i);
 }
+
+-- an insertion into the vector of an array
+pub puts_element : {T E : Type 0} (r : Result T E) (vs ws : Vec Value Global) (i : ℕ) (x : Value) → i ≤ length vs.items → ws.items ≡ (if is_ok r then insert vs.items i x else vs.items) → IfOk r (λ _. PutsElement i (contents_of x) (array_of vs) (array_of ws))
+puts_element (Ok t) vs ws i x within is = record {
+  ds = items_in vs.items;
+  array_is = refl;
+  within = omega (arith, within, items_in-length vs.items);
+  made = ap array (ap items_in is ∙ items_in-insert vs.items i x);
+}
+puts_element (Err e) vs ws i x within is = tt
+
+pub unchanged_array : {T E : Type 0} (r : Result T E) (vs ws : Vec Value Global) (i : ℕ) (x : Value) → ws.items ≡ (if is_ok r then insert vs.items i x else vs.items) → OnErr r (array_of ws ≡ array_of vs)
+unchanged_array (Ok t) vs ws i x is = tt
+unchanged_array (Err e) vs ws i x is = ap array (ap items_in is)
 
 -- an element inserted where it was removed
 pub insert-without : (ds : Items) (i : ℕ) (v : Content) → get_item i ds ≡ Some v → insert_item i v (without_item i ds) ≡ ds

@@ -15,7 +15,7 @@ use crate::node_mut::{NodeMut, array_mut, object_mut};
 use jsonptr::PointerBuf;
 use jsonptr_value::discard;
 use serde_json::Value;
-use std::alloc::Global;
+use std::alloc::{AllocFailed, Global};
 use std::mem;
 
 /// Where a value is added.
@@ -88,8 +88,18 @@ impl Addition {
 
 /// Replaces the node at the location, and returns the old one.
 ///
-/// Needs no allocation.
-pub fn overwrite<D: NodeMut>(document: &mut D, location: &Location, value: Value) -> Value
+/// Needs no allocation. A call with the old node undoes it.
+///
+/// # Examples
+///
+/// ```rust
+/// let mut document = json!(in alloc; [3])?;
+/// let first = locate(alloc, &document, Pointer::parse("/0")?)?.location;
+/// let old = replace_node(&mut document, &first, json!(in alloc; 5)?);
+/// assert_eq!(rt; old.as_u64(), Some(3));
+/// assert_eq!(rt; document.to_string(alloc)?.as_str(), "[5]");
+/// ```
+pub fn replace_node<D: NodeMut>(document: &mut D, location: &Location, value: Value) -> Value
     requires { IsThere (path_of location.now) (D.contents document.old) }
     ensures { At (path_of location.now) (ReplacesContent (contents_of result) (contents_of value))
         (D.contents document.old) (D.contents document.new) }
@@ -106,7 +116,17 @@ pub fn overwrite<D: NodeMut>(document: &mut D, location: &Location, value: Value
 ///
 /// # Errors
 ///
-/// The value, if the pointer leads to no node. The document is unchanged.
+/// The value itself, if the pointer leads to no node. The document is unchanged.
+///
+/// # Examples
+///
+/// ```rust
+/// let mut document = json!(in alloc; [3])?;
+/// let first = Pointer::parse("/0")?.to_buf(alloc)?;
+/// let old = replace_at(&mut document, &first, json!(in alloc; 5)?).ok();
+/// assert!(rt; old.is_some());
+/// assert_eq!(rt; document.to_string(alloc)?.as_str(), "[5]");
+/// ```
 pub fn replace_at<D: NodeMut>(
     document: &mut D,
     path: &PointerBuf,
@@ -145,20 +165,20 @@ pub(crate) fn restore<D: NodeMut>(document: &mut D, path: &PointerBuf, old: Valu
 ///
 /// # Errors
 ///
-/// The value, if an allocation fails. The document is unchanged.
+/// [`AllocFailed`] with the value, if an allocation fails. The document is unchanged.
 #[inline(always)]
 fn insert_member<D: NodeMut>(
     document: &mut D,
     object: &Location,
     key: String,
     value: Value,
-) -> Result<Option<Value>, Value>
+) -> Result<Option<Value>, AllocFailed<Value>>
     requires { HasAt (path_of object.now) IsObjectContent (D.contents document.old) }
     ensures added { IfOk result (λ old. At (path_of object.now)
         (AddsMember (string_bytes key) (option_map contents_of old) (contents_of value))
         (D.contents document.old) (D.contents document.new)) }
     ensures unchanged { OnErr result (D.contents document.new ≡ D.contents document.old) }
-    ensures returned { IfErr result (λ v. v ≡ value) }
+    ensures returned { IfErr result (λ failed. failed.value ≡ value) }
 {
     match object_mut(document, object) {
         Some(members) => members::insert(members, key, value),
@@ -170,30 +190,27 @@ fn insert_member<D: NodeMut>(
 ///
 /// # Errors
 ///
-/// The value, if an allocation fails. The document is unchanged.
+/// [`AllocFailed`] with the value, if an allocation fails. The document is unchanged.
 fn insert_element<D: NodeMut>(
     document: &mut D,
     array: &Location,
     index: usize,
     value: Value,
-) -> Result<(), Value>
+) -> Result<(), AllocFailed<Value>>
     requires { HasAt (path_of array.now) (HasAtLeast index) (D.contents document.old) }
     ensures added { IfOk result (λ _. At (path_of array.now)
         (PutsElement index (contents_of value)) (D.contents document.old) (D.contents document.new)) }
     ensures unchanged { OnErr result (D.contents document.new ≡ D.contents document.old) }
-    ensures returned { IfErr result (λ v. v ≡ value) }
+    ensures returned { IfErr result (λ failed. failed.value ≡ value) }
 {
     match array_mut(document, array) {
-        Some(elements) => match elements.insert(index, value) {
-            Ok(()) => Ok(()),
-            Err(failed) => Err(failed.value),
-        },
+        Some(elements) => elements.insert(index, value),
         None => unreachable!(),
     }
 }
 
-/// Removes the member from the object at the location.
-pub(crate) fn remove_member<D: NodeMut>(document: &mut D, object: &Location, key: &str) -> Value
+/// Removes the member from the object at the location, and returns it. Nothing is recorded.
+pub(crate) fn delete_member<D: NodeMut>(document: &mut D, object: &Location, key: &str) -> Value
     requires { HasAt (path_of object.now) (HasMember key.now) (D.contents document.old) }
     ensures { At (path_of object.now) (TakesMember key.now (contents_of result))
         (D.contents document.old) (D.contents document.new) }
@@ -217,8 +234,8 @@ fn set_member<D: NodeMut>(document: &mut D, object: &Location, key: String, valu
     }
 }
 
-/// Removes the element from the array at the location.
-pub(crate) fn remove_element<D: NodeMut>(document: &mut D, array: &Location, index: usize) -> Value
+/// Removes the element from the array at the location, and returns it. Nothing is recorded.
+pub(crate) fn delete_element<D: NodeMut>(document: &mut D, array: &Location, index: usize) -> Value
     requires { HasAt (path_of array.now) (HasElement index) (D.contents document.old) }
     ensures { At (path_of array.now) (TakesElement index (contents_of result))
         (D.contents document.old) (D.contents document.new) }
@@ -229,28 +246,39 @@ pub(crate) fn remove_element<D: NodeMut>(document: &mut D, array: &Location, ind
     }
 }
 
-/// Adds a value at the target, and drops the one that it replaces, if any.
+/// Adds a value at the target, as [`add`] does, and drops the one that it replaces, if any. Nothing
+/// undoes it.
 ///
 /// Costs what an insertion into the map or the vector costs.
 ///
 /// # Errors
 ///
-/// The value, if an allocation fails. The document is unchanged.
-pub fn insert<D: NodeMut>(
+/// [`AllocFailed`] with the value, if an allocation fails. The document is unchanged.
+///
+/// # Examples
+///
+/// ```rust
+/// let mut document = json!(in alloc; [3])?;
+/// let array = Location::root(alloc);
+/// let end = Target::Element { array, index: 1 };
+/// add_last(alloc, &mut document, end, json!(in alloc; 5)?)?;
+/// assert_eq!(rt; document.to_string(alloc)?.as_str(), "[3,5]");
+/// ```
+pub fn add_last<D: NodeMut>(
     alloc: Global,
     document: &mut D,
     target: Target,
     value: Value,
-) -> Result<(), Value>
+) -> Result<(), AllocFailed<Value>>
     requires { CanAdd target (D.contents document.old) }
     ensures added { IfOk result (λ _.
         AddsAt target (contents_of value) (D.contents document.old) (D.contents document.new)) }
     ensures unchanged { OnErr result (D.contents document.new ≡ D.contents document.old) }
-    ensures returned { IfErr result (λ v. v ≡ value) }
+    ensures returned { IfErr result (λ failed. failed.value ≡ value) }
 {
     match target {
         Target::Root => {
-            discard(overwrite(document, &Location::root(alloc), value));
+            discard(replace_node(document, &Location::root(alloc), value));
             Ok(())
         }
         Target::Member { object, key } => {
@@ -265,33 +293,45 @@ pub fn insert<D: NodeMut>(
 
 /// Adds a value at the target, and returns what undoes that.
 ///
-/// Clones the key of a member. Else it costs what [`insert`] costs.
+/// Clones the key of a member. Else it costs what [`add_last`] costs.
 ///
 /// # Errors
 ///
-/// The value, if an allocation fails. The document is unchanged.
+/// [`AllocFailed`] with the value, if an allocation fails. The document is unchanged.
+///
+/// # Examples
+///
+/// ```rust
+/// let mut document = json!(in alloc; {})?;
+/// let key = "size".to_string(alloc)?;
+/// let size = Target::Member { object: Location::root(alloc), key };
+/// let addition = add(alloc, &mut document, size, json!(in alloc; 3)?)?;
+/// assert_eq!(rt; document.to_string(alloc)?.as_str(), r#"{"size":3}"#);
+/// undo_addition(&mut document, addition);
+/// assert_eq!(rt; document.to_string(alloc)?.as_str(), "{}");
+/// ```
 #[inline(always)]
 pub fn add<D: NodeMut>(
     alloc: Global,
     document: &mut D,
     target: Target,
     value: Value,
-) -> Result<Addition, Value>
+) -> Result<Addition, AllocFailed<Value>>
     requires { CanAdd target (D.contents document.old) }
     ensures added { IfOk result (λ _.
         AddsAt target (contents_of value) (D.contents document.old) (D.contents document.new)) }
     ensures undone { IfOk result (λ a.
         IsAddition a (contents_of value) (D.contents document.old) (D.contents document.new)) }
     ensures unchanged { OnErr result (D.contents document.new ≡ D.contents document.old) }
-    ensures returned { IfErr result (λ v. v ≡ value) }
+    ensures returned { IfErr result (λ failed. failed.value ≡ value) }
 {
     match target {
         Target::Root => Ok(replace(document, Location::root(alloc), value)),
         Target::Member { object, key } => add_member(document, object, key, value),
-        Target::Element { array, index } => match insert_element(document, &array, index, value) {
-            Ok(()) => Ok(Addition::Element { array, index }),
-            Err(value) => Err(value),
-        },
+        Target::Element { array, index } => {
+            insert_element(document, &array, index, value)?;
+            Ok(Addition::Element { array, index })
+        }
     }
 }
 
@@ -306,7 +346,7 @@ fn add_member<D: NodeMut>(
     object: Location,
     key: String,
     value: Value,
-) -> Result<Addition, Value>
+) -> Result<Addition, AllocFailed<Value>>
     requires { HasAt (path_of object) IsObjectContent (D.contents document.old) }
     ensures added { IfOk result (λ _. At (path_of object)
         (PutsMember (string_bytes key) (contents_of value))
@@ -314,20 +354,29 @@ fn add_member<D: NodeMut>(
     ensures undone { IfOk result (λ a.
         IsAddition a (contents_of value) (D.contents document.old) (D.contents document.new)) }
     ensures unchanged { OnErr result (D.contents document.new ≡ D.contents document.old) }
-    ensures returned { IfErr result (λ v. v ≡ value) }
+    ensures returned { IfErr result (λ failed. failed.value ≡ value) }
 {
-    match key.clone() {
-        Ok(copy) => match insert_member(document, &object, copy, value) {
-            Ok(old) => Ok(Addition::Member { object, key, old }),
-            Err(value) => Err(value),
-        },
-        Err(_) => Err(value),
-    }
+    let Ok(copy) = key.clone() else {
+        return Err(AllocFailed { value });
+    };
+    let old = insert_member(document, &object, copy, value)?;
+    Ok(Addition::Member { object, key, old })
 }
 
 /// Replaces the node at the location, and returns what undoes that.
 ///
 /// Needs no allocation.
+///
+/// # Examples
+///
+/// ```rust
+/// let mut document = json!(in alloc; [3])?;
+/// let first = locate(alloc, &document, Pointer::parse("/0")?)?.location;
+/// let addition = replace(&mut document, first, json!(in alloc; 5)?);
+/// assert_eq!(rt; document.to_string(alloc)?.as_str(), "[5]");
+/// undo_addition(&mut document, addition);
+/// assert_eq!(rt; document.to_string(alloc)?.as_str(), "[3]");
+/// ```
 pub fn replace<D: NodeMut>(document: &mut D, location: Location, value: Value) -> Addition
     requires { IsThere (path_of location) (D.contents document.old) }
     ensures replaced { At (path_of location) (Writes (contents_of value))
@@ -335,22 +384,31 @@ pub fn replace<D: NodeMut>(document: &mut D, location: Location, value: Value) -
     ensures undone { IsAddition result (contents_of value)
         (D.contents document.old) (D.contents document.new) }
 {
-    let old = overwrite(document, &location, value);
+    let old = replace_node(document, &location, value);
     Addition::Replaced { location, old }
 }
 
 /// Undoes an addition, and returns the value that was added.
 ///
 /// Needs no allocation.
+///
+/// # Examples
+///
+/// ```rust
+/// let mut document = json!(in alloc; [3])?;
+/// let first = locate(alloc, &document, Pointer::parse("/0")?)?.location;
+/// let addition = replace(&mut document, first, json!(in alloc; 5)?);
+/// assert_eq!(rt; undo_addition(&mut document, addition).as_u64(), Some(5));
+/// ```
 pub fn undo_addition<D: NodeMut>(document: &mut D, addition: Addition) -> Value
     requires { (v c : Content) × IsAddition addition v c (D.contents document.old) }
     ensures { (v c : Content) → IsAddition addition v c (D.contents document.old)
         → (D.contents document.new ≡ c) × (contents_of result ≡ v) }
 {
     match addition {
-        Addition::Replaced { location, old } => overwrite(document, &location, old),
+        Addition::Replaced { location, old } => replace_node(document, &location, old),
         Addition::Member { object, key, old } => undo_member(document, &object, key, old),
-        Addition::Element { array, index } => remove_element(document, &array, index),
+        Addition::Element { array, index } => delete_element(document, &array, index),
     }
 }
 
@@ -368,7 +426,7 @@ fn undo_member<D: NodeMut>(
         → (D.contents document.new ≡ c) × (contents_of result ≡ v) }
 {
     match old {
-        None => remove_member(document, object, key.as_str()),
+        None => delete_member(document, object, key.as_str()),
         Some(old) => set_member(document, object, key, old),
     }
 }

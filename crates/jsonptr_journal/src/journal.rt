@@ -11,11 +11,11 @@ ghost use Rattle.jsonptr_journal.specs.Rooms.{LeavesMembers};
 ghost use Rattle.jsonptr_journal.specs.Undoing.{CanAdd, AddsAt, IsAddition, IsRemoval};
 ghost use Rattle.jsonptr_journal.specs.Journal.{Undoes, Chain, Pages, Undone, HasRoom};
 
-use crate::addition::{Addition, Target, add, overwrite, replace, restore, undo_addition};
+use crate::addition::{Addition, Target, add, replace, replace_node, restore, undo_addition};
 use crate::location::{Location, Part};
 use crate::members;
 use crate::node_mut::{NodeMut, object_mut};
-use crate::removal::{Removal, Taken, take_element, undo_removal};
+use crate::removal::{Removal, Taken, remove_element, undo_removal};
 use jsonptr::PointerBuf;
 use jsonptr_value::discard;
 use serde_json::{Map, Value};
@@ -114,6 +114,17 @@ impl Journal {
     /// # Errors
     ///
     /// [`AllocError`] if an allocation fails.
+    ///
+    /// # Examples
+    ///
+    /// ```rust
+    /// let mut document = json!(in alloc; [3])?;
+    /// let array = Location::root(alloc);
+    /// let mut journal = Journal::new(alloc);
+    /// let end = Target::Element { array, index: 1 };
+    /// journal.add(alloc, &mut document, end, json!(in alloc; 5)?)?;
+    /// assert_eq!(rt; document.to_string(alloc)?.as_str(), "[3,5]");
+    /// ```
     pub fn add<D: NodeMut>(
         &mut self,
         alloc: Global,
@@ -136,8 +147,8 @@ impl Journal {
                 self.push(Entry::Added(addition));
                 Ok(())
             }
-            Err(value) => {
-                discard(value);
+            Err(failed) => {
+                discard(failed.value);
                 Err(AllocError)
             }
         }
@@ -148,6 +159,16 @@ impl Journal {
     /// # Errors
     ///
     /// [`AllocError`] if the allocation for the entry fails. The document is unchanged.
+    ///
+    /// # Examples
+    ///
+    /// ```rust
+    /// let mut document = json!(in alloc; {"size": 3})?;
+    /// let size = locate(alloc, &document, Pointer::parse("/size")?)?.location;
+    /// let mut journal = Journal::new(alloc);
+    /// journal.replace(alloc, &mut document, size, json!(in alloc; 5)?)?;
+    /// assert_eq!(rt; document.to_string(alloc)?.as_str(), r#"{"size":5}"#);
+    /// ```
     pub fn replace<D: NodeMut>(
         &mut self,
         alloc: Global,
@@ -178,6 +199,16 @@ impl Journal {
     /// # Errors
     ///
     /// [`AllocError`] if an allocation fails.
+    ///
+    /// # Examples
+    ///
+    /// ```rust
+    /// let mut document = json!(in alloc; {"size": 3})?;
+    /// let size = locate(alloc, &document, Pointer::parse("/size")?)?.location;
+    /// let mut journal = Journal::new(alloc);
+    /// journal.remove(alloc, &mut document, size)?;
+    /// assert_eq!(rt; document.to_string(alloc)?.as_str(), "{}");
+    /// ```
     pub fn remove<D: NodeMut>(
         &mut self,
         alloc: Global,
@@ -211,7 +242,7 @@ impl Journal {
             → Undone self.new c (D.contents document.new) }
     {
         self.reserve(alloc)?;
-        let value = overwrite(document, &Location::root(alloc), Value::Null);
+        let value = replace_node(document, &Location::root(alloc), Value::Null);
         self.push(Entry::Removed(Removal::Root, value));
         Ok(())
     }
@@ -235,7 +266,7 @@ impl Journal {
             → Undone self.new c (D.contents document.new) }
     {
         self.reserve(alloc)?;
-        let Taken { value, removal } = take_element(alloc, document, array, index)?;
+        let Taken { value, removal } = remove_element(alloc, document, array, index)?;
         self.push(Entry::Removed(removal, value));
         Ok(())
     }
@@ -334,6 +365,17 @@ impl Journal {
     /// Undoes the changes, the last one first.
     ///
     /// Needs no allocation.
+    ///
+    /// # Examples
+    ///
+    /// ```rust
+    /// let mut document = json!(in alloc; {"size": 3})?;
+    /// let size = locate(alloc, &document, Pointer::parse("/size")?)?.location;
+    /// let mut journal = Journal::new(alloc);
+    /// journal.remove(alloc, &mut document, size)?;
+    /// journal.undo(alloc, &mut document);
+    /// assert_eq!(rt; document.to_string(alloc)?.as_str(), r#"{"size":3}"#);
+    /// ```
     pub fn undo<D: NodeMut>(self, alloc: Global, document: &mut D)
         requires { (c : Content) × Undone self c (D.contents document.old) }
         ensures { (c : Content) → Undone self c (D.contents document.old) → D.contents document.new ≡ c }

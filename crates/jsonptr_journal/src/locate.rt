@@ -43,6 +43,15 @@ struct Child<'v, D> {
 ///
 /// [`Fault::Refused`] if the pointer does not resolve to a value, and [`Fault::Memory`] if an
 /// allocation fails.
+///
+/// # Examples
+///
+/// ```rust
+/// let document = json!(in alloc; {"tags": ["draft"]})?;
+/// let found = locate(alloc, &document, Pointer::parse("/tags/0")?)?;
+/// assert_eq!(rt; found.node.as_str(), Some("draft"));
+/// assert_eq!(rt; found.location.parts.len(), 2);
+/// ```
 pub fn locate<'v>(
     alloc: Global,
     document: &'v Value,

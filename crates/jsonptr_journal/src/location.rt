@@ -35,6 +35,16 @@ impl Location {
 
     /// Splits the location into that of the parent and the last step, or returns `None` for the
     /// root.
+    ///
+    /// # Examples
+    ///
+    /// ```rust
+    /// let document = json!(in alloc; [[3]])?;
+    /// let located = locate(alloc, &document, Pointer::parse("/0/0")?)?;
+    /// let (parent, last) = located.location.split_last().ok_or("not the root")?;
+    /// assert_eq!(rt; parent.parts.len(), 1);
+    /// assert_eq!(rt; last, Part::Index(0));
+    /// ```
     pub fn split_last(self) -> Option<(Location, Part)>
         ensures { MatchOption result (path_of self ≡ [])
             (λ r. path_of self ≡ path_of r.0 ++ part_step r.1 ∷ []) }
@@ -45,6 +55,15 @@ impl Location {
     }
 
     /// Returns whether the two locations are equal.
+    ///
+    /// # Examples
+    ///
+    /// ```rust
+    /// let document = json!(in alloc; [3])?;
+    /// let root = Location::root(alloc);
+    /// assert!(rt; locate(alloc, &document, Pointer::root())?.location.is_same(&root));
+    /// assert!(rt; !locate(alloc, &document, Pointer::parse("/0")?)?.location.is_same(&root));
+    /// ```
     pub fn is_same(&self, other: &Location) -> bool
         ensures { IsTrue result ↔ (path_of self.now ≡ path_of other.now) }
     {

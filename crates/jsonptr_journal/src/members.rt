@@ -7,7 +7,7 @@ ghost use Rattle.jsonptr_journal.specs.Location.{contents_of};
 ghost use Rattle.jsonptr_journal.specs.Children.{members_of, put_all, put_member, without_member, HasAll, IsRoom, KeysRise};
 
 use serde_json::{Map, Value};
-use std::alloc::{AllocError, Global};
+use std::alloc::{AllocError, AllocFailed, Global};
 use std::collections::BTreeMap;
 
 /// Inserts null under a key.
@@ -83,24 +83,26 @@ pub(crate) fn restore(members: &mut Map<String, Value>, room: Map<String, Value>
 ///
 /// # Errors
 ///
-/// The value, if an allocation fails. The members are unchanged.
+/// [`AllocFailed`] with the value, if an allocation fails. The members are unchanged.
 pub(crate) fn insert(
     members: &mut Map<String, Value>,
     key: String,
     value: Value,
-) -> Result<Option<Value>, Value>
+) -> Result<Option<Value>, AllocFailed<Value>>
     ensures put { IfOk result (λ _. members_of members.new
         ≡ put_member (string_bytes key) (contents_of value) (members_of members.old)) }
     ensures old { IfOk result (λ old. get_member (string_bytes key) (members_of members.old)
         ≡ option_map contents_of old) }
     ensures rise { KeysRise (members_of members.old) }
     ensures unchanged { OnErr result (members_of members.new ≡ members_of members.old) }
-    ensures returned { IfErr result (λ v. v ≡ value) }
+    ensures returned { IfErr result (λ failed. failed.value ≡ value) }
 {
     let _len = members.len();
     match members.insert(key, value) {
         Ok(old) => Ok(old),
-        Err(failed) => Err(failed.value.1),
+        Err(failed) => Err(AllocFailed {
+            value: failed.value.1,
+        }),
     }
 }
 

@@ -9,7 +9,9 @@ ghost use Rattle.jsonptr_journal.specs.Changes.{IsThere, HasAt, HasMember, HasEl
 ghost use Rattle.jsonptr_journal.specs.Rooms.{LeavesRoom, LeavesElementRoom};
 ghost use Rattle.jsonptr_journal.specs.Undoing.{IsRemoval};
 
-use crate::addition::{Addition, overwrite, remove_element, remove_member, restore, undo_addition};
+use crate::addition::{
+    Addition, delete_element, delete_member, replace_node, restore, undo_addition,
+};
 use crate::elements::put_back;
 use crate::location::{Location, Part};
 use crate::members;
@@ -72,7 +74,18 @@ pub struct Taken {
 /// # Errors
 ///
 /// [`AllocError`] if an allocation fails. The document is unchanged.
-pub fn take<D: NodeMut>(
+///
+/// # Examples
+///
+/// ```rust
+/// let mut document = json!(in alloc; [3, 5])?;
+/// let first = locate(alloc, &document, Pointer::parse("/0")?)?.location;
+/// let Taken { value, removal } = remove(alloc, &mut document, first)?;
+/// assert_eq!(rt; document.to_string(alloc)?.as_str(), "[5]");
+/// undo_removal(alloc, &mut document, removal, value);
+/// assert_eq!(rt; document.to_string(alloc)?.as_str(), "[3,5]");
+/// ```
+pub fn remove<D: NodeMut>(
     alloc: Global,
     document: &mut D,
     location: Location,
@@ -86,25 +99,25 @@ pub fn take<D: NodeMut>(
 {
     match location.split_last() {
         None => {
-            let value = overwrite(document, &Location::root(alloc), Value::Null);
+            let value = replace_node(document, &Location::root(alloc), Value::Null);
             Ok(Taken {
                 value,
                 removal: Removal::Root,
             })
         }
         Some((parent, last)) => match last {
-            Part::Key(key) => take_member(alloc, document, parent, key),
-            Part::Index(index) => take_element(alloc, document, parent, index),
+            Part::Key(key) => remove_member(alloc, document, parent, key),
+            Part::Index(index) => remove_element(alloc, document, parent, index),
         },
     }
 }
 
-/// Removes the member from the object at the location, as [`take`] does.
+/// Removes the member from the object at the location, as [`remove`] does.
 ///
 /// # Errors
 ///
-/// Those of [`take`].
-fn take_member<D: NodeMut>(
+/// Those of [`remove`].
+fn remove_member<D: NodeMut>(
     alloc: Global,
     document: &mut D,
     object: Location,
@@ -129,12 +142,12 @@ fn take_member<D: NodeMut>(
     })
 }
 
-/// Removes the element from the array at the location, as [`take`] does.
+/// Removes the element from the array at the location, as [`remove`] does.
 ///
 /// # Errors
 ///
-/// Those of [`take`].
-pub(crate) fn take_element<D: NodeMut>(
+/// Those of [`remove`].
+pub(crate) fn remove_element<D: NodeMut>(
     alloc: Global,
     document: &mut D,
     array: Location,
@@ -158,19 +171,29 @@ pub(crate) fn take_element<D: NodeMut>(
     })
 }
 
-/// Removes the node at the location, and returns it. Removing the root leaves `null`.
+/// Removes the node at the location, as [`remove`] does, and returns it. Nothing undoes it.
 ///
-/// Needs no allocation, and nothing undoes it.
-pub fn remove<D: NodeMut>(alloc: Global, document: &mut D, location: Location) -> Value
+/// Needs no allocation.
+///
+/// # Examples
+///
+/// ```rust
+/// let mut document = json!(in alloc; [3, 5])?;
+/// let first = locate(alloc, &document, Pointer::parse("/0")?)?.location;
+/// let value = remove_last(alloc, &mut document, first);
+/// assert_eq!(rt; value.as_u64(), Some(3));
+/// assert_eq!(rt; document.to_string(alloc)?.as_str(), "[5]");
+/// ```
+pub fn remove_last<D: NodeMut>(alloc: Global, document: &mut D, location: Location) -> Value
     requires { IsThere (path_of location) (D.contents document.old) }
     ensures { TakesAt (path_of location) (contents_of result)
         (D.contents document.old) (D.contents document.new) }
 {
     match location.split_last() {
-        None => overwrite(document, &Location::root(alloc), Value::Null),
+        None => replace_node(document, &Location::root(alloc), Value::Null),
         Some((parent, last)) => match last {
-            Part::Key(key) => remove_member(document, &parent, key.as_str()),
-            Part::Index(index) => remove_element(document, &parent, index),
+            Part::Key(key) => delete_member(document, &parent, key.as_str()),
+            Part::Index(index) => delete_element(document, &parent, index),
         },
     }
 }
@@ -180,6 +203,17 @@ pub fn remove<D: NodeMut>(alloc: Global, document: &mut D, location: Location) -
 ///
 /// [`Removal::Blank`] undoes it. The node is to be removed later, when nothing can fail any more.
 /// Needs no allocation.
+///
+/// # Examples
+///
+/// ```rust
+/// let mut document = json!(in alloc; [3, 5])?;
+/// let location = locate(alloc, &document, Pointer::parse("/0")?)?.location;
+/// let value = blank(&mut document, &location).ok_or("a value")?;
+/// assert_eq!(rt; document.to_string(alloc)?.as_str(), "[null,5]");
+/// undo_removal(alloc, &mut document, Removal::Blank { location }, value);
+/// assert_eq!(rt; document.to_string(alloc)?.as_str(), "[3,5]");
+/// ```
 pub fn blank<D: NodeMut>(document: &mut D, location: &Location) -> Option<Value>
     ensures { MatchOption result
         ((content_at (path_of location.now) (D.contents document.old) ≡ None)
@@ -203,7 +237,7 @@ pub fn undo_removal<D: NodeMut>(alloc: Global, document: &mut D, removal: Remova
         → D.contents document.new ≡ c }
 {
     match removal {
-        Removal::Root => drop(overwrite(document, &Location::root(alloc), value)),
+        Removal::Root => drop(replace_node(document, &Location::root(alloc), value)),
         Removal::Blank { location } => undo_blank(document, location, value),
         Removal::BlankAt { path } => restore(document, &path, value),
         Removal::Member { object, key, room } => undo_member(document, &object, key, value, room),

@@ -54,7 +54,11 @@ fn element_in(at: &Value, token: &Token<'_>) -> Option<usize>
 
 /// Returns the child that the token at the offset names, or the value itself after the last token.
 ///
-/// The pointer has no `~`.
+/// The pointer has no `~`. Needs no allocation.
+///
+/// # Errors
+///
+/// [`TokenError`] with the offset, if the token there names no child. The value is unchanged.
 pub fn token_step<'v>(
     at: &'v mut Value,
     pointer: &PointerBuf,

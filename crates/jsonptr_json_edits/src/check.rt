@@ -38,7 +38,7 @@ pub fn is_edited(
     match check(buffers, old, new, at) {
         Ok(()) => Ok(true),
         Err(CheckError::Mismatch) => Ok(false),
-        Err(CheckError::Memory) => Err(AllocError),
+        Err(CheckError::Memory(error)) => Err(error),
     }
 }
 

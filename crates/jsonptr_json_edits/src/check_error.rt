@@ -9,7 +9,7 @@ pub enum CheckError {
     /// They differ in another way, or one of them is not JSON.
     Mismatch,
     /// An allocation failed.
-    Memory,
+    Memory(AllocError),
 }
 
 impl From<Invalid> for CheckError {
@@ -27,9 +27,9 @@ impl From<AllocError> for CheckError {
     ghost use Rattle.std.specs.Prelude.{◌≡◌};
     ghost use Rattle.jsonptr_json_edits.specs.declared.check_error.CheckError.TheVariants.{Memory};
 
-    ghost from_gives = { λ _ error. error ≡ Memory };
+    ghost from_gives = { λ error fault. fault ≡ Memory error };
 
-    fn from(_error: AllocError) -> CheckError {
-        CheckError::Memory
+    fn from(error: AllocError) -> CheckError {
+        CheckError::Memory(error)
     }
 }

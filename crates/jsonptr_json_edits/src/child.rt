@@ -131,7 +131,7 @@ fn is_some_value(scratch: &mut Scratch, text: &str) -> Result<bool, AllocError>
     match pass(scratch, text) {
         Ok(()) => Ok(is_trimmed(text)),
         Err(CheckError::Mismatch) => Ok(false),
-        Err(CheckError::Memory) => Err(AllocError),
+        Err(CheckError::Memory(error)) => Err(error),
     }
 }
 
@@ -141,6 +141,14 @@ fn is_some_value(scratch: &mut Scratch, text: &str) -> Result<bool, AllocError>
 /// # Errors
 ///
 /// [`AllocError`] if there is no memory for the unescaped strings of a text.
+///
+/// # Examples
+///
+/// ```rust
+/// let mut buffers = Buffers::new(alloc);
+/// assert!(rt; is_value_of(&mut buffers, "[1,2]", "[1, 2]")?);
+/// assert!(rt; !is_value_of(&mut buffers, " 1", "1")? && !is_value_of(&mut buffers, "1.0", "1")?);
+/// ```
 pub fn is_value_of(buffers: &mut Buffers, text: &str, other: &str) -> Result<bool, AllocError>
     ensures value { IfOk result (λ b. IsTrue b → (e : Data) × (read other.now ≡ Some e)
         × IsValueText e text.now) }
@@ -150,7 +158,7 @@ pub fn is_value_of(buffers: &mut Buffers, text: &str, other: &str) -> Result<boo
     match pass_both(buffers, text, other) {
         Ok(()) => Ok(is_trimmed(text)),
         Err(CheckError::Mismatch) => Ok(false),
-        Err(CheckError::Memory) => Err(AllocError),
+        Err(CheckError::Memory(error)) => Err(error),
     }
 }
 

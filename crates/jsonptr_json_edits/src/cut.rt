@@ -19,6 +19,14 @@ pub struct Cut<'t> {
 
 /// Cuts the text at the two offsets. Returns `None` if they are not in order, or not between
 /// characters.
+///
+/// # Examples
+///
+/// ```rust
+/// let cut = cut_at("[1, 2]", 1, 2).ok_or("a cut")?;
+/// assert_eq!(rt; (cut.before, cut.was, cut.after), ("[", "1", ", 2]"));
+/// assert!(rt; cut_at("[1]", 2, 1).is_none());
+/// ```
 pub fn cut_at(text: &str, from: usize, to: usize) -> Option<Cut<'_>>
     ensures { IfSome result (λ c. c.text.now ≡ text.now) }
 {
@@ -38,6 +46,13 @@ pub fn cut_at(text: &str, from: usize, to: usize) -> Option<Cut<'_>>
 /// # Errors
 ///
 /// [`AllocError`] if there is no memory for the new text.
+///
+/// # Examples
+///
+/// ```rust
+/// let cut = cut_at("[1, 2]", 1, 2).ok_or("a cut")?;
+/// assert_eq!(rt; splice(alloc, &cut, "true")?.as_str(), "[true, 2]");
+/// ```
 pub fn splice(alloc: Global, cut: &Cut<'_>, piece: &str) -> Result<String, AllocError>
     ensures { IfOk result
         (λ new. string_bytes new ≡ cut.now.before.now ++ (piece.now ++ cut.now.after.now)) }

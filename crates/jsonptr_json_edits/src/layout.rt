@@ -28,6 +28,14 @@ pub struct ValueText {
 /// # Errors
 ///
 /// [`AllocError`] if an allocation fails.
+///
+/// # Examples
+///
+/// ```rust
+/// let text = text_of_value(alloc, &Value::from_str(alloc, "[1,2]")?)?;
+/// assert_eq!(rt; text.flat.as_str(), "[1,2]");
+/// assert_eq!(rt; text.lines.as_str(), "[\n  1,\n  2\n]");
+/// ```
 pub fn text_of_value(alloc: Global, value: &Value) -> Result<ValueText, AllocError>
     ensures { IfOk result (λ text. depth (view value.now) ≤ max_depth
         → read (string_bytes text.flat) ≡ Some (view value.now)) }
@@ -477,6 +485,12 @@ fn space_before(text: &str, offset: usize) -> &str {
 
 /// Returns the text from one offset to another, or an empty text if they are not in order or not
 /// between characters.
+///
+/// # Examples
+///
+/// ```rust
+/// assert_eq!(rt; (slice("[1, 2]", 1, 2), slice("[1]", 2, 1)), ("1", ""));
+/// ```
 pub fn slice(text: &str, from: usize, to: usize) -> &str {
     text.get(from..to).unwrap_or("")
 }

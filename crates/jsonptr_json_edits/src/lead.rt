@@ -44,7 +44,7 @@ pub fn leads_to(buffers: &mut Buffers, text: &str, target: Route<'_>) -> Result<
     match check(buffers, text, target) {
         Ok(()) => Ok(true),
         Err(CheckError::Mismatch) => Ok(false),
-        Err(CheckError::Memory) => Err(AllocError),
+        Err(CheckError::Memory(error)) => Err(error),
     }
 }
 

@@ -21,3 +21,4 @@ mod same;
 pub mod spacing;
 mod spread;
 mod style;
+pub mod token;

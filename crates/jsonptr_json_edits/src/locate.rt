@@ -7,7 +7,7 @@ use crate::spacing::is_space;
 use json::{Reader, Scratch, Token};
 use jsonptr_json_search::scalar::is_scalar;
 use jsonptr_json_search::selector::Selector;
-use jsonptr_value::{MAX_DEPTH, ReadError};
+use jsonptr_value::{MAX_DEPTH, ReadError, if_json};
 use std::alloc::{AllocError, Global};
 
 /// Where something begins and ends in a text, in bytes.
@@ -48,13 +48,44 @@ pub struct Extent {
 /// # Errors
 ///
 /// [`AllocError`] if an allocation fails.
+///
+/// # Examples
+///
+/// ```rust
+/// let mut buffers = Buffers::new(alloc);
+/// let selectors = vec![in alloc; Selector { key: String::new(alloc), index: Some(1) }]?;
+/// let place = place_of(alloc, &mut buffers, "[1, 2.0]", &selectors)?.ok_or("a place")?;
+/// assert_eq!(rt; (place.value.from, place.value.to, place.followed), (4, 7, 1));
+/// ```
 pub fn place_of(
     alloc: Global,
     buffers: &mut Buffers,
     text: &str,
     selectors: &[Selector],
 ) -> Result<Option<Place>, AllocError> {
-    or_none(locate(alloc, &mut buffers.old, text, selectors))
+    if_json(locate(alloc, &mut buffers.old, text, selectors))
+}
+
+/// Returns where all of the selectors lead in the text, or `None` if they lead to no value or the text is
+/// not JSON.
+///
+/// # Errors
+///
+/// [`AllocError`] if an allocation fails.
+pub fn place_at(
+    alloc: Global,
+    buffers: &mut Buffers,
+    text: &str,
+    selectors: &[Selector],
+) -> Result<Option<Place>, AllocError> {
+    let Some(place) = place_of(alloc, buffers, text, selectors)? else {
+        return Ok(None);
+    };
+    if place.followed == selectors.len() {
+        Ok(Some(place))
+    } else {
+        Ok(None)
+    }
 }
 
 /// Returns where the children of the array or object at the span are, or `None` if it is neither.
@@ -62,22 +93,22 @@ pub fn place_of(
 /// # Errors
 ///
 /// [`AllocError`] if an allocation fails.
+///
+/// # Examples
+///
+/// ```rust
+/// let mut buffers = Buffers::new(alloc);
+/// let whole = Span { from: 0, to: 8 };
+/// let children = children_of(alloc, &mut buffers, r#"{"a": 1}"#, whole)?.ok_or("an object")?;
+/// assert_eq!(rt; (children[0].child.from, children[0].child.to, children[0].value), (1, 7, 6));
+/// ```
 pub fn children_of(
     alloc: Global,
     buffers: &mut Buffers,
     text: &str,
     span: Span,
 ) -> Result<Option<Vec<Extent>>, AllocError> {
-    or_none(children(alloc, &mut buffers.old, text, span))
-}
-
-/// Returns what was found, or `None` in a text that is not JSON.
-fn or_none<T: Drop>(found: Result<T, ReadError>) -> Result<Option<T>, AllocError> {
-    match found {
-        Ok(found) => Ok(Some(found)),
-        Err(ReadError::NotJson) => Ok(None),
-        Err(ReadError::Memory) => Err(AllocError),
-    }
+    if_json(children(alloc, &mut buffers.old, text, span))
 }
 
 /// Returns where the selectors lead in the text, as far as they do.
@@ -320,6 +351,12 @@ fn keep(extents: &mut Vec<Extent>, extent: Extent) -> Result<(), AllocError> {
 
 /// Returns where the value before the next token ends. White space, a comma and more white space
 /// may be between the two.
+///
+/// # Examples
+///
+/// ```rust
+/// assert_eq!(rt; end_of_value(b"[1 , 2]", 5), 2);
+/// ```
 pub fn end_of_value(bytes: &[u8], next: usize) -> usize {
     let end = trimmed_end(bytes, next);
     if end > 0 && bytes.get(end - 1) == Some(&b',') {
@@ -330,6 +367,12 @@ pub fn end_of_value(bytes: &[u8], next: usize) -> usize {
 }
 
 /// Returns where the white space before the offset begins.
+///
+/// # Examples
+///
+/// ```rust
+/// assert_eq!(rt; trimmed_end(b"[1  ]", 4), 2);
+/// ```
 pub fn trimmed_end(bytes: &[u8], offset: usize) -> usize {
     let mut end = offset;
     'spaces: while end > 0 && bytes.get(end - 1).is_some_and(|byte| is_space(*byte)) {

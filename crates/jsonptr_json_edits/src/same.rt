@@ -1,5 +1,5 @@
 //! Reading the same value in two texts.
-ghost use Rattle.std.specs.Prelude.{◌≡◌, ◌<◌, ◌∷◌, ◌++◌, length, Some, OnOk, IfOk, IsTrue};
+ghost use Rattle.std.specs.Prelude.{◌≡◌, ◌<◌, ◌∷◌, ◌++◌, length, Some, OnOk, IfOk};
 ghost use Rattle.json.specs.Json.{read_key};
 ghost use Rattle.json.specs.Lex.{tokens};
 ghost use Rattle.json.specs.Reads.{token_of};
@@ -9,6 +9,7 @@ ghost use Rattle.jsonptr_json_search.specs.Reading.{ReadsTokens, ReadsItems, Rea
 ghost use Rattle.jsonptr_json_edits.specs.Alike.{AreAlike};
 
 use crate::check_error::CheckError;
+use crate::token::is_same;
 use json::{Invalid, Reader, Scratch, Token};
 use jsonptr_json_search::scalar::is_scalar;
 use jsonptr_value::MAX_DEPTH;
@@ -162,7 +163,7 @@ pub fn same_token<'a>(one: &mut Reader<'a>, two: &mut Reader<'_>) -> Result<Toke
 {
     let token = one.next().ok_or(Invalid)?;
     let twin = two.next().ok_or(Invalid)?;
-    if are_same(token, twin) {
+    if is_same(token, twin) {
         Ok(token)
     } else {
         Err(Invalid)
@@ -180,23 +181,4 @@ pub fn same_key(reader: &mut Reader<'_>, key: &str) -> Result<(), Invalid>
 {
     let name = reader.next_key()?.ok_or(Invalid)?;
     if name == key { Ok(()) } else { Err(Invalid) }
-}
-
-/// Returns whether the tokens are equal.
-#[inline(always)]
-fn are_same(token: Token<'_>, twin: Token<'_>) -> bool
-    ensures { IsTrue result → token_of twin.entry ≡ token_of token.entry }
-{
-    match (token, twin) {
-        (Token::Key(text), Token::Key(other)) => text == other,
-        (Token::String(text), Token::String(other)) => text == other,
-        (Token::Number(text), Token::Number(other)) => text == other,
-        (Token::Bool(value), Token::Bool(other)) => value == other,
-        (Token::BeginObject, Token::BeginObject) => true,
-        (Token::EndObject, Token::EndObject) => true,
-        (Token::BeginArray, Token::BeginArray) => true,
-        (Token::EndArray, Token::EndArray) => true,
-        (Token::Null, Token::Null) => true,
-        _ => false,
-    }
 }

@@ -4,6 +4,12 @@ ghost use Rattle.json.specs.Word.{is_space as is_json_space};
 ghost use Rattle.jsonptr_json_edits.specs.Spacing.{IsBlank, IsSpaced, IsTrimmed};
 
 /// Returns whether the byte is white space.
+///
+/// # Examples
+///
+/// ```rust
+/// assert!(rt; is_space(b'\n') && !is_space(b','));
+/// ```
 pub fn is_space(byte: u8) -> bool
     ensures { result ≡ is_json_space byte }
 {
@@ -11,6 +17,12 @@ pub fn is_space(byte: u8) -> bool
 }
 
 /// Returns whether the text is white space alone.
+///
+/// # Examples
+///
+/// ```rust
+/// assert!(rt; is_blank("") && is_blank(" \t\r\n") && !is_blank(" ,"));
+/// ```
 pub fn is_blank(text: &str) -> bool
     ensures { IsTrue result → IsBlank text.now }
 {
@@ -18,6 +30,12 @@ pub fn is_blank(text: &str) -> bool
 }
 
 /// Returns whether the bytes are white space alone.
+///
+/// # Examples
+///
+/// ```rust
+/// assert!(rt; are_blank(b" \t") && !are_blank(b" ,"));
+/// ```
 pub fn are_blank(bytes: &[u8]) -> bool
     ensures blank { IsTrue result → IsBlank bytes.now }
     ensures filled { result ≡ false → IsBlank bytes.now → ⊥ }
@@ -26,6 +44,12 @@ pub fn are_blank(bytes: &[u8]) -> bool
 }
 
 /// Returns whether the text is a comma with white space around it.
+///
+/// # Examples
+///
+/// ```rust
+/// assert!(rt; is_comma(" ,\n") && !is_comma(" ") && !is_comma(",,"));
+/// ```
 pub fn is_comma(text: &str) -> bool
     ensures { IsTrue result → IsSpaced 44 text.now }
 {
@@ -36,6 +60,12 @@ pub fn is_comma(text: &str) -> bool
 }
 
 /// Returns whether the text is a colon with white space around it.
+///
+/// # Examples
+///
+/// ```rust
+/// assert!(rt; is_colon(" : ") && !is_colon(" "));
+/// ```
 pub fn is_colon(text: &str) -> bool
     ensures { IsTrue result → IsSpaced 58 text.now }
 {
@@ -46,6 +76,12 @@ pub fn is_colon(text: &str) -> bool
 }
 
 /// Returns whether the text neither begins nor ends with white space.
+///
+/// # Examples
+///
+/// ```rust
+/// assert!(rt; is_trimmed("[ 1 ]") && !is_trimmed(" 1"));
+/// ```
 pub fn is_trimmed(text: &str) -> bool
     ensures { IsTrue result → IsTrimmed text.now }
 {

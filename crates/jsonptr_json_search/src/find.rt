@@ -25,6 +25,16 @@ use std::alloc::Global;
 ///
 /// [`ReadError::NotJson`] if `serde_json` does not read the text, and [`ReadError::Memory`] if an
 /// allocation fails.
+///
+/// # Examples
+///
+/// ```rust
+/// let selectors = vec![in alloc; Selector { key: String::from_str(alloc, "a")?, index: None }]?;
+/// let found = find_in_text(alloc, r#"{"a": [1, 2]}"#, &selectors)?;
+/// assert!(rt; matches!(found, Outcome::Found(Value::Array(_))));
+/// let stopped = find_in_text(alloc, "[1, 2]", &selectors)?;
+/// assert!(rt; matches!(stopped, Outcome::Stopped { left: 1, kind: Kind::Array(2) }));
+/// ```
 pub fn find_in_text(alloc: Global, text: &str, selectors: &[Selector]) -> Result<Outcome, ReadError>
     ensures found { IfOk result (λ o. (d : Data) × (spec_read text.now ≡ Some d)
         × IsOutcome d (choices selectors.now) o) }
@@ -43,6 +53,16 @@ pub fn find_in_text(alloc: Global, text: &str, selectors: &[Selector]) -> Result
 /// # Errors
 ///
 /// As [`find_in_text`].
+///
+/// # Examples
+///
+/// ```rust
+/// let mut scratch = Scratch::new(alloc);
+/// for text in ["1", "2"] {
+///     let found = find_in_text_with(alloc, &mut scratch, text, &[])?;
+///     assert!(rt; matches!(found, Outcome::Found(Value::Number(_))));
+/// }
+/// ```
 pub fn find_in_text_with(
     alloc: Global,
     scratch: &mut Scratch,

@@ -18,6 +18,17 @@ use std::alloc::Global;
 ///
 /// [`ReadError::NotJson`] if `serde_json` does not read the value, and [`ReadError::Memory`] if an
 /// allocation fails.
+///
+/// # Examples
+///
+/// ```rust
+/// let mut scratch = Scratch::new(alloc);
+/// let mut reader = Reader::new(r#"[1, {"a": 2}]"#, &mut scratch)?;
+/// assert!(rt; reader.next().is_some());
+/// assert_eq!(rt; read::read(alloc, &mut reader, 1)?.as_u64(), Some(1));
+/// let second = read::read(alloc, &mut reader, 1)?;
+/// assert_eq!(rt; second.to_string(alloc)?.as_str(), r#"{"a":2}"#);
+/// ```
 #[cycle(read)]
 #[inline(always)]
 pub fn read(alloc: Global, reader: &mut Reader<'_>, depth: usize) -> Result<Value, ReadError>

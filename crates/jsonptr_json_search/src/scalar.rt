@@ -8,6 +8,16 @@ use crate::number::parse;
 use json::Token;
 
 /// Returns whether the token is a whole value that `serde_json` reads.
+///
+/// # Examples
+///
+/// ```rust
+/// let mut scratch = Scratch::new(alloc);
+/// let mut reader = Reader::new("[null, 1e999]", &mut scratch)?;
+/// for expected in [false, true, false] {
+///     assert_eq!(rt; reader.next().map(|token| is_scalar(token)), Some(expected));
+/// }
+/// ```
 #[tactic(auto, using(crate::proofs::ReadingLemmas::mapped_is_some))]
 #[inline(always)]
 pub fn is_scalar(token: Token<'_>) -> bool

@@ -11,6 +11,16 @@ use json::{Invalid, Reader, Token};
 /// # Errors
 ///
 /// [`Invalid`] if `serde_json` does not read the value.
+///
+/// # Examples
+///
+/// ```rust
+/// let mut scratch = Scratch::new(alloc);
+/// let mut reader = Reader::new("[[1], 2]", &mut scratch)?;
+/// assert!(rt; reader.next().is_some());
+/// assert!(rt; skip::skip(&mut reader, 1).is_ok());
+/// assert_eq!(rt; read::read(alloc, &mut reader, 0)?.as_u64(), Some(2));
+/// ```
 #[cycle(skip)]
 #[inline(always)]
 pub fn skip(reader: &mut Reader<'_>, depth: usize) -> Result<(), Invalid>

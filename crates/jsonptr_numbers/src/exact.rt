@@ -3,7 +3,7 @@ ghost use Rattle.std.specs.Prelude.{◌≡◌, Some, IfOk, IfErr};
 ghost use Rattle.serde_json.specs.Read.{read};
 ghost use Rattle.serde_json.specs.View.{view};
 ghost use Rattle.jsonptr_numbers.specs.Digits.{KeepsDigits};
-ghost use Rattle.jsonptr_numbers.specs.Exact.{IsExactError};
+ghost use Rattle.jsonptr_numbers.specs.Exact.{IsExactError, exact_of_read};
 ghost use Rattle.jsonptr_numbers.specs.declared.exact.ExactError.TheVariants.{Memory};
 
 use crate::find::find_lost;
@@ -35,6 +35,17 @@ impl From<AllocError> for ExactError {
     }
 }
 
+impl From<ReadError> for ExactError {
+    ghost from_gives = { λ error fault. fault ≡ exact_of_read error };
+
+    fn from(error: ReadError) -> ExactError {
+        match error {
+            ReadError::NotJson => ExactError::NotJson,
+            ReadError::Memory(error) => ExactError::Memory(error),
+        }
+    }
+}
+
 /// Reads a document, each number of which keeps its decimal value.
 ///
 /// # Errors
@@ -57,11 +68,7 @@ pub fn read_exactly(alloc: Global, text: &str) -> Result<Value, ExactError>
     ensures digits { IfOk result (λ _. KeepsDigits text.now) }
     ensures refused { IfErr result (IsExactError text.now) }
 {
-    let value = match jsonptr_value::read(alloc, text) {
-        Ok(value) => value,
-        Err(ReadError::NotJson) => return Err(ExactError::NotJson),
-        Err(ReadError::Memory) => return Err(ExactError::Memory(AllocError)),
-    };
+    let value = jsonptr_value::read(alloc, text)?;
     match find_lost(alloc, text)? {
         Some(lost) => Err(ExactError::Lost(lost)),
         None => Ok(value),

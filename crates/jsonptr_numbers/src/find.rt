@@ -11,7 +11,7 @@ use crate::lost::Lost;
 use crate::path::{Found, path_of_first_lost};
 use json::{Reader, Scratch, Token};
 use jsonptr::{Fault, PointerBuf};
-use jsonptr_value::{ReadError, is_same_number};
+use jsonptr_value::{if_json, is_same_number};
 use serde_json::Value;
 use std::alloc::{AllocError, Global};
 
@@ -110,11 +110,7 @@ fn checked_pointer(
 fn read_text(alloc: Global, text: &str) -> Result<Option<Value>, AllocError>
     ensures { IfOk result (λ o. IfSome o (λ v. read text.now ≡ Some (view v))) }
 {
-    match jsonptr_value::read(alloc, text) {
-        Ok(value) => Ok(Some(value)),
-        Err(ReadError::Memory) => Err(AllocError),
-        Err(ReadError::NotJson) => Ok(None),
-    }
+    if_json(jsonptr_value::read(alloc, text))
 }
 
 /// Returns whether the pointer resolves to the number in the document.

@@ -16,7 +16,7 @@ use crate::target::no_target;
 use crate::turn::Turn;
 use jsonptr::{Fault, Pointer, Token, assign, resolve};
 use jsonptr_document::document::{Document, Node};
-use jsonptr_journal::addition::{Target, insert};
+use jsonptr_journal::addition::{self, Target};
 use jsonptr_journal::journal::Journal;
 use jsonptr_journal::locate::locate;
 use jsonptr_value::discard;
@@ -81,10 +81,10 @@ pub fn add_last(
             return Err(fault);
         }
     };
-    match insert(turn.alloc, document, place, value) {
+    match addition::add_last(turn.alloc, document, place, value) {
         Ok(()) => Ok(()),
-        Err(value) => {
-            discard(value);
+        Err(failed) => {
+            discard(failed.value);
             Err(Fault::Memory(AllocError))
         }
     }

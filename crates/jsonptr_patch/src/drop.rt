@@ -24,7 +24,7 @@ fn is_small(value: &Value) -> bool {
 /// Returns whether no element has children.
 fn are_leaves(elements: &Vec<Value>) -> bool {
     for element in elements {
-        if !is_leaf(element) {
+        if !is_scalar(element) {
             return false;
         }
     }
@@ -34,7 +34,7 @@ fn are_leaves(elements: &Vec<Value>) -> bool {
 /// Returns whether no member has children.
 fn have_leaves(members: &Map<String, Value>) -> bool {
     for (_key, member) in members.iter() {
-        if !is_leaf(member) {
+        if !is_scalar(member) {
             return false;
         }
     }
@@ -42,7 +42,7 @@ fn have_leaves(members: &Map<String, Value>) -> bool {
 }
 
 /// Returns whether the value is neither an array nor an object.
-fn is_leaf(value: &Value) -> bool {
+fn is_scalar(value: &Value) -> bool {
     match value {
         Value::Array(_) => false,
         Value::Object(_) => false,

@@ -31,9 +31,8 @@ use crate::target::target;
 use crate::turn::{Run, Turn};
 use jsonptr::{Fault, Pointer, PointerBuf, Token};
 use jsonptr_journal::addition::Target;
-use jsonptr_journal::journal::Journal;
 use jsonptr_journal::location::Location;
-use jsonptr_journal::removal::{Taken, take, undo_removal};
+use jsonptr_journal::removal::{Taken, remove, undo_removal};
 use serde_json::Value;
 use std::alloc::{AllocError, Global};
 
@@ -98,6 +97,17 @@ pub fn apply_with_inverse(
 /// They contain no test. So [`apply`](crate::apply) takes the patch back, however its tests compare
 /// numbers.
 ///
+/// ```rust
+/// let mut document = json!(in alloc; [1])?;
+/// let path = PointerBuf::from_text(alloc, "/0")?;
+/// let value = json!(in alloc; 1.0)?;
+/// let test = Operation::Test { path: path.clone()?, value };
+/// let patch = vec![in alloc; test, Operation::Remove { path }]?;
+/// let back = apply_comparing_with_inverse(alloc, &mut document, patch, Comparison::Numeric)?;
+/// apply(alloc, &mut document, back)?;
+/// assert_eq!(rt; document.to_string(alloc)?.as_str(), "[1]");
+/// ```
+///
 /// # Errors
 ///
 /// Those of [`apply_comparing`](crate::apply_comparing). The document is unchanged.
@@ -123,16 +133,8 @@ pub fn apply_comparing_with_inverse(
     if patch.is_empty() {
         return Ok(Vec::new(alloc));
     }
-    let first = Turn {
-        alloc,
-        comparison,
-        number: 0,
-    };
-    let journal = Journal::new(alloc);
-    let mut run = Run {
-        journal,
-        later: Vec::new(alloc),
-    };
+    let first = Turn::first(alloc, comparison);
+    let mut run = Run::new(alloc);
     match record_with_inverse(first, document, &mut run, patch) {
         Ok(back) => {
             run.journal.discard();
@@ -549,7 +551,7 @@ fn back_in_left(
         × RefusesAdd (map_of left) turn.number (tokens path.entry) e) }
     ensures unchanged { view document.new ≡ view document.old }
 {
-    let Taken { value, removal } = take(turn.alloc, document, location)?;
+    let Taken { value, removal } = remove(turn.alloc, document, location)?;
     let back = back_of_add(turn, document, path);
     undo_removal(turn.alloc, document, removal, value);
     back

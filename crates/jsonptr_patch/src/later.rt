@@ -317,7 +317,7 @@ pub fn take_place(
         → IsPending (nodes (view document.now)) later.old.items n
         → (k : NodeMap) × IsPending (nodes (view document.now)) later.new.items k
         × Frees k n operation.now }
-    ensures unchanged { IsFalse result → later.new.items ≡ later.old.items }
+    ensures not_taken { IsFalse result → later.new.items ≡ later.old.items }
     ensures empty { later.old.items ≡ [] → later.new.items ≡ [] }
 {
     let Some(index) = replaced(alloc, document, later.as_slice(), operation) else {
@@ -405,7 +405,7 @@ fn unlink_one(alloc: Global, document: &mut Value, one: Later)
 {
     let Later { path, location } = one;
     match location {
-        Some(location) => discard_small(removal::remove(alloc, document, location)),
+        Some(location) => discard_small(removal::remove_last(alloc, document, location)),
         None => delete_plain(alloc, document, path.as_ptr()),
     }
 }

@@ -19,13 +19,13 @@ use crate::operation::PatchError;
 use crate::target::target;
 use crate::turn::Turn;
 use jsonptr::{Fault, Pointer};
-use jsonptr_journal::addition::{Addition, add, insert};
+use jsonptr_journal::addition::{Addition, add, add_last};
 use jsonptr_journal::journal::{Entry, Journal};
 use jsonptr_journal::location::Location;
-use jsonptr_journal::removal::{Removal, Taken, blank, remove, take, undo_removal};
+use jsonptr_journal::removal::{Removal, Taken, blank, remove, remove_last, undo_removal};
 use jsonptr_value::discard;
 use serde_json::Value;
-use std::alloc::{AllocError, Global};
+use std::alloc::{AllocError, AllocFailed, Global};
 
 /// Removes the value at `from` and adds it at `path`, for the operation of this turn.
 ///
@@ -128,9 +128,9 @@ fn move_member(
     let Some(value) = blank(document, &location) else {
         return move_any(turn, document, from, path);
     };
-    match insert_taken(turn, document, path, value) {
+    match add_taken_last(turn, document, path, value) {
         Ok(()) => {
-            discard(remove(turn.alloc, document, location));
+            discard(remove_last(turn.alloc, document, location));
             Ok(())
         }
         Err(AddError { value, fault }) => {
@@ -167,7 +167,7 @@ fn moved(
         }));
     }
     let location = target(turn, document, from)?;
-    let Taken { value, removal } = take(turn.alloc, document, location)?;
+    let Taken { value, removal } = remove(turn.alloc, document, location)?;
     match add_taken(turn, document, path, value) {
         Ok(addition) => Ok(Entry::Moved(removal, addition)),
         Err(AddError { value, fault }) => {
@@ -184,6 +184,22 @@ pub struct AddError {
     pub value: Value,
     /// Why it could not be added.
     pub fault: Fault<PatchError>,
+}
+
+impl From<AllocFailed<Value>> for AddError {
+    ghost use Rattle.std.specs.Prelude.{◌≡◌};
+    ghost use Rattle.std.specs.declared.alloc.AllocError.{AllocError};
+    ghost use Rattle.jsonptr.specs.Types.Fault.TheVariants.{Memory};
+
+    ghost from_gives = { λ failed error. (error.value ≡ failed.value)
+        × ((e : AllocError) × (error.fault ≡ Memory e)) };
+
+    fn from(failed: AllocFailed<Value>) -> AddError {
+        AddError {
+            value: failed.value,
+            fault: Fault::Memory(AllocError),
+        }
+    }
 }
 
 /// Adds a value that was removed, and returns what undoes that.
@@ -211,13 +227,7 @@ pub fn add_taken(
     ensures unchanged { OnErr result (contents_of document.new ≡ contents_of document.old) }
 {
     match place(turn, document, path) {
-        Ok(place) => match add(turn.alloc, document, place, value) {
-            Ok(addition) => Ok(addition),
-            Err(value) => Err(AddError {
-                value,
-                fault: Fault::Memory(AllocError),
-            }),
-        },
+        Ok(place) => Ok(add(turn.alloc, document, place, value)?),
         Err(fault) => Err(AddError { value, fault }),
     }
 }
@@ -227,7 +237,7 @@ pub fn add_taken(
 /// # Errors
 ///
 /// Those of [`add_taken`]. The document is unchanged.
-fn insert_taken(
+fn add_taken_last(
     turn: Turn,
     document: &mut Value,
     path: Pointer<'_>,
@@ -243,13 +253,7 @@ fn insert_taken(
     ensures unchanged { OnErr result (contents_of document.new ≡ contents_of document.old) }
 {
     match place(turn, document, path) {
-        Ok(place) => match insert(turn.alloc, document, place, value) {
-            Ok(()) => Ok(()),
-            Err(value) => Err(AddError {
-                value,
-                fault: Fault::Memory(AllocError),
-            }),
-        },
+        Ok(place) => Ok(add_last(turn.alloc, document, place, value)?),
         Err(fault) => Err(AddError { value, fault }),
     }
 }

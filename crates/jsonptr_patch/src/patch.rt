@@ -124,16 +124,8 @@ pub fn apply_comparing(
     let Some(last) = operations.pop() else {
         return Ok(());
     };
-    let first = Turn {
-        alloc,
-        comparison,
-        number: 0,
-    };
-    let journal = Journal::new(alloc);
-    let mut run = Run {
-        journal,
-        later: Vec::new(alloc),
-    };
+    let first = Turn::first(alloc, comparison);
+    let mut run = Run::new(alloc);
     match apply_all(first, document, &mut run, operations, last) {
         Ok(()) => {
             run.journal.discard();

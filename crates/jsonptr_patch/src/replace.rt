@@ -138,7 +138,7 @@ pub fn replace_last(
     ensures unchanged { OnErr result (view document.new ≡ view document.old) }
     ensures no_memory { HasNoTilde (text (tokens path.entry)) → HasMemory result }
 {
-    match put(turn.alloc, document, path, value) {
+    match replace_resolved(turn.alloc, document, path, value) {
         Ok(old) => {
             discard(old);
             Ok(())
@@ -152,7 +152,7 @@ pub fn replace_last(
 /// # Errors
 ///
 /// Those of [`ResolveMut::resolve_mut`]. The document is unchanged, and the new value is dropped.
-fn put<D: ResolveMut>(
+fn replace_resolved<D: ResolveMut>(
     alloc: Global,
     document: &mut D,
     pointer: Pointer<'_>,

@@ -1,4 +1,7 @@
 //! What the operations of a patch are applied with, and what they leave.
+ghost use Rattle.std.specs.Prelude.{◌≡◌, []};
+ghost use Rattle.jsonptr.specs.Content.{Content};
+ghost use Rattle.jsonptr_journal.specs.Journal.{Undone};
 
 use crate::comparison::Comparison;
 use crate::later::Later;
@@ -16,6 +19,20 @@ pub struct Turn {
     pub number: usize,
 }
 
+impl Turn {
+    /// Returns the turn of the first operation.
+    pub fn first(alloc: Global, comparison: Comparison) -> Turn
+        ensures comparison { result.comparison ≡ comparison }
+        ensures number { result.number ≡ 0 }
+    {
+        Turn {
+            alloc,
+            comparison,
+            number: 0,
+        }
+    }
+}
+
 /// What the operations that were applied leave until the patch is applied whole.
 #[derive(Debug, Drop)]
 pub struct Run {
@@ -23,4 +40,17 @@ pub struct Run {
     pub journal: Journal,
     /// The nodes that are removed after all operations.
     pub later: Vec<Later>,
+}
+
+impl Run {
+    /// Returns the run before the first operation. It does not allocate.
+    pub fn new(alloc: Global) -> Run
+        ensures journal { (c : Content) → Undone result.journal c c }
+        ensures later { result.later.items ≡ [] }
+    {
+        Run {
+            journal: Journal::new(alloc),
+            later: Vec::new(alloc),
+        }
+    }
 }

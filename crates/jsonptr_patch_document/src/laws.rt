@@ -24,7 +24,7 @@ use jsonptr::laws::parse_law;
 
 /// States that an object is at most one operation, that at most one error reports why it is not an
 /// operation, and that it never is an operation and also has such an error.
-pub fn operation_law()
+pub fn operation_object_law()
     ensures one_operation { (d : Data) (o p : Operation)
         → IsOperationObject d o → IsOperationObject d p → IsSameOperation o p }
     ensures one_error { (d : Data) (k : ℕ) (e f : PatchDocumentError)
@@ -55,7 +55,7 @@ pub fn patch_document_law()
     ensures sorted { (d : Data) (os : List Operation)
         → HasSortedKeys d → IsPatch d os → All OperationHasSortedKeys os }
 {
-    operation_law();
+    operation_object_law();
 }
 
 /// States that what [`write_patch`](crate::write_patch) writes for a list of operations is the patch

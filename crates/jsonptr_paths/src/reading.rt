@@ -15,7 +15,7 @@ ghost use Rattle.jsonptr_paths.specs.declared.reading.LineError.TheVariants.{Not
 
 use jsonptr::{Fault, Pointer, PointerBuf, assign};
 use jsonptr_io::laws::lines_law;
-use jsonptr_value::{MAX_DEPTH, ReadError, depth_law, nests_within};
+use jsonptr_value::{MAX_DEPTH, ReadError, depth_law, if_json, nests_within};
 use serde_json::Value;
 use std::alloc::{AllocError, Global};
 use thiserror::Error;
@@ -196,13 +196,12 @@ fn quoted_pointer(alloc: Global, field: &str) -> Result<Option<PointerBuf>, Allo
         ((t : Text) → read field.now ≡ Some (string t) → IsPointer t → ⊥)
         (λ ts. read field.now ≡ Some (string (text ts)))) }
 {
-    match jsonptr_value::read(alloc, field) {
-        Ok(value) => match value.as_str() {
-            Some(text) => plain_pointer(alloc, text),
-            None => Ok(None),
-        },
-        Err(ReadError::NotJson) => Ok(None),
-        Err(ReadError::Memory) => Err(AllocError),
+    let Some(value) = if_json(jsonptr_value::read(alloc, field))? else {
+        return Ok(None);
+    };
+    match value.as_str() {
+        Some(text) => plain_pointer(alloc, text),
+        None => Ok(None),
     }
 }
 
@@ -215,6 +214,6 @@ fn value_of(alloc: Global, json: &str) -> Result<Value, Fault<LineError>>
     match jsonptr_value::read(alloc, json) {
         Ok(value) => Ok(value),
         Err(ReadError::NotJson) => Err(Fault::Refused(LineError::NotJson)),
-        Err(ReadError::Memory) => Err(Fault::Memory(AllocError)),
+        Err(ReadError::Memory(error)) => Err(Fault::Memory(error)),
     }
 }

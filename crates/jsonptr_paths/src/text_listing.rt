@@ -1,5 +1,5 @@
 //! The lines of the document of a JSON text.
-ghost use Rattle.std.specs.Prelude.{◌≡◌, ◌<◌, ◌^◌, List, [], ◌∷◌, length, Some, None, Err, IfOk, OnOk, string_bytes};
+ghost use Rattle.std.specs.Prelude.{◌≡◌, ◌<◌, ◌^◌, List, [], ◌∷◌, length, Some, None, Err, IfOk, IfErr, OnOk, string_bytes};
 ghost use Rattle.serde_json.specs.Data.{Data, Items, array, item, no_items};
 ghost use Rattle.serde_json.specs.Read.{read as spec_read};
 ghost use Rattle.serde_json.specs.View.{view};
@@ -7,6 +7,7 @@ ghost use Rattle.serde_json.specs.declared.value.Value.{Value};
 ghost use Rattle.jsonptr.specs.Text.{dec};
 ghost use Rattle.jsonptr_json_search.specs.Reading.{ReadsTokens, Unreadable, ReadsItems, UnreadableItems};
 ghost use Rattle.jsonptr_json_search.specs.PrivateReading.{with_items_before};
+ghost use Rattle.jsonptr_value.specs.Reading.{IsReadError};
 ghost use Rattle.jsonptr_value.specs.declared.from_text.ReadError.TheVariants.{NotJson};
 ghost use Rattle.jsonptr_paths.specs.Listing.{IsShown, Lists};
 ghost use Rattle.jsonptr_paths.specs.PrivateElements.{VisitsElements};
@@ -40,7 +41,7 @@ use std::alloc::{AllocError, Global};
 pub fn list_in_text(alloc: Global, text: &str, which: Listed) -> Result<String, ReadError>
     ensures listed { IfOk result (λ s. (d : Data) × (spec_read text.now ≡ Some d)
         × Lists which d (string_bytes s)) }
-    ensures refused { result ≡ Err NotJson → spec_read text.now ≡ None }
+    ensures refused { IfErr result (IsReadError text.now) }
 {
     let mut scratch = Scratch::new(alloc);
     let mut reader = Reader::new(text, &mut scratch)?;
@@ -60,7 +61,7 @@ pub fn list_in_text(alloc: Global, text: &str, which: Listed) -> Result<String, 
 fn list_value(alloc: Global, text: &str, which: Listed) -> Result<String, ReadError>
     ensures listed { IfOk result (λ s. (d : Data) × (spec_read text.now ≡ Some d)
         × Lists which d (string_bytes s)) }
-    ensures refused { result ≡ Err NotJson → spec_read text.now ≡ None }
+    ensures refused { IfErr result (IsReadError text.now) }
 {
     let document = jsonptr_value::read(alloc, text)?;
     Ok(list(alloc, &document, which)?)

@@ -8,7 +8,9 @@ use Rattle.jsonptr_tree.specs.Node.{NodeMap}
 use Rattle.jsonptr_relayout.specs.declared.relaid.Relaid.{Relaid}
 use Rattle.jsonptr_relayout.specs.declared.relaid.Relaid.TheVariants.{Kept, Rewritten}
 use Rattle.jsonptr_relayout.specs.declared.relaid.RelayoutError.{RelayoutError}
-use Rattle.jsonptr_relayout.specs.declared.relaid.RelayoutError.TheVariants.{NotJson, NewNotJson, TooDeep, Memory}
+use Rattle.jsonptr_relayout.specs.declared.relaid.RelayoutError.TheVariants.{NotJson, TooDeep, Memory}
+use Rattle.jsonptr_relayout.specs.declared.relaid.RelayoutTextError.{RelayoutTextError}
+use Rattle.jsonptr_relayout.specs.declared.relaid.RelayoutTextError.TheVariants as text
 
 -- `text_of_relaid relaid`: the text that `relaid` has
 abbrev pub text_of_relaid : Relaid → Text
@@ -24,16 +26,14 @@ abbrev pub KeepsLayout : Text → Relaid → Type 0
 KeepsLayout t (Kept s) = string_bytes s ≡ t
 KeepsLayout t (Rewritten s) = ⊥
 
--- `FailsToRelay old d e`: the document `d` is not laid out as the text `old` is, for the reason `e`
-abbrev pub FailsToRelay : Text → Data → RelayoutError → Type 0
-FailsToRelay old d NotJson = read old ≡ None
-FailsToRelay old d NewNotJson = ⊥
-FailsToRelay old d TooDeep = max_depth < depth d
-FailsToRelay old d (Memory e) = e ≡ alloc_error
+-- `IsRelayoutError old d e`: the document `d` is not laid out as the text `old` is, for the reason `e`
+abbrev pub IsRelayoutError : Text → Data → RelayoutError → Type 0
+IsRelayoutError old d NotJson = read old ≡ None
+IsRelayoutError old d TooDeep = max_depth < depth d
+IsRelayoutError old d (Memory e) = e ≡ alloc_error
 
--- `FailsToRelayText old new e`: the text `new` is not laid out as the text `old` is, for the reason `e`
-abbrev pub FailsToRelayText : Text → Text → RelayoutError → Type 0
-FailsToRelayText old new NotJson = read old ≡ None
-FailsToRelayText old new NewNotJson = read new ≡ None
-FailsToRelayText old new TooDeep = ⊥
-FailsToRelayText old new (Memory e) = e ≡ alloc_error
+-- `IsRelayoutTextError old new e`: the text `new` is not laid out as the text `old` is, for the reason `e`
+abbrev pub IsRelayoutTextError : Text → Text → RelayoutTextError → Type 0
+IsRelayoutTextError old new text.OldNotJson = read old ≡ None
+IsRelayoutTextError old new text.NewNotJson = read new ≡ None
+IsRelayoutTextError old new (text.Memory e) = e ≡ alloc_error

@@ -13,6 +13,10 @@ const MOST_MEMBERS: usize = 64;
 impl<'t> Layer<'t> {
     /// Appends a value that the old document does not have at this location. A model is a value of the
     /// old document that shows how such values are laid out.
+    ///
+    /// # Errors
+    ///
+    /// [`AllocError`] if an allocation fails.
     #[cycle(fresh)]
     pub fn fresh(
         &mut self,
@@ -121,6 +125,10 @@ impl<'t> Layer<'t> {
     }
 
     /// Appends the key of a member and what is after it, or nothing for an element.
+    ///
+    /// # Errors
+    ///
+    /// [`AllocError`] if an allocation fails.
     pub fn push_key(
         &mut self,
         text: &str,

@@ -63,6 +63,10 @@ struct Lead<'a> {
 
 impl<'t> Layer<'t> {
     /// Appends the new value in the layout of the old one.
+    ///
+    /// # Errors
+    ///
+    /// [`AllocError`] if an allocation fails.
     #[cycle(lay)]
     pub fn lay(
         &mut self,

@@ -4,15 +4,15 @@ ghost use Rattle.serde_json.specs.Data.{Data};
 ghost use Rattle.serde_json.specs.Read.{read};
 ghost use Rattle.serde_json.specs.View.{view};
 ghost use Rattle.jsonptr_tree.specs.Json.{nodes};
-ghost use Rattle.jsonptr_relayout.specs.Relaying.{text_of_relaid, ReadsAs, KeepsLayout, FailsToRelay, FailsToRelayText};
+ghost use Rattle.jsonptr_relayout.specs.Relaying.{text_of_relaid, ReadsAs, KeepsLayout, IsRelayoutError, IsRelayoutTextError};
 
 use crate::given::{GivenValue, given_values};
 use crate::lay::{At, Layer};
-use crate::relaid::{Relaid, RelayoutError};
+use crate::relaid::{Relaid, RelayoutError, RelayoutTextError};
 use crate::style::Style;
 use crate::tree::{TreeNode, read_tree};
 use jsonptr_diff::are_same;
-use jsonptr_value::{MAX_DEPTH, ReadError, nests_within};
+use jsonptr_value::{MAX_DEPTH, if_json, nests_within};
 use serde_json::Value;
 use std::alloc::{AllocError, Global};
 
@@ -39,7 +39,7 @@ use std::alloc::{AllocError, Global};
 pub fn relayout(alloc: Global, old: &str, new: &Value) -> Result<Relaid, RelayoutError>
     ensures reads { IfOk result (λ r. ReadsAs (text_of_relaid r) (nodes (view new.now))) }
     ensures kept { ReadsAs old.now (nodes (view new.now)) → IfOk result (KeepsLayout old.now) }
-    ensures refused { IfErr result (FailsToRelay old.now (view new.now)) }
+    ensures refused { IfErr result (IsRelayoutError old.now (view new.now)) }
 {
     relayout_with_texts(alloc, old, new, &[])
 }
@@ -69,7 +69,7 @@ pub fn relayout_with_texts(
 ) -> Result<Relaid, RelayoutError>
     ensures reads { IfOk result (λ r. ReadsAs (text_of_relaid r) (nodes (view new.now))) }
     ensures kept { ReadsAs old.now (nodes (view new.now)) → IfOk result (KeepsLayout old.now) }
-    ensures refused { IfErr result (FailsToRelay old.now (view new.now)) }
+    ensures refused { IfErr result (IsRelayoutError old.now (view new.now)) }
 {
     let Some(document) = read_document(alloc, old)? else {
         return Err(RelayoutError::NotJson);
@@ -92,9 +92,9 @@ pub fn relayout_with_texts(
 ///
 /// # Errors
 ///
-/// - [`RelayoutError::NotJson`] if `serde_json` does not read the old text, and
-///   [`RelayoutError::NewNotJson`] if it reads that and not the new one.
-/// - [`RelayoutError::Memory`] if an allocation fails.
+/// - [`RelayoutTextError::OldNotJson`] if `serde_json` does not read the old text, and
+///   [`RelayoutTextError::NewNotJson`] if it reads that and not the new one.
+/// - [`RelayoutTextError::Memory`] if an allocation fails.
 ///
 /// # Examples
 ///
@@ -102,16 +102,16 @@ pub fn relayout_with_texts(
 /// let relaid = relayout_text(alloc, "[1.0, 2]", "[\n  1,\n  2,\n  3.10\n]\n")?;
 /// assert_eq!(rt; relaid.as_str(), "[1, 2, 3.10]");
 /// ```
-pub fn relayout_text(alloc: Global, old: &str, new: &str) -> Result<Relaid, RelayoutError>
+pub fn relayout_text(alloc: Global, old: &str, new: &str) -> Result<Relaid, RelayoutTextError>
     ensures reads { IfOk result (λ r. (d : Data) × (read new.now ≡ Some d) × ReadsAs (text_of_relaid r) (nodes d)) }
     ensures kept { (d : Data) → read new.now ≡ Some d → ReadsAs old.now (nodes d) → IfOk result (KeepsLayout old.now) }
-    ensures refused { IfErr result (FailsToRelayText old.now new.now) }
+    ensures refused { IfErr result (IsRelayoutTextError old.now new.now) }
 {
     let Some(document) = read_document(alloc, old)? else {
-        return Err(RelayoutError::NotJson);
+        return Err(RelayoutTextError::OldNotJson);
     };
     let Some(value) = read_document(alloc, new)? else {
-        return Err(RelayoutError::NewNotJson);
+        return Err(RelayoutTextError::NewNotJson);
     };
     if are_same(&document, &value) {
         return Ok(Relaid::Kept(String::from_str(alloc, old)?));
@@ -130,11 +130,7 @@ pub fn relayout_text(alloc: Global, old: &str, new: &str) -> Result<Relaid, Rela
 fn read_document(alloc: Global, text: &str) -> Result<Option<Value>, AllocError>
     ensures { IfOk result (λ o. option_map view o ≡ read text.now) }
 {
-    match jsonptr_value::read(alloc, text) {
-        Ok(value) => Ok(Some(value)),
-        Err(ReadError::Memory) => Err(AllocError),
-        Err(ReadError::NotJson) => Ok(None),
-    }
+    if_json(jsonptr_value::read(alloc, text))
 }
 
 /// Returns the text of the document `new`, which `text` is a text of, in the layout of the text `old`.
@@ -234,11 +230,7 @@ fn relaid_text<'t>(
 
 /// Reads the text, or returns `None` if it is not JSON.
 fn tree_of(alloc: Global, text: &str) -> Result<Option<TreeNode>, AllocError> {
-    match read_tree(alloc, text) {
-        Ok(node) => Ok(Some(node)),
-        Err(ReadError::NotJson) => Ok(None),
-        Err(ReadError::Memory) => Err(AllocError),
-    }
+    if_json(read_tree(alloc, text))
 }
 
 /// Reads each of the texts.

@@ -35,4 +35,4 @@ mod style;
 mod tree;
 
 pub use layout::{relayout, relayout_text, relayout_with_texts};
-pub use relaid::{Relaid, RelayoutError};
+pub use relaid::{Relaid, RelayoutError, RelayoutTextError};

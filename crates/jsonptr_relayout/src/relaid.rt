@@ -2,6 +2,7 @@
 ghost use Rattle.std.specs.Prelude.{◌≡◌, string_bytes};
 ghost use Rattle.jsonptr_relayout.specs.Relaying.{text_of_relaid};
 ghost use Rattle.jsonptr_relayout.specs.declared.relaid.RelayoutError.TheVariants.{Memory};
+ghost use Rattle.jsonptr_relayout.specs.declared.relaid.RelayoutTextError.TheVariants as text;
 
 use jsonptr_value::MAX_DEPTH;
 use std::alloc::AllocError;
@@ -38,15 +39,12 @@ impl Relaid {
     }
 }
 
-/// Why a document is not laid out.
+/// Why a document is not laid out as an old text is.
 #[derive(Debug, Drop, Error)]
 pub enum RelayoutError {
     /// `serde_json` does not read the old text.
     #[error("old text is not JSON")]
     NotJson,
-    /// `serde_json` does not read the new text.
-    #[error("new text is not JSON")]
-    NewNotJson,
     /// The new document nests deeper than 127, so that its text could not be read.
     #[error("document would nest deeper than {}", MAX_DEPTH)]
     TooDeep,
@@ -60,5 +58,27 @@ impl From<AllocError> for RelayoutError {
 
     fn from(error: AllocError) -> RelayoutError {
         RelayoutError::Memory(error)
+    }
+}
+
+/// Why the document of a new text is not laid out as an old text is.
+#[derive(Debug, Drop, Error)]
+pub enum RelayoutTextError {
+    /// `serde_json` does not read the old text.
+    #[error("old text is not JSON")]
+    OldNotJson,
+    /// `serde_json` does not read the new text.
+    #[error("new text is not JSON")]
+    NewNotJson,
+    /// An allocation failed.
+    #[error("out of memory")]
+    Memory(AllocError),
+}
+
+impl From<AllocError> for RelayoutTextError {
+    ghost from_gives = { λ error fault. fault ≡ text.Memory error };
+
+    fn from(error: AllocError) -> RelayoutTextError {
+        RelayoutTextError::Memory(error)
     }
 }

@@ -99,10 +99,10 @@ fn said<E: Display + Drop>(out: &mut Out<'_>, made: Result<String, WithCommentsE
             out.field("kind", "not closed");
             out.field("detail", error.offset)
         }
-        Err(WithCommentsError::Failed(error)) => {
+        Err(WithCommentsError::Memory(_)) => out.memory(),
+        Err(error) => {
             out.field("kind", "failed");
             out.field("detail", error)
         }
-        Err(WithCommentsError::Memory(_)) => out.memory(),
     }
 }

@@ -35,15 +35,20 @@ pub fn run(out: &mut Out<'_>, text: &str, mut words: Words<'_>) {
 fn len(out: &mut Out<'_>, buffers: &mut Buffers, way: &str, request: Request<'_>) -> Option<usize> {
     match way {
         "text" => Some(edit(out, buffers, request)?.len()),
-        "own" => {
-            let mut buffers = Buffers::new(out.alloc());
-            Some(edit(out, &mut buffers, request)?.len())
-        }
-        "toml" => Some(toml_edits::edit(out, request)?.ok()??.as_str().len()),
+        "own" => own_len(out, request),
+        "toml" => Some(toml_edits::edit(out, request)?.as_str().len()),
         "document" => Some(change(out, request)?.to_string(out.alloc()).ok()?.len()),
         _ => match Value::from_str(out.alloc(), request.text).ok()? {
             Value::Array(_) | Value::Object(_) => Some(1),
             _ => Some(0),
         },
     }
+}
+
+/// Makes the edit in buffers of its own, and returns how long the new text is. They are large locals,
+/// which each call clears.
+#[inline(never)]
+fn own_len(out: &mut Out<'_>, request: Request<'_>) -> Option<usize> {
+    let mut buffers = Buffers::new(out.alloc());
+    Some(edit(out, &mut buffers, request)?.len())
 }

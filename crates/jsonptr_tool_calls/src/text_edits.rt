@@ -8,6 +8,7 @@ use jsonptr_edit_in_text::{
     assign_in_text_with, delete_in_text, delete_in_text_with,
 };
 use jsonptr_patch::{Comparison, apply_comparing};
+use jsonptr_value::ReadError;
 use serde_json::Value;
 use std::fmt::{Debug, Display};
 
@@ -152,10 +153,14 @@ pub fn edit(out: &mut Out<'_>, buffers: &mut Buffers, request: Request<'_>) -> O
         }
         "delete" => {
             let pointer = Pointer::parse(pointer).ok()?;
-            match delete_in_text_with(alloc, buffers, text, pointer).transpose() {
-                Some(made) => edited(out, made),
-                None => {
+            match delete_in_text_with(alloc, buffers, text, pointer) {
+                Ok(Some(made)) => Some(new_text(out, made)),
+                Ok(None) => {
                     kind(out, "kind", "none");
+                    None
+                }
+                Err(error) => {
+                    unread(out, error);
                     None
                 }
             }
@@ -167,24 +172,39 @@ pub fn edit(out: &mut Out<'_>, buffers: &mut Buffers, request: Request<'_>) -> O
     }
 }
 
-/// Writes the kind of the result of an edit, and the error. Returns the new text.
+/// Writes the kind of the result of an edit, or the error. Returns the new text.
 fn edited<E: Display + Debug + Drop>(
     out: &mut Out<'_>,
     edited: Result<Edited, EditError<E>>,
 ) -> Option<String> {
     match edited {
-        Ok(Edited::InPlace(text)) => {
-            kind(out, "kind", "in place");
-            Some(text)
-        }
-        Ok(Edited::Rewritten(text)) => {
-            kind(out, "kind", "rewritten");
-            Some(text)
-        }
+        Ok(edited) => Some(new_text(out, edited)),
         Err(error) => {
             failed(out, error);
             None
         }
+    }
+}
+
+/// Writes the kind of the result, and returns the new text.
+fn new_text(out: &mut Out<'_>, edited: Edited) -> String {
+    match edited {
+        Edited::InPlace(text) => {
+            kind(out, "kind", "in place");
+            text
+        }
+        Edited::Rewritten(text) => {
+            kind(out, "kind", "rewritten");
+            text
+        }
+    }
+}
+
+/// Writes why a text is not read.
+fn unread(out: &mut Out<'_>, error: ReadError) {
+    match error {
+        ReadError::NotJson => kind(out, "kind", "not JSON"),
+        ReadError::Memory(_) => out.memory(),
     }
 }
 

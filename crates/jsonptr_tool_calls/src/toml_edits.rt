@@ -4,7 +4,8 @@ use crate::text_edits::Request;
 use crate::words::Words;
 use jsonptr::Pointer;
 use jsonptr_edit_in_toml::{Edited, assign_in_toml, delete_in_toml};
-use jsonptr_in_toml::InTomlError;
+use jsonptr_in_toml::EditTomlError;
+use std::fmt::Display;
 use toml::Value;
 
 /// Runs a case of a call: the text, the pointer and the value. Writes the text before and after it.
@@ -32,7 +33,7 @@ pub fn run(out: &mut Out<'_>, group: &str, mut words: Words<'_>) {
 }
 
 /// Writes the result of an edit.
-fn said(out: &mut Out<'_>, made: Result<Edited, InTomlError>) {
+fn said<E: Display + Drop>(out: &mut Out<'_>, made: Result<Edited, EditTomlError<E>>) {
     out.end();
     match made {
         Ok(Edited::InPlace(text)) => {
@@ -49,40 +50,46 @@ fn said(out: &mut Out<'_>, made: Result<Edited, InTomlError>) {
 
 /// Makes an edit in a text, and writes the kind of its result and the new text.
 pub fn request(out: &mut Out<'_>, mut words: Words<'_>) {
-    let request = Request {
-        command: words.next(),
-        text: words.next(),
-        pointer: words.next(),
-        argument: words.next(),
-    };
-    match edit(out, request) {
-        Some(Ok(Some(Edited::InPlace(text)))) => {
-            out.field("kind", "in place");
-            out.field("detail", text)
+    let alloc = out.alloc();
+    let command = words.next();
+    let text = words.next();
+    let pointer = Pointer::parse(words.next());
+    let value = Value::from_str(alloc, words.next());
+    match (command, pointer, value) {
+        ("delete", Ok(pointer), _) => made(out, delete_in_toml(alloc, text, pointer)),
+        (_, Ok(pointer), Ok(value)) => {
+            made(out, assign_in_toml(alloc, text, pointer, value).map(Some))
         }
-        Some(Ok(Some(Edited::Rewritten(text)))) => {
-            out.field("kind", "rewritten");
-            out.field("detail", text)
-        }
-        Some(Ok(None)) => out.field("kind", "none"),
-        Some(Err(error)) => {
-            out.field("kind", "refused");
-            out.field("detail", error)
-        }
-        None => out.unknown(),
+        _ => out.unknown(),
     }
 }
 
-/// Makes an edit in a text. Returns `None` if the pointer or the value is none.
-pub fn edit(
-    out: &mut Out<'_>,
-    request: Request<'_>,
-) -> Option<Result<Option<Edited>, InTomlError>> {
+/// Writes the kind of the result of an edit, and the new text or the error.
+fn made<E: Display + Drop>(out: &mut Out<'_>, made: Result<Option<Edited>, EditTomlError<E>>) {
+    match made {
+        Ok(Some(Edited::InPlace(text))) => {
+            out.field("kind", "in place");
+            out.field("detail", text)
+        }
+        Ok(Some(Edited::Rewritten(text))) => {
+            out.field("kind", "rewritten");
+            out.field("detail", text)
+        }
+        Ok(None) => out.field("kind", "none"),
+        Err(error) => {
+            out.field("kind", "refused");
+            out.field("detail", error)
+        }
+    }
+}
+
+/// Makes an edit in a text. Returns `None` if there is no new text.
+pub fn edit(out: &mut Out<'_>, request: Request<'_>) -> Option<Edited> {
     let alloc = out.alloc();
     let pointer = Pointer::parse(request.pointer).ok()?;
     if request.command == "delete" {
-        return Some(delete_in_toml(alloc, request.text, pointer));
+        return delete_in_toml(alloc, request.text, pointer).ok()?;
     }
     let value = Value::from_str(alloc, request.argument).ok()?;
-    Some(assign_in_toml(alloc, request.text, pointer, value).map(Some))
+    assign_in_toml(alloc, request.text, pointer, value).ok()
 }

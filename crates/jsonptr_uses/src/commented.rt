@@ -9,7 +9,6 @@ ghost use Rattle.jsonptr_uses.specs.Commented.{HasSetting, IsSettingError, Fails
 
 use jsonptr::{Fault, Pointer};
 use jsonptr_comments::{CommentError, without_comments};
-use jsonptr_edit_in_text::EditError;
 use jsonptr_edit_with_comments::{Buffers, WithCommentsError, apply_with_comments};
 use jsonptr_in_text::{InTextError, resolve_in_text};
 use jsonptr_patch::{Operation, PatchError};
@@ -68,9 +67,7 @@ pub fn upgraded(
     let mut buffers = Buffers::new(alloc);
     match apply_with_comments(alloc, &mut buffers, text, upgrade) {
         Ok(new) => Ok(Some(new)),
-        Err(WithCommentsError::Failed(EditError::Refused(PatchError::TestFailed { .. }))) => Ok(
-            None,
-        ),
+        Err(WithCommentsError::Refused(PatchError::TestFailed { .. })) => Ok(None),
         Err(error) => Err(error),
     }
 }

@@ -5,6 +5,10 @@ use jsonptr::{PointerBuf, Token};
 use std::alloc::AllocError;
 
 /// Appends a token and removes it again. Returns the token, and restores the pointer.
+///
+/// # Errors
+///
+/// [`AllocError`] if an allocation fails.
 pub fn pushed_and_popped_back(
     pointer: &mut PointerBuf,
     token: Token<'_>,
@@ -20,6 +24,10 @@ pub fn pushed_and_popped_back(
 
 /// Inserts a token before all others and removes it again. Returns the token, and restores the
 /// pointer.
+///
+/// # Errors
+///
+/// [`AllocError`] if an allocation fails.
 pub fn pushed_and_popped_front(
     pointer: &mut PointerBuf,
     token: Token<'_>,

@@ -6,8 +6,9 @@ ghost use Rattle.jsonptr.specs.Json.{nodes};
 ghost use Rattle.jsonptr.specs.Pointer.{tokens};
 ghost use Rattle.jsonptr.specs.declared.resolve.Error.{Error};
 ghost use Rattle.jsonptr_in_text.specs.InText.{FindsInText, RefusesInText};
+ghost use Rattle.jsonptr_value.specs.Reading.{IsReadError};
 ghost use Rattle.jsonptr_edit_in_text.specs.Bytes.{AssignsBytes, DeletesBytes};
-ghost use Rattle.jsonptr_edit_in_text.specs.EditInText.{AssignsInText, DeletesInText, LacksInText, IsAssignError, IsEditReadError};
+ghost use Rattle.jsonptr_edit_in_text.specs.EditInText.{AssignsInText, DeletesInText, LacksInText, IsAssignError};
 ghost use Rattle.jsonptr_edit_in_text.specs.PatchInText.{PatchesInText, MovesBytes, IsPatchError};
 ghost use Rattle.jsonptr_edit_in_text.specs.InPlace.{IsInPlaceError, StaysOneLine};
 ghost use Rattle.jsonptr_edit_in_text.specs.declared.edited.EditError.TheVariants.{Refused};
@@ -24,7 +25,6 @@ use jsonptr_patch::{Operation, PatchError};
 use jsonptr_value::ReadError;
 use serde_json::Value;
 use std::alloc::{AllocError, Global};
-use std::convert::Infallible;
 
 /// Assigns the value at a pointer that resolves already, and returns the new text. Returns `None` for
 /// any other pointer, so that a misspelt one creates nothing.
@@ -55,8 +55,7 @@ pub fn set_existing(
             Ok(Some(new))
         }
         Ok(false) => Ok(None),
-        Err(ReadError::NotJson) => Err(InPlaceError::Failed(EditError::NotJson)),
-        Err(ReadError::Memory) => Err(InPlaceError::Failed(EditError::Memory(AllocError))),
+        Err(error) => Err(InPlaceError::Edit(EditError::from(error))),
     }
 }
 
@@ -70,21 +69,21 @@ pub fn without(
     alloc: Global,
     text: &str,
     pointer: Pointer<'_>,
-) -> Result<String, InPlaceError<EditError<Infallible>>>
+) -> Result<String, InPlaceError<ReadError>>
     ensures deleted { IfOk result (λ s.
         (DeletesInText text.now (tokens pointer.entry) (string_bytes s)
         × DeletesBytes text.now (tokens pointer.entry) (string_bytes s))
         ⊎ (LacksInText text.now (tokens pointer.entry) × (string_bytes s ≡ text.now))) }
     ensures one_line { IfOk result (λ s. StaysOneLine text.now (string_bytes s)) }
     ensures refused { IfErr result (IsInPlaceError
-        (DeletesInText text.now (tokens pointer.entry)) (IsEditReadError text.now)) }
+        (DeletesInText text.now (tokens pointer.entry)) (IsReadError text.now)) }
 {
     let mut buffers = Buffers::new(alloc);
     match delete_in_place(alloc, &mut buffers, text, pointer)? {
         Some(new) => Ok(new),
         None => match String::from_str(alloc, text) {
             Ok(same) => Ok(same),
-            Err(error) => Err(InPlaceError::Failed(EditError::Memory(error))),
+            Err(error) => Err(InPlaceError::Edit(ReadError::Memory(error))),
         },
     }
 }
@@ -109,7 +108,7 @@ pub fn moved(
     let mut buffers = Buffers::new(alloc);
     match patch_of_move(alloc, from, path) {
         Ok(patch) => apply_in_place(alloc, &mut buffers, text, patch),
-        Err(error) => Err(InPlaceError::Failed(EditError::Memory(error))),
+        Err(error) => Err(InPlaceError::Edit(EditError::Memory(error))),
     }
 }
 
@@ -156,14 +155,10 @@ pub fn migrated(
 /// # Errors
 ///
 /// Those of [`delete_in_text`].
-pub fn published(
-    alloc: Global,
-    text: &str,
-    secret: Pointer<'_>,
-) -> Result<String, EditError<Infallible>>
+pub fn published(alloc: Global, text: &str, secret: Pointer<'_>) -> Result<String, ReadError>
     ensures deleted { IfOk result (λ s. DeletesInText text.now (tokens secret.entry) (string_bytes s)
         ⊎ (LacksInText text.now (tokens secret.entry) × (string_bytes s ≡ text.now))) }
-    ensures refused { IfErr result (IsEditReadError text.now) }
+    ensures refused { IfErr result (IsReadError text.now) }
 {
     match delete_in_text(alloc, text, secret)? {
         Some(edited) => Ok(edited.into_string()),

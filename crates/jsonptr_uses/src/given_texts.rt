@@ -5,7 +5,7 @@ ghost use Rattle.jsonptr_edit_in_text.specs.RawPatching.{operations_in, RawPatch
 ghost use Rattle.jsonptr_edit_in_text.specs.declared.raw_operation.RawOperation.{RawOperation};
 
 use jsonptr::Fault;
-use jsonptr_edit_in_text::{Buffers, RawOperation, raw_operations, try_apply_raw};
+use jsonptr_edit_in_text::{Buffers, RawOperation, raw_operations, try_apply_raw_in_place};
 use jsonptr_patch_document::read_patch;
 use serde_json::Value;
 use std::alloc::{AllocError, Global};
@@ -31,7 +31,7 @@ pub fn patched_as_written(
         return Ok(None);
     };
     let mut buffers = Buffers::new(alloc);
-    try_apply_raw(alloc, &mut buffers, text, operations.as_slice())
+    try_apply_raw_in_place(alloc, &mut buffers, text, operations.as_slice())
 }
 
 /// Returns the operations of the patch document, with the texts of their values, or `None` if it is not

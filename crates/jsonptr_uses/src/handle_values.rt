@@ -9,7 +9,8 @@ ghost use Rattle.jsonptr_in_text.specs.InText.{FindsInText};
 ghost use Rattle.jsonptr_json_edits.specs.Child.{IsValueText};
 ghost use Rattle.jsonptr_edit_in_text.specs.Locating.{IsOutside};
 ghost use Rattle.jsonptr_c_calls.specs.InTexts.{FindsTextIn, IsNotPrintedFrom};
-ghost use Rattle.jsonptr_c_calls.specs.Kinds.{kind_number};
+ghost use Rattle.jsonptr_value.specs.NodeTypes.{type_of};
+ghost use Rattle.jsonptr_value.specs.declared.types.NodeType.TheVariants.{String as a_string};
 ghost use Rattle.jsonptr_c_calls.specs.Locations.{IsNotLocated, IsNotPointedAt, PointsAt};
 ghost use Rattle.jsonptr_c_calls.specs.Patches.{IsDiffText};
 ghost use Rattle.jsonptr_c_calls.specs.Pointers.{HasTokens};
@@ -19,8 +20,8 @@ ghost use Rattle.jsonptr_in_text.specs.declared.format.Format.TheVariants.{Compa
 
 use jsonptr_c_calls::call_error::CallError;
 use jsonptr_c_calls::documents::{diff, free, node_at, parse, string_at};
-use jsonptr_c_calls::kind::STRING;
 use jsonptr_c_calls::locations::{locate_in, pointer_at_in};
+use jsonptr_c_calls::node_type::STRING;
 use jsonptr_c_calls::texts::print_in;
 use jsonptr_c_handle::handle::Handle;
 use jsonptr_in_text::Format;
@@ -55,10 +56,10 @@ pub fn string_in(
 /// Those of `node_at`.
 pub fn is_string(alloc: Global, document: &mut Handle, pointer: &[u8]) -> Result<bool, CallError>
     ensures { IfOk result (λ is. HoldsWith document.old (λ v. (e : Data)
-        × FindsAtPointer (view v) pointer.now e × (IsTrue is ↔ (kind_number e ≡ 3)))) }
+        × FindsAtPointer (view v) pointer.now e × (IsTrue is ↔ (type_of e ≡ a_string)))) }
 {
     let node = node_at(alloc, document, pointer)?;
-    Ok(node.kind == STRING)
+    Ok(node.node_type == STRING)
 }
 
 /// Copies the patch that turns the document of one text into that of the other to the buffer, and

@@ -105,6 +105,10 @@ impl Delete for Overlay {
 }
 
 /// Resolves a pointer in an overlay by the pointer's own call. The contract is that of [`Overlay`].
+///
+/// # Errors
+///
+/// Those of [`Pointer::resolve`].
 pub fn found_in<'o>(
     overlay: &'o Overlay,
     alloc: Global,

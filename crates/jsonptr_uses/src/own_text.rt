@@ -8,9 +8,9 @@ ghost use Rattle.jsonptr_edit_in_text.specs.Locating.{IsLocated, IsLocateError};
 
 use jsonptr::Pointer;
 use jsonptr_edit_in_text::{LocateError, locate_in_text};
-use jsonptr_in_text::{Format, InTextError, Scratch, format_text};
+use jsonptr_in_text::{Format, Scratch, format_text};
 use jsonptr_value::ReadError;
-use std::alloc::{AllocError, Global};
+use std::alloc::Global;
 
 /// Returns the offset, in bytes, at which the value that the pointer resolves to begins.
 ///
@@ -42,7 +42,7 @@ pub fn on_one_line(alloc: Global, text: &str, pointer: Pointer<'_>) -> Result<St
     let mut scratch = Scratch::new(alloc);
     match format_text(alloc, &mut scratch, located.value, Format::Compact) {
         Ok(line) => Ok(line),
-        Err(ReadError::NotJson) => Err(LocateError::Failed(InTextError::NotJson)),
-        Err(ReadError::Memory) => Err(LocateError::from(AllocError)),
+        Err(ReadError::NotJson) => Err(LocateError::NotJson),
+        Err(ReadError::Memory(error)) => Err(LocateError::Memory(error)),
     }
 }

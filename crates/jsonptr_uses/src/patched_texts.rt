@@ -9,7 +9,7 @@ ghost use Rattle.jptr_tasks.specs.Results.{PatchesByInLayout};
 ghost use Rattle.jptr_tasks.specs.declared.layout.Layout.TheVariants.{Kept};
 
 use jptr_tasks::inverse::inverse_of;
-use jptr_tasks::laws::inverse_law;
+use jptr_tasks::laws::printed_inverse_law;
 use jptr_tasks::layout::Layout;
 use jptr_tasks::raw_patch::RawPatch;
 use jptr_tasks::result::result_in_text;
@@ -41,7 +41,7 @@ pub fn patched_text(alloc: Global, text: &str, patch: RawPatch) -> Result<Patche
         → read text.now ≡ Some d → read (string_bytes p.undo) ≡ Some back
         → PatchesByInLayout (string_bytes p.new) back Kept again → read again ≡ Some d) }
 {
-    inverse_law();
+    printed_inverse_law();
     let inverse = inverse_of(alloc, text, &patch.document, Layout::Compact)?;
     let task = Task::Patch(patch);
     let new = result_in_text(alloc, text, &task, Layout::Kept)?;

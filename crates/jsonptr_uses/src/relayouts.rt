@@ -3,9 +3,9 @@ ghost use Rattle.std.specs.Prelude.{◌≡◌, IfOk, IfErr, Some, string_bytes};
 ghost use Rattle.serde_json.specs.Data.{Data};
 ghost use Rattle.serde_json.specs.Read.{read};
 ghost use Rattle.jsonptr.specs.Json.{nodes};
-ghost use Rattle.jsonptr_relayout.specs.Relaying.{ReadsAs, FailsToRelayText};
+ghost use Rattle.jsonptr_relayout.specs.Relaying.{ReadsAs, IsRelayoutTextError};
 
-use jsonptr_relayout::{Relaid, RelayoutError, relayout_text};
+use jsonptr_relayout::{Relaid, RelayoutTextError, relayout_text};
 use std::alloc::Global;
 
 /// Returns the text of a file after another program printed its document anew, in the layout that
@@ -14,10 +14,10 @@ use std::alloc::Global;
 /// # Errors
 ///
 /// Those of [`relayout_text`].
-pub fn restored(alloc: Global, file: &str, printed: &str) -> Result<String, RelayoutError>
+pub fn restored(alloc: Global, file: &str, printed: &str) -> Result<String, RelayoutTextError>
     ensures reads { IfOk result (λ s. (d : Data) × (read printed.now ≡ Some d)
         × ReadsAs (string_bytes s) (nodes d)) }
-    ensures refused { IfErr result (FailsToRelayText file.now printed.now) }
+    ensures refused { IfErr result (IsRelayoutTextError file.now printed.now) }
 {
     match relayout_text(alloc, file, printed)? {
         Relaid::Kept(text) => Ok(text),

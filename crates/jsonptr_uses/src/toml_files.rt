@@ -3,15 +3,17 @@ ghost use Rattle.std.specs.Prelude.{◌≡◌, ◌⊎◌, IfOk, IfErr, IsTrue, M
 ghost use Rattle.toml.specs.Data.{Data};
 ghost use Rattle.toml.specs.View.{view};
 ghost use Rattle.jsonptr.specs.Pointer.{tokens};
-ghost use Rattle.jsonptr_in_toml.specs.InToml.{FindsInToml, AssignsAndPrintsToml, DeletesAndPrintsToml, LacksInToml, ListsInToml, FailsToFindInToml, FailsToAssignAndPrint, FailsToDeleteAndPrint, FailsToListToml};
+ghost use Rattle.jsonptr_in_toml.specs.InToml.{FindsInToml, AssignsAndPrintsToml, DeletesAndPrintsToml, LacksInToml, ListsInToml, IsAssignAndPrintError, IsDeleteAndPrintError, IsTomlReadError};
 ghost use Rattle.jsonptr_paths.specs.declared.listing.Listed.TheVariants.{Leaves};
 
-use jsonptr::Pointer;
+use jsonptr::{Pointer, assign};
 use jsonptr_in_toml::{
-    InTomlError, assign_and_print_toml, delete_and_print_toml, list_in_toml, resolve_in_toml,
+    EditTomlError, InTomlError, ReadTomlError, assign_and_print_toml, delete_and_print_toml,
+    list_in_toml, resolve_in_toml,
 };
 use jsonptr_paths::listing::Listed;
 use std::alloc::Global;
+use std::convert::Infallible;
 use toml::Value;
 
 /// Assigns a default value where the pointer resolves to none, and returns the new text. Returns
@@ -19,18 +21,17 @@ use toml::Value;
 ///
 /// # Errors
 ///
-/// Those of [`resolve_in_toml`], except that there is no value, and those of [`assign_and_print_toml`].
+/// Those of [`assign_and_print_toml`].
 pub fn with_default(
     alloc: Global,
     text: &str,
     pointer: Pointer<'_>,
     value: Value,
-) -> Result<Option<String>, InTomlError>
+) -> Result<Option<String>, EditTomlError<assign::Error>>
     ensures assigned { IfOk result (λ o. MatchOption o
         ((v : Data) × FindsInToml text.now (tokens pointer.entry) v)
         (λ s. AssignsAndPrintsToml text.now (tokens pointer.entry) (view value) (string_bytes s))) }
-    ensures refused { IfErr result (λ e. FailsToFindInToml text.now (tokens pointer.entry) e
-        ⊎ FailsToAssignAndPrint text.now (tokens pointer.entry) (view value) e) }
+    ensures refused { IfErr result (IsAssignAndPrintError text.now (tokens pointer.entry) (view value)) }
 {
     match resolve_in_toml(alloc, text, pointer) {
         Ok(_found) => Ok(None),
@@ -38,7 +39,9 @@ pub fn with_default(
             let new = assign_and_print_toml(alloc, text, pointer, value)?;
             Ok(Some(new))
         }
-        Err(error) => Err(error),
+        Err(InTomlError::NotToml) => Err(EditTomlError::NotToml),
+        Err(InTomlError::DocumentTooDeep) => Err(EditTomlError::DocumentTooDeep),
+        Err(InTomlError::Memory(error)) => Err(EditTomlError::Memory(error)),
     }
 }
 
@@ -51,10 +54,10 @@ pub fn without_setting(
     alloc: Global,
     text: &str,
     pointer: Pointer<'_>,
-) -> Result<String, InTomlError>
+) -> Result<String, EditTomlError<Infallible>>
     ensures deleted { IfOk result (λ s. DeletesAndPrintsToml text.now (tokens pointer.entry) (string_bytes s)
         ⊎ (LacksInToml text.now (tokens pointer.entry) × (string_bytes s ≡ text.now))) }
-    ensures refused { IfErr result (FailsToDeleteAndPrint text.now (tokens pointer.entry)) }
+    ensures refused { IfErr result (IsDeleteAndPrintError text.now (tokens pointer.entry)) }
 {
     match delete_and_print_toml(alloc, text, pointer)? {
         Some(new) => Ok(new),
@@ -68,9 +71,9 @@ pub fn without_setting(
 /// # Errors
 ///
 /// Those of [`list_in_toml`].
-pub fn has_leaves(alloc: Global, text: &str, lines: &str) -> Result<bool, InTomlError>
+pub fn has_leaves(alloc: Global, text: &str, lines: &str) -> Result<bool, ReadTomlError>
     ensures leaves { IfOk result (λ same. IsTrue same → ListsInToml Leaves text.now lines.now) }
-    ensures refused { IfErr result (FailsToListToml text.now) }
+    ensures refused { IfErr result (IsTomlReadError text.now) }
 {
     let listed = list_in_toml(alloc, text, Listed::Leaves)?;
     Ok(listed.as_str() == lines)

@@ -42,6 +42,10 @@ pub fn replace<D: ResolveMut>(
 
 /// Replaces a value of a JSON document, as [`replace`] does. The document's map then has the map of
 /// `value` at the path that the pointer evaluates to.
+///
+/// # Errors
+///
+/// Those of [`replace`].
 pub fn replace_json(
     alloc: Global,
     document: &mut Value,
@@ -61,6 +65,10 @@ pub fn replace_json(
 }
 
 /// Replaces a value of a TOML document, as [`replace_json`] does in a JSON document.
+///
+/// # Errors
+///
+/// Those of [`replace`].
 pub fn replace_toml(
     alloc: Global,
     document: &mut toml::Value,

@@ -4,5 +4,9 @@ pub mod Nesting
 pub mod Lengths
 -- The JSON text of a value.
 pub mod JsonText
+-- Why a text is not read.
+pub mod Reading
+-- The type and the length of a value.
+pub mod NodeTypes
 pub mod PrivateFrames
 pub mod PrivatePartial

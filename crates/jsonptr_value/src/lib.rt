@@ -19,11 +19,13 @@ mod print;
 mod same;
 mod toml_nested;
 mod tree;
+mod types;
 
 pub use clone::copy;
 pub use depth::{MAX_DEPTH, depth_law, nests_within};
 pub use drop::{Nested, discard};
-pub use from_text::{ReadError, read};
+pub use from_text::{ReadError, if_json, read};
 pub use parsed::{json_parsed_law, toml_parsed_law};
 pub use print::to_string;
 pub use same::{is_same_float, is_same_number};
+pub use types::{NodeType, length, node_type};

@@ -37,7 +37,7 @@ ROWS = [
                              ("testing that the pointer is UTF-8 and a JSON Pointer", r"jsonptr_syntax|memchr|utf8|pointers::parse"),
                              ("decoding its tokens and finding the members", r"jsonptr::|jsonptr_base|jsonptr_walk|jsonptr_document::|"
                               r"BTreeMap|btree|serde_json|memcmp|bcmp|memmove|memcpy"),
-                             ("the call: handle, record, kind of the value", r"jsonptr_c_calls|jsonptrcore|jsonptr_c_handle|"
+                             ("the call: handle, record, type of the value", r"jsonptr_c_calls|jsonptrcore|jsonptr_c_handle|"
                               r"jsonptr_document_node|ours_node|strlen|memset")]),
     ("read, find and print", 60, [KERNEL, MEMORY, DROPPING,
                                   ("putting members into sorted maps", r"BTreeMap|btree"), READING]),

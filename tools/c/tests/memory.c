@@ -106,6 +106,22 @@ static jsonptr_status in_text(state *s) {
     return jsonptr_resolve_in_text(TEXT(DOCUMENT), TEXT("/long key that is stored/2"), 0, s->out, sizeof s->out, NULL, NULL);
 }
 
+/* Texts that are not JSON, which are read again for the offset. */
+static jsonptr_status not_json(state *s) {
+    jsonptr_error error;
+    jsonptr_status status = jsonptr_resolve_in_text(TEXT("{\"a/b\": [1, x]}"), TEXT("/a~1b"), 0, s->out, sizeof s->out, NULL, &error);
+    if (status == JSONPTR_NOT_JSON) expect_number("offset", "not_json", error.offset, 12);
+    return status == JSONPTR_NOT_JSON ? JSONPTR_OK : status;
+}
+
+static jsonptr_status not_located(state *s) {
+    jsonptr_error error;
+    jsonptr_status status = jsonptr_locate_in_text(TEXT("{\"a/b\": [1, x]}"), TEXT("/a~1b"), NULL, NULL, &error);
+    if (status == JSONPTR_NOT_JSON) expect_number("offset", "not_located", error.offset, 12);
+    (void)s;
+    return status == JSONPTR_NOT_JSON ? JSONPTR_OK : status;
+}
+
 static jsonptr_status locate(state *s) {
     size_t start = 7, end = 7;
     jsonptr_status status = jsonptr_locate_in_text(TEXT(DOCUMENT), TEXT("/a~1b/1"), &start, &end, NULL);
@@ -147,7 +163,7 @@ static const struct {
     const char *name;
     jsonptr_status (*call)(state *);
 } calls[] = {
-    { "parse", parse }, { "exact", exact }, { "not_exact", not_exact }, { "lost_number", lost_number }, { "print", print }, { "get", get }, { "string", string }, { "node", node }, { "assign", assign },
+    { "parse", parse }, { "exact", exact }, { "not_exact", not_exact }, { "lost_number", lost_number }, { "not_json", not_json }, { "not_located", not_located }, { "print", print }, { "get", get }, { "string", string }, { "node", node }, { "assign", assign },
     { "delete", delete }, { "patch", patch }, { "fail", fail }, { "inverse", inverse }, { "diff", diff }, { "in_text", in_text },
     { "locate", locate }, { "pointer_at", pointer_at }, { "no_value", no_value }, { "token", token },
     { "escape", escape }, { "push", push }, { "message", message },

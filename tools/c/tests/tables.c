@@ -458,17 +458,17 @@ static const struct {
     const char *pointer;
     jsonptr_node node;
 } nodes[] = {
-    { "/n", { .kind = JSONPTR_NULL } },
-    { "/t", { .kind = JSONPTR_BOOLEAN, .is_true = true } },
-    { "/f", { .kind = JSONPTR_BOOLEAN } },
-    { "/i", { .kind = JSONPTR_NUMBER, .has_integer = true, .integer = -7, .number = -7 } },
-    { "/u", { .kind = JSONPTR_NUMBER, .has_natural = true, .natural = UINT64_MAX, .number = 18446744073709551616.0 } },
-    { "/d", { .kind = JSONPTR_NUMBER, .number = 2.5 } },
-    { "/a/2", { .kind = JSONPTR_NUMBER, .has_integer = true, .has_natural = true, .integer = 3, .natural = 3, .number = 3 } },
-    { "/s", { .kind = JSONPTR_STRING, .length = 5 } },
-    { "/a", { .kind = JSONPTR_ARRAY, .length = 3 } },
-    { "/o", { .kind = JSONPTR_OBJECT, .length = 1 } },
-    { "", { .kind = JSONPTR_OBJECT, .length = 9 } },
+    { "/n", { .type = JSONPTR_NULL } },
+    { "/t", { .type = JSONPTR_BOOLEAN, .is_true = true } },
+    { "/f", { .type = JSONPTR_BOOLEAN } },
+    { "/i", { .type = JSONPTR_NUMBER, .has_integer = true, .integer = -7, .number = -7 } },
+    { "/u", { .type = JSONPTR_NUMBER, .has_natural = true, .natural = UINT64_MAX, .number = 18446744073709551616.0 } },
+    { "/d", { .type = JSONPTR_NUMBER, .number = 2.5 } },
+    { "/a/2", { .type = JSONPTR_NUMBER, .has_integer = true, .has_natural = true, .integer = 3, .natural = 3, .number = 3 } },
+    { "/s", { .type = JSONPTR_STRING, .length = 4, .byte_length = 5 } },
+    { "/a", { .type = JSONPTR_ARRAY, .length = 3 } },
+    { "/o", { .type = JSONPTR_OBJECT, .length = 1 } },
+    { "", { .type = JSONPTR_OBJECT, .length = 9 } },
 };
 
 static void check_nodes(void) {
@@ -479,7 +479,7 @@ static void check_nodes(void) {
         jsonptr_node node;
         jsonptr_error error;
         expect_number("status", pointer, jsonptr_document_node(&document, TEXT(pointer), &node, &error), JSONPTR_OK);
-        expect_number("kind", pointer, node.kind, wanted->kind);
+        expect_number("type", pointer, node.type, wanted->type);
         expect_number("is_true", pointer, node.is_true, wanted->is_true);
         expect_number("has_integer", pointer, node.has_integer, wanted->has_integer);
         expect_number("has_natural", pointer, node.has_natural, wanted->has_natural);
@@ -487,6 +487,8 @@ static void check_nodes(void) {
         expect_number("natural", pointer, node.natural, wanted->natural);
         expect_number("number", pointer, node.number == wanted->number, 1);
         expect_number("length", pointer, node.length, wanted->length);
+        expect_number("byte_length", pointer, node.byte_length, wanted->byte_length);
+        expect_number("reserved", pointer, node.reserved, 0);
     }
     char out[8];
     size_t length = 0;
@@ -495,8 +497,8 @@ static void check_nodes(void) {
                   jsonptr_document_string(&document, "/s", 2, out, sizeof out, &length, &error), JSONPTR_OK);
     expect_text("string", "/s", out, length, "gr\xc3\xbc\n");
     expect_number("status of the string", "/a",
-                  jsonptr_document_string(&document, "/a", 2, out, sizeof out, &length, &error), JSONPTR_OTHER_KIND);
-    expect_message("/a", &error, "the value is of another kind");
+                  jsonptr_document_string(&document, "/a", 2, out, sizeof out, &length, &error), JSONPTR_OTHER_TYPE);
+    expect_message("/a", &error, "the value is of another type");
     jsonptr_document_free(&document);
 }
 
@@ -824,7 +826,7 @@ static void check_failing_inverses(void) {
     expect_number("status", "an inverse of 128 levels",
                   jsonptr_document_patch_with_inverse(&document, TEXT(patch), 0, out, sizeof out, &length, &error),
                   JSONPTR_TOO_DEEP);
-    expect_number("kind", "an inverse of 128 levels", error.kind, JSONPTR_KIND_DEEP_INVERSE);
+    expect_number("kind", "an inverse of 128 levels", error.kind, JSONPTR_KIND_INVERSE_TOO_DEEP);
     expect_message("an inverse of 128 levels", &error, "the inverse of the patch would nest deeper than 127");
     expect_number("status", "printing", jsonptr_document_print(&document, 0, out, sizeof out, &length, NULL), JSONPTR_OK);
     expect_number("text", "after the error", length == 254 && memcmp(out, deep, 254) == 0, 1);

@@ -20,7 +20,7 @@ ghost use Rattle.jsonptr_patch.specs.declared.operation.PatchError.TheVariants.{
 ///   equal.
 /// - A patch that can be applied with strict tests makes the same document with numerical ones.
 /// - A patch that fails with strict tests, and not because of a float, fails with the same error.
-pub fn comparison_law()
+pub fn test_comparison_law()
     ensures strict { (n m : NodeMap) → IsEqual n m → IsEqualBy Numeric n m }
     ensures plain { (n m : NodeMap) → (HasFloat n → ⊥) → (HasFloat m → ⊥)
         → IsEqualBy Numeric n m → IsEqual n m }

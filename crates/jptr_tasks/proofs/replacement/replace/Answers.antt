@@ -11,4 +11,4 @@ returns-in-Err-sync_folder-clause-guarded g c =
 
 pub returns-in-Err-clause-moments : goal.returns-in-Err-clause-moments
 returns-in-Err-clause-moments g c =
-    removed c.remove.result _ (g.S.FileSystem.events c.remove.new.self) c.in-Err.ensures.refused.0 c.remove.ensures
+    removed c.remove.result _ (g.S.FileSystem.events c.remove.new.self) c.in-Err.ensures.safe.0 c.remove.ensures

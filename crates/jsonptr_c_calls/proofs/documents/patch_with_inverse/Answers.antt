@@ -22,7 +22,7 @@ returns-in-Ok-clause-applied c =
         subst (λ (out : List ℕ). IsBackText c.args.format (view made.document) (view value) out) (sym copied) c.in-Ok.ensures.inverse,
       ),
     ))
-    c.put_patched.ensures.copied c.put_patched.ensures.held
+    c.put_patched.ensures.copied c.put_patched.ensures.replaced
 
 pub returns-in-Ok-clause-bounded : goal.returns-in-Ok-clause-bounded
 returns-in-Ok-clause-bounded c =
@@ -39,7 +39,7 @@ returns-in-Ok-clause-bounded c =
       kept,
       λ bounded. bounded-patch _ _ operations c.in-Ok.ensures.applied c.in-Ok.ensures.shallow parsed bounded (c.in-Ok.ensures.sorted (all_sorted operations parsed) bounded.0),
     ))
-    c.put_patched.ensures.copied c.put_patched.ensures.held
+    c.put_patched.ensures.copied c.put_patched.ensures.replaced
 
 pub returns-in-Ok-clause-refused : goal.returns-in-Ok-clause-refused
 returns-in-Ok-clause-refused c =

@@ -279,9 +279,9 @@ diff_elements-returns-clause-changes t c =
     (omega (arith, past), omega (arith, past, both, k.0, inv.new)) in
     ok_both c.add_elements.result _ _ _
     (λ added kept. elements_change c.args.old.now c.args.new.now (tokens_of c.args.at.now) c.args.patch.now.items c.add_elements.new.patch.items
-    (λ all. kept (ends all).1 ∙ c.in_ok-remove_elements.ensures.unchanged (ends all).0 ∙ (inv.kept all).1)
+    (λ all. kept (ends all).1 ∙ c.in_ok-remove_elements.ensures.none (ends all).0 ∙ (inv.kept all).1)
     (appends_join P c.args.patch.now.items c.remove_elements.new.patch.items c.add_elements.new.patch.items (appends_join P c.args.patch.now.items c.loop-from.patch.items c.remove_elements.new.patch.items inv.parts c.in_ok-remove_elements.ensures.parts) added))
-    c.add_elements.ensures.parts c.add_elements.ensures.unchanged
+    c.add_elements.ensures.parts c.add_elements.ensures.none
 
 pub diff_gap-returns-clause-kept : goal.diff_gap-returns-clause-kept
 diff_gap-returns-clause-kept t c =
@@ -293,9 +293,9 @@ diff_gap-returns-clause-kept t c =
       | diff_gap-else-gap w ↦ w.both-is ∙ sym even
     ] in
     kept (ap (λ n. c.args.gap.to + n) (all ∙ even))
-    ∙ c.in_ok-remove_elements.ensures.unchanged (omega (arith, all))
+    ∙ c.in_ok-remove_elements.ensures.none (omega (arith, all))
     ∙ c.in_ok-follow_elements.ensures.kept (subst (λ (n : ℕ). AreSameFrom c.args.old.now.items c.args.gap.from c.args.gap.new.now.items c.args.gap.to n) (sym all) same))
-    c.add_elements.ensures.unchanged
+    c.add_elements.ensures.none
 
 pub diff_at-returns-in_default-clause-changes : goal.diff_at-returns-in_default-clause-changes
 diff_at-returns-in_default-clause-changes t c = ok_all c.replace_other.result _ _ (λ h. h (leaf_kind c.args.old.now (nodes (view c.args.new.now) []) c.in_default.not-Object c.in_default.not-Array)) c.replace_other.ensures.changes

@@ -32,5 +32,5 @@ returns-clause-splices c = λ first d k left s. splices_at (view (Array c.args.n
 pub returns-clause-parts : goal.returns-clause-parts
 returns-clause-parts c = c.loop-index.invariant.parts
 
-pub returns-clause-unchanged : goal.returns-clause-unchanged
-returns-clause-unchanged c = λ none. c.loop-index.invariant.kept (omega (arith, none, c.loop-index-test.false, c.loop-index.auto.index-end c.requires.order))
+pub returns-clause-none : goal.returns-clause-none
+returns-clause-none c = λ none. c.loop-index.invariant.kept (omega (arith, none, c.loop-index-test.false, c.loop-index.auto.index-end c.requires.order))

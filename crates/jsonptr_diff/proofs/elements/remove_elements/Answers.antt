@@ -30,5 +30,5 @@ returns-clause-splices c = λ whole first d e len k left a h s. splices_at whole
 pub returns-clause-parts : goal.returns-clause-parts
 returns-clause-parts c = c.loop-done.invariant.parts
 
-pub returns-clause-unchanged : goal.returns-clause-unchanged
-returns-clause-unchanged c = λ none. c.loop-done.invariant.kept (omega (arith, none, c.loop-done-test.false, c.loop-done.auto._done-end))
+pub returns-clause-none : goal.returns-clause-none
+returns-clause-none c = λ none. c.loop-done.invariant.kept (omega (arith, none, c.loop-done-test.false, c.loop-done.auto._done-end))

@@ -4,8 +4,13 @@ use Rattle.jsonptr.specs.Pointer.{tokens}
 use Rattle.jsonptr.specs.TomlValue.{HasSortedKeys}
 use Rattle.jsonptr_in_toml.specs.InToml.{DeletesTo}
 use Rattle.jsonptr_edit_in_toml.specs.Failing.{DeletesInOrder}
-use Rattle.jsonptr_edit_in_toml.proofs.ChangingLemmas.{reads_in_order, deletes_then, deleted_print, delete_fault}
+use Rattle.jsonptr_edit_in_toml.proofs.ChangingLemmas.{reads_in_order, deletes_then, deleted_print, unread_to_delete, unprinted_after_delete}
 use Rattle.jsonptr_edit_in_toml.proofs.delete.delete_in_toml.Goals as goal
+
+pub returns-in_err-document-clause-refused : goal.returns-in_err-document-clause-refused
+returns-in_err-document-clause-refused c =
+    let p = err_from_is_err_and c.from_residual.result c.from_residual.ensures.1 in
+    rw (p.1, p.2) (unread_to_delete c.args.text.now (tokens c.args.pointer) _ c.in_err-document.ensures.refused)
 
 pub returns-in_ok-choose-in-Some-clause-deleted : goal.returns-in_ok-choose-in-Some-clause-deleted
 returns-in_ok-choose-in-Some-clause-deleted c =
@@ -26,7 +31,7 @@ returns-in_err-choose-in-Some-clause-refused c =
     let reads = c.in_ok-document.ensures.document in
     let old : HasSortedKeys (view c.in_ok-document.document) = reads_in_order c.args.text.now (view c.in_ok-document.document) reads in
     let made : DeletesInOrder c.args.text.now (tokens c.args.pointer) (view c.delete.new.self) = ((view c.in_ok-document.document, reads, (view c.in-Some.field-0, found), c.in_ok-delete.ensures.deleted), c.in_ok-delete.ensures.sorted old) in
-    rw (p.1, p.2) (delete_fault c.args.text.now (tokens c.args.pointer) (view c.delete.new.self) _ made c.in_err-choose-in-Some.ensures.refused)
+    rw (p.1, p.2) (unprinted_after_delete c.args.text.now (tokens c.args.pointer) (view c.delete.new.self) _ made c.in_err-choose-in-Some.ensures.refused)
 
 pub returns-in-None-clause-deleted : goal.returns-in-None-clause-deleted
 returns-in-None-clause-deleted c =

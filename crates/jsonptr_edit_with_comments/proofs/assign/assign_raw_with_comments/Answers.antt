@@ -1,4 +1,5 @@
-use Rattle.std.proofs.Common.{sym, subst, string_bytes}
+use Rattle.std.proofs.Common.{sym, subst}
+use Rattle.std.proofs.lemmas.Result.{err_from_is_err_and}
 use Rattle.jsonptr.specs.Text.{Text}
 use Rattle.jsonptr.specs.Pointer.{tokens}
 use Rattle.jsonptr.specs.Json.{nodes}
@@ -8,12 +9,13 @@ use Rattle.jsonptr_edit_in_text.specs.EditInText.{AssignsInText, IsAssignError}
 use Rattle.jsonptr_edit_with_comments.proofs.EditLemmas.{refused}
 use Rattle.jsonptr_edit_with_comments.proofs.assign.assign_raw_with_comments.Goals as goal
 
-pub returns-in-Ok-clause-refused : goal.returns-in-Ok-clause-refused
-returns-in-Ok-clause-refused c =
+pub returns-in_err-new-clause-refused : goal.returns-in_err-new-clause-refused
+returns-in_err-new-clause-refused c =
     let w = subst (λ (t : Text). IsWithoutComments c.args.text.now t) (sym c.as_str-old.ensures.value) c.in_ok-bare.ensures.without in
-    (c.as_str-old.result.now, string_bytes c.in-Ok.new, w, c.in-Ok.ensures.assigned)
+    let p = err_from_is_err_and c.from_residual-in_err-new.result c.from_residual-in_err-new.ensures.1 in
+    rw (p.1, p.2) (refused (λ old new. AssignsInText old (tokens c.args.pointer) (nodes (value_of_raw c.args.value.now)) new) (λ old e. IsAssignError old (tokens c.args.pointer) (value_of_raw c.args.value.now) e) c.args.text.now c.as_str-old.result.now _ w c.in_err-new.ensures.refused)
 
 pub returns-clause-refused : goal.returns-clause-refused
 returns-clause-refused c =
     let w = subst (λ (t : Text). IsWithoutComments c.args.text.now t) (sym c.as_str-old.ensures.value) c.in_ok-bare.ensures.without in
-    refused (λ old new. AssignsInText old (tokens c.args.pointer) (nodes (value_of_raw c.args.value.now)) new) (λ old e. IsAssignError old (tokens c.args.pointer) (value_of_raw c.args.value.now) e) c.args.text.now c.as_str-old.result.now c.in-Err.error c.failed.result c.failed.ensures w c.in-Err.ensures.refused
+    (c.as_str-old.result.now, _, w, c.in_ok-new.ensures.assigned)

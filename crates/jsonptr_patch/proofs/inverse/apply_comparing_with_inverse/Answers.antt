@@ -4,11 +4,11 @@ use Rattle.jsonptr_journal.specs.Location.{contents_of}
 use Rattle.jsonptr_patch.proofs.inverse.apply_comparing_with_inverse.Goals as goal
 
 pub record_with_inverse-requires-clause-undone : goal.record_with_inverse-requires-clause-undone
-record_with_inverse-requires-clause-undone c = (contents_of c.args.document.now, c.new-journal.ensures (contents_of c.args.document.now))
+record_with_inverse-requires-clause-undone c = (contents_of c.args.document.now, c.new-run.ensures.journal (contents_of c.args.document.now))
 
 pub undo-requires : goal.undo-requires
-undo-requires c = (contents_of c.args.document.now, c.in-Err.ensures.undone (contents_of c.args.document.now) (c.new-journal.ensures (contents_of c.args.document.now)))
+undo-requires c = (contents_of c.args.document.now, c.in-Err.ensures.undone (contents_of c.args.document.now) (c.new-run.ensures.journal (contents_of c.args.document.now)))
 
 pub returns-clause-unchanged : goal.returns-clause-unchanged
 returns-clause-unchanged c = content_one (view c.undo.new.document) (view c.args.document.now)
-    (c.undo.ensures (contents_of c.args.document.now) (c.in-Err.ensures.undone (contents_of c.args.document.now) (c.new-journal.ensures (contents_of c.args.document.now))))
+    (c.undo.ensures (contents_of c.args.document.now) (c.in-Err.ensures.undone (contents_of c.args.document.now) (c.new-run.ensures.journal (contents_of c.args.document.now))))

@@ -27,21 +27,21 @@ returns-then-take_place-clause-back c = λ by n m p a.
 pub returns-clause-there : goal.returns-clause-there
 returns-clause-there c = ok_all c.back_of.result _ _
     (λ h n p.
-    let q = subst (λ (ls : List Later). IsPending (nodes (view c.args.document.now)) ls n) (sym (c.take_place.ensures.unchanged c.if-take_place.false)) p in
+    let q = subst (λ (ls : List Later). IsPending (nodes (view c.args.document.now)) ls n) (sym (c.take_place.ensures.not_taken c.if-take_place.false)) p in
     (n, subst (λ (x : Data). IsPending (nodes x) c.make_apart.new.run.later.items n) (sym c.back_of.ensures.unchanged) (c.in_ok-make_apart.ensures.same n q), itself n c.args.operation.now))
     c.back_of.ensures.back
 
 pub returns-clause-back : goal.returns-clause-back
 returns-clause-back c = ok_all c.back_of.result _ _
     (λ h by n m p a.
-    let q = subst (λ (ls : List Later). IsPending (nodes (view c.args.document.now)) ls n) (sym (c.take_place.ensures.unchanged c.if-take_place.false)) p in
+    let q = subst (λ (ls : List Later). IsPending (nodes (view c.args.document.now)) ls n) (sym (c.take_place.ensures.not_taken c.if-take_place.false)) p in
     later_back by c.make_apart.new.document n m c.args.operation.now h.0 c.args.inverse.now.items c.back_of.new.inverse.items c.make_apart.new.run.later.items c.in_ok-make_apart.ensures.apart h.1 h.2 (c.in_ok-make_apart.ensures.same n q) a)
     c.back_of.ensures.back
 
 pub returns-clause-refused : goal.returns-clause-refused
 returns-clause-refused c = refused_all c.back_of.result _ _
     (λ e r by n p.
-    let q = subst (λ (ls : List Later). IsPending (nodes (view c.args.document.now)) ls n) (sym (c.take_place.ensures.unchanged c.if-take_place.false)) p in
+    let q = subst (λ (ls : List Later). IsPending (nodes (view c.args.document.now)) ls n) (sym (c.take_place.ensures.not_taken c.if-take_place.false)) p in
     now_refused by c.make_apart.new.document c.args.turn.number c.args.operation.now c.make_apart.new.run.later.items c.in_ok-make_apart.ensures.apart e (change_refused by (nodes (view c.make_apart.new.document)) c.args.turn.number c.args.operation.now e r) n (c.in_ok-make_apart.ensures.same n q))
     c.back_of.ensures.refused
 

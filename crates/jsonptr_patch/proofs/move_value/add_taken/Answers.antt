@@ -6,8 +6,8 @@ use Rattle.jsonptr_patch.proofs.move_value.add_taken.Goals as goal
 pub add-requires : goal.add-requires
 add-requires c = place_allows (contents_of c.args.document.now) (tokens c.args.path) c.in-Ok.place c.in-Ok.ensures.found
 
-pub returns-in-Ok-add-clause-added : goal.returns-in-Ok-add-clause-added
-returns-in-Ok-add-clause-added c = place_adds (contents_of c.args.document.now) (contents_of c.args.value) (contents_of c.add.new.document) (tokens c.args.path) c.in-Ok.place c.in-Ok.ensures.found c.in-Ok-add.ensures.added
+pub returns-in_ok-add-in-Ok-clause-added : goal.returns-in_ok-add-in-Ok-clause-added
+returns-in_ok-add-in-Ok-clause-added c = place_adds (contents_of c.args.document.now) (contents_of c.args.value) (contents_of c.add.new.document) (tokens c.args.path) c.in-Ok.place c.in-Ok.ensures.found c.in_ok-add-in-Ok.ensures.added
 
-pub returns-in-Ok-add-clause-sorted : goal.returns-in-Ok-add-clause-sorted
-returns-in-Ok-add-clause-sorted c = place_sorted (contents_of c.args.document.now) (contents_of c.args.value) (contents_of c.add.new.document) c.in-Ok.place c.in-Ok-add.ensures.added
+pub returns-in_ok-add-in-Ok-clause-sorted : goal.returns-in_ok-add-in-Ok-clause-sorted
+returns-in_ok-add-in-Ok-clause-sorted c = place_sorted (contents_of c.args.document.now) (contents_of c.args.value) (contents_of c.add.new.document) c.in-Ok.place c.in_ok-add-in-Ok.ensures.added

@@ -15,22 +15,22 @@ use Rattle.jsonptr_patch.proofs.LaterLemmas.{blank_sorted, member_named, alone_t
 use Rattle.jsonptr_patch.proofs.OperatingLemmas.{for_refused}
 use Rattle.jsonptr_patch.proofs.move_value.move_member.Goals as goal
 
-pub remove-requires : goal.remove-requires
-remove-requires c = alone_there c.args.document.now c.blank.new.document c.insert_taken.new.document c.in-Some.value (tokens c.args.from) (tokens c.args.path) c.args.location c.requires.member c.requires.ways c.in-Some.ensures c.in-Ok.ensures.added
+pub remove_last-requires : goal.remove_last-requires
+remove_last-requires c = alone_there c.args.document.now c.blank.new.document c.add_taken_last.new.document c.in-Some.value (tokens c.args.from) (tokens c.args.path) c.args.location c.requires.member c.requires.ways c.in-Some.ensures c.in-Ok.ensures.added
 
 pub returns-in-Ok-clause-moved : goal.returns-in-Ok-clause-moved
-returns-in-Ok-clause-moved c = alone_moved c.args.document.now c.blank.new.document c.insert_taken.new.document c.remove.new.document c.in-Some.value (contents_of c.remove.result) (tokens c.args.from) (tokens c.args.path) c.args.location c.requires.member c.requires.ways c.in-Some.ensures c.in-Ok.ensures.added c.remove.ensures
+returns-in-Ok-clause-moved c = alone_moved c.args.document.now c.blank.new.document c.add_taken_last.new.document c.remove_last.new.document c.in-Some.value (contents_of c.remove_last.result) (tokens c.args.from) (tokens c.args.path) c.args.location c.requires.member c.requires.ways c.in-Some.ensures c.in-Ok.ensures.added c.remove_last.ensures
 
 pub returns-in-Ok-clause-sorted : goal.returns-in-Ok-clause-sorted
 returns-in-Ok-clause-sorted c = λ s.
     let a = c.in-Some.ensures in
     let both = blank_sorted (path_of c.args.location) c.in-Some.value c.args.document.now c.blank.new.document (tokens c.args.from) a (member_named (contents_of c.args.document.now) a.old (tokens c.args.from) (path_of c.args.location) c.requires.member a.there) s in
-    sorted_without (path_of c.args.location) (contents_of c.remove.result) (contents_of c.insert_taken.new.document) (contents_of c.remove.new.document) c.remove.ensures (c.in-Ok.ensures.sorted both.0 both.1)
+    sorted_without (path_of c.args.location) (contents_of c.remove_last.result) (contents_of c.add_taken_last.new.document) (contents_of c.remove_last.new.document) c.remove_last.ensures (c.in-Ok.ensures.sorted both.0 both.1)
 
 pub undo_removal-requires : goal.undo_removal-requires
 undo_removal-requires c = (
   contents_of c.args.document.now,
-  subst (λ (v : Value). At (path_of c.args.location) (ReplacesContent (contents_of v) (contents_of Null)) (contents_of c.args.document.now) (contents_of c.insert_taken.new.document)) (sym c.in-Err.ensures.returned)
+  subst (λ (v : Value). At (path_of c.args.location) (ReplacesContent (contents_of v) (contents_of Null)) (contents_of c.args.document.now) (contents_of c.add_taken_last.new.document)) (sym c.in-Err.ensures.returned)
       (subst (λ (d : Content). At (path_of c.args.location) (ReplacesContent (contents_of c.in-Some.value) (contents_of Null)) (contents_of c.args.document.now) d) (sym c.in-Err.ensures.unchanged) c.in-Some.ensures),
 )
 
@@ -42,7 +42,7 @@ returns-in-Err-clause-refused c = for_refused (Unit {0}) c.in-Err.field-0.fault 
 pub returns-in-Err-clause-unchanged : goal.returns-in-Err-clause-unchanged
 returns-in-Err-clause-unchanged c = content_one (view c.undo_removal.new.document) (view c.args.document.now)
     (c.undo_removal.ensures (contents_of c.args.document.now)
-    (subst (λ (v : Value). At (path_of c.args.location) (ReplacesContent (contents_of v) (contents_of Null)) (contents_of c.args.document.now) (contents_of c.insert_taken.new.document)) (sym c.in-Err.ensures.returned)
+    (subst (λ (v : Value). At (path_of c.args.location) (ReplacesContent (contents_of v) (contents_of Null)) (contents_of c.args.document.now) (contents_of c.add_taken_last.new.document)) (sym c.in-Err.ensures.returned)
     (subst (λ (d : Content). At (path_of c.args.location) (ReplacesContent (contents_of c.in-Some.value) (contents_of Null)) (contents_of c.args.document.now) d) (sym c.in-Err.ensures.unchanged) c.in-Some.ensures)))
 
 pub returns-in_default-clause-unchanged : goal.returns-in_default-clause-unchanged

@@ -15,25 +15,25 @@ use Rattle.jsonptr_patch.proofs.OperatingLemmas.{on_err, for_refused, left_refus
 use Rattle.jsonptr_patch.proofs.PlaceLemmas.{named_there}
 use Rattle.jsonptr_patch.proofs.move_value.moved.Goals as goal
 
-pub take-requires : goal.take-requires
-take-requires c = named_there (contents_of c.args.document.now) (tokens c.args.from) (path_of c.in_ok-location.location) c.in_ok-location.ensures.found
+pub remove-requires : goal.remove-requires
+remove-requires c = named_there (contents_of c.args.document.now) (tokens c.args.from) (path_of c.in_ok-location.location) c.in_ok-location.ensures.found
 
 pub returns-in_err-value-clause-unchanged : goal.returns-in_err-value-clause-unchanged
-returns-in_err-value-clause-unchanged c = on_err _ _ (content_one (view c.take.new.document) (view c.args.document.now) c.in_err-value.ensures.unchanged)
+returns-in_err-value-clause-unchanged c = on_err _ _ (content_one (view c.remove.new.document) (view c.args.document.now) c.in_err-value.ensures.unchanged)
 
 pub returns-in-Ok-clause-moved : goal.returns-in-Ok-clause-moved
 returns-in-Ok-clause-moved c = record {
   node = nodes (view c.in_ok-value.field-0.value);
-  left = nodes (view c.take.new.document);
+  left = nodes (view c.remove.new.document);
   apart = λ f. true≢false (sym (c.is_proper_front.ensures.1 f) ∙ c.if-is_proper_front.false);
-  taken = takes_node (path_of c.in_ok-location.location) (contents_of c.in_ok-value.field-0.value) (contents_of c.args.document.now) (contents_of c.take.new.document) (tokens c.args.from) c.in_ok-value.ensures.taken c.in_ok-location.ensures.found;
+  taken = takes_node (path_of c.in_ok-location.location) (contents_of c.in_ok-value.field-0.value) (contents_of c.args.document.now) (contents_of c.remove.new.document) (tokens c.args.from) c.in_ok-value.ensures.taken c.in_ok-location.ensures.found;
   added = c.in-Ok.ensures.added;
 }
 
 pub returns-in-Ok-clause-sorted : goal.returns-in-Ok-clause-sorted
 returns-in-Ok-clause-sorted c = λ a. c.in-Ok.ensures.sorted
-    (sorted_taken (path_of c.in_ok-location.location) (contents_of c.in_ok-value.field-0.value) (contents_of c.args.document.now) (contents_of c.take.new.document) c.in_ok-value.ensures.taken a)
-    (sorted_without (path_of c.in_ok-location.location) (contents_of c.in_ok-value.field-0.value) (contents_of c.args.document.now) (contents_of c.take.new.document) c.in_ok-value.ensures.taken a)
+    (sorted_taken (path_of c.in_ok-location.location) (contents_of c.in_ok-value.field-0.value) (contents_of c.args.document.now) (contents_of c.remove.new.document) c.in_ok-value.ensures.taken a)
+    (sorted_without (path_of c.in_ok-location.location) (contents_of c.in_ok-value.field-0.value) (contents_of c.args.document.now) (contents_of c.remove.new.document) c.in_ok-value.ensures.taken a)
 
 pub undo_removal-requires : goal.undo_removal-requires
 undo_removal-requires c = (
@@ -44,9 +44,9 @@ undo_removal-requires c = (
 
 pub returns-in-Err-clause-refused : goal.returns-in-Err-clause-refused
 returns-in-Err-clause-refused c = for_refused Entry c.in-Err.field-0.fault _ (RefusesMove (nodes (view c.args.document.now)) c.args.turn.number (tokens c.args.from) (tokens c.args.path))
-    (λ e. left_refused (nodes (view c.args.document.now)) (nodes (view c.in_ok-value.field-0.value)) (nodes (view c.take.new.document)) c.args.turn.number (tokens c.args.from) (tokens c.args.path) e
+    (λ e. left_refused (nodes (view c.args.document.now)) (nodes (view c.in_ok-value.field-0.value)) (nodes (view c.remove.new.document)) c.args.turn.number (tokens c.args.from) (tokens c.args.path) e
     (λ f. true≢false (sym (c.is_proper_front.ensures.1 f) ∙ c.if-is_proper_front.false))
-    (takes_node (path_of c.in_ok-location.location) (contents_of c.in_ok-value.field-0.value) (contents_of c.args.document.now) (contents_of c.take.new.document) (tokens c.args.from) c.in_ok-value.ensures.taken c.in_ok-location.ensures.found))
+    (takes_node (path_of c.in_ok-location.location) (contents_of c.in_ok-value.field-0.value) (contents_of c.args.document.now) (contents_of c.remove.new.document) (tokens c.args.from) c.in_ok-value.ensures.taken c.in_ok-location.ensures.found))
     c.in-Err.ensures.refused
 
 pub returns-in-Err-clause-unchanged : goal.returns-in-Err-clause-unchanged

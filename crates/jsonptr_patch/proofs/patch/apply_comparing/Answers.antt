@@ -7,10 +7,10 @@ use Rattle.jsonptr_patch.proofs.OperatingLemmas.{each_at, all_but_last}
 use Rattle.jsonptr_patch.proofs.patch.apply_comparing.Goals as goal
 
 pub apply_all-requires-clause-undone : goal.apply_all-requires-clause-undone
-apply_all-requires-clause-undone c = (contents_of c.args.document.now, c.new-journal.ensures (contents_of c.args.document.now))
+apply_all-requires-clause-undone c = (contents_of c.args.document.now, c.new-run.ensures.journal (contents_of c.args.document.now))
 
 pub undo-requires : goal.undo-requires
-undo-requires c = (contents_of c.args.document.now, c.in-Err.ensures.undone (contents_of c.args.document.now) (c.new-journal.ensures (contents_of c.args.document.now)))
+undo-requires c = (contents_of c.args.document.now, c.in-Err.ensures.undone (contents_of c.args.document.now) (c.new-run.ensures.journal (contents_of c.args.document.now)))
 
 pub returns-in-Ok-clause-sorted : goal.returns-in-Ok-clause-sorted
 returns-in-Ok-clause-sorted c = λ all a. c.in-Ok.ensures.sorted
@@ -20,4 +20,4 @@ returns-in-Ok-clause-sorted c = λ all a. c.in-Ok.ensures.sorted
 
 pub returns-clause-unchanged : goal.returns-clause-unchanged
 returns-clause-unchanged c = content_one (view c.undo.new.document) (view c.args.document.now)
-    (c.undo.ensures (contents_of c.args.document.now) (c.in-Err.ensures.undone (contents_of c.args.document.now) (c.new-journal.ensures (contents_of c.args.document.now))))
+    (c.undo.ensures (contents_of c.args.document.now) (c.in-Err.ensures.undone (contents_of c.args.document.now) (c.new-run.ensures.journal (contents_of c.args.document.now))))

@@ -8,10 +8,10 @@ pub returns-clause-one_patch : goal.returns-clause-one_patch
 returns-clause-one_patch c = one_patch
 
 pub returns-clause-one_error : goal.returns-clause-one_error
-returns-clause-one_error c = one_patch_error c.operation_law.ensures.not_both c.operation_law.ensures.one_error
+returns-clause-one_error c = one_patch_error c.operation_object_law.ensures.not_both c.operation_object_law.ensures.one_error
 
 pub returns-clause-not_both : goal.returns-clause-not_both
-returns-clause-not_both c = patch_or_not c.operation_law.ensures.not_both c.operation_law.ensures.one_error
+returns-clause-not_both c = patch_or_not c.operation_object_law.ensures.not_both c.operation_object_law.ensures.one_error
 
 pub returns-clause-same_effect : goal.returns-clause-same_effect
 returns-clause-same_effect c = same_effects Strict

@@ -1,0 +1,42 @@
+use Rattle.std.proofs.Common.{◌∷◌, List, Option, String, IfOk, IfSome, string_bytes, sym, subst}
+use Rattle.std.specs.declared.alloc.Global.{Global}
+use Rattle.jsonptr.specs.Text.{Text}
+use Rattle.jsonptr_edit_in_text.specs.PatchInText.{PatchesInText}
+use Rattle.jsonptr_edit_in_text.specs.PrivateOperating.{OperatesInText}
+use Rattle.jsonptr_edit_in_text.specs.RawPatching.{operations_in, GivenBytes, RawPatchBytes}
+use Rattle.jsonptr_edit_in_text.specs.declared.raw_operation.RawOperation.{RawOperation}
+use Rattle.jsonptr_edit_in_text.proofs.EditLemmas.{if_new}
+use Rattle.jsonptr_edit_in_text.proofs.OperatingLemmas.{patches_first}
+use Rattle.jsonptr_edit_in_text.proofs.apply.try_apply_raw_in_place.Goals as goal
+
+pub returns-clause-applied : goal.returns-clause-applied
+returns-clause-applied c =
+    let r = c.apply_rest.result in
+    let old = c.args.text.now in
+    let o = c.in-Some.first.now in
+    let os = c.in-Some.rest.now in
+    let mid = string_bytes c.in-Some-2.next in
+    let first = subst (λ (t : Text). OperatesInText t o.operation mid) c.in_ok-start.ensures.ok
+    (subst (λ (n : Option (String Global)). IfSome n (λ s. OperatesInText (string_bytes c.in_ok-start.start) o.operation (string_bytes s))) c.in-Some-2.is c.in_ok-next.ensures.applied) in
+    subst (λ (all : List RawOperation). IfOk r (λ n. IfSome n (λ s. PatchesInText old (operations_in all) (string_bytes s)))) (sym c.in-Some.ensures.cases.0)
+    (if_new r
+    (λ s. PatchesInText mid (operations_in os) (string_bytes s))
+    (λ s. PatchesInText old (o.operation ∷ operations_in os) (string_bytes s))
+    (λ s h. patches_first old mid (string_bytes s) o.operation (operations_in os) first h)
+    (c.apply_rest.ensures.applied first.1 first.3))
+
+pub returns-clause-bytes : goal.returns-clause-bytes
+returns-clause-bytes c =
+    let r = c.apply_rest.result in
+    let old = c.args.text.now in
+    let o = c.in-Some.first.now in
+    let os = c.in-Some.rest.now in
+    let mid = string_bytes c.in-Some-2.next in
+    let first = subst (λ (t : Text). GivenBytes t o.operation o.text mid) c.in_ok-start.ensures.ok
+    (subst (λ (n : Option (String Global)). IfSome n (λ s. GivenBytes (string_bytes c.in_ok-start.start) o.operation o.text (string_bytes s))) c.in-Some-2.is c.in_ok-next.ensures.bytes) in
+    subst (λ (all : List RawOperation). IfOk r (λ n. IfSome n (λ s. RawPatchBytes old all (string_bytes s)))) (sym c.in-Some.ensures.cases.0)
+    (if_new r
+    (λ s. RawPatchBytes mid os (string_bytes s))
+    (λ s. RawPatchBytes old (o ∷ os) (string_bytes s))
+    (λ s h. (mid, first, h))
+    c.apply_rest.ensures.bytes)
