@@ -244,7 +244,7 @@ def layouts():
 
 
 def locations():
-    """Where a value is, and which value is at a place."""
+    """Where a value is, and which value is at a position."""
     yield Case(("locate", "/a~1b/1"), TEXT, "3:14\n")
     yield Case(("locate", ""), "\n\n  {}", "3:3\n")
     yield Case(("locate", "/é/ü"), '{"é": {"ü": 1}}', "1:13\n")
@@ -309,6 +309,14 @@ def several():
     yield Case(("get", "--default", "null", "/b", "/c", "-"), TEXT, "1.0\nnull\n")
     yield Case(("get", "--compact", "", "/b", "-"), TEXT, '{"b":1.0,"a/b":[1,2]}\n1.0\n')
     yield Case(("get", "--indent", "1", "/a~1b", "/b", "-"), TEXT, "[\n 1,\n 2\n]\n1.0\n")
+    yield Case(("get", "--object", "/b", "/a~1b", "-"), TEXT, '{"/b": 1.0, "/a~1b": [1, 2]}\n')
+    yield Case(("get", "--object", ""), "[1,\n 2]\n", '{"": [1,\n 2]}\n')
+    yield Case(("get", "--object", "--compact", "/b", '/q"', "-"), '{"b": 1.10, "q\\"": {"z": 1, "a": 2}}', '{"/b":1.10,"/q\\"":{"z":1,"a":2}}\n')
+    yield Case(("get", "--object", "--indent", "1", "/b", "-"), TEXT, '{\n "/b": 1.0\n}\n')
+    yield Case(("get", "--object", "--sort-keys", "/b", "/a~1b", "-"), TEXT, '{"/a~1b":[1,2],"/b":1.0}\n')
+    yield Case(("get", "--object", "--default", "null", "/b", "/c", "-"), TEXT, '{"/b": 1.0, "/c": null}\n')
+    yield Case(("get", "--object", "--comments", "/b", "/c", "-"), '{"b": 1, // one\n"c": [2, /* two */ 3]}', '{"/b": 1, "/c": [\n  2,\n  3\n]}\n')
+    yield Case(("get", "--object", "/b", "/c", "-"), TEXT, "", f"jptr: standard input: {NOT_FOUND}\n/c\n ^ not found in value\n", 1)
     yield Case(("get", "/b", "/c", "/d", "-"), TEXT, "", f"jptr: standard input: {NOT_FOUND}\n/c\n ^ not found in value\n", 1)
     long = '{"a": 1.10, "b": 1e-400}'
     yield Case(("get", "--sort-keys", "/a", "/b", "-"), long, "", "jptr: standard input: the number loses digits: use --lossy\n", 3)
@@ -341,7 +349,8 @@ def unexpanded():
     yield Case((*words, "", "2"), TEXT, "2\n")
     scalar = "jptr: standard input: a scalar is on the way, and --no-expand replaces none\n"
     for pointer in ["/b/c", "/a~1b/0/-"]:
-        yield Case((*words, pointer, "2"), TEXT, "", scalar, 1)
+        caret = " " * (len(pointer) - 1) + "^"
+        yield Case((*words, pointer, "2"), TEXT, "", f"{scalar}{pointer}\n{caret} unreachable\n", 1)
     missing = f"jptr: standard input: {NOT_FOUND}; --no-expand creates no container\n"
     yield Case((*words, "/c/d", "2"), TEXT, "", f"{missing}/c/d\n ^ not found in value\n", 1)
     yield Case((*words, "/b", "2", "/c/d", "2"), TEXT, "", f"{missing}/c/d\n ^ not found in value\n", 1)
@@ -555,6 +564,8 @@ def usage():
     yield ("set", "/a", "1", "-i", "-")
     yield ("set", "/a", "1", "/b", "2", "-i")
     yield ("get", "/a", "/b", "-", "--lines")
+    yield ("get", "--object", "--lines", "/a")
+    yield ("get", "--object", "--raw", "/a")
     yield ("set", "/a", "1", "f", "-i", "--lines")
     yield ("set", "/a", "1", "--lines", "--reformat")
     yield ("get", "--lines", "--raw", "--default", '"a\\nb"', "/a")
@@ -939,7 +950,7 @@ def token(key):
     return key.replace("~", "~0").replace("/", "~1")
 
 
-def place_of(text, offset):
+def position_of(text, offset):
     """Returns the line and the column of a character."""
     before = text[:offset]
     return f"{before.count(chr(10)) + 1}:{offset - (before.rfind(chr(10)) + 1) + 1}"
@@ -951,11 +962,11 @@ def check_located(pool):
     for seed in range(40):
         text = random_text(Random(seed), 4)
         jobs += [(text, offset) for offset in range(min(len(text), 60))]
-    for (text, offset), given in zip(jobs, pool.map(lambda job: run(("locate", "--at", place_of(*job)), job[0]), jobs)):
+    for (text, offset), given in zip(jobs, pool.map(lambda job: run(("locate", "--at", position_of(*job)), job[0]), jobs)):
         pointer = innermost(text, offset)
-        case = Case(("locate", "--at", place_of(text, offset)), text, f"{pointer}\n")
+        case = Case(("locate", "--at", position_of(text, offset)), text, f"{pointer}\n")
         if pointer is None:
-            case = case._replace(output="", errors=f"jptr: standard input: no value at {place_of(text, offset)}\n", status=1)
+            case = case._replace(output="", errors=f"jptr: standard input: no value at {position_of(text, offset)}\n", status=1)
         check_result(case, given)
     return len(jobs)
 

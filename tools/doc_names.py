@@ -5,7 +5,7 @@
 - Each table has a head, and rows of as many cells.
 - Each crate, file, law, module and clause that a document names exists.
 - README, `docs/ARCHITECTURE.md` and `crates/jsonptr/CALLING.md` list each crate, and each module of `jsonptr_uses`.
-- Counts of tests, mutants, cases and stored answers are those of the tree, and the version is one everywhere.
+- Counts of tests, mutants, cases and stored results are those of the tree, and the version is one everywhere.
 - Each word of a public contract is in `docs/SPECIFICATION.md`.
 """
 import functools
@@ -219,16 +219,24 @@ def examples():
 
 
 def check_counts():
-    """Checks the counts that documents give."""
+    """Checks the counts that documents contain."""
     in_gate, others = (len(glob.glob(f"{TOP}/crates/*/{folder}/*.edit")) for folder in ("must-fail", "mutants"))
+    gated = {os.path.dirname(path) for path in glob.glob(f"{TOP}/crates/*/must-fail/*.edit")}
+    # The twins of the mutant X are X, or X.1, X.2.
+    twins = glob.glob(f"{TOP}/crates/*/mutants/twins/*.edit")
+    twinned = {(os.path.dirname(path), os.path.basename(path).split(".")[0]) for path in twins}
     stored = read("tools/compare/sample/requests.txt").count("\n")
     counted = (
         ("README.md", rf"`{NUMBER} passed, 0 failed`", tests()),
-        ("README.md", rf"{NUMBER} stored answers", stored),
+        ("README.md", rf"{NUMBER} stored results", stored),
+        ("README.md", rf"rejected: {NUMBER} mutants", in_gate + others),
+        ("README.md", rf"{NUMBER} beside a proved twin", len(twinned)),
         ("CONTRIBUTING.md", rf"There are {NUMBER} mutants", in_gate + others),
+        ("CONTRIBUTING.md", rf"mutants, {NUMBER} with a twin", len(twinned)),
         ("CONTRIBUTING.md", rf"`must-fail/` \| {NUMBER} mutants", in_gate),
+        ("CONTRIBUTING.md", rf"So only {NUMBER} crates have the folder", len(gated)),
         ("docs/PROVED.md", rf"{NUMBER} cases: every public call", len(call_cases.CASES)),
-        ("docs/PROVED.md", rf"compares {NUMBER} stored answers", stored),
+        ("docs/PROVED.md", rf"compares {NUMBER} stored results", stored),
         ("docs/PROVED.md", rf"each of the {NUMBER} and runs it", examples()),
         ("docs/COMPARING.md", rf"has {NUMBER} requests", stored),
     )

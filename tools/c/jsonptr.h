@@ -176,7 +176,7 @@ typedef uint32_t jsonptr_status;
 #define JSONPTR_KIND_INDEX_ABOVE_LENGTH 8u  /* the index is greater than the length of the array */
 /* JSONPTR_PATCH_FAILED */
 #define JSONPTR_KIND_MOVE_INTO_SELF     9u  /* `from` is a proper prefix of `path` */
-#define JSONPTR_KIND_TEST_FLOAT        10u  /* no longer given: a test compares such numbers */
+#define JSONPTR_KIND_TEST_FLOAT        10u  /* no longer returned: a test compares such numbers */
 #define JSONPTR_KIND_TEST_FAILED       11u  /* the values of a test differ */
 /* JSONPTR_NOT_PATCH */
 #define JSONPTR_KIND_NOT_AN_ARRAY      12u  /* the patch is not an array */
@@ -620,7 +620,7 @@ jsonptr_status jsonptr_resolve_in_text(const char *text, size_t text_length,
                                        jsonptr_error *error);
 
 /* Looks for the first number of a JSON text that loses digits, as
- * jsonptr_document_parse_with does, and copies its pointer. So it tells a number
+ * jsonptr_document_parse_with does, and copies its pointer. So it identifies a number
  * of JSONPTR_NOT_EXACT by its pointer, and tests the text of a value or of a patch
  * document before it is passed to another call.
  *

@@ -1,5 +1,5 @@
 #!/usr/bin/env python3
-"""Compares this library with the stored answers of the Rust crate: tools/compare/check_sample.py OURS
+"""Compares this library with the stored results of the Rust crate: tools/compare/check_sample.py OURS
 
 OURS is the built program of crates/jsonptr_tool_calls. Each field in which an answer differs must be a departure
 (departures.py), and each departure must occur. Otherwise the exit status is 1.

@@ -22,7 +22,7 @@ _jptr() {
     # The operands before the first file: pointers, values and texts, which are not completed.
     local words before=0
     case $command in
-        get) before=1 words="--toml --raw --pretty --compact --lossy --indent --sort-keys --color --default --lines --strict --line-buffered --comments --help" ;;
+        get) before=1 words="--object --toml --raw --pretty --compact --lossy --indent --sort-keys --color --default --lines --strict --line-buffered --comments --help" ;;
         set) before=2 words="--string --no-expand --create --toml --reformat --pretty --compact --lossy --indent --sort-keys --color --in-place --lines --strict --line-buffered --comments --help" ;;
         delete) before=1 words="--toml --reformat --pretty --compact --lossy --indent --sort-keys --color --in-place --lines --strict --line-buffered --comments --help" ;;
         insert) before=2 words="--string --reformat --pretty --compact --lossy --indent --sort-keys --color --in-place --lines --strict --line-buffered --comments --help" ;;

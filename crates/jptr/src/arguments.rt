@@ -248,6 +248,7 @@ fn get<'a>(alloc: Global) -> Result<Command<'a>, AllocError> {
         Kind::Value("JSON"),
         "Prints this value if the pointer resolves to none",
     );
+    let object = flag("object", "Prints one object, with the pointers as its keys");
     let raw = flag("raw", "Prints a string without quotes");
     let command = command_of(
         alloc,
@@ -257,6 +258,7 @@ fn get<'a>(alloc: Global) -> Result<Command<'a>, AllocError> {
             pointer(),
             files(),
             default.taking(Dashed::Numbers),
+            object.excluding("raw lines toml"),
             raw.excluding("pretty indent sort-keys"),
             toml_flag(),
         ],
@@ -507,7 +509,7 @@ fn locate<'a>(alloc: Global) -> Result<Command<'a>, AllocError> {
     let at = Argument::new(
         "at",
         Kind::Value("LINE:COLUMN"),
-        "Prints the pointer of the innermost value at this place instead, of the object if that is a key; FILE is then the only argument",
+        "Prints the pointer of the innermost value at this position instead, of the object if that is a key; FILE is then the only argument",
     );
     command_of(
         alloc,

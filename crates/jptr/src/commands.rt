@@ -98,7 +98,7 @@ fn run_command(rt: &HostRuntime, matches: &ArgMatches<'_>, name: &str) -> Result
 fn get(rt: &HostRuntime, matches: &ArgMatches<'_>) -> Result<u8, ProgramError> {
     let alloc = rt.alloc();
     let more = more_operands(alloc, matches)?;
-    if !more.is_empty() {
+    if !more.is_empty() || matches.get_flag("object") {
         return get_each(rt, matches, more.as_slice());
     }
     let text = argument(matches, "POINTER");

@@ -113,7 +113,7 @@ pub fn loss_of(
         return Ok(None);
     }
     match result_in_text(alloc, text, task, Layout::Kept) {
-        Ok(new) => loss_in_result(alloc, style.layout, new.as_str()),
+        Ok(new) => loss_in_result(alloc, new.as_str(), style.layout),
         Err(TaskError::NotInPlace) => Ok(first_of(in_document, in_values)),
         Err(TaskError::Memory(error)) => Err(error),
         // The command reports it.
@@ -160,8 +160,8 @@ fn lost_in_operation(alloc: Global, operation: &RawOperation) -> Result<Option<L
 /// Returns the first number that loses digits if the result is laid out so.
 fn loss_in_result(
     alloc: Global,
-    layout: Layout,
     text: &str,
+    layout: Layout,
 ) -> Result<Option<LossError>, AllocError> {
     match layout {
         Layout::Sorted | Layout::SortedPretty => Ok(first_of(find_lost(alloc, text)?, None)),

@@ -46,7 +46,7 @@ pub fn fault_of_patch(
 }
 
 /// Returns the pointer with carets below the token that leads to no value.
-fn missing(
+pub fn missing(
     alloc: Global,
     pointer: Pointer<'_>,
     bytes: &[u8],
@@ -133,14 +133,14 @@ fn fault_of(
     operation: &Operation,
 ) -> Result<Option<String>, AllocError> {
     match operation {
-        Operation::Add { path, .. } => place(alloc, document, path.as_ptr()),
+        Operation::Add { path, .. } => parent_or_index(alloc, document, path.as_ptr()),
         Operation::Remove { path } | Operation::Replace { path, .. } => {
             unresolved(alloc, document, path.as_ptr(), path.as_ptr())
         }
         Operation::Move { from, path } | Operation::Copy { from, path } => {
             match unresolved(alloc, document, from.as_ptr(), from.as_ptr())? {
                 Some(drawing) => Ok(Some(drawing)),
-                None => place(alloc, document, path.as_ptr()),
+                None => parent_or_index(alloc, document, path.as_ptr()),
             }
         }
         Operation::Test { path, value } => match path.as_ptr().resolve(alloc, document) {
@@ -167,7 +167,7 @@ fn unresolved(
 }
 
 /// Returns the pointer with carets below the token at which nothing can be added to the document.
-fn place(
+fn parent_or_index(
     alloc: Global,
     document: &mut Value,
     pointer: Pointer<'_>,
@@ -181,7 +181,7 @@ fn place(
     }
 }
 
-/// Returns the pointer with carets below its last token if that is no index at which a value can be
+/// Returns the pointer with carets below its last token if that is not an index at which a value can be
 /// added to an array.
 fn index(
     alloc: Global,
@@ -210,8 +210,8 @@ fn difference(
     if pointer.is_root() {
         return format!(in alloc; "the document is {found}, and not {wanted}");
     }
-    let place = shown(alloc, pointer.as_str())?;
-    format!(in alloc; "{place} is {found}, and not {wanted}")
+    let pointer = shown(alloc, pointer.as_str())?;
+    format!(in alloc; "{pointer} is {found}, and not {wanted}")
 }
 
 /// Returns the text, or its first characters and an ellipsis.

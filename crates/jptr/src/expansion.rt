@@ -1,5 +1,6 @@
 //! The flag `--no-expand`: no container is created on the way to a value, and no scalar replaced by one.
 
+use crate::drawn::missing;
 use crate::program_error::ProgramError;
 use crate::source::Source;
 use crate::toml_file;
@@ -33,7 +34,10 @@ pub fn check_expansion(
     };
     match scalar_above(alloc, text, *pointer) {
         Ok(None) => Ok(()),
-        Ok(Some(_)) => Err(ProgramError::new(alloc, NOT_APPLIED, name, SCALAR)),
+        Ok(Some(_)) => {
+            let drawing = missing(alloc, *pointer, text.as_bytes());
+            Err(ProgramError::new(alloc, NOT_APPLIED, name, SCALAR).with_drawing(drawing))
+        }
         Err(TaskError::NotJson) => Err(ProgramError::of_bytes(alloc, name, text.as_bytes())),
         Err(error) => Err(ProgramError::of_error_with_hint(
             alloc,

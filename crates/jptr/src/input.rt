@@ -2,6 +2,7 @@
 
 use crate::program_error::ProgramError;
 use jptr_tasks::exit_status::FILE;
+use jsonptr_io::input::{InputError, read_into};
 use jsonptr_value::if_json;
 use serde_json::Value;
 use simdutf8::basic::from_utf8;
@@ -64,9 +65,10 @@ pub fn open(rt: &HostRuntime, file: Option<&str>) -> Result<Input, ProgramError>
 pub fn read_input(rt: &HostRuntime, file: Option<&str>) -> Result<Vec<u8>, ProgramError> {
     let mut input = open(rt, file)?;
     let mut bytes = Vec::new(rt.alloc());
-    match input.read_to_end(&mut bytes) {
-        Ok(_) => Ok(bytes),
-        Err(error) => Err(file_error(rt.alloc(), name_of(file), &error)),
+    match read_into(&mut input, &mut bytes) {
+        Ok(()) => Ok(bytes),
+        Err(InputError::Memory(_error)) => Err(ProgramError::Memory),
+        Err(InputError::Read) => Err(input.read_error(rt.alloc(), name_of(file))),
     }
 }
 

@@ -1,4 +1,4 @@
-//! The command `locate`: where a value is in a file, and which value is at a place of it.
+//! The command `locate`: where a value is in a file, and which value is at a position in it.
 
 use crate::input::{is_standard, name_of};
 use crate::operands::{check_json, pointer_of};
@@ -13,17 +13,17 @@ use jsonptr::Pointer;
 use jsonptr_edit_in_text::{LocateError, PointerAt, locate_in_text, pointer_at};
 use std::alloc::{AllocError, Global};
 
-/// Prints where the value is that the pointer resolves to, or the pointer of the value at a place.
+/// Prints where the value is that the pointer resolves to, or the pointer of the value at a position.
 pub fn locate(rt: &HostRuntime, matches: &ArgMatches<'_>) -> Result<u8, ProgramError> {
     let alloc = rt.alloc();
     let (first, file) = (matches.get_str("POINTER"), matches.get_str("FILE"));
     match matches.get_str("at") {
-        Some(place) => {
+        Some(argument) => {
             if file.is_some() {
                 let message = "--at takes a file alone";
                 return Err(ProgramError::new(alloc, USAGE, "locate", message));
             }
-            print_pointer(rt, matches, first, place)
+            print_pointer(rt, matches, first, argument)
         }
         None => match first {
             Some(pointer) => print_position(rt, matches, file, pointer),
@@ -55,26 +55,26 @@ fn print_position(
     }
 }
 
-/// Prints the pointer of the innermost value at the place.
+/// Prints the pointer of the innermost value at the position.
 fn print_pointer(
     rt: &HostRuntime,
     matches: &ArgMatches<'_>,
     file: Option<&str>,
-    place: &str,
+    argument: &str,
 ) -> Result<u8, ProgramError> {
     let alloc = rt.alloc();
-    let Some(position) = Position::parse(place) else {
+    let Some(position) = Position::parse(argument) else {
         return Err(ProgramError::new(alloc, USAGE, "--at", "is not LINE:COLUMN, both from 1"));
     };
     check_json(alloc, "locate", file)?;
     let source = Source::read_as(rt, FileFormat::of_file(matches, file), file)?;
     let text = source.text(alloc)?;
     let Some(offset) = position.offset_in(text) else {
-        return Err(nothing_at(alloc, &source, place));
+        return Err(nothing_at(alloc, &source, argument));
     };
     match pointer_at(alloc, text, offset) {
         Ok(Some(PointerAt { pointer, .. })) => print_line(rt, pointer.as_ptr().as_str()),
-        Ok(None) => Err(nothing_at(alloc, &source, place)),
+        Ok(None) => Err(nothing_at(alloc, &source, argument)),
         Err(error) => Err(locate_error(alloc, &source, Pointer::root(), error)),
     }
 }
@@ -89,9 +89,9 @@ fn locate_error(
     source.error(alloc, pointer.as_str(), TaskError::from(error))
 }
 
-/// Returns the error of a place that has no value.
-fn nothing_at(alloc: Global, source: &Source<'_>, place: &str) -> ProgramError {
-    let message = format!(in alloc; "no value at {place}");
+/// Returns the error of a position that has no value.
+fn nothing_at(alloc: Global, source: &Source<'_>, argument: &str) -> ProgramError {
+    let message = format!(in alloc; "no value at {argument}");
     ProgramError::of_message(alloc, NOT_APPLIED, source.name, message)
 }
 

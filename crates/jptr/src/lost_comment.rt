@@ -54,7 +54,7 @@ fn reason(alloc: Global, lost: Option<Position>, reformats: bool) -> Result<Stri
     }
 }
 
-/// Returns the place of the comment that the task would lose, if it moves a value.
+/// Returns the position of the comment that the task would lose, if it moves a value.
 fn lost_by(
     alloc: Global,
     task: &Task<'_>,
@@ -80,8 +80,8 @@ fn moved_by<'t>(task: &'t Task<'_>) -> Option<Pointer<'t>> {
     }
 }
 
-/// Returns the place of the first comment that goes with the value, if one does: in it, or after it on
-/// its line.
+/// Returns the position of the first comment that goes with the value, if one does: in it, or after it
+/// on its line.
 fn lost_with(
     alloc: Global,
     commented: CommentedText<'_>,

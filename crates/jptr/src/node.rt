@@ -31,7 +31,7 @@ pub fn print_node(
     let lines = match command {
         "type" => type_line(alloc, text, pointer),
         "length" => length_line(alloc, text, pointer),
-        _ => key_lines(alloc, layout_of(matches), text, pointer),
+        _ => key_lines(alloc, text, pointer, layout_of(matches)),
     };
     match lines {
         Ok(Some(lines)) => {
@@ -64,9 +64,9 @@ fn length_line(
 /// Returns a line for each key of the value, in this layout, or `None` if it has none.
 fn key_lines(
     alloc: Global,
-    layout: Layout,
     text: &str,
     pointer: Pointer<'_>,
+    layout: Layout,
 ) -> Result<Option<String>, TaskError> {
     match keys_in_text(alloc, text, pointer)? {
         Some(keys) => Ok(Some(lines_of_keys(alloc, layout, keys)?)),

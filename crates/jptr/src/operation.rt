@@ -108,7 +108,7 @@ fn member_of(alloc: Global, parent: Pointer<'_>, key: &str) -> Result<PointerBuf
     Ok(path)
 }
 
-/// Fails if the parent is no object, if it has no such member, or if it has one with the new pointer.
+/// Fails if the parent is not an object, lacks the member, or has one with the new pointer.
 fn check_member(
     alloc: Global,
     source: &Source<'_>,

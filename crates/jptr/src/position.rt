@@ -1,6 +1,6 @@
-//! Places of a text by their lines and columns.
+//! Positions in a text, by line and column.
 
-/// A place in a text: the numbers of its line, and of its character in that line, from 1.
+/// A position in a text: the numbers of its line, and of its character in that line, from 1.
 #[derive(Clone, Copy)]
 pub struct Position {
     /// The number of the line.
@@ -10,12 +10,12 @@ pub struct Position {
 }
 
 impl Position {
-    /// Returns the place after this text.
+    /// Returns the position after this text.
     pub fn after(before: &str) -> Position {
         Position::at(before, before.len())
     }
 
-    /// Returns the place of this offset in the text, in bytes.
+    /// Returns the position of this offset in the text, in bytes.
     pub fn at(text: &str, offset: usize) -> Position {
         let mut position = Position { line: 1, column: 1 };
         for (start, character) in text.char_indices() {
@@ -46,7 +46,7 @@ impl Position {
         }
     }
 
-    /// Returns the offset of the place in the text, in bytes, or `None` if the text has no such place.
+    /// Returns the offset of the position in the text, in bytes, or `None` if the text does not have it.
     pub fn offset_in(self, text: &str) -> Option<usize> {
         let mut start: usize = 0;
         let mut number: usize = 1;

@@ -15,7 +15,7 @@ use thiserror::Error;
 /// Its text is what is printed, with its line breaks.
 #[derive(Debug, Drop, Error)]
 pub enum ProgramError {
-    /// Nobody reads the output any more. That is no error, and nothing is printed.
+    /// Nobody reads the output any more. That is not an error, and nothing is printed.
     #[error("")]
     OutputClosed,
     /// An allocation failed.

@@ -14,7 +14,7 @@ use jptr_tasks::exit_status::USAGE;
 use jptr_tasks::layout::Layout;
 use jptr_tasks::task::Task;
 use jsonptr::Pointer;
-use std::alloc::Global;
+use std::alloc::{AllocError, Global};
 
 /// Returns the task of finding the value at the pointer with this text.
 pub fn get_task<'a>(
@@ -38,7 +38,7 @@ pub fn set_task<'a>(
     Ok(Task::Set(pointer, value))
 }
 
-/// Prints the value that each pointer resolves to.
+/// Prints the value that each pointer resolves to, each on its own or all as one object.
 pub fn get_each<'a>(
     rt: &HostRuntime,
     matches: &ArgMatches<'a>,
@@ -49,7 +49,11 @@ pub fn get_each<'a>(
     let tasks = get_tasks(alloc, matches, more)?;
     let style = style_of(alloc, matches)?;
     let source = Source::open(rt, matches)?;
-    let values = values_of(alloc, tasks.as_slice(), style, &source)?;
+    let values = if matches.get_flag("object") {
+        object_of(alloc, tasks.as_slice(), style, &source)?
+    } else {
+        values_of(alloc, tasks.as_slice(), style, &source)?
+    };
     if style.layout == Layout::Raw {
         print_text(rt, values.as_str())?;
     } else {
@@ -85,6 +89,42 @@ fn values_of(
         values.push_str(value.as_str())?;
     }
     Ok(values)
+}
+
+/// Returns one object of the results of the tasks on the document. Its keys are the pointers.
+fn object_of(
+    alloc: Global,
+    tasks: &[Task<'_>],
+    style: OutputStyle,
+    source: &Source<'_>,
+) -> Result<String, ProgramError> {
+    let mut object = String::new(alloc);
+    let mut before = "{";
+    for task in tasks {
+        let value = source_result(alloc, task, style.for_edit(), source)?;
+        object.push_str(before)?;
+        push_member(alloc, &mut object, task, value.as_str().trim_end())?;
+        before = ", ";
+    }
+    object.push('}')?;
+    let whole = Task::Get(Pointer::root(), None);
+    result_of(alloc, &whole, style, source.name, object.as_bytes())
+}
+
+/// Appends the member of a value that a task found.
+fn push_member(
+    alloc: Global,
+    object: &mut String,
+    task: &Task<'_>,
+    value: &str,
+) -> Result<(), AllocError> {
+    let Task::Get(pointer, _) = task else {
+        return Ok(());
+    };
+    let key = pointer.to_json_value(alloc)?.to_string(alloc)?;
+    object.push_str(key.as_str())?;
+    object.push_str(": ")?;
+    object.push_str(value)
 }
 
 /// Deletes the value at each pointer, in order.

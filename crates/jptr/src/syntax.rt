@@ -5,7 +5,7 @@ use crate::program_error::shown;
 use jsonptr_value::MAX_DEPTH;
 use std::alloc::{AllocError, Global};
 
-/// The greatest number of characters that are drawn before and after a place.
+/// The greatest number of characters that are drawn before and after an offset.
 const MOST_DRAWN: usize = 60;
 
 /// What to do about a comment.
@@ -32,7 +32,7 @@ enum Next {
     End,
 }
 
-/// What is wrong at a place of a text.
+/// What is wrong at an offset of a text.
 #[derive(Clone, Copy)]
 enum SyntaxError {
     /// This is expected there.
@@ -47,8 +47,8 @@ enum SyntaxError {
     Comment,
 }
 
-/// Returns what is wrong with the text: the place, its line, and a caret below it. Returns `None` if
-/// nothing is found, as for a number out of range.
+/// Returns what is wrong with the text: the position, its line, and a caret below it. Returns `None`
+/// if nothing is found, as for a number out of range.
 pub fn explain(alloc: Global, text: &str) -> Result<Option<String>, AllocError> {
     let mut scanner = Scanner {
         bytes: text.as_bytes(),
@@ -62,7 +62,7 @@ pub fn explain(alloc: Global, text: &str) -> Result<Option<String>, AllocError> 
     }
 }
 
-/// Returns that the block comment at the offset is not closed: its place, its line, and a caret below it.
+/// Returns that the block comment at the offset is not closed: its position, its line, and a caret below.
 pub fn unclosed_comment(alloc: Global, text: &str, offset: usize) -> Result<String, AllocError> {
     drawn(alloc, text, offset, SyntaxError::Comment)
 }

@@ -20,7 +20,7 @@ const DEFAULT: &str = "--default";
 /// A value that is an argument of the command line.
 #[derive(Drop)]
 pub enum ValueArgument<'a> {
-    /// A string, which is the argument as it is.
+    /// A string, which is the unchanged argument.
     String(&'a str),
     /// A text, after its name in errors: that of the argument, or of the file.
     Text(&'a str, String),

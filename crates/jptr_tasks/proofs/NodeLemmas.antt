@@ -1,5 +1,6 @@
 -- The keys of an object, one by one.
-use Rattle.std.proofs.Common.{◌≡◌, List, [], ◌∷◌, ◌++◌, map, Bool, true, false, true≢false, Option, Some, None, MatchOption, String, string_bytes, refl, sym, ap, ◌∙◌, subst}
+use Rattle.std.proofs.Common.{◌≡◌, List, [], ◌∷◌, ◌++◌, map, Bool, true, false, true≢false, Option, Some, None, MatchOption, String, string_bytes, refl, sym, ap, ◌∙◌, ◌-◌, subst}
+use Rattle.serde_json.specs.Read.{max_depth}
 use Rattle.std.specs.declared.alloc.Global.{Global}
 use Rattle.json.specs.Json.{read_key}
 use Rattle.json.specs.Token as spec
@@ -13,7 +14,7 @@ use Rattle.jptr_tasks.specs.Nodes.{AreMembers}
 
 -- one member more
 one_member : (old : List spec.Token) (ks : List Text) (mid at new : List spec.Token) (k : Text) (d : Data)
-    → AreMembers old ks mid → read_key mid ≡ Some (Some k, at) → ReadsTokens 126 at d new → AreMembers old (ks ++ k ∷ []) new
+    → AreMembers old ks mid → read_key mid ≡ Some (Some k, at) → ReadsTokens (max_depth - 1) at d new → AreMembers old (ks ++ k ∷ []) new
 one_member old [] mid at new k d h r s = (at, new, d, subst (λ (ts : List spec.Token). read_key ts ≡ Some (Some k, at)) h r, s, refl)
 one_member old (x ∷ ks) mid at new k d h r s = (h.0, h.1, h.2, h.3, h.4, one_member h.1 ks mid at new k d h.5 r s)
 
@@ -24,7 +25,7 @@ mapped (s ∷ before) key = ap (λ (ts : List Text). string_bytes s ∷ ts) (map
 
 -- the same with the keys as strings
 pub one_key : (old : List spec.Token) (before after : List (String Global)) (key : String Global) (mid at new : List spec.Token) (k : Text) (d : Data)
-    → AreMembers old (map string_bytes before) mid → after ≡ before ++ key ∷ [] → string_bytes key ≡ k → read_key mid ≡ Some (Some k, at) → ReadsTokens 126 at d new
+    → AreMembers old (map string_bytes before) mid → after ≡ before ++ key ∷ [] → string_bytes key ≡ k → read_key mid ≡ Some (Some k, at) → ReadsTokens (max_depth - 1) at d new
     → AreMembers old (map string_bytes after) new
 one_key old before after key mid at new k d h e n r s =
     let there : read_key mid ≡ Some (Some (string_bytes key), at) = r ∙ ap (λ (t : Text). Some (Some t, at)) (sym n) in

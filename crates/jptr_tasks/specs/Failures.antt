@@ -58,11 +58,11 @@ abbrev pub of_read_error : ReadError → TaskError
 of_read_error unread.NotJson = NotJson
 of_read_error (unread.Memory e) = Memory e
 
--- `error_of_resolving e`: the error of the command if a pointer does not resolve in a text
-abbrev pub error_of_resolving : InTextError → TaskError
-error_of_resolving in_text.NotJson = NotJson
-error_of_resolving (in_text.Resolve e) = Resolve e
-error_of_resolving (in_text.Memory e) = Memory e
+-- `of_in_text_error e`: the error of the command if a pointer does not resolve in a text
+abbrev pub of_in_text_error : InTextError → TaskError
+of_in_text_error in_text.NotJson = NotJson
+of_in_text_error (in_text.Resolve e) = Resolve e
+of_in_text_error (in_text.Memory e) = Memory e
 
 -- `of_locate_error e`: the error of the command if a value is not located in a text
 abbrev pub of_locate_error : LocateError → TaskError

@@ -1,12 +1,12 @@
 -- The value that tokens identify in the text of a document: its type, its length, its keys, and what it equals.
-use Rattle.std.specs.Prelude.{◌≡◌, ◌⊎◌, ℕ, List, [], ◌∷◌, ◌++◌, map, length, Bool, IsTrue, ◌↔◌, Option, Some, None, MatchOption, Vec, String, chars, codes, string_bytes, ⊤}
+use Rattle.std.specs.Prelude.{◌≡◌, ◌⊎◌, ℕ, List, [], ◌∷◌, ◌++◌, map, length, Bool, IsTrue, ◌↔◌, ◌-◌, Option, Some, None, MatchOption, Vec, String, chars, codes, string_bytes, ⊤}
 use Rattle.std.specs.declared.alloc.Global.{Global}
 use Rattle.json.specs.Json.{read_key}
 use Rattle.json.specs.Lex as lex
 use Rattle.json.specs.Token.{Token, begin_object}
 use Rattle.serde_json.specs.Data.{Data, null, boolean, number, string, array, object}
 use Rattle.serde_json.specs.Events.{items_len, members_len}
-use Rattle.serde_json.specs.Read.{read}
+use Rattle.serde_json.specs.Read.{max_depth, read}
 use Rattle.jsonptr.specs.Text.{Text}
 use Rattle.jsonptr.specs.Json.{nodes}
 use Rattle.jsonptr_json_search.specs.Reading.{ReadsTokens}
@@ -32,7 +32,7 @@ ValueHasLength text ts n = (d : Data) × FindsInText text ts d × (n ≡ length_
 abbrev pub AreMembers : List Token → List Text → List Token → Type 0
 AreMembers ts [] rest = rest ≡ ts
 AreMembers ts (k ∷ ks) rest =
-    (at next : List Token) × (d : Data) × (read_key ts ≡ Some (Some k, at)) × ReadsTokens 126 at d next × AreMembers next ks rest
+    (at next : List Token) × (d : Data) × (read_key ts ≡ Some (Some k, at)) × ReadsTokens (max_depth - 1) at d next × AreMembers next ks rest
 
 -- `ListsKeys piece ks`: `piece` is an object, and `ks` are the keys of its members, in their order
 abbrev pub ListsKeys : Text → List Text → Type 0

@@ -56,10 +56,10 @@ DeletesInLayout text ts layout out =
     (new : Text) × DeletesInText text ts new × Lays layout new out
     × (layout ≡ Kept → DeletesBytes text ts new × StaysOneLine text new)
 
--- `PatchesByInLayout text patch layout out`: `out` is the document of `text` after the operations that the document `patch` is,
+-- `PatchesBytesInLayout text patch layout out`: `out` is the document of `text` after the operations that the document `patch` is,
 -- in this layout. In the layout `Kept` only the bytes of the operations change, and a text of one line stays one line
-abbrev pub PatchesByInLayout : Text → Data → Layout → Text → Type 0
-PatchesByInLayout text patch layout out =
+abbrev pub PatchesBytesInLayout : Text → Data → Layout → Text → Type 0
+PatchesBytesInLayout text patch layout out =
     (os : List Operation) × (new : Text)
     × IsPatch patch os × PatchesInText text os new × Lays layout new out
     × (layout ≡ Kept → PatchBytes text os new × StaysOneLine text new)
@@ -71,11 +71,11 @@ PatchesInLayout text patch layout out =
     (os : List Operation) × (new : Text)
     × IsPatch patch os × PatchesInText text os new × Lays layout new out × (layout ≡ Kept → StaysOneLine text new)
 
--- `PatchesRawInLayout text p layout out`: `PatchesByInLayout` for the patch `p`. In the layout `Kept` what an operation puts into the text holds the
+-- `PatchesRawInLayout text p layout out`: `PatchesBytesInLayout` for the patch `p`. In the layout `Kept` what an operation puts into the text holds the
 -- tokens of the text that comes with it
 abbrev pub PatchesRawInLayout : Text → RawPatch → Layout → Text → Type 0
 PatchesRawInLayout text p layout out =
-    PatchesByInLayout text (view p.document) layout out × (layout ≡ Kept → RawPatchBytes text p.operations.items out)
+    PatchesBytesInLayout text (view p.document) layout out × (layout ≡ Kept → RawPatchBytes text p.operations.items out)
 
 -- `Yields task layout text out`: `out` is the result of the task on `text`, in this layout
 abbrev pub Yields : Task → Layout → Text → Text → Type 0

@@ -17,7 +17,7 @@ use std::io;
 
 /// Returns what is printed for the task on the bytes of a document.
 ///
-/// A document that keeps the layout of its text is printed as it is. Every other result gets a line
+/// A document that keeps the layout of its text is printed unchanged. Every other result gets a line
 /// break at its end.
 ///
 /// # Errors
@@ -87,7 +87,7 @@ fn ends_in_break(task: &Task<'_>, layout: Layout) -> bool
     }
 }
 
-/// Reads the input to its end, and writes what the task gives for its document.
+/// Reads the input to its end, and writes the result of the task on its document.
 ///
 /// The bytes of the input are left in `bytes`, so that the caller can say more about an error. What
 /// `bytes` had before is removed. All memory is that of the allocator of `bytes`.

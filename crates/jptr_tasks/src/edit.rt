@@ -18,8 +18,8 @@ use std::alloc::Global;
 
 /// Assigns the value at the pointer in the text, and returns the new document in this layout.
 ///
-/// With [`Layout::Kept`] the text is edited in place. In the other layouts the new document is printed
-/// anew.
+/// With [`Layout::Kept`] the text is edited in place. In the other layouts the tokens of that text are
+/// laid out anew.
 ///
 /// # Errors
 ///
@@ -83,8 +83,8 @@ fn set_anew(
 /// Deletes the value that the pointer resolves to in the text, and returns the new document in this
 /// layout.
 ///
-/// With [`Layout::Kept`] the text is edited in place. In the other layouts the new document is printed
-/// anew.
+/// With [`Layout::Kept`] the text is edited in place. In the other layouts the tokens of that text are
+/// laid out anew.
 ///
 /// # Errors
 ///

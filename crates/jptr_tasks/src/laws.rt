@@ -21,7 +21,7 @@ ghost use Rattle.jptr_tasks.specs.Differences.{IsDifference};
 ghost use Rattle.jptr_tasks.specs.Inverting.{IsInverse};
 ghost use Rattle.jptr_tasks.specs.Layouts.{ShowsInLayout, ReadsBack};
 ghost use Rattle.jptr_tasks.specs.Paths.{ListsText, BuildsText, FailsToBuild};
-ghost use Rattle.jptr_tasks.specs.Results.{PatchesByInLayout, FailsToPatch};
+ghost use Rattle.jptr_tasks.specs.Results.{PatchesBytesInLayout, FailsToPatch};
 ghost use Rattle.jptr_tasks.specs.declared.difference.PatchText.{PatchText};
 ghost use Rattle.jptr_tasks.specs.declared.task_error.TaskError.{TaskError};
 ghost use Rattle.jptr_tasks.specs.declared.task_error.TaskError.TheVariants.{BadLine, NotInPlace, NotJson, Memory};
@@ -68,7 +68,7 @@ pub fn printed_difference_law()
         → read a ≡ Some n → read b ≡ Some m
         → IsDifference (nodes n) (nodes m) style d
         → read (string_bytes d.text) ≡ Some p
-        → PatchesByInLayout a p layout out
+        → PatchesBytesInLayout a p layout out
         → ReadsBack layout m out }
     ensures never_refused { (a b : Text) (n m p : Data) (style layout : Layout) (d : PatchText) (e : TaskError)
         → read a ≡ Some n → read b ≡ Some m
@@ -94,13 +94,13 @@ pub fn printed_difference_law()
 pub fn printed_inverse_law()
     ensures undone { (a b out : Text) (d patch back : Data) (style first layout : Layout) (u : PatchText)
         → read a ≡ Some d
-        → PatchesByInLayout a patch first b → first ≢ Raw
+        → PatchesBytesInLayout a patch first b → first ≢ Raw
         → IsInverse a patch style u → read (string_bytes u.text) ≡ Some back
-        → PatchesByInLayout b back layout out
+        → PatchesBytesInLayout b back layout out
         → ReadsBack layout d out }
     ensures never_refused { (a b : Text) (d patch back : Data) (style first layout : Layout) (u : PatchText) (e : TaskError)
         → read a ≡ Some d
-        → PatchesByInLayout a patch first b → first ≢ Raw
+        → PatchesBytesInLayout a patch first b → first ≢ Raw
         → IsInverse a patch style u → read (string_bytes u.text) ≡ Some back
         → FailsToPatch b back layout e
         → ((f : AllocError) × (e ≡ Memory f)) ⊎ ((layout ≡ Kept) × (e ≡ NotInPlace)) }

@@ -14,7 +14,7 @@ use std::alloc::{AllocError, Global};
 /// How the result of a task is printed.
 #[derive(Clone, Copy, Debug, PartialEq, Eq)]
 pub enum Layout {
-    /// The text as it is: members in their order, numbers and white space as they are written.
+    /// The text, unchanged: members in their order, numbers and white space as they are written.
     Kept,
     /// Without white space. Members keep their order, and numbers their text.
     Compact,
@@ -25,7 +25,7 @@ pub enum Layout {
     Sorted,
     /// As [`Pretty`](Layout::Pretty), with sorted members. Numbers are read, and printed anew.
     SortedPretty,
-    /// A string without its quotes and escapes, and the text of any other value as it is.
+    /// A string without its quotes and escapes, and the unchanged text of any other value.
     Raw,
 }
 
@@ -64,7 +64,7 @@ fn show_raw(alloc: Global, value: &Value) -> Result<String, AllocError>
     }
 }
 
-/// Returns the JSON text in this layout. With [`Layout::Kept`] that is the text as it is.
+/// Returns the JSON text in this layout. With [`Layout::Kept`] that is the unchanged text.
 ///
 /// # Errors
 ///
@@ -104,7 +104,7 @@ fn formatted(
     text: &str,
     format: Format,
 ) -> Result<String, TaskError>
-    ensures laid_out { IfOk result (λ s. IsFormatted format text.now (string_bytes s)) }
+    ensures formatted { IfOk result (λ s. IsFormatted format text.now (string_bytes s)) }
     ensures refused { IfErr result (IsLayoutError text.now) }
 {
     Ok(format_text(alloc, scratch, text, format)?)

@@ -71,9 +71,9 @@ pub fn put_line<W: io::Write, E: io::Write>(
             put_text(output, text.as_str())?;
             Ok(true)
         }
-        Err(failure) => {
-            let failure = fault_of_line(failure)?;
-            let report = report_of(alloc, run.name.as_str(), line, &failure)?;
+        Err(error) => {
+            let error = fault_of_line(error)?;
+            let report = report_of(alloc, run.name.as_str(), line, &error)?;
             put_fault(&run.fallback, report.as_str(), output, errors)?;
             Ok(false)
         }
@@ -109,13 +109,13 @@ fn line_result(
 
 /// Returns the failure again if it is a fault of the line, and as an error if it is a failed
 /// allocation.
-fn fault_of_line(failure: TaskError) -> Result<TaskError, TaskError>
-    ensures reported { IfOk result (λ e. (e ≡ failure) × IsNoMemory e) }
+fn fault_of_line(error: TaskError) -> Result<TaskError, TaskError>
+    ensures reported { IfOk result (λ e. (e ≡ error) × IsNoMemory e) }
     ensures refused { IfErr result StopsRun }
 {
-    match failure {
+    match error {
         TaskError::Memory(error) => Err(TaskError::Memory(error)),
-        failure => Ok(failure),
+        error => Ok(error),
     }
 }
 
@@ -181,20 +181,20 @@ fn report_of(
     alloc: Global,
     name: &str,
     line: Line<'_>,
-    failure: &TaskError,
+    error: &TaskError,
 ) -> Result<String, AllocError>
     ensures { IfOk result (λ s. IsReport name.now line.entry.number (string_bytes s)) }
 {
-    let message = message_of(alloc, line.bytes, failure)?;
+    let message = message_of(alloc, line.bytes, error)?;
     let number = line.number;
     format!(in alloc; "{name}:{number}: {message}\n")
 }
 
 /// Returns the text of the error. Of a line that is not JSON it has the column, in bytes from 1, where
 /// reading ends.
-fn message_of(alloc: Global, line: &[u8], failure: &TaskError) -> Result<String, AllocError> {
-    let text = failure.to_string(alloc)?;
-    if !matches!(failure, TaskError::NotJson) {
+fn message_of(alloc: Global, line: &[u8], error: &TaskError) -> Result<String, AllocError> {
+    let text = error.to_string(alloc)?;
+    if !matches!(error, TaskError::NotJson) {
         return Ok(text);
     }
     match Value::from_slice(alloc, line) {

@@ -49,11 +49,11 @@ enum Turn {
 /// Does the task on each line of the input, and writes each result as a line, in the order of the
 /// input.
 ///
-/// A line of white space is passed over. A line at fault gives the fallback instead, if there is one, and a line on `errors`: the name of
-/// the input, the number of the line from 1, and the error. The run goes on, or ends there if it is
-/// strict. The memory is that of the longest line and of its result.
+/// A line of white space is passed over. For a line at fault, writes the fallback, if there is one, and
+/// a line on `errors`: the name of the input, the number of the line from 1, and the error. The run goes
+/// on, or ends there if it is strict. The memory is that of the longest line and of its result.
 ///
-/// Each line is written by one call for `output`, so give it a writer with a buffer. Both writers
+/// Each line is written by one call for `output`, so use a writer with a buffer. Both writers
 /// are flushed at the end, also after an error.
 ///
 /// # Errors
@@ -62,7 +62,7 @@ enum Turn {
 /// - [`TaskError::Write`] if a write or a flush fails.
 /// - [`TaskError::Memory`] if an allocation fails.
 ///
-/// What was written is then a prefix of what some first lines of the input give.
+/// What was written is then a prefix of the results of some first lines of the input.
 ///
 /// # Examples
 ///
@@ -156,7 +156,7 @@ fn end_of(is_fine: bool) -> Ended
     if is_fine { Ended::Fine } else { Ended::Faults }
 }
 
-/// Reads the next line, which has the number of the state, and writes what it gives.
+/// Reads the next line, which has the number of the state, and writes its result.
 fn take_turn<R: io::BufRead, W: io::Write, E: io::Write>(
     run: &LineTask<'_>,
     state: &mut State,
@@ -184,7 +184,7 @@ fn take_turn<R: io::BufRead, W: io::Write, E: io::Write>(
     }
 }
 
-/// Writes what the line gives that was read.
+/// Writes the result of the line that was read.
 fn put_read<W: io::Write, E: io::Write>(
     run: &LineTask<'_>,
     state: &mut State,

@@ -70,7 +70,7 @@ fn patch_kept(alloc: Global, text: &str, patch: &Value, given: &str) -> Result<S
         } else {
             Err(TaskError::NotInPlace)
         },
-        Err(failure) => Err(failure),
+        Err(error) => Err(error),
     }
 }
 
@@ -88,7 +88,7 @@ fn patch_laid_out(
 {
     match patched(alloc, text, patch, given) {
         Ok(new) => lay_out(alloc, &mut Scratch::new(alloc), new.as_str(), layout),
-        Err(failure) => Err(failure),
+        Err(error) => Err(error),
     }
 }
 

@@ -183,7 +183,7 @@ fn found_value(alloc: Global, text: &str, pointer: Pointer<'_>) -> Result<Value,
     Ok(resolve_in_text(alloc, text, pointer)?)
 }
 
-/// Returns the keys of the members of the object that the text is, or `None` if it is no object.
+/// Returns the keys of the members of the object that the text is, or `None` if it is not an object.
 fn keys_of(alloc: Global, text: &str) -> Result<Option<Vec<String>>, ReadError>
     ensures { IfOk result (λ found. MatchOption found (IsNoObject text.now)
         (λ v. ListsKeys text.now (map string_bytes v.items))) }

@@ -103,7 +103,7 @@ fn with_texts(
 ///
 /// [`TaskError::NotPatch`] if it is not a patch, and [`TaskError::Memory`] if an allocation fails.
 pub fn operations_of(alloc: Global, document: &Value) -> Result<Vec<Operation>, TaskError>
-    ensures read { IfOk result (λ v. IsPatch (view document.now) v.items) }
+    ensures patch { IfOk result (λ v. IsPatch (view document.now) v.items) }
     ensures refused { IfErr result (IsNotPatch (view document.now)) }
 {
     match read_patch(alloc, document) {
@@ -165,7 +165,7 @@ fn why_not_in_place(alloc: Global, text: &str, document: &Value) -> TaskError
 {
     match print_anew(alloc, text, document) {
         Ok(_new) => TaskError::NotInPlace,
-        Err(failure) => failure,
+        Err(error) => error,
     }
 }
 
@@ -184,7 +184,7 @@ fn patch_anew(
 {
     match patched(alloc, buffers, text, patch) {
         Ok(new) => lay_out(alloc, &mut buffers.old, new.as_str(), layout),
-        Err(failure) => Err(failure),
+        Err(error) => Err(error),
     }
 }
 

@@ -29,7 +29,7 @@ use std::alloc::Global;
 ///   operation fails.
 /// - [`TaskError::TooDeep`] if the new document nests deeper than 127.
 /// - [`TaskError::NotInPlace`] if the edit is possible, but not in place. In a layout other than
-///   [`Layout::Kept`] that is no error.
+///   [`Layout::Kept`] that is not an error.
 /// - [`TaskError::NotLocated`] if the check of where the text of a value is fails. No text is known for
 ///   which it does.
 /// - [`TaskError::Memory`] if an allocation fails.

@@ -1,6 +1,6 @@
 //! The errors of a command, and its exit status.
 ghost use Rattle.std.specs.Prelude.{◌≡◌};
-ghost use Rattle.jptr_tasks.specs.Failures.{of_read_error, error_of_resolving, of_locate_error, of_assign_error, of_patch_error, of_in_place_assign_error, of_in_place_delete_error, of_build_error, of_input_error, status_of_task, status_of_line};
+ghost use Rattle.jptr_tasks.specs.Failures.{of_read_error, of_in_text_error, of_locate_error, of_assign_error, of_patch_error, of_in_place_assign_error, of_in_place_delete_error, of_build_error, of_input_error, status_of_task, status_of_line};
 ghost use Rattle.jptr_tasks.specs.declared.task_error.TaskError.TheVariants.{Memory, Write};
 
 use crate::exit_status::{BAD_INPUT, FILE, MEMORY, NOT_APPLIED};
@@ -165,7 +165,7 @@ impl From<LocateError> for TaskError {
 }
 
 impl From<InTextError> for TaskError {
-    ghost from_gives = { λ error failure. failure ≡ error_of_resolving error };
+    ghost from_gives = { λ error failure. failure ≡ of_in_text_error error };
 
     fn from(error: InTextError) -> TaskError {
         match error {

@@ -50,7 +50,7 @@ pub extern "C" fn jsonptrcore_document_parse(
     text: &[u8],
     error: &mut ErrorRecord,
 ) -> u32
-    ensures success { result ≡ 0 → error.new ≡ no_error }
+    ensures no_error { result ≡ 0 → error.new ≡ no_error }
     ensures read { result ≡ 0 → ReadsInto text.now document.new }
     ensures bounded { result ≡ 0 → HoldsWith document.new (λ v. IsBounded (view v)) }
     ensures refused { result ≢ 0 → (e : CallError) × Reports e [] result error.new
@@ -72,7 +72,7 @@ pub extern "C" fn jsonptrcore_document_parse_with(
     is_exact: bool,
     error: &mut ErrorRecord,
 ) -> u32
-    ensures success { result ≡ 0 → error.new ≡ no_error }
+    ensures no_error { result ≡ 0 → error.new ≡ no_error }
     ensures read { result ≡ 0 → ReadsInto text.now document.new }
     ensures digits { result ≡ 0 → IsTrue is_exact → KeepsDigits text.now }
     ensures bounded { result ≡ 0 → HoldsWith document.new (λ v. IsBounded (view v)) }
@@ -111,7 +111,7 @@ pub extern "C" fn jsonptrcore_document_print(
     length: &mut usize,
     error: &mut ErrorRecord,
 ) -> u32
-    ensures success { result ≡ 0 → error.new ≡ no_error }
+    ensures no_error { result ≡ 0 → error.new ≡ no_error }
     ensures printed { result ≡ 0 → HoldsWith document.old
         (λ v. FindsTextOf (format_of is_pretty) (view v) pointer.now (take length.new out.new)) }
     ensures refused { result ≢ 0 → (e : CallError) × Reports e pointer.now result error.new
@@ -140,7 +140,7 @@ pub extern "C" fn jsonptrcore_document_string(
     length: &mut usize,
     error: &mut ErrorRecord,
 ) -> u32
-    ensures success { result ≡ 0 → error.new ≡ no_error }
+    ensures no_error { result ≡ 0 → error.new ≡ no_error }
     ensures string { result ≡ 0 → HoldsWith document.old
         (λ v. FindsString (view v) pointer.now (take length.new out.new)) }
     ensures refused { result ≢ 0 → (e : CallError) × Reports e pointer.now result error.new
@@ -168,7 +168,7 @@ pub extern "C" fn jsonptrcore_document_node(
     node: &mut NodeInfo,
     error: &mut ErrorRecord,
 ) -> u32
-    ensures success { result ≡ 0 → error.new ≡ no_error }
+    ensures no_error { result ≡ 0 → error.new ≡ no_error }
     ensures described { result ≡ 0 → HoldsWith document.old
         (λ v. FindsNode (view v) pointer.now node.new) }
     ensures refused { result ≢ 0 → (e : CallError) × Reports e pointer.now result error.new
@@ -193,7 +193,7 @@ pub extern "C" fn jsonptrcore_document_assign(
     text: &[u8],
     error: &mut ErrorRecord,
 ) -> u32
-    ensures success { result ≡ 0 → error.new ≡ no_error }
+    ensures no_error { result ≡ 0 → error.new ≡ no_error }
     ensures assigned { result ≡ 0 → (v : Value) × (read_text text.now ≡ Some (view v))
         × Changes document.old (λ d n. AssignsAtPointer d pointer.now (view v) n) document.new }
     ensures bounded { result ≡ 0
@@ -217,7 +217,7 @@ pub extern "C" fn jsonptrcore_document_delete(
     found: &mut bool,
     error: &mut ErrorRecord,
 ) -> u32
-    ensures success { result ≡ 0 → error.new ≡ no_error }
+    ensures no_error { result ≡ 0 → error.new ≡ no_error }
     ensures deleted { result ≡ 0 → Changes document.old
         (λ d n. DeletesAtPointer d pointer.now found.new n) document.new }
     ensures bounded { result ≡ 0
@@ -243,7 +243,7 @@ pub extern "C" fn jsonptrcore_document_patch(
     text: &[u8],
     error: &mut ErrorRecord,
 ) -> u32
-    ensures success { result ≡ 0 → error.new ≡ no_error }
+    ensures no_error { result ≡ 0 → error.new ≡ no_error }
     ensures applied { result ≡ 0
         → Changes document.old (λ d n. AppliesText text.now d n) document.new }
     ensures bounded { result ≡ 0
@@ -270,7 +270,7 @@ pub extern "C" fn jsonptrcore_document_patch_with_inverse(
     length: &mut usize,
     error: &mut ErrorRecord,
 ) -> u32
-    ensures success { result ≡ 0 → error.new ≡ no_error }
+    ensures no_error { result ≡ 0 → error.new ≡ no_error }
     ensures applied { result ≡ 0 → Changes document.old (λ d n.
         AppliesWithBack (format_of is_pretty) text.now d n (take length.new out.new))
         document.new }
@@ -303,7 +303,7 @@ pub extern "C" fn jsonptrcore_document_diff(
     length: &mut usize,
     error: &mut ErrorRecord,
 ) -> u32
-    ensures success { result ≡ 0 → error.new ≡ no_error }
+    ensures no_error { result ≡ 0 → error.new ≡ no_error }
     ensures differing { result ≡ 0 → HoldsWith old.old (λ v. HoldsWith new.old
         (λ w. IsDiffText (format_of is_pretty) (view v) (view w) (take length.new out.new))) }
     ensures refused { result ≢ 0 → (e : CallError) × Reports e [] result error.new
@@ -334,7 +334,7 @@ pub extern "C" fn jsonptrcore_text_print(
     length: &mut usize,
     error: &mut ErrorRecord,
 ) -> u32
-    ensures success { result ≡ 0 → error.new ≡ no_error }
+    ensures no_error { result ≡ 0 → error.new ≡ no_error }
     ensures printed { result ≡ 0
         → FindsTextIn (format_of is_pretty) text.now pointer.now (take length.new out.new) }
     ensures refused { result ≢ 0 → (e : CallError) × Reports e pointer.now result error.new
@@ -362,7 +362,7 @@ pub extern "C" fn jsonptrcore_text_lost_number(
     length: &mut usize,
     error: &mut ErrorRecord,
 ) -> u32
-    ensures success { result ≡ 0 → error.new ≡ no_error }
+    ensures no_error { result ≡ 0 → error.new ≡ no_error }
     ensures pointer { result ≡ 0 → IsTrue found.new
         → (lost : Lost) × Loses text.now lost × PointsTo (take length.new out.new) lost }
     ensures none { result ≡ 0 → IsFalse found.new → KeepsDigits text.now }

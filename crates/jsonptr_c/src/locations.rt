@@ -21,7 +21,7 @@ pub extern "C" fn jsonptrcore_text_locate(
     end: &mut usize,
     error: &mut ErrorRecord,
 ) -> u32
-    ensures success { result ≡ 0 → error.new ≡ no_error }
+    ensures no_error { result ≡ 0 → error.new ≡ no_error }
     ensures located { result ≡ 0 → LocatesInText text.now pointer.now start.new end.new }
     ensures refused { result ≢ 0 → (e : CallError) × Reports e pointer.now result error.new
         × IsNotLocated text.now pointer.now e }
@@ -47,7 +47,7 @@ pub extern "C" fn jsonptrcore_text_pointer_at(
     length: &mut usize,
     error: &mut ErrorRecord,
 ) -> u32
-    ensures success { result ≡ 0 → error.new ≡ no_error }
+    ensures no_error { result ≡ 0 → error.new ≡ no_error }
     ensures pointed { result ≡ 0 → PointsAt text.now offset (take length.new out.new) }
     ensures refused { result ≢ 0 → (e : CallError) × Reports e [] result error.new
         × IsNotPointedAt text.now offset (list_length out.old) e }

@@ -19,7 +19,7 @@ pub extern "C" fn jsonptrcore_pointer_count(
     tokens: &mut usize,
     error: &mut ErrorRecord,
 ) -> u32
-    ensures success { result ≡ 0 → error.new ≡ no_error }
+    ensures no_error { result ≡ 0 → error.new ≡ no_error }
     ensures count { result ≡ 0 → HasCount pointer.now tokens.new }
     ensures refused { result ≢ 0 → (e : CallError) × Reports e pointer.now result error.new
         × IsNoPointer pointer.now e }
@@ -43,7 +43,7 @@ pub extern "C" fn jsonptrcore_pointer_token(
     length: &mut usize,
     error: &mut ErrorRecord,
 ) -> u32
-    ensures success { result ≡ 0 → error.new ≡ no_error }
+    ensures no_error { result ≡ 0 → error.new ≡ no_error }
     ensures token { result ≡ 0 → HasToken pointer.now position (take length.new out.new) }
     ensures refused { result ≢ 0 → (e : CallError) × Reports e pointer.now result error.new
         × IsNoToken pointer.now position (list_length out.old) e }
@@ -68,7 +68,7 @@ pub extern "C" fn jsonptrcore_pointer_escape(
     length: &mut usize,
     error: &mut ErrorRecord,
 ) -> u32
-    ensures success { result ≡ 0 → error.new ≡ no_error }
+    ensures no_error { result ≡ 0 → error.new ≡ no_error }
     ensures escaped { result ≡ 0 → take length.new out.new ≡ esc text.now }
     ensures refused { result ≢ 0 → (e : CallError) × Reports e [] result error.new
         × IsNotEscaped text.now (list_length out.old) e }
@@ -94,7 +94,7 @@ pub extern "C" fn jsonptrcore_pointer_push(
     text: &[u8],
     error: &mut ErrorRecord,
 ) -> u32
-    ensures success { result ≡ 0 → error.new ≡ no_error }
+    ensures no_error { result ≡ 0 → error.new ≡ no_error }
     ensures pushed { result ≡ 0
         → Extends (take length.old buffer.old) text.now (take length.new buffer.new) }
     ensures refused { result ≢ 0 → (e : CallError)
@@ -122,7 +122,7 @@ pub extern "C" fn jsonptrcore_pointer_pop(
     length: &mut usize,
     error: &mut ErrorRecord,
 ) -> u32
-    ensures success { result ≡ 0 → error.new ≡ no_error }
+    ensures no_error { result ≡ 0 → error.new ≡ no_error }
     ensures popped { result ≡ 0 → Shortens pointer.now length.new }
     ensures refused { result ≢ 0 → (e : CallError) × Reports e pointer.now result error.new
         × IsNotPopped pointer.now e }

@@ -10,7 +10,7 @@ use Rattle.jsonptr_value.specs.Nesting.{NestsWithin}
 use Rattle.jsonptr_value.proofs.LevelLemmas.{NestsWithin-depth, depth-within}
 use Rattle.jsonptr_value.proofs.NestingLemmas.{NestsWithin-more, Assigns-within, Deletes-within}
 use Rattle.jsonptr_c_calls.specs.Depths.{max_levels, IsParsed, IsBounded}
-use Rattle.jsonptr_c_calls.specs.Editing.{AssignsAtPointer, DeletesAtPointer, Removes}
+use Rattle.jsonptr_c_calls.specs.Editing.{AssignsAtPointer, DeletesAtPointer, FindsOrKeeps}
 
 -- a value that is read from a text
 pub parsed-read : (text : List ℕ) (d : Data) → read text ≡ Some d → IsParsed d
@@ -31,7 +31,7 @@ bounded-assign d bytes v n made parsed bounded sorted =
 pub bounded-delete : (d : Data) (bytes : List ℕ) (found : Bool) (n : Data) → DeletesAtPointer d bytes found n → IsBounded d → HasSortedKeys n → IsBounded n
 bounded-delete d bytes found n (tokens, is, deleted, removes) bounded sorted = go found removes
   where
-    go : (b : Bool) → Removes d tokens b n → IsBounded n
+    go : (b : Bool) → FindsOrKeeps d tokens b n → IsBounded n
     go false (none, same) = subst IsBounded (sym same) bounded
     go true (v, there) =
         let most = max_depth + max_levels in

@@ -2,7 +2,7 @@
 use Rattle.std.proofs.Common.{◌≡◌, ℕ, List, refl}
 use Rattle.jsonptr.specs.declared.resolve.Error.TheVariants as resolve_error
 use Rattle.jsonptr.specs.declared.assign.Error.TheVariants as assign_error
-use Rattle.jsonptr_syntax.specs.declared.parse_error.ParseError.TheVariants as parse_error
+use Rattle.jsonptr.specs.Types.ParseError.TheVariants as parse_error
 use Rattle.jsonptr_patch.specs.declared.operation.PatchError.TheVariants as patch_error
 use Rattle.jsonptr_patch_document.specs.declared.member.Member.TheVariants as member
 use Rattle.jsonptr_patch_document.specs.declared.error.PatchDocumentError.TheVariants as document_error

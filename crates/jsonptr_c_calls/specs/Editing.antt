@@ -43,17 +43,17 @@ IsTextNotAssigned text d bytes e =
     IsNotParsed text e
     ⊎ ((v : Data) × IsUtf8 text × (read text ≡ Some v) × FailsOnHandle d (λ w. IsNotAssigned (view w) bytes e) e)
 
--- `Removes d tokens found n`: with `found`, the tokens identify a value of `d`. Without it they identify nothing, and
+-- `FindsOrKeeps d tokens found n`: with `found`, the tokens identify a value of `d`. Without it they identify nothing, and
 -- `n` is `d`
-abbrev pub Removes : Data → List Text → Bool → Data → Type 0
-Removes d tokens true n = (v : Data) × FindsValue d tokens v
-Removes d tokens false n = NamesNothing (nodes d) tokens × (n ≡ d)
+abbrev pub FindsOrKeeps : Data → List Text → Bool → Data → Type 0
+FindsOrKeeps d tokens true n = (v : Data) × FindsValue d tokens v
+FindsOrKeeps d tokens false n = NamesNothing (nodes d) tokens × (n ≡ d)
 
 -- `DeletesAtPointer d bytes found n`: deleting the value at the pointer `bytes` turns the document `d` into `n`, and `found` says
 -- whether there is one. Deleting the root leaves `null`
 abbrev pub DeletesAtPointer : Data → List ℕ → Bool → Data → Type 0
 DeletesAtPointer d bytes found n = (tokens : List Text) × HasTokens bytes tokens
-    × Deletes (nodes d) tokens (nodes null) (nodes n) × Removes d tokens found n
+    × Deletes (nodes d) tokens (nodes null) (nodes n) × FindsOrKeeps d tokens found n
 
 -- `IsNotDeleted bytes e`: `bytes` are not the text of a pointer, or an allocation failed, and `e` reports why
 abbrev pub IsNotDeleted : List ℕ → CallError → Type 0

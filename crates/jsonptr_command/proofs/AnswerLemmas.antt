@@ -14,8 +14,8 @@ use Rattle.jsonptr_in_text.specs.declared.resolve.InTextError.TheVariants as in_
 use Rattle.jsonptr_command.specs.JsonText.{json_of}
 use Rattle.jsonptr_io.specs.Streams.{ForInput}
 use Rattle.jsonptr_command.proofs.JsonLemmas.{json_of-utf8, json_of-None}
-use Rattle.jsonptr_command.specs.Run.{ComesAfterInput, Outcome, HasValueOf, IsOperationFault, IsRequestFault, LeavesValue, NeedsInput, SplitsInTwo, OnDocument, Resolves, resolving}
-use Rattle.jsonptr_command.specs.Faults.{IsInputFault, of_in_text_error}
+use Rattle.jsonptr_command.specs.Run.{ComesAfterInput, IsRunOutcome, HasValueOf, IsOperationFault, IsRequestFault, LeavesValue, NeedsInput, SplitsInTwo, OnDocument, Resolves, resolving}
+use Rattle.jsonptr_command.specs.Faults.{IsInputFault, fault_of_in_text}
 use Rattle.jsonptr_command.specs.Private.{asked_by, Changes, ComesBeforeDocument, IsFaultOf, IsLineOf, IsNoValue}
 use Rattle.jsonptr_command.specs.declared.run.Request as code
 use Rattle.jsonptr_command.specs.declared.run.Request.TheVariants.{Resolve}
@@ -51,7 +51,7 @@ needs (Delete p) = tt
 needs (Patch patch) = tt
 
 -- and its result on the bytes is the one on the document
-gives : (change : Change) (bytes : List ℕ) (r : Result Data RunFault) → OnDocument bytes r (λ d. Changes change d r) → Outcome (asked_by change) bytes r
+gives : (change : Change) (bytes : List ℕ) (r : Result Data RunFault) → OnDocument bytes r (λ d. Changes change d r) → IsRunOutcome (asked_by change) bytes r
 gives (Assign p v) bytes r h = h
 gives (Delete p) bytes r h = h
 gives (Patch patch) bytes r h = h
@@ -63,21 +63,21 @@ module _ (change : Change) (known : Option (List ℕ)) where
   input_fault_given e (inr (inl read)) = inr (inr (needs change, read))
   input_fault_given e (inr (inr h)) =
       inl
-      (ForInput-map known (λ bytes. json_of bytes ≡ None) (λ bytes. Outcome (asked_by change) bytes (Err e))
+      (ForInput-map known (λ bytes. json_of bytes ≡ None) (λ bytes. IsRunOutcome (asked_by change) bytes (Err e))
       (λ bytes none. gives change bytes (Err e) (no_document bytes e (λ d. Changes change d (Err e)) none h.1)) h.0)
 
   module _ (d : Data) (read : ForInput known (λ bytes. json_of bytes ≡ Some d)) where
     -- a line of the result on the document is one of the result on the bytes
-    pub line_given : (line : Text) → IsLineOf (Changes change d) line → ForInput known (λ bytes. IsLineOf (Outcome (asked_by change) bytes) line)
+    pub line_given : (line : Text) → IsLineOf (Changes change d) line → ForInput known (λ bytes. IsLineOf (IsRunOutcome (asked_by change) bytes) line)
     line_given line h =
-        ForInput-map known (λ bytes. json_of bytes ≡ Some d) (λ bytes. IsLineOf (Outcome (asked_by change) bytes) line)
+        ForInput-map known (λ bytes. json_of bytes ≡ Some d) (λ bytes. IsLineOf (IsRunOutcome (asked_by change) bytes) line)
         (λ bytes is. (h.0, gives change bytes (Ok h.0) (on_document bytes d (Ok h.0) (λ d. Changes change d (Ok h.0)) is h.1), h.2)) read
 
     -- and so is a fault
     pub fault_given : (e : RunFault) → IsFaultOf (Changes change d) e → IsRequestFault (asked_by change) known e
     fault_given e (inl h) =
         inl
-        (ForInput-map known (λ bytes. json_of bytes ≡ Some d) (λ bytes. Outcome (asked_by change) bytes (Err e))
+        (ForInput-map known (λ bytes. json_of bytes ≡ Some d) (λ bytes. IsRunOutcome (asked_by change) bytes (Err e))
         (λ bytes is. gives change bytes (Err e) (on_document bytes d (Err e) (λ d. Changes change d (Err e)) is h)) read)
     fault_given e (inr memory) = inr (inl memory)
 
@@ -99,11 +99,11 @@ module _ (change : Change) (known : Option (List ℕ)) where
 -- ---- a pointer that is resolved in the bytes
 
 -- the value that it resolves to
-pub found_given : (bytes : List ℕ) (ts : List Text) (v : Data) → IsUtf8 bytes × FindsInText bytes ts v → Outcome (resolving ts) bytes (Ok v)
+pub found_given : (bytes : List ℕ) (ts : List Text) (v : Data) → IsUtf8 bytes × FindsInText bytes ts v → IsRunOutcome (resolving ts) bytes (Ok v)
 found_given bytes ts v h = on_document bytes h.1.0 (Ok v) (λ d. Resolves d ts (Ok v)) (json_of-utf8 bytes h.0 ∙ h.1.1) h.1.2
 
 -- why there is none
-pub error_given : (bytes : List ℕ) (ts : List Text) (e : InTextError) → IsInSliceError bytes ts e → IsFaultOf (Outcome (resolving ts) bytes) (of_in_text_error e)
+pub error_given : (bytes : List ℕ) (ts : List Text) (e : InTextError) → IsInSliceError bytes ts e → IsFaultOf (IsRunOutcome (resolving ts) bytes) (fault_of_in_text e)
 error_given bytes ts NotJson h = inl (no_document bytes InputNotJson (λ d. Resolves d ts (Err InputNotJson)) (json_of-None bytes h) refl)
 error_given bytes ts (in_text.Resolve f) h = inl (on_document bytes h.1.0 (Err (NoValue f)) (λ d. Resolves d ts (Err (NoValue f))) (json_of-utf8 bytes h.0 ∙ h.1.1) (f, h.1.2, refl))
 error_given bytes ts (in_text.Memory e) h = inr refl
@@ -139,7 +139,7 @@ finds_value (Delete p) d e h none = let is = h.1 in let other = none.1 in cc
 finds_value (Patch patch) d e h none = let is = h.4 in let other = none.1 in cc
 
 -- the result of a change on the bytes is the one on their document
-takes : (change : Change) (bytes : List ℕ) (r : Result Data RunFault) → Outcome (asked_by change) bytes r → OnDocument bytes r (λ d. Changes change d r)
+takes : (change : Change) (bytes : List ℕ) (r : Result Data RunFault) → IsRunOutcome (asked_by change) bytes r → OnDocument bytes r (λ d. Changes change d r)
 takes (Assign p v) bytes r h = h
 takes (Delete p) bytes r h = h
 takes (Patch patch) bytes r h = h
@@ -150,7 +150,7 @@ module _ (known : Option (List ℕ)) (e : RunFault) where
   not_no_value change (inr (inl is)) none = let other = none.1 in cc
   not_no_value change (inr (inr h)) none = let is = h.1 in let other = none.1 in cc
   not_no_value change (inl h) none =
-      let found = some_bytes known (λ bytes. Outcome (asked_by change) bytes (Err e)) h in
+      let found = some_bytes known (λ bytes. IsRunOutcome (asked_by change) bytes (Err e)) h in
       by_error (error_on (json_of found.0) e (λ d. Changes change d (Err e)) (takes change found.0 (Err e) found.1))
     where
       by_error : (e ≡ InputNotJson) ⊎ ((d : Data) × Changes change d (Err e)) → ⊥
@@ -162,7 +162,7 @@ module _ (known : Option (List ℕ)) (e : RunFault) where
   resolve_is_no_value ts (inr (inl is)) fault not = subst ComesAfterInput is fault.0
   resolve_is_no_value ts (inr (inr h)) fault not = subst ComesAfterInput h.1 fault.0
   resolve_is_no_value ts (inl h) fault not =
-      let found = some_bytes known (λ bytes. Outcome (resolving ts) bytes (Err e)) h in
+      let found = some_bytes known (λ bytes. IsRunOutcome (resolving ts) bytes (Err e)) h in
       by_error (error_on (json_of found.0) e (λ d. Resolves d ts (Err e)) found.1)
     where
       by_error : (e ≡ InputNotJson) ⊎ ((d : Data) × Resolves d ts (Err e)) → ⊥

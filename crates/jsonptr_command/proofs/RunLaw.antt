@@ -33,7 +33,7 @@ use Rattle.jsonptr_command.proofs.MeantLemmas.{IsJson, one_value_json, mean_one,
 use Rattle.jsonptr_command.proofs.OrderLemmas.{ascends_json}
 use Rattle.jsonptr_command.specs.JsonText.{json_of, IsJsonLine}
 use Rattle.jsonptr_command.specs.Operations.{Form, words_of, pointers_of, Meant, meant, MeanAll}
-use Rattle.jsonptr_command.specs.Run.{Request, resolving, listing, assigning, deleting, splitting, patching, AskFor, HaveValue, HaveForms, HaveValues, TakePointer, TakePointers, IsWordsFault, IsPointerFault, IsValueFault, Asks, AssignsAt, DeletesAt, Outcome, PatchesOrFails, Resolves, texts_value}
+use Rattle.jsonptr_command.specs.Run.{Request, resolving, listing, assigning, deleting, splitting, patching, AskFor, HaveValue, HaveForms, HaveValues, TakePointer, TakePointers, IsWordsFault, IsPointerFault, IsValueFault, Asks, AssignsAt, DeletesAt, IsRunOutcome, PatchesOrFails, Resolves, texts_value}
 use Rattle.jsonptr_command.specs.declared.fault.RunFault.{RunFault}
 use Rattle.jsonptr_command.specs.declared.fault.RunFault.TheVariants.{BadPointer, NoValue, BadPlace, BadPatch, InputNotJson}
 
@@ -357,17 +357,17 @@ module _ (not_both : (n : NodeMap) (tokens : List Text) (m : NodeMap) (e : resol
       let error : h.0 ≡ k.0 = one (nodes d) ts h.0 k.0 h.1 k.1 in
       ap (λ (x : RunFault). Err x) (h.2 ∙ ap (λ (x : resolve.Error). NoValue x) error ∙ sym k.2)
 
-  pub resolving_one : (ts : List Text) (bytes : List ℕ) (r q : Result Data RunFault) → Outcome (resolving ts) bytes r → Outcome (resolving ts) bytes q → r ≡ q
+  pub resolving_one : (ts : List Text) (bytes : List ℕ) (r q : Result Data RunFault) → IsRunOutcome (resolving ts) bytes r → IsRunOutcome (resolving ts) bytes q → r ≡ q
   resolving_one ts bytes r q h k =
       on_both (json_of bytes) (λ d. Resolves d ts r) (λ d. Resolves d ts q) r q (r ≡ q) (λ x y. x ∙ sym y) (λ d. resolves_one d ts r q) h k
 
-pub listing_one : (ts : List Text) (bytes : List ℕ) (r q : Result Data RunFault) → Outcome (listing ts) bytes r → Outcome (listing ts) bytes q → r ≡ q
+pub listing_one : (ts : List Text) (bytes : List ℕ) (r q : Result Data RunFault) → IsRunOutcome (listing ts) bytes r → IsRunOutcome (listing ts) bytes q → r ≡ q
 listing_one ts bytes r q h k = h ∙ sym k
 
 same_front : (f g us vs : List Text) → f ++ us ≡ g ++ vs → length f ≡ length g → (f ≡ g) × (us ≡ vs)
 same_front f g us vs e h = (sym (take_at f us (length f) refl) ∙ ap (take (length f)) e ∙ take_at g vs (length f) (sym h), sym (drop_at f us (length f) refl) ∙ ap (drop (length f)) e ∙ drop_at g vs (length f) (sym h))
 
-pub splitting_one : (ts : List Text) (n : ℕ) (bytes : List ℕ) (r q : Result Data RunFault) → Outcome (splitting ts n) bytes r → Outcome (splitting ts n) bytes q → r ≡ q
+pub splitting_one : (ts : List Text) (n : ℕ) (bytes : List ℕ) (r q : Result Data RunFault) → IsRunOutcome (splitting ts n) bytes r → IsRunOutcome (splitting ts n) bytes q → r ≡ q
 splitting_one ts n bytes (Ok v) (Ok w) h k =
     let same = same_front h.0 k.0 h.1 k.1 (sym h.2 ∙ k.2) (h.3 ∙ sym k.3) in
     ap (λ (x : Data). Ok x) (h.4 ∙ ap₂ (λ (f g : List Text). texts_value (text f ∷ text g ∷ [])) same.0 same.1 ∙ sym k.4)
@@ -406,11 +406,11 @@ OneMap = (d e : Data) → HasSortedKeys d → HasSortedKeys e → nodes d ≡ no
 
 -- the result of resolving is unique
 abbrev OneResolved : Type 0
-OneResolved = (ts : List Text) (bytes : List ℕ) (r q : Result Data RunFault) → Outcome (resolving ts) bytes r → Outcome (resolving ts) bytes q → r ≡ q
+OneResolved = (ts : List Text) (bytes : List ℕ) (r q : Result Data RunFault) → IsRunOutcome (resolving ts) bytes r → IsRunOutcome (resolving ts) bytes q → r ≡ q
 
 module _ (resolved_one : OneResolved) (assign_not_both : (n : NodeMap) (tokens : List Text) (v m : NodeMap) (old : Option NodeMap) (e : assign.Error) → Assigns n tokens v m old → RefusesAssign n tokens e → ⊥)
     (patch_not_both : (n m : NodeMap) (os : List Operation) (e : PatchError) → IsDocument n → Patches n os m → RefusesPatch n os e → ⊥) where
-  pub not_both : (request : Request) (bytes : List ℕ) (value : Data) (e : RunFault) → Outcome request bytes (Ok value) → Outcome request bytes (Err e) → ⊥
+  pub not_both : (request : Request) (bytes : List ℕ) (value : Data) (e : RunFault) → IsRunOutcome request bytes (Ok value) → IsRunOutcome request bytes (Err e) → ⊥
   not_both (resolving ts) bytes value e h k = value_or_fault value e ⊥ (resolved_one ts bytes (Ok value) (Err e) h k)
   not_both (listing ts) bytes value e h k = value_or_fault value e ⊥ (listing_one ts bytes (Ok value) (Err e) h k)
   not_both (assigning ts v) bytes value e h k =
@@ -426,7 +426,7 @@ module _ (resolved_one : OneResolved) (assign_not_both : (n : NodeMap) (tokens :
 
 module _ (resolved_one : OneResolved) (refused_one : (n : NodeMap) (tokens : List Text) (e f : assign.Error) → RefusesAssign n tokens e → RefusesAssign n tokens f → e ≡ f)
     (patch_refused_one : (n : NodeMap) (os : List Operation) (e f : PatchError) → IsDocument n → RefusesPatch n os e → RefusesPatch n os f → e ≡ f) where
-  pub one_fault : (request : Request) (bytes : List ℕ) (e f : RunFault) → Outcome request bytes (Err e) → Outcome request bytes (Err f) → e ≡ f
+  pub one_fault : (request : Request) (bytes : List ℕ) (e f : RunFault) → IsRunOutcome request bytes (Err e) → IsRunOutcome request bytes (Err f) → e ≡ f
   one_fault (resolving ts) bytes e f h k = fault_of e f (resolved_one ts bytes (Err e) (Err f) h k)
   one_fault (listing ts) bytes e f h k = fault_of e f (listing_one ts bytes (Err e) (Err f) h k)
   one_fault (assigning ts v) bytes e f h k =
@@ -443,7 +443,7 @@ module _ (resolved_one : OneResolved) (one_map : OneMap) (tree : (d : Data) → 
     (made_one : (n : NodeMap) (tokens : List Text) (v m k : NodeMap) (old was : Option NodeMap) → Assigns n tokens v m old → Assigns n tokens v k was → (m ≡ k) × (old ≡ was))
     (deleted_one : (n blank : NodeMap) (tokens : List Text) (m k : NodeMap) → IsTree n → Deletes n tokens blank m → Deletes n tokens blank k → m ≡ k)
     (patched_one : (n m l : NodeMap) (os : List Operation) → IsDocument n → Patches n os m → Patches n os l → m ≡ l) where
-  pub one_value : (words : List Text) (request : Request) (bytes : List ℕ) (value other : Data) → AskFor words request → Outcome request bytes (Ok value) → Outcome request bytes (Ok other) → value ≡ other
+  pub one_value : (words : List Text) (request : Request) (bytes : List ℕ) (value other : Data) → AskFor words request → IsRunOutcome request bytes (Ok value) → IsRunOutcome request bytes (Ok other) → value ≡ other
   one_value words (resolving ts) bytes value other asks h k = value_of value other (resolved_one ts bytes (Ok value) (Ok other) h k)
   one_value words (listing ts) bytes value other asks h k = value_of value other (listing_one ts bytes (Ok value) (Ok other) h k)
   one_value words (assigning ts v) bytes value other asks h k =

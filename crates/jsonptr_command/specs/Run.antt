@@ -252,24 +252,24 @@ PatchesOrFails d os (Err e) =
     × RefusesPatch (nodes d) patch f
     × (e ≡ BadPatch f)
 
--- `Outcome request bytes r`: `r` is the result of the request on an input of these bytes: a value or an error.
-abbrev pub Outcome : Request → List ℕ → Result Data RunFault → Type 0
-Outcome (resolving ts) bytes r = OnDocument bytes r (λ d. Resolves d ts r)
-Outcome (listing ts) bytes r = r ≡ Ok (texts_value ts)
-Outcome (assigning ts v) bytes r = OnDocument bytes r (λ d. AssignsAt d ts v r)
-Outcome (deleting ts) bytes r = OnDocument bytes r (λ d. DeletesAt d ts r)
-Outcome (splitting ts n) bytes r = SplitsInTwo ts n r
-Outcome (patching os) bytes r = OnDocument bytes r (λ d. PatchesOrFails d os r)
+-- `IsRunOutcome request bytes r`: `r` is the result of the request on an input of these bytes: a value or an error.
+abbrev pub IsRunOutcome : Request → List ℕ → Result Data RunFault → Type 0
+IsRunOutcome (resolving ts) bytes r = OnDocument bytes r (λ d. Resolves d ts r)
+IsRunOutcome (listing ts) bytes r = r ≡ Ok (texts_value ts)
+IsRunOutcome (assigning ts v) bytes r = OnDocument bytes r (λ d. AssignsAt d ts v r)
+IsRunOutcome (deleting ts) bytes r = OnDocument bytes r (λ d. DeletesAt d ts r)
+IsRunOutcome (splitting ts n) bytes r = SplitsInTwo ts n r
+IsRunOutcome (patching os) bytes r = OnDocument bytes r (λ d. PatchesOrFails d os r)
 
 -- `HasValueOf request bytes value`: `value` has the value of the request on an input of these bytes.
 abbrev pub HasValueOf : Request → List ℕ → Option Data → Type 0
-HasValueOf request bytes value = (d : Data) × (value ≡ Some d) × Outcome request bytes (Ok d)
+HasValueOf request bytes value = (d : Data) × (value ≡ Some d) × IsRunOutcome request bytes (Ok d)
 
 -- `IsRequestFault request known e`: the request fails with `e`, because of the input, the operation, an allocation
 -- or, if it needs the input, a read.
 abbrev pub IsRequestFault : Request → Option (List ℕ) → RunFault → Type 0
 IsRequestFault request known e =
-    ForInput known (λ bytes. Outcome request bytes (Err e))
+    ForInput known (λ bytes. IsRunOutcome request bytes (Err e))
     ⊎ (e ≡ Memory alloc_error)
     ⊎ (NeedsInput request × (e ≡ Read))
 
@@ -298,7 +298,7 @@ LeavesValue known Made old new Write = ⊤
 abbrev pub ForLine : List Text → Option (List ℕ) → (Text → Type 0) → Type 0
 ForLine words known P =
     ForRequest words (λ request. ForInput known (λ bytes. (value : Data) × (line : Text)
-    × Outcome request bytes (Ok value)
+    × IsRunOutcome request bytes (Ok value)
     × IsJsonLine value line
     × P line))
 

@@ -11,8 +11,9 @@ ghost use Rattle.jsonptr_command.specs.Run.{IsPastInput};
 
 use crate::fault::RunFault;
 use jsonptr_io::input::read_all;
-use jsonptr_value::to_string;
+use jsonptr_value::{if_json, read, to_string};
 use serde_json::Value;
+use simdutf8::basic::from_utf8;
 use std::alloc::{AllocError, Global};
 use std::io::Read;
 
@@ -27,9 +28,8 @@ pub fn read_json(alloc: Global, bytes: &[u8]) -> Result<Option<Value>, AllocErro
     // No bytes need no allocation.
     ensures no_memory { OnErr result (bytes.now ≢ []) }
 {
-    match Value::from_slice(alloc, bytes) {
-        Ok(value) => Ok(Some(value)),
-        Err(e) if e.is_memory() => Err(AllocError),
+    match from_utf8(bytes) {
+        Ok(text) => if_json(read(alloc, text)),
         Err(_) => Ok(None),
     }
 }

@@ -4,7 +4,7 @@ ghost use Rattle.serde_json.specs.Data.{Data};
 ghost use Rattle.serde_json.specs.Written.{has_float, compact_text};
 ghost use Rattle.jsonptr.specs.Text.{Text};
 ghost use Rattle.jsonptr_command.specs.JsonText.{IsJsonLine};
-ghost use Rattle.jsonptr_command.specs.Run.{AskFor, Asks, Outcome, Request, listing, resolving, splitting, texts_value};
+ghost use Rattle.jsonptr_command.specs.Run.{AskFor, Asks, IsRunOutcome, Request, listing, resolving, splitting, texts_value};
 ghost use Rattle.jsonptr_command.specs.declared.fault.RunFault.{RunFault};
 
 use jsonptr::laws::parse_law;
@@ -27,30 +27,30 @@ pub fn program_law()
         → Asks words q
         → r ≡ q }
     ensures resolves { (ts : List Text) (bytes : List ℕ) (r q : Result Data RunFault)
-        → Outcome (resolving ts) bytes r
-        → Outcome (resolving ts) bytes q
+        → IsRunOutcome (resolving ts) bytes r
+        → IsRunOutcome (resolving ts) bytes q
         → r ≡ q }
     ensures lists { (ts : List Text) (bytes : List ℕ) (r q : Result Data RunFault)
-        → Outcome (listing ts) bytes r
-        → Outcome (listing ts) bytes q
+        → IsRunOutcome (listing ts) bytes r
+        → IsRunOutcome (listing ts) bytes q
         → r ≡ q }
     ensures splits { (ts : List Text) (n : ℕ) (bytes : List ℕ) (r q : Result Data RunFault)
-        → Outcome (splitting ts n) bytes r
-        → Outcome (splitting ts n) bytes q
+        → IsRunOutcome (splitting ts n) bytes r
+        → IsRunOutcome (splitting ts n) bytes q
         → r ≡ q }
     ensures not_both { (request : Request) (bytes : List ℕ) (value : Data) (e : RunFault)
-        → Outcome request bytes (Ok value)
-        → Outcome request bytes (Err e)
+        → IsRunOutcome request bytes (Ok value)
+        → IsRunOutcome request bytes (Err e)
         → ⊥ }
     ensures one_fault { (request : Request) (bytes : List ℕ) (e f : RunFault)
-        → Outcome request bytes (Err e)
-        → Outcome request bytes (Err f)
+        → IsRunOutcome request bytes (Err e)
+        → IsRunOutcome request bytes (Err f)
         → e ≡ f }
     ensures one_value { (words : List Text) (request : Request) (bytes : List ℕ)
         (value other : Data)
         → AskFor words request
-        → Outcome request bytes (Ok value)
-        → Outcome request bytes (Ok other)
+        → IsRunOutcome request bytes (Ok value)
+        → IsRunOutcome request bytes (Ok other)
         → value ≡ other }
     ensures line { (value : Data) (line other : Text)
         → has_float value ≡ false

@@ -13,7 +13,7 @@ ghost use Rattle.jsonptr_command.specs.declared.fault.RunFault.{RunFault};
 ghost use Rattle.jsonptr_command.specs.declared.fault.RunFault.TheVariants.{Memory};
 ghost use Rattle.jsonptr_command.specs.Private.{request_of, asked_by, Changes, ComesBeforeDocument, IsFaultOf, IsLineOf, RefusesCommand, RefusesPosition};
 ghost use Rattle.jsonptr_command.specs.Operations.{meant};
-ghost use Rattle.jsonptr_command.specs.Run.{AskFor, Asks, AssignsAt, DeletesAt, ForLine, ForRequest, HasValueOf, IsOperationFault, Outcome, IsPastInput, IsRefusedSo, IsRequestFault, IsWordsMemory, LeavesValue, NeedInput, NeedNoInput, NeedsInput, PatchesOrFails, Resolves, SplitsInTwo, resolving, texts_value};
+ghost use Rattle.jsonptr_command.specs.Run.{AskFor, Asks, AssignsAt, DeletesAt, ForLine, ForRequest, HasValueOf, IsOperationFault, IsRunOutcome, IsPastInput, IsRefusedSo, IsRequestFault, IsWordsMemory, LeavesValue, NeedInput, NeedNoInput, NeedsInput, PatchesOrFails, Resolves, SplitsInTwo, resolving, texts_value};
 
 use crate::fault::RunFault;
 use crate::json_text::{json_line, read_json_input, read_value};
@@ -74,7 +74,7 @@ pub enum Change<'w> {
 /// `resolve` finds the value in the text of the input, and reads no document.
 ///
 /// At the end the value that was printed is dropped, so that a process can run the program many
-/// times. That takes time. [`run_program_into`] hands the value to its caller instead.
+/// times. That takes time. [`run_program_into`] passes the value to its caller instead.
 ///
 /// The stack that a run needs does not grow with the depth of the document.
 ///
@@ -146,7 +146,7 @@ pub fn run_program_into<R: Read, W: Write>(
         → OnOk result (ForRequest (map string_bytes words.now)
         (λ request. ForInput (R.remaining input.old)
         (λ bytes. HasValueOf request bytes (option_map view value.new)))) }
-    ensures written { IsErrOf result RunFault.Write
+    ensures value_written { IsErrOf result RunFault.Write
         → ForRequest (map string_bytes words.now)
         (λ request. NeedsInput request → ForInput (R.remaining input.old)
         (λ bytes. HasValueOf request bytes (option_map view value.new))) }
@@ -154,7 +154,7 @@ pub fn run_program_into<R: Read, W: Write>(
         (λ bytes. ForRequest (map string_bytes words.now)
         (λ request. HasValueOf request bytes (option_map view value.new)))
         (option_map view value.old) (option_map view value.new)) }
-    ensures untouched { NeedNoInput (map string_bytes words.now) → value.new ≡ value.old }
+    ensures unchanged { NeedNoInput (map string_bytes words.now) → value.new ≡ value.old }
 {
     let request = read_request(alloc, words)?;
     let line = line_of(alloc, request, input, value)?;
@@ -256,7 +256,7 @@ fn line_of<R: Read>(
     value: &mut Option<Value>,
 ) -> Result<String, RunFault>
     ensures line { IfOk result (λ line. ForInput (R.remaining input.old)
-        (λ bytes. IsLineOf (Outcome (request_of request.entry) bytes) (string_bytes line))) }
+        (λ bytes. IsLineOf (IsRunOutcome (request_of request.entry) bytes) (string_bytes line))) }
     ensures refused { IfErr result
         (IsRequestFault (request_of request.entry) (R.remaining input.old)) }
     ensures input_unchanged { (NeedsInput (request_of request.entry) → ⊥) → input.new ≡ input.old }
@@ -269,7 +269,7 @@ fn line_of<R: Read>(
     ensures left { IfErr result (LeavesValue (R.remaining input.old)
         (λ bytes. HasValueOf (request_of request.entry) bytes (option_map view value.new))
         (option_map view value.old) (option_map view value.new)) }
-    ensures untouched { (NeedsInput (request_of request.entry) → ⊥) → value.new ≡ value.old }
+    ensures unchanged { (NeedsInput (request_of request.entry) → ⊥) → value.new ≡ value.old }
 {
     match request {
         Request::Tokens(pointer) => Ok(tokens_line(alloc, pointer)?),
@@ -288,7 +288,7 @@ fn found_line<R: Read>(
     value: &mut Option<Value>,
 ) -> Result<String, RunFault>
     ensures line { IfOk result (λ line. ForInput (R.remaining input.old)
-        (λ bytes. IsLineOf (Outcome (resolving (tokens pointer.entry)) bytes) (string_bytes line))) }
+        (λ bytes. IsLineOf (IsRunOutcome (resolving (tokens pointer.entry)) bytes) (string_bytes line))) }
     ensures refused { IfErr result
         (IsRequestFault (resolving (tokens pointer.entry)) (R.remaining input.old)) }
     ensures end { IsPastInput result → IsAtEnd (R.remaining input.new) }
@@ -309,8 +309,8 @@ fn line_in_bytes(
     value: &mut Option<Value>,
 ) -> Result<String, RunFault>
     ensures line { IfOk result (λ line.
-        IsLineOf (Outcome (resolving (tokens pointer.entry)) bytes.now) (string_bytes line)) }
-    ensures refused { IfErr result (IsFaultOf (Outcome (resolving (tokens pointer.entry)) bytes.now)) }
+        IsLineOf (IsRunOutcome (resolving (tokens pointer.entry)) bytes.now) (string_bytes line)) }
+    ensures refused { IfErr result (IsFaultOf (IsRunOutcome (resolving (tokens pointer.entry)) bytes.now)) }
     ensures value { OnOk result
         (HasValueOf (resolving (tokens pointer.entry)) bytes.now (option_map view value.new)) }
     ensures unchanged { OnErr result (value.new ≡ value.old) }
@@ -330,12 +330,12 @@ fn document_line<R: Read>(
     value: &mut Option<Value>,
 ) -> Result<String, RunFault>
     ensures line { IfOk result (λ line. ForInput (R.remaining input.old)
-        (λ bytes. IsLineOf (Outcome (asked_by change.entry) bytes) (string_bytes line))) }
+        (λ bytes. IsLineOf (IsRunOutcome (asked_by change.entry) bytes) (string_bytes line))) }
     ensures refused { IfErr result (IsRequestFault (asked_by change.entry) (R.remaining input.old)) }
     ensures end { IsPastInput result → IsAtEnd (R.remaining input.new) }
     ensures value { OnOk result (ForInput (R.remaining input.old)
         (λ bytes. HasValueOf (asked_by change.entry) bytes (option_map view value.new))) }
-    ensures restored { IfErr result (λ e. IsOperationFault e → ForInput (R.remaining input.old)
+    ensures document { IfErr result (λ e. IsOperationFault e → ForInput (R.remaining input.old)
         (λ bytes. option_map view value.new ≡ json_of bytes)) }
     ensures unchanged { IfErr result (λ e. ComesBeforeDocument e → value.new ≡ value.old) }
     ensures left { IfErr result (λ e. e ≡ Memory alloc_error → (value.new ≡ value.old)
@@ -358,7 +358,7 @@ fn changed_line(alloc: Global, document: &mut Value, change: Change<'_>) -> Resu
         (Changes change.entry (view document.old) (Ok (view document.new))) }
     ensures either { (view document.new ≡ view document.old)
         ⊎ Changes change.entry (view document.old) (Ok (view document.new)) }
-    ensures restored { IfErr result
+    ensures unchanged { IfErr result
         (λ e. IsOperationFault e → view document.new ≡ view document.old) }
 {
     match change {
@@ -384,7 +384,7 @@ fn line_with(
         (AssignsAt (view document.old) (tokens pointer.entry) (view value) (Ok (view document.new))) }
     ensures either { (view document.new ≡ view document.old)
         ⊎ AssignsAt (view document.old) (tokens pointer.entry) (view value) (Ok (view document.new)) }
-    ensures restored { IfErr result
+    ensures unchanged { IfErr result
         (λ e. IsOperationFault e → view document.new ≡ view document.old) }
 {
     pointer.assign(alloc, document, value)?;
@@ -404,7 +404,7 @@ fn line_without(
         (DeletesAt (view document.old) (tokens pointer.entry) (Ok (view document.new))) }
     ensures either { (view document.new ≡ view document.old)
         ⊎ DeletesAt (view document.old) (tokens pointer.entry) (Ok (view document.new)) }
-    ensures restored { IfErr result
+    ensures unchanged { IfErr result
         (λ e. IsOperationFault e → view document.new ≡ view document.old) }
 {
     if pointer.delete(alloc, document)?.is_none() {
@@ -427,7 +427,7 @@ fn line_after(
         (PatchesOrFails (view document.old) (map meant patch.items) (Ok (view document.new))) }
     ensures either { (view document.new ≡ view document.old)
         ⊎ PatchesOrFails (view document.old) (map meant patch.items) (Ok (view document.new)) }
-    ensures restored { IfErr result
+    ensures unchanged { IfErr result
         (λ e. IsOperationFault e → view document.new ≡ view document.old) }
 {
     apply(alloc, document, patch)?;

@@ -21,7 +21,7 @@ use Rattle.jsonptr.specs.Json.{content, nodes}
 use Rattle.jsonptr_json_edits.specs.Alike.{HoldsTokens}
 use Rattle.jsonptr_edit_in_text.specs.Carrying.{or_null, value_of_raw, Carries}
 use Rattle.jsonptr_edit_in_text.specs.declared.raw_value.RawValue.{RawValue}
-use Rattle.jsonptr_json_edits.specs.declared.layout.ValueText.{ValueText}
+use Rattle.jsonptr_json_edits.specs.declared.value_text.ValueText.{ValueText}
 use Rattle.std.specs.declared.alloc.AllocError.{AllocError}
 use Rattle.jsonptr_edit_in_text.specs.PrivateReaching.{IsExpanded}
 use Rattle.jsonptr_edit_in_text.specs.PrivateWrapping.{wrapped}

@@ -11,7 +11,7 @@ use Rattle.jsonptr.specs.Content.{content_at}
 use Rattle.jsonptr.specs.Json.{content, nodes}
 use Rattle.jsonptr.specs.Put.{put}
 use Rattle.jsonptr.specs.Growing.{grown}
-use Rattle.jsonptr_json_edits.specs.declared.layout.ValueText.{ValueText}
+use Rattle.jsonptr_json_edits.specs.declared.value_text.ValueText.{ValueText}
 use Rattle.jsonptr_edit_in_text.specs.Bytes.{IsScalar, ReplacesBytes, AddsPiece, AddsBytes, child_piece}
 
 -- `Reached R d d2 tokens`: the tokens name a path of `d`, and `d2` is `d` with another value there, which `R` relates to the old

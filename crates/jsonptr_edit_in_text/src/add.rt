@@ -15,9 +15,10 @@ use jsonptr_json_edits::buffers::Buffers;
 use jsonptr_json_edits::child::is_value_of;
 use jsonptr_json_edits::cut::cut_at;
 use jsonptr_json_edits::edit::{Edit, EditAt};
-use jsonptr_json_edits::layout::{ValueText, replacement};
+use jsonptr_json_edits::layout::replacement;
 use jsonptr_json_edits::locate::place_of;
 use jsonptr_json_edits::spacing::is_trimmed;
+use jsonptr_json_edits::value_text::ValueText;
 use jsonptr_json_search::selector::Selector;
 use std::alloc::{AllocError, Global};
 

@@ -4,8 +4,9 @@ ghost use Rattle.json.specs.Lex.{tokens as lexed};
 
 use jsonptr_json_edits::buffers::Buffers;
 use jsonptr_json_edits::child::is_value_of;
-use jsonptr_json_edits::layout::{ValueText, slice};
+use jsonptr_json_edits::layout::slice;
 use jsonptr_json_edits::locate::Span;
+use jsonptr_json_edits::value_text::ValueText;
 use std::alloc::{AllocError, Global};
 
 /// Returns the text, whose last tokens are those of `written`, with each of their strings as it is written

@@ -37,7 +37,7 @@ impl From<ReadError> for IndentError {
 
 /// Returns the JSON text with a line for each member and element, indented by `indent` for each level.
 ///
-/// The tokens stay as they are, one for one: the members in their order, repeated ones too, and the
+/// The tokens are unchanged, one for one: the members in their order, repeated ones too, and the
 /// text of each number. Only the escapes of strings are written in their shortest form.
 ///
 /// # Errors

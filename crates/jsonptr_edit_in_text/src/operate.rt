@@ -1,9 +1,8 @@
 //! One operation of a patch in a text (RFC 6902, section 4).
-ghost use Rattle.std.specs.Prelude.{IfOk, IfSome, IsTrue, ◌↔◌, string_bytes};
+ghost use Rattle.std.specs.Prelude.{IfOk, IfSome, IsTrue, string_bytes};
 ghost use Rattle.serde_json.specs.View.{view};
 ghost use Rattle.jsonptr.specs.Pointer.{tokens};
 ghost use Rattle.jsonptr.specs.Json.{nodes};
-ghost use Rattle.jsonptr_patch.specs.Operating.{IsProperFront};
 ghost use Rattle.jsonptr_edit_in_text.specs.Fitting.{IsRawTextOf};
 ghost use Rattle.jsonptr_edit_in_text.specs.PatchInText.{MovesBytes, CopiesBytes};
 ghost use Rattle.jsonptr_edit_in_text.specs.PrivateOperating.{OperatesInText, PutsInText, AddsValueInText, MovesInText, CopiesInText, PassesInText};
@@ -19,7 +18,7 @@ use crate::value_text::value_text;
 use jsonptr::Pointer;
 use jsonptr_in_text::{InTextError, resolve_in_text_with};
 use jsonptr_json_edits::buffers::Buffers;
-use jsonptr_patch::{Comparison, Operation, is_equal};
+use jsonptr_patch::{Comparison, Operation, is_equal, is_proper_front};
 use serde_json::Value;
 use std::alloc::{AllocError, Global};
 
@@ -41,15 +40,15 @@ pub fn operate(
         (λ s. GivenBytes (string_bytes text) operation.now.operation operation.now.text (string_bytes s))) }
 {
     let old = text.as_str();
-    let own = &operation.text;
+    let raw = &operation.text;
     match &operation.operation {
         Operation::Add { path, value } => {
-            let given = Given { value, own };
+            let given = Given { value, raw };
             add_given(alloc, buffers, old, path.as_ptr(), given)
         }
         Operation::Remove { path } => cut_out(alloc, buffers, old, path.as_ptr()),
         Operation::Replace { path, value } => {
-            let given = Given { value, own };
+            let given = Given { value, raw };
             replace_given(alloc, buffers, old, path.as_ptr(), given)
         }
         Operation::Move { from, path } => move_value(
@@ -82,7 +81,7 @@ struct Given<'a> {
     /// The value.
     value: &'a Value,
     /// Its own text, if there is one.
-    own: &'a Option<RawValue>,
+    raw: &'a Option<RawValue>,
 }
 
 /// Adds the value at the pointer, with its own text if there is one.
@@ -93,13 +92,13 @@ fn add_given(
     pointer: Pointer<'_>,
     given: Given<'_>,
 ) -> Result<Option<String>, AllocError>
-    requires { IsRawTextOf given.value.now given.own.now }
+    requires { IsRawTextOf given.value.now given.raw.now }
     ensures added { IfOk result (λ new. IfSome new (λ s. AddsValueInText text.now
         (tokens pointer.entry) (nodes (view given.entry.value.now)) (string_bytes s))) }
     ensures bytes { IfOk result (λ new. IfSome new (λ s. AddsGiven text.now
-        (tokens pointer.entry) (view given.entry.value.now) given.entry.own.now (string_bytes s))) }
+        (tokens pointer.entry) (view given.entry.value.now) given.entry.raw.now (string_bytes s))) }
 {
-    match given.own {
+    match given.raw {
         Some(raw) => add_at(alloc, buffers, text, pointer, &raw.text),
         None => {
             let Some(printed) = value_text(alloc, given.value)? else {
@@ -118,13 +117,13 @@ fn replace_given(
     pointer: Pointer<'_>,
     given: Given<'_>,
 ) -> Result<Option<String>, AllocError>
-    requires { IsRawTextOf given.value.now given.own.now }
+    requires { IsRawTextOf given.value.now given.raw.now }
     ensures put { IfOk result (λ new. IfSome new (λ s. PutsInText text.now
         (tokens pointer.entry) (nodes (view given.entry.value.now)) (string_bytes s))) }
     ensures bytes { IfOk result (λ new. IfSome new (λ s. ReplacesGiven text.now
-        (tokens pointer.entry) (view given.entry.value.now) given.entry.own.now (string_bytes s))) }
+        (tokens pointer.entry) (view given.entry.value.now) given.entry.raw.now (string_bytes s))) }
 {
-    match given.own {
+    match given.raw {
         Some(raw) => replace_at(alloc, buffers, text, pointer, &raw.text),
         None => {
             let Some(printed) = value_text(alloc, given.value)? else {
@@ -148,7 +147,7 @@ fn move_value(
     ensures bytes { IfOk result (λ new. IfSome new (λ s.
         MovesBytes text.now (tokens from.entry) (tokens path.entry) (string_bytes s))) }
 {
-    if is_below(path, from) {
+    if is_proper_front(from, path) {
         return Ok(None);
     }
     let Some(printed) = value_at(alloc, buffers, text, from)? else {
@@ -158,16 +157,6 @@ fn move_value(
         return Ok(None);
     };
     add_at(alloc, buffers, left.as_str(), path, &printed)
-}
-
-/// Returns whether `other` is a proper prefix of the pointer.
-fn is_below(pointer: Pointer<'_>, other: Pointer<'_>) -> bool
-    ensures { IsTrue result ↔ IsProperFront (tokens other.entry) (tokens pointer.entry) }
-{
-    match pointer.strip_prefix(other) {
-        Some(rest) => !rest.is_root(),
-        None => false,
-    }
 }
 
 /// Adds a copy of the value at one pointer at another one.

@@ -16,7 +16,7 @@ use crate::raw_value::RawValue;
 use crate::wrap::expanded;
 use jsonptr::Pointer;
 use jsonptr_in_text::{Format, Scratch, format_text};
-use jsonptr_json_edits::layout::{ValueText, text_of_value};
+use jsonptr_json_edits::value_text::{ValueText, text_of_value};
 use jsonptr_value::{MAX_DEPTH, ReadError, nests_within};
 use serde_json::Value;
 use std::alloc::{AllocError, Global};

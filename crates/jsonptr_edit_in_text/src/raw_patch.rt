@@ -59,11 +59,11 @@ pub fn raw_operations(
     let mut raws = Vec::new(alloc);
     let mut index = 0usize;
     for operation in operations {
-        let own = own_text(alloc, buffers, text, child_at(&elements, index), &selectors)?;
-        let Some(raw) = with_own(alloc, operation, own)? else {
+        let raw = own_text(alloc, buffers, text, child_at(&elements, index), &selectors)?;
+        let Some(operation) = with_own(alloc, operation, raw)? else {
             return Ok(None);
         };
-        keep(&mut raws, raw)?;
+        keep(&mut raws, operation)?;
         index = index.saturating_add(1);
     }
     Ok(Some(raws))
@@ -74,22 +74,22 @@ pub fn raw_operations(
 fn with_own(
     alloc: Global,
     operation: Operation,
-    own: Option<RawValue>,
+    raw: Option<RawValue>,
 ) -> Result<Option<RawOperation>, AllocError>
-    ensures operation { IfOk result (λ o. IfSome o (λ raw. raw.operation ≡ operation)) }
-    ensures text { IfOk result (λ o. IfSome o (λ raw. IsTrue (brings_value operation)
-        → (given : RawValue) × (own ≡ Some given) × (raw.text ≡ Some given))) }
+    ensures operation { IfOk result (λ o. IfSome o (λ made. made.operation ≡ operation)) }
+    ensures text { IfOk result (λ o. IfSome o (λ made. IsTrue (brings_value operation)
+        → (given : RawValue) × (raw ≡ Some given) × (made.text ≡ Some given))) }
 {
-    match own {
-        Some(text) => RawOperation::with_text(alloc, operation, text),
+    match raw {
+        Some(raw) => RawOperation::with_text(alloc, operation, raw),
         None => Ok(bare(operation)),
     }
 }
 
 /// Returns the operation, or `None` if it puts a value of its own into a document.
 fn bare(operation: Operation) -> Option<RawOperation>
-    ensures operation { IfSome result (λ raw. raw.operation ≡ operation) }
-    ensures bare { IfSome result (λ raw. brings_value operation ≡ false) }
+    ensures operation { IfSome result (λ made. made.operation ≡ operation) }
+    ensures bare { IfSome result (λ made. brings_value operation ≡ false) }
 {
     if brings(&operation) {
         None
@@ -150,7 +150,7 @@ fn own_text(
     object: Span,
     selectors: &[Selector],
 ) -> Result<Option<RawValue>, AllocError>
-    ensures { IfOk result (λ own. IfSome own (λ raw. HoldsTokens (string_bytes raw.text.flat) text.now)) }
+    ensures { IfOk result (λ found. IfSome found (λ raw. HoldsTokens (string_bytes raw.text.flat) text.now)) }
 {
     let there = slice(text, object.from, object.to);
     let Some(place) = place_of(alloc, buffers, there, selectors)? else {
@@ -205,17 +205,17 @@ pub fn plain(alloc: Global, raws: Vec<RawOperation>) -> Result<Vec<Operation>, A
     ensures { IfOk result (λ operations. operations.items ≡ operations_in raws.items) }
 {
     let mut operations = Vec::new(alloc);
-    for raw in raws {
-        operations.push(raw.operation)?;
+    for operation in raws {
+        operations.push(operation.operation)?;
     }
     Ok(operations)
 }
 
 /// Appends an operation.
-fn keep(raws: &mut Vec<RawOperation>, raw: RawOperation) -> Result<(), AllocError>
-    ensures { IfOk result (λ _. raws.new.items ≡ raws.old.items ++ raw ∷ []) }
+fn keep(raws: &mut Vec<RawOperation>, operation: RawOperation) -> Result<(), AllocError>
+    ensures { IfOk result (λ _. raws.new.items ≡ raws.old.items ++ operation ∷ []) }
 {
-    raws.push(raw)?;
+    raws.push(operation)?;
     Ok(())
 }
 
@@ -256,8 +256,8 @@ impl RawOperation {
         operation: Operation,
         text: RawValue,
     ) -> Result<Option<RawOperation>, AllocError>
-        ensures operation { IfOk result (λ o. IfSome o (λ raw. raw.operation ≡ operation)) }
-        ensures text { IfOk result (λ o. IfSome o (λ raw. raw.text ≡ Some text)) }
+        ensures operation { IfOk result (λ o. IfSome o (λ made. made.operation ≡ operation)) }
+        ensures text { IfOk result (λ o. IfSome o (λ made. made.text ≡ Some text)) }
     {
         if !fits(alloc, &operation, &text)? {
             return Ok(None);
@@ -269,13 +269,13 @@ impl RawOperation {
 
 /// Returns whether the text is read as the value that the operation puts into a document, if it puts one
 /// there.
-fn fits(alloc: Global, operation: &Operation, text: &RawValue) -> Result<bool, AllocError>
-    ensures { IfOk result (λ b. IsTrue b → HasFittingText operation.now (Some text.now)) }
+fn fits(alloc: Global, operation: &Operation, raw: &RawValue) -> Result<bool, AllocError>
+    ensures { IfOk result (λ b. IsTrue b → HasFittingText operation.now (Some raw.now)) }
 {
     match operation {
-        Operation::Add { path: _, value } => is_text_of(alloc, value, text),
+        Operation::Add { path: _, value } => is_text_of(alloc, raw, value),
         Operation::Remove { path: _ } => Ok(true),
-        Operation::Replace { path: _, value } => is_text_of(alloc, value, text),
+        Operation::Replace { path: _, value } => is_text_of(alloc, raw, value),
         Operation::Move { from: _, path: _ } => Ok(true),
         Operation::Copy { from: _, path: _ } => Ok(true),
         Operation::Test { path: _, value: _ } => Ok(true),
@@ -283,10 +283,10 @@ fn fits(alloc: Global, operation: &Operation, text: &RawValue) -> Result<bool, A
 }
 
 /// Returns whether the text is read as the value: both are printed, and compared.
-fn is_text_of(alloc: Global, value: &Value, text: &RawValue) -> Result<bool, AllocError>
-    ensures { IfOk result (λ b. IsTrue b → value_of_raw text.now ≡ view value.now) }
+fn is_text_of(alloc: Global, raw: &RawValue, value: &Value) -> Result<bool, AllocError>
+    ensures { IfOk result (λ b. IsTrue b → value_of_raw raw.now ≡ view value.now) }
 {
-    let again = text.to_value(alloc)?;
+    let again = raw.to_value(alloc)?;
     let Some(printed) = RawValue::from_value(alloc, value)? else {
         return Ok(false);
     };

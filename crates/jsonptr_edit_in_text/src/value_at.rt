@@ -6,9 +6,10 @@ ghost use Rattle.jsonptr_edit_in_text.specs.PrivateOperating.{FindsText};
 use jsonptr::Pointer;
 use jsonptr_in_text::selectors::selectors_of;
 use jsonptr_json_edits::buffers::Buffers;
-use jsonptr_json_edits::layout::{ValueText, text_at};
+use jsonptr_json_edits::layout::text_at;
 use jsonptr_json_edits::lead::{Route, leads_to};
 use jsonptr_json_edits::locate::place_at;
+use jsonptr_json_edits::value_text::ValueText;
 use std::alloc::{AllocError, Global};
 
 /// Returns the text of the value that the pointer resolves to, with its numbers and strings as they

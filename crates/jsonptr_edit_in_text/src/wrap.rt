@@ -13,7 +13,7 @@ use std::alloc::{AllocError, Global};
 /// Returns the text expanded by the tokens of the pointer: within an array for each token `-` or `0`,
 /// and within an object for each other one. Returns `None` if the text is not JSON.
 ///
-/// The tokens of the text stay as they are, one for one. Each token of the pointer takes one more copy.
+/// The tokens of the text are unchanged, one for one. Each token of the pointer takes one more copy.
 ///
 /// # Errors
 ///
@@ -52,7 +52,7 @@ fn wrap(
     let key = token.decoded(alloc)?;
     let mut reader = Reader::new(text, scratch)?;
     let mut out = Writer::new(Vec::new(alloc));
-    let is_whole = if is_index(&key) {
+    let is_whole = if creates_array(&key) {
         write_array(&mut reader, &mut out)?
     } else {
         write_object(&mut reader, &mut out, &key)?
@@ -64,7 +64,7 @@ fn wrap(
 }
 
 /// Returns whether the token makes an array.
-fn is_index(token: &str) -> bool
+fn creates_array(token: &str) -> bool
     ensures { result ≡ is_append_index 0 token.now }
 {
     token == "-" || token == "0"
@@ -74,7 +74,7 @@ fn is_index(token: &str) -> bool
 fn write_array(reader: &mut Reader<'_>, out: &mut Writer) -> Result<bool, AllocError>
     ensures written { IfOk result (λ b. IsTrue b → out.new.tokens
         ≡ out.old.tokens ++ begin_array ∷ (reader.old ++ end_array ∷ [])) }
-    ensures kept { out.new.before ≡ out.old.before }
+    ensures before { out.new.before ≡ out.old.before }
 {
     out.begin_array()?;
     let is_whole = copy(reader, out)?;
@@ -86,7 +86,7 @@ fn write_array(reader: &mut Reader<'_>, out: &mut Writer) -> Result<bool, AllocE
 fn write_object(reader: &mut Reader<'_>, out: &mut Writer, key: &str) -> Result<bool, AllocError>
     ensures written { IfOk result (λ b. IsTrue b → out.new.tokens
         ≡ out.old.tokens ++ begin_object ∷ a_key key.now ∷ (reader.old ++ end_object ∷ [])) }
-    ensures kept { out.new.before ≡ out.old.before }
+    ensures before { out.new.before ≡ out.old.before }
 {
     out.begin_object()?;
     out.key(key)?;
@@ -98,7 +98,7 @@ fn write_object(reader: &mut Reader<'_>, out: &mut Writer, key: &str) -> Result<
 /// Writes the tokens that are left. Returns `false` at a bad one.
 fn copy(reader: &mut Reader<'_>, out: &mut Writer) -> Result<bool, AllocError>
     ensures copied { IfOk result (λ b. IsTrue b → out.new.tokens ≡ out.old.tokens ++ reader.old) }
-    ensures kept { out.new.before ≡ out.old.before }
+    ensures before { out.new.before ≡ out.old.before }
 {
     while let Some(token) = reader.next() {
         if matches!(token, JsonToken::Bad) {

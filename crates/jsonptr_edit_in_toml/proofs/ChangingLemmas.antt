@@ -5,7 +5,7 @@ use Rattle.jsonptr.specs.Text.{Text}
 use Rattle.toml_parser.specs.Strings.{recursion_limit as max_depth}
 use Rattle.jsonptr.specs.TomlValue.{HasSortedKeys}
 use Rattle.jsonptr.proofs.TomlCalling.{ascends_read_document}
-use Rattle.jsonptr_in_toml.specs.InToml.{ReadsAsToml, AssignsTo, DeletesTo, PrintsAs, AssignsAndPrintsToml, DeletesAndPrintsToml, IsTomlReadError, IsTomlPrintError}
+use Rattle.jsonptr_in_toml.specs.InToml.{ReadsAsToml, AssignsTo, DeletesTo, PrintsAs, AssignsAndPrintsToml, DeletesAndPrintsToml, IsReadTomlError, IsPrintTomlError}
 use Rattle.jsonptr_in_toml.specs.Errors.{edit_toml_of_read, edit_toml_of_print}
 use Rattle.jsonptr_in_toml.specs.declared.error.ReadTomlError.{ReadTomlError}
 use Rattle.jsonptr_in_toml.specs.declared.error.ReadTomlError.TheVariants as reading
@@ -39,22 +39,22 @@ refuted P b says denied h = true≢false (sym (says h) ∙ denied)
 pub not_more : (n m : ℕ) → (n < m → ⊥) → m ≤ n
 not_more n m h = omega (arith, h)
 
-pub unread_to_assign : (text : Text) (ts : List Text) (v : Data) (e : ReadTomlError) → IsTomlReadError text e → IsAssignInTomlError text ts v (edit_toml_of_read e)
+pub unread_to_assign : (text : Text) (ts : List Text) (v : Data) (e : ReadTomlError) → IsReadTomlError text e → IsAssignInTomlError text ts v (edit_toml_of_read e)
 unread_to_assign text ts v reading.NotToml h = h
 unread_to_assign text ts v reading.DocumentTooDeep h = h
 unread_to_assign text ts v (reading.Memory f) h = tt
 
-pub unprinted_after_assign : (text : Text) (ts : List Text) (v d2 : Data) (e : PrintTomlError) → length ts ≤ suc max_depth → AssignsInOrder text ts v d2 → IsTomlPrintError d2 e → IsAssignInTomlError text ts v (edit_toml_of_print e)
+pub unprinted_after_assign : (text : Text) (ts : List Text) (v d2 : Data) (e : PrintTomlError) → length ts ≤ suc max_depth → AssignsInOrder text ts v d2 → IsPrintTomlError d2 e → IsAssignInTomlError text ts v (edit_toml_of_print e)
 unprinted_after_assign text ts v d2 printing.TooDeep short made h = inr (d2, made, h)
 unprinted_after_assign text ts v d2 printing.NoText short made h = (short, (d2, made, h))
 unprinted_after_assign text ts v d2 (printing.Memory f) short made h = tt
 
-pub unread_to_delete : (text : Text) (ts : List Text) (e : ReadTomlError) → IsTomlReadError text e → IsDeleteInTomlError text ts (edit_toml_of_read e)
+pub unread_to_delete : (text : Text) (ts : List Text) (e : ReadTomlError) → IsReadTomlError text e → IsDeleteInTomlError text ts (edit_toml_of_read e)
 unread_to_delete text ts reading.NotToml h = h
 unread_to_delete text ts reading.DocumentTooDeep h = h
 unread_to_delete text ts (reading.Memory f) h = tt
 
-pub unprinted_after_delete : (text : Text) (ts : List Text) (d2 : Data) (e : PrintTomlError) → DeletesInOrder text ts d2 → IsTomlPrintError d2 e → IsDeleteInTomlError text ts (edit_toml_of_print e)
+pub unprinted_after_delete : (text : Text) (ts : List Text) (d2 : Data) (e : PrintTomlError) → DeletesInOrder text ts d2 → IsPrintTomlError d2 e → IsDeleteInTomlError text ts (edit_toml_of_print e)
 unprinted_after_delete text ts d2 printing.TooDeep made h = (d2, made, h)
 unprinted_after_delete text ts d2 printing.NoText made h = (d2, made, h)
 unprinted_after_delete text ts d2 (printing.Memory f) made h = tt

@@ -8,7 +8,7 @@ use Rattle.jsonptr.specs.TomlValue.{nodes, HasSortedKeys}
 use Rattle.jsonptr.specs.Assign.{RefusesAssign}
 use Rattle.jsonptr.specs.declared.assign.Error.{Error as AssignError}
 use Rattle.std.specs.declared.convert.Infallible.{Infallible}
-use Rattle.jsonptr_in_toml.specs.InToml.{ReadsAsToml, IsDeep, IsTomlPrintError, AssignsTo, DeletesTo}
+use Rattle.jsonptr_in_toml.specs.InToml.{ReadsAsToml, IsDeep, IsPrintTomlError, AssignsTo, DeletesTo}
 use Rattle.jsonptr_in_toml.specs.declared.error.PrintTomlError.TheVariants as printing
 use Rattle.jsonptr_in_toml.specs.declared.error.EditTomlError.{EditTomlError}
 use Rattle.jsonptr_in_toml.specs.declared.error.EditTomlError.TheVariants.{NotToml, DocumentTooDeep, Refused, TooDeep, NoText, Memory}
@@ -30,9 +30,9 @@ IsAssignInTomlError text ts v (Refused f) =
     (d : Data) × ReadsAsToml text d × (length ts ≤ suc max_depth) × RefusesAssign (nodes d) ts f
 IsAssignInTomlError text ts v TooDeep =
     (((d : Data) × ReadsAsToml text d) × (suc max_depth < length ts))
-    ⊎ ((d2 : Data) × AssignsInOrder text ts v d2 × IsTomlPrintError d2 printing.TooDeep)
+    ⊎ ((d2 : Data) × AssignsInOrder text ts v d2 × IsPrintTomlError d2 printing.TooDeep)
 IsAssignInTomlError text ts v NoText =
-    (length ts ≤ suc max_depth) × ((d2 : Data) × AssignsInOrder text ts v d2 × IsTomlPrintError d2 printing.NoText)
+    (length ts ≤ suc max_depth) × ((d2 : Data) × AssignsInOrder text ts v d2 × IsPrintTomlError d2 printing.NoText)
 IsAssignInTomlError text ts v (Memory f) = ⊤
 
 -- `IsDeleteInTomlError text ts e`: `e` is why nothing is deleted in the text, if it is not for memory
@@ -40,15 +40,15 @@ abbrev pub IsDeleteInTomlError : Text → List Text → EditTomlError Infallible
 IsDeleteInTomlError text ts NotToml = parse_document text ≡ None
 IsDeleteInTomlError text ts DocumentTooDeep = IsDeep text
 IsDeleteInTomlError text ts (Refused f) = ⊥
-IsDeleteInTomlError text ts TooDeep = (d2 : Data) × DeletesInOrder text ts d2 × IsTomlPrintError d2 printing.TooDeep
-IsDeleteInTomlError text ts NoText = (d2 : Data) × DeletesInOrder text ts d2 × IsTomlPrintError d2 printing.NoText
+IsDeleteInTomlError text ts TooDeep = (d2 : Data) × DeletesInOrder text ts d2 × IsPrintTomlError d2 printing.TooDeep
+IsDeleteInTomlError text ts NoText = (d2 : Data) × DeletesInOrder text ts d2 × IsPrintTomlError d2 printing.NoText
 IsDeleteInTomlError text ts (Memory f) = ⊤
 
--- `IsForMemory e`: an allocation failed
-abbrev pub IsForMemory : {E : Type 0} → EditTomlError E → Type 0
-IsForMemory (Memory f) = ⊤
-IsForMemory e = ⊥
+-- `IsOutOfMemory e`: an allocation failed
+abbrev pub IsOutOfMemory : {E : Type 0} → EditTomlError E → Type 0
+IsOutOfMemory (Memory f) = ⊤
+IsOutOfMemory e = ⊥
 
 -- `AreOneError e f`: `e` and `f` are equal, or an allocation failed
 abbrev pub AreOneError : {E : Type 0} → EditTomlError E → EditTomlError E → Type 0
-AreOneError e f = IsForMemory e ⊎ (IsForMemory f ⊎ (e ≡ f))
+AreOneError e f = IsOutOfMemory e ⊎ (IsOutOfMemory f ⊎ (e ≡ f))

@@ -4,7 +4,7 @@ ghost use Rattle.toml.specs.Data.{Data};
 ghost use Rattle.toml.specs.View.{view};
 ghost use Rattle.jsonptr.specs.Pointer.{tokens};
 ghost use Rattle.jsonptr.specs.TomlValue.{FindsValue};
-ghost use Rattle.jsonptr_in_toml.specs.InToml.{ReadsAsToml, AssignsAndPrintsToml, PrintsAs, IsTomlPrintError};
+ghost use Rattle.jsonptr_in_toml.specs.InToml.{ReadsAsToml, AssignsAndPrintsToml, PrintsAs, IsPrintTomlError};
 ghost use Rattle.jsonptr_edit_in_text.specs.Bytes.{KeepsBytes};
 ghost use Rattle.jsonptr_edit_in_text.specs.EditInText.{edited_text};
 ghost use Rattle.jsonptr_edit_in_toml.specs.EditInToml.{AssignsInToml, IsPrinted};
@@ -95,7 +95,7 @@ pub fn choose(
     ensures place { IfOk result (KeepsBytes (λ s. IfSome candidate (λ c. s ≡ string_bytes c))) }
     ensures there { IfOk result (KeepsBytes (λ s. IsSome candidate)) }
     ensures printed { IfOk result (IsPrinted (PrintsAs (view document))) }
-    ensures refused { IfErr result (IsTomlPrintError (view document)) }
+    ensures refused { IfErr result (IsPrintTomlError (view document)) }
 {
     if has_deep_values(&document) {
         discard(document);

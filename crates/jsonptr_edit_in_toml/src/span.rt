@@ -89,7 +89,7 @@ pub fn line_start(text: &str, at: usize) -> usize {
     }
 }
 
-/// Returns whether the line that begins at the offset is blank. The end of the text is no line.
+/// Returns whether the line that begins at the offset is blank. The end of the text is not a line.
 pub fn is_blank_line(text: &str, at: usize) -> bool {
     let next = skip_blanks(text, at);
     match byte_at(text, next) {

@@ -29,7 +29,8 @@ use std::alloc::Global;
 /// A list over lines with a trailing comma has one after the edit, and others have none. An empty
 /// container keeps its comments, and the new child comes after them.
 ///
-/// Reads the text with comments once and the result once, beside what [`assign_in_place`] reads.
+/// Reads the text with comments, the result, and both without comments, beside what [`assign_in_place`]
+/// reads.
 ///
 /// # Errors
 ///

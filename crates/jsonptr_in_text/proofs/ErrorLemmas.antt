@@ -16,13 +16,13 @@ use Rattle.jsonptr.specs.Json.{content, nodes}
 use Rattle.jsonptr_tree.proofs.ContentLemmas.{map_of-IsTree}
 use Rattle.jsonptr_tree.proofs.FollowingLemmas.{StopsBefore-array}
 use Rattle.jsonptr.specs.Index.{Reads, IsWithin}
-use Rattle.jsonptr_base.specs.declared.index.Index.{Index}
-use Rattle.jsonptr_base.specs.declared.index.Index.TheVariants.{Num}
+use Rattle.jsonptr.specs.Types.Index.{Index}
+use Rattle.jsonptr.specs.Types.Index.TheVariants.{Num}
 use Rattle.jsonptr.specs.Child.{IsChildError}
-use Rattle.jsonptr_document.specs.declared.child.ChildError.{ChildError}
-use Rattle.jsonptr_document.specs.declared.child.ChildError.TheVariants as child_error
-use Rattle.jsonptr_base.specs.declared.index.ParseIndexError.{ParseIndexError}
-use Rattle.jsonptr_base.specs.declared.index.OutOfBoundsError.{OutOfBoundsError}
+use Rattle.jsonptr.specs.Types.ChildError.{ChildError}
+use Rattle.jsonptr.specs.Types.ChildError.TheVariants as child_error
+use Rattle.jsonptr.specs.Types.ParseIndexError.{ParseIndexError}
+use Rattle.jsonptr.specs.Types.OutOfBoundsError.{OutOfBoundsError}
 use Rattle.jsonptr.specs.Resolve.{resolve_position_of, resolve_offset_of, resolve_cause_of, Refuses}
 use Rattle.jsonptr.specs.declared.resolve.Error.{Error}
 

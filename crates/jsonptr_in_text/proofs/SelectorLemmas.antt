@@ -3,8 +3,8 @@ use Rattle.std.proofs.Common.{◌≡◌, ℕ, List, [], ◌∷◌, ◌++◌, str
 use Rattle.jsonptr.specs.Text.{Text, dec}
 use Rattle.jsonptr_grammar.proofs.DecLemmas.{dec_one}
 use Rattle.jsonptr.specs.Index.{Reads}
-use Rattle.jsonptr_base.specs.declared.index.Index.TheVariants.{Num, Next}
-use Rattle.jsonptr_base.specs.declared.index.ParseIndexError.{ParseIndexError}
+use Rattle.jsonptr.specs.Types.Index.TheVariants.{Num, Next}
+use Rattle.jsonptr.specs.Types.ParseIndexError.{ParseIndexError}
 use Rattle.jsonptr_document.proofs.BadIndex.{no_index, no_dash}
 use Rattle.jsonptr_in_text.specs.PrivateSelectors.{NamesIndex}
 use Rattle.jsonptr_json_search.specs.declared.selector.Selector.{Selector}

@@ -26,7 +26,7 @@ pub enum Format {
 
 /// Returns the JSON text with its tokens laid out anew.
 ///
-/// The tokens stay as they are, one for one: the members in their order, repeated ones too, and the
+/// The tokens are unchanged, one for one: the members in their order, repeated ones too, and the
 /// text of each number. Only the escapes of strings are written in their shortest form. So the result
 /// is read as the same document. No number is read, and no document is built.
 ///
@@ -113,7 +113,7 @@ trait TokenSink: Sized + Drop {
     fn write(&mut self, token: Token<'_>) -> Result<(), AllocError>
         requires { IsPrintable (token_of token) }
         ensures written { OnOk result (written self.new ≡ written self.old ++ token_of token.entry ∷ []) }
-        ensures kept { before self.new ≡ before self.old };
+        ensures before { before self.new ≡ before self.old };
 }
 
 impl TokenSink for Writer {
@@ -141,7 +141,7 @@ fn copy<W: TokenSink>(reader: &mut Reader<'_>, out: &mut W) -> Result<bool, Allo
     ensures copied { IfOk result (λ whole. IsTrue whole
         → W.written out.new ≡ W.written out.old ++ reader.old) }
     ensures bad { IfOk result (λ whole. whole ≡ false → HasBad reader.old) }
-    ensures kept { W.before out.new ≡ W.before out.old }
+    ensures before { W.before out.new ≡ W.before out.old }
 {
     while let Some(token) = reader.next() {
         if matches!(token, Token::Bad) {

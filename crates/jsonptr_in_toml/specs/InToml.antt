@@ -78,18 +78,18 @@ LacksInToml text ts = (d : Data) × ReadsAsToml text d × ((w : Path) → Names 
 abbrev pub ListsInToml : Listed → Text → Text → Type 0
 ListsInToml which text out = (d : Data) × ReadsAsToml text d × ListsToml which d out
 
--- `IsTomlReadError text e`: `e` is why `text` is not read, if it is not for memory
-abbrev pub IsTomlReadError : Text → ReadTomlError → Type 0
-IsTomlReadError text reading.NotToml = parse_document text ≡ None
-IsTomlReadError text reading.DocumentTooDeep = IsDeep text
-IsTomlReadError text (reading.Memory f) = ⊤
+-- `IsReadTomlError text e`: `e` is why `text` is not read, if it is not for memory
+abbrev pub IsReadTomlError : Text → ReadTomlError → Type 0
+IsReadTomlError text reading.NotToml = parse_document text ≡ None
+IsReadTomlError text reading.DocumentTooDeep = IsDeep text
+IsReadTomlError text (reading.Memory f) = ⊤
 
--- `IsTomlPrintError d e`: `e` is why the value `d` is not printed as a document, if it is not for memory. A value that nests
+-- `IsPrintTomlError d e`: `e` is why the value `d` is not printed as a document, if it is not for memory. A value that nests
 -- too deep is not looked at further
-abbrev pub IsTomlPrintError : Data → PrintTomlError → Type 0
-IsTomlPrintError d printing.TooDeep = HasDeepValues d
-IsTomlPrintError d printing.NoText = (HasDeepValues d → ⊥) × HasNoText d
-IsTomlPrintError d (printing.Memory f) = ⊤
+abbrev pub IsPrintTomlError : Data → PrintTomlError → Type 0
+IsPrintTomlError d printing.TooDeep = HasDeepValues d
+IsPrintTomlError d printing.NoText = (HasDeepValues d → ⊥) × HasNoText d
+IsPrintTomlError d (printing.Memory f) = ⊤
 
 -- `IsInTomlError text ts e`: `e` is why no value is found, if it is not for memory
 abbrev pub IsInTomlError : Text → List Text → InTomlError → Type 0
@@ -106,9 +106,9 @@ IsAssignAndPrintError text ts v (editing.Refused f) =
     (d : Data) × ReadsAsToml text d × (length ts ≤ suc max_depth) × RefusesAssign (nodes d) ts f
 IsAssignAndPrintError text ts v editing.TooDeep =
     (((d : Data) × ReadsAsToml text d) × (suc max_depth < length ts))
-    ⊎ ((d2 : Data) × AssignsTo text ts v d2 × IsTomlPrintError d2 printing.TooDeep)
+    ⊎ ((d2 : Data) × AssignsTo text ts v d2 × IsPrintTomlError d2 printing.TooDeep)
 IsAssignAndPrintError text ts v editing.NoText =
-    (d2 : Data) × AssignsTo text ts v d2 × IsTomlPrintError d2 printing.NoText
+    (d2 : Data) × AssignsTo text ts v d2 × IsPrintTomlError d2 printing.NoText
 IsAssignAndPrintError text ts v (editing.Memory f) = ⊤
 
 -- `IsDeleteAndPrintError text ts e`: `e` is why nothing is deleted, if it is not for memory
@@ -116,6 +116,6 @@ abbrev pub IsDeleteAndPrintError : Text → List Text → EditTomlError Infallib
 IsDeleteAndPrintError text ts editing.NotToml = parse_document text ≡ None
 IsDeleteAndPrintError text ts editing.DocumentTooDeep = IsDeep text
 IsDeleteAndPrintError text ts (editing.Refused f) = ⊥
-IsDeleteAndPrintError text ts editing.TooDeep = (d2 : Data) × DeletesTo text ts d2 × IsTomlPrintError d2 printing.TooDeep
-IsDeleteAndPrintError text ts editing.NoText = (d2 : Data) × DeletesTo text ts d2 × IsTomlPrintError d2 printing.NoText
+IsDeleteAndPrintError text ts editing.TooDeep = (d2 : Data) × DeletesTo text ts d2 × IsPrintTomlError d2 printing.TooDeep
+IsDeleteAndPrintError text ts editing.NoText = (d2 : Data) × DeletesTo text ts d2 × IsPrintTomlError d2 printing.NoText
 IsDeleteAndPrintError text ts (editing.Memory f) = ⊤

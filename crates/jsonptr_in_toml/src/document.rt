@@ -4,7 +4,7 @@ ghost use Rattle.toml.specs.Data.{members_depth, table as a_table};
 ghost use Rattle.toml.specs.View.{view, table_view};
 ghost use Rattle.toml_parser.specs.Strings.{recursion_limit as max_depth};
 ghost use Rattle.jsonptr_in_toml.specs.declared.error.ReadTomlError.TheVariants.{DocumentTooDeep};
-ghost use Rattle.jsonptr_in_toml.specs.InToml.{ReadsAsToml, PrintsAs, IsTomlReadError, IsTomlPrintError};
+ghost use Rattle.jsonptr_in_toml.specs.InToml.{ReadsAsToml, PrintsAs, IsReadTomlError, IsPrintTomlError};
 
 use crate::depth::{MAX_TOML_DEPTH, table_nests_within};
 use crate::error::{PrintTomlError, ReadTomlError};
@@ -31,7 +31,7 @@ use toml::{Table, Value, table_from_str, table_to_string};
 /// ```
 pub fn read_toml(alloc: Global, text: &str) -> Result<Value, ReadTomlError>
     ensures document { IfOk result (λ v. ReadsAsToml text.now (view v)) }
-    ensures refused { IfErr result (IsTomlReadError text.now) }
+    ensures refused { IfErr result (IsReadTomlError text.now) }
 {
     match table_from_str(alloc, text) {
         Ok(table) => shallow(table),
@@ -78,7 +78,7 @@ fn shallow(table: Table) -> Result<Value, ReadTomlError>
 /// ```
 pub fn print_toml(alloc: Global, value: Value) -> Result<String, PrintTomlError>
     ensures printed { IfOk result (λ s. PrintsAs (view value) (string_bytes s)) }
-    ensures refused { IfErr result (IsTomlPrintError (view value)) }
+    ensures refused { IfErr result (IsPrintTomlError (view value)) }
 {
     match value {
         Value::Table(table) => print_table(alloc, table),
@@ -89,7 +89,7 @@ pub fn print_toml(alloc: Global, value: Value) -> Result<String, PrintTomlError>
 /// Prints the table as a document, and drops it.
 fn print_table(alloc: Global, table: Table) -> Result<String, PrintTomlError>
     ensures printed { IfOk result (λ s. PrintsAs (a_table (table_view table)) (string_bytes s)) }
-    ensures refused { IfErr result (IsTomlPrintError (a_table (table_view table))) }
+    ensures refused { IfErr result (IsPrintTomlError (a_table (table_view table))) }
 {
     if !table_nests_within(&table, MAX_TOML_DEPTH) {
         discard(Value::Table(table));

@@ -1,6 +1,6 @@
 //! Listing the nodes of the document of a TOML text.
 ghost use Rattle.std.specs.Prelude.{IfOk, IfErr, string_bytes};
-ghost use Rattle.jsonptr_in_toml.specs.InToml.{ListsInToml, IsTomlReadError};
+ghost use Rattle.jsonptr_in_toml.specs.InToml.{ListsInToml, IsReadTomlError};
 
 use crate::document::read_toml;
 use crate::error::ReadTomlError;
@@ -25,7 +25,7 @@ use std::alloc::Global;
 /// ```
 pub fn list_in_toml(alloc: Global, text: &str, which: Listed) -> Result<String, ReadTomlError>
     ensures listed { IfOk result (λ s. ListsInToml which text.now (string_bytes s)) }
-    ensures refused { IfErr result (IsTomlReadError text.now) }
+    ensures refused { IfErr result (IsReadTomlError text.now) }
 {
     let document = read_toml(alloc, text)?;
     Ok(list_toml(alloc, &document, which)?)

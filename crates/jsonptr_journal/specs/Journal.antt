@@ -15,18 +15,18 @@ use Rattle.jsonptr_journal.specs.declared.journal.Entry.{Entry}
 use Rattle.jsonptr_journal.specs.declared.journal.Entry.TheVariants.{Added, Removed, Moved, RemovedMembers, Replaced}
 use Rattle.jsonptr_journal.specs.declared.journal.Journal.{Journal}
 
--- `Undoes e c d`: a change turned `c` into `d`, and the entry `e` undoes it
-abbrev pub Undoes : Entry → Content → Content → Type 0
-Undoes (Added a) c d = (v : Content) × IsAddition a v c d
-Undoes (Removed r v) c d = IsRemoval r (contents_of v) c d
-Undoes (Moved r a) c d = (v b : Content) × IsRemoval r v c b × IsAddition a v b d
-Undoes (RemovedMembers l room) c d = At (path_of l) (LeavesMembers (members_of room)) c d
-Undoes (Replaced p v) c d = HasNoTilde (text p) × (w : Content) × AtNamed p (ReplacesContent (contents_of v) w) c d
+-- `IsEntryOf e c d`: a change turned `c` into `d`, and the entry `e` undoes it
+abbrev pub IsEntryOf : Entry → Content → Content → Type 0
+IsEntryOf (Added a) c d = (v : Content) × IsAddition a v c d
+IsEntryOf (Removed r v) c d = IsRemoval r (contents_of v) c d
+IsEntryOf (Moved r a) c d = (v b : Content) × IsRemoval r v c b × IsAddition a v b d
+IsEntryOf (RemovedMembers l room) c d = At (path_of l) (LeavesMembers (members_of room)) c d
+IsEntryOf (Replaced p v) c d = HasNoTilde (text p) × (w : Content) × AtNamed p (ReplacesContent (contents_of v) w) c d
 
 -- `Chain es c d`: changes turned `c` into `d`, and the entries `es`, from the last to the first, undo them
 abbrev pub Chain : List Entry → Content → Content → Type 0
 Chain [] c d = d ≡ c
-Chain (e ∷ es) c d = (b : Content) × Undoes e c b × Chain es b d
+Chain (e ∷ es) c d = (b : Content) × IsEntryOf e c b × Chain es b d
 
 -- `Pages ps c d`: changes turned `c` into `d`, and the entries of the pages `ps`, from the last to the first, undo them
 abbrev pub Pages : List (Vec Entry Global) → Content → Content → Type 0

@@ -9,7 +9,7 @@ ghost use Rattle.jsonptr_journal.specs.Writing.{At};
 ghost use Rattle.jsonptr_journal.specs.Changes.{IsThere, HasAt, IsObjectContent, HasMember, HasElement, TakesMember, TakesElement, TakesAt, Writes};
 ghost use Rattle.jsonptr_journal.specs.Rooms.{LeavesMembers};
 ghost use Rattle.jsonptr_journal.specs.Undoing.{CanAdd, AddsAt, IsAddition, IsRemoval};
-ghost use Rattle.jsonptr_journal.specs.Journal.{Undoes, Chain, Pages, Undone, HasRoom};
+ghost use Rattle.jsonptr_journal.specs.Journal.{IsEntryOf, Chain, Pages, Undone, HasRoom};
 
 use crate::addition::{Addition, Target, add, replace, replace_node, restore, undo_addition};
 use crate::location::{Location, Part};
@@ -103,7 +103,7 @@ impl Journal {
     /// Appends an entry. There is room for it.
     pub fn push(&mut self, entry: Entry)
         requires { HasRoom self.old }
-        ensures { (c b d : Content) → Undone self.old c b → Undoes entry b d
+        ensures { (c b d : Content) → Undone self.old c b → IsEntryOf entry b d
             → Undone self.new c d }
     {
         self.entries.push_reserved(entry);
@@ -430,8 +430,8 @@ impl Entry {
 
 /// Undoes one change.
 fn undo_entry<D: NodeMut>(alloc: Global, document: &mut D, entry: Entry)
-    requires { (c : Content) × Undoes entry c (D.contents document.old) }
-    ensures { (c : Content) → Undoes entry c (D.contents document.old) → D.contents document.new ≡ c }
+    requires { (c : Content) × IsEntryOf entry c (D.contents document.old) }
+    ensures { (c : Content) → IsEntryOf entry c (D.contents document.old) → D.contents document.new ≡ c }
 {
     match entry {
         Entry::Added(addition) => discard(undo_addition(document, addition)),

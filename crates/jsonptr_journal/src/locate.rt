@@ -137,7 +137,7 @@ pub(crate) fn index_in(token: &Token<'_>, length: usize) -> Option<usize>
 {
     match token.to_index() {
         Ok(index) => match index.for_len(length) {
-            Ok(place) => Some(place),
+            Ok(index) => Some(index),
             Err(_) => None,
         },
         Err(_) => None,

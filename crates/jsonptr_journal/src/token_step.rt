@@ -39,7 +39,7 @@ fn token_at<'p>(pointer: Pointer<'p>, offset: usize) -> Option<(Token<'p>, usize
     }
 }
 
-/// Returns the index that the token has in an array, or `None` if the value is no array that has it.
+/// Returns the index that the token has in an array, or `None` if the value is not an array with it.
 fn element_in(at: &Value, token: &Token<'_>) -> Option<usize>
     ensures { MatchOption result
         ((i : ℕ) → IsElementIn (contents_of at.now) token.now i → ⊥)

@@ -82,8 +82,8 @@ abbrev pub ChangesAt : List Choice → (Data → Data → Type 0) → Data → D
 ChangesAt [] R d d2 = R d d2
 ChangesAt (c ∷ cs) R d d2 = ChangesChild c (ChangesAt cs R) d d2
 
--- `Appends c e d d2`: `d2` is the array `d` with the element `e` after its last, which `c` selects
-pub record Appends (c : Choice) (e d d2 : Data) : Type 0 where
+-- `AppendsElement c e d d2`: `d2` is the array `d` with the element `e` after its last, which `c` selects
+pub record AppendsElement (c : Choice) (e d d2 : Data) : Type 0 where
   pub ds : Items
   pub ds2 : Items
   pub i : ℕ
@@ -98,7 +98,7 @@ abbrev pub Makes : Edit → Data → Data → Type 0
 Makes (Replace old new) d d2 = (read (string_bytes old) ≡ Some d) × (read (string_bytes new) ≡ Some d2)
 Makes (Add child) d d2 = (e : Data) × (read (string_bytes child.value) ≡ Some e) × AddsChosenMember (choice_of child.selector) e d d2
 Makes (Insert child) d d2 = (e : Data) × (read (string_bytes child.value) ≡ Some e) × AddsElement (choice_of child.selector) e d d2
-Makes (Append child) d d2 = (e : Data) × (read (string_bytes child.value) ≡ Some e) × Appends (choice_of child.selector) e d d2
+Makes (Append child) d d2 = (e : Data) × (read (string_bytes child.value) ≡ Some e) × AppendsElement (choice_of child.selector) e d d2
 
 -- `IsEdited old new cs edit`: the texts read as documents that differ only in the value that the selectors `cs` lead to, of
 -- which the edit makes the new one

@@ -4,7 +4,7 @@ ghost use Rattle.serde_json.specs.Data.{Data, Items};
 ghost use Rattle.serde_json.specs.Read.{read};
 ghost use Rattle.jsonptr_json_search.specs.Reading.{ReadsTokens, ReadsItems};
 ghost use Rattle.jsonptr_json_search.specs.Search.{choice_of, items_count};
-ghost use Rattle.jsonptr_json_edits.specs.Editing.{Appends, InsertsItem};
+ghost use Rattle.jsonptr_json_edits.specs.Editing.{AppendsElement, InsertsItem};
 
 use crate::check_error::CheckError;
 use crate::decide::is_at;
@@ -26,7 +26,7 @@ pub fn append(
 ) -> Result<(), CheckError>
     ensures passed { OnOk result ((d d2 e : Data) × ReadsTokens depth readers.old.one d readers.new.one
         × ReadsTokens depth readers.old.two d2 readers.new.two × (read (string_bytes child.now.value) ≡ Some e)
-        × Appends (choice_of child.now.selector) e d d2) }
+        × AppendsElement (choice_of child.now.selector) e d d2) }
     ensures one_shorter { OnOk result (length readers.new.one < length readers.old.one) }
     ensures two_shorter { OnOk result (length readers.new.two < length readers.old.two) }
 {

@@ -1,49 +1,13 @@
 //! The white space around what an edit brings or removes, so that a text keeps its layout. These
 //! are hints: no contract says that they are right.
-ghost use Rattle.std.specs.Prelude.{◌≡◌, ◌≤◌, Some, IfOk, string_bytes};
-ghost use Rattle.serde_json.specs.Data.{depth};
-ghost use Rattle.serde_json.specs.Read.{read, max_depth};
-ghost use Rattle.serde_json.specs.View.{view};
 
 use crate::locate::{Extent, Place, Span, trimmed_end};
 use crate::spread::{Lines, OneLine, on_line, spread};
 use crate::style::{
     Flat, indent_of, is_filled, is_own_line, line_before, margin_of, newline_of, row_above, unit_of,
 };
-use serde_json::Value;
+use crate::value_text::ValueText;
 use std::alloc::{AllocError, Global};
-
-/// The JSON text of a value, in two layouts. It owns both.
-#[derive(Debug, Drop)]
-pub struct ValueText {
-    /// The text on one line.
-    pub flat: String,
-    /// The text over lines, if it has any. Each line ends with `\n`, and the first has no
-    /// indentation.
-    pub lines: String,
-}
-
-/// Returns the text of a value.
-///
-/// # Errors
-///
-/// [`AllocError`] if an allocation fails.
-///
-/// # Examples
-///
-/// ```rust
-/// let text = text_of_value(alloc, &Value::from_str(alloc, "[1,2]")?)?;
-/// assert_eq!(rt; text.flat.as_str(), "[1,2]");
-/// assert_eq!(rt; text.lines.as_str(), "[\n  1,\n  2\n]");
-/// ```
-pub fn text_of_value(alloc: Global, value: &Value) -> Result<ValueText, AllocError>
-    ensures { IfOk result (λ text. depth (view value.now) ≤ max_depth
-        → read (string_bytes text.flat) ≡ Some (view value.now)) }
-{
-    let flat = value.to_string(alloc)?;
-    let lines = value.to_string_pretty(alloc)?;
-    Ok(ValueText { flat, lines })
-}
 
 /// Returns the text of the value at the span, as it is there: its numbers, its strings and the order
 /// of its members are kept.
@@ -466,7 +430,7 @@ impl<'t> Container<'t> {
 }
 
 /// Returns how many line breaks the text has.
-fn breaks(text: &str) -> usize {
+pub fn breaks(text: &str) -> usize {
     text.bytes().filter(|byte| *byte == b'\n').count()
 }
 

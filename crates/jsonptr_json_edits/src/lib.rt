@@ -22,3 +22,4 @@ pub mod spacing;
 mod spread;
 mod style;
 pub mod token;
+pub mod value_text;

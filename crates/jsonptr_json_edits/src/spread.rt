@@ -1,7 +1,7 @@
 //! Laying out a value: over lines, or on one line.
 
-use crate::layout::ValueText;
 use crate::style::{Flat, indent_of};
+use crate::value_text::ValueText;
 use std::alloc::{AllocError, Global};
 
 /// Where a value comes that may be over lines.

@@ -230,7 +230,7 @@ pub fn line_before(text: &str, offset: usize) -> &str {
 }
 
 /// Returns the white space at the start of the line of the offset. The first line has none: white space
-/// before the document is no indentation.
+/// before the document is not indentation.
 pub fn margin_of(text: &str, offset: usize) -> &str {
     let line = line_before(text, offset);
     if line.starts_with('\n') {

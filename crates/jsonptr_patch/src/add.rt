@@ -1,5 +1,5 @@
 //! The operation `add` (RFC 6902, section 4.1).
-ghost use Rattle.std.specs.Prelude.{◌≡◌, ◌∷◌, [], ◌++◌, Some, IfOk, IfErr, OnErr, string_bytes};
+ghost use Rattle.std.specs.Prelude.{◌≡◌, ◌∷◌, [], ◌++◌, Some, IfOk, IfErr, OnErr};
 ghost use Rattle.serde_json.specs.View.{view};
 ghost use Rattle.jsonptr.specs.Fault.{IfRefused};
 ghost use Rattle.jsonptr.specs.Node.{Path, NodeMap, Names, an_array};
@@ -20,6 +20,7 @@ use jsonptr_journal::addition::{self, Target};
 use jsonptr_journal::journal::Journal;
 use jsonptr_journal::locate::locate;
 use jsonptr_value::discard;
+use jsonptr_walk::put::key_of;
 use serde_json::Value;
 use std::alloc::{AllocError, Global};
 
@@ -44,14 +45,14 @@ pub fn add(
         (RefusesAdd (nodes (view document.old)) turn.number (tokens path.entry)) }
     ensures undone { Records journal.old document.old journal.new document.new }
 {
-    let place = match place(turn, document, path) {
-        Ok(place) => place,
+    let target = match place(turn, document, path) {
+        Ok(target) => target,
         Err(fault) => {
             discard(value);
             return Err(fault);
         }
     };
-    journal.add(turn.alloc, document, place, value)?;
+    journal.add(turn.alloc, document, target, value)?;
     Ok(())
 }
 
@@ -74,14 +75,14 @@ pub fn add_last(
         (RefusesAdd (nodes (view document.old)) turn.number (tokens path.entry)) }
     ensures unchanged { OnErr result (view document.new ≡ view document.old) }
 {
-    let place = match place(turn, document, path) {
-        Ok(place) => place,
+    let target = match place(turn, document, path) {
+        Ok(target) => target,
         Err(fault) => {
             discard(value);
             return Err(fault);
         }
     };
-    match addition::add_last(turn.alloc, document, place, value) {
+    match addition::add_last(turn.alloc, document, target, value) {
         Ok(()) => Ok(()),
         Err(failed) => {
             discard(failed.value);
@@ -133,17 +134,6 @@ pub fn place(turn: Turn, document: &Value, path: Pointer<'_>) -> Result<Target, 
     }
 }
 
-/// Returns the key that the token refers to.
-///
-/// # Errors
-///
-/// [`AllocError`] if the allocation fails.
-pub fn key_of(alloc: Global, token: &Token<'_>) -> Result<String, AllocError>
-    ensures { IfOk result (λ key. string_bytes key ≡ token.now) }
-{
-    token.decoded(alloc)?.into_owned(alloc)
-}
-
 /// Returns the index that the token refers to in an array of this length, to which the pointer
 /// `array` resolves.
 ///
@@ -162,7 +152,7 @@ fn insertion_index(
 {
     match last.to_index() {
         Ok(index) => match index.for_len_incl(length) {
-            Ok(place) => Ok(place),
+            Ok(index) => Ok(index),
             Err(source) => Err(assign::Error::OutOfBounds {
                 position: array.count(),
                 offset: array.len(),

@@ -18,7 +18,7 @@ use std::alloc::{AllocError, Global};
 ///
 /// Two pointers diverge at an object if they begin with the same tokens, these resolve to an object,
 /// and the next tokens differ. So the two patches change different members of the same objects. Then
-/// they give the same document in either order, and neither can make the other one fail
+/// their result is the same in either order, and neither can make the other one fail
 /// ([`laws::apart`](crate::laws::apart)).
 ///
 /// Each pointer is compared with each pointer of the other patch.

@@ -116,8 +116,8 @@ fn same_elements(comparison: Comparison, left: &Vec<Value>, right: &Vec<Value>) 
     if left.len() != right.len() {
         return false;
     }
-    for (place, element) in left.iter().enumerate() {
-        if !is_equal(comparison, element, &right[place]) {
+    for (index, element) in left.iter().enumerate() {
+        if !is_equal(comparison, element, &right[index]) {
             return false;
         }
     }

@@ -2,7 +2,7 @@
 ghost use Rattle.std.specs.Prelude.{◌≡◌, ◌+◌, ◌<◌, ◌↔◌, false, IfOk, OnOk, IsTrue};
 ghost use Rattle.serde_json.specs.View.{view};
 ghost use Rattle.serde_json.specs.declared.value.Value.{Value as SpecValue};
-ghost use Rattle.jsonptr_value.specs.Lengths.{elements_length, members_length, value_length};
+ghost use Rattle.jsonptr_value.specs.Lengths.{elements_length, members_length, token_count};
 ghost use Rattle.jsonptr_patch.specs.PrivateTesting.{FloatIn};
 ghost use Rattle.jsonptr_patch.specs.PrivateSearching.{ElementsLeadTo, MembersLeadTo, LeadsTo, AllLeadTo, ElementsLack, MembersLack, Lacks, AllLack, left_length, stack_length};
 
@@ -59,7 +59,7 @@ fn look<'v>(value: &'v Value, stack: &mut Vec<Left<'v>>) -> Result<bool, AllocEr
     ensures lacks { IfOk result (λ found. found ≡ false → AllLack stack.new.items
         → AllLack stack.old.items × (FloatIn value.now → ⊥)) }
     ensures smaller { OnOk result (stack_length stack.new.items
-        < stack_length stack.old.items + value_length (view value.now)) }
+        < stack_length stack.old.items + token_count (view value.now)) }
 {
     match value {
         Value::Null => Ok(false),

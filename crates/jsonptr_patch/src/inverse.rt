@@ -48,8 +48,8 @@ use std::alloc::{AllocError, Global};
 /// | a test | nothing |
 ///
 /// Each value that is removed or replaced is cloned once, and a value that is moved is not. Two moves
-/// are taken back by two operations, which clone the value: one to a place above its source, and one
-/// that replaces a member without diverging from its source at an object.
+/// are taken back by two operations, which clone the value: one to a location above its source, and
+/// one that replaces a member without diverging from its source at an object.
 ///
 /// Otherwise it costs what [`apply`](crate::apply) costs. A move within one array removes the element
 /// twice.
@@ -319,12 +319,12 @@ fn append_place_back(inverse: &mut Vec<Operation>, operation: &Operation) -> Res
             append(inverse, Operation::Remove { path })
         }
         Operation::Move { from, path } => {
-            let place = path.clone()?;
+            let location = path.clone()?;
             let back = from.clone()?;
             append(
                 inverse,
                 Operation::Move {
-                    from: place,
+                    from: location,
                     path: back,
                 },
             )
@@ -424,7 +424,7 @@ fn back_of_add(
     }
 }
 
-/// Returns the pointer with the index in place of its last token.
+/// Returns the pointer with the index instead of its last token.
 ///
 /// # Errors
 ///
@@ -499,22 +499,25 @@ fn back_of_way(
     let back = from.to_buf(turn.alloc)?;
     let again = path.to_buf(turn.alloc)?;
     match back_of_add(turn, document, path)? {
-        Operation::Remove { path: place } => {
+        Operation::Remove { path: location } => {
             append(
                 inverse,
                 Operation::Move {
-                    from: place,
+                    from: location,
                     path: back,
                 },
             )?;
             Ok(())
         }
-        Operation::Replace { path: place, value } => {
+        Operation::Replace {
+            path: location,
+            value,
+        } => {
             append(inverse, Operation::Add { path: again, value })?;
             append(
                 inverse,
                 Operation::Move {
-                    from: place,
+                    from: location,
                     path: back,
                 },
             )?;
@@ -579,10 +582,16 @@ fn append_reverse(
     ensures refused { IfRefused result
         (RefusesTarget (nodes (view document.now)) turn.number (tokens from.entry)) }
 {
-    match place_of(back, from) {
-        Ok(place) => {
+    match location_of(back, from) {
+        Ok(location) => {
             let path = from.to_buf(turn.alloc)?;
-            append(inverse, Operation::Move { from: place, path })?;
+            append(
+                inverse,
+                Operation::Move {
+                    from: location,
+                    path,
+                },
+            )?;
             Ok(())
         }
         Err(back) => match addition_at(turn, document, from) {
@@ -627,17 +636,17 @@ fn addition_at(
 /// # Errors
 ///
 /// The operation, if there is no such pointer.
-fn place_of(back: Operation, from: Pointer<'_>) -> Result<PointerBuf, Operation>
-    ensures place { IfOk result (λ place.
-        (back ≡ variant.Remove place) × (IsProperFront place (tokens from.entry) → ⊥)) }
+fn location_of(back: Operation, from: Pointer<'_>) -> Result<PointerBuf, Operation>
+    ensures location { IfOk result (λ location.
+        (back ≡ variant.Remove location) × (IsProperFront location (tokens from.entry) → ⊥)) }
     ensures returned { IfErr result (λ other. other ≡ back) }
 {
     match back {
-        Operation::Remove { path: place } => {
-            if is_proper_front(place.as_ptr(), from) {
-                return Err(Operation::Remove { path: place });
+        Operation::Remove { path: location } => {
+            if is_proper_front(location.as_ptr(), from) {
+                return Err(Operation::Remove { path: location });
             }
-            Ok(place)
+            Ok(location)
         }
         other => Err(other),
     }

@@ -1,8 +1,8 @@
 //! Removals that are made after all operations, when nothing can fail any more.
 //!
 //! To undo the removal of a member needs room for all members of its object. So where the later
-//! operations allow it, the member is left as it is, and removed at the end. If it is moved, its value
-//! is taken, and `null` is left in its place.
+//! operations allow it, the member stays, and is removed at the end. If it is moved, its value is taken,
+//! and `null` is left instead.
 ghost use Rattle.std.specs.Prelude.{◌≡◌, ◌≢◌, ◌∷◌, ◌++◌, ◌<◌, List, [], length, Some, Contains, IfOk, IfSome, IsOk, OnOk, OnErr, IsTrue, IsFalse, MatchOption};
 ghost use Rattle.std.specs.Vec.{vec_capacity};
 ghost use Rattle.serde_json.specs.View.{view};
@@ -20,7 +20,6 @@ ghost use Rattle.jsonptr_patch.specs.Inverse.{HasObject};
 ghost use Rattle.jsonptr_patch.specs.PrivateLater.{paths_of, IsKept, IsReached, IsPending, IsObjectAt, IsMemberAt, Forks, IsWaitingAt, TakesPlace, Frees, CanWait, StandsFor, IsSource};
 ghost use Rattle.jsonptr_patch.specs.PrivateRecording.{CanUndo, Records};
 
-use crate::add::key_of;
 use crate::apart::fork;
 use crate::drop::discard_small;
 use crate::move_value::{AddError, add_taken, move_value};
@@ -35,6 +34,7 @@ use jsonptr_journal::journal::{Entry, Journal};
 use jsonptr_journal::locate::locate;
 use jsonptr_journal::location::{Location, Part};
 use jsonptr_journal::removal::{self, Removal, Taken, blank, undo_removal};
+use jsonptr_walk::put::key_of;
 use serde_json::Value;
 use std::alloc::{AllocError, Global};
 use std::mem;
@@ -263,8 +263,8 @@ fn index_of(later: &[Later], path: &PointerBuf) -> Option<usize>
     None
 }
 
-/// Returns the index of the node in whose place the operation adds a value, or `None` if there is
-/// none. May return `None` if an allocation fails.
+/// Returns the index of the node that the operation replaces, or `None` if there is none. May
+/// return `None` if an allocation fails.
 fn replaced(
     alloc: Global,
     document: &Value,

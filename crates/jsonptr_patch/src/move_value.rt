@@ -5,7 +5,7 @@ ghost use Rattle.jsonptr.specs.Fault.{IfRefused, ForRefused};
 ghost use Rattle.jsonptr.specs.Json.{nodes, HasSortedKeys};
 ghost use Rattle.jsonptr.specs.Pointer.{tokens};
 ghost use Rattle.jsonptr_journal.specs.Location.{path_of, contents_of};
-ghost use Rattle.jsonptr_journal.specs.Journal.{Undoes};
+ghost use Rattle.jsonptr_journal.specs.Journal.{IsEntryOf};
 ghost use Rattle.jsonptr_journal.specs.Undoing.{IsAddition};
 ghost use Rattle.jsonptr_patch.specs.Adding.{Adds};
 ghost use Rattle.jsonptr_patch.specs.Apart.{Diverges};
@@ -156,7 +156,7 @@ fn moved(
     ensures sorted { IfOk result (λ _.
         HasSortedKeys (view document.old) → HasSortedKeys (view document.new)) }
     ensures undone { IfOk result (λ entry.
-        Undoes entry (contents_of document.old) (contents_of document.new)) }
+        IsEntryOf entry (contents_of document.old) (contents_of document.new)) }
     ensures refused { IfRefused result (RefusesMove (nodes (view document.old)) turn.number
         (tokens from.entry) (tokens path.entry)) }
     ensures unchanged { OnErr result (view document.new ≡ view document.old) }
@@ -227,7 +227,7 @@ pub fn add_taken(
     ensures unchanged { OnErr result (contents_of document.new ≡ contents_of document.old) }
 {
     match place(turn, document, path) {
-        Ok(place) => Ok(add(turn.alloc, document, place, value)?),
+        Ok(target) => Ok(add(turn.alloc, document, target, value)?),
         Err(fault) => Err(AddError { value, fault }),
     }
 }
@@ -253,12 +253,22 @@ fn add_taken_last(
     ensures unchanged { OnErr result (contents_of document.new ≡ contents_of document.old) }
 {
     match place(turn, document, path) {
-        Ok(place) => Ok(add_last(turn.alloc, document, place, value)?),
+        Ok(target) => Ok(add_last(turn.alloc, document, target, value)?),
         Err(fault) => Err(AddError { value, fault }),
     }
 }
 
-/// Returns whether `front` is a proper prefix of `path`: a prefix with fewer tokens.
+/// Returns whether `front` is a proper prefix of `path`: a prefix with fewer tokens. Then nothing can be
+/// moved from `front` to `path` (RFC 6902, section 4.4).
+///
+/// Needs no allocation.
+///
+/// # Examples
+///
+/// ```rust
+/// assert!(rt; is_proper_front(Pointer::parse("/a")?, Pointer::parse("/a/b")?));
+/// assert!(rt; !is_proper_front(Pointer::parse("/a")?, Pointer::parse("/ab")?));
+/// ```
 pub fn is_proper_front(front: Pointer<'_>, path: Pointer<'_>) -> bool
     ensures { IsTrue result ↔ IsProperFront (tokens front.entry) (tokens path.entry) }
 {

@@ -38,8 +38,8 @@ use std::alloc::Global;
 /// apart from it if each of its pointers diverges from that of the member at an object of the
 /// document. If a later operation is not, or if 1,024 members wait, all that wait are removed before it.
 /// That clones the keys of their objects, once for members of one object that follow one another. To
-/// undo it takes time in proportion to the objects. An addition to a member that waits takes its
-/// place instead.
+/// undo it takes time in proportion to the objects. An addition to a member that waits replaces
+/// it instead.
 ///
 /// Each pointer is compared with those of the members that wait. A removal from an array, and its
 /// undoing, take time in proportion to the array.

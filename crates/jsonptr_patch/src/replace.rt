@@ -164,6 +164,6 @@ fn replace_resolved<D: ResolveMut>(
     ensures unchanged { OnErr result (D.is_same document.old document.new) }
     ensures no_memory { D.needs_no_memory document.old (tokens pointer.entry) → HasMemory result }
 {
-    let place = document.resolve_mut(alloc, pointer)?;
-    Ok(mem::replace(place, value))
+    let node = document.resolve_mut(alloc, pointer)?;
+    Ok(mem::replace(node, value))
 }

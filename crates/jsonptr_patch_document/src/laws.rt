@@ -59,7 +59,7 @@ pub fn patch_document_law()
 }
 
 /// States that what [`write_patch`](crate::write_patch) writes for a list of operations is the patch
-/// of these operations. So a document that is read, written and read again gives the same
+/// of these operations. So a document that is read, written and read again has the same
 /// operations. If the keys of the values are sorted, so are those of the document.
 pub fn writing_law()
     ensures read { (os : List Operation) → IsPatch (document_of os) os }

@@ -18,8 +18,8 @@ use Rattle.jsonptr_value.proofs.NestingLemmas.{Assigns-within}
 use Rattle.jsonptr.specs.Grammar.{IsPointer}
 use Rattle.jsonptr.proofs.Calling.{IsPointer-text}
 use Rattle.jsonptr.specs.Fault.{IfRefused}
-use Rattle.jsonptr_base.specs.declared.fault.Fault.{Fault}
-use Rattle.jsonptr_base.specs.declared.fault.Fault.TheVariants as fault
+use Rattle.jsonptr.specs.Types.Fault.{Fault}
+use Rattle.jsonptr.specs.Types.Fault.TheVariants as fault
 use Rattle.jsonptr_io.specs.Lines.{IsOneLine, AreLines}
 use Rattle.jsonptr_paths.specs.Reading.{CutsAt, ReadsField, FitsDepth, AssignsLine, AssignsLines, Builds, IsLineError, StopsBuilding}
 use Rattle.jsonptr_paths.specs.PrivateReading.{IsFirstLine, Progress, of_line}

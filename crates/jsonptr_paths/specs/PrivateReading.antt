@@ -4,8 +4,8 @@ use Rattle.serde_json.specs.Data.{null}
 use Rattle.jsonptr.specs.Text.{Text}
 use Rattle.jsonptr.specs.Node.{NodeMap}
 use Rattle.jsonptr.specs.Json.{nodes}
-use Rattle.jsonptr_base.specs.declared.fault.Fault.{Fault}
-use Rattle.jsonptr_base.specs.declared.fault.Fault.TheVariants as fault
+use Rattle.jsonptr.specs.Types.Fault.{Fault}
+use Rattle.jsonptr.specs.Types.Fault.TheVariants as fault
 use Rattle.jsonptr_io.specs.Lines.{IsOneLine, AreLines}
 use Rattle.jsonptr_paths.specs.Reading.{CutsAt, AssignsLines}
 use Rattle.jsonptr_paths.specs.declared.reading.LineError.{LineError}

@@ -1,7 +1,7 @@
 //! The lines of the document of a JSON text.
-ghost use Rattle.std.specs.Prelude.{◌≡◌, ◌<◌, ◌^◌, List, [], ◌∷◌, length, Some, None, Err, IfOk, IfErr, OnOk, string_bytes};
+ghost use Rattle.std.specs.Prelude.{◌≡◌, ◌<◌, ◌^◌, List, [], ◌∷◌, ◌-◌, length, Some, None, Err, IfOk, IfErr, OnOk, string_bytes};
 ghost use Rattle.serde_json.specs.Data.{Data, Items, array, item, no_items};
-ghost use Rattle.serde_json.specs.Read.{read as spec_read};
+ghost use Rattle.serde_json.specs.Read.{max_depth, read as spec_read};
 ghost use Rattle.serde_json.specs.View.{view};
 ghost use Rattle.serde_json.specs.declared.value.Value.{Value};
 ghost use Rattle.jsonptr.specs.Text.{dec};
@@ -70,9 +70,9 @@ fn list_value(alloc: Global, text: &str, which: Listed) -> Result<String, ReadEr
 /// Returns the lines of an array that is the document, and reads the rest of it.
 fn list_elements(alloc: Global, reader: &mut Reader<'_>, which: Listed) -> Result<String, ReadError>
     requires few { length reader.old < 2 ^ 64 }
-    ensures listed { IfOk result (λ s. (ds : Items) × ReadsItems 126 reader.old ds reader.new
+    ensures listed { IfOk result (λ s. (ds : Items) × ReadsItems (max_depth - 1) reader.old ds reader.new
         × Lists which (array ds) (string_bytes s)) }
-    ensures refused { result ≡ Err NotJson → UnreadableItems 126 reader.old }
+    ensures refused { result ≡ Err NotJson → UnreadableItems (max_depth - 1) reader.old }
 {
     let mut lister = Lister {
         alloc,
@@ -121,10 +121,10 @@ fn visit_elements<T: Visitor<Value>>(
 ) -> Result<usize, ReadError>
     requires few { length reader.old < 2 ^ 64 }
     ensures listed { IfOk result (λ len. (ds : List Data)
-        × ReadsItems 126 reader.old (with_items_before ds no_items) reader.new
+        × ReadsItems (max_depth - 1) reader.old (with_items_before ds no_items) reader.new
         × (len ≡ length ds)
         × VisitsElements T.visits ds visitor.old visitor.new) }
-    ensures refused { result ≡ Err NotJson → UnreadableItems 126 reader.old }
+    ensures refused { result ≡ Err NotJson → UnreadableItems (max_depth - 1) reader.old }
 {
     let mut len = 0;
     'elements: while !reader.take_end_array() {
@@ -141,13 +141,13 @@ fn visit_next<T: Visitor<Value>>(
     at: usize,
     visitor: &mut T,
 ) -> Result<(), ReadError>
-    ensures listed { IfOk result (λ _. (v : Value) × ReadsTokens 126 reader.old (view v) reader.new
+    ensures listed { IfOk result (λ _. (v : Value) × ReadsTokens (max_depth - 1) reader.old (view v) reader.new
         × Walks inside T.visits v Whole (dec at ∷ []) visitor.old visitor.new) }
     ensures shorter { OnOk result (length reader.new < length reader.old) }
-    ensures refused { result ≡ Err NotJson → Unreadable 126 reader.old }
+    ensures refused { result ≡ Err NotJson → Unreadable (max_depth - 1) reader.old }
 {
     let element = read(alloc, reader, MAX_DEPTH - 1)?;
-    let place = PointerBuf::from_usize(alloc, at)?;
-    visit_nodes(alloc, &element, place.as_ptr(), visitor)?;
+    let child = PointerBuf::from_usize(alloc, at)?;
+    visit_nodes(alloc, &element, child.as_ptr(), visitor)?;
     Ok(())
 }

@@ -51,8 +51,8 @@ fn visit_elements<T: Visitor<Value>>(
     toml_law();
     for (index, element) in elements.iter().enumerate() {
         let token = Token::from_number(alloc, index)?;
-        let place = through.with_trailing_token(alloc, token)?;
-        visit_nodes(alloc, element, place.as_ptr(), visitor)?;
+        let child = through.with_trailing_token(alloc, token)?;
+        visit_nodes(alloc, element, child.as_ptr(), visitor)?;
     }
     Ok(())
 }
@@ -71,8 +71,8 @@ fn visit_members<T: Visitor<Value>>(
     toml_law();
     for (key, member) in members.iter() {
         let token = Token::new(alloc, CowStr::Borrowed(key.as_str()))?;
-        let place = through.with_trailing_token(alloc, token)?;
-        visit_nodes(alloc, member, place.as_ptr(), visitor)?;
+        let child = through.with_trailing_token(alloc, token)?;
+        visit_nodes(alloc, member, child.as_ptr(), visitor)?;
     }
     Ok(())
 }

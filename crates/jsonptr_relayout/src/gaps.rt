@@ -1,7 +1,7 @@
 //! What is around the children of an array or an object.
 
 use crate::tree::{TreeChild, TreeNode};
-use jsonptr_json_edits::layout::slice;
+use jsonptr_json_edits::layout::{breaks, slice};
 
 /// The text around the children of an array or an object that has some.
 #[derive(Clone, Copy, Debug)]
@@ -53,11 +53,6 @@ pub fn before<'t>(text: &'t str, children: &[TreeChild], position: usize) -> Opt
     let other = children.get(position.checked_sub(1)?)?;
     let child = children.get(position)?;
     Some(slice(text, other.node.span.to, child.from))
-}
-
-/// Returns how many line breaks the text has.
-fn breaks(text: &str) -> usize {
-    text.bytes().filter(|byte| *byte == b'\n').count()
 }
 
 /// Returns what is after the comma, if it has no line break.

@@ -17,7 +17,7 @@
 //! new one comes in the style of its siblings. Any other new value is laid out as the document is.
 //!
 //! What the result reads as is proved, since the result is read again. Which bytes it keeps is tested,
-//! except that a text that already reads as the new document stays as it is.
+//! except that a text that already reads as the new document is unchanged.
 //!
 //! In the examples `rt` is the runtime that `main` and each test receive, and `alloc` is
 //! `rt.alloc()`, the allocator.

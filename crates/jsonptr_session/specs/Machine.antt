@@ -102,17 +102,17 @@ NeedsNoMemory old (assign v) = NeedsNothing old.nodes old.tokens
 NeedsNoMemory old delete = HasNoTilde (text old.tokens)
 NeedsNoMemory old c = ⊥
 
--- `Steps blank old c a new`: one step of a session, which is a transition, or, if an allocation fails, has no answer
+-- `IsStep blank old c a new`: one step of a session, which is a transition, or, if an allocation fails, has no answer
 -- and leaves the state unchanged. A command that needs no memory always has an answer.
-abbrev pub Steps : NodeMap → State → Command → Option Answer → State → Type 0
-Steps blank old c (Some a) new = Transition blank old c a new
-Steps blank old c None new = (NeedsNoMemory old c → ⊥) × (new ≡ old)
+abbrev pub IsStep : NodeMap → State → Command → Option Answer → State → Type 0
+IsStep blank old c (Some a) new = Transition blank old c a new
+IsStep blank old c None new = (NeedsNoMemory old c → ⊥) × (new ≡ old)
 
 -- `Runs blank old cs answers new`: the commands `cs` lead from state `old` to `new`, one step for each command, in
 -- order.
 abbrev pub Runs : NodeMap → State → List Command → List (Option Answer) → State → Type 0
 Runs blank old [] [] new = new ≡ old
 Runs blank old (c ∷ cs) (a ∷ answers) new =
-    (next : State) × Steps blank old c a next × Runs blank next cs answers new
+    (next : State) × IsStep blank old c a next × Runs blank next cs answers new
 Runs blank old [] (a ∷ answers) new = ⊥
 Runs blank old (c ∷ cs) [] new = ⊥

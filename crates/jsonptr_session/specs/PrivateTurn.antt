@@ -4,7 +4,7 @@ use Rattle.std.specs.Prelude.{List, Option, Result, option_and_then}
 use Rattle.std.specs.Result.{result_ok}
 use Rattle.jsonptr.specs.Text.{Text}
 use Rattle.jsonptr.specs.Node.{NodeMap}
-use Rattle.jsonptr_session.specs.Machine.{Command, Answer, Steps}
+use Rattle.jsonptr_session.specs.Machine.{Command, Answer, IsStep}
 use Rattle.jsonptr_session.specs.Session.{answer_of}
 use Rattle.jsonptr_session.specs.declared.session.Reply.{Reply}
 
@@ -17,10 +17,10 @@ answered nodes result = option_and_then (answer_of nodes) (result_ok result)
 abbrev pub StepsOnTokens : NodeMap → List Text → Command → Option Answer → List Text → Type 0
 StepsOnTokens blank old c a new =
     (nodes : NodeMap)
-    → Steps blank (record { tokens = old; nodes = nodes }) c a (record { tokens = new; nodes = nodes })
+    → IsStep blank (record { tokens = old; nodes = nodes }) c a (record { tokens = new; nodes = nodes })
 
 -- `StepsOnNodes blank tokens old c a new`: command `c` with answer `a` leads from the map `old` to `new`, and leaves
 -- the tokens unchanged.
 abbrev pub StepsOnNodes : NodeMap → List Text → NodeMap → Command → Option Answer → NodeMap → Type 0
 StepsOnNodes blank tokens old c a new =
-    Steps blank (record { tokens = tokens; nodes = old }) c a (record { tokens = tokens; nodes = new })
+    IsStep blank (record { tokens = tokens; nodes = old }) c a (record { tokens = tokens; nodes = new })

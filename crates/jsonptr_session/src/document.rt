@@ -78,8 +78,8 @@ pub trait SessionDocument: Sized + Drop {
         ensures given_sorted { IfOk result (λ _.
             has_sorted_keys self.old → has_sorted_keys value.new) }
         ensures refused { IfRefused result (Refuses (nodes self.old) (tokens pointer.entry)) }
-        ensures unchanged { OnErr result (nodes self.new ≡ nodes self.old) }
-        ensures same { OnErr result (is_same self.old self.new) }
+        ensures map_unchanged { OnErr result (nodes self.new ≡ nodes self.old) }
+        ensures unchanged { OnErr result (is_same self.old self.new) }
         ensures value_unchanged { OnErr result (value.new ≡ value.old) }
         ensures no_memory { HasNoTilde (text (tokens pointer.entry)) → HasMemory result };
 
@@ -102,8 +102,8 @@ pub trait SessionDocument: Sized + Drop {
         ensures given_sorted { IfOk result (λ r.
             IfSome r (λ v. has_sorted_keys self.old → has_sorted_keys v)) }
         ensures refused { IfRefused result (RefusesAssign (nodes self.old) (tokens pointer.entry)) }
-        ensures unchanged { OnErr result (nodes self.new ≡ nodes self.old) }
-        ensures same { OnErr result (is_same self.old self.new) }
+        ensures map_unchanged { OnErr result (nodes self.new ≡ nodes self.old) }
+        ensures unchanged { OnErr result (is_same self.old self.new) }
         ensures no_memory { NeedsNothing (nodes self.old) (tokens pointer.entry)
             → HasMemory result };
 
@@ -123,8 +123,8 @@ pub trait SessionDocument: Sized + Drop {
         ensures given_sorted { IfOk result (λ r.
             IfSome r (λ v. has_sorted_keys self.old → has_sorted_keys v)) }
         ensures missing { IfOk result (λ r. MatchOption r (is_same self.old self.new) (λ _. ⊤)) }
-        ensures unchanged { OnErr result (nodes self.new ≡ nodes self.old) }
-        ensures same { OnErr result (is_same self.old self.new) }
+        ensures map_unchanged { OnErr result (nodes self.new ≡ nodes self.old) }
+        ensures unchanged { OnErr result (is_same self.old self.new) }
         ensures no_memory { HasNoTilde (text (tokens pointer.entry)) → IsOk result };
 
     // the map of a document is a tree
@@ -157,7 +157,7 @@ pub fn swap<D: ResolveMut>(
     ensures value_unchanged { OnErr result (value.new ≡ value.old) }
     ensures no_memory { D.needs_no_memory document.old (tokens pointer.entry) → HasMemory result }
 {
-    let place = document.resolve_mut(alloc, pointer)?;
-    mem::swap(place, value);
+    let node = document.resolve_mut(alloc, pointer)?;
+    mem::swap(node, value);
     Ok(())
 }

@@ -19,8 +19,8 @@
 //!
 //! ```rust
 //! let mut document = json!(in alloc; {"size": 3})?;
-//! let place = Pointer::parse("/depth/-")?;
-//! let back = assign_with_undo(alloc, &mut document, place, json!(in alloc; 9)?)?;
+//! let pointer = Pointer::parse("/depth/-")?;
+//! let back = assign_with_undo(alloc, &mut document, pointer, json!(in alloc; 9)?)?;
 //! let assigned = document.to_string(alloc)?;
 //! assert_eq!(rt; assigned.as_str(), r#"{"depth":[9],"size":3}"#);
 //! assert!(rt; undo(alloc, &mut document, back).is_ok());

@@ -1,7 +1,7 @@
 //! The calls of a session, one after the other.
 ghost use Rattle.std.specs.Prelude.{◌≡◌, All, IfOk, OnErr, map, string_bytes};
 ghost use Rattle.jsonptr.specs.Pointer.{tokens};
-ghost use Rattle.jsonptr_session.specs.Machine.{State, Steps, Runs};
+ghost use Rattle.jsonptr_session.specs.Machine.{State, IsStep, Runs};
 ghost use Rattle.jsonptr_session.specs.Machine as machine;
 ghost use Rattle.jsonptr_session.specs.Session.{command_of, answer_of};
 ghost use Rattle.jsonptr_session.specs.Order.{CallHas, ReplyHas};
@@ -52,7 +52,7 @@ fn turn<P: EditPointer, D: SessionDocument>(
     document: &mut D,
     call: Call<D>,
 ) -> Reply<D>
-    ensures steps { Steps D.blank
+    ensures steps { IsStep D.blank
         (record { tokens = P.list pointer.old; nodes = D.nodes document.old })
         (command_of D.nodes call) (answer_of D.nodes result)
         (record { tokens = P.list pointer.new; nodes = D.nodes document.new }) }
@@ -77,7 +77,7 @@ fn answer<P: EditPointer, D: SessionDocument>(
     document: &mut D,
     call: Call<D>,
 ) -> Result<Reply<D>, AllocError>
-    ensures steps { Steps D.blank
+    ensures steps { IsStep D.blank
         (record { tokens = P.list pointer.old; nodes = D.nodes document.old })
         (command_of D.nodes call) (answered D.nodes result)
         (record { tokens = P.list pointer.new; nodes = D.nodes document.new }) }

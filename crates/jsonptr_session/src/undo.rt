@@ -15,9 +15,9 @@ use jsonptr::{Fault, PointerBuf, resolve};
 /// let size = Pointer::parse("/size")?;
 /// let back = assign_with_undo(alloc, &mut document, size, Value::from(4))?;
 /// assert!(rt; matches!(&back, Undo::Put(_, old) if *old == Value::from(3)));
-/// let place = Pointer::parse("/depth")?;
-/// let back = assign_with_undo(alloc, &mut document, place, Value::from(9))?;
-/// assert!(rt; matches!(&back, Undo::Remove(pointer) if pointer.as_ptr() == place));
+/// let depth = Pointer::parse("/depth")?;
+/// let back = assign_with_undo(alloc, &mut document, depth, Value::from(9))?;
+/// assert!(rt; matches!(&back, Undo::Remove(pointer) if pointer.as_ptr() == depth));
 /// ```
 #[derive(Debug, Drop)]
 pub enum Undo<V> {

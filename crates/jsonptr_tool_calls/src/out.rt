@@ -59,7 +59,7 @@ impl<'r> Out<'r> {
     ///
     /// # Errors
     ///
-    /// An error if a line was no case, if an allocation failed between calls, or if the output
+    /// An error if a line was not a case, if an allocation failed between calls, or if the output
     /// cannot be written.
     pub fn finish(mut self) -> io::Result<()> {
         self.flush();
@@ -90,7 +90,7 @@ impl<'r> Out<'r> {
         self.text.clear();
     }
 
-    /// Appends a text as it is.
+    /// Appends a text unchanged.
     fn push(&mut self, text: &str) {
         let is_done = self.text.push_str(text).is_ok();
         self.note(is_done);

@@ -55,7 +55,7 @@ pub fn run(out: &mut Out<'_>, request: &str, mut words: Words<'_>) {
     }
 }
 
-/// Makes the calls of a request whose words are no texts, or any number of them.
+/// Makes the calls of a request whose words are not texts, or any number of them.
 fn run_other(out: &mut Out<'_>, request: &str, words: Words<'_>) {
     match request {
         "number" => {

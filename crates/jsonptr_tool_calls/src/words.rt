@@ -64,7 +64,7 @@ impl<'a> Words<'a> {
         }
     }
 
-    /// Returns the number that the next word is, or `None` if it is no number.
+    /// Returns the number that the next word is, or `None` if it is not a number.
     pub fn number(&mut self) -> Option<usize> {
         self.next().parse().ok()
     }

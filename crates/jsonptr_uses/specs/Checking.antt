@@ -1,24 +1,14 @@
 -- What a document is checked for.
 use Rattle.std.specs.Prelude.{◌≡◌, ◌⊎◌, List, [], ◌∷◌}
-use Rattle.serde_json.specs.Data.{Data, null, boolean, number, string, array, object}
+use Rattle.serde_json.specs.Data.{Data}
 use Rattle.jsonptr.specs.Json.{FindsValue}
 use Rattle.jsonptr.specs.Pointer.{tokens}
-use Rattle.jsonptr_uses.specs.declared.checker.JsonType.{JsonType}
-use Rattle.jsonptr_uses.specs.declared.checker.JsonType.TheVariants as kind
+use Rattle.jsonptr_value.specs.NodeTypes.{type_of}
 use Rattle.jsonptr_uses.specs.declared.checker.Required.{Required}
-
--- `json_type d`: the type of the JSON value `d` (RFC 8259, section 3).
-abbrev pub json_type : Data → JsonType
-json_type null = kind.Null
-json_type (boolean b) = kind.Boolean
-json_type (number n) = kind.Number
-json_type (string s) = kind.String
-json_type (array ds) = kind.Array
-json_type (object ms) = kind.Object
 
 -- `IsMet document r`: the document meets the requirement `r`. The pointer resolves to a value of the type.
 abbrev pub IsMet : Data → Required → Type 0
-IsMet document r = (v : Data) × FindsValue document (tokens r.pointer) v × (json_type v ≡ r.kind)
+IsMet document r = (v : Data) × FindsValue document (tokens r.pointer) v × (type_of v ≡ r.kind)
 
 -- `AreFailing P xs ys`: `ys` are those of `xs` for which `P` does not hold, in order.
 abbrev pub AreFailing : {X : Type 0} → (X → Type 0) → List X → List X → Type 0

@@ -2,28 +2,12 @@
 //! types.
 ghost use Rattle.std.specs.Prelude.{◌≡◌, ◌↔◌, [], All, IsTrue, IfOk};
 ghost use Rattle.serde_json.specs.View.{view};
-ghost use Rattle.jsonptr_uses.specs.Checking.{json_type, IsMet, AreFailing};
+ghost use Rattle.jsonptr_uses.specs.Checking.{IsMet, AreFailing};
 
 use jsonptr::Pointer;
+use jsonptr_value::{NodeType, node_type};
 use serde_json::Value;
 use std::alloc::{AllocError, Global};
-
-/// The types of JSON values.
-#[derive(Clone, Copy, Debug, PartialEq, Eq)]
-pub enum JsonType {
-    /// `null`.
-    Null,
-    /// `true` or `false`.
-    Boolean,
-    /// A number, an integer or not.
-    Number,
-    /// A string.
-    String,
-    /// An array.
-    Array,
-    /// An object.
-    Object,
-}
 
 /// What a document must have: a value of this type at the location of the pointer.
 #[derive(Clone, Copy, Debug)]
@@ -31,7 +15,7 @@ pub struct Required<'a> {
     /// The location of the value.
     pub pointer: Pointer<'a>,
     /// The type of the value.
-    pub kind: JsonType,
+    pub kind: NodeType,
 }
 
 /// Returns the requirements that the document does not meet, in the order of the list. A
@@ -64,24 +48,10 @@ fn is_met(alloc: Global, document: &Value, requirement: &Required<'_>) -> Result
     ensures { IfOk result (λ met. IsTrue met ↔ IsMet (view document.now) requirement.now) }
 {
     match requirement.pointer.resolve(alloc, document) {
-        Ok(value) => Ok(type_of(value) == requirement.kind),
+        Ok(value) => Ok(node_type(value) == requirement.kind),
         Err(fault) => {
             fault.refused()?;
             Ok(false)
         }
-    }
-}
-
-/// Returns the type of a value.
-fn type_of(value: &Value) -> JsonType
-    ensures { result ≡ json_type (view value.now) }
-{
-    match value {
-        Value::Null => JsonType::Null,
-        Value::Bool(_) => JsonType::Boolean,
-        Value::Number(_) => JsonType::Number,
-        Value::String(_) => JsonType::String,
-        Value::Array(_) => JsonType::Array,
-        Value::Object(_) => JsonType::Object,
     }
 }

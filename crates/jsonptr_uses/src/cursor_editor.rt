@@ -90,7 +90,7 @@ impl CursorEditor {
         ensures refused { IfRefused result (Refuses (nodes (document_under self.old))
             (cursor_of self.old ++ token.entry ∷ [])) }
         ensures unchanged { OnErr result (cursor_of self.new ≡ cursor_of self.old) }
-        ensures kept { editor_of self.new ≡ editor_of self.old }
+        ensures editor_unchanged { editor_of self.new ≡ editor_of self.old }
     {
         let below = self.cursor.as_ptr().with_trailing_token(alloc, token)?;
         let _child = below.as_ptr().resolve(alloc, self.editor.document())?;
@@ -108,7 +108,7 @@ impl CursorEditor {
         ensures moved { IfOk result (λ t. PopsBack (cursor_of self.old) t (cursor_of self.new)) }
         ensures at_value { IsAtValue self.old → IsAtValue self.new }
         ensures unchanged { OnErr result (cursor_of self.new ≡ cursor_of self.old) }
-        ensures kept { editor_of self.new ≡ editor_of self.old }
+        ensures editor_unchanged { editor_of self.new ≡ editor_of self.old }
     {
         self.cursor.pop_back()
     }
@@ -125,7 +125,7 @@ impl CursorEditor {
             (cursor_of self.old) there (cursor_of self.new)) }
         ensures at_value { IsAtValue self.old → IsAtValue self.new }
         ensures unchanged { OnErr result (cursor_of self.new ≡ cursor_of self.old) }
-        ensures kept { editor_of self.new ≡ editor_of self.old }
+        ensures editor_unchanged { editor_of self.new ≡ editor_of self.old }
     {
         json_law();
         match next_element(alloc, self.editor.document(), self.cursor.as_ptr())? {

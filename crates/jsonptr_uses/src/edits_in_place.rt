@@ -150,7 +150,7 @@ pub fn migrated(
 }
 
 /// Returns the text without a secret member, as it may be published: also where it has to be printed
-/// anew for that. A text that lacks the member is returned as it is.
+/// anew for that. A text that lacks the member is returned unchanged.
 ///
 /// # Errors
 ///

@@ -77,7 +77,7 @@ pub fn range_in_text(
 ///
 /// # Errors
 ///
-/// [`InTextError::NotJson`] if the bytes are no JSON text, and [`InTextError::Memory`] if an
+/// [`InTextError::NotJson`] if the bytes are not JSON, and [`InTextError::Memory`] if an
 /// allocation fails.
 pub fn has_text_at(
     alloc: Global,

@@ -1,5 +1,5 @@
-//! Callers of `jsonptr`, each small and with a contract. Every contract follows from the contracts
-//! of the libraries alone.
+//! Callers of `jsonptr`, each small and with a contract. Every contract follows from the public clauses,
+//! laws and lemmas of the libraries.
 //!
 //! - [`writes`]: writing into documents.
 //! - [`settings`]: settings in layers.
@@ -15,6 +15,7 @@
 //! - [`in_text`]: numbers and texts in the text of a document.
 //! - [`edits_in_text`]: two edits in the text of a document.
 //! - [`edits_in_place`]: edits of a text that change only their own bytes.
+//! - [`exact_texts`]: a document with sorted members, if no number loses digits.
 //! - [`given_texts`]: a patch that is applied with the texts of its values.
 //! - [`streams`]: a document from a reader to a writer.
 //! - [`commented`]: a setting of a text with comments.

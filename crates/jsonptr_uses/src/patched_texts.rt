@@ -5,7 +5,7 @@ ghost use Rattle.serde_json.specs.Read.{read};
 ghost use Rattle.serde_json.specs.View.{view};
 ghost use Rattle.jsonptr.specs.Text.{Text};
 ghost use Rattle.jsonptr_edit_in_text.specs.RawPatching.{RawPatchBytes};
-ghost use Rattle.jptr_tasks.specs.Results.{PatchesByInLayout};
+ghost use Rattle.jptr_tasks.specs.Results.{PatchesBytesInLayout};
 ghost use Rattle.jptr_tasks.specs.declared.layout.Layout.TheVariants.{Kept};
 
 use jptr_tasks::inverse::inverse_of;
@@ -34,12 +34,12 @@ pub struct PatchedText {
 /// Those of [`inverse_of`] and of [`Task::Patch`].
 pub fn patched_text(alloc: Global, text: &str, patch: RawPatch) -> Result<PatchedText, TaskError>
     ensures applied { IfOk result (λ p.
-        PatchesByInLayout text.now (view patch.document) Kept (string_bytes p.new)) }
+        PatchesBytesInLayout text.now (view patch.document) Kept (string_bytes p.new)) }
     ensures carries { IfOk result (λ p.
         RawPatchBytes text.now patch.operations.items (string_bytes p.new)) }
     ensures undone { IfOk result (λ p. (d back : Data) (again : Text)
         → read text.now ≡ Some d → read (string_bytes p.undo) ≡ Some back
-        → PatchesByInLayout (string_bytes p.new) back Kept again → read again ≡ Some d) }
+        → PatchesBytesInLayout (string_bytes p.new) back Kept again → read again ≡ Some d) }
 {
     printed_inverse_law();
     let inverse = inverse_of(alloc, text, &patch.document, Layout::Compact)?;

@@ -30,10 +30,10 @@ pub enum ReferenceError {
 ///
 /// An object with other members beside `$ref` is a reference, too, and these are ignored. An object
 /// whose `$ref` is not a text, or whose text does not begin with `#`, is not a reference, and is
-/// returned as it is.
+/// returned unchanged.
 ///
-/// The text after the `#` is read as a pointer as it is: a `%` is a character like any other, and
-/// is not decoded. (In a URI fragment, RFC 6901, section 6, it would be.)
+/// The text after the `#` is read as a pointer unchanged: a `%` is a character like any other, and is
+/// not decoded. (In a URI fragment, RFC 6901, section 6, it would be.)
 ///
 /// # Errors
 ///

@@ -15,6 +15,7 @@ use jsonptr::PointerBuf;
 use jsonptr::tree::json::json_map_law;
 use jsonptr_session::laws::kinds_law;
 use jsonptr_session::{Call, Reply, run_json};
+use jsonptr_value::ReadError;
 use serde_json::Value;
 use std::alloc::{AllocError, Global};
 
@@ -165,9 +166,9 @@ fn read_value(alloc: Global, text: &str) -> Result<Value, TextError>
     ensures sorted { IfOk result (λ value. JsonHasSortedKeys value) }
     ensures not_json { IsErrOf result TextError.NotJson → read_text text.now ≡ None }
 {
-    match Value::from_str(alloc, text) {
+    match jsonptr_value::read(alloc, text) {
         Ok(value) => Ok(value),
-        Err(error) if error.is_memory() => Err(TextError::Memory(AllocError)),
-        Err(_) => Err(TextError::NotJson),
+        Err(ReadError::NotJson) => Err(TextError::NotJson),
+        Err(ReadError::Memory(error)) => Err(TextError::Memory(error)),
     }
 }

@@ -102,9 +102,9 @@ pub fn get_json<'v>(
 /// Assigns a value at the pointer in the highest layer, a JSON document, and returns the value that
 /// it replaced, if any.
 ///
-/// Afterwards exactly one list of tokens resolves to the value: the pointer's own, with each `-`
-/// replaced by the new index. Every other list that is neither a prefix nor an extension of it
-/// resolves to what it did before.
+/// Afterwards a list of tokens resolves to the value: the pointer's own, with the new index instead of
+/// a `-` that refers to an array. Every list that is neither a prefix nor an extension of it resolves to
+/// what it did before.
 ///
 /// # Errors
 ///

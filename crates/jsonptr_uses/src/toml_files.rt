@@ -3,7 +3,7 @@ ghost use Rattle.std.specs.Prelude.{◌≡◌, ◌⊎◌, IfOk, IfErr, IsTrue, M
 ghost use Rattle.toml.specs.Data.{Data};
 ghost use Rattle.toml.specs.View.{view};
 ghost use Rattle.jsonptr.specs.Pointer.{tokens};
-ghost use Rattle.jsonptr_in_toml.specs.InToml.{FindsInToml, AssignsAndPrintsToml, DeletesAndPrintsToml, LacksInToml, ListsInToml, IsAssignAndPrintError, IsDeleteAndPrintError, IsTomlReadError};
+ghost use Rattle.jsonptr_in_toml.specs.InToml.{FindsInToml, AssignsAndPrintsToml, DeletesAndPrintsToml, LacksInToml, ListsInToml, IsAssignAndPrintError, IsDeleteAndPrintError, IsReadTomlError};
 ghost use Rattle.jsonptr_paths.specs.declared.listing.Listed.TheVariants.{Leaves};
 
 use jsonptr::{Pointer, assign};
@@ -73,7 +73,7 @@ pub fn without_setting(
 /// Those of [`list_in_toml`].
 pub fn has_leaves(alloc: Global, text: &str, lines: &str) -> Result<bool, ReadTomlError>
     ensures leaves { IfOk result (λ same. IsTrue same → ListsInToml Leaves text.now lines.now) }
-    ensures refused { IfErr result (IsTomlReadError text.now) }
+    ensures refused { IfErr result (IsReadTomlError text.now) }
 {
     let listed = list_in_toml(alloc, text, Listed::Leaves)?;
     Ok(listed.as_str() == lines)

@@ -8,7 +8,7 @@ use Rattle.serde_json.specs.View.{view, items_view, members_view}
 use Rattle.serde_json.specs.declared.value.Value.{Value}
 use Rattle.serde_json.proofs.Views.{Entry, put_last}
 use Rattle.jsonptr_value.specs.declared.partial.PartialCopy.{PartialCopy}
-use Rattle.jsonptr_value.specs.PrivatePartial.{join_items, join_members, filled, completed, IsPartial, ArePartial, partial_length, stack_length}
+use Rattle.jsonptr_value.specs.PrivatePartial.{join_items, join_members, filled, completed, IsPartial, ArePartial, partial_length, copies_length}
 
 pub no_length : (vs : List Value) → length vs ≡ 0 → vs ≡ []
 no_length [] e = refl
@@ -26,9 +26,9 @@ pub partial-pop : (hs : List PartialCopy) (h : PartialCopy) → ArePartial (hs +
 partial-pop [] h all = (tt, all.0)
 partial-pop (g ∷ hs) h all = let rest = partial-pop hs h all.1 in ((all.0, rest.0), rest.1)
 
-pub stack_length-push : (hs : List PartialCopy) (h : PartialCopy) → stack_length (hs ++ h ∷ []) ≡ stack_length hs + partial_length h
-stack_length-push [] h = omega arith
-stack_length-push (g ∷ hs) h = let rest = stack_length-push hs h in omega (arith, rest)
+pub copies_length-push : (hs : List PartialCopy) (h : PartialCopy) → copies_length (hs ++ h ∷ []) ≡ copies_length hs + partial_length h
+copies_length-push [] h = omega arith
+copies_length-push (g ∷ hs) h = let rest = copies_length-push hs h in omega (arith, rest)
 
 pub join_items-none : (ds : Items) → join_items ds no_items ≡ ds
 join_items-none no_items = refl

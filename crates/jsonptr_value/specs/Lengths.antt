@@ -7,9 +7,9 @@ use Rattle.serde_json.specs.Written.{outline, items_outline, members_outline}
 use Rattle.serde_json.specs.declared.value.Value.{Value}
 use Rattle.serde_json.proofs.Views.{Entry}
 
--- `value_length d`: the number of tokens of the value `d`
-abbrev pub value_length : Data → ℕ
-value_length d = length (tree.json_tokens (outline d))
+-- `token_count d`: the number of tokens of the value `d`
+abbrev pub token_count : Data → ℕ
+token_count d = length (tree.json_tokens (outline d))
 
 -- `elements_length vs`: the number of tokens of the elements `vs` and of the bracket after them
 abbrev pub elements_length : List Value → ℕ

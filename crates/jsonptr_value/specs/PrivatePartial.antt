@@ -6,7 +6,7 @@ use Rattle.std.specs.String.{string_cmp}
 use Rattle.serde_json.specs.Data.{Data, array, object, Items, no_items, item, Members, no_members, member}
 use Rattle.serde_json.specs.View.{view, items_view, members_view}
 use Rattle.serde_json.proofs.Views.{Entry}
-use Rattle.jsonptr_value.specs.Lengths.{elements_length, members_length, value_length}
+use Rattle.jsonptr_value.specs.Lengths.{elements_length, members_length, token_count}
 use Rattle.jsonptr_value.specs.declared.partial.PartialCopy.{PartialCopy}
 use Rattle.jsonptr_value.specs.declared.partial.PartialCopy.TheVariants.{Elements, Members as SomeMembers}
 use Rattle.jsonptr_value.specs.declared.partial.Step.{Step}
@@ -60,10 +60,10 @@ abbrev pub partial_length : PartialCopy → ℕ
 partial_length (Elements copies left) = 2 * elements_length left.now
 partial_length (SomeMembers copies key left) = 2 * members_length left
 
-abbrev pub stack_length : List PartialCopy → ℕ
-stack_length [] = 0
-stack_length (h ∷ hs) = partial_length h + stack_length hs
+abbrev pub copies_length : List PartialCopy → ℕ
+copies_length [] = 0
+copies_length (h ∷ hs) = partial_length h + copies_length hs
 
 abbrev pub step_length : Step → ℕ
-step_length (Copy v) = 2 * value_length (view v.now)
+step_length (Copy v) = 2 * token_count (view v.now)
 step_length (Attach v) = 1

@@ -4,7 +4,7 @@ ghost use Rattle.json.specs.Token.{Token as SpecToken};
 ghost use Rattle.serde_json.specs.View.{view};
 ghost use Rattle.serde_json.specs.Written.{WritesValue};
 ghost use Rattle.jsonptr_value.specs.PrivateFrames.{WritesElements, WritesMembersLeft, WritesFrame, WritesStack, frame_length, stack_length};
-ghost use Rattle.jsonptr_value.specs.Lengths.{elements_length, members_length, value_length};
+ghost use Rattle.jsonptr_value.specs.Lengths.{elements_length, members_length, token_count};
 
 use crate::number::write_number;
 use json::Writer;
@@ -45,7 +45,7 @@ fn begin<'v>(
         × WritesValue (view value.now) out.old.tokens middle
         × WritesStack stack.old.items middle end) }
     ensures smaller { OnOk result
-        (stack_length stack.new.items < stack_length stack.old.items + value_length (view value.now)) }
+        (stack_length stack.new.items < stack_length stack.old.items + token_count (view value.now)) }
     ensures before { out.new.before ≡ out.old.before }
 {
     match value {

@@ -1,6 +1,7 @@
 //! Reading a JSON value from a text.
-ghost use Rattle.std.specs.Prelude.{◌≡◌, Some, None, Ok, Err, IfOk, IfErr, MatchOption};
-ghost use Rattle.serde_json.specs.Read.{read as spec_read};
+ghost use Rattle.std.specs.Prelude.{◌≡◌, ◌≢◌, ◌≤◌, [], Some, None, Ok, Err, IfOk, IfErr, MatchOption};
+ghost use Rattle.serde_json.specs.Data.{depth};
+ghost use Rattle.serde_json.specs.Read.{max_depth, read as spec_read};
 ghost use Rattle.serde_json.specs.View.{view};
 ghost use Rattle.jsonptr_tree.specs.Json.{HasSortedKeys};
 ghost use Rattle.jsonptr_value.specs.Reading.{IsReadError};
@@ -74,7 +75,10 @@ impl<T: Drop> From<AllocFailed<T>> for ReadError {
 pub fn read(alloc: Global, text: &str) -> Result<Value, ReadError>
     ensures value { IfOk result (λ v. spec_read text.now ≡ Some (view v)) }
     ensures sorted { IfOk result (λ v. HasSortedKeys (view v)) }
+    ensures depth { IfOk result (λ v. depth (view v) ≤ max_depth) }
     ensures refused { IfErr result (IsReadError text.now) }
+    // An empty text needs no allocation.
+    ensures no_memory { IfErr result (λ error. error ≢ NotJson → text.now ≢ []) }
 {
     match Value::from_str(alloc, text) {
         Ok(value) => Ok(value),
@@ -98,7 +102,7 @@ pub fn read(alloc: Global, text: &str) -> Result<Value, ReadError>
 /// ```
 pub fn if_json<T: Drop>(read: Result<T, ReadError>) -> Result<Option<T>, AllocError>
     ensures json { IfOk result (λ o. MatchOption o (read ≡ Err NotJson) (λ value. read ≡ Ok value)) }
-    ensures memory { IfErr result (λ error. read ≡ Err (Memory error)) }
+    ensures refused { IfErr result (λ error. read ≡ Err (Memory error)) }
 {
     match read {
         Ok(value) => Ok(Some(value)),

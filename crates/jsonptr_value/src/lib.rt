@@ -1,8 +1,10 @@
-//! What is true of a JSON value without pointers: how to read one from a text, how deep it nests, how
-//! to print, copy and drop one that nests deep, and when two numbers are the same.
+//! What is true of a JSON value without pointers: how to read one from a text, its type and length, how
+//! deep it nests, how to print, copy and drop one that nests deep, and when two numbers are the same.
+//! TOML values that nest deep are dropped here too.
 //!
 //! `serde_json` prints, clones and drops a value by recursion, so a value that nests deep overflows
-//! the stack. Here only the first 32 levels are taken by recursion, and a loop takes those below.
+//! the stack. [`to_string`], [`copy`] and [`discard`] take only the first 32 levels by recursion, and a
+//! loop takes those below.
 #![tactic(auto)]
 
 mod clone;

@@ -1,7 +1,7 @@
 //! Parsed documents have sorted keys.
 //!
 //! The clauses of sessions, of undo and of patches that say more of values with sorted keys have
-//! them as a premise. These laws give it for each value that `serde_json` or `toml` parses. A proof
+//! them as a premise. These laws state it for each value that `serde_json` or `toml` parses. A proof
 //! finds the same lemmas in `jsonptr`, as `ascends_read` and `ascends_read_document`.
 ghost use Rattle.std.specs.Prelude.{◌≡◌, Some};
 ghost use Rattle.serde_json.specs.Data.{Data};

@@ -2,8 +2,8 @@
 ghost use Rattle.std.specs.Prelude.{◌≡◌, ◌+◌, ◌*◌, ◌<◌, IfOk, OnOk};
 ghost use Rattle.serde_json.specs.Data.{array, object};
 ghost use Rattle.serde_json.specs.View.{view, items_view, members_view};
-ghost use Rattle.jsonptr_value.specs.Lengths.{elements_length, members_length, value_length};
-ghost use Rattle.jsonptr_value.specs.PrivatePartial.{ArePartial, IsPartial, IsPrefix, filled, partial_length, join_items, join_members, data_of, completed, step_length, stack_length};
+ghost use Rattle.jsonptr_value.specs.Lengths.{elements_length, members_length, token_count};
+ghost use Rattle.jsonptr_value.specs.PrivatePartial.{ArePartial, IsPartial, IsPrefix, filled, partial_length, join_items, join_members, data_of, completed, step_length, copies_length};
 
 use crate::drop::discard;
 use crate::extend::{with_element, with_member};
@@ -63,8 +63,8 @@ fn begin<'v>(
     ensures completed { IfOk result (λ step. completed stack.new.items (data_of step)
         ≡ completed stack.old.items (view value.now)) }
     ensures partial { OnOk result (ArePartial stack.old.items → ArePartial stack.new.items) }
-    ensures smaller { IfOk result (λ step. step_length step + stack_length stack.new.items
-        < 2 * value_length (view value.now) + stack_length stack.old.items) }
+    ensures smaller { IfOk result (λ step. step_length step + copies_length stack.new.items
+        < 2 * token_count (view value.now) + copies_length stack.old.items) }
 {
     match value {
         Value::Null => Ok(Step::Attach(Value::Null)),
@@ -89,8 +89,8 @@ fn resume<'v>(
     ensures completed { IfOk result (λ step. completed stack.new.items (data_of step)
         ≡ completed stack.old.items (filled partial.entry (view copied))) }
     ensures partial { OnOk result (ArePartial stack.old.items → ArePartial stack.new.items) }
-    ensures smaller { IfOk result (λ step. step_length step + stack_length stack.new.items
-        < 1 + partial_length partial.entry + stack_length stack.old.items) }
+    ensures smaller { IfOk result (λ step. step_length step + copies_length stack.new.items
+        < 1 + partial_length partial.entry + copies_length stack.old.items) }
 {
     match partial {
         PartialCopy::Elements(copies, left) => {
@@ -114,8 +114,8 @@ fn next_element<'v>(
         ≡ completed stack.old.items
         (array (join_items (items_view copies.items) (items_view left.now)))) }
     ensures partial { OnOk result (ArePartial stack.old.items → ArePartial stack.new.items) }
-    ensures smaller { IfOk result (λ step. step_length step + stack_length stack.new.items
-        < 1 + 2 * elements_length left.now + stack_length stack.old.items) }
+    ensures smaller { IfOk result (λ step. step_length step + copies_length stack.new.items
+        < 1 + 2 * elements_length left.now + copies_length stack.old.items) }
 {
     let Some((element, rest)) = left.split_first() else {
         return Ok(Step::Attach(Value::Array(copies)));
@@ -140,8 +140,8 @@ fn next_member<'v>(
         ≡ completed stack.old.items
         (object (join_members (members_view copies.entries) (members_view left.entry)))) }
     ensures partial { OnOk result (ArePartial stack.old.items → ArePartial stack.new.items) }
-    ensures smaller { IfOk result (λ step. step_length step + stack_length stack.new.items
-        < 1 + 2 * members_length left.entry + stack_length stack.old.items) }
+    ensures smaller { IfOk result (λ step. step_length step + copies_length stack.new.items
+        < 1 + 2 * members_length left.entry + copies_length stack.old.items) }
 {
     let Some((key, member)) = left.next() else {
         return Ok(Step::Attach(Value::Object(copies)));

@@ -402,7 +402,7 @@ fn expand_one<N: DocumentMut>(alloc: Global, token: &Token<'_>, value: N) -> Res
 /// # Errors
 ///
 /// [`AllocError`] if the allocation fails.
-fn key_of(alloc: Global, token: &Token<'_>) -> Result<String, AllocError>
+pub fn key_of(alloc: Global, token: &Token<'_>) -> Result<String, AllocError>
     ensures { IfOk result (λ key. string_bytes key ≡ token.now) }
 {
     token.decoded(alloc)?.into_owned(alloc)

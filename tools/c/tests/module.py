@@ -12,7 +12,8 @@ import time
 
 import jsonptr
 
-PAGE = f"{os.path.dirname(os.path.abspath(__file__))}/../../../docs/C.md"
+TOP = f"{os.path.dirname(os.path.abspath(__file__))}/../../.."
+PAGE = f"{TOP}/docs/C.md"
 FIELDS = ("status", "kind", "position", "slash", "offset", "length", "operation", "member")
 
 
@@ -209,11 +210,17 @@ def check_library():
         assert run.stdout.decode().startswith(f"{name} JSONPTR_LIBRARY names no library"), run.stdout
 
 
+def check_version():
+    """Checks that the version is that of `crates/jsonptr/VERSION`."""
+    with open(f"{TOP}/crates/jsonptr/VERSION", encoding="utf-8") as file:
+        assert jsonptr.version() == file.read().split()[0], jsonptr.version()
+
+
 def main():
     for check in (check_errors, check_processes, check_documents, check_arguments, check_exact, check_locations, check_tokens,
-                  check_page, check_library):
+                  check_page, check_library, check_version):
         check()
-    print("the module jsonptr: errors, processes, documents, arguments, exact numbers, locations, tokens, the page, library")
+    print("the module jsonptr: errors, processes, documents, arguments, exact numbers, locations, tokens, the page, library, version")
 
 
 if __name__ == "__main__":

@@ -922,7 +922,15 @@ static void check_handles(void) {
     jsonptr_document_free(&document);
 }
 
+/* The version of the library is that of the header. */
+static void check_version(void) {
+    char wanted[64];
+    snprintf(wanted, sizeof wanted, "%d.%d.%d", JSONPTR_VERSION_MAJOR, JSONPTR_VERSION_MINOR, JSONPTR_VERSION_PATCH);
+    expect_text("version", "the library", jsonptr_version(), strlen(jsonptr_version()), wanted);
+}
+
 int main(void) {
+    check_version();
     check_rfc_pointers();
     check_pointers();
     check_tokens();

@@ -25,13 +25,13 @@ use std::alloc::Global;
 /// the index of the element, and never `-`. A replaced value is moved and not copied. Takes the time
 /// of an assignment, and that of a copy of the pointer.
 ///
-/// In a document whose objects have their keys in ascending order, as parsed ones have, [`undo`]
+/// If the keys of each object ascend in the document and in the value, as in parsed ones, [`undo`]
 /// restores the old document.
 ///
 /// ```rust
 /// let mut document = json!(in alloc; {"sizes": [3]})?;
-/// let place = Pointer::parse("/sizes/-")?;
-/// let back = assign_with_undo(alloc, &mut document, place, Value::from(5))?;
+/// let pointer = Pointer::parse("/sizes/-")?;
+/// let back = assign_with_undo(alloc, &mut document, pointer, Value::from(5))?;
 /// assert_eq!(rt; document.to_string(alloc)?.as_str(), r#"{"sizes":[3,5]}"#);
 /// assert!(rt; matches!(&back, Undo::Remove(at) if at.as_ptr().as_str() == "/sizes/1"));
 /// ```

@@ -25,14 +25,14 @@ use toml::Value;
 /// the index of the element, and never `-`. A replaced value is moved and not copied. Takes the time
 /// of an assignment, and that of a copy of the pointer.
 ///
-/// In a document whose tables have their keys in ascending order, as parsed ones have, [`undo`]
+/// If the keys of each table ascend in the document and in the value, as in parsed ones, [`undo`]
 /// restores the old document.
 ///
 /// ```rust
 /// let mut document = toml::Value::from_str(alloc, "{ sizes = [3] }")?;
-/// let place = Pointer::parse("/sizes/-")?;
+/// let pointer = Pointer::parse("/sizes/-")?;
 /// let value = toml::Value::Integer(5);
-/// let back = toml_value::assign_with_undo(alloc, &mut document, place, value)?;
+/// let back = toml_value::assign_with_undo(alloc, &mut document, pointer, value)?;
 /// assert!(rt; matches!(&back, Undo::Remove(at) if at.as_ptr().as_str() == "/sizes/1"));
 /// ```
 ///

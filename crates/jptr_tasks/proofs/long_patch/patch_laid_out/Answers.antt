@@ -19,4 +19,4 @@ returns-in-Ok-clause-refused c =
     c.lay_out.ensures.refused
 
 pub returns-in-Err-clause-refused : goal.returns-in-Err-clause-refused
-returns-in-Err-clause-refused c = fails_anew c.args.text.now (view c.args.patch.now) c.args.layout c.in-Err.failure c.in-Err.ensures.refused
+returns-in-Err-clause-refused c = fails_anew c.args.text.now (view c.args.patch.now) c.args.layout c.in-Err.error c.in-Err.ensures.refused

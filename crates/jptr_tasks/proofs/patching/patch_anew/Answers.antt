@@ -18,4 +18,4 @@ returns-in-Ok-clause-refused c =
     c.lay_out.ensures.refused
 
 pub returns-in-Err-clause-refused : goal.returns-in-Err-clause-refused
-returns-in-Err-clause-refused c = fails_anew c.args.text.now (view c.args.patch.now.document) c.args.layout c.in-Err.failure c.in-Err.ensures.refused
+returns-in-Err-clause-refused c = fails_anew c.args.text.now (view c.args.patch.now.document) c.args.layout c.in-Err.error c.in-Err.ensures.refused

@@ -10,4 +10,4 @@ returns-in-Ok c =
     (refl, (h.0, _, h.1, h.2))
 
 pub returns-in-Err : goal.returns-in-Err
-returns-in-Err c = fails_anew c.args.text.now (view c.args.document.now) Kept c.in-Err.failure c.in-Err.ensures.refused
+returns-in-Err c = fails_anew c.args.text.now (view c.args.document.now) Kept c.in-Err.error c.in-Err.ensures.refused

@@ -25,7 +25,7 @@ pub returns-in-Change-clause-left : goal.returns-in-Change-clause-left
 returns-in-Change-clause-left g c =
     rw c.in-Change.is
     (value_left c.in-Change.change (g.R.Read.remaining c.args.input.now) c.args.value.now c.document_line.new.value c.document_line.result
-    c.document_line.ensures.refused c.document_line.ensures.unchanged c.document_line.ensures.restored c.document_line.ensures.left)
+    c.document_line.ensures.refused c.document_line.ensures.unchanged c.document_line.ensures.document c.document_line.ensures.left)
 
 pub returns-in-Split-clause-left : goal.returns-in-Split-clause-left
 returns-in-Split-clause-left g c =

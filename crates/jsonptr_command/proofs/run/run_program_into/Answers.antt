@@ -17,8 +17,8 @@ returns-in_err-line-clause-left g c =
     (λ (bytes : List ℕ). ForRequest (map string_bytes c.args.words.now) (λ asked. HasValueOf asked bytes value))
     (λ bytes h. (request, c.in_ok-request.ensures.asked, h)) (option_map view c.args.value.now) value _ c.in_err-line.ensures.left)
 
-pub returns-in_err-write_and_flush-clause-written : goal.returns-in_err-write_and_flush-clause-written
-returns-in_err-write_and_flush-clause-written g c = λ is. (request_of c.in_ok-request.request, c.in_ok-request.ensures.asked, c.in_ok-line.ensures.value)
+pub returns-in_err-write_and_flush-clause-value_written : goal.returns-in_err-write_and_flush-clause-value_written
+returns-in_err-write_and_flush-clause-value_written g c = λ is. (request_of c.in_ok-request.request, c.in_ok-request.ensures.asked, c.in_ok-line.ensures.value)
 
 pub returns-clause-value : goal.returns-clause-value
 returns-clause-value g c = λ needs.

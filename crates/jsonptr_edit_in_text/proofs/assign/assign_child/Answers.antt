@@ -1,7 +1,7 @@
 use Rattle.std.proofs.Common.{◌≡◌, ◌∷◌, ◌++◌, Option, IfSome, string_bytes, refl, subst}
 use Rattle.jsonptr.specs.Pointer.{tokens}
 use Rattle.jsonptr.specs.Json.{nodes}
-use Rattle.jsonptr_json_edits.specs.declared.layout.ValueText.{ValueText}
+use Rattle.jsonptr_json_edits.specs.declared.value_text.ValueText.{ValueText}
 use Rattle.jsonptr_edit_in_text.specs.EditInText.{AssignsInText}
 use Rattle.jsonptr_edit_in_text.specs.PrivateReaching.{IsExpanded, ReachedInText, MemberAdded, ElementAppended}
 use Rattle.jsonptr_edit_in_text.proofs.EditLemmas.{if_new, of_member, assigns_member, of_element, assigns_end}

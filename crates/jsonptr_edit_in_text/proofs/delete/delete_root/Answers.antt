@@ -7,7 +7,7 @@ use Rattle.jsonptr.specs.Pointer.{tokens}
 use Rattle.jsonptr.specs.Json.{nodes}
 use Rattle.jsonptr.specs.Content.{map_of}
 use Rattle.jsonptr_tree.proofs.JsonLemmas.{null_is}
-use Rattle.jsonptr_json_edits.specs.declared.layout.ValueText.{ValueText}
+use Rattle.jsonptr_json_edits.specs.declared.value_text.ValueText.{ValueText}
 use Rattle.jsonptr_edit_in_text.specs.EditInText.{DeletesInText}
 use Rattle.jsonptr_edit_in_text.specs.PrivateReaching.{ReachedInText, Becomes}
 use Rattle.jsonptr_edit_in_text.proofs.EditLemmas.{if_new, of_value}

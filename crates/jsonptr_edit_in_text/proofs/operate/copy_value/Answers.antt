@@ -1,6 +1,6 @@
 use Rattle.std.proofs.Common.{Option, IfSome, string_bytes, subst}
 use Rattle.jsonptr.specs.Pointer.{tokens}
-use Rattle.jsonptr_json_edits.specs.declared.layout.ValueText.{ValueText}
+use Rattle.jsonptr_json_edits.specs.declared.value_text.ValueText.{ValueText}
 use Rattle.jsonptr_edit_in_text.specs.PrivateOperating.{FindsText, AddsInText, CopiesInText}
 use Rattle.jsonptr_edit_in_text.proofs.EditLemmas.{if_new}
 use Rattle.jsonptr_edit_in_text.proofs.OperatingLemmas.{copies}

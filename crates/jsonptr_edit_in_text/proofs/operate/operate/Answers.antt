@@ -60,18 +60,18 @@ pub returns-in-Add-clause-bytes : goal.returns-in-Add-clause-bytes
 returns-in-Add-clause-bytes c =
     let r = c.add_given.result in
     let old = c.as_str-old.result.now in
-    let own = c.args.operation.now.text in
+    let raw = c.args.operation.now.text in
     let v = view c.in-Add.value in
-    subst (λ (o : Operation). IfOk r (λ n. IfSome n (λ s. GivenBytes (string_bytes c.args.text) o own (string_bytes s)))) (sym c.in-Add.is)
-    (subst (λ (t : Text). IfOk r (λ n. IfSome n (λ s. AddsGiven t c.in-Add.path v own (string_bytes s)))) c.as_str-old.ensures.value
-    (subst (λ (ts : List Text). IfOk r (λ n. IfSome n (λ s. AddsGiven old ts v own (string_bytes s)))) c.as_ptr.ensures.tokens c.add_given.ensures.bytes))
+    subst (λ (o : Operation). IfOk r (λ n. IfSome n (λ s. GivenBytes (string_bytes c.args.text) o raw (string_bytes s)))) (sym c.in-Add.is)
+    (subst (λ (t : Text). IfOk r (λ n. IfSome n (λ s. AddsGiven t c.in-Add.path v raw (string_bytes s)))) c.as_str-old.ensures.value
+    (subst (λ (ts : List Text). IfOk r (λ n. IfSome n (λ s. AddsGiven old ts v raw (string_bytes s)))) c.as_ptr.ensures.tokens c.add_given.ensures.bytes))
 
 pub returns-in-Remove-clause-bytes : goal.returns-in-Remove-clause-bytes
 returns-in-Remove-clause-bytes c =
     let r = c.cut_out.result in
     let old = c.as_str-old.result.now in
-    let own = c.args.operation.now.text in
-    subst (λ (o : Operation). IfOk r (λ n. IfSome n (λ s. GivenBytes (string_bytes c.args.text) o own (string_bytes s)))) (sym c.in-Remove.is)
+    let raw = c.args.operation.now.text in
+    subst (λ (o : Operation). IfOk r (λ n. IfSome n (λ s. GivenBytes (string_bytes c.args.text) o raw (string_bytes s)))) (sym c.in-Remove.is)
     (subst (λ (t : Text). IfOk r (λ n. IfSome n (λ s. DeletesBytes t c.in-Remove.path (string_bytes s)))) c.as_str-old.ensures.value
     (subst (λ (ts : List Text). IfOk r (λ n. IfSome n (λ s. DeletesBytes old ts (string_bytes s)))) c.as_ptr-in-Remove.ensures.tokens c.cut_out.ensures.bytes))
 
@@ -79,19 +79,19 @@ pub returns-in-Replace-clause-bytes : goal.returns-in-Replace-clause-bytes
 returns-in-Replace-clause-bytes c =
     let r = c.replace_given.result in
     let old = c.as_str-old.result.now in
-    let own = c.args.operation.now.text in
+    let raw = c.args.operation.now.text in
     let v = view c.in-Replace.value in
-    subst (λ (o : Operation). IfOk r (λ n. IfSome n (λ s. GivenBytes (string_bytes c.args.text) o own (string_bytes s)))) (sym c.in-Replace.is)
-    (subst (λ (t : Text). IfOk r (λ n. IfSome n (λ s. ReplacesGiven t c.in-Replace.path v own (string_bytes s)))) c.as_str-old.ensures.value
-    (subst (λ (ts : List Text). IfOk r (λ n. IfSome n (λ s. ReplacesGiven old ts v own (string_bytes s)))) c.as_ptr-in-Replace.ensures.tokens c.replace_given.ensures.bytes))
+    subst (λ (o : Operation). IfOk r (λ n. IfSome n (λ s. GivenBytes (string_bytes c.args.text) o raw (string_bytes s)))) (sym c.in-Replace.is)
+    (subst (λ (t : Text). IfOk r (λ n. IfSome n (λ s. ReplacesGiven t c.in-Replace.path v raw (string_bytes s)))) c.as_str-old.ensures.value
+    (subst (λ (ts : List Text). IfOk r (λ n. IfSome n (λ s. ReplacesGiven old ts v raw (string_bytes s)))) c.as_ptr-in-Replace.ensures.tokens c.replace_given.ensures.bytes))
 
 pub returns-in-Move-clause-bytes : goal.returns-in-Move-clause-bytes
 returns-in-Move-clause-bytes c =
     let r = c.move_value.result in
     let old = c.as_str-old.result.now in
-    let own = c.args.operation.now.text in
+    let raw = c.args.operation.now.text in
     let from = tokens c.as_ptr-in-Move.result in
-    subst (λ (o : Operation). IfOk r (λ n. IfSome n (λ s. GivenBytes (string_bytes c.args.text) o own (string_bytes s)))) (sym c.in-Move.is)
+    subst (λ (o : Operation). IfOk r (λ n. IfSome n (λ s. GivenBytes (string_bytes c.args.text) o raw (string_bytes s)))) (sym c.in-Move.is)
     (subst (λ (t : Text). IfOk r (λ n. IfSome n (λ s. MovesBytes t c.in-Move.from c.in-Move.path (string_bytes s)))) c.as_str-old.ensures.value
     (subst (λ (ts : List Text). IfOk r (λ n. IfSome n (λ s. MovesBytes old ts c.in-Move.path (string_bytes s)))) c.as_ptr-in-Move.ensures.tokens
     (subst (λ (ts : List Text). IfOk r (λ n. IfSome n (λ s. MovesBytes old from ts (string_bytes s)))) c.as_ptr-in-Move-2.ensures.tokens c.move_value.ensures.bytes)))
@@ -100,9 +100,9 @@ pub returns-in-Copy-clause-bytes : goal.returns-in-Copy-clause-bytes
 returns-in-Copy-clause-bytes c =
     let r = c.copy_value.result in
     let old = c.as_str-old.result.now in
-    let own = c.args.operation.now.text in
+    let raw = c.args.operation.now.text in
     let from = tokens c.as_ptr-in-Copy.result in
-    subst (λ (o : Operation). IfOk r (λ n. IfSome n (λ s. GivenBytes (string_bytes c.args.text) o own (string_bytes s)))) (sym c.in-Copy.is)
+    subst (λ (o : Operation). IfOk r (λ n. IfSome n (λ s. GivenBytes (string_bytes c.args.text) o raw (string_bytes s)))) (sym c.in-Copy.is)
     (subst (λ (t : Text). IfOk r (λ n. IfSome n (λ s. CopiesBytes t c.in-Copy.from c.in-Copy.path (string_bytes s)))) c.as_str-old.ensures.value
     (subst (λ (ts : List Text). IfOk r (λ n. IfSome n (λ s. CopiesBytes old ts c.in-Copy.path (string_bytes s)))) c.as_ptr-in-Copy.ensures.tokens
     (subst (λ (ts : List Text). IfOk r (λ n. IfSome n (λ s. CopiesBytes old from ts (string_bytes s)))) c.as_ptr-in-Copy-2.ensures.tokens c.copy_value.ensures.bytes)))

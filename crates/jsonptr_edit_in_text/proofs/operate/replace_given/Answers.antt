@@ -4,7 +4,7 @@ use Rattle.serde_json.specs.Read.{read}
 use Rattle.serde_json.specs.View.{view}
 use Rattle.jsonptr.specs.Pointer.{tokens}
 use Rattle.jsonptr.specs.Json.{nodes}
-use Rattle.jsonptr_json_edits.specs.declared.layout.ValueText.{ValueText}
+use Rattle.jsonptr_json_edits.specs.declared.value_text.ValueText.{ValueText}
 use Rattle.jsonptr_edit_in_text.specs.Bytes.{ReplacesBytes}
 use Rattle.jsonptr_edit_in_text.specs.Carrying.{value_of_raw}
 use Rattle.jsonptr_edit_in_text.specs.PrivateOperating.{PutsInText}
@@ -23,7 +23,7 @@ returns-in-Some-clause-put c =
     let ts = tokens c.args.pointer in
     let value = c.args.given.value.now in
     let raw = c.in-Some.raw in
-    let is = text_is value c.args.given.own.now raw c.in-Some.is c.requires in
+    let is = text_is value c.args.given.raw.now raw c.in-Some.is c.requires in
     if_new c.replace_at.result
     (λ s. ReachedInText old (string_bytes s) ts (Becomes (string_bytes raw.text.flat)))
     (λ s. PutsInText old ts (nodes (view value)) (string_bytes s))
@@ -36,7 +36,7 @@ returns-in-Some-clause-bytes c =
     let old = c.args.text.now in
     let ts = tokens c.args.pointer in
     let raw = c.in-Some.raw in
-    replaces_some r old ts c.args.given.value.now c.args.given.own.now raw c.in-Some.is c.requires
+    replaces_some r old ts c.args.given.value.now c.args.given.raw.now raw c.in-Some.is c.requires
     (if_new r
     (λ s. ReplacesByText old (string_bytes s) ts (string_bytes raw.text.flat))
     (λ s. ReplacesGiven old ts (value_of_raw raw) (Some raw) (string_bytes s))
@@ -64,7 +64,7 @@ returns-in-Some-2-clause-bytes c =
     let value = c.args.given.value.now in
     let flat = string_bytes c.in-Some-2.printed.flat in
     let reads = subst (λ (o : Option ValueText). IfSome o (λ t. read (string_bytes t.flat) ≡ Some (view value))) c.in-Some-2.is c.in_ok-printed-in-None.ensures in
-    replaces_none r old ts value c.args.given.own.now c.in-None.is
+    replaces_none r old ts value c.args.given.raw.now c.in-None.is
     (if_new r
     (λ s. ReplacesByText old (string_bytes s) ts flat)
     (λ s. ReplacesBytes old (string_bytes s) ts (view value))

@@ -4,10 +4,10 @@ use Rattle.jsonptr_patch.proofs.PlaceLemmas.{place_allows, place_adds, place_sor
 use Rattle.jsonptr_patch.proofs.add.add.Goals as goal
 
 pub add-requires : goal.add-requires
-add-requires c = place_allows (contents_of c.args.document.now) (tokens c.args.path) c.in-Ok.place c.in-Ok.ensures.found
+add-requires c = place_allows (contents_of c.args.document.now) (tokens c.args.path) c.in-Ok.target c.in-Ok.ensures.found
 
 pub returns-clause-added : goal.returns-clause-added
-returns-clause-added c = place_adds (contents_of c.args.document.now) (contents_of c.args.value) (contents_of c.add.new.document) (tokens c.args.path) c.in-Ok.place c.in-Ok.ensures.found c.in_ok-add.ensures.added
+returns-clause-added c = place_adds (contents_of c.args.document.now) (contents_of c.args.value) (contents_of c.add.new.document) (tokens c.args.path) c.in-Ok.target c.in-Ok.ensures.found c.in_ok-add.ensures.added
 
 pub returns-clause-sorted : goal.returns-clause-sorted
-returns-clause-sorted c = place_sorted (contents_of c.args.document.now) (contents_of c.args.value) (contents_of c.add.new.document) c.in-Ok.place c.in_ok-add.ensures.added
+returns-clause-sorted c = place_sorted (contents_of c.args.document.now) (contents_of c.args.value) (contents_of c.add.new.document) c.in-Ok.target c.in_ok-add.ensures.added

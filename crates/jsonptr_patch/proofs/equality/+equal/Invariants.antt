@@ -5,8 +5,8 @@ use Rattle.jsonptr_patch.specs.PrivateTesting.{SameValueBy}
 use Rattle.jsonptr_patch.proofs.TestingLemmas.{AllSame}
 use Rattle.jsonptr_patch.proofs.equality.+equal.Given as goal
 
-abbrev pub invariant-same_elements-loop-place : goal.invariant-same_elements-loop-place
-invariant-same_elements-loop-place l = (i : ℕ) (x : Value) → i < l.place → SameValueBy l.comparison (get_or l.left.items i x) (get_or l.right.items i x)
+abbrev pub invariant-same_elements-loop-index : goal.invariant-same_elements-loop-index
+invariant-same_elements-loop-index l = (i : ℕ) (x : Value) → i < l.index → SameValueBy l.comparison (get_or l.left.items i x) (get_or l.right.items i x)
 
 abbrev pub invariant-same_members-loop-key : goal.invariant-same_members-loop-key
 invariant-same_members-loop-key l =

@@ -2,7 +2,7 @@ use Rattle.std.proofs.Common.{◌≡◌, [], ◌∷◌, ◌++◌, true≢false, 
 use Rattle.serde_json.specs.Data.{array, object}
 use Rattle.serde_json.specs.View.{view, items_view, members_view}
 use Rattle.serde_json.proofs.Views.{view-Array, view-Object}
-use Rattle.jsonptr_value.specs.Lengths.{value_length}
+use Rattle.jsonptr_value.specs.Lengths.{token_count}
 use Rattle.jsonptr_tree.proofs.JsonLemmas.{content_of, null_is, bool_is, number_is, string_is}
 use Rattle.jsonptr_patch.specs.PrivateTesting.{FloatIn}
 use Rattle.jsonptr_patch.specs.declared.float_search.Left.TheVariants.{Elements, Members}
@@ -43,7 +43,7 @@ returns-in_ok-push-in-Array-clause-smaller c =
     let vs = c.as_slice.result.now in
     let seen : array (items_view vs) ≡ view c.args.value.now = ap (λ xs. array (items_view xs)) c.as_slice.ensures.value ∙ sym (ap view c.in-Array.is ∙ view-Array c.in-Array.elements) in
     let pushed : c.push.new.self.items ≡ c.args.stack.now.items ++ Elements c.as_slice.result ∷ [] = search rules in
-    omega (arith, ap stack_length pushed, stack_length-push c.args.stack.now.items (Elements c.as_slice.result), ap value_length seen)
+    omega (arith, ap stack_length pushed, stack_length-push c.args.stack.now.items (Elements c.as_slice.result), ap token_count seen)
 
 pub returns-in_ok-push-in-Object-clause-leads : goal.returns-in_ok-push-in-Object-clause-leads
 returns-in_ok-push-in-Object-clause-leads c = λ v to before.
@@ -64,4 +64,4 @@ returns-in_ok-push-in-Object-clause-smaller c =
     let es = c.in-Object.members.entries in
     let seen : object (members_view es) ≡ view c.args.value.now = sym (ap view c.in-Object.is ∙ view-Object c.in-Object.members) in
     let pushed : c.push-in-Object.new.self.items ≡ c.args.stack.now.items ++ Members es ∷ [] = search rules in
-    omega (arith, ap stack_length pushed, stack_length-push c.args.stack.now.items (Members es), ap value_length seen)
+    omega (arith, ap stack_length pushed, stack_length-push c.args.stack.now.items (Members es), ap token_count seen)

@@ -19,9 +19,9 @@ returns-in_ok-path-in-Copy-clause-back c = rw c.in-Copy.is (ok_all c.append-in-C
 
 pub returns-in_ok-back-in-Move-clause-back : goal.returns-in_ok-back-in-Move-clause-back
 returns-in_ok-back-in-Move-clause-back c =
-    let o : Operation = variant.Move c.in_ok-place-in-Move.place c.in_ok-back-in-Move.back in
+    let o : Operation = variant.Move c.in_ok-location-in-Move.location c.in_ok-back-in-Move.back in
     rw c.in-Move.is (ok_all c.append-in-Move.result _ _
-    (λ e n tokens p. (o ∷ [], ap₂ (λ (ts us : List Text). variant.Move ts us ∷ []) c.in_ok-place-in-Move.ensures.cases c.in_ok-back-in-Move.ensures.cases, one_back c.args.inverse.now.items c.append-in-Move.new.inverse.items o e))
+    (λ e n tokens p. (o ∷ [], ap₂ (λ (ts us : List Text). variant.Move ts us ∷ []) c.in_ok-location-in-Move.ensures.cases c.in_ok-back-in-Move.ensures.cases, one_back c.args.inverse.now.items c.append-in-Move.new.inverse.items o e))
     c.append-in-Move.ensures)
 
 pub returns-in_ok-path-in-Add-clause-sorted : goal.returns-in_ok-path-in-Add-clause-sorted
@@ -36,5 +36,5 @@ returns-in_ok-path-in-Copy-clause-sorted c = ok_all c.append-in-Copy.result _ _
 
 pub returns-in_ok-back-in-Move-clause-sorted : goal.returns-in_ok-back-in-Move-clause-sorted
 returns-in_ok-back-in-Move-clause-sorted c = ok_all c.append-in-Move.result _ _
-    (λ e. appended c.args.inverse.now.items c.append-in-Move.new.inverse.items (variant.Move c.in_ok-place-in-Move.place c.in_ok-back-in-Move.back) e tt)
+    (λ e. appended c.args.inverse.now.items c.append-in-Move.new.inverse.items (variant.Move c.in_ok-location-in-Move.location c.in_ok-back-in-Move.back) e tt)
     c.append-in-Move.ensures

@@ -13,9 +13,9 @@ use Rattle.jsonptr_patch.proofs.inverse.append_reverse.Goals as goal
 
 pub returns-in_ok-append-in-Ok-clause-back : goal.returns-in_ok-append-in-Ok-clause-back
 returns-in_ok-append-in-Ok-clause-back c = λ path.
-    let o = Move c.in-Ok.place c.in_ok-path-in-Ok.path in (
+    let o = Move c.in-Ok.location c.in_ok-path-in-Ok.path in (
       o ∷ [],
-      move_reversed (nodes (view c.args.document.now)) (tokens c.args.from) path c.args.back c.in-Ok.place c.in_ok-path-in-Ok.path c.in-Ok.ensures.place.0 c.in-Ok.ensures.place.1 c.in_ok-path-in-Ok.ensures,
+      move_reversed (nodes (view c.args.document.now)) (tokens c.args.from) path c.args.back c.in-Ok.location c.in_ok-path-in-Ok.path c.in-Ok.ensures.location.0 c.in-Ok.ensures.location.1 c.in_ok-path-in-Ok.ensures,
       one_back c.args.inverse.now.items c.append.new.inverse.items o c.in_ok-append-in-Ok.ensures,
     )
 
@@ -29,7 +29,7 @@ returns-in_ok-append_both-in-Ok-addition_at-clause-back c = λ path.
 
 pub returns-in_ok-append-in-Ok-clause-sorted : goal.returns-in_ok-append-in-Ok-clause-sorted
 returns-in_ok-append-in-Ok-clause-sorted c = λ v h.
-    appended c.args.inverse.now.items c.append.new.inverse.items (Move c.in-Ok.place c.in_ok-path-in-Ok.path) c.in_ok-append-in-Ok.ensures tt
+    appended c.args.inverse.now.items c.append.new.inverse.items (Move c.in-Ok.location c.in_ok-path-in-Ok.path) c.in_ok-append-in-Ok.ensures tt
 
 pub returns-in_ok-append_both-in-Ok-addition_at-clause-sorted : goal.returns-in_ok-append_both-in-Ok-addition_at-clause-sorted
 returns-in_ok-append_both-in-Ok-addition_at-clause-sorted c = λ v h.

@@ -1,9 +1,9 @@
-use Rattle.std.proofs.Common.{◌≡◌, List, [], ◌∷◌, length, suc, Result, Ok, Err, IfErr, None, refl, sym, ap, ◌∙◌, subst, arith}
+use Rattle.std.proofs.Common.{◌≡◌, List, [], ◌∷◌, length, suc, Result, Ok, Err, IfErr, None, refl, sym, ap, ◌∙◌, ◌-◌, subst, arith}
 use Rattle.json.specs.Lex.{tokens}
 use Rattle.json.specs.Reads.{token_of}
 use Rattle.json.specs.Token.{Token, begin_array}
 use Rattle.serde_json.specs.Data.{array}
-use Rattle.serde_json.specs.Read.{read}
+use Rattle.serde_json.specs.Read.{max_depth, read}
 use Rattle.jsonptr.specs.Text.{Text}
 use Rattle.jsonptr_value.specs.Reading.{IsReadError}
 use Rattle.jsonptr_value.specs.declared.from_text.ReadError.{ReadError}
@@ -36,7 +36,7 @@ returns-in-None-clause-listed c =
     let r = c.in_ok-lines-in-Some-BeginArray.ensures.listed in
     let end : c.list_elements.new.reader ≡ [] = c.in-None.ensures.value.0 in
     let opens : c.in_ok-reader.reader ≡ begin_array ∷ c.next.new.self = c.in-Some-BeginArray.ensures.value ∙ ap (λ k. token_of k ∷ c.next.new.self) c.in-Some-BeginArray.field-0-is in
-    let all : ReadsItems 126 c.next.new.self r.0 [] = subst (λ (ts : List Token). ReadsItems 126 c.next.new.self r.0 ts) end r.1 in
+    let all : ReadsItems (max_depth - 1) c.next.new.self r.0 [] = subst (λ (ts : List Token). ReadsItems (max_depth - 1) c.next.new.self r.0 ts) end r.1 in
     (array r.0, whole_read c.args.text.now (array r.0) c.in_ok-reader.reader (sym c.in_ok-reader.ensures.ok) (reads_array 127 c.in_ok-reader.reader c.next.new.self [] r.0 (omega arith) opens all), r.2)
 
 pub returns-in-Some-BeginArray-clause-refused : goal.returns-in-Some-BeginArray-clause-refused
@@ -44,5 +44,5 @@ returns-in-Some-BeginArray-clause-refused c =
     let r = c.in_ok-lines-in-Some-BeginArray.ensures.listed in
     let more : c.list_elements.new.reader ≡ token_of c.in-Some.field-0 ∷ c.next-in-Some-BeginArray.new.self = c.in-Some.ensures.value in
     let opens : c.in_ok-reader.reader ≡ begin_array ∷ c.next.new.self = c.in-Some-BeginArray.ensures.value ∙ ap (λ k. token_of k ∷ c.next.new.self) c.in-Some-BeginArray.field-0-is in
-    let all : ReadsItems 126 c.next.new.self r.0 (token_of c.in-Some.field-0 ∷ c.next-in-Some-BeginArray.new.self) = subst (λ (ts : List Token). ReadsItems 126 c.next.new.self r.0 ts) more r.1 in
+    let all : ReadsItems (max_depth - 1) c.next.new.self r.0 (token_of c.in-Some.field-0 ∷ c.next-in-Some-BeginArray.new.self) = subst (λ (ts : List Token). ReadsItems (max_depth - 1) c.next.new.self r.0 ts) more r.1 in
     whole_and_more c.args.text.now (array r.0) c.in_ok-reader.reader (token_of c.in-Some.field-0) c.next-in-Some-BeginArray.new.self (sym c.in_ok-reader.ensures.ok) (reads_array 127 c.in_ok-reader.reader c.next.new.self (token_of c.in-Some.field-0 ∷ c.next-in-Some-BeginArray.new.self) r.0 (omega arith) opens all)

@@ -1,4 +1,5 @@
-use Rattle.std.proofs.Common.{◌≡◌, ◌+◌, ◌≤◌, List, length}
+use Rattle.std.proofs.Common.{◌≡◌, ◌+◌, ◌≤◌, ◌-◌, List, length}
+use Rattle.serde_json.specs.Read.{max_depth}
 use Rattle.serde_json.specs.Data.{Data}
 use Rattle.jsonptr_json_search.specs.PrivateReading.{ItemsSoFar}
 use Rattle.jsonptr_paths.specs.PrivateElements.{VisitsElements}
@@ -7,7 +8,7 @@ use Rattle.jsonptr_paths.proofs.text_listing.visit_elements.Given as goal
 abbrev pub invariant-elements : goal.invariant-elements
 invariant-elements g l =
     (before : List Data)
-    × ItemsSoFar 126 l.fn.reader l.reader before
+    × ItemsSoFar (max_depth - 1) l.fn.reader l.reader before
     × (l.len ≡ length before)
     × (length before + length l.reader ≤ length l.fn.reader)
     × VisitsElements g.T.Visitor.visits before l.fn.visitor l.visitor

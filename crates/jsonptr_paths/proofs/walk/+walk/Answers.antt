@@ -51,7 +51,7 @@ visit_elements-loop-index-preserved g t c =
     c.deref-element-items.ensures.value
     c.loop-index-test.true
     c.element-item.is
-    (c.as_ptr.ensures.tokens ∙ c.in_ok-place.ensures ∙ ap (λ (t : Text). tokens c.args.through ++ t ∷ []) c.in_ok-token.ensures)
+    (c.as_ptr.ensures.tokens ∙ c.in_ok-child.ensures ∙ ap (λ (t : Text). tokens c.args.through ++ t ∷ []) c.in_ok-token.ensures)
     c.loop-index.invariant
     c.in_ok-visit_nodes.ensures
 
@@ -78,7 +78,7 @@ visit_members-loop-key-preserved g t c =
           (c.json_law.ensures.member c.args.members.now)
           all
           c.iter-key-items.ensures.ordered
-          (c.as_ptr.ensures.tokens ∙ c.in_ok-place.ensures ∙ ap (λ (t : Text). tokens c.args.through ++ t ∷ []) (c.in_ok-token.ensures.text ∙ c.as_str.ensures.value))
+          (c.as_ptr.ensures.tokens ∙ c.in_ok-child.ensures ∙ ap (λ (t : Text). tokens c.args.through ++ t ∷ []) (c.in_ok-token.ensures.text ∙ c.as_str.ensures.value))
           c.loop-key.invariant.2
           c.in_ok-visit_nodes.ensures,
     )

@@ -5,16 +5,16 @@ use Rattle.jsonptr.specs.Json.{nodes}
 use Rattle.jsonptr.specs.Pointer.{tokens}
 use Rattle.jsonptr.specs.Resolve.{Refuses}
 use Rattle.jsonptr.proofs.Calling.{FindsValue_one, Refuses-NamesNothing}
-use Rattle.jsonptr_uses.specs.Checking.{json_type}
-use Rattle.jsonptr_uses.specs.contracts.checker.JsonType.{the_type}
+use Rattle.jsonptr_value.specs.NodeTypes.{type_of}
+use Rattle.jsonptr_value.specs.contracts.types.NodeType.{the_type}
 use Rattle.jsonptr_uses.proofs.checker.is_met.Goals as goal
 use denote.Enum.Bare.{same_true, true_same}
 
 pub returns-in-Ok : goal.returns-in-Ok
 returns-in-Ok c =
     let found = c.in-Ok.ensures.found in (
-      λ same. (view c.in-Ok.value.now, found, sym c.type_of.ensures ∙ same_true the_type tt _ _ (sym c.eq.ensures ∙ same)),
-      λ met. c.eq.ensures ∙ true_same the_type _ _ (c.type_of.ensures ∙ ap json_type (FindsValue_one (view c.args.document.now) (tokens c.args.requirement.now.pointer) (view c.in-Ok.value.now) met.0 found met.1) ∙ met.2),
+      λ same. (view c.in-Ok.value.now, found, sym c.node_type.ensures ∙ same_true the_type tt _ _ (sym c.eq.ensures ∙ same)),
+      λ met. c.eq.ensures ∙ true_same the_type _ _ (c.node_type.ensures ∙ ap type_of (FindsValue_one (view c.args.document.now) (tokens c.args.requirement.now.pointer) (view c.in-Ok.value.now) met.0 found met.1) ∙ met.2),
     )
 
 pub returns-in_ok-refused-in-Err : goal.returns-in_ok-refused-in-Err

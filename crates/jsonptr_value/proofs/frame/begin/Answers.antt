@@ -10,7 +10,7 @@ use Rattle.serde_json.proofs.Views.{view-Array, view-Object}
 use Rattle.jsonptr_value.specs.declared.frame.Frame.{Frame}
 use Rattle.jsonptr_value.specs.declared.frame.Frame.TheVariants.{Elements, Members}
 use Rattle.jsonptr_value.specs.PrivateFrames.{WritesStack, stack_length}
-use Rattle.jsonptr_value.specs.Lengths.{value_length}
+use Rattle.jsonptr_value.specs.Lengths.{token_count}
 use Rattle.jsonptr_value.proofs.StackLemmas.{last_first, stack_length-push}
 use Rattle.jsonptr_value.proofs.WritingLemmas.{writes_array, writes_object}
 use Rattle.jsonptr_value.proofs.frame.begin.Goals as goal
@@ -49,7 +49,7 @@ returns-in_ok-push-in-Array-clause-smaller c =
     let vs = c.as_slice.result.now in
     let seen : array (items_view vs) ≡ view c.args.value.now = ap (λ xs. array (items_view xs)) c.as_slice.ensures.value ∙ sym (ap view c.in-Array.is ∙ view-Array c.in-Array.elements) in
     let pushed : c.push.new.self.items ≡ c.args.stack.now.items ++ Elements c.as_slice.result ∷ [] = search rules in
-    omega (arith, ap stack_length pushed, stack_length-push c.args.stack.now.items (Elements c.as_slice.result), ap value_length seen)
+    omega (arith, ap stack_length pushed, stack_length-push c.args.stack.now.items (Elements c.as_slice.result), ap token_count seen)
 
 pub returns-in_ok-push-in-Object-clause-written : goal.returns-in_ok-push-in-Object-clause-written
 returns-in_ok-push-in-Object-clause-written c = λ end h.
@@ -65,4 +65,4 @@ returns-in_ok-push-in-Object-clause-smaller c =
     let es = c.in-Object.members.entries in
     let seen : object (members_view es) ≡ view c.args.value.now = sym (ap view c.in-Object.is ∙ view-Object c.in-Object.members) in
     let pushed : c.push-in-Object.new.self.items ≡ c.args.stack.now.items ++ Members es ∷ [] = search rules in
-    omega (arith, ap stack_length pushed, stack_length-push c.args.stack.now.items (Members es), ap value_length seen)
+    omega (arith, ap stack_length pushed, stack_length-push c.args.stack.now.items (Members es), ap token_count seen)

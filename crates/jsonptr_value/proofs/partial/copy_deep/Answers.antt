@@ -3,8 +3,8 @@ use Rattle.serde_json.specs.View.{view}
 use Rattle.std.specs.declared.alloc.AllocError.{AllocError}
 use Rattle.jsonptr_value.specs.declared.partial.Step.{Step}
 use Rattle.jsonptr_value.specs.declared.partial.Step.TheVariants.{Copy}
-use Rattle.jsonptr_value.specs.PrivatePartial.{ArePartial, filled, partial_length, data_of, completed, step_length, stack_length}
-use Rattle.jsonptr_value.proofs.PartialLemmas.{completed-push, partial-pop, stack_length-push}
+use Rattle.jsonptr_value.specs.PrivatePartial.{ArePartial, filled, partial_length, data_of, completed, step_length, copies_length}
+use Rattle.jsonptr_value.proofs.PartialLemmas.{completed-push, partial-pop, copies_length-push}
 use Rattle.jsonptr_value.proofs.partial.copy_deep.Goals as goal
 use Rattle.jsonptr_value.proofs.partial.copy_deep.Goals.{in-Copy, in-Attach+in-Some}
 
@@ -16,15 +16,15 @@ loop-step-smaller c = elim c.match-step.branch [
   | in-Copy w ↦
       let new = w.begin-next.new.stack.items in
       let old = c.loop-step.stack.items in
-      let less : step_length c.in-Ok.next + stack_length new < step_length (Copy w.in-Copy.value) + stack_length old =
-      subst (λ (r : Result Step AllocError). IfOk r (λ step. step_length step + stack_length new < step_length (Copy w.in-Copy.value) + stack_length old)) (sym w.next-is ∙ c.in-Ok.is) w.begin-next.ensures.smaller in
-      omega (arith, less, ap (λ s. stack_length s.items) w.stack-is, ap step_length w.in-Copy.is)
+      let less : step_length c.in-Ok.next + copies_length new < step_length (Copy w.in-Copy.value) + copies_length old =
+      subst (λ (r : Result Step AllocError). IfOk r (λ step. step_length step + copies_length new < step_length (Copy w.in-Copy.value) + copies_length old)) (sym w.next-is ∙ c.in-Ok.is) w.begin-next.ensures.smaller in
+      omega (arith, less, ap (λ s. copies_length s.items) w.stack-is, ap step_length w.in-Copy.is)
   | in-Attach+in-Some w ↦
       let new = w.resume.new.stack.items in
       let old = w.pop.new.self.items in
-      let less : step_length c.in-Ok.next + stack_length new < 1 + partial_length w.in-Some.partial + stack_length old =
-      subst (λ (r : Result Step AllocError). IfOk r (λ step. step_length step + stack_length new < 1 + partial_length w.in-Some.partial + stack_length old)) (sym w.next-is ∙ c.in-Ok.is) w.resume.ensures.smaller in
-      omega (arith, less, ap (λ s. stack_length s.items) w.stack-is, ap step_length w.in-Attach.is, ap stack_length w.in-Some.ensures.items, stack_length-push old w.in-Some.partial)
+      let less : step_length c.in-Ok.next + copies_length new < 1 + partial_length w.in-Some.partial + copies_length old =
+      subst (λ (r : Result Step AllocError). IfOk r (λ step. step_length step + copies_length new < 1 + partial_length w.in-Some.partial + copies_length old)) (sym w.next-is ∙ c.in-Ok.is) w.resume.ensures.smaller in
+      omega (arith, less, ap (λ s. copies_length s.items) w.stack-is, ap step_length w.in-Attach.is, ap copies_length w.in-Some.ensures.items, copies_length-push old w.in-Some.partial)
 ]
 
 pub loop-step-preserved : goal.loop-step-preserved

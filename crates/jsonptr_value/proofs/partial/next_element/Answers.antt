@@ -5,8 +5,8 @@ use Rattle.serde_json.proofs.Views.{view-Array}
 use Rattle.jsonptr_value.specs.Lengths.{elements_length}
 use Rattle.jsonptr_value.proofs.LengthLemmas.{elements_length-first}
 use Rattle.jsonptr_value.specs.declared.partial.PartialCopy.TheVariants.{Elements}
-use Rattle.jsonptr_value.specs.PrivatePartial.{ArePartial, completed, join_items, stack_length}
-use Rattle.jsonptr_value.proofs.PartialLemmas.{no_length, completed-push, partial-push, stack_length-push, join_items-none}
+use Rattle.jsonptr_value.specs.PrivatePartial.{ArePartial, completed, join_items, copies_length}
+use Rattle.jsonptr_value.proofs.PartialLemmas.{no_length, completed-push, partial-push, copies_length-push, join_items-none}
 use Rattle.jsonptr_value.proofs.partial.next_element.Goals as goal
 
 pub returns-in_default-clause-completed : goal.returns-in_default-clause-completed
@@ -34,4 +34,4 @@ returns-in-Ok-clause-smaller c =
     let h = Elements c.args.copies c.in-Some.rest in
     let all : c.args.left.now ≡ c.in-Some.element.now ∷ c.in-Some.rest.now = c.in-Some.ensures.cases.0 in
     let pushed : c.push.new.self.items ≡ c.args.stack.now.items ++ h ∷ [] = search rules in
-    omega (arith, ap stack_length pushed, stack_length-push c.args.stack.now.items h, ap elements_length all, elements_length-first c.in-Some.element.now c.in-Some.rest.now)
+    omega (arith, ap copies_length pushed, copies_length-push c.args.stack.now.items h, ap elements_length all, elements_length-first c.in-Some.element.now c.in-Some.rest.now)

@@ -8,8 +8,8 @@ use Rattle.serde_json.proofs.Views.{Entry, view-Object}
 use Rattle.jsonptr_value.specs.Lengths.{members_length}
 use Rattle.jsonptr_value.proofs.LengthLemmas.{members_length-first}
 use Rattle.jsonptr_value.specs.declared.partial.PartialCopy.TheVariants.{Members}
-use Rattle.jsonptr_value.specs.PrivatePartial.{ArePartial, completed, join_members, stack_length}
-use Rattle.jsonptr_value.proofs.PartialLemmas.{completed-push, partial-push, stack_length-push, join_members-none}
+use Rattle.jsonptr_value.specs.PrivatePartial.{ArePartial, completed, join_members, copies_length}
+use Rattle.jsonptr_value.proofs.PartialLemmas.{completed-push, partial-push, copies_length-push, join_members-none}
 use Rattle.jsonptr_value.proofs.partial.next_member.Goals as goal
 
 pub returns-in_default-clause-completed : goal.returns-in_default-clause-completed
@@ -41,4 +41,4 @@ returns-in-Ok-clause-smaller c =
     let h = Members c.args.copies c.in-Some.key c.next.new.self in
     let m : Entry = (c.in-Some.key.now, c.in-Some.member.now) in
     let all : c.args.left ≡ m ∷ c.next.new.self = c.in-Some.ensures.steps in
-    omega (arith, ap stack_length c.in-Ok.ensures.items, stack_length-push c.args.stack.now.items h, ap members_length all, members_length-first m c.next.new.self)
+    omega (arith, ap copies_length c.in-Ok.ensures.items, copies_length-push c.args.stack.now.items h, ap members_length all, members_length-first m c.next.new.self)
